@@ -1,0 +1,5 @@
+pub mod Answers
+pub mod Formed
+pub mod Names
+pub mod PathBytes
+pub mod Paths

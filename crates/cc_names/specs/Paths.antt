@@ -1,0 +1,44 @@
+-- What a path is: the root, or names joined by `/`; and the first fault, from the left, of bytes that are none.
+use Rattle.std.specs.Prelude.{◌≡◌, ℕ, ◌+◌, Bool, true, false, ◌==◌, nat_lt, Option, Some, None, Result, Ok, Err, List, [], ◌∷◌, ◌++◌, length, if◌then◌else◌}
+use Rattle.std.specs.List.{slice_split}
+use Rattle.cc_names.specs.Names.{fault_at, unless_fault}
+use Rattle.cc_names.specs.declared.names.NameFault.{NameFault}
+use Rattle.cc_names.specs.declared.names.NameFault.TheVariants.{Empty, TooLong}
+
+-- the `/` that joins the names of a path
+abbrev pub is_slash : ℕ → Bool
+is_slash b = b == 47
+
+-- the path of the root, `.`
+abbrev pub root : List ℕ
+root = 46 ∷ []
+
+abbrev pub is_root : List ℕ → Bool
+is_root (b ∷ []) = b == 46
+is_root _ = false
+
+-- one fault, or where there is none another
+abbrev pub fault_or : Option NameFault → Option NameFault → Option NameFault
+fault_or (Some fault) later = Some fault
+fault_or None later = later
+
+-- the first fault of names that follow each other from a place of a text, one byte between each two
+abbrev pub first_fault : ℕ → List (List ℕ) → Option NameFault
+first_fault place [] = None
+first_fault place (name ∷ names) = fault_or (fault_at place name) (first_fault (place + length name + 1) names)
+
+-- the fault of bytes as a path
+abbrev pub path_fault : List ℕ → Option NameFault
+path_fault [] = Some Empty
+path_fault (b ∷ bs) =
+    if nat_lt 1024 (length (b ∷ bs)) then Some (TooLong (length (b ∷ bs)))
+    else if is_root (b ∷ bs) then None
+    else first_fault 0 (slice_split is_slash (b ∷ bs))
+
+-- A path: `.` for the root, or names joined by `/`, at most 1,024 bytes in all.
+pub record IsPath (bytes : List ℕ) : Type 0 where
+  pub no_fault : path_fault bytes ≡ None
+
+-- bytes read as a path
+abbrev pub path_of : List ℕ → Result (List ℕ) NameFault
+path_of bytes = unless_fault (path_fault bytes) bytes

@@ -1,0 +1,26 @@
+// The names, texts and plain data that every other crate speaks of.
+//
+// What it is for: one place for the types that cross crate borders. A `Text`, a `Name` and a `Path` are seen by
+// contracts as their bytes, a `List` as its items; everything else here is plain data, whole from the first day: the
+// rows of a base and their deeds, the commands of a session, refusals and causes, replies, the steps of a story, the
+// units of a build, and the three kinds of change that the indexes above keep.
+//
+// What it promises: a `Name` or a `Path` is exactly bytes that meet the rule of names, and the reader of each answers
+// the first fault from the left; a `Row` keeps its form by its type.
+//
+// What it stands on: the standard library alone.
+#![tactic(auto)]
+
+pub mod changes;
+pub mod commands;
+pub mod lists;
+pub mod memory;
+pub mod names;
+pub mod paths;
+pub mod refusals;
+pub mod replies;
+pub mod rows;
+pub mod selection;
+pub mod steps;
+pub mod texts;
+pub mod units;

@@ -1,0 +1,43 @@
+// A list as a field of plain data.
+
+ghost use Rattle.std.specs.Prelude.{◌≡◌, List};
+
+use std::marker::Model;
+
+/// A list that plain data holds in a field. Contracts see it as its items.
+#[derive(Debug, Drop)]
+pub struct List<X> {
+    items: Vec<X>,
+}
+
+impl<X> Model for List<X> {
+    ghost use Rattle.std.specs.Prelude.{List};
+
+    ghost Value = { List X };
+
+    ghost view = { λ list. list.items.items };
+}
+
+impl<X> List<X> {
+    /// The list of these items. Takes no memory.
+    pub fn of(items: Vec<X>) -> List<X>
+        ensures { result ≡ items.items }
+    {
+        List { items }
+    }
+
+    /// The items, in order.
+    pub fn as_slice(&self) -> &[X]
+        ensures { result.now ≡ self.now }
+    {
+        self.items.as_slice()
+    }
+
+    /// The items themselves.
+    pub fn into_items(self) -> Vec<X>
+        ensures { result.items ≡ self }
+    {
+        let List { items } = self;
+        items
+    }
+}

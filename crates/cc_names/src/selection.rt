@@ -1,0 +1,54 @@
+// What a config spec selects, and what stands at a path.
+
+use crate::lists::List;
+use crate::names::Name;
+use crate::paths::Path;
+use crate::texts::Text;
+
+/// One segment of a pattern.
+#[derive(Debug, Drop)]
+pub enum Segment {
+    /// `...`: zero or more names.
+    AnyNames,
+    /// One name that these bytes match, in which `*` stands for any bytes and `?` for one.
+    OneName(Text),
+}
+
+/// Which version a rule takes of an element.
+#[derive(Debug, Drop)]
+pub enum Selector {
+    /// `CHECKEDOUT`: the view's own checkout.
+    CheckedOut,
+    /// The version that holds the label.
+    Label(Name),
+    /// `/main/../LATEST`: the last version on the branch behind `main` by these names.
+    Latest(List<Name>),
+    /// `.../B/LATEST`: the last version on the element's branch of this type.
+    Wherever(Name),
+    /// `/main/../N`: version N of that branch.
+    Numbered(List<Name>, u64),
+    /// `-config P@@ROW`: the version that the object's record names.
+    Config(Path, u64),
+    /// `-none`: no version, and the scan ends.
+    Nothing,
+}
+
+/// What a rule picked: the row that makes the text, the line of the rule, and whether it is the view's checkout.
+#[derive(Clone, Copy, Debug, PartialEq, Eq)]
+pub struct Picked {
+    pub row: u64,
+    pub line: u32,
+    pub out: bool,
+}
+
+/// What stands at a path in a view.
+#[derive(Clone, Copy, Debug, PartialEq, Eq)]
+pub enum Seen {
+    /// A private file, with the row that put it.
+    Private(u64),
+    /// An element, with what its rule picked.
+    Element(u64, Picked),
+    /// An element whose name is in the catalog and of which no version is selected.
+    Unselected(u64),
+    Nothing,
+}

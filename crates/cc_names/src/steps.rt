@@ -1,0 +1,107 @@
+// The steps of a story: what happened behind the lock, one event after the other.
+
+use crate::commands::Phase;
+use crate::lists::List;
+use crate::paths::Path;
+use crate::refusals::{Refusal, UnitFault};
+use crate::rows::{Row, Tag};
+use crate::texts::Text;
+
+/// What a unit came to without a row of its own.
+#[derive(Debug, Drop)]
+pub enum UnitEnd {
+    /// The view's object at the target was kept.
+    Kept(u64),
+    Failed(UnitFault),
+    /// A prerequisite failed or was blocked.
+    Blocked(Path),
+    /// A unit without a script.
+    Bare,
+}
+
+/// The number of device calls that a disk has made, and of faults that it has met. Each ends at 2^64 - 1.
+#[derive(Clone, Copy, Debug, PartialEq, Eq)]
+pub struct Counts {
+    pub ticks: u64,
+    pub faults: u64,
+}
+
+/// One step as the program keeps it: rows and phases are told by their numbers.
+#[derive(Debug, Drop)]
+pub enum Step {
+    /// The base was opened with this many rows, row 0 included.
+    Opened {
+        rows: u64,
+    },
+    /// A phase began.
+    Plan {
+        phase: u32,
+        moment: u64,
+    },
+    /// Row `number` was committed, acknowledged at this tick of the disk.
+    Commit {
+        tag: Tag,
+        number: u64,
+        tick: u64,
+    },
+    Refused {
+        tag: Tag,
+        refusal: Refusal,
+    },
+    /// A query was answered, or a scrub found nothing due.
+    Answer {
+        tag: Tag,
+        text: Text,
+    },
+    /// A build began, with its reference rows and its number of units.
+    Begin {
+        tag: Tag,
+        rows: u64,
+        units: u32,
+    },
+    /// A unit's script was handed out to be run.
+    Start {
+        tag: Tag,
+        unit: u32,
+    },
+    Settled {
+        tag: Tag,
+        unit: u32,
+        outcome: UnitEnd,
+    },
+    /// A build ended.
+    End {
+        tag: Tag,
+    },
+    /// The disk failed under a command: the row that may be found all the same, and its counts of faults before and after.
+    Fault {
+        tag: Tag,
+        left: Option<Row>,
+        before: u64,
+        after: u64,
+        tick: u64,
+    },
+}
+
+/// One step as contracts see it in a story: with the rows and the phase themselves.
+#[derive(Debug, Drop)]
+pub enum Told {
+    /// The opened rows, from row 1 on; the disk's counts as it was handed in; and whether it tells its content.
+    Opened {
+        rows: List<Row>,
+        counts: Counts,
+        tells: bool,
+    },
+    Plan {
+        phase: Phase,
+        moment: u64,
+    },
+    Commit {
+        row: Row,
+        tick: u64,
+    },
+    /// Any other step, as it stands.
+    Other {
+        step: Step,
+    },
+}
