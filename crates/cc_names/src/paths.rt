@@ -9,7 +9,6 @@ use crate::memory::{NoMemory, Or};
 use crate::names::{NameFault, fault_at};
 use crate::texts::Text;
 use std::alloc::Global;
-use std::fmt;
 use std::marker::Model;
 
 /// A path: `.` for the root, or names joined by `/`, at most 1,024 bytes in all. Contracts see it as its bytes.
