@@ -1,6 +1,6 @@
 -- What a path is: the root, or names joined by `/`; and the first fault, from the left, of bytes that are none.
-use Rattle.std.specs.Prelude.{◌≡◌, ℕ, ◌+◌, Bool, true, false, ◌==◌, nat_lt, Option, Some, None, Result, Ok, Err, List, [], ◌∷◌, ◌++◌, length, if◌then◌else◌}
-use Rattle.std.specs.List.{slice_split}
+use Rattle.std.specs.Prelude.{◌≡◌, ℕ, ◌+◌, Bool, true, false, ◌==◌, nat_lt, Option, Some, None, Result, Ok, Err, List, [], ◌∷◌, ◌++◌, length, take, if◌then◌else◌}
+use Rattle.std.specs.List.{slice_split, join_with_byte, last_or}
 use Rattle.cc_names.specs.Names.{fault_at, unless_fault}
 use Rattle.cc_names.specs.declared.names.NameFault.{NameFault}
 use Rattle.cc_names.specs.declared.names.NameFault.TheVariants.{Empty, TooLong}
@@ -42,3 +42,33 @@ pub record IsPath (bytes : List ℕ) : Type 0 where
 -- bytes read as a path
 abbrev pub path_of : List ℕ → Result (List ℕ) NameFault
 path_of bytes = unless_fault (path_fault bytes) bytes
+
+-- the names of a path, from the root on
+abbrev pub names_of : List ℕ → List (List ℕ)
+names_of path = if is_root path then [] else slice_split is_slash path
+
+-- the path of these names; the root where there are none
+abbrev pub joined : List (List ℕ) → List ℕ
+joined [] = root
+joined (name ∷ names) = join_with_byte 47 (name ∷ names)
+
+-- the path of all names but the last
+abbrev pub without_last : List (List ℕ) → Option (List ℕ)
+without_last [] = None
+without_last (name ∷ names) = Some (joined (take (length names) (name ∷ names)))
+
+-- the path of the directory that holds this one; the root has none
+abbrev pub parent_of : List ℕ → Option (List ℕ)
+parent_of path = without_last (names_of path)
+
+-- the last name; the root has none
+abbrev pub last_of : List ℕ → Option (List ℕ)
+last_of path = last_or None (names_of path)
+
+-- a path where it is no longer than a path may be
+abbrev pub unless_long : List ℕ → Result (List ℕ) NameFault
+unless_long path = if nat_lt 1024 (length path) then Err (TooLong (length path)) else Ok path
+
+-- the path of this name in the directory of that path
+abbrev pub join_of : List ℕ → List ℕ → Result (List ℕ) NameFault
+join_of path name = unless_long (joined (names_of path ++ (name ∷ [])))
