@@ -1,0 +1,4 @@
+pub mod Keeps
+mod Prefixes
+mod Totals
+mod Views

@@ -1,0 +1,195 @@
+//! A lock, and the passes by which threads take turns at its value.
+ghost use Rattle.std.specs.Prelude.{◌≡◌, ℕ, ◌+◌, ◌-◌, ◌/◌, ◌%◌, ◌^◌, ◌<◌, ◌≤◌, [], ◌∷◌, IfOk, IfErr, Some, None};
+ghost use mathlib.Core.List.{IsPrefix};
+ghost use Rattle.turn_lock.specs.declared.rule.Stage.TheVariants.{Idle, Waits};
+ghost use Rattle.turn_lock.specs.Sight.{IsLongerOf};
+ghost use Rattle.turn_lock.specs.Rule.{in_word};
+ghost use Rattle.turn_lock.specs.Moves.{HasTaken};
+
+use crate::moves::{Draw, Give, Halve, Look, Settle, Unite};
+use crate::rule::{Board, DRAWN, Desk, Opening, Place, SERVED, VALUE};
+use crate::story::Storied;
+use atomic_table::{Refused, Table};
+use std::alloc::Global;
+use std::marker::Model;
+use std::snapshot::Snapshot;
+use std::sync::Wait;
+
+/// A lock round one value, which passes take in turns. It may be shared by reference, and only `close` ends it.
+pub struct TurnLock<T: Storied> {
+    board: Board<T>,
+}
+
+impl<T: Storied> Model for TurnLock<T> {
+    ghost use Rattle.std.specs.Prelude.{◌≡◌};
+    ghost use Rattle.turn_lock.specs.Sight.{Identity};
+
+    ghost Value = { Identity };
+
+    ghost view = { λ l. record { id = l.board.shared.table_id; whole = l.board.shared.key.whole } };
+
+    ghost invariant = { λ l. (l.board.shared.table_id.words ≡ 2) × (l.board.shared.table_id.slots ≡ 1) };
+}
+
+/// The right to take turns at the value of one lock. It has no bytes.
+///
+/// A pass that is let go takes its weight with it, so its lock can no longer be closed.
+#[derive(Drop)]
+pub struct Pass<T: Storied> {
+    seat: Place<T>,
+}
+
+impl<T: Storied> Model for Pass<T> {
+    ghost use Rattle.std.specs.Prelude.{◌≡◌, ◌<◌, []};
+    ghost use Rattle.turn_lock.specs.Sight.{Sight};
+    ghost use Rattle.turn_lock.specs.declared.rule.Stage.TheVariants.{Idle};
+
+    ghost Value = { Sight T.Told };
+
+    ghost view = { λ p. record { lock = p.seat.table_id; seen = p.seat.me.0.seen; weight = p.seat.me.0.weight } };
+
+    ghost invariant = { λ p. (p.seat.me.0.stage ≡ Idle) × (p.seat.me.1 ≡ []) × (0 < p.seat.me.0.weight) };
+}
+
+/// A pass whose bearer has taken the value. It has no bytes, and cannot be let go: only `give` ends it.
+pub struct Held<T: Storied> {
+    seat: Place<T>,
+}
+
+impl<T: Storied> Model for Held<T> {
+    ghost use Rattle.std.specs.Prelude.{◌≡◌, ℕ, ◌<◌, [], ◌∷◌, None};
+    ghost use Rattle.turn_lock.specs.Sight.{Hold};
+    ghost use Rattle.turn_lock.specs.Stages.{noted_of};
+    ghost use Rattle.turn_lock.specs.declared.rule.Stage.TheVariants.{Turn};
+
+    ghost Value = { Hold T.Told };
+
+    ghost view = { λ h. record { lock = h.seat.table_id; story = noted_of h.seat.me.0.stage; weight = h.seat.me.0.weight } };
+
+    ghost invariant = { λ h. ((ticket : ℕ) × (h.seat.me.0.stage ≡ Turn ticket (noted_of h.seat.me.0.stage))) × (h.seat.me.1 ≡ (0, None) ∷ []) × (0 < h.seat.me.0.weight) };
+}
+
+impl<T: Storied> TurnLock<T> {
+    /// A lock round the value, and one pass with the whole weight, which has seen the value's story.
+    pub fn new(alloc: Global, value: T, weight: u64) -> Result<(TurnLock<T>, Pass<T>), T>
+        requires { 1 ≤ weight }
+        ensures ok { IfOk result (λ r. (r.1.lock ≡ r.0.id) × (r.0.whole ≡ weight) × (r.1.seen ≡ T.story value) × (r.1.weight ≡ weight)) }
+        ensures err { IfErr result (λ back. back ≡ value) }
+    {
+        let opening = Opening {
+            whole: weight,
+            value: Snapshot::of(&value),
+        };
+        let Ok(mut slots) = Vec::with_capacity(alloc, 1) else {
+            return Err(value);
+        };
+        slots.push_reserved(Some(value));
+        match Table::new(alloc, &[0, 0], slots, &opening) {
+            Ok((board, seat)) => Ok((TurnLock { board }, Pass { seat })),
+            Err(Refused { slots }) => Err(only(slots)),
+        }
+    }
+
+    /// Two passes for one: the first has the greater half of the weight, and both have seen the same story.
+    pub fn split(&self, pass: Pass<T>) -> (Pass<T>, Pass<T>)
+        requires own { pass.lock ≡ self.now.id }
+        requires weight { 2 ≤ pass.weight }
+        ensures own { (result.0.lock ≡ pass.lock) × (result.1.lock ≡ pass.lock) }
+        ensures weight { (result.0.weight ≡ pass.weight - pass.weight / 2) × (result.1.weight ≡ pass.weight / 2) }
+        ensures seen { (result.0.seen ≡ pass.seen) × (result.1.seen ≡ pass.seen) }
+    {
+        let Pass { mut seat } = pass;
+        let other = self.board.shared.split_seat::<Halve>(&mut seat);
+        (Pass { seat }, Pass { seat: other })
+    }
+
+    /// One pass for two. It has seen the longer of their two stories, of which the one begins the other.
+    pub fn join(&self, one: Pass<T>, two: Pass<T>) -> Pass<T>
+        requires own { (one.lock ≡ self.now.id) × (two.lock ≡ self.now.id) }
+        ensures own { result.lock ≡ one.lock }
+        ensures weight { result.weight ≡ one.weight + two.weight }
+        ensures seen { IsLongerOf one.seen two.seen result.seen }
+    {
+        let Pass { mut seat } = one;
+        let Pass { seat: other } = two;
+        let desk = &self.board.shared;
+        desk.join_seat::<Unite>(&mut seat, other);
+        desk.load::<Settle>(&mut seat, DRAWN);
+        Pass { seat }
+    }
+
+    /// Waits for the pass's turn, and takes the value. Its story begins with all that the pass has seen.
+    pub fn take<R: Wait>(&self, rt: &R, pass: Pass<T>) -> (Held<T>, T)
+        requires own { pass.lock ≡ self.now.id }
+        ensures own { result.0.lock ≡ pass.lock }
+        ensures weight { result.0.weight ≡ pass.weight }
+        ensures taken { result.0.story ≡ T.story result.1 }
+        ensures seen { IsPrefix pass.seen (T.story result.1) }
+    {
+        let Pass { mut seat } = pass;
+        let desk = &self.board.shared;
+        let ticket = desk.fetch_add::<Draw>(&mut seat, DRAWN, 1);
+        wait_for(rt, desk, &mut seat, ticket);
+        let value = desk.exchange(&mut seat, VALUE, None).unwrap();
+        (Held { seat }, value)
+    }
+
+    /// Gives the value back, with a story that begins with the one taken, and wakes who waits.
+    pub fn give(&self, held: Held<T>, value: T) -> Pass<T>
+        requires own { held.lock ≡ self.now.id }
+        requires story { IsPrefix held.story (T.story value) }
+        ensures own { result.lock ≡ held.lock }
+        ensures weight { result.weight ≡ held.weight }
+        ensures seen { result.seen ≡ T.story value }
+    {
+        let Held { mut seat } = held;
+        let desk = &self.board.shared;
+        let taken = desk.exchange(&mut seat, VALUE, Some(value));
+        let None = taken else { unreachable!() };
+        desk.fetch_add::<Give<T>>(&mut seat, SERVED, 1);
+        desk.wake_all(SERVED);
+        Pass { seat }
+    }
+
+    /// The value, for the pass that has the whole weight: its story is what that pass has seen.
+    pub fn close(self, pass: Pass<T>) -> T
+        requires own { pass.lock ≡ self.id }
+        requires whole { pass.weight ≡ self.whole }
+        ensures { T.story result ≡ pass.seen }
+    {
+        let TurnLock { board } = self;
+        let Pass { seat } = pass;
+        let mut closed = board.close_with(seat);
+        let value = closed.take(VALUE);
+        closed.free();
+        value.unwrap()
+    }
+}
+
+// Waits until the ticket is served, and takes the value.
+fn wait_for<T: Storied, R: Wait>(rt: &R, desk: &Desk<T>, seat: &mut Place<T>, ticket: u64)
+    requires own { (seat.old.table_id ≡ desk.now.table_id) × (desk.now.table_id.words ≡ 2) }
+    requires waits { (t : ℕ) × (seat.old.me.0.stage ≡ Waits t) × (ticket ≡ in_word t) }
+    requires empty { seat.old.me.1 ≡ [] }
+    ensures own { seat.new.table_id ≡ seat.old.table_id }
+    ensures taken { HasTaken T.story seat.old.me seat.new.me }
+{
+    for _ in rt.forever() {
+        let served = desk.load::<Look<T>>(seat, SERVED);
+        if served == ticket {
+            return;
+        }
+        desk.park(rt, SERVED, (served & 0xffff_ffff) as u32);
+    }
+    unreachable!()
+}
+
+// The value in the one slot that a table gave back.
+fn only<T>(mut slots: Vec<Option<T>>) -> T
+    requires { (value : T) × (slots.items ≡ Some value ∷ []) }
+    ensures { slots.items ≡ Some result ∷ [] }
+{
+    let slot = slots.pop().unwrap();
+    slots.destroy_empty();
+    slot.unwrap()
+}
