@@ -15,6 +15,8 @@ mod lock;
 mod moves;
 mod rule;
 mod story;
+#[cfg(test)]
+mod tests;
 
 pub use lock::{Held, Pass, TurnLock};
 pub use story::Storied;

@@ -146,8 +146,10 @@ impl<T: Storied> TurnLock<T> {
         let desk = &self.board.shared;
         let taken = desk.exchange(&mut seat, VALUE, Some(value));
         let None = taken else { unreachable!() };
-        desk.fetch_add::<Give<T>>(&mut seat, SERVED, 1);
-        desk.wake_all(SERVED);
+        let served = desk.fetch_add::<Give<T>>(&mut seat, SERVED, 1);
+        if desk.peek(DRAWN) != served.wrapping_add(1) {
+            desk.wake_all(SERVED);
+        }
         Pass { seat }
     }
 
