@@ -1,4 +1,7 @@
 //! A lock, and the passes by which threads take turns at its value.
+//!
+//! A ticket lock: who wants the value draws a number, and has its turn when the number is served. No call but `new`
+//! takes memory.
 ghost use Rattle.std.specs.Prelude.{◌≡◌, ℕ, ◌+◌, ◌-◌, ◌/◌, ◌%◌, ◌^◌, ◌<◌, ◌≤◌, [], ◌∷◌, IfOk, IfErr, Some, None};
 ghost use mathlib.Core.List.{IsPrefix};
 ghost use Rattle.turn_lock.specs.declared.rule.Stage.TheVariants.{Idle, Waits};
@@ -15,7 +18,11 @@ use std::marker::Model;
 use std::snapshot::Snapshot;
 use std::sync::Wait;
 
-/// A lock round one value, which passes take in turns. It may be shared by reference, and only `close` ends it.
+/// A lock round one value, which its passes take in turns.
+///
+/// Contracts see which lock it is, and the weight of all its passes together. Threads share it by reference, and only
+/// `close` ends it. Each story of the value begins with all earlier ones. Not promised: that a thread is ever served,
+/// that threads are served in any order, or any time. A thread that keeps the value keeps all others waiting.
 pub struct TurnLock<T: Storied> {
     board: Board<T>,
 }
@@ -31,9 +38,10 @@ impl<T: Storied> Model for TurnLock<T> {
     ghost invariant = { λ l. (l.board.shared.table_id.words ≡ 2) × (l.board.shared.table_id.slots ≡ 1) };
 }
 
-/// The right to take turns at the value of one lock. It has no bytes.
+/// The right to take turns at the value of one lock, and what its bearer has seen of the value's story. It has no bytes.
 ///
-/// A pass that is let go takes its weight with it, so its lock can no longer be closed.
+/// Contracts see its lock, the story seen and its weight. A pass that is let go takes its weight with it, so that its
+/// lock can no longer be closed.
 #[derive(Drop)]
 pub struct Pass<T: Storied> {
     seat: Place<T>,
@@ -52,6 +60,8 @@ impl<T: Storied> Model for Pass<T> {
 }
 
 /// A pass whose bearer has taken the value. It has no bytes, and cannot be let go: only `give` ends it.
+///
+/// Contracts see its lock, the story that the value had when it was taken, and its weight.
 pub struct Held<T: Storied> {
     seat: Place<T>,
 }
@@ -71,6 +81,9 @@ impl<T: Storied> Model for Held<T> {
 
 impl<T: Storied> TurnLock<T> {
     /// A lock round the value, and one pass with the whole weight, which has seen the value's story.
+    ///
+    /// For want of memory alone the value comes back. The lock keeps one block with room for the value and one of two
+    /// words.
     pub fn new(alloc: Global, value: T, weight: u64) -> Result<(TurnLock<T>, Pass<T>), T>
         requires { 1 ≤ weight }
         ensures ok { IfOk result (λ r. (r.1.lock ≡ r.0.id) × (r.0.whole ≡ weight) × (r.1.seen ≡ T.story value) × (r.1.weight ≡ weight)) }
@@ -91,6 +104,8 @@ impl<T: Storied> TurnLock<T> {
     }
 
     /// Two passes for one: the first has the greater half of the weight, and both have seen the same story.
+    ///
+    /// It waits for nobody, and costs one atomic load.
     pub fn split(&self, pass: Pass<T>) -> (Pass<T>, Pass<T>)
         requires own { pass.lock ≡ self.now.id }
         requires weight { 2 ≤ pass.weight }
@@ -103,7 +118,10 @@ impl<T: Storied> TurnLock<T> {
         (Pass { seat }, Pass { seat: other })
     }
 
-    /// One pass for two. It has seen the longer of their two stories, of which the one begins the other.
+    /// One pass for two, with the weight of both. It has seen the longer of their two stories, of which the one begins
+    /// the other.
+    ///
+    /// It waits for nobody, and costs two atomic loads.
     pub fn join(&self, one: Pass<T>, two: Pass<T>) -> Pass<T>
         requires own { (one.lock ≡ self.now.id) × (two.lock ≡ self.now.id) }
         ensures own { result.lock ≡ one.lock }
@@ -119,6 +137,9 @@ impl<T: Storied> TurnLock<T> {
     }
 
     /// Waits for the pass's turn, and takes the value. Its story begins with all that the pass has seen.
+    ///
+    /// It sleeps while it waits, and need not return: no turn is promised, nor any order of turns. Uncontended it costs
+    /// two atomic steps. A thread that waits is woken at each turn until its own.
     pub fn take<R: Wait>(&self, rt: &R, pass: Pass<T>) -> (Held<T>, T)
         requires own { pass.lock ≡ self.now.id }
         ensures own { result.0.lock ≡ pass.lock }
@@ -134,7 +155,10 @@ impl<T: Storied> TurnLock<T> {
         (Held { seat }, value)
     }
 
-    /// Gives the value back, with a story that begins with the one taken, and wakes who waits.
+    /// Gives the value back, with a story that begins with the one taken, and wakes those who wait. The pass has then
+    /// seen the given story whole.
+    ///
+    /// It waits for nobody. Uncontended it costs two atomic steps, else it also wakes every thread that waits.
     pub fn give(&self, held: Held<T>, value: T) -> Pass<T>
         requires own { held.lock ≡ self.now.id }
         requires story { IsPrefix held.story (T.story value) }
@@ -147,13 +171,15 @@ impl<T: Storied> TurnLock<T> {
         let taken = desk.exchange(&mut seat, VALUE, Some(value));
         let None = taken else { unreachable!() };
         let served = desk.fetch_add::<Give<T>>(&mut seat, SERVED, 1);
+        // Where no later ticket was drawn nobody sleeps: who draws one now finds the number just served.
         if desk.peek(DRAWN) != served.wrapping_add(1) {
             desk.wake_all(SERVED);
         }
         Pass { seat }
     }
 
-    /// The value, for the pass that has the whole weight: its story is what that pass has seen.
+    /// The value, for the pass that has the whole weight. Its story is just what that pass has seen, so nothing that was
+    /// given back is lost, and nothing is added. The lock's memory is freed.
     pub fn close(self, pass: Pass<T>) -> T
         requires own { pass.lock ≡ self.id }
         requires whole { pass.weight ≡ self.whole }
@@ -168,7 +194,8 @@ impl<T: Storied> TurnLock<T> {
     }
 }
 
-// Waits until the ticket is served, and takes the value.
+// Waits until it is the ticket's turn, and then has the value in hand. A thread sleeps only while the word still reads
+// what it last found there, so a turn that comes between the look and the sleep is not missed.
 fn wait_for<T: Storied, R: Wait>(rt: &R, desk: &Desk<T>, seat: &mut Place<T>, ticket: u64)
     requires own { (seat.old.table_id ≡ desk.now.table_id) × (desk.now.table_id.words ≡ 2) }
     requires waits { (t : ℕ) × (seat.old.me.0.stage ≡ Waits t) × (ticket ≡ in_word t) }

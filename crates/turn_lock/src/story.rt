@@ -2,7 +2,8 @@
 
 /// A value with a story: a list that its type defines, and that only proofs read.
 ///
-/// A lock asks nothing of a story but that each holder leaves one which begins with the one that it found.
+/// A story only grows: who takes a value from a lock gives it back with a story that begins with the one found.
+/// Nothing is said of what a step of a story means. That is left to the value's own type.
 pub trait Storied {
     ghost use Rattle.std.specs.Prelude.{List};
 

@@ -1,14 +1,13 @@
-use Rattle.std.proofs.Common.{◌≡◌, ℕ, ◌+◌, ◌-◌, ◌/◌, ◌<◌, ◌≤◌, Bool, true, false, List, [], ◌++◌, map, refl, sym, subst, ⊎_elim, ◌∙◌, lt_of_not-le, arith}
-use Rattle.std.proofs.lemmas.List.{append-nil}
+use Rattle.std.proofs.Common.{◌≡◌, ℕ, ◌+◌, ◌-◌, ◌/◌, ◌<◌, ◌≤◌, Bool, true, false, List, map, refl, sym, subst, ⊎_elim, ◌∙◌, lt_of_not-le, arith}
 use Rattle.std.specs.Bool.{OnTrue}
 use Rattle.std.specs.List.{range_with_len}
 use native.Mathlib.Decide.{dec_le}
 use mathlib.Core.Logic.{dite}
-use mathlib.Core.List.{IsPrefix, Sublist, nil-sublist}
-use mathlib.Core.List.Sublist as sublist
+use mathlib.Core.List.{IsPrefix, Sublist}
 use Rattle.turn_lock.specs.Sight.{IsLongerOf}
 use Rattle.turn_lock.specs.declared.tests.tally.Note.{Note}
 use Rattle.turn_lock.proofs.Prefixes.{begins_itself}
+use Rattle.turn_lock.proofs.Standing.{stands_on}
 use Rattle.turn_lock.proofs.tests.tally.+fn-run_lanes-join+arg2+fn-run_lanes-join+arg3+run_lanes.Goals.{then-noted, else-noted}
 use Rattle.turn_lock.proofs.tests.tally.+fn-run_lanes-join+arg2+fn-run_lanes-join+arg3+run_lanes.Goals as goal
 
@@ -18,12 +17,6 @@ on_true false P p = tt
 
 of_true : (b : Bool) (P : Type 0) → b ≡ true → OnTrue b P → P
 of_true b P e p = let Q : Bool → Type 0 = λ c. OnTrue c P in subst Q e p
-
--- what stands in a story stands in those that it begins
-stands_on : (notes story later : List Note) → Sublist notes story → IsPrefix story later → Sublist notes later
-stands_on notes story later s p =
-    let on : Sublist (story ++ []) (story ++ p.0) = sublist.append (sublist.refl story) (nil-sublist p.0) in
-    sublist.trans s (subst (Sublist story) p.1 (subst (λ (xs : List Note). Sublist xs (story ++ p.0)) (append-nil story) on))
 
 -- both stories begin the longer
 both_begin : (one two seen : List Note) → IsLongerOf one two seen → IsPrefix one seen × IsPrefix two seen

@@ -1,18 +1,15 @@
-use Rattle.std.proofs.Common.{ℕ, ◌+◌, List, [], ◌∷◌, ◌++◌, map, refl, subst, arith, rules}
-use Rattle.std.proofs.lemmas.List.{append-nil}
+use Rattle.std.proofs.Common.{ℕ, ◌+◌, List, [], ◌∷◌, ◌++◌, map, refl, arith, rules}
 use Rattle.std.proofs.lemmas.List.FromFn.{map-range_with_len_more}
 use Rattle.std.specs.List.{range_with_len}
 use mathlib.Core.List.{IsPrefix, Sublist, nil-sublist}
 use mathlib.Core.List.Sublist as sublist
 use Rattle.turn_lock.specs.declared.tests.tally.Note.{Note}
+use Rattle.turn_lock.proofs.Standing.{stands_on}
 use Rattle.turn_lock.proofs.tests.tally.write_notes.Goals as goal
 
 -- the notes so far stand in what was seen, so with one more they stand in what was found and that one
 one_more : (f : ℕ → Note) (i : ℕ) (seen found : List Note) → Sublist (map f (range_with_len 0 i)) seen → IsPrefix seen found → Sublist (map f (range_with_len 0 (i + 1))) (found ++ f i ∷ [])
-one_more f i seen found s p =
-    let on : Sublist (seen ++ []) (seen ++ p.0) = sublist.append (sublist.refl seen) (nil-sublist p.0) in
-    let on' : Sublist seen found = subst (Sublist seen) p.1 (subst (λ (xs : List Note). Sublist xs (seen ++ p.0)) (append-nil seen) on) in
-    rw (map-range_with_len_more f 0 i i (omega arith)) (sublist.append (sublist.trans s on') (sublist.refl (f i ∷ [])))
+one_more f i seen found s p = rw (map-range_with_len_more f 0 i i (omega arith)) (sublist.append (stands_on (map f (range_with_len 0 i)) seen found s p) (sublist.refl (f i ∷ [])))
 
 pub loop-number-init : goal.loop-number-init
 loop-number-init g c = (refl, refl, nil-sublist _)
