@@ -10,7 +10,7 @@ ghost use Rattle.turn_lock.specs.Rule.{in_word};
 ghost use Rattle.turn_lock.specs.Moves.{HasTaken};
 
 use crate::moves::{Draw, Give, Halve, Look, Settle, Unite};
-use crate::rule::{Board, DRAWN, Desk, Opening, Place, SERVED, VALUE};
+use crate::rule::{DRAWN, Opening, SERVED, SharedTable, TurnSeat, TurnTable, VALUE};
 use crate::story::Storied;
 use atomic_table::{Refused, Table};
 use std::alloc::Global;
@@ -24,7 +24,7 @@ use std::sync::Wait;
 /// `close` ends it. Each story of the value begins with all earlier ones. Not promised: that a thread is ever served,
 /// that threads are served in any order, or any time. A thread that keeps the value keeps all others waiting.
 pub struct TurnLock<T: Storied> {
-    board: Board<T>,
+    table: TurnTable<T>,
 }
 
 impl<T: Storied> Model for TurnLock<T> {
@@ -33,9 +33,9 @@ impl<T: Storied> Model for TurnLock<T> {
 
     ghost Value = { Identity };
 
-    ghost view = { λ l. record { id = l.board.shared.table_id; whole = l.board.shared.key.whole } };
+    ghost view = { λ l. record { id = l.table.shared.table_id; whole = l.table.shared.key.whole } };
 
-    ghost invariant = { λ l. (l.board.shared.table_id.words ≡ 2) × (l.board.shared.table_id.slots ≡ 1) };
+    ghost invariant = { λ l. (l.table.shared.table_id.words ≡ 2) × (l.table.shared.table_id.slots ≡ 1) };
 }
 
 /// The right to take turns at the value of one lock, and what its bearer has seen of the value's story. It has no bytes.
@@ -44,7 +44,7 @@ impl<T: Storied> Model for TurnLock<T> {
 /// lock can no longer be closed.
 #[derive(Drop)]
 pub struct Pass<T: Storied> {
-    seat: Place<T>,
+    seat: TurnSeat<T>,
 }
 
 impl<T: Storied> Model for Pass<T> {
@@ -63,7 +63,7 @@ impl<T: Storied> Model for Pass<T> {
 ///
 /// Contracts see its lock, the story that the value had when it was taken, and its weight.
 pub struct Held<T: Storied> {
-    seat: Place<T>,
+    seat: TurnSeat<T>,
 }
 
 impl<T: Storied> Model for Held<T> {
@@ -98,7 +98,7 @@ impl<T: Storied> TurnLock<T> {
         };
         slots.push_reserved(Some(value));
         match Table::new(alloc, &[0, 0], slots, &opening) {
-            Ok((board, seat)) => Ok((TurnLock { board }, Pass { seat })),
+            Ok((table, seat)) => Ok((TurnLock { table }, Pass { seat })),
             Err(Refused { slots }) => Err(only(slots)),
         }
     }
@@ -114,7 +114,7 @@ impl<T: Storied> TurnLock<T> {
         ensures seen { (result.0.seen ≡ pass.seen) × (result.1.seen ≡ pass.seen) }
     {
         let Pass { mut seat } = pass;
-        let other = self.board.shared.split_seat::<Halve>(&mut seat);
+        let other = self.table.shared.split_seat::<Halve>(&mut seat);
         (Pass { seat }, Pass { seat: other })
     }
 
@@ -130,9 +130,9 @@ impl<T: Storied> TurnLock<T> {
     {
         let Pass { mut seat } = one;
         let Pass { seat: other } = two;
-        let desk = &self.board.shared;
-        desk.join_seat::<Unite>(&mut seat, other);
-        desk.load::<Settle>(&mut seat, DRAWN);
+        let shared = &self.table.shared;
+        shared.join_seat::<Unite>(&mut seat, other);
+        shared.load::<Settle>(&mut seat, DRAWN);
         Pass { seat }
     }
 
@@ -148,10 +148,10 @@ impl<T: Storied> TurnLock<T> {
         ensures seen { IsPrefix pass.seen (T.story result.1) }
     {
         let Pass { mut seat } = pass;
-        let desk = &self.board.shared;
-        let ticket = desk.fetch_add::<Draw>(&mut seat, DRAWN, 1);
-        wait_for(rt, desk, &mut seat, ticket);
-        let value = desk.exchange(&mut seat, VALUE, None).unwrap();
+        let shared = &self.table.shared;
+        let ticket = shared.fetch_add::<Draw>(&mut seat, DRAWN, 1);
+        wait_for(rt, shared, &mut seat, ticket);
+        let value = shared.exchange(&mut seat, VALUE, None).unwrap();
         (Held { seat }, value)
     }
 
@@ -167,13 +167,13 @@ impl<T: Storied> TurnLock<T> {
         ensures seen { result.seen ≡ T.story value }
     {
         let Held { mut seat } = held;
-        let desk = &self.board.shared;
-        let taken = desk.exchange(&mut seat, VALUE, Some(value));
+        let shared = &self.table.shared;
+        let taken = shared.exchange(&mut seat, VALUE, Some(value));
         let None = taken else { unreachable!() };
-        let served = desk.fetch_add::<Give<T>>(&mut seat, SERVED, 1);
+        let served = shared.fetch_add::<Give<T>>(&mut seat, SERVED, 1);
         // Where no later ticket was drawn nobody sleeps: who draws one now finds the number just served.
-        if desk.peek(DRAWN) != served.wrapping_add(1) {
-            desk.wake_all(SERVED);
+        if shared.peek(DRAWN) != served.wrapping_add(1) {
+            shared.wake_all(SERVED);
         }
         Pass { seat }
     }
@@ -185,9 +185,9 @@ impl<T: Storied> TurnLock<T> {
         requires whole { pass.weight ≡ self.whole }
         ensures { T.story result ≡ pass.seen }
     {
-        let TurnLock { board } = self;
+        let TurnLock { table } = self;
         let Pass { seat } = pass;
-        let mut closed = board.close_with(seat);
+        let mut closed = table.close_with(seat);
         let value = closed.take(VALUE);
         closed.free();
         value.unwrap()
@@ -196,19 +196,24 @@ impl<T: Storied> TurnLock<T> {
 
 // Waits until it is the ticket's turn, and then has the value in hand. A thread sleeps only while the word still reads
 // what it last found there, so a turn that comes between the look and the sleep is not missed.
-fn wait_for<T: Storied, R: Wait>(rt: &R, desk: &Desk<T>, seat: &mut Place<T>, ticket: u64)
-    requires own { (seat.old.table_id ≡ desk.now.table_id) × (desk.now.table_id.words ≡ 2) }
+fn wait_for<T: Storied, R: Wait>(
+    rt: &R,
+    shared: &SharedTable<T>,
+    seat: &mut TurnSeat<T>,
+    ticket: u64,
+)
+    requires own { (seat.old.table_id ≡ shared.now.table_id) × (shared.now.table_id.words ≡ 2) }
     requires waits { (t : ℕ) × (seat.old.me.0.stage ≡ Waits t) × (ticket ≡ in_word t) }
     requires empty { seat.old.me.1 ≡ [] }
     ensures own { seat.new.table_id ≡ seat.old.table_id }
     ensures taken { HasTaken T.story seat.old.me seat.new.me }
 {
     for _ in rt.forever() {
-        let served = desk.load::<Look<T>>(seat, SERVED);
+        let served = shared.load::<Look<T>>(seat, SERVED);
         if served == ticket {
             return;
         }
-        desk.park(rt, SERVED, (served & 0xffff_ffff) as u32);
+        shared.park(rt, SERVED, (served & 0xffff_ffff) as u32);
     }
     unreachable!()
 }

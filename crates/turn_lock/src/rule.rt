@@ -54,7 +54,8 @@ impl<T: Storied> TableRule<Option<T>, View<T::Told>, Opening<T>> for Turns<T> {
     ghost first = { λ key. idle (T.story key.value.value) key.whole };
 }
 
-pub(crate) type Board<T> = Table<
+/// The words and the slot of a lock, with their memory.
+pub(crate) type TurnTable<T> = Table<
     Option<T>,
     View<<T as Storied>::Told>,
     Opening<T>,
@@ -62,6 +63,13 @@ pub(crate) type Board<T> = Table<
     Global,
 >;
 
-pub(crate) type Desk<T> = Shared<Option<T>, View<<T as Storied>::Told>, Opening<T>, Turns<T>>;
+/// The same as threads share it.
+pub(crate) type SharedTable<T> = Shared<
+    Option<T>,
+    View<<T as Storied>::Told>,
+    Opening<T>,
+    Turns<T>,
+>;
 
-pub(crate) type Place<T> = Seat<Option<T>, View<<T as Storied>::Told>>;
+/// What a pass steps with.
+pub(crate) type TurnSeat<T> = Seat<Option<T>, View<<T as Storied>::Told>>;
