@@ -15,6 +15,7 @@ abbrev pub in_word : ℕ → ℕ
 in_word n = n % 2 ^ 64
 
 module _ {D : Type 0} where
+  -- a fact of each pass
   abbrev pub Each : (View D → Type 0) → List (View D) → Type 0
   Each P views = (seat : ℕ) (v : View D) → get_elem? views seat ≡ some v → P v
 
@@ -25,6 +26,7 @@ module _ {D : Type 0} where
   IsDue served drawn (Waits ticket) = (served ≤ ticket) × (ticket < drawn)
   IsDue served drawn (Turn ticket story) = (ticket ≡ served) × (ticket < drawn)
 
+  -- the pass has not taken the value
   abbrev pub HasNoTurn : Stage D → Type 0
   HasNoTurn Idle = Unit {0}
   HasNoTurn (Joined shorter) = Unit {0}
