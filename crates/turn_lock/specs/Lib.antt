@@ -1,0 +1,4 @@
+pub mod Moves
+pub mod Rule
+pub mod Sight
+pub mod Stages
