@@ -1,4 +1,5 @@
 pub mod Answers
+pub mod Copies
 pub mod Formed
 pub mod Names
 pub mod PathBytes

@@ -1,7 +1,9 @@
 // A list as a field of plain data.
 
 ghost use Rattle.std.specs.Prelude.{◌≡◌, List};
+ghost use Rattle.std.specs.List.{AllZip};
 
+use std::alloc::AllocError;
 use std::marker::Model;
 
 /// A list that plain data holds in a field. Contracts see it as its items.
@@ -39,5 +41,15 @@ impl<X> List<X> {
     {
         let List { items } = self;
         items
+    }
+}
+
+impl<X: Clone> Clone for List<X> {
+    ghost is_clone = { λ source copy. AllZip X.is_clone source copy };
+
+    fn clone(&self) -> Result<List<X>, AllocError> {
+        Ok(List {
+            items: self.items.clone()?,
+        })
     }
 }

@@ -6,7 +6,7 @@ ghost use Rattle.cc_names.specs.Answers.{Gives};
 ghost use Rattle.cc_names.specs.Names.{is_name_byte, is_dash, is_dot, begins_wrong, fault_of_bytes, fault_at, name_fault, name_of, IsName};
 
 use crate::memory::{NoMemory, Or};
-use std::alloc::Global;
+use std::alloc::{AllocError, Global};
 use std::fmt;
 use std::marker::Model;
 
@@ -74,6 +74,16 @@ impl Name {
         ensures name { IsName self.now }
     {
         self.bytes.as_slice()
+    }
+}
+
+impl Clone for Name {
+    ghost is_clone = { λ source copy. copy ≡ source };
+
+    fn clone(&self) -> Result<Name, AllocError> {
+        Ok(Name {
+            bytes: self.bytes.clone()?,
+        })
     }
 }
 

@@ -8,7 +8,7 @@ ghost use Rattle.cc_names.specs.Paths.{is_slash, root, is_root, first_fault, pat
 use crate::memory::{NoMemory, Or};
 use crate::names::{NameFault, fault_at};
 use crate::texts::Text;
-use std::alloc::Global;
+use std::alloc::{AllocError, Global};
 use std::marker::Model;
 
 /// A path: `.` for the root, or names joined by `/`, at most 1,024 bytes in all. Contracts see it as its bytes.
@@ -81,6 +81,16 @@ impl Path {
             None => b".",
             Some(text) => text.as_bytes(),
         }
+    }
+}
+
+impl Clone for Path {
+    ghost is_clone = { λ source copy. copy ≡ source };
+
+    fn clone(&self) -> Result<Path, AllocError> {
+        Ok(Path {
+            below_root: self.below_root.clone()?,
+        })
     }
 }
 

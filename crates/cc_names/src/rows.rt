@@ -37,7 +37,7 @@ pub enum Out {
 }
 
 /// One read of a script: the path that it asked for and the row that made the text there, 0 where nothing was there.
-#[derive(Debug, Drop)]
+#[derive(Clone, Debug, Drop)]
 pub struct ReadOf {
     pub path: Path,
     pub row: u64,
@@ -58,7 +58,7 @@ pub struct Extent {
 }
 
 /// An output of an object as a row spells it: its bytes, or where they stand.
-#[derive(Debug, Drop)]
+#[derive(Clone, Debug, Drop)]
 pub enum Stored {
     Here(Text),
     There(Extent),
