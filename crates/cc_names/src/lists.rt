@@ -1,8 +1,8 @@
 // A list as a field of plain data.
 
 ghost use Rattle.std.specs.Prelude.{◌≡◌, List};
-ghost use Rattle.std.specs.List.{AllZip};
 
+use crate::copies::Copied;
 use std::alloc::AllocError;
 use std::marker::Model;
 
@@ -44,8 +44,8 @@ impl<X> List<X> {
     }
 }
 
-impl<X: Clone> Clone for List<X> {
-    ghost is_clone = { λ source copy. AllZip X.is_clone source copy };
+impl<X: Copied> Clone for List<X> {
+    ghost is_clone = { λ source copy. copy ≡ source };
 
     fn clone(&self) -> Result<List<X>, AllocError> {
         Ok(List {

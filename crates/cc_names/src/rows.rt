@@ -4,6 +4,7 @@ use crate::lists::List;
 use crate::names::Name;
 use crate::paths::Path;
 use crate::texts::Text;
+use std::alloc::AllocError;
 use std::marker::Model;
 
 /// Which command made a row: its phase, its lane and its number in the lane, each counted from 1.
@@ -65,7 +66,7 @@ pub enum Stored {
 }
 
 /// What a row does. Elements, versions, branches and objects are named by the number of the row that made them.
-#[derive(Debug, Drop)]
+#[derive(Clone, Debug, Drop)]
 pub enum Deed {
     Mkview {
         view: Name,
@@ -230,5 +231,19 @@ impl Row {
         ensures formed { IsFormed self.now }
     {
         &self.deed
+    }
+}
+
+impl Clone for Row {
+    ghost use Rattle.std.specs.Prelude.{◌≡◌};
+
+    ghost is_clone = { λ source copy. copy ≡ source };
+
+    fn clone(&self) -> Result<Row, AllocError> {
+        Ok(Row {
+            tag: self.tag,
+            moment: self.moment,
+            deed: self.deed.clone()?,
+        })
     }
 }
