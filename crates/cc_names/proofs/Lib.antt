@@ -1,3 +1,6 @@
 mod Cuts
 mod FirstFaults
+mod Joins
+mod NamesOfPaths
+mod PathParts
 mod PathRows

@@ -4,4 +4,5 @@ pub mod CopyLaws
 pub mod Formed
 pub mod Names
 pub mod PathBytes
+pub mod PathLaws
 pub mod Paths

@@ -1,9 +1,9 @@
 // A list as a field of plain data.
 
-ghost use Rattle.std.specs.Prelude.{◌≡◌, List};
+ghost use Rattle.std.specs.Prelude.{◌≡◌, ◌↔◌, IsTrue, List, [], length};
 
 use crate::copies::Copied;
-use std::alloc::AllocError;
+use std::alloc::{AllocError, Global};
 use std::marker::Model;
 
 /// A list that plain data holds in a field. Contracts see it as its items.
@@ -26,6 +26,29 @@ impl<X> List<X> {
         ensures { result ≡ items.items }
     {
         List { items }
+    }
+
+    /// The list of no items. Takes no memory.
+    pub fn empty(alloc: Global) -> List<X>
+        ensures { result ≡ [] }
+    {
+        List {
+            items: Vec::new(alloc),
+        }
+    }
+
+    /// The number of items.
+    pub fn len(&self) -> usize
+        ensures { result ≡ length self.now }
+    {
+        self.items.len()
+    }
+
+    /// Whether there are no items.
+    pub fn is_empty(&self) -> bool
+        ensures { IsTrue result ↔ (self.now ≡ []) }
+    {
+        self.items.is_empty()
     }
 
     /// The items, in order.

@@ -56,13 +56,22 @@ impl Name {
         if let Some(fault) = fault_of(bytes) {
             return Err(Or::Is(fault));
         }
+        Ok(Name::of(alloc, bytes)?)
+    }
+
+    /// The name of these bytes, which are those of a name.
+    pub(crate) fn of(alloc: Global, bytes: &[u8]) -> Result<Name, NoMemory>
+        requires { IsName bytes.now }
+        ensures { IfOk result (λ name. name ≡ bytes.now) }
+    {
         let bytes = Vec::from_slice(alloc, bytes)?;
         Ok(Name { bytes })
     }
 
     /// A copy.
     pub fn copy(&self, alloc: Global) -> Result<Name, NoMemory>
-        ensures { IfOk result (λ name. name ≡ self.now) }
+        ensures copy { IfOk result (λ name. name ≡ self.now) }
+        ensures name { IsName self.now }
     {
         let bytes = Vec::from_slice(alloc, self.bytes.as_slice())?;
         Ok(Name { bytes })
