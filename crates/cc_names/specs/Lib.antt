@@ -6,3 +6,4 @@ pub mod Names
 pub mod PathBytes
 pub mod PathLaws
 pub mod Paths
+pub mod ReplyCopies

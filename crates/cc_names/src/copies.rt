@@ -2,12 +2,13 @@
 
 ghost use Rattle.std.specs.Prelude.{◌≡◌, IfOk};
 
+use crate::commands::{Macro, VersionName};
 use crate::lists::List;
 use crate::memory::NoMemory;
 use crate::names::Name;
 use crate::paths::Path;
 use crate::refusals::{Refusal, ScriptFault, UnitFault};
-use crate::replies::UnitWord;
+use crate::replies::{Reply, UnitLine, UnitWord};
 use crate::rows::{Deed, Placed, ReadOf, Row, Stored};
 use crate::steps::UnitEnd;
 use crate::texts::Text;
@@ -110,4 +111,24 @@ impl Copied for UnitWord {
     ghost use Rattle.cc_names.specs.CopyLaws.{unit_word_same};
 
     ghost exact = { unit_word_same };
+}
+
+impl Copied for Macro {
+    ghost exact = { λ source copy same i. record { name = same.0 i; value = same.1 i } };
+}
+
+impl Copied for VersionName {
+    ghost exact = { λ source copy same i. record { branches = same.0 i; number = same.1 i } };
+}
+
+impl Copied for UnitLine {
+    ghost use Rattle.cc_names.specs.CopyLaws.{unit_word_same};
+
+    ghost exact = { λ source copy same i. record { path = same.0 i; word = unit_word_same _ _ same.1 i } };
+}
+
+impl Copied for Reply {
+    ghost use Rattle.cc_names.specs.ReplyCopies.{reply_same};
+
+    ghost exact = { reply_same };
 }

@@ -1,6 +1,7 @@
 // A list as a field of plain data.
 
 ghost use Rattle.std.specs.Prelude.{◌≡◌, ◌↔◌, IsTrue, List, [], length};
+ghost use Rattle.std.specs.Cmp.Lexicographic.{pointwise, lists_per, lists_equiv};
 
 use crate::copies::Copied;
 use std::alloc::{AllocError, Global};
@@ -75,4 +76,18 @@ impl<X: Copied> Clone for List<X> {
             items: self.items.clone()?,
         })
     }
+}
+
+impl<X: PartialEq> PartialEq for List<X> {
+    ghost eq = { pointwise X.eq };
+
+    ghost laws = { lists_per X.PartialEq.laws };
+
+    fn eq(&self, other: &List<X>) -> bool {
+        self.as_slice() == other.as_slice()
+    }
+}
+
+impl<X: Eq> Eq for List<X> {
+    ghost laws = { lists_equiv X.Eq.laws };
 }

@@ -38,7 +38,7 @@ pub enum Out {
 }
 
 /// One read of a script: the path that it asked for and the row that made the text there, 0 where nothing was there.
-#[derive(Clone, Debug, Drop)]
+#[derive(Clone, Debug, Drop, PartialEq, Eq)]
 pub struct ReadOf {
     pub path: Path,
     pub row: u64,
@@ -59,14 +59,14 @@ pub struct Extent {
 }
 
 /// An output of an object as a row spells it: its bytes, or where they stand.
-#[derive(Clone, Debug, Drop)]
+#[derive(Clone, Debug, Drop, PartialEq, Eq)]
 pub enum Stored {
     Here(Text),
     There(Extent),
 }
 
 /// What a row does. Elements, versions, branches and objects are named by the number of the row that made them.
-#[derive(Clone, Debug, Drop)]
+#[derive(Clone, Debug, Drop, PartialEq, Eq)]
 pub enum Deed {
     Mkview {
         view: Name,
