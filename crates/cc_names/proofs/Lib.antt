@@ -1,5 +1,6 @@
 mod Cuts
 mod FirstFaults
+mod FormedRows
 mod Joins
 mod NamesOfPaths
 mod PathParts

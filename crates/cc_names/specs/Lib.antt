@@ -1,5 +1,4 @@
 pub mod Answers
-pub mod Copies
 pub mod CopyLaws
 pub mod Formed
 pub mod Names
