@@ -1,5 +1,9 @@
 mod Cuts
 mod FirstFaults
+mod FormedRows
+mod Joins
+mod NamesOfPaths
+mod PathParts
 mod PathRows
 mod WorkedLabels
 mod WorkedVersions

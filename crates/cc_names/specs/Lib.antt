@@ -1,9 +1,12 @@
 pub mod Answers
 pub mod Branches
+pub mod CopyLaws
 pub mod Formed
 pub mod Labels
 pub mod Last
 pub mod Names
 pub mod PathBytes
+pub mod PathLaws
 pub mod Paths
+pub mod ReplyCopies
 pub mod Versions

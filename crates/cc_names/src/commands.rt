@@ -6,21 +6,21 @@ use crate::paths::Path;
 use crate::texts::Text;
 
 /// A version by its place in its element's tree: the branches behind `main`, and the number on the last of them.
-#[derive(Debug, Drop)]
+#[derive(Clone, Debug, Drop, PartialEq, Eq)]
 pub struct VersionName {
     pub branches: List<Name>,
     pub number: u64,
 }
 
 /// A macro of a makefile or of a command line.
-#[derive(Debug, Drop)]
+#[derive(Clone, Debug, Drop, PartialEq, Eq)]
 pub struct Macro {
     pub name: Text,
     pub value: Text,
 }
 
 /// One command of a lane, as its line says it.
-#[derive(Debug, Drop)]
+#[derive(Debug, Drop, PartialEq, Eq)]
 pub enum Command {
     Mkview {
         view: Name,
@@ -175,20 +175,20 @@ pub enum Command {
 }
 
 /// A lane of a phase: its name, and its commands in their order.
-#[derive(Debug, Drop)]
+#[derive(Debug, Drop, PartialEq, Eq)]
 pub struct Lane {
     pub name: Name,
     pub commands: List<Command>,
 }
 
 /// A phase: its lanes, which run side by side.
-#[derive(Debug, Drop)]
+#[derive(Debug, Drop, PartialEq, Eq)]
 pub struct Phase {
     pub lanes: List<Lane>,
 }
 
 /// A session: its phases, one after the other.
-#[derive(Debug, Drop)]
+#[derive(Debug, Drop, PartialEq, Eq)]
 pub struct Session {
     pub phases: List<Phase>,
 }

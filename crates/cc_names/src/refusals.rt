@@ -39,7 +39,7 @@ pub enum MakeCause {
 }
 
 /// Where a makefile cannot be read: the file, the line counted from 1, and why.
-#[derive(Debug, Drop)]
+#[derive(Clone, Debug, Drop, PartialEq, Eq)]
 pub struct MakeError {
     pub file: Path,
     pub line: u32,
@@ -67,7 +67,7 @@ pub struct SessionError {
 }
 
 /// Why a script's run gave nothing. Lines are counted from 1.
-#[derive(Debug, Drop)]
+#[derive(Clone, Debug, Drop, PartialEq, Eq)]
 pub enum ScriptFault {
     /// X1: a read found nothing at this path.
     Absent(Path),
@@ -86,7 +86,7 @@ pub enum ScriptFault {
 }
 
 /// Why a unit of a build failed.
-#[derive(Debug, Drop)]
+#[derive(Clone, Debug, Drop, PartialEq, Eq)]
 pub enum UnitFault {
     /// U1: this prerequisite is neither a unit nor a file of the view.
     NoRule(Path),
@@ -99,7 +99,7 @@ pub enum UnitFault {
 }
 
 /// Why a makefile and its goals give no units.
-#[derive(Debug, Drop)]
+#[derive(Clone, Debug, Drop, PartialEq, Eq)]
 pub enum GraphFault {
     /// G1: this goal is neither a unit nor a file.
     NoGoal(Path),
@@ -110,7 +110,7 @@ pub enum GraphFault {
 }
 
 /// Why a command was refused.
-#[derive(Debug, Drop)]
+#[derive(Clone, Debug, Drop, PartialEq, Eq)]
 pub enum Refusal {
     /// C1
     NoView,

@@ -13,7 +13,7 @@ pub struct Digest {
 }
 
 /// What a unit of a build came to, as its line says it.
-#[derive(Debug, Drop)]
+#[derive(Clone, Debug, Drop, PartialEq, Eq)]
 pub enum UnitWord {
     /// The view's own object was kept.
     Kept(Digest),
@@ -29,14 +29,14 @@ pub enum UnitWord {
 }
 
 /// The line of a unit, or of one target of a unit that has several.
-#[derive(Debug, Drop)]
+#[derive(Clone, Debug, Drop, PartialEq, Eq)]
 pub struct UnitLine {
     pub path: Path,
     pub word: UnitWord,
 }
 
 /// The reply to a command.
-#[derive(Debug, Drop)]
+#[derive(Clone, Debug, Drop, PartialEq, Eq)]
 pub enum Reply {
     /// A row was committed.
     Good,

@@ -6,7 +6,7 @@ use crate::paths::Path;
 use crate::texts::Text;
 
 /// One segment of a pattern.
-#[derive(Debug, Drop)]
+#[derive(Debug, Drop, PartialEq, Eq)]
 pub enum Segment {
     /// `...`: zero or more names.
     AnyNames,
@@ -23,7 +23,7 @@ pub struct Pattern {
 }
 
 /// Which version a rule takes of an element.
-#[derive(Debug, Drop)]
+#[derive(Debug, Drop, PartialEq, Eq)]
 pub enum Selector {
     /// `CHECKEDOUT`: the view's own checkout.
     CheckedOut,
