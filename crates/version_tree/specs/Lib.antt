@@ -1,2 +1,3 @@
 pub mod Branches
 pub mod Falling
+pub mod Namesakes

@@ -3,3 +3,4 @@
 
 mod branches;
 mod by_row;
+mod namesakes;
