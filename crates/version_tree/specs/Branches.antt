@@ -35,3 +35,8 @@ row_numbered b ls (suc behind) = option_map row_of_later (slice_get ls behind)
 abbrev pub row_within : ℕ → Option ℕ → Option ℕ
 row_within rows None = None
 row_within rows (Some row) = cond (nat_lt row rows) (Some row) None
+
+-- the versions on a branch, and none on one that is not there
+abbrev pub versions_by : Option Branch → List Version
+versions_by None = []
+versions_by (Some branch) = versions_kept branch

@@ -1,3 +1,5 @@
 pub mod Branches
 pub mod Falling
+pub mod Forest
 pub mod Namesakes
+pub mod TreeFields

@@ -1,6 +1,6 @@
 // Look-ups by halving in lists whose items are in order of the rows that made them.
 
-ghost use Rattle.std.specs.Prelude.{ℕ, ◌≡◌, ◌==◌, ◌<◌, ◌≤◌, length, map, reverse, nat_lt, true, false, find, slice_get, IfSome, option_and_then};
+ghost use Rattle.std.specs.Prelude.{ℕ, ◌≡◌, ◌==◌, ◌<◌, ◌≤◌, length, map, reverse, nat_lt, true, false, find, slice_get, IfSome, option_and_then, option_copied};
 ghost use Rattle.std.specs.List.Sorted.{IsPartitionPoint};
 ghost use Rattle.version_tree.specs.Falling.{Falls};
 
@@ -33,4 +33,13 @@ pub fn place_of<T: ByRow>(items: &[T], row: u64) -> Option<usize>
         Some(item) if item.row() == row => Some(place),
         _ => None,
     }
+}
+
+/// The item that a row made. Takes time logarithmic in the items.
+pub fn item_of<T: ByRow>(items: &[T], row: u64) -> Option<&T>
+    requires { Falls (map T.row_in (reverse items.now)) }
+    ensures { option_copied result ≡ find (λ item. T.row_in item == row) (reverse items.now) }
+{
+    let place = place_of(items, row)?;
+    Some(&items[place])
 }
