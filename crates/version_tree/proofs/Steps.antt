@@ -1,12 +1,12 @@
 -- The fields of a tree stay in step as changes are added.
-use Rattle.std.proofs.Common.{◌≡◌, ◌≢◌, ℕ, zero, suc, ◌+◌, ◌<◌, ◌≤◌, Bool, true, false, cond, eqb, ltb, List, [], ◌∷◌, ◌++◌, length, get_or, set, map, reverse, Option, Some, None, ◌⊎◌, slice_get, vec_len, vec_capacity, refl, inl, inr, sym, ap, subst, ◌∙◌, arith}
+use Rattle.std.proofs.Common.{◌≡◌, ◌≢◌, ℕ, zero, suc, ◌+◌, ◌<◌, ◌≤◌, Bool, true, false, cond, ◌||◌, eqb, ltb, List, [], ◌∷◌, ◌++◌, length, get_or, set, map, reverse, Option, Some, None, ◌⊎◌, slice_get, vec_len, vec_capacity, refl, inl, inr, sym, ap, subst, ◌∙◌, arith}
 use Rattle.std.specs.Prelude.{filter, find}
 use Rattle.std.specs.List.{list_any}
 use Rattle.std.proofs.lemmas.List.{reverse-append, length-set, get_or-set_same, get_or-set_other}
 use Rattle.std.proofs.lemmas.Bool.{cases_lt}
 use Rattle.std.proofs.lemmas.Bool.Decides.{nat_tests, Decides-eqb}
 use Rattle.std.proofs.lemmas.Option.{slice_get-get_or}
-use Rattle.cc_names.specs.Versions.{Version, row_of_change, branch_of_change, moment_of_change, version_made, versions_on, put_if}
+use Rattle.cc_names.specs.Versions.{Version, row_of_change, branch_of_change, moment_of_change, version_made, versions_on, latest, put_if}
 use Rattle.cc_names.specs.declared.changes.TreeChange.{TreeChange}
 use Rattle.cc_names.specs.declared.changes.TreeChange.TheVariants.{VersionMade}
 use Rattle.version_tree.specs.Falling.{IsAbove, Falls}
@@ -216,3 +216,80 @@ not_ready branch (x ∷ items) none = elim (bool_cases (eqb x.row branch)) [
     over_put : (t : Bool) → eqb x.row branch ≡ false → list_any (λ b. eqb b branch) (ready_branches items) ≡ false → list_any (λ b. eqb b branch) (put_if t x.row (ready_branches items)) ≡ false
     over_put true fails rest = rw fails rest
     over_put false fails rest = rest
+
+-- the maps in another order
+pub maps_reordered : (made : List Made) (branches : List Branch) (heads heads' : ℕ → Option ℕ) (held held' : ℕ → Option Contents)
+    → InStep made branches heads held → ((key : ℕ) → heads' key ≡ heads key) → ((v : ℕ) → held' v ≡ held v) → InStep made branches heads' held'
+maps_reordered made branches heads heads' held held' step same_heads same_held = record {
+  falls = step.falls;
+  linked = step.linked;
+  newest = λ key. same_heads key ∙ step.newest key;
+  branches_fall = step.branches_fall;
+  branches_made = step.branches_made;
+  kept = step.kept;
+  in_order = λ v. rw (same_held v) (step.in_order v);
+}
+
+-- a branch with more room
+pub room_made : (made : List Made) (items : List Branch) (p : ℕ) (b' : Branch) (branch : ℕ) (heads : ℕ → Option ℕ) (held : ℕ → Option Contents)
+    → InStep made (reverse items) heads held → p < length items → slice_get items p ≡ find (λ b. eqb b.row branch) items
+    → b'.row ≡ branch → ((d : Branch) → b'.moment ≡ (get_or items p d).moment) → ((d : Branch) → b'.later.items ≡ (get_or items p d).later.items)
+    → InStep made (reverse (set items p b')) heads held
+room_made made items p b' branch heads held step within found same_row same_moment same_later =
+    let there = row_there items branch p step.branches_fall within found in
+    let old = get_or items p b' in
+    let rows : map row_of_branch (reverse (set items p b')) ≡ map row_of_branch (reverse items) =
+        map-reverse row_of_branch (set items p b') ∙ ap reverse (rows_set items p b' within (λ d. there d ∙ sym same_row)) ∙ sym (map-reverse row_of_branch items) in
+    let fall_after : Falls (map row_of_branch (reverse (set items p b'))) = rw rows step.branches_fall in
+    let old_found : branch_at (reverse items) branch ≡ Some old =
+        find-reverse row_of_branch branch items step.branches_fall ∙ sym found ∙ slice_get-get_or items p b' within in
+    let new_found : branch_at (reverse (set items p b')) branch ≡ Some b' =
+        find-reverse row_of_branch branch (set items p b') fall_after ∙ find_set_here items branch p step.branches_fall within found b' same_row in
+    let same_versions : versions_kept old ≡ versions_kept b' =
+        ap (λ r. versions_from r old.moment (reverse old.later.items)) (there b' ∙ sym same_row)
+        ∙ ap (λ t. versions_from b'.row t (reverse old.later.items)) (sym (same_moment b'))
+        ∙ ap (λ ls. versions_from b'.row b'.moment (reverse ls)) (sym (same_later b')) in
+    record {
+      falls = step.falls;
+      linked = step.linked;
+      newest = step.newest;
+      branches_fall = fall_after;
+      branches_made = λ r higher. rw rows (step.branches_made r higher);
+      kept = λ q. elim (bool_cases (eqb branch q)) [
+          inl same ↦
+            let here : branch ≡ q = (Decides-eqb branch q).0 same in
+            let old_there : branch_at (reverse items) q ≡ Some old = rw (← here) old_found in
+            let new_there : branch_at (reverse (set items p b')) q ≡ Some b' = rw (← here) new_found in
+            step.kept q ∙ ap versions_by old_there ∙ same_versions ∙ sym (ap versions_by new_there)
+        | inr other ↦
+            let others : branch_at (reverse (set items p b')) q ≡ branch_at (reverse items) q =
+                find-reverse row_of_branch q (set items p b') fall_after ∙ find_set_other items p b' within q (λ d. there d ∙ sym same_row) (rw same_row other) ∙ sym (find-reverse row_of_branch q items step.branches_fall) in
+            step.kept q ∙ ap versions_by (sym others)
+        ];
+      in_order = step.in_order;
+    }
+
+-- a branch that has room is ready
+pub set_ready : (items : List Branch) (p : ℕ) (b' : Branch) (branch : ℕ) → p < length items → b'.row ≡ branch → ltb (vec_len b'.later) (vec_capacity b'.later) ≡ true
+    → list_any (λ b. eqb b branch) (ready_branches (set items p b')) ≡ true
+set_ready [] p b' branch within same room = absurd (omega arith)
+set_ready (x ∷ items) zero b' branch within same room =
+    let here : eqb b'.row branch ≡ true = (Decides-eqb b'.row branch).1 same in
+    rw (room, here) refl
+set_ready (x ∷ items) (suc p) b' branch within same room = put_any (ltb (vec_len x.later) (vec_capacity x.later)) (set_ready items p b' branch (omega arith) same room)
+  where
+    put_any : (t : Bool) → list_any (λ b. eqb b branch) (ready_branches (set items p b')) ≡ true → list_any (λ b. eqb b branch) (put_if t x.row (ready_branches (set items p b'))) ≡ true
+    put_any true any = rw any (or_true (eqb x.row branch))
+      where
+        or_true : (t : Bool) → (t || true) ≡ true
+        or_true true = refl
+        or_true false = refl
+    put_any false any = any
+
+-- a branch that is not there has no version
+pub latest_nowhere : (made : List Made) (items : List Branch) (branch : ℕ) (heads : ℕ → Option ℕ) (held : ℕ → Option Contents)
+    → InStep made (reverse items) heads held → find (λ b. eqb b.row branch) items ≡ None → latest (changes_of made) branch None ≡ None
+latest_nowhere made items branch heads held step none =
+    let absent : branch_at (reverse items) branch ≡ None = find-reverse row_of_branch branch items step.branches_fall ∙ none in
+    let versions : versions_on (changes_of made) branch ≡ [] = step.kept branch ∙ ap versions_by absent in
+    rw versions refl

@@ -1,7 +1,7 @@
 // The trees of versions of all elements, as they were at any number of rows.
 #![tactic(auto)]
 
-ghost use Rattle.std.specs.Prelude.{◌≡◌, ℕ, ◌==◌, ◌<◌, ◌≤◌, ◌+◌, ◌∷◌, [], ◌++◌, IsTrue, IfOk, IfSome, OnOk, map, reverse, filter, nat_eq, nat_lt, option_copied, vec_len, vec_capacity, if◌then◌else◌};
+ghost use Rattle.std.specs.Prelude.{◌≡◌, ℕ, ◌==◌, ◌<◌, ◌≤◌, ◌+◌, ◌∷◌, [], ◌++◌, IsTrue, IsSome, IfOk, IfSome, OnOk, map, reverse, filter, nat_eq, nat_lt, option_copied, vec_len, vec_capacity, if◌then◌else◌};
 ghost use Rattle.std.specs.HashMap.{get, spare};
 ghost use Rattle.cc_names.specs.Versions.{row_of_change, branch_of_change, of_first_rows, change_at, element_of_branch, versions_on, latest, numbered, place, kind_of};
 ghost use Rattle.cc_names.specs.Branches.{branch_named, origin_of, name_of_branch};
@@ -117,6 +117,46 @@ impl Tree {
             newest: HashMap::new(alloc),
             contents: HashMap::new(alloc),
         })
+    }
+
+    /// Makes room for one element or one branch, for what one version holds and, where a branch that is there is named, for
+    /// one version on it.
+    pub fn reserve(&mut self, _alloc: Global, branch: Option<u64>) -> Result<(), NoMemory>
+        ensures kept { KeepsAll self.old self.new }
+        ensures room { OnOk result (0 < self.new.room) }
+        ensures content_room { OnOk result (0 < self.new.content_room) }
+        ensures ready { OnOk result (IfSome branch (λ b. IsSome (latest self.old.changes b None) → IsTrue (is_ready self.new b))) }
+    {
+        self.reserve_change()?;
+        match branch {
+            Some(branch) => self.reserve_version(branch),
+            None => Ok(()),
+        }
+    }
+
+    // Makes room for one change and for what one version holds.
+    fn reserve_change(&mut self) -> Result<(), NoMemory>
+        ensures kept { KeepsAll self.old self.new }
+        ensures room { OnOk result (0 < self.new.room) }
+        ensures content_room { OnOk result (0 < self.new.content_room) }
+    {
+        self.made.reserve(1)?;
+        self.branches.reserve(1)?;
+        self.newest.reserve(1)?;
+        self.contents.reserve(1)?;
+        Ok(())
+    }
+
+    // Makes room for one version on a branch, where it is there.
+    fn reserve_version(&mut self, branch: u64) -> Result<(), NoMemory>
+        ensures kept { KeepsAll self.old self.new }
+        ensures ready { OnOk result (IsSome (latest self.old.changes branch None) → IsTrue (is_ready self.new branch)) }
+    {
+        if let Some(place) = place_of(&self.branches, branch) {
+            let on = &mut self.branches[place];
+            on.later.reserve(1)?;
+        }
+        Ok(())
     }
 
     /// Adds an element with its branch `main` and version 0 on it. The row is above all rows so far.
