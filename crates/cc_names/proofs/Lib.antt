@@ -1,2 +1,3 @@
+pub mod ByRows
 mod WorkedLabels
 mod WorkedVersions

@@ -4,7 +4,7 @@ use Rattle.std.specs.Prelude.{filter, find}
 use Rattle.std.proofs.lemmas.Bool.Decides.{nat_tests, Decides-eqb}
 use Rattle.cc_names.specs.Versions.{Version, row_of_change, branch_of_change, row_of_version, version_made, of_first_rows, versions_on, put_if}
 use Rattle.cc_names.specs.declared.changes.TreeChange.{TreeChange}
-use Rattle.version_tree.specs.Falling.{IsAbove, Falls}
+use Rattle.cc_names.specs.Falling.{IsAbove, Falls}
 use Rattle.version_tree.specs.Branches.{row_of_later, versions_from}
 use Rattle.version_tree.specs.declared.branches.Later.{Later}
 use Rattle.version_tree.proofs.Links.{bool_cases}

@@ -4,7 +4,7 @@ use Rattle.std.specs.Prelude.{filter, find, option_map, option_copied}
 use Rattle.std.specs.List.Sorted.{IsStrictlySortedBy}
 use denote.Ref.{Bor}
 use Rattle.cc_names.specs.Versions.{row_of_change, change_at, of_first_rows, versions_on}
-use Rattle.version_tree.specs.Falling.{Falls}
+use Rattle.cc_names.specs.Falling.{Falls}
 use Rattle.version_tree.specs.Forest.{AreInOrder, entries_in}
 use Rattle.version_tree.specs.Namesakes.{change_of, changes_of}
 use Rattle.version_tree.specs.Branches.{row_of_later, versions_kept, versions_by}

@@ -1,6 +1,5 @@
 mod FirstRows
 mod Found
-mod Lists
 mod Links
 mod Places
 mod Steps

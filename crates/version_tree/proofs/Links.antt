@@ -11,7 +11,8 @@ use Rattle.cc_names.specs.Versions.{row_of_change, of_first_rows}
 use Rattle.cc_names.specs.Branches.{makes_branch, branch_named}
 use Rattle.cc_names.specs.declared.changes.TreeChange.{TreeChange}
 use Rattle.cc_names.specs.declared.changes.TreeChange.TheVariants.{ElementMade, BranchMade, VersionMade}
-use Rattle.version_tree.specs.Namesakes.{key_of, has_key, changes_of, newest_with, AreLinked}
+use Rattle.cc_names.specs.Keys.{key_of}
+use Rattle.version_tree.specs.Namesakes.{has_key, changes_of, newest_with, AreLinked}
 use Rattle.version_tree.specs.declared.namesakes.Made.{Made}
 
 and-false : (b : Bool) → (b && false) ≡ false

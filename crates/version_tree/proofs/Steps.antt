@@ -9,7 +9,7 @@ use Rattle.std.proofs.lemmas.Option.{slice_get-get_or}
 use Rattle.cc_names.specs.Versions.{Version, row_of_change, branch_of_change, moment_of_change, version_made, versions_on, latest, put_if}
 use Rattle.cc_names.specs.declared.changes.TreeChange.{TreeChange}
 use Rattle.cc_names.specs.declared.changes.TreeChange.TheVariants.{VersionMade}
-use Rattle.version_tree.specs.Falling.{IsAbove, Falls}
+use Rattle.cc_names.specs.Falling.{IsAbove, Falls}
 use Rattle.version_tree.specs.Forest.{AreInOrder, entries_in}
 use Rattle.version_tree.specs.Namesakes.{change_of, changes_of, has_key, newest_with, AreLinked}
 use Rattle.version_tree.specs.Branches.{versions_from, versions_kept, versions_by}
@@ -19,7 +19,7 @@ use Rattle.version_tree.specs.declared.namesakes.Made.{Made}
 use Rattle.version_tree.specs.declared.branches.Branch.{Branch}
 use Rattle.version_tree.specs.declared.branches.Later.{Later}
 use Rattle.version_tree.proofs.Links.{bool_cases}
-use Rattle.version_tree.proofs.Lists.{find_nothing, find_first, find-reverse, rises_below}
+use Rattle.cc_names.proofs.ByRows.{find_nothing, find_first, find-reverse, rises_below}
 
 -- the rows of changes
 pub rows_of_made : (made : List Made) → map row_of_change (changes_of made) ≡ map row_of_made made

@@ -7,10 +7,10 @@ use Rattle.std.proofs.lemmas.List.{reverse-reverse, reverse-append, length-rever
 use Rattle.std.proofs.lemmas.Bool.{cases_lt, cases_eq}
 use Rattle.std.proofs.lemmas.Bool.Decides.{nat_tests}
 use Rattle.cc_names.specs.Versions.{Version, row_of_version, number_of_version, is_before}
-use Rattle.version_tree.specs.Falling.{IsAbove, Falls}
+use Rattle.cc_names.specs.Falling.{IsAbove, Falls}
 use Rattle.version_tree.specs.Branches.{row_of_later, versions_from, kept_of_first_rows, row_if, row_numbered, row_within}
 use Rattle.version_tree.specs.declared.branches.Branch.{Branch}
-use Rattle.version_tree.proofs.Lists.{filter-reverse, filter_first, find-reverse}
+use Rattle.cc_names.proofs.ByRows.{filter-reverse, filter_first, find-reverse}
 use Rattle.version_tree.specs.declared.branches.Later.{Later}
 
 -- a branch has one version more than versions behind version 0

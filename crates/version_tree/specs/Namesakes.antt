@@ -1,16 +1,9 @@
 -- How a branch is found by its element and its name: changes with one key are linked, the newest first.
-use Rattle.std.specs.Prelude.{◌≡◌, ℕ, ◌*◌, ◌%◌, ◌^◌, ◌==◌, Bool, true, false, cond, bit_xor, Option, Some, None, List, [], ◌∷◌, length, map, fold}
+use Rattle.std.specs.Prelude.{◌≡◌, ℕ, ◌==◌, Bool, true, false, cond, Option, Some, None, List, [], ◌∷◌, length, map}
+use Rattle.cc_names.specs.Keys.{key_of}
 use Rattle.cc_names.specs.declared.changes.TreeChange.{TreeChange}
 use Rattle.cc_names.specs.declared.changes.TreeChange.TheVariants.{ElementMade, BranchMade, VersionMade}
 use Rattle.version_tree.specs.declared.namesakes.Made.{Made}
-
--- one step of the hash FNV-1a at 64 bits
-abbrev pub hash_step : ℕ → ℕ → ℕ
-hash_step hash byte = (bit_xor hash byte * 1099511628211) % 2 ^ 64
-
--- the key of an element's branch of a name: the hash of the element's number and the bytes of the name
-abbrev pub key_of : ℕ → List ℕ → ℕ
-key_of element name = fold hash_step (hash_step 14695981039346656037 element) name
 
 -- whether a change made a branch with the key
 abbrev pub has_key : ℕ → TreeChange → Bool

@@ -2,7 +2,7 @@
 use Rattle.std.specs.Prelude.{◌≡◌, ℕ, ◌-◌, ◌==◌, min, nat_eq, nat_lt, Option, Some, None, List, [], ◌∷◌, length, map, reverse, find, vec_len, vec_capacity}
 use Rattle.std.specs.HashMap.{get, spare}
 use Rattle.cc_names.specs.Versions.{row_of_change, versions_on, put_if}
-use Rattle.version_tree.specs.Falling.{IsAbove, Falls}
+use Rattle.cc_names.specs.Falling.{IsAbove, Falls}
 use Rattle.version_tree.specs.Forest.{Forest, AreInOrder, entries_in}
 use Rattle.version_tree.specs.Branches.{versions_by}
 use Rattle.version_tree.specs.Namesakes.{changes_of, newest_with, AreLinked}

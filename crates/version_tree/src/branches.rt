@@ -2,10 +2,10 @@
 
 ghost use Rattle.std.specs.Prelude.{◌≡◌, ◌==◌, map, reverse, find, option_map, nat_lt};
 ghost use Rattle.cc_names.specs.Versions.{row_of_version, number_of_version, is_before};
-ghost use Rattle.version_tree.specs.Falling.{Falls};
+ghost use Rattle.cc_names.specs.Falling.{Falls};
 ghost use Rattle.version_tree.specs.Branches.{row_within};
 
-use crate::by_row::{ByRow, count_below, place_of};
+use cc_names::by_row::{ByRow, count_below, place_of};
 
 /// A version behind version 0 of its branch.
 #[derive(Clone, Copy, Debug)]

@@ -7,24 +7,25 @@ ghost use Rattle.cc_names.specs.Versions.{row_of_change, branch_of_change, of_fi
 ghost use Rattle.cc_names.specs.Branches.{branch_named, origin_of, name_of_branch};
 ghost use Rattle.cc_names.specs.declared.changes.TreeChange.TheVariants as changes;
 ghost use Rattle.version_tree.specs.declared.contents.Contents.TheVariants as contents;
-ghost use Rattle.version_tree.specs.Falling.{IsAbove, Falls};
+ghost use Rattle.cc_names.specs.Falling.{IsAbove, Falls};
 ghost use Rattle.version_tree.specs.Forest.{AddsChange, SetsContents, KeepsAll, AreInOrder, contents_of, entries_in, text_in, is_ready};
 
 mod branches;
-mod by_row;
 mod contents;
 mod namesakes;
 
 use branches::{Branch, Later};
-use by_row::{item_of, place_of};
+
+use cc_names::by_row::{item_of, place_of};
 use cc_names::changes::TreeChange;
 pub use cc_names::changes::{Entry, Place};
+use cc_names::keys::key_of;
 use cc_names::lists::List;
 use cc_names::memory::NoMemory;
 use cc_names::names::Name;
 use cc_names::rows::Kind;
 use contents::Contents;
-use namesakes::{Made, find_branch, key_of};
+use namesakes::{Made, find_branch};
 use std::alloc::Global;
 use std::collections::HashMap;
 use std::marker::Model;

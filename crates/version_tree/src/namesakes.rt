@@ -3,9 +3,10 @@
 ghost use Rattle.std.specs.Prelude.{◌≡◌, ◌&&◌, nat_lt, reverse};
 ghost use Rattle.cc_names.specs.Versions.{row_of_change, of_first_rows};
 ghost use Rattle.cc_names.specs.Branches.{makes_branch, branch_named};
-ghost use Rattle.version_tree.specs.Namesakes.{hash_step, key_of, changes_of, newest_with, AreLinked};
+ghost use Rattle.cc_names.specs.Keys.{key_of};
+ghost use Rattle.version_tree.specs.Namesakes.{changes_of, newest_with, AreLinked};
 
-use crate::by_row::ByRow;
+use cc_names::by_row::ByRow;
 use cc_names::changes::TreeChange;
 use cc_names::names::Name;
 
@@ -35,27 +36,6 @@ impl ByRow for Made {
     fn row(&self) -> u64 {
         row_of(&self.change)
     }
-}
-
-const HASH_START: u64 = 14695981039346656037;
-
-const HASH_FACTOR: u64 = 1099511628211;
-
-// One step of the hash FNV-1a.
-fn hash_step(hash: u64, byte: u64) -> u64
-    ensures { result ≡ hash_step hash byte }
-{
-    (hash ^ byte).wrapping_mul(HASH_FACTOR)
-}
-
-/// The key of an element's branch of a name: a hash, so branches with one key are told apart by their names.
-pub fn key_of(element: u64, name: &Name) -> u64
-    ensures { result ≡ key_of element name.now }
-{
-    let start = hash_step(HASH_START, element);
-    name.as_bytes()
-        .iter()
-        .fold(start, |hash, byte| hash_step(hash, u64::from(*byte)))
 }
 
 /// Whether a change made the element's branch of a name.

@@ -4,8 +4,9 @@ use Rattle.std.specs.HashMap.{get}
 use Rattle.std.proofs.lemmas.Bool.Decides.{Decides-eqb}
 use Rattle.std.proofs.lemmas.Grind.{common_steps}
 use Rattle.cc_names.specs.declared.changes.TreeChange.TheVariants.{BranchMade}
-use Rattle.version_tree.specs.Falling.{IsAbove}
-use Rattle.version_tree.specs.Namesakes.{key_of, newest_with}
+use Rattle.cc_names.specs.Falling.{IsAbove}
+use Rattle.cc_names.specs.Keys.{key_of}
+use Rattle.version_tree.specs.Namesakes.{newest_with}
 use Rattle.version_tree.specs.TreeFields.{row_of_made}
 use Rattle.version_tree.specs.declared.namesakes.Made.{Made}
 use Rattle.version_tree.specs.declared.branches.Branch.{Branch}

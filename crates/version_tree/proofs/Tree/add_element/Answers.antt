@@ -1,7 +1,7 @@
 use Rattle.std.proofs.Common.{◌≡◌, ℕ, List, [], ◌∷◌, map, reverse, None, true, false, refl, sym, ◌∙◌}
 use Rattle.std.proofs.lemmas.List.{reverse-append}
 use Rattle.cc_names.specs.declared.changes.TreeChange.TheVariants.{ElementMade}
-use Rattle.version_tree.specs.Falling.{IsAbove}
+use Rattle.cc_names.specs.Falling.{IsAbove}
 use Rattle.version_tree.specs.TreeFields.{row_of_made}
 use Rattle.version_tree.specs.declared.namesakes.Made.{Made}
 use Rattle.version_tree.specs.declared.branches.Branch.{Branch}

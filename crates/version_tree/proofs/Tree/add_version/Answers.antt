@@ -5,7 +5,7 @@ use Rattle.std.proofs.lemmas.List.{reverse-append, get_or_default}
 use Rattle.std.proofs.lemmas.Bool.Decides.{nat_tests}
 use Rattle.std.proofs.lemmas.Grind.{common_steps}
 use Rattle.cc_names.specs.declared.changes.TreeChange.TheVariants.{VersionMade}
-use Rattle.version_tree.specs.Falling.{IsAbove}
+use Rattle.cc_names.specs.Falling.{IsAbove}
 use Rattle.version_tree.specs.TreeFields.{row_of_made, ready_branches}
 use Rattle.version_tree.specs.declared.namesakes.Made.{Made}
 use Rattle.version_tree.specs.declared.branches.Branch.{Branch}

@@ -1,6 +1,6 @@
 use Rattle.std.proofs.Common.{◌≡◌, reverse, map, ap, ◌∙◌}
 use Rattle.std.specs.Prelude.{option_copied}
-use Rattle.version_tree.specs.Falling.{Falls}
+use Rattle.cc_names.specs.Falling.{Falls}
 use Rattle.version_tree.specs.Branches.{row_of_later}
 use Rattle.version_tree.specs.TreeFields.{branch_at}
 use Rattle.version_tree.proofs.Found.{if_copied, versions_found, versions_found_of_first_rows, found_falls}

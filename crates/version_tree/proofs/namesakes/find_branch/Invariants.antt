@@ -1,7 +1,8 @@
 use Rattle.std.proofs.Common.{◌≡◌, ◌≤◌, length, reverse}
 use Rattle.cc_names.specs.Versions.{of_first_rows}
 use Rattle.cc_names.specs.Branches.{branch_named}
-use Rattle.version_tree.specs.Namesakes.{key_of, changes_of, newest_with, AreLinked}
+use Rattle.cc_names.specs.Keys.{key_of}
+use Rattle.version_tree.specs.Namesakes.{changes_of, newest_with, AreLinked}
 use Rattle.version_tree.proofs.namesakes.find_branch.Given as goal
 
 -- the search goes on among the older changes, from the newest of these with the key

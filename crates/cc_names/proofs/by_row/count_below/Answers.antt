@@ -1,7 +1,7 @@
 use Rattle.std.proofs.Common.{ltb, rules}
 use Rattle.std.proofs.lemmas.List.Sorted.{IsPartitionPoint-from_clause, IsPartitionedBy-ltb}
-use Rattle.version_tree.proofs.Lists.{rises}
-use Rattle.version_tree.proofs.by_row.count_below.Goals as goal
+use Rattle.cc_names.proofs.ByRows.{rises}
+use Rattle.cc_names.proofs.by_row.count_below.Goals as goal
 
 -- the rows rise, so the test parts the items
 pub returns-clause-below : goal.returns-clause-below

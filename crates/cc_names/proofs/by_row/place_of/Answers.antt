@@ -2,8 +2,8 @@ use Rattle.std.proofs.Common.{◌≡◌, ◌<◌, ◌≤◌, eqb, length, get_or
 use Rattle.std.proofs.lemmas.Bool.Decides.{nat_tests}
 use Rattle.std.proofs.lemmas.Grind.{common_steps}
 use Rattle.std.proofs.lemmas.Option.{slice_get-get_or}
-use Rattle.version_tree.proofs.Lists.{find_at_row, find_other_row, find_past}
-use Rattle.version_tree.proofs.by_row.place_of.Goals as goal
+use Rattle.cc_names.proofs.ByRows.{find_at_row, find_other_row, find_past}
+use Rattle.cc_names.proofs.by_row.place_of.Goals as goal
 
 -- the item where the search ended has the row
 pub returns-in-Some-clause-found : goal.returns-in-Some-clause-found

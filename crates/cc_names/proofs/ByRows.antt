@@ -11,7 +11,7 @@ use Rattle.std.proofs.lemmas.List.Folds.{find-append}
 use Rattle.std.proofs.lemmas.List.Elements.{filter-append}
 use Rattle.std.proofs.lemmas.Bool.{cases_lt}
 use Rattle.std.proofs.lemmas.Bool.Decides.{nat_tests}
-use Rattle.version_tree.specs.Falling.{IsAbove, Falls}
+use Rattle.cc_names.specs.Falling.{IsAbove, Falls}
 
 module _ {X : Type 0} (n : X → ℕ) where
   -- a row above a list is above each of its items

@@ -2,8 +2,8 @@ use Rattle.std.proofs.Common.{◌≡◌, ◌<◌, length, get_or, slice_get, eqb
 use Rattle.std.specs.Prelude.{find, option_copied}
 use Rattle.std.proofs.lemmas.Grind.{common_steps}
 use Rattle.std.proofs.lemmas.Option.{slice_get-get_or}
-use Rattle.version_tree.proofs.Lists.{find-reverse}
-use Rattle.version_tree.proofs.by_row.item_of.Goals as goal
+use Rattle.cc_names.proofs.ByRows.{find-reverse}
+use Rattle.cc_names.proofs.by_row.item_of.Goals as goal
 
 -- the item at the place that was found
 pub returns : goal.returns

@@ -2,7 +2,7 @@
 
 ghost use Rattle.std.specs.Prelude.{ℕ, ◌≡◌, ◌==◌, ◌<◌, ◌≤◌, length, map, reverse, nat_lt, true, false, find, slice_get, IfSome, option_and_then, option_copied};
 ghost use Rattle.std.specs.List.Sorted.{IsPartitionPoint};
-ghost use Rattle.version_tree.specs.Falling.{Falls};
+ghost use Rattle.cc_names.specs.Falling.{Falls};
 
 /// A thing that a row made.
 pub trait ByRow {
