@@ -7,3 +7,4 @@ mod PathParts
 mod PathRows
 mod WorkedLabels
 mod WorkedVersions
+pub mod ByRows

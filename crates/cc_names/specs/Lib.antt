@@ -1,7 +1,9 @@
 pub mod Answers
 pub mod Branches
 pub mod CopyLaws
+pub mod Falling
 pub mod Formed
+pub mod Keys
 pub mod Labels
 pub mod Last
 pub mod Names
