@@ -1,0 +1,2 @@
+mod WorkedLabels
+mod WorkedVersions
