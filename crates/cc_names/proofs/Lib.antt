@@ -1,2 +1,5 @@
 mod WorkedLabels
 mod WorkedVersions
+mod Cuts
+mod FirstFaults
+mod PathRows

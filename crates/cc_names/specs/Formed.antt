@@ -10,7 +10,6 @@ use Rattle.cc_names.specs.Paths.{IsPath, is_root}
 use Rattle.cc_names.specs.declared.rows.Tag.{Tag}
 use Rattle.cc_names.specs.declared.rows.ReadOf.{ReadOf}
 use Rattle.cc_names.specs.declared.rows.Placed.{Placed}
-use Rattle.cc_names.specs.declared.rows.Extent.{Extent}
 use Rattle.cc_names.specs.declared.rows.Stored.{Stored}
 use Rattle.cc_names.specs.declared.rows.Stored.TheVariants.{Here, There}
 use Rattle.cc_names.specs.declared.rows.Deed.{Deed}

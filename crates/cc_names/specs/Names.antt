@@ -1,5 +1,5 @@
 -- What a name is, and the first fault, from the left, of bytes that are none.
-use Rattle.std.specs.Prelude.{◌≡◌, ℕ, ◌+◌, Bool, true, false, ◌&&◌, ◌||◌, ◌==◌, not, nat_lt, nat_le, Option, Some, None, Result, Ok, Err, List, [], ◌∷◌, length, slice_get, if◌then◌else◌}
+use Rattle.std.specs.Prelude.{◌≡◌, ℕ, ◌+◌, Bool, false, ◌&&◌, ◌||◌, ◌==◌, not, nat_lt, nat_le, Option, Some, None, Result, Ok, Err, List, [], ◌∷◌, length, slice_get, if◌then◌else◌}
 use Rattle.std.specs.List.{list_all, position}
 use Rattle.cc_names.specs.declared.names.NameFault.{NameFault}
 use Rattle.cc_names.specs.declared.names.NameFault.TheVariants.{Empty, BadByte, TooLong}

@@ -13,6 +13,7 @@
 
 pub mod changes;
 pub mod commands;
+mod comparisons;
 pub mod lists;
 pub mod memory;
 pub mod names;

@@ -77,15 +77,6 @@ impl Name {
     }
 }
 
-impl fmt::Display for Name {
-    fn fmt<W: fmt::Write>(&self, f: &mut fmt::Formatter<W>) -> fmt::Result {
-        for byte in self.bytes.as_slice() {
-            write!(f, "{}", char::from(*byte))?;
-        }
-        Ok(())
-    }
-}
-
 /// Whether a byte may stand in a name.
 pub fn is_name_byte(byte: u8) -> bool
     ensures { result ≡ is_name_byte byte }

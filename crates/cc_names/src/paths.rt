@@ -1,12 +1,14 @@
 // The rule of paths, and a path that meets it.
 
-ghost use Rattle.std.specs.Prelude.{◌≡◌, IfOk};
-ghost use Rattle.cc_names.specs.Paths.{root, is_root, IsPath};
+ghost use Rattle.std.specs.Prelude.{◌≡◌, ◌+◌, ◌<◌, ◌^◌, IfOk, IfSome, length};
+ghost use Rattle.std.specs.List.{position, slice_split};
+ghost use Rattle.cc_names.specs.Answers.{Gives};
+ghost use Rattle.cc_names.specs.Paths.{is_slash, root, is_root, first_fault, path_fault, path_of, IsPath};
 
-use crate::memory::NoMemory;
+use crate::memory::{NoMemory, Or};
+use crate::names::{NameFault, fault_at};
 use crate::texts::Text;
 use std::alloc::Global;
-use std::fmt;
 use std::marker::Model;
 
 /// A path: `.` for the root, or names joined by `/`, at most 1,024 bytes in all. Contracts see it as its bytes.
@@ -42,6 +44,22 @@ impl Path {
         self.below_root.is_none()
     }
 
+    /// Reads bytes as a path, or answers their first fault. Takes time linear in the bytes.
+    pub fn read(alloc: Global, bytes: &[u8]) -> Result<Path, Or<NameFault>>
+        ensures { Gives result (path_of bytes.now) }
+    {
+        if let Some(fault) = fault_of(bytes) {
+            return Err(Or::Is(fault));
+        }
+        if is_root(bytes) {
+            return Ok(Path::root());
+        }
+        let text = Text::from_bytes(alloc, bytes)?;
+        Ok(Path {
+            below_root: Some(text),
+        })
+    }
+
     /// A copy.
     pub fn copy(&self, alloc: Global) -> Result<Path, NoMemory>
         ensures { IfOk result (λ path. path ≡ self.now) }
@@ -64,4 +82,50 @@ impl Path {
             Some(text) => text.as_bytes(),
         }
     }
+}
+
+fn is_root(bytes: &[u8]) -> bool
+    ensures { result ≡ is_root bytes.now }
+{
+    matches!(bytes, [b'.'])
+}
+
+fn first_slash(bytes: &[u8]) -> Option<usize>
+    ensures place { result ≡ position is_slash bytes.now }
+    ensures within { IfSome result (λ index. index < length bytes.now) }
+{
+    bytes.iter().position(|byte| *byte == b'/')
+}
+
+/// The first fault of the names of a path, from the left.
+fn first_fault(bytes: &[u8]) -> Option<NameFault>
+    requires { length bytes.now < 2 ^ 63 }
+    ensures { result ≡ first_fault 0 (slice_split is_slash bytes.now) }
+{
+    let mut place = 0;
+    let mut rest = bytes;
+    'rest: while let Some(index) = first_slash(rest) {
+        let fault = fault_at(place, &rest[..index]);
+        if fault.is_some() {
+            return fault;
+        }
+        place += index as u64 + 1;
+        rest = &rest[index + 1..];
+    }
+    fault_at(place, rest)
+}
+
+fn fault_of(bytes: &[u8]) -> Option<NameFault>
+    ensures { result ≡ path_fault bytes.now }
+{
+    if bytes.is_empty() {
+        return Some(NameFault::Empty);
+    }
+    if bytes.len() > 1024 {
+        return Some(NameFault::TooLong(bytes.len() as u64));
+    }
+    if is_root(bytes) {
+        return None;
+    }
+    first_fault(bytes)
 }
