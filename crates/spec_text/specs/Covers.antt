@@ -1,5 +1,5 @@
 -- Matching with wild cards, for segments of a pattern against names of a path as for bytes of a segment against a name.
-use Rattle.std.specs.Prelude.{Bool, true, false, ◌&&◌, List, [], ◌∷◌, is_empty}
+use Rattle.std.specs.Prelude.{Bool, true, false, ◌&&◌, List, [], ◌∷◌}
 use Rattle.std.specs.List.{list_any}
 
 -- the ends of a list, the longest first: the list itself, then without its first member, and so on to the empty list
