@@ -1,2 +1,5 @@
+pub mod Days
+pub mod Digits
 pub mod OnLiterals
-pub mod Worked
+pub mod Right
+mod Worked

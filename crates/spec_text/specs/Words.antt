@@ -1,7 +1,7 @@
 -- The lines of a text, the words of a line, and numbers.
 use Rattle.std.specs.Prelude.{ℕ, ◌^◌, Bool, true, false, not, ◌&&◌, ◌||◌, ◌==◌, nat_lt, Option, Some, None, List, [], ◌∷◌, filter, if◌then◌else◌}
-use Rattle.std.specs.List.{slice_split}
-use Rattle.std.specs.Str.{all_ascii_digits}
+use Rattle.std.specs.List.{list_all, slice_split}
+use Rattle.std.specs.Char.{is_ascii_digit}
 use Rattle.std.specs.Str.Parse.{digits_value}
 use Rattle.spec_text.specs.Covers.{has_none}
 
@@ -31,7 +31,7 @@ begins_wrong (b ∷ c ∷ bs) = b == 48
 
 -- whether bytes are a number in decimal digits without leading zeros, below 2^64
 abbrev pub is_number : List ℕ → Bool
-is_number bytes = all_ascii_digits bytes && not (begins_wrong bytes) && nat_lt (digits_value 10 bytes) (2 ^ 64)
+is_number bytes = list_all is_ascii_digit bytes && not (begins_wrong bytes) && nat_lt (digits_value 10 bytes) (2 ^ 64)
 
 -- bytes read as such a number
 abbrev pub number_of : List ℕ → Option ℕ
