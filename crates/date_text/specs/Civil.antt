@@ -1,7 +1,7 @@
 -- The parts of a moment on the calendar and the clock, in UTC, and the moment of such parts.
 use Rattle.std.specs.Prelude.{ℕ, zero, suc, ◌+◌, ◌-◌, ◌*◌, ◌/◌, ◌%◌, ◌<◌, Bool, true, false, nat_lt, pos, unsigned_abs}
 use Rattle.std.specs.Int.{IsInRange}
-use Rattle.date_text.specs.declared.reading.Civil.{Civil}
+use Rattle.date_text.specs.declared.civil.Civil.{Civil}
 use Rattle.jiff_core.specs.Calendar.{days_in_month, days_in_year, days_from_civil}
 
 -- the years, months, days, hours, minutes and seconds that the form has at all

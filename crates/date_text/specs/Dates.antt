@@ -8,7 +8,7 @@ use Rattle.std.specs.Option.{option_map}
 use Rattle.jiff_core.specs.Calendar.{days_in_month}
 use Rattle.date_text.specs.Civil.{moment_of, civil_of}
 use Rattle.date_text.specs.declared.reading.BadDate.{BadDate}
-use Rattle.date_text.specs.declared.reading.Civil.{Civil}
+use Rattle.date_text.specs.declared.civil.Civil.{Civil}
 use Rattle.date_text.specs.declared.fields.Field.{Field}
 
 -- the months' names, from January on

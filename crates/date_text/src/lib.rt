@@ -9,12 +9,12 @@
 // What it stands on: `jiff` for the calendar.
 #![tactic(auto)]
 
+mod civil;
 mod fields;
+mod printing;
 
 mod reading;
 
-
+pub use printing::{DateText, print};
 pub use reading::{BadDate, read};
-
-
 

@@ -7,22 +7,12 @@ ghost use Rattle.date_text.specs.Civil.{moment_of, IsInForm};
 ghost use Rattle.date_text.specs.Dates.{date_of, parts_from, month_place, moment_of_day, fields_from, first_wrong};
 
 use crate::fields::{day_length, fields, first_wrong, month_place, piece, value};
+use crate::civil::Civil;
 use jiff::civil::Date;
 
 /// Bytes are no date: the place, counted from 0, where the first wrong field begins.
 #[derive(Clone, Copy, Debug, PartialEq, Eq)]
 pub struct BadDate(pub u64);
-
-/// The parts of a moment on the calendar and the clock.
-#[derive(Clone, Copy)]
-pub(crate) struct Civil {
-    pub year: u64,
-    pub month: u64,
-    pub day: u64,
-    pub hour: u64,
-    pub minute: u64,
-    pub second: u64,
-}
 
 /// The number of a month, from 1, by its name.
 fn month_number(name: &[u8]) -> u64
