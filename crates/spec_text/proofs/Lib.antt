@@ -1,3 +1,4 @@
 mod WorkedPatterns
 mod WorkedSpecs
 mod WorkedPicks
+pub mod Trying

@@ -9,8 +9,8 @@ use Rattle.date_text.specs.Dates.{date_of}
 use Rattle.spec_text.specs.Patterns.{pattern_of}
 use Rattle.spec_text.specs.Selectors.{SelectorWords, OneWord, OfObject, selector_of, branch_type_of}
 use Rattle.spec_text.specs.Words.{words_of}
-use Rattle.spec_text.specs.declared.Line.{Line}
-use Rattle.spec_text.specs.declared.Line.TheVariants.{Skipped, Opens, Closes, Gives}
+use Rattle.spec_text.specs.declared.lines.Line.{Line}
+use Rattle.spec_text.specs.declared.lines.Line.TheVariants.{Skipped, Opens, Closes, Gives}
 
 infixl 10 ◌>>=◌
 -- the first cause, or what the next step makes of what was read

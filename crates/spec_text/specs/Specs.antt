@@ -6,8 +6,8 @@ use Rattle.cc_names.specs.declared.refusals.SpecError.{SpecError}
 use Rattle.cc_names.specs.declared.selection.Rule.{Rule}
 use Rattle.spec_text.specs.Lines.{line_of}
 use Rattle.spec_text.specs.Words.{lines_of}
-use Rattle.spec_text.specs.declared.Line.{Line}
-use Rattle.spec_text.specs.declared.Line.TheVariants.{Skipped, Opens, Closes, Gives}
+use Rattle.spec_text.specs.declared.lines.Line.{Line}
+use Rattle.spec_text.specs.declared.lines.Line.TheVariants.{Skipped, Opens, Closes, Gives}
 
 -- a rule before those that follow it, where these can be read
 abbrev pub before_rules : Rule → Result (List Rule) SpecError → Result (List Rule) SpecError
