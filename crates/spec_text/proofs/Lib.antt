@@ -2,3 +2,4 @@ mod WorkedPatterns
 mod WorkedSpecs
 mod WorkedPicks
 pub mod Trying
+pub mod Cuts

@@ -1,6 +1,7 @@
 -- Why trying the last wild card again is enough.
 use Rattle.std.proofs.Common.{◌≡◌, ◌≢◌, ℕ, zero, suc, ◌+◌, ◌*◌, ◌<◌, ◌≤◌, ◌⊎◌, inl, inr, Bool, true, false, ◌||◌, ◌&&◌, Option, Some, None, List, [], ◌∷◌, length, refl, sym, ap, ◌∙◌, arith, Bor, mul-le-mul_right}
-use Rattle.std.specs.Option.{option_map}
+use Rattle.std.specs.Option.{option_map, option_copied}
+use Rattle.spec_text.specs.Words.{parts_left}
 use Rattle.std.proofs.lemmas.Bool.{and_parts, or_cases, or_left, or_right}
 use Rattle.std.specs.List.{list_any}
 use Rattle.spec_text.specs.Covers.{tails, has_none, first_fits, covers_from, covers}
@@ -106,8 +107,8 @@ plain_kept true fits behind left plain h = cc
 plain_kept false fits behind left plain h = any_fit fits behind left h
 
 -- a wild card is met
-pub meets : {P A : Type 0} (wild : P → Bool) (fits : P → A → Bool) (answer : Bool) (all_cards all : ℕ) (card : P) (behind : List P) (left : List A) (again : Option (List P × List A)) → wild card ≡ true → Searches wild fits answer all_cards all (card ∷ behind) left again → Searches wild fits answer all_cards all behind left (Some (behind, left))
-meets wild fits answer all_cards all card behind left again star h = record {
+pub meets : {P A : Type 0} (wild : P → Bool) (fits : P → A → Bool) (answer : Bool) (all_cards all : ℕ) (cards : List P) (card : P) (behind : List P) (left : List A) (again : Option (List P × List A)) → cards ≡ card ∷ behind → wild card ≡ true → Searches wild fits answer all_cards all cards left again → Searches wild fits answer all_cards all behind left (Some (behind, left))
+meets wild fits answer all_cards all cards card behind left again front star known = let h = rw front at known in record {
   same = wild_same (wild card) (fits card) (covers wild fits behind) left answer (again_covers wild fits again) star h.same h.kept;
   kept = λ e. e;
   cards_fit = omega arith;
@@ -117,10 +118,10 @@ meets wild fits answer all_cards all card behind left again star h = record {
 }
 
 -- a card stands for a member
-pub stands : {P A : Type 0} (wild : P → Bool) (fits : P → A → Bool) (answer : Bool) (all_cards all : ℕ) (card : P) (behind : List P) (x : A) (left : List A) (again : Option (List P × List A)) → wild card ≡ false → fits card x ≡ true → Searches wild fits answer all_cards all (card ∷ behind) (x ∷ left) again → Searches wild fits answer all_cards all behind left again
-stands wild fits answer all_cards all card behind x left again plain fit h = record {
-  same = plain_same (wild card) (fits card) (covers wild fits behind) x left answer (again_covers wild fits again) plain fit h.same;
-  kept = λ e. plain_kept (wild card) (fits card) (covers wild fits behind) left plain (h.kept e);
+pub stands : {P A : Type 0} (wild : P → Bool) (fits : P → A → Bool) (answer : Bool) (all_cards all : ℕ) (cards : List P) (card : P) (behind : List P) (left : List A) (x : A) (rest : List A) (again : Option (List P × List A)) → cards ≡ card ∷ behind → left ≡ x ∷ rest → wild card ≡ false → fits card x ≡ true → Searches wild fits answer all_cards all cards left again → Searches wild fits answer all_cards all behind rest again
+stands wild fits answer all_cards all cards card behind left x rest again front first plain fit known = let h = rw (front, first) at known in record {
+  same = plain_same (wild card) (fits card) (covers wild fits behind) x rest answer (again_covers wild fits again) plain fit h.same;
+  kept = λ e. plain_kept (wild card) (fits card) (covers wild fits behind) rest plain (h.kept e);
   cards_fit = omega arith;
   met_fit = omega arith;
   left_fit = omega arith;
@@ -165,3 +166,10 @@ held met = (met.0.now, met.1.now)
 
 abbrev pub held_by : {P A : Type 0} → Option (Bor (List P) × Bor (List A)) → Option (List P × List A)
 held_by again = option_map held again
+
+-- what a borrowed list and what is left of a borrowed path hold
+abbrev pub names_held : {P : Type 0} → Bor (List P) × Option (Bor (List ℕ)) → List P × List (List ℕ)
+names_held met = (met.0.now, parts_left 47 (option_copied met.1))
+
+abbrev pub names_held_by : {P : Type 0} → Option (Bor (List P) × Option (Bor (List ℕ))) → Option (List P × List (List ℕ))
+names_held_by again = option_map names_held again

@@ -1,5 +1,6 @@
 pub mod Covers
 pub mod Patterns
+pub mod Steps
 pub mod Words
 pub mod Selectors
 pub mod Lines

@@ -44,12 +44,16 @@ abbrev pub is_lone_star : List Segment → Bool
 is_lone_star (OneName (b ∷ []) ∷ []) = is_star b
 is_lone_star _ = false
 
--- Whether a pattern matches the path of these names: an anchored one from the root on, another one from some name on
--- or behind the last. The pattern `*` matches the root too.
+-- whether segments match names: all of them where they are anchored, else those from some name on or behind the last
+abbrev pub matches_where : Bool → List Segment → List (List ℕ) → Bool
+matches_where true segments names = matches_names segments names
+matches_where false segments names = list_any (matches_names segments) (tails names)
+
+-- Whether a pattern matches the path of these names. The pattern `*` matches the root too.
 abbrev pub matches : Pattern → List (List ℕ) → Bool
 matches pattern names =
-    if pattern.anchored then matches_names pattern.segments names
-    else list_any (matches_names pattern.segments) (tails names) || (is_lone_star pattern.segments && has_none names)
+    matches_where pattern.anchored pattern.segments names
+    || (not pattern.anchored && is_lone_star pattern.segments && has_none names)
 
 -- a byte of a segment: one of a name, `*` or `?`
 abbrev pub is_segment_byte : ℕ → Bool

@@ -5,6 +5,11 @@ use Rattle.std.specs.Char.{is_ascii_digit}
 use Rattle.std.specs.Str.Parse.{digits_value}
 use Rattle.spec_text.specs.Covers.{has_none}
 
+-- the parts of what is left of bytes between separators, each the byte `at`; none where nothing is left
+abbrev pub parts_left : ℕ → Option (List ℕ) → List (List ℕ)
+parts_left at None = []
+parts_left at (Some bytes) = slice_split (λ b. b == at) bytes
+
 abbrev pub is_newline : ℕ → Bool
 is_newline b = b == 10
 

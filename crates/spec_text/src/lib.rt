@@ -3,3 +3,7 @@
 
 mod lines;
 mod matching;
+mod parts;
+mod patterns;
+
+pub use patterns::Matches;
