@@ -3,3 +3,4 @@ mod WorkedSpecs
 mod WorkedPicks
 pub mod Trying
 pub mod Cuts
+pub mod Numbers

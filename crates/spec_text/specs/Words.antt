@@ -28,16 +28,26 @@ has_some xs = not (has_none xs)
 abbrev pub words_of : List ℕ → List (List ℕ)
 words_of line = filter has_some (slice_split is_blank line)
 
+-- what stands between the blanks of what is left of a line, between two that follow each other nothing
+abbrev pub blanks_left : Option (List ℕ) → List (List ℕ)
+blanks_left None = []
+blanks_left (Some line) = slice_split is_blank line
+
+-- the words of what is left of a line; none where nothing is left
+abbrev pub words_left : Option (List ℕ) → List (List ℕ)
+words_left left = filter has_some (blanks_left left)
+
 -- whether digits begin as no number does: there are none, or a 0 stands before others
 abbrev pub begins_wrong : List ℕ → Bool
 begins_wrong [] = true
 begins_wrong (b ∷ []) = false
 begins_wrong (b ∷ c ∷ bs) = b == 48
 
--- whether bytes are a number in decimal digits without leading zeros, below 2^64
-abbrev pub is_number : List ℕ → Bool
-is_number bytes = list_all is_ascii_digit bytes && not (begins_wrong bytes) && nat_lt (digits_value 10 bytes) (2 ^ 64)
+-- a number of eight bytes
+abbrev pub below_limit : ℕ → Option ℕ
+below_limit n = if nat_lt n (2 ^ 64) then Some n else None
 
--- bytes read as such a number
+-- bytes read as a number in decimal digits without leading zeros, below 2^64
 abbrev pub number_of : List ℕ → Option ℕ
-number_of bytes = if is_number bytes then Some (digits_value 10 bytes) else None
+number_of bytes =
+    if list_all is_ascii_digit bytes && not (begins_wrong bytes) then below_limit (digits_value 10 bytes) else None

@@ -5,5 +5,6 @@ mod lines;
 mod matching;
 mod parts;
 mod patterns;
+mod words;
 
 pub use patterns::Matches;

@@ -13,7 +13,7 @@ fn end_of_part(bytes: &[u8], at: u8) -> Option<usize>
 }
 
 /// The bytes behind a place.
-fn behind(bytes: &[u8], place: usize) -> &[u8]
+pub(crate) fn behind(bytes: &[u8], place: usize) -> &[u8]
     requires { place < length bytes.now }
     ensures { result.now ≡ drop (place + 1) bytes.now }
 {
