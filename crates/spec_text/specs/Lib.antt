@@ -5,4 +5,5 @@ pub mod Words
 pub mod Selectors
 pub mod Lines
 pub mod Specs
+pub mod OptionSteps
 pub mod Rules

@@ -1,14 +1,17 @@
 -- What one line of a config spec says.
 use Rattle.std.specs.Prelude.{ℕ, Bool, true, false, ◌==◌, Option, Some, None, is_some, Result, Ok, Err, List, [], ◌∷◌, codes, if◌then◌else◌}
-use Rattle.std.specs.Option.{option_and_then}
+use Rattle.std.specs.Option.{option_and_then, option_copied}
 use Rattle.std.specs.Str.{bytes_eq}
 use Rattle.cc_names.specs.declared.refusals.SpecCause.{SpecCause}
 use Rattle.cc_names.specs.declared.refusals.SpecCause.TheVariants.{BadRule, BadDate}
 use Rattle.cc_names.specs.declared.selection.Rule.{Rule}
 use Rattle.date_text.specs.Dates.{date_of}
 use Rattle.spec_text.specs.Patterns.{pattern_of}
-use Rattle.spec_text.specs.Selectors.{SelectorWords, OneWord, OfObject, selector_of, branch_type_of}
+use Rattle.spec_text.specs.Selectors.{selector_of, branch_type_of}
 use Rattle.spec_text.specs.Words.{words_of}
+use Rattle.spec_text.specs.declared.options.Named.{Named}
+use Rattle.spec_text.specs.declared.options.Named.TheVariants.{Time, NoCheckout, MkBranch, Unknown}
+use Rattle.spec_text.specs.declared.options.Options.{Options as OptionWords}
 use Rattle.spec_text.specs.declared.lines.Line.{Line}
 use Rattle.spec_text.specs.declared.lines.Line.TheVariants.{Skipped, Opens, Closes, Gives}
 
@@ -27,15 +30,14 @@ pub record Options : Type 0 where
 abbrev pub no_options : Options
 no_options = record { time = None; nocheckout = false; mkbranch = None }
 
--- which option a word names
-pub data Named : Type 0 where
-  Time : Named
-  NoCheckout : Named
-  MkBranch : Named
-  Unknown : Named
+-- options without where their words lie in memory
+abbrev pub plain_options : OptionWords → Options
+plain_options words =
+    record { time = option_copied words.time; nocheckout = words.nocheckout; mkbranch = option_copied words.mkbranch }
 
-abbrev pub named : List ℕ → Named
-named word =
+-- which option a word names
+abbrev pub option_named : List ℕ → Named
+option_named word =
     if bytes_eq word (codes "-time") then Time
     else if bytes_eq word (codes "-nocheckout") then NoCheckout
     else if bytes_eq word (codes "-mkbranch") then MkBranch
@@ -66,9 +68,9 @@ next_option Unknown next options behind behind_next = None
 -- The options that words spell, in any order and each at most once, beside those that were read before them.
 abbrev pub options_from : List (List ℕ) → Options → Option Options
 options_from [] options = Some options
-options_from (word ∷ []) options = last_option (named word) options
+options_from (word ∷ []) options = last_option (option_named word) options
 options_from (word ∷ next ∷ words) options =
-    next_option (named word) next options (options_from (next ∷ words)) (options_from words)
+    next_option (option_named word) next options (options_from (next ∷ words)) (options_from words)
 
 -- a word read as a date
 abbrev pub moment_of_word : List ℕ → Result ℕ SpecCause
@@ -82,10 +84,10 @@ before_of (Some word) block = do
   Ok (Some moment)
 
 -- the rule on a line, inside a block of this time: the causes are tested in this order
-abbrev pub rule_of : ℕ → Option ℕ → List ℕ → SelectorWords → Options → Result Line SpecCause
-rule_of line block pattern selector options = do
+abbrev pub rule_of : ℕ → Option ℕ → List ℕ → Bool → List ℕ → Options → Result Line SpecCause
+rule_of line block pattern of_object selector options = do
   segments ← pattern_of pattern
-  version ← selector_of selector
+  version ← selector_of of_object selector
   before ← before_of options.time block
   branch ← branch_type_of options.mkbranch
   Ok (Gives (record {
@@ -98,21 +100,21 @@ rule_of line block pattern selector options = do
   }))
 
 -- the rule, where its options can be read
-abbrev pub with_options : ℕ → Option ℕ → List ℕ → SelectorWords → Option Options → Result Line SpecCause
-with_options line block pattern selector None = Err BadRule
-with_options line block pattern selector (Some options) = rule_of line block pattern selector options
+abbrev pub with_options : ℕ → Option ℕ → List ℕ → Bool → List ℕ → Option Options → Result Line SpecCause
+with_options line block pattern of_object selector None = Err BadRule
+with_options line block pattern of_object selector (Some options) = rule_of line block pattern of_object selector options
 
 -- `element PATTERN -config` and the words behind
 abbrev pub object_line : ℕ → Option ℕ → List ℕ → List (List ℕ) → Result Line SpecCause
 object_line line block pattern [] = Err BadRule
 object_line line block pattern (object ∷ words) =
-    with_options line block pattern (OfObject object) (options_from words no_options)
+    with_options line block pattern true object (options_from words no_options)
 
 -- the words behind `element`
 abbrev pub element_line : ℕ → Option ℕ → List (List ℕ) → Result Line SpecCause
 element_line line block (pattern ∷ selector ∷ words) =
     if bytes_eq selector (codes "-config") then object_line line block pattern words
-    else with_options line block pattern (OneWord selector) (options_from words no_options)
+    else with_options line block pattern false selector (options_from words no_options)
 element_line line block _ = Err BadRule
 
 -- the words behind `time`, and those behind `end`

@@ -68,17 +68,13 @@ abbrev pub object_of_parts : List (List ℕ) → Option Selector
 object_of_parts (path ∷ [] ∷ object ∷ []) = of_object path object
 object_of_parts _ = None
 
--- what stands in a rule as its selector: one word, or `-config` and the word behind it
-pub data SelectorWords : Type 0 where
-  OneWord : List ℕ → SelectorWords
-  OfObject : List ℕ → SelectorWords
+-- the selector that a word spells, where it stands behind `-config` and where it does not
+abbrev pub selector_by : Bool → List ℕ → Option Selector
+selector_by false word = selector_of_word word
+selector_by true word = object_of_parts (slice_split is_at word)
 
-abbrev pub selector_by : SelectorWords → Option Selector
-selector_by (OneWord word) = selector_of_word word
-selector_by (OfObject word) = object_of_parts (slice_split is_at word)
-
-abbrev pub selector_of : SelectorWords → Result Selector SpecCause
-selector_of words = ok_or (selector_by words) BadSelector
+abbrev pub selector_of : Bool → List ℕ → Result Selector SpecCause
+selector_of of_object word = ok_or (selector_by of_object word) BadSelector
 
 -- what stands behind `-mkbranch`, where it is there, read as the name of a branch type
 abbrev pub branch_type_of : Option (List ℕ) → Result (Option (List ℕ)) SpecCause

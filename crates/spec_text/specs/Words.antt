@@ -17,9 +17,15 @@ is_newline b = b == 10
 abbrev pub is_blank : ℕ → Bool
 is_blank b = (b == 32) || (b == 9)
 
--- the lines of a text. What stands behind the last newline is a line of its own, mostly an empty one
+-- parts without the last one, where that is empty
+abbrev pub without_empty_end : List (List ℕ) → List (List ℕ)
+without_empty_end [] = []
+without_empty_end (part ∷ []) = if has_none part then [] else part ∷ []
+without_empty_end (part ∷ next ∷ parts) = part ∷ without_empty_end (next ∷ parts)
+
+-- the lines of a text: each ends with a newline, which the last may lack
 abbrev pub lines_of : List ℕ → List (List ℕ)
-lines_of text = slice_split is_newline text
+lines_of text = without_empty_end (slice_split is_newline text)
 
 abbrev pub has_some : {A : Type 0} → List A → Bool
 has_some xs = not (has_none xs)
