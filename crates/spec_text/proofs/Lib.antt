@@ -4,3 +4,6 @@ mod WorkedPicks
 pub mod Trying
 pub mod Cuts
 pub mod Numbers
+pub mod GoingOn
+pub mod LinesOf
+pub mod Rest

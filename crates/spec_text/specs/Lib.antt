@@ -6,4 +6,5 @@ pub mod Selectors
 pub mod Lines
 pub mod Specs
 pub mod OptionSteps
+pub mod Reading
 pub mod Rules

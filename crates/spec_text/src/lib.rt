@@ -7,6 +7,8 @@ mod matching;
 mod parts;
 mod patterns;
 mod selectors;
+mod specs;
 mod words;
 
 pub use patterns::Matches;
+pub use specs::Spec;
