@@ -1,10 +1,13 @@
 -- The rules of a text by what has been read of it and what is left.
 use Rattle.std.proofs.Common.{◌≡◌, ℕ, ◌+◌, Option, Result, Ok, Err, List, [], ◌∷◌, ◌++◌, refl, sym, ap, ◌∙◌, append_assoc, slice_get}
+use Rattle.cc_names.specs.Answers.{FaultIs}
+use Rattle.cc_names.specs.declared.memory.Or.{Or}
+use Rattle.cc_names.specs.declared.memory.Or.TheVariants.{NoMemory, Is}
 use Rattle.cc_names.specs.declared.refusals.SpecCause.{SpecCause}
 use Rattle.cc_names.specs.declared.refusals.SpecError.{SpecError}
 use Rattle.cc_names.specs.declared.selection.Rule.{Rule}
 use Rattle.spec_text.specs.Lines.{line_of}
-use Rattle.spec_text.specs.Reading.{State, after_line, after_read}
+use Rattle.spec_text.specs.Reading.{State, after_line, after_read, at_line}
 use Rattle.spec_text.specs.Specs.{before_rules, with_line, rules_from}
 use Rattle.spec_text.specs.declared.lines.Line.{Line}
 use Rattle.spec_text.specs.declared.lines.Line.TheVariants.{Skipped, Opens, Closes, Gives}
@@ -55,3 +58,8 @@ goes_on bytes lines number state after e =
 pub ends_at : (bytes : List ℕ) (lines : List (List ℕ)) (number : ℕ) (state : State) (cause : SpecCause) → after_read (line_of number (slice_get state.blocks 0) bytes) state ≡ Err cause → rest_of state (bytes ∷ lines) number ≡ Err (record { line = number; cause = cause })
 ends_at bytes lines number state cause e =
     read_end (line_of number (slice_get state.blocks 0) bytes) state cause number (rules_from lines (number + 1)) e
+
+-- the same with want of memory, of which nothing is said
+pub ends_at_fault : (fault : Or SpecCause) (bytes : List ℕ) (lines : List (List ℕ)) (number : ℕ) (state : State) → FaultIs fault (after_read (line_of number (slice_get state.blocks 0) bytes) state) → FaultIs (at_line number fault) (rest_of state (bytes ∷ lines) number)
+ends_at_fault NoMemory bytes lines number state h = tt
+ends_at_fault (Is cause) bytes lines number state h = ends_at bytes lines number state cause h
