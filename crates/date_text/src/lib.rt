@@ -12,9 +12,11 @@
 mod civil;
 mod fields;
 mod printing;
-
 mod reading;
 
 pub use printing::{DateText, print};
 pub use reading::{BadDate, read};
 
+
+#[cfg(test)]
+mod tests;

@@ -12,3 +12,6 @@ mod words;
 
 pub use patterns::Matches;
 pub use specs::Spec;
+
+#[cfg(test)]
+mod tests;
