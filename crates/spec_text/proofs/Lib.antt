@@ -7,3 +7,5 @@ pub mod Numbers
 pub mod GoingOn
 pub mod LinesOf
 pub mod Rest
+pub mod Plain
+pub mod Deciding

@@ -7,4 +7,5 @@ pub mod Lines
 pub mod Specs
 pub mod OptionSteps
 pub mod Reading
+pub mod Laws
 pub mod Rules

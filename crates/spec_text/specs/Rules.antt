@@ -4,8 +4,8 @@ use Rattle.std.specs.List.{find}
 use Rattle.std.specs.Option.{option_map, option_and_then}
 use Rattle.std.specs.Str.{bytes_eq}
 use Rattle.cc_names.specs.Branches.{branch_named, branch_behind}
-use Rattle.cc_names.specs.Labels.{holder}
-use Rattle.cc_names.specs.Versions.{latest, numbered}
+use Rattle.cc_names.specs.Labels.{holder, labels_of_first_rows}
+use Rattle.cc_names.specs.Versions.{latest, numbered, of_first_rows}
 use Rattle.cc_names.specs.declared.changes.LabelChange.{LabelChange}
 use Rattle.cc_names.specs.declared.changes.TreeChange.{TreeChange}
 use Rattle.cc_names.specs.declared.selection.Picked.{Picked}
@@ -21,6 +21,11 @@ pub record Sources : Type 0 where
   pub labels : List LabelChange
   pub listed : ℕ → List ℕ → ℕ → Option ℕ
   pub out : Option ℕ
+
+-- what there is to select from in the first rows of a base
+abbrev pub sources_at : ℕ → List TreeChange → List LabelChange → (ℕ → List ℕ → ℕ → Option ℕ) → Option ℕ → Sources
+sources_at rows tree labels listed out =
+    record { tree = of_first_rows rows tree; labels = labels_of_first_rows rows labels; listed = listed; out = out }
 
 -- no record lists any version
 abbrev pub none_listed : ℕ → List ℕ → ℕ → Option ℕ

@@ -1,6 +1,7 @@
 // Config specs.
 #![tactic(auto)]
 
+pub mod laws;
 mod lines;
 mod options;
 mod matching;
