@@ -1,3 +1,4 @@
+pub mod ByRows
 mod WorkedLabels
 mod WorkedVersions
 mod Cuts

@@ -1,6 +1,8 @@
 pub mod Answers
 pub mod Branches
+pub mod Falling
 pub mod Formed
+pub mod Keys
 pub mod Labels
 pub mod Last
 pub mod Names

@@ -86,6 +86,10 @@ versions_of (change ∷ older) e =
 abbrev pub row_of_version : Version → ℕ
 row_of_version version = version.row
 
+-- the number of a version on its branch
+abbrev pub number_of_version : Version → ℕ
+number_of_version version = version.number
+
 -- the version that a row made
 abbrev pub version_at : List TreeChange → ℕ → Option Version
 version_at changes r =

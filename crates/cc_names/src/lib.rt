@@ -11,9 +11,11 @@
 // What it stands on: the standard library alone.
 #![tactic(auto)]
 
+pub mod by_row;
 pub mod changes;
 pub mod commands;
 mod comparisons;
+pub mod keys;
 pub mod lists;
 pub mod memory;
 pub mod names;

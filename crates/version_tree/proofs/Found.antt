@@ -1,0 +1,81 @@
+-- What a look-up of a branch or a change gives.
+use Rattle.std.proofs.Common.{◌≡◌, ℕ, Bool, true, false, cond, eqb, ltb, List, [], ◌∷◌, map, reverse, Option, Some, None, IfSome, refl, sym, ap, ◌∙◌}
+use Rattle.std.specs.Prelude.{filter, find, option_map, option_copied}
+use Rattle.std.specs.List.Sorted.{IsStrictlySortedBy}
+use denote.Ref.{Bor}
+use Rattle.cc_names.specs.Versions.{row_of_change, change_at, of_first_rows, versions_on}
+use Rattle.cc_names.specs.Falling.{Falls}
+use Rattle.version_tree.specs.Forest.{AreInOrder, entries_in}
+use Rattle.version_tree.specs.Namesakes.{change_of, changes_of}
+use Rattle.version_tree.specs.Branches.{row_of_later, versions_kept, versions_by}
+use Rattle.version_tree.specs.TreeFields.{row_of_made, branch_at, InStep}
+use Rattle.version_tree.specs.declared.contents.Contents.{Contents}
+use Rattle.version_tree.specs.declared.contents.Contents.TheVariants.{Text, Catalog}
+use Rattle.version_tree.specs.declared.namesakes.Made.{Made}
+use Rattle.version_tree.specs.declared.branches.Branch.{Branch}
+use Rattle.version_tree.proofs.FirstRows.{versions_of_first_rows, versions_fall, later_falls}
+use Rattle.version_tree.proofs.Steps.{rows_of_made}
+
+-- what holds of a copy holds of what a reference points to
+pub if_copied : {X : Type 0} (P : X → Type 0) (o : Option (Bor X)) → IfSome (option_copied o) P → IfSome o (λ x. P x.now)
+if_copied P None holds = tt
+if_copied P (Some x) holds = holds
+
+module _ (made : List Made) (branches : List Branch) (heads : ℕ → Option ℕ) (held : ℕ → Option Contents) (step : InStep made branches heads held) where
+  -- the rows of the changes fall
+  pub changes_fall : Falls (map row_of_change (changes_of made))
+  changes_fall = rw (rows_of_made made) step.falls
+
+  module _ (b : ℕ) (found : Option Branch) (is : found ≡ branch_at branches b) where
+    -- the versions of the branch that was found
+    pub versions_found : versions_by found ≡ versions_on (changes_of made) b
+    versions_found = ap versions_by is ∙ sym (step.kept b)
+
+    -- those that the first rows made
+    pub versions_found_of_first_rows : (rows : ℕ) → filter (λ v. ltb v.row rows) (versions_by found) ≡ versions_on (of_first_rows rows (changes_of made)) b
+    versions_found_of_first_rows rows = ap (filter (λ v. ltb v.row rows)) versions_found ∙ versions_of_first_rows rows (changes_of made) b changes_fall
+
+  -- the versions behind version 0 are in order
+  pub found_falls : (b : ℕ) (found : Option Branch) → found ≡ branch_at branches b → IfSome found (λ branch. Falls (map row_of_later (reverse branch.later.items)))
+  found_falls b None is = tt
+  found_falls b (Some branch) is =
+      later_falls branch.row branch.moment (reverse branch.later.items) (rw (versions_found b (Some branch) is) (versions_fall (changes_of made) b changes_fall))
+
+  -- other contents in order
+  pub contents_set : (held' : ℕ → Option Contents) → ((v : ℕ) → AreInOrder (entries_in (held' v))) → InStep made branches heads held'
+  contents_set held' in_order = record {
+    falls = step.falls;
+    linked = step.linked;
+    newest = step.newest;
+    branches_fall = step.branches_fall;
+    branches_made = step.branches_made;
+    kept = step.kept;
+    in_order = in_order;
+  }
+
+-- no entries are in order
+pub in_order-none : AreInOrder []
+unfolding IsStrictlySortedBy
+in_order-none = tt
+
+-- a change is found by its row, with its link or without
+pub change_found : (made : List Made) (row : ℕ) → change_at (changes_of made) row ≡ option_map change_of (find (λ m. eqb (row_of_made m) row) made)
+change_found [] row = refl
+change_found (m ∷ made) row = at (eqb (row_of_made m) row) (change_found made row)
+  where
+    at : (t : Bool) → change_at (changes_of made) row ≡ option_map change_of (find (λ k. eqb (row_of_made k) row) made)
+        → cond t (Some m.change) (change_at (changes_of made) row) ≡ option_map change_of (cond t (Some m) (find (λ k. eqb (row_of_made k) row) made))
+    at true rest = refl
+    at false rest = rest
+
+-- nothing is there
+pub nothing_in_step : (heads : ℕ → Option ℕ) (held : ℕ → Option Contents) → ((key : ℕ) → heads key ≡ None) → ((v : ℕ) → held v ≡ None) → InStep [] [] heads held
+nothing_in_step heads held none nothing = record {
+  falls = tt;
+  linked = tt;
+  newest = none;
+  branches_fall = tt;
+  branches_made = λ row above. tt;
+  kept = λ b. refl;
+  in_order = λ v. rw (nothing v) in_order-none;
+}

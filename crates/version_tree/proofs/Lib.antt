@@ -1,0 +1,6 @@
+mod FirstRows
+mod Found
+mod Links
+mod Places
+mod Steps
+mod VersionsKept

@@ -1,0 +1,20 @@
+use Rattle.std.proofs.Common.{◌≡◌, ℕ, List, [], ◌∷◌, map, reverse, None, true, false, refl, sym, ◌∙◌}
+use Rattle.std.proofs.lemmas.List.{reverse-append}
+use Rattle.cc_names.specs.declared.changes.TreeChange.TheVariants.{ElementMade}
+use Rattle.cc_names.specs.Falling.{IsAbove}
+use Rattle.version_tree.specs.TreeFields.{row_of_made}
+use Rattle.version_tree.specs.declared.namesakes.Made.{Made}
+use Rattle.version_tree.specs.declared.branches.Branch.{Branch}
+use Rattle.version_tree.proofs.Steps.{rows_of_made, branch_added}
+use Rattle.version_tree.proofs.Tree.add_element.Goals as goal
+
+-- the element and its branch `main`
+pub invariant_of-self : goal.invariant_of-self
+invariant_of-self c =
+    let made = c.self.inside.made.items in
+    let branches = c.self.inside.branches.items in
+    let m : Made = record { change = ElementMade c.args.row c.args.moment c.args.kind; namesake = None } in
+    let b : Branch = record { row = c.args.row; moment = c.args.moment; later = c.new-later.result } in
+    let above : IsAbove c.args.row (map row_of_made (reverse made)) = rw (rows_of_made (reverse made)) at (rw (← c.self.view_is) at c.requires.above) in
+    rw (c.push_within.ensures.items, c.push_within-2.ensures.items, reverse-append made (m ∷ []), reverse-append branches (b ∷ []))
+    (branch_added m b (reverse made) (reverse branches) _ _ _ c.self.invariant refl refl refl c.new-later.ensures.items above (λ key has. cc) c.self.invariant.newest)

@@ -1,0 +1,4 @@
+pub mod Branches
+pub mod Forest
+pub mod Namesakes
+pub mod TreeFields

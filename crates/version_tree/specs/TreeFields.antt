@@ -1,0 +1,53 @@
+-- The fields of a `Tree`: what contracts see of them, and how they are in step.
+use Rattle.std.specs.Prelude.{◌≡◌, ℕ, ◌-◌, ◌==◌, min, nat_eq, nat_lt, Option, Some, None, List, [], ◌∷◌, length, map, reverse, find, vec_len, vec_capacity}
+use Rattle.std.specs.HashMap.{get, spare}
+use Rattle.cc_names.specs.Versions.{row_of_change, versions_on, put_if}
+use Rattle.cc_names.specs.Falling.{IsAbove, Falls}
+use Rattle.version_tree.specs.Forest.{Forest, AreInOrder, entries_in}
+use Rattle.version_tree.specs.Branches.{versions_by}
+use Rattle.version_tree.specs.Namesakes.{changes_of, newest_with, AreLinked}
+use Rattle.version_tree.specs.declared.namesakes.Made.{Made}
+use Rattle.version_tree.specs.declared.branches.Branch.{Branch}
+use Rattle.version_tree.specs.declared.contents.Contents.{Contents}
+use Rattle.version_tree.specs.declared.Tree.TheInside.{Inside}
+
+-- the row of a change, and of a branch
+abbrev pub row_of_made : Made → ℕ
+row_of_made made = row_of_change made.change
+
+abbrev pub row_of_branch : Branch → ℕ
+row_of_branch branch = branch.row
+
+-- the branches that have room for one more version
+abbrev pub ready_branches : List Branch → List ℕ
+ready_branches [] = []
+ready_branches (branch ∷ branches) =
+    put_if (nat_lt (vec_len branch.later) (vec_capacity branch.later)) branch.row (ready_branches branches)
+
+-- what contracts see
+abbrev pub forest_of : Inside → Forest
+forest_of inside = record {
+  changes = changes_of (reverse inside.made.items);
+  contents = inside.contents.entries;
+  room = min (vec_capacity inside.made - vec_len inside.made) (min (vec_capacity inside.branches - vec_len inside.branches) (spare inside.newest));
+  content_room = spare inside.contents;
+  ready = ready_branches inside.branches.items;
+}
+
+-- the branch that a row made, where the newest branch is given first
+abbrev pub branch_at : List Branch → ℕ → Option Branch
+branch_at branches b = find (λ branch. branch.row == b) branches
+
+-- The fields are in step: the changes and the branches, each newest first, and the two maps as functions.
+pub record InStep (made : List Made) (branches : List Branch) (heads : ℕ → Option ℕ) (held : ℕ → Option Contents) : Type 0 where
+  pub falls : Falls (map row_of_made made)
+  pub linked : AreLinked made
+  pub newest : (key : ℕ) → heads key ≡ newest_with key made
+  pub branches_fall : Falls (map row_of_branch branches)
+  pub branches_made : (row : ℕ) → IsAbove row (map row_of_made made) → IsAbove row (map row_of_branch branches)
+  pub kept : (b : ℕ) → versions_on (changes_of made) b ≡ versions_by (branch_at branches b)
+  pub in_order : (v : ℕ) → AreInOrder (entries_in (held v))
+
+abbrev pub IsInStep : Inside → Type 0
+IsInStep inside =
+    InStep (reverse inside.made.items) (reverse inside.branches.items) (get nat_eq inside.newest) (get nat_eq inside.contents)

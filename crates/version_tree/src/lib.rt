@@ -1,0 +1,364 @@
+// The trees of versions of all elements, as they were at any number of rows.
+#![tactic(auto)]
+
+ghost use Rattle.std.specs.Prelude.{◌≡◌, ℕ, ◌==◌, ◌<◌, ◌≤◌, ◌+◌, ◌∷◌, [], ◌++◌, IsTrue, IsSome, IfOk, IfSome, OnOk, map, reverse, filter, nat_eq, nat_lt, option_copied, vec_len, vec_capacity, if◌then◌else◌};
+ghost use Rattle.std.specs.HashMap.{get, spare};
+ghost use Rattle.cc_names.specs.Versions.{row_of_change, branch_of_change, of_first_rows, change_at, element_of_branch, versions_on, latest, numbered, place, kind_of};
+ghost use Rattle.cc_names.specs.Branches.{branch_named, origin_of, name_of_branch};
+ghost use Rattle.cc_names.specs.declared.changes.TreeChange.TheVariants as changes;
+ghost use Rattle.version_tree.specs.declared.contents.Contents.TheVariants as contents;
+ghost use Rattle.cc_names.specs.Falling.{IsAbove, Falls};
+ghost use Rattle.version_tree.specs.Forest.{AddsChange, SetsContents, KeepsAll, AreInOrder, contents_of, entries_in, text_in, is_ready};
+
+mod branches;
+mod contents;
+mod namesakes;
+
+use branches::{Branch, Later};
+
+use cc_names::by_row::{item_of, place_of};
+use cc_names::changes::TreeChange;
+pub use cc_names::changes::{Entry, Place};
+use cc_names::keys::key_of;
+use cc_names::lists::List;
+use cc_names::memory::NoMemory;
+use cc_names::names::Name;
+use cc_names::rows::Kind;
+use contents::Contents;
+use namesakes::{Made, find_branch};
+use std::alloc::Global;
+use std::collections::HashMap;
+use std::marker::Model;
+
+/// The trees of versions of all elements of a base, with what each version holds. Contracts see the list of changes.
+#[derive(Debug, Drop)]
+pub struct Tree {
+    alloc: Global,
+    made: Vec<Made>,
+    branches: Vec<Branch>,
+    newest: HashMap<u64, usize>,
+    contents: HashMap<u64, Contents>,
+}
+
+impl Model for Tree {
+    ghost use Rattle.version_tree.specs.Forest.{Forest};
+
+    ghost Value = { Forest };
+
+    ghost use Rattle.version_tree.specs.TreeFields.{forest_of, IsInStep};
+
+    ghost view = { forest_of };
+
+    ghost invariant = { IsInStep };
+}
+
+/// Adds an item to a list that has room for it.
+fn push_within<T: Drop>(items: &mut Vec<T>, item: T)
+    requires { vec_len items.old < vec_capacity items.old }
+    ensures items { items.new.items ≡ items.old.items ++ item ∷ [] }
+    ensures len { vec_len items.new ≡ vec_len items.old + 1 }
+    ensures capacity { vec_capacity items.old ≤ vec_capacity items.new }
+{
+    match items.push(item) {
+        Ok(()) => {}
+        Err(_) => unreachable!(),
+    }
+}
+
+/// Sets the value at a key of a map that has room for one key more.
+fn put_within<V: Drop>(map: &mut HashMap<u64, V>, key: u64, value: V)
+    requires { 0 < spare map.old }
+    ensures gets { (q : ℕ) → get nat_eq map.new q ≡ (if key == q then Some value else get nat_eq map.old q) }
+    ensures room { spare map.old ≤ spare map.new + 1 }
+{
+    match map.insert(key, value) {
+        Ok(_) => {}
+        Err(_) => unreachable!(),
+    }
+}
+
+/// The branch on which a change made a version.
+fn branch_of(change: &TreeChange) -> u64
+    ensures { result ≡ branch_of_change change.now }
+{
+    match change {
+        TreeChange::ElementMade { row, .. } => *row,
+        TreeChange::BranchMade { row, .. } => *row,
+        TreeChange::VersionMade { branch, .. } => *branch,
+    }
+}
+
+impl Tree {
+    ghost use Rattle.version_tree.specs.Branches.{row_of_later, versions_by};
+
+    /// The trees of a base with the root alone, a directory that row 0 made.
+    pub fn new(alloc: Global) -> Result<Tree, NoMemory>
+        ensures root { IfOk result (λ tree. tree.changes ≡ changes.ElementMade 0 0 Kind.Directory ∷ []) }
+        ensures empty { IfOk result (λ tree. (v : ℕ) → contents_of tree v ≡ None) }
+    {
+        let mut made = Vec::new(alloc);
+        made.push(Made {
+            change: TreeChange::ElementMade {
+                row: 0,
+                moment: 0,
+                kind: Kind::Directory,
+            },
+            namesake: None,
+        })?;
+        let mut branches = Vec::new(alloc);
+        branches.push(Branch {
+            row: 0,
+            moment: 0,
+            later: Vec::new(alloc),
+        })?;
+        Ok(Tree {
+            alloc,
+            made,
+            branches,
+            newest: HashMap::new(alloc),
+            contents: HashMap::new(alloc),
+        })
+    }
+
+    /// Makes room for one element or one branch, for what one version holds and, where a branch that is there is named, for
+    /// one version on it.
+    pub fn reserve(&mut self, _alloc: Global, branch: Option<u64>) -> Result<(), NoMemory>
+        ensures kept { KeepsAll self.old self.new }
+        ensures room { OnOk result (0 < self.new.room) }
+        ensures content_room { OnOk result (0 < self.new.content_room) }
+        ensures ready { OnOk result (IfSome branch (λ b. IsSome (latest self.old.changes b None) → IsTrue (is_ready self.new b))) }
+    {
+        self.reserve_change()?;
+        match branch {
+            Some(branch) => self.reserve_version(branch),
+            None => Ok(()),
+        }
+    }
+
+    // Makes room for one change and for what one version holds.
+    fn reserve_change(&mut self) -> Result<(), NoMemory>
+        ensures kept { KeepsAll self.old self.new }
+        ensures room { OnOk result (0 < self.new.room) }
+        ensures content_room { OnOk result (0 < self.new.content_room) }
+    {
+        self.made.reserve(1)?;
+        self.branches.reserve(1)?;
+        self.newest.reserve(1)?;
+        self.contents.reserve(1)?;
+        Ok(())
+    }
+
+    // Makes room for one version on a branch, where it is there.
+    fn reserve_version(&mut self, branch: u64) -> Result<(), NoMemory>
+        ensures kept { KeepsAll self.old self.new }
+        ensures ready { OnOk result (IsSome (latest self.old.changes branch None) → IsTrue (is_ready self.new branch)) }
+    {
+        if let Some(place) = place_of(&self.branches, branch) {
+            let on = &mut self.branches[place];
+            on.later.reserve(1)?;
+        }
+        Ok(())
+    }
+
+    /// Adds an element with its branch `main` and version 0 on it. The row is above all rows so far.
+    pub fn add_element(&mut self, row: u64, moment: u64, kind: Kind)
+        requires above { IsAbove row (map row_of_change self.old.changes) }
+        requires room { 0 < self.old.room }
+        ensures { AddsChange self.old self.new (changes.ElementMade row moment kind) }
+    {
+        let change = TreeChange::ElementMade { row, moment, kind };
+        push_within(
+            &mut self.made,
+            Made {
+                change,
+                namesake: None,
+            },
+        );
+        let later = Vec::new(self.alloc);
+        push_within(&mut self.branches, Branch { row, moment, later });
+    }
+
+    /// Adds a branch of an element that begins at the version `origin`, and version 0 on it.
+    pub fn add_branch(&mut self, row: u64, moment: u64, element: u64, origin: u64, name: Name)
+        requires above { IsAbove row (map row_of_change self.old.changes) }
+        requires room { 0 < self.old.room }
+        ensures { AddsChange self.old self.new (changes.BranchMade row moment element origin name) }
+    {
+        let key = key_of(element, &name);
+        let namesake = self.newest.get(&key).copied();
+        put_within(&mut self.newest, key, self.made.len());
+        let change = TreeChange::BranchMade {
+            row,
+            moment,
+            element,
+            origin,
+            name,
+        };
+        push_within(&mut self.made, Made { change, namesake });
+        let later = Vec::new(self.alloc);
+        push_within(&mut self.branches, Branch { row, moment, later });
+    }
+
+    /// Adds the next version on a branch.
+    pub fn add_version(&mut self, row: u64, moment: u64, branch: u64)
+        requires above { IsAbove row (map row_of_change self.old.changes) }
+        requires room { 0 < self.old.room }
+        requires ready { IsTrue (is_ready self.old branch) }
+        ensures { AddsChange self.old self.new (changes.VersionMade row moment branch) }
+    {
+        let change = TreeChange::VersionMade {
+            row,
+            moment,
+            branch,
+        };
+        push_within(
+            &mut self.made,
+            Made {
+                change,
+                namesake: None,
+            },
+        );
+        match place_of(&self.branches, branch) {
+            Some(place) => {
+                let on = &mut self.branches[place];
+                push_within(&mut on.later, Later { row, moment });
+            }
+            None => unreachable!(),
+        }
+    }
+
+    // The branch that a row made, with its versions.
+    fn branch_at(&self, branch: u64) -> Option<&Branch>
+        ensures versions { versions_by (option_copied result) ≡ versions_on self.now.changes branch }
+        ensures first_rows { (rows : ℕ) → filter (λ v. nat_lt v.row rows) (versions_by (option_copied result)) ≡ versions_on (of_first_rows rows self.now.changes) branch }
+        ensures falls { IfSome result (λ found. Falls (map row_of_later (reverse found.now.later.items))) }
+    {
+        item_of(&self.branches, branch)
+    }
+
+    // What a row made.
+    fn change_at(&self, row: u64) -> Option<&TreeChange>
+        ensures { option_copied result ≡ change_at self.now.changes row }
+    {
+        item_of(&self.made, row).map(|made| &made.change)
+    }
+
+    /// The last version on a branch in the first `rows` rows that was made before the moment.
+    pub fn latest(&self, branch: u64, rows: u64, before: Option<u64>) -> Option<u64>
+        ensures { result ≡ latest (of_first_rows rows self.now.changes) branch before }
+    {
+        self.branch_at(branch)?.latest(rows, before)
+    }
+
+    /// The version with a number on a branch, in the first `rows` rows.
+    pub fn numbered(&self, branch: u64, number: u64, rows: u64) -> Option<u64>
+        ensures { result ≡ numbered (of_first_rows rows self.now.changes) branch number }
+    {
+        self.branch_at(branch)?.numbered(number, rows)
+    }
+
+    /// The element's branch of a name, in the first `rows` rows.
+    pub fn branch_named(&self, element: u64, name: &Name, rows: u64) -> Option<u64>
+        ensures { result ≡ branch_named (of_first_rows rows self.now.changes) element name.now }
+    {
+        let newest = self.newest.get(&key_of(element, name)).copied();
+        find_branch(&self.made, newest, element, name, rows)
+    }
+
+    /// What kind an element is of.
+    pub fn kind(&self, element: u64) -> Option<Kind>
+        ensures { result ≡ kind_of self.now.changes element }
+    {
+        match self.change_at(element)? {
+            TreeChange::ElementMade { kind, .. } => Some(*kind),
+            _ => None,
+        }
+    }
+
+    /// The version at a branch's point.
+    pub fn origin(&self, branch: u64) -> Option<u64>
+        ensures { result ≡ origin_of self.now.changes branch }
+    {
+        match self.change_at(branch)? {
+            TreeChange::BranchMade { origin, .. } => Some(*origin),
+            _ => None,
+        }
+    }
+
+    /// The name of a branch.
+    pub fn name(&self, branch: u64) -> Option<&Name>
+        ensures { option_copied result ≡ name_of_branch self.now.changes branch }
+    {
+        match self.change_at(branch)? {
+            TreeChange::BranchMade { name, .. } => Some(name),
+            _ => None,
+        }
+    }
+
+    // The element of a branch.
+    fn element_of(&self, branch: u64) -> Option<u64>
+        ensures { result ≡ element_of_branch self.now.changes branch }
+    {
+        match self.change_at(branch)? {
+            TreeChange::ElementMade { row, .. } => Some(*row),
+            TreeChange::BranchMade { element, .. } => Some(*element),
+            TreeChange::VersionMade { .. } => None,
+        }
+    }
+
+    /// Where the version that a row made stands.
+    pub fn place(&self, version: u64) -> Option<Place>
+        ensures { result ≡ place self.now.changes version }
+    {
+        let branch = branch_of(self.change_at(version)?);
+        let element = self.element_of(branch)?;
+        let number = self.branch_at(branch)?.number_of(version)?;
+        Some(Place {
+            element,
+            branch,
+            number,
+        })
+    }
+
+    /// The catalog of a directory's version, in byte order of names.
+    pub fn entries(&self, version: u64) -> &[Entry]
+        ensures catalog { result.now ≡ entries_in (contents_of self.now version) }
+        ensures in_order { AreInOrder result.now }
+    {
+        match self.contents.get(&version) {
+            Some(Contents::Catalog(entries)) => entries.as_slice(),
+            _ => &[],
+        }
+    }
+
+    /// The row whose own bytes are the text of a file's version, where one was set.
+    pub fn text(&self, version: u64) -> Option<u64>
+        ensures { result ≡ text_in (contents_of self.now version) }
+    {
+        match self.contents.get(&version) {
+            Some(Contents::Text(row)) => Some(*row),
+            _ => None,
+        }
+    }
+
+    /// Sets the catalog of a directory's version.
+    pub fn set_catalog(&mut self, version: u64, entries: Vec<Entry>)
+        requires room { 0 < self.old.content_room }
+        requires in_order { AreInOrder entries.items }
+        ensures { SetsContents self.old self.new version (contents.Catalog entries.items) }
+    {
+        put_within(
+            &mut self.contents,
+            version,
+            Contents::Catalog(List::of(entries)),
+        );
+    }
+
+    /// Sets the row whose own bytes are the text of a file's version.
+    pub fn set_text(&mut self, version: u64, row: u64)
+        requires { 0 < self.old.content_room }
+        ensures { SetsContents self.old self.new version (contents.Text row) }
+    {
+        put_within(&mut self.contents, version, Contents::Text(row));
+    }
+}
