@@ -1,2 +1,6 @@
+pub mod Days
+pub mod Digits
 pub mod OnLiterals
-pub mod Worked
+pub mod Passing
+pub mod Right
+mod Worked

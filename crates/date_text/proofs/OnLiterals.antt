@@ -1,7 +1,8 @@
 -- What a proof unfolds to compute dates on literals.
 use Rattle.std.specs.Prelude.{⊤}
 use Rattle.jiff_core.specs.Calendar.{days_of_years, days_of_months, day_count, days_from_civil}
+use Rattle.date_text.specs.Dates.{first_wrong}
 
 unfoldable pub dates_on_literals : ⊤
-unfolding days_of_years days_of_months day_count days_from_civil
+unfolding days_of_years days_of_months day_count days_from_civil first_wrong
 dates_on_literals = tt

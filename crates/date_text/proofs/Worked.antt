@@ -16,6 +16,7 @@ unfolding dates_on_literals
 last = refl
 
 leap : date_of (codes "29-Feb-2100.00:00:00") ≡ Err (record { 0 = 0 })
+unfolding dates_on_literals
 leap = refl
 
 written : text_of 1700000001 ≡ codes "14-Nov-2023.22:13:21"

@@ -1,13 +1,15 @@
 -- The text of a moment, `d-Mmm-yyyy.hh:mm:ss` in UTC, and what is wrong with a text that is none.
-use Rattle.std.specs.Prelude.{ℕ, ◌+◌, ◌-◌, ◌/◌, ◌%◌, Bool, not, ◌&&◌, ◌==◌, nat_le, nat_lt, Option, Some, None, Result, Ok, Err, pos, List, [], ◌∷◌, ◌++◌, length, take, drop, find, take_while, unwrap_or, slice_get, if◌then◌else◌, codes}
+use Rattle.std.specs.Prelude.{ℕ, ◌+◌, ◌-◌, ◌/◌, ◌%◌, Bool, not, ◌&&◌, ◌==◌, nat_le, nat_lt, Option, Some, None, is_some, Result, Ok, Err, pos, List, [], ◌∷◌, ◌++◌, length, take, drop, find, take_while, unwrap_or, slice_get, if◌then◌else◌, codes}
 use Rattle.std.specs.Char.{is_ascii_digit}
-use Rattle.std.specs.Str.{all_ascii_digits, bytes_eq}
+use Rattle.std.specs.Str.{bytes_eq}
 use Rattle.std.specs.Str.Parse.{digits_value}
-use Rattle.std.specs.List.{list_any, position}
+use Rattle.std.specs.List.{list_all, position}
+use Rattle.std.specs.Option.{option_map}
 use Rattle.jiff_core.specs.Calendar.{days_in_month}
-use Rattle.date_text.specs.Civil.{Civil, moment_of, civil_of}
-use Rattle.date_text.specs.declared.BadDate.{BadDate}
-use Rattle.date_text.specs.declared.Field.{Field}
+use Rattle.date_text.specs.Civil.{moment_of, civil_of}
+use Rattle.date_text.specs.declared.reading.BadDate.{BadDate}
+use Rattle.date_text.specs.declared.civil.Civil.{Civil}
+use Rattle.date_text.specs.declared.fields.Field.{Field}
 
 -- the months' names, from January on
 abbrev pub month_names : List (List ℕ)
@@ -22,12 +24,12 @@ piece text place count = take count (drop place text)
 -- whether bytes are so many digits, of a number between two bounds
 abbrev pub is_number : ℕ → ℕ → ℕ → List ℕ → Bool
 is_number count low high bytes =
-    (length bytes == count) && all_ascii_digits bytes && nat_le low (digits_value 10 bytes)
+    (length bytes == count) && list_all is_ascii_digit bytes && nat_le low (digits_value 10 bytes)
     && nat_le (digits_value 10 bytes) high
 
--- whether bytes are the name of a month
-abbrev pub is_month : List ℕ → Bool
-is_month bytes = list_any (bytes_eq bytes) month_names
+-- the place of a month in the year, from 0, by its name
+abbrev pub month_place : List ℕ → Option ℕ
+month_place bytes = position (bytes_eq bytes) month_names
 
 -- a field that is one sign, one that is a number, and the end of the text
 abbrev pub sign_field : List ℕ → ℕ → ℕ → Field
@@ -38,7 +40,7 @@ number_field text place count low high =
     record { place = place; right = is_number count low high (piece text place count) }
 
 abbrev pub month_field : List ℕ → ℕ → Field
-month_field text place = record { place = place; right = is_month (piece text place 3) }
+month_field text place = record { place = place; right = is_some (month_place (piece text place 3)) }
 
 abbrev pub end_field : List ℕ → ℕ → Field
 end_field text place = record { place = place; right = nat_le (length text) place }
@@ -62,16 +64,19 @@ fields text = fields_from text (day_length text)
 abbrev pub is_wrong : Field → Bool
 is_wrong field = not field.right
 
--- the number of a month, from 1, by its name
-abbrev pub month_of : List ℕ → ℕ
-month_of bytes = unwrap_or (position (bytes_eq bytes) month_names) 0 + 1
+abbrev pub place_of : Field → ℕ
+place_of field = field.place
+
+-- where the first field begins that is wrong
+unfoldable pub first_wrong : List Field → Option ℕ
+first_wrong fields = option_map place_of (find is_wrong fields)
 
 -- the parts that the fields of a text name, where they are right
 abbrev pub parts_from : List ℕ → ℕ → Civil
 parts_from text day =
     record {
       year = digits_value 10 (piece text (day + 5) 4);
-      month = month_of (piece text (day + 1) 3);
+      month = unwrap_or (month_place (piece text (day + 1) 3)) 0 + 1;
       day = digits_value 10 (piece text 0 day);
       hour = digits_value 10 (piece text (day + 10) 2);
       minute = digits_value 10 (piece text (day + 13) 2);
@@ -85,13 +90,13 @@ moment_of_day civil =
     else Err (record { 0 = 0 })
 
 -- the fault at the first wrong field, and the moment where there is none
-abbrev pub unless_wrong : Option Field → Civil → Result ℕ BadDate
-unless_wrong (Some field) civil = Err (record { 0 = field.place })
+abbrev pub unless_wrong : Option ℕ → Civil → Result ℕ BadDate
+unless_wrong (Some place) civil = Err (record { 0 = place })
 unless_wrong None civil = moment_of_day civil
 
 -- bytes read as a date
 abbrev pub date_of : List ℕ → Result ℕ BadDate
-date_of text = unless_wrong (find is_wrong (fields text)) (parts_from text (day_length text))
+date_of text = unless_wrong (first_wrong (fields text)) (parts_from text (day_length text))
 
 -- two digits, and one or two
 abbrev pub two_digits : ℕ → List ℕ

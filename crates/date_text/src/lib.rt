@@ -1,13 +1,22 @@
-// The civil form of a moment, in UTC: `d-Mmm-yyyy.hh:mm:ss`.
+// The civil form of a moment: `d-Mmm-yyyy.hh:mm:ss` in UTC.
+//
+// What it is for: a moment is a number of seconds since the beginning of 1970. People write one as a date, in the rules
+// of a config spec, and read one as a date in listings.
+//
+// What it promises: `read` gives a moment exactly for the dates of the years 1970 to 9999, and else the place of the
+// first field that is wrong; `print` gives the one date of a moment, which `read` gives back. Neither takes memory.
+//
+// What it stands on: `jiff` for the calendar.
 #![tactic(auto)]
 
-/// Bytes are no date: the place, counted from 0, where the first wrong field begins.
-#[derive(Clone, Copy, Debug, PartialEq, Eq)]
-pub struct BadDate(pub u64);
+mod civil;
+mod fields;
+mod printing;
+mod reading;
 
-/// A field of the form: where it begins in a text, and whether what stands there is right.
-#[derive(Clone, Copy)]
-struct Field {
-    place: u64,
-    right: bool,
-}
+pub use printing::{DateText, print};
+pub use reading::{BadDate, read};
+
+
+#[cfg(test)]
+mod tests;

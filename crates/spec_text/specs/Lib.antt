@@ -1,0 +1,11 @@
+pub mod Covers
+pub mod Patterns
+pub mod Steps
+pub mod Words
+pub mod Selectors
+pub mod Lines
+pub mod Specs
+pub mod OptionSteps
+pub mod Reading
+pub mod Laws
+pub mod Rules

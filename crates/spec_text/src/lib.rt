@@ -1,2 +1,18 @@
 // Config specs.
 #![tactic(auto)]
+
+pub mod laws;
+mod lines;
+mod options;
+mod matching;
+mod parts;
+mod patterns;
+mod selectors;
+mod specs;
+mod words;
+
+pub use patterns::Matches;
+pub use specs::Spec;
+
+#[cfg(test)]
+mod tests;

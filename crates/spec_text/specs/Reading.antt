@@ -1,0 +1,40 @@
+-- A config spec as it is read, line by line.
+use Rattle.std.specs.Prelude.{ℕ, Result, Ok, Err, List, [], ◌∷◌, ◌++◌}
+use Rattle.cc_names.specs.declared.memory.Or.{Or}
+use Rattle.cc_names.specs.declared.memory.Or.TheVariants.{NoMemory, Is}
+use Rattle.cc_names.specs.declared.refusals.SpecCause.{SpecCause}
+use Rattle.cc_names.specs.declared.refusals.SpecCause.TheVariants.{NoBlock}
+use Rattle.cc_names.specs.declared.refusals.SpecError.{SpecError}
+use Rattle.cc_names.specs.declared.selection.Rule.{Rule}
+use Rattle.spec_text.specs.declared.lines.Line.{Line}
+use Rattle.spec_text.specs.declared.lines.Line.TheVariants.{Skipped, Opens, Closes, Gives}
+
+-- the rules so far, and the times of the blocks that are open, the innermost first
+pub record State : Type 0 where
+  pub rules : List Rule
+  pub blocks : List ℕ
+
+abbrev pub nothing_read : State
+nothing_read = record { rules = []; blocks = [] }
+
+-- the state when the innermost block has ended
+abbrev pub closed : List Rule → List ℕ → Result State SpecCause
+closed rules [] = Err NoBlock
+closed rules (innermost ∷ blocks) = Ok (record { rules = rules; blocks = blocks })
+
+-- the state behind a line
+abbrev pub after_line : Line → State → Result State SpecCause
+after_line Skipped state = Ok state
+after_line (Opens moment) state = Ok (record { rules = state.rules; blocks = moment ∷ state.blocks })
+after_line Closes state = closed state.rules state.blocks
+after_line (Gives rule) state = Ok (record { rules = state.rules ++ rule ∷ []; blocks = state.blocks })
+
+-- the state behind what a line says, where it says something
+abbrev pub after_read : Result Line SpecCause → State → Result State SpecCause
+after_read (Ok line) state = after_line line state
+after_read (Err cause) state = Err cause
+
+-- a cause with the line on which it stands
+abbrev pub at_line : ℕ → Or SpecCause → Or SpecError
+at_line line NoMemory = NoMemory
+at_line line (Is cause) = Is (record { line = line; cause = cause })

@@ -1,0 +1,174 @@
+// What one line of a config spec says.
+
+ghost use Rattle.std.specs.Prelude.{◌≡◌, ◌<◌, ◌^◌, IfOk};
+ghost use Rattle.std.specs.Option.{option_copied, option_map};
+ghost use Rattle.cc_names.specs.Answers.{Gives};
+ghost use Rattle.spec_text.specs.Lines.{plain_options, moment_of_word, before_of, rule_of, with_options, no_options, options_from, object_line, element_line, time_line, end_line, is_comment, line_of_words, line_of};
+ghost use Rattle.spec_text.specs.Words.{words_left};
+
+use crate::options::{Options, read_options};
+use crate::patterns::read_pattern;
+use crate::selectors::{read_branch_type, read_selector};
+use crate::words::split_word;
+use cc_names::memory::Or;
+use cc_names::refusals::SpecCause;
+use cc_names::selection::Rule;
+use std::alloc::Global;
+
+/// What a line of a config spec says.
+#[derive(Debug, Drop)]
+pub(crate) enum Line {
+    /// Nothing: the line is blank or a comment.
+    Skipped,
+    /// A block of rules with this time begins.
+    Opens(u64),
+    /// The innermost open block ends.
+    Closes,
+    /// A rule.
+    Gives(Rule),
+}
+
+fn moment(word: &[u8]) -> Result<u64, Or<SpecCause>>
+    ensures { Gives result (moment_of_word word.now) }
+{
+    match date_text::read(word) {
+        Ok(moment) => Ok(moment),
+        Err(_) => Err(Or::Is(SpecCause::BadDate)),
+    }
+}
+
+fn before(word: Option<&[u8]>, block: Option<u64>) -> Result<Option<u64>, Or<SpecCause>>
+    ensures { Gives result (before_of (option_copied word.entry) block) }
+{
+    match word {
+        None => Ok(block),
+        Some(word) => Ok(Some(moment(word)?)),
+    }
+}
+
+/// Where a line stands: its number, and the time of the innermost block around it.
+#[derive(Clone, Copy)]
+pub(crate) struct Place {
+    pub line: u32,
+    pub block: Option<u64>,
+}
+
+fn rule(
+    alloc: Global,
+    place: Place,
+    pattern: &[u8],
+    behind_config: bool,
+    selector: &[u8],
+    options: Options,
+) -> Result<Line, Or<SpecCause>>
+    ensures { Gives result (rule_of place.line place.block pattern.now behind_config selector.now (plain_options options.entry)) }
+{
+    let pattern = read_pattern(alloc, pattern)?;
+    let selector = read_selector(alloc, behind_config, selector)?;
+    let before = before(options.time, place.block)?;
+    let mkbranch = read_branch_type(alloc, options.mkbranch)?;
+    Ok(Line::Gives(Rule {
+        line: place.line,
+        pattern,
+        selector,
+        before,
+        nocheckout: options.nocheckout,
+        mkbranch,
+    }))
+}
+
+fn rule_with_options(
+    alloc: Global,
+    place: Place,
+    pattern: &[u8],
+    behind_config: bool,
+    selector: &[u8],
+    words: Option<&[u8]>,
+) -> Result<Line, Or<SpecCause>>
+    ensures { Gives result (with_options place.line place.block pattern.now behind_config selector.now
+        (options_from (words_left (option_copied words.entry)) no_options)) }
+{
+    match read_options(words) {
+        None => Err(Or::Is(SpecCause::BadRule)),
+        Some(options) => rule(alloc, place, pattern, behind_config, selector, options),
+    }
+}
+
+fn object_line(
+    alloc: Global,
+    place: Place,
+    pattern: &[u8],
+    words: Option<&[u8]>,
+) -> Result<Line, Or<SpecCause>>
+    ensures { Gives result (object_line place.line place.block pattern.now (words_left (option_copied words.entry))) }
+{
+    match split_word(words) {
+        None => Err(Or::Is(SpecCause::BadRule)),
+        Some((object, rest)) => rule_with_options(alloc, place, pattern, true, object, rest),
+    }
+}
+
+fn element_line(alloc: Global, place: Place, words: Option<&[u8]>) -> Result<Line, Or<SpecCause>>
+    ensures { Gives result (element_line place.line place.block (words_left (option_copied words.entry))) }
+{
+    let Some((pattern, rest)) = split_word(words) else {
+        return Err(Or::Is(SpecCause::BadRule));
+    };
+    let Some((selector, rest)) = split_word(rest) else {
+        return Err(Or::Is(SpecCause::BadRule));
+    };
+    if selector == b"-config".as_slice() {
+        return object_line(alloc, place, pattern, rest);
+    }
+    rule_with_options(alloc, place, pattern, false, selector, rest)
+}
+
+fn time_line(words: Option<&[u8]>) -> Result<Line, Or<SpecCause>>
+    ensures { Gives result (time_line (words_left (option_copied words.entry))) }
+{
+    let Some((date, rest)) = split_word(words) else {
+        return Err(Or::Is(SpecCause::BadRule));
+    };
+    match split_word(rest) {
+        Some(_) => Err(Or::Is(SpecCause::BadRule)),
+        None => Ok(Line::Opens(moment(date)?)),
+    }
+}
+
+fn end_line(words: Option<&[u8]>) -> Result<Line, Or<SpecCause>>
+    ensures { Gives result (end_line (words_left (option_copied words.entry))) }
+{
+    let Some((word, rest)) = split_word(words) else {
+        return Err(Or::Is(SpecCause::BadRule));
+    };
+    match split_word(rest) {
+        None if word == b"time".as_slice() => Ok(Line::Closes),
+        _ => Err(Or::Is(SpecCause::BadRule)),
+    }
+}
+
+fn is_comment(word: &[u8]) -> bool
+    ensures { result ≡ is_comment word.now }
+{
+    matches!(word, [b'#', ..])
+}
+
+/// What a line says, or why it is none, in time linear in its bytes.
+pub(crate) fn read_line(alloc: Global, place: Place, bytes: &[u8]) -> Result<Line, Or<SpecCause>>
+    ensures { Gives result (line_of place.line place.block bytes.now) }
+{
+    let Some((word, rest)) = split_word(Some(bytes)) else {
+        return Ok(Line::Skipped);
+    };
+    if is_comment(word) {
+        Ok(Line::Skipped)
+    } else if word == b"element".as_slice() {
+        element_line(alloc, place, rest)
+    } else if word == b"time".as_slice() {
+        time_line(rest)
+    } else if word == b"end".as_slice() {
+        end_line(rest)
+    } else {
+        Err(Or::Is(SpecCause::BadRule))
+    }
+}

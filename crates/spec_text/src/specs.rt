@@ -1,0 +1,172 @@
+// Whole config specs.
+
+ghost use Rattle.std.specs.Prelude.{◌≡◌, ◌<◌, ◌^◌, [], ◌∷◌, length, IfSome, MatchOption, slice_get};
+ghost use Rattle.std.specs.List.{position};
+ghost use Rattle.cc_names.specs.Answers.{Gives};
+ghost use Rattle.spec_text.specs.Reading.{at_line};
+ghost use Rattle.spec_text.specs.Words.{lines_of, is_newline};
+
+use crate::lines::{Line, Place, read_line};
+use crate::parts::behind;
+use cc_names::memory::Or;
+use cc_names::refusals::{SpecCause, SpecError};
+use cc_names::selection::Rule;
+use std::alloc::Global;
+use std::marker::Model;
+
+/// The rules of a config spec. Contracts see them as a list.
+#[derive(Debug, Drop)]
+pub struct Spec {
+    rules: Vec<Rule>,
+}
+
+impl Model for Spec {
+    ghost use Rattle.std.specs.Prelude.{List};
+    ghost use Rattle.cc_names.specs.declared.selection.Rule.{Rule};
+
+    ghost Value = { List Rule };
+
+    ghost view = { λ spec. spec.rules.items };
+}
+
+fn first_newline(bytes: &[u8]) -> Option<usize>
+    ensures place { result ≡ position is_newline bytes.now }
+    ensures within { IfSome result (λ place. place < length bytes.now) }
+{
+    bytes.iter().position(|byte| *byte == b'\n')
+}
+
+/// The first line of a text, and what is left behind it.
+fn split_line(text: &[u8]) -> Option<(&[u8], &[u8])>
+    ensures line { MatchOption result (lines_of text.now ≡ []) (λ line. lines_of text.now ≡ line.0.now ∷ lines_of line.1.now) }
+    ensures less { IfSome result (λ line. length line.1.now < length text.now) }
+{
+    if text.is_empty() {
+        return None;
+    }
+    match first_newline(text) {
+        Some(end) => Some((&text[..end], behind(text, end))),
+        None => Some((text, &[])),
+    }
+}
+
+/// What has been read of a config spec.
+#[derive(Drop)]
+struct Reader {
+    /// The rules so far.
+    rules: Vec<Rule>,
+    /// The times of the blocks that are open, the innermost last.
+    blocks: Vec<u64>,
+}
+
+impl Model for Reader {
+    ghost use Rattle.std.specs.Prelude.{reverse};
+    ghost use Rattle.spec_text.specs.Reading.{State};
+
+    ghost Value = { State };
+
+    ghost view = { λ reader. record { rules = reader.rules.items; blocks = reverse reader.blocks.items } };
+}
+
+impl Reader {
+    ghost use Rattle.spec_text.specs.Lines.{line_of};
+    ghost use Rattle.spec_text.specs.Reading.{nothing_read, after_line, after_read};
+
+    fn new(alloc: Global) -> Reader
+        ensures { result ≡ nothing_read }
+    {
+        Reader {
+            rules: Vec::new(alloc),
+            blocks: Vec::new(alloc),
+        }
+    }
+
+    /// The time of the innermost open block.
+    fn innermost(&self) -> Option<u64>
+        ensures { result ≡ slice_get self.now.blocks 0 }
+    {
+        self.blocks.last().copied()
+    }
+
+    /// Takes in what a line says, or answers why it cannot stand there.
+    fn take(self, line: Line) -> Result<Reader, Or<SpecCause>>
+        ensures { Gives result (after_line line self) }
+    {
+        let Reader {
+            mut rules,
+            mut blocks,
+        } = self;
+        match line {
+            Line::Skipped => {}
+            Line::Opens(moment) => blocks.push(moment)?,
+            Line::Closes => {
+                if blocks.pop().is_none() {
+                    return Err(Or::Is(SpecCause::NoBlock));
+                }
+            }
+            Line::Gives(rule) => rules.push(rule)?,
+        }
+        Ok(Reader { rules, blocks })
+    }
+
+    /// Reads the line of this number and takes in what it says.
+    fn next(self, alloc: Global, number: u32, bytes: &[u8]) -> Result<Reader, Or<SpecCause>>
+        ensures { Gives result (after_read (line_of number (slice_get self.blocks 0) bytes.now) self) }
+    {
+        let place = Place {
+            line: number,
+            block: self.innermost(),
+        };
+        let line = read_line(alloc, place, bytes)?;
+        self.take(line)
+    }
+
+    fn into_rules(self) -> Vec<Rule>
+        ensures { result.items ≡ self.rules }
+    {
+        let Reader { rules, blocks: _ } = self;
+        rules
+    }
+}
+
+fn at_line(line: u32, fault: Or<SpecCause>) -> Or<SpecError>
+    ensures { result ≡ at_line line fault }
+{
+    match fault {
+        Or::NoMemory => Or::NoMemory,
+        Or::Is(cause) => Or::Is(SpecError { line, cause }),
+    }
+}
+
+impl Spec {
+    ghost use Rattle.spec_text.specs.Specs.{rules_of};
+
+    /// Reads a text as the rules of a config spec, or answers the first line that fails and why. Takes time linear in
+    /// the text's bytes. The rules are those of the ClearCase manual's page config_spec, in this profile.
+    pub fn read(alloc: Global, text: &[u8]) -> Result<Spec, Or<SpecError>>
+        requires { length text.now < 2 ^ 32 }
+        ensures { Gives result (rules_of text.now) }
+    {
+        let mut reader = Reader::new(alloc);
+        let mut number: u32 = 0;
+        let mut left = text;
+        'lines: while let Some((bytes, rest)) = split_line(left) {
+            number += 1;
+            reader = match reader.next(alloc, number, bytes) {
+                Ok(reader) => reader,
+                Err(fault) => return Err(at_line(number, fault)),
+            };
+            left = rest;
+        }
+        Ok(Spec {
+            rules: reader.into_rules(),
+        })
+    }
+
+    /// The rules, in order.
+    pub fn rules(&self) -> &[Rule]
+        ensures { result.now ≡ self.now }
+    {
+        self.rules.as_slice()
+    }
+}
