@@ -19,6 +19,8 @@ mod sources;
 mod std_sink;
 mod std_source;
 mod system_clock;
+#[cfg(test)]
+mod tests;
 
 pub use clocks::Clock;
 pub use list_clock::ListClock;
