@@ -1,0 +1,5 @@
+pub mod Causes
+pub mod Commands
+pub mod Cuts
+pub mod Kinds
+pub mod Sessions
