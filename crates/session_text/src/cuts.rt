@@ -38,7 +38,7 @@ fn cut_at(bytes: &[u8], place: Option<usize>) -> (&[u8], &[u8])
 }
 
 /// The lines that are left of a text. Contracts see them as the list of their bytes.
-pub(crate) struct Lines<'a> {
+pub struct Lines<'a> {
     rest: &'a [u8],
 }
 
@@ -59,21 +59,21 @@ impl Drop for Lines<'_> {
 
 impl<'a> Lines<'a> {
     /// The lines of a text.
-    pub(crate) fn of(text: &'a [u8]) -> Lines<'a>
+    pub fn of(text: &'a [u8]) -> Lines<'a>
         ensures { result ≡ lines_of text.now }
     {
         Lines { rest: text }
     }
 
     /// The same lines again.
-    pub(crate) fn again(&self) -> Lines<'a>
+    pub fn again(&self) -> Lines<'a>
         ensures { result ≡ self.now }
     {
         Lines { rest: self.rest }
     }
 
     /// The next line, without its newline.
-    pub(crate) fn next(&mut self) -> Option<&'a [u8]>
+    pub fn next(&mut self) -> Option<&'a [u8]>
         ensures { MatchOption result (self.old ≡ []) (λ line. self.old ≡ line.now ∷ self.new) }
     {
         if self.rest.is_empty() {

@@ -11,7 +11,7 @@
 
 mod above;
 mod commands;
-mod cuts;
+pub mod cuts;
 mod kinds;
 mod sessions;
 mod verbs;
