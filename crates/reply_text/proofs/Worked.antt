@@ -1,11 +1,10 @@
 -- The transcript of a session that makes a view, saves two files and builds one target, worked out by hand.
-use Rattle.std.proofs.Common.{◌≡◌, List, ℕ, [], ◌∷◌, ◌++◌, refl, Option, None, false}
+use Rattle.std.proofs.Common.{◌≡◌, List, ℕ, [], ◌∷◌, ◌++◌, refl, None, false}
 use Rattle.std.specs.Prelude.{codes}
 use Rattle.std.specs.Fmt.{digits}
 use Rattle.hex.specs.Hex.{encode_with}
 use Rattle.cc_names.specs.declared.commands.Command.{Command}
 use Rattle.cc_names.specs.declared.commands.Command.TheVariants.{Mkview, Save, Clearmake}
-use Rattle.cc_names.specs.declared.commands.Lane.{Lane}
 use Rattle.cc_names.specs.declared.commands.Phase.{Phase}
 use Rattle.cc_names.specs.declared.replies.Reply.{Reply}
 use Rattle.cc_names.specs.declared.replies.Reply.TheVariants as replies

@@ -6,9 +6,14 @@
 // What it promises: the lines are exactly those of their definition, byte by byte, in time linear in them; a digest
 // is the SHA-256 of its bytes (FIPS 180-4).
 //
-// What it stands on: `cc_names` for the data, `session_text` for lines of text, `sha2` and `hex`.
+// What it stands on: `cc_names` for the data, `session_text` for the lines of a text, `sha2` and `hex`.
 #![tactic(auto)]
 
 mod digests;
+mod names;
+mod pieces;
+mod refusals;
+mod replies;
 
 pub use digests::digest_of;
+pub use replies::render;
