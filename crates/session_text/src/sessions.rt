@@ -5,6 +5,7 @@ ghost use Rattle.cc_names.specs.Answers.{Gives};
 ghost use Rattle.session_text.specs.Cuts.{lines_of};
 ghost use Rattle.session_text.specs.Causes.{first_error, nothing};
 ghost use Rattle.session_text.specs.Commands.{command_of, one_name};
+ghost use Rattle.session_text.specs.Formed.{IsSession};
 ghost use Rattle.session_text.specs.Sessions.{body_of, commands_of, lanes_of, phases_of, session_of, Finds, before_commands, before_lanes, ends_lane};
 
 use crate::above::Above;
@@ -151,6 +152,7 @@ fn phases_of(alloc: Global, mut lines: Lines<'_>) -> Result<List<Phase>, NoMemor
 pub fn read(alloc: Global, text: &[u8]) -> Result<Session, Or<SessionError>>
     requires { length text.now < 2 ^ 32 }
     ensures session { Gives result (session_of text.now) }
+    ensures formed { IfOk result (IsSession (length text.now)) }
 {
     check(alloc, text)?;
     let phases = phases_of(alloc, Lines::of(text))?;
