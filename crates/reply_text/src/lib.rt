@@ -14,6 +14,8 @@ mod names;
 mod pieces;
 mod refusals;
 mod replies;
+#[cfg(test)]
+mod tests;
 
 pub use digests::digest_of;
 pub use replies::render;

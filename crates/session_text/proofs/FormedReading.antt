@@ -1,7 +1,7 @@
 -- What is read as a session has the form of one.
 use Rattle.std.proofs.Common.{◌≡◌, ◌∙◌, ℕ, ◌+◌, ◌<◌, ◌≤◌, Bool, true, false, Option, Some, None, Result, Ok, Err, List, [], ◌∷◌, ◌++◌, length, length-append, refl, sym, ap, arith, IfSome, cond, subst}
 use Rattle.std.specs.Prelude.{nat_le, not, is_none, ◌==◌}
-use Rattle.std.specs.List.{AllByRecursion}
+use Rattle.std.specs.List.{AllByRecursion, IsDistinct}
 use Rattle.std.specs.List.{slice_split, onto_first}
 use Rattle.std.proofs.lemmas.Bool.{leb-false}
 use Rattle.cc_names.specs.Names.{IsName, name_of, name_fault, unless_fault}
@@ -52,10 +52,11 @@ formed_save limit (Some view) None text v p t = tt
 formed_save limit (Some view) (Some path) text v p t = (v, p, t)
 
 formed_clearmake : (limit : ℕ) (view goal : Option (List ℕ)) → IfSome view IsName → IfSome goal IsPath → 1 ≤ limit → IfSome (clearmake view goal) (IsCommand limit)
+unfolding IsDistinct
 formed_clearmake limit None goal v g l = tt
 formed_clearmake limit (Some view) None v g l = tt
 formed_clearmake limit (Some view) (Some goal) v g l =
-    (v, tt, omega arith, omega arith, (omega arith, tt), (l, (g, tt)))
+    (v, tt, omega arith, omega arith, ((omega arith, tt), tt), (l, (g, tt)))
 
 formed_command : (limit : ℕ) (verb : Verb) (words : List (List ℕ)) (text : List ℕ) → 1 ≤ limit → length text ≤ limit → IfSome (command_of verb words text) (IsCommand limit)
 formed_command limit verbs.Mkview [] text l t = tt
@@ -65,13 +66,13 @@ formed_command limit verbs.Save [] text l t = tt
 formed_command limit verbs.Save (view ∷ []) text l t = tt
 formed_command limit verbs.Save (view ∷ path ∷ []) text l t =
     formed_save limit (ok_of (name_of view)) (below_root path) text (named view (name_fault view) refl)
-        (pathed_below path (is_root path) (path_fault path) refl refl) t
+    (pathed_below path (is_root path) (path_fault path) refl refl) t
 formed_command limit verbs.Save (view ∷ path ∷ w ∷ words) text l t = tt
 formed_command limit verbs.Clearmake [] text l t = tt
 formed_command limit verbs.Clearmake (view ∷ []) text l t = tt
 formed_command limit verbs.Clearmake (view ∷ goal ∷ []) text l t =
     formed_clearmake limit (ok_of (name_of view)) (ok_of (path_of goal)) (named view (name_fault view) refl)
-        (pathed goal (path_fault goal) refl) l
+    (pathed goal (path_fault goal) refl) l
 formed_command limit verbs.Clearmake (view ∷ goal ∷ w ∷ words) text l t = tt
 formed_command limit verbs.Phase words text l t = tt
 formed_command limit verbs.Lane words text l t = tt
@@ -184,7 +185,7 @@ lanes_formed limit (line ∷ lines) l t n =
     let fewer : length lines ≤ limit = omega arith in
     let count : length (commands_of lines) ≤ limit = omega (arith, commands_within lines) in
     lanes_kept limit (kind_of line) (commands_of lines) (lanes_of lines) (count, commands_formed limit lines l less)
-        (lanes_formed limit lines l less fewer)
+    (lanes_formed limit lines l less fewer)
 
 -- where a line `lane` stands right, there are not too many lanes above it
 third_fails : (none taken many late bad : Bool) → first_cause (where_so none causes.NoPhase ∷ where_so taken causes.TwoLanes ∷ where_so many causes.TooManyLanes ∷ where_so late causes.NotBuilt ∷ where_so bad causes.BadWord ∷ []) ≡ None → many ≡ false
@@ -196,7 +197,7 @@ third_fails false false false late bad h = refl
 lane_fits : (above : Above) (words : List (List ℕ)) → first_cause (lane_causes above words) ≡ None → length above.lanes < 64
 lane_fits above words h =
     leb-false 64 (length above.lanes)
-        (third_fails (not above.in_phase) (is_taken above.lanes words) (nat_le 64 (length above.lanes)) (not (is_empty above.lanes)) (is_none (one_name words)) h)
+    (third_fails (not above.in_phase) (is_taken above.lanes words) (nat_le 64 (length above.lanes)) (not (is_empty above.lanes)) (is_none (one_name words)) h)
 
 one_lane_more : (words lanes : List (List ℕ)) (commands : List Command) (more : List Lane) → length lanes < 64 → (length (with_lane lanes words) ≤ 64 → length (with_lane lanes words) + length more ≤ 64) → length lanes + length (before_lanes (one_name words) commands more) ≤ 64
 one_lane_more [] lanes commands more l h = h (omega arith)
@@ -235,7 +236,7 @@ lanes_within n above [] e l = omega arith
 lanes_within n above (line ∷ lines) e l =
     let right = no_error n (cause_of above (kind_of line)) (first_error (n + 1) (above_next above (kind_of line)) lines) e in
     lanes_step (kind_of line) above (commands_of lines) (lanes_of lines) right.0
-        (lanes_within (n + 1) (above_next above (kind_of line)) lines right.1) l
+    (lanes_within (n + 1) (above_next above (kind_of line)) lines right.1) l
 
 phases_more : (kind : Kind) (lanes : List Lane) (phases : List Phase) → length (phases_before kind lanes phases) ≤ 1 + length phases
 phases_more Skipped lanes phases = omega arith
@@ -274,9 +275,9 @@ phases_formed limit n above (line ∷ lines) e l t c =
     let less : total lines ≤ limit = omega arith in
     let fewer : length lines ≤ limit = omega arith in
     phases_kept limit (kind_of line) above (lanes_of lines) (phases_of lines)
-        (lanes_within (n + 1) (above_next above (kind_of line)) lines right.1)
-        (lanes_formed limit lines l less fewer)
-        (phases_formed limit (n + 1) (above_next above (kind_of line)) lines right.1 l less fewer)
+    (lanes_within (n + 1) (above_next above (kind_of line)) lines right.1)
+    (lanes_formed limit lines l less fewer)
+    (phases_formed limit (n + 1) (above_next above (kind_of line)) lines right.1 l less fewer)
 
 total-onto : (b : ℕ) (parts : List (List ℕ)) → total (onto_first b parts) ≤ 1 + total parts
 unfolding total
@@ -306,6 +307,7 @@ total-lines_of text = omega (arith, total-ended (slice_split is_newline text), t
 pub phases_read : (text : List ℕ) → first_error 1 nothing (lines_of text) ≡ None → IsSession (length text) (record { phases = phases_of (lines_of text) })
 phases_read [] e = (omega arith, tt)
 phases_read (b ∷ bs) e =
-    let count : length (lines_of (b ∷ bs)) ≤ length (b ∷ bs) = length-lines_of (b ∷ bs) in
-    ( omega (arith, phases_within (lines_of (b ∷ bs)))
-    , phases_formed (length (b ∷ bs)) 1 nothing (lines_of (b ∷ bs)) e (omega arith) (total-lines_of (b ∷ bs)) count )
+    let count : length (lines_of (b ∷ bs)) ≤ length (b ∷ bs) = length-lines_of (b ∷ bs) in (
+      omega (arith, phases_within (lines_of (b ∷ bs))),
+      phases_formed (length (b ∷ bs)) 1 nothing (lines_of (b ∷ bs)) e (omega arith) (total-lines_of (b ∷ bs)) count,
+    )

@@ -11,18 +11,32 @@ use Rattle.session_text.specs.Sessions.{session_of}
 
 -- the session that makes a view, saves a makefile and a source and builds one target
 first_build : session_of (codes "phase\nlane a\nmkview v\nsave v Makefile\n|out: in\n|\tcat in > out\nsave v in\n|hi\nclearmake v out\n")
-    ≡ Ok (record { phases = record { lanes = record { name = codes "a"; commands =
-        Mkview (codes "v")
-        ∷ Save (codes "v") (codes "Makefile") (codes "out: in\n\tcat in > out\n")
-        ∷ Save (codes "v") (codes "in") (codes "hi\n")
-        ∷ Clearmake (codes "v") None false false 1 [] (codes "out" ∷ [])
-        ∷ [] } ∷ [] } ∷ [] })
+    ≡ Ok (record {
+      phases = record {
+        lanes = record {
+          name = codes "a";
+          commands =
+              Mkview (codes "v")
+              ∷ Save (codes "v") (codes "Makefile") (codes "out: in\n\tcat in > out\n")
+              ∷ Save (codes "v") (codes "in") (codes "hi\n")
+              ∷ Clearmake (codes "v") None false false 1 [] (codes "out" ∷ [])
+              ∷ [];
+        } ∷ [];
+      } ∷ [];
+    })
 first_build = refl
 
 -- a line without its newline, comments, empty lines, an empty body line and blanks round words
 loose_lines : session_of (codes "# note\n\nphase\n\tlane  a \nsave v in\n|\n\n#\n||x\nmkview w")
-    ≡ Ok (record { phases = record { lanes = record { name = codes "a"; commands =
-        Save (codes "v") (codes "in") (codes "\n|x\n") ∷ Mkview (codes "w") ∷ [] } ∷ [] } ∷ [] })
+    ≡ Ok (record {
+      phases = record {
+        lanes = record {
+          name = codes "a";
+          commands =
+              Save (codes "v") (codes "in") (codes "\n|x\n") ∷ Mkview (codes "w") ∷ [];
+        } ∷ [];
+      } ∷ [];
+    })
 loose_lines = refl
 
 no_lines : session_of [] ≡ Ok (record { phases = [] })

@@ -1,6 +1,7 @@
 -- The form of a session: what its names, paths, numbers and lists keep. What is read has it.
-use Rattle.std.specs.Prelude.{◌≡◌, ℕ, ◌<◌, ◌≤◌, ◌^◌, ◌||◌, ◌&&◌, ◌==◌, nat_le, Bool, true, Option, Result, Ok, List, length, IfSome, IsOk}
-use Rattle.std.specs.List.{AllByRecursion, list_all}
+use Rattle.std.specs.Prelude.{◌≡◌, ◌≢◌, ℕ, ◌<◌, ◌≤◌, ◌^◌, ◌||◌, ◌&&◌, ◌==◌, nat_le, Bool, true, Option, Result, Ok, List, [], map, length, IfSome, IsOk}
+use Rattle.std.specs.List.{AllByRecursion, IsDistinct, list_all}
+use Rattle.std.specs.Str.{bytes_eq}
 use Rattle.cc_names.specs.Names.{IsName}
 use Rattle.cc_names.specs.Paths.{IsPath, parent_of, join_of}
 use Rattle.cc_names.specs.Formed.{IsTypeName, IsBelowRoot}
@@ -23,11 +24,20 @@ is_macro_byte b =
 
 -- a macro of a command line
 abbrev pub IsMacro : ℕ → Macro → Type 0
-IsMacro limit macro = (list_all is_macro_byte macro.name ≡ true) × (length macro.name ≤ limit) × (length macro.value ≤ limit)
+IsMacro limit macro =
+    (macro.name ≢ []) × (list_all is_macro_byte macro.name ≡ true) × (length macro.name ≤ limit) × (length macro.value ≤ limit)
+
+-- the name of a macro
+abbrev pub macro_name : Macro → List ℕ
+macro_name macro = macro.name
 
 -- a list with no more members than the limit, each of which is so
 abbrev pub AreAtMost : {A : Type 0} → ℕ → (A → Type 0) → List A → Type 0
 AreAtMost limit P xs = (length xs ≤ limit) × AllByRecursion P xs
+
+-- the macros of a command line, each name once
+abbrev pub AreMacros : ℕ → List Macro → Type 0
+AreMacros limit macros = AreAtMost limit (IsMacro limit) macros × IsDistinct bytes_eq (map macro_name macros)
 
 -- in this directory a name makes a path
 abbrev pub MakesPath : List ℕ → List ℕ → Type 0
@@ -59,7 +69,7 @@ IsCommand limit (commands.Rmlabel view label path) = IsName view × IsTypeName l
 IsCommand limit (commands.Rmdo view path) = IsName view × IsBelowRoot path
 IsCommand limit (commands.Scrub age) = age < 2 ^ 63
 IsCommand limit (commands.Clearmake view file own_only rebuild jobs macros goals) =
-    IsName view × IfSome file IsPath × (1 ≤ jobs) × (jobs ≤ 64) × AreAtMost limit (IsMacro limit) macros × AreAtMost limit IsPath goals
+    IsName view × IfSome file IsPath × (1 ≤ jobs) × (jobs ≤ 64) × AreMacros limit macros × AreAtMost limit IsPath goals
 IsCommand limit (commands.Catcs view) = IsName view
 IsCommand limit (commands.Lsdo view) = IsName view
 IsCommand limit (commands.Ls view path) = IsName view × IfSome path IsPath

@@ -14,6 +14,8 @@ mod commands;
 pub mod cuts;
 mod kinds;
 mod sessions;
+#[cfg(test)]
+mod tests;
 mod verbs;
 
 pub use sessions::read;
