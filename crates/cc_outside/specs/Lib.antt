@@ -1,0 +1,4 @@
+pub mod Counts
+pub mod Feeds
+pub mod Moments
+pub mod Reading

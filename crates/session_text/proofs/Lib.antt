@@ -1,0 +1,4 @@
+pub mod Parts
+pub mod FormedReading
+pub mod Steps
+mod Worked

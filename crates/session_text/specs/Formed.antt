@@ -1,0 +1,97 @@
+-- The form of a session: what its names, paths, numbers and lists keep. What is read has it.
+use Rattle.std.specs.Prelude.{◌≡◌, ◌≢◌, ℕ, ◌<◌, ◌≤◌, ◌^◌, ◌||◌, ◌&&◌, ◌==◌, nat_le, Bool, true, Option, Result, Ok, List, [], map, length, IfSome, IsOk}
+use Rattle.std.specs.List.{AllByRecursion, IsDistinct, list_all}
+use Rattle.std.specs.Str.{bytes_eq}
+use Rattle.cc_names.specs.Names.{IsName}
+use Rattle.cc_names.specs.Paths.{IsPath, parent_of, join_of}
+use Rattle.cc_names.specs.Formed.{IsTypeName, IsBelowRoot}
+use Rattle.cc_names.specs.declared.commands.VersionName.{VersionName}
+use Rattle.cc_names.specs.declared.commands.Macro.{Macro}
+use Rattle.cc_names.specs.declared.commands.Command.{Command}
+use Rattle.cc_names.specs.declared.commands.Command.TheVariants as commands
+use Rattle.cc_names.specs.declared.commands.Lane.{Lane}
+use Rattle.cc_names.specs.declared.commands.Phase.{Phase}
+use Rattle.cc_names.specs.declared.commands.Session.{Session}
+
+-- a version's name: the type names of its branches behind `main`, and a number of eight bytes
+abbrev pub IsVersionName : VersionName → Type 0
+IsVersionName version = AllByRecursion IsTypeName version.branches × (version.number < 2 ^ 64)
+
+-- a byte of a macro's name: a letter, a digit, `_` or `.`
+abbrev pub is_macro_byte : ℕ → Bool
+is_macro_byte b =
+    (nat_le 97 b && nat_le b 122) || (nat_le 65 b && nat_le b 90) || (nat_le 48 b && nat_le b 57) || (b == 95) || (b == 46)
+
+-- a macro of a command line
+abbrev pub IsMacro : ℕ → Macro → Type 0
+IsMacro limit macro =
+    (macro.name ≢ []) × (list_all is_macro_byte macro.name ≡ true) × (length macro.name ≤ limit) × (length macro.value ≤ limit)
+
+-- the name of a macro
+abbrev pub macro_name : Macro → List ℕ
+macro_name macro = macro.name
+
+-- a list with no more members than the limit, each of which is so
+abbrev pub AreAtMost : {A : Type 0} → ℕ → (A → Type 0) → List A → Type 0
+AreAtMost limit P xs = (length xs ≤ limit) × AllByRecursion P xs
+
+-- the macros of a command line, each name once
+abbrev pub AreMacros : ℕ → List Macro → Type 0
+AreMacros limit macros = AreAtMost limit (IsMacro limit) macros × IsDistinct bytes_eq (map macro_name macros)
+
+-- in this directory a name makes a path
+abbrev pub MakesPath : List ℕ → List ℕ → Type 0
+MakesPath name parent = IsOk (join_of parent name)
+
+-- the path of this name beside that path is no longer than a path may be
+abbrev pub FitsBeside : List ℕ → List ℕ → Type 0
+FitsBeside path name = IfSome (parent_of path) (MakesPath name)
+
+-- The form of a command, with a limit on the bytes of its texts and the members of its lists.
+abbrev pub IsCommand : ℕ → Command → Type 0
+IsCommand limit (commands.Mkview view) = IsName view
+IsCommand limit (commands.Rmview view force) = IsName view
+IsCommand limit (commands.Setcs view text) = IsName view × (length text ≤ limit)
+IsCommand limit (commands.Mkelem view nco path) = IsName view × IsBelowRoot path
+IsCommand limit (commands.Mkdir view nco path) = IsName view × IsBelowRoot path
+IsCommand limit (commands.Checkout view unreserved path) = IsName view × IsPath path
+IsCommand limit (commands.Mkbranch view nco branch path) = IsName view × IsTypeName branch × IsPath path
+IsCommand limit (commands.Save view path text) = IsName view × IsBelowRoot path × (length text ≤ limit)
+IsCommand limit (commands.Rm view path) = IsName view × IsBelowRoot path
+IsCommand limit (commands.Checkin view identical path) = IsName view × IsPath path
+IsCommand limit (commands.Uncheckout view path) = IsName view × IsPath path
+IsCommand limit (commands.Rmname view path) = IsName view × IsBelowRoot path
+IsCommand limit (commands.Mv view path name) = IsName view × IsBelowRoot path × IsName name × FitsBeside path name
+IsCommand limit (commands.Mklbtype name) = IsTypeName name
+IsCommand limit (commands.Mkbrtype name) = IsTypeName name
+IsCommand limit (commands.Mklabel view replace label path) = IsName view × IsTypeName label × IsPath path
+IsCommand limit (commands.Rmlabel view label path) = IsName view × IsTypeName label × IsPath path
+IsCommand limit (commands.Rmdo view path) = IsName view × IsBelowRoot path
+IsCommand limit (commands.Scrub age) = age < 2 ^ 63
+IsCommand limit (commands.Clearmake view file own_only rebuild jobs macros goals) =
+    IsName view × IfSome file IsPath × (1 ≤ jobs) × (jobs ≤ 64) × AreMacros limit macros × AreAtMost limit IsPath goals
+IsCommand limit (commands.Catcs view) = IsName view
+IsCommand limit (commands.Lsdo view) = IsName view
+IsCommand limit (commands.Ls view path) = IsName view × IfSome path IsPath
+IsCommand limit (commands.Cat view path version) = IsName view × IsPath path × IfSome version IsVersionName
+IsCommand limit (commands.Describe view path) = IsName view × IsPath path
+IsCommand limit (commands.Lsvtree view path) = IsName view × IsPath path
+IsCommand limit (commands.Lshistory view path) = IsName view × IsPath path
+IsCommand limit (commands.Catcr view path) = IsName view × IsBelowRoot path
+IsCommand limit (commands.Diffcr view path other second) = IsName view × IsBelowRoot path × IsName other × IsBelowRoot second
+IsCommand limit (commands.MklabelConfig view replace path label) = IsName view × IsPath path × IsTypeName label
+IsCommand limit (commands.Covers seer view path) = IsName seer × IsName view × IsPath path
+IsCommand limit (commands.Mkarrow view path version) = IsName view × IsBelowRoot path × IsVersionName version
+IsCommand limit (commands.Findmerge view path branch) = IsName view × IsPath path × IsTypeName branch
+
+-- the form of a lane, whose commands are within the limit
+abbrev pub IsLane : ℕ → Lane → Type 0
+IsLane limit lane = IsName lane.name × AreAtMost limit (IsCommand limit) lane.commands
+
+-- the form of a phase, which has at most 64 lanes
+abbrev pub IsPhase : ℕ → Phase → Type 0
+IsPhase limit phase = AreAtMost 64 (IsLane limit) phase.lanes
+
+-- The form of a session, whose texts and lists are within the limit.
+abbrev pub IsSession : ℕ → Session → Type 0
+IsSession limit session = AreAtMost limit (IsPhase limit) session.phases
