@@ -11,3 +11,4 @@
 #![tactic(auto)]
 
 pub mod lines;
+mod words;
