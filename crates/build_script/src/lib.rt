@@ -11,4 +11,5 @@
 #![tactic(auto)]
 
 pub mod lines;
+pub mod scripts;
 mod words;
