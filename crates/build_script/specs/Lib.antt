@@ -1,3 +1,5 @@
+pub mod Answers
 pub mod Lines
 pub mod Run
+pub mod Standings
 pub mod Words

@@ -1,5 +1,5 @@
 -- What a run of a script gives and reads.
-use Rattle.std.specs.Prelude.{◌≡◌, ℕ, ◌+◌, Bool, true, false, not, nat_lt, Option, Some, None, Result, Ok, Err, List, [], ◌∷◌, ◌++◌, length, fold, map, unwrap_or, if◌then◌else◌}
+use Rattle.std.specs.Prelude.{◌≡◌, ℕ, ◌+◌, Bool, true, false, nat_lt, Option, Some, None, Result, Ok, Err, List, [], ◌∷◌, ◌++◌, length, map, if◌then◌else◌}
 use Rattle.std.specs.List.{list_any, join_with_byte}
 use Rattle.std.specs.Str.{bytes_eq}
 use Rattle.cc_names.specs.declared.refusals.ScriptFault.{ScriptFault}
@@ -19,15 +19,19 @@ pub data Asking (A : Type 0) : Type 0 where
   Done : A → Asking A
   Asks : List ℕ → (Option (List ℕ) → Asking A) → Asking A
 
--- what it comes to over these files
-abbrev pub answer : {A : Type 0} → Files → Asking A → A
-answer files (Done a) = a
-answer files (Asks path next) = answer files (next (files path))
+-- a path behind paths, unless it stands there
+abbrev pub noted : List (List ℕ) → List ℕ → List (List ℕ)
+noted paths path = if list_any (bytes_eq path) paths then paths else paths ++ path ∷ []
 
--- the paths that it asks these files for, in order
-abbrev pub asked : {A : Type 0} → Files → Asking A → List (List ℕ)
-asked files (Done a) = []
-asked files (Asks path next) = path ∷ asked files (next (files path))
+-- what something that asks came to, and the paths that were asked for by then
+pub record Traced (A : Type 0) : Type 0 where
+  pub value : A
+  pub reads : List (List ℕ)
+
+-- what it comes to over these files, each path that it asks for noted once behind those before
+abbrev pub traced : {A : Type 0} → Files → List (List ℕ) → Asking A → Traced A
+traced files reads (Done a) = record { value = a; reads = reads }
+traced files reads (Asks path next) = traced files (noted reads path) (next (files path))
 
 -- one after the other, the second by what the first came to
 abbrev pub and_then : {A B : Type 0} → Asking A → (A → Asking B) → Asking B
@@ -86,7 +90,7 @@ begun _ _ = []
 
 -- the run's own outputs with this one written
 abbrev pub wrote : List ℕ → List ℕ → Files → Files
-wrote output bytes own path = if bytes_eq path output then Some bytes else own path
+wrote output bytes own path = if bytes_eq output path then Some bytes else own path
 
 -- the run's own outputs after a line; a line that writes no target is the first fault of all
 abbrev pub after_line : List (List ℕ) → Files → Line → Asking (Result Files ScriptFault)
@@ -122,10 +126,6 @@ abbrev pub run_of_lines : List (List ℕ) → List Line → Asking (Result (List
 run_of_lines targets lines =
     and_then (after_lines targets lines nothing_written) (unless_fault (λ own. Done (outputs_of targets own)))
 
--- a path behind paths, unless it stands there
-abbrev pub noted : List (List ℕ) → List ℕ → List (List ℕ)
-noted paths path = if list_any (bytes_eq path) paths then paths else paths ++ path ∷ []
-
 -- What a run comes to: an output for each target, or its first fault; and the paths that it asked the files for,
 -- absent ones included, each once, in the order of first asking.
 pub record Ran : Type 0 where
@@ -134,7 +134,7 @@ pub record Ran : Type 0 where
 
 -- what something that asks comes to over these files, and what it asks for
 abbrev pub carried_out : Files → Asking (Result (List (List ℕ)) ScriptFault) → Ran
-carried_out files asking = record { result = answer files asking; reads = fold noted [] (asked files asking) }
+carried_out files asking = record { result = (traced files [] asking).value; reads = (traced files [] asking).reads }
 
 -- a run of a text that was read as a script; one outside the language asks for nothing
 abbrev pub run_of : List (List ℕ) → Result (List Line) ScriptFault → Asking (Result (List (List ℕ)) ScriptFault)

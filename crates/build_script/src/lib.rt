@@ -10,6 +10,7 @@
 // What it stands on: `cc_names` for paths, texts and faults.
 #![tactic(auto)]
 
+pub mod files;
 pub mod lines;
 pub mod scripts;
 mod words;
