@@ -1,5 +1,6 @@
 pub mod Answers
 pub mod Lines
+pub mod Parts
 pub mod Run
 pub mod Standings
 pub mod Words

@@ -11,6 +11,8 @@
 #![tactic(auto)]
 
 pub mod files;
+mod halts;
 pub mod lines;
+mod parts;
 pub mod scripts;
 mod words;
