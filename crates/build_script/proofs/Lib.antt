@@ -1,3 +1,4 @@
 mod Worked
 pub mod LineLemmas
+pub mod RunLemmas
 pub mod WordLemmas

@@ -1,9 +1,9 @@
 // The parts of a run: the lines, and the parts of their outputs.
 
 ghost use Rattle.std.specs.Prelude.{◌≡◌, ◌+◌, ◌∷◌, ◌++◌, [], ℕ, List, Ok, IfOk, OnOk, map, length, nat_lt, option_map};
-ghost use Rattle.std.specs.List.{join_with_byte, list_any};
+ghost use Rattle.std.specs.List.{flat_map, join_with_byte, list_any};
 ghost use Rattle.std.specs.Str.{bytes_eq};
-ghost use Rattle.build_script.specs.Run.{Done, Asks, TextOf, parts_of, noted, with_part, with_parts, begun, wrote, after_line, outputs_of, output_limit};
+ghost use Rattle.build_script.specs.Run.{Done, Asks, TextOf, parts_of, noted, lengthened, with_part, with_parts, begun, wrote, after_line, outputs_of, output_limit};
 ghost use Rattle.build_script.specs.Standings.{Stays, texts};
 ghost use Rattle.build_script.specs.Parts.{Went, Gave, own_of};
 
@@ -65,4 +65,131 @@ fn is_too_big(before: usize, fresh: usize, more: usize) -> bool
     ensures { result ≡ nat_lt output_limit (before + fresh + more) }
 {
     before.saturating_add(fresh).saturating_add(more) > OUTPUT_LIMIT
+}
+
+/// More bytes behind what the line wrote so far, within the limit.
+fn lengthen(
+    alloc: Global,
+    output: Output<'_>,
+    fresh: &mut Vec<u8>,
+    more: &[u8],
+) -> Result<(), Halt>
+    ensures {
+        (bytes : List ℕ) → length bytes ≡ output.entry.before →
+        Gave (lengthened output.entry.path.now (bytes ++ fresh.old.items) more.now) (λ _. bytes ++ fresh.new.items) result
+    }
+{
+    if is_too_big(output.before, fresh.len(), more.len()) {
+        let path = output.path.copy(alloc)?;
+        return Err(Halt::Fault(ScriptFault::TooBig(path)));
+    }
+    fresh.extend_from_slice(more)?;
+    Ok(())
+}
+
+/// One text behind what the line wrote so far: the run's own output where it has written it, else the file's.
+fn pour<F: Files>(
+    alloc: Global,
+    written: &Outputs,
+    reads: &mut IndexSet<Path>,
+    files: &mut F,
+    output: Output<'_>,
+    fresh: &mut Vec<u8>,
+    path: &Path,
+) -> Result<(), Halt>
+    ensures stays { Stays F.stands F.broken F.follows files.old files.new }
+    ensures went {
+        (bytes : List ℕ) → length bytes ≡ output.entry.before →
+        Went (texts (F.stands files.old)) reads.old.keys (with_part (own_of written.now) output.entry.path.now (bytes ++ fresh.old.items) (TextOf path.now)) (λ _. bytes ++ fresh.new.items) result reads.new.keys (F.broken files.old) (F.broken files.new)
+    }
+{
+    if let Some(own) = written.get(path) {
+        return lengthen(alloc, output, fresh, own.as_slice());
+    }
+    match ask(alloc, reads, files, path)? {
+        Some(text) => lengthen(alloc, output, fresh, text.as_bytes()),
+        None => Err(Halt::Fault(ScriptFault::Absent(path.copy(alloc)?))),
+    }
+}
+
+/// The texts of these paths behind what the output has.
+fn cat<F: Files>(
+    alloc: Global,
+    written: &Outputs,
+    reads: &mut IndexSet<Path>,
+    files: &mut F,
+    output: Output<'_>,
+    paths: &[Path],
+) -> Result<Vec<u8>, Halt>
+    ensures stays { Stays F.stands F.broken F.follows files.old files.new }
+    ensures went {
+        (bytes : List ℕ) → length bytes ≡ output.entry.before →
+        Went (texts (F.stands files.old)) reads.old.keys (with_parts (own_of written.now) output.entry.path.now (map TextOf paths.now) bytes) (λ fresh. bytes ++ fresh.items) result reads.new.keys (F.broken files.old) (F.broken files.new)
+    }
+{
+    let mut fresh = Vec::new(alloc);
+    for path in paths {
+        pour(alloc, written, reads, files, output, &mut fresh, path)?;
+    }
+    Ok(fresh)
+}
+
+/// A word, the others with a space before each, and a newline.
+fn spaced(alloc: Global, first: &Text, others: &[Text]) -> Result<Vec<u8>, NoMemory>
+    ensures { IfOk result (λ bytes. bytes.items ≡ (first.now ++ flat_map (λ word. 32 ∷ word) others.now) ++ 10 ∷ []) }
+{
+    let mut bytes = Vec::from_slice(alloc, first.as_bytes())?;
+    for word in others {
+        bytes.push(b' ')?;
+        bytes.extend_from_slice(word.as_bytes())?;
+    }
+    bytes.push(b'\n')?;
+    Ok(bytes)
+}
+
+/// The words with one space between, and a newline.
+#[tactic(auto, using(crate::proofs::RunLemmas::joined_by_spaces))]
+fn joined(alloc: Global, words: &[Text]) -> Result<Vec<u8>, NoMemory>
+    ensures { IfOk result (λ bytes. bytes.items ≡ join_with_byte 32 words.now ++ 10 ∷ []) }
+{
+    match words.split_first() {
+        Some((first, others)) => spaced(alloc, first, others),
+        None => Ok(Vec::from_slice(alloc, b"\n")?),
+    }
+}
+
+/// The words behind what the output has.
+fn echo(alloc: Global, output: Output<'_>, words: &[Text]) -> Result<Vec<u8>, Halt>
+    ensures {
+        (bytes : List ℕ) → length bytes ≡ output.entry.before →
+        Gave (lengthened output.entry.path.now bytes (join_with_byte 32 words.now ++ 10 ∷ [])) (λ fresh. bytes ++ fresh.items) result
+    }
+{
+    let bytes = joined(alloc, words)?;
+    if is_too_big(output.before, 0, bytes.len()) {
+        let path = output.path.copy(alloc)?;
+        return Err(Halt::Fault(ScriptFault::TooBig(path)));
+    }
+    Ok(bytes)
+}
+
+/// What a line's work puts behind what the output has.
+fn make<F: Files>(
+    alloc: Global,
+    written: &Outputs,
+    reads: &mut IndexSet<Path>,
+    files: &mut F,
+    output: Output<'_>,
+    work: &Work,
+) -> Result<Vec<u8>, Halt>
+    ensures stays { Stays F.stands F.broken F.follows files.old files.new }
+    ensures went {
+        (bytes : List ℕ) → length bytes ≡ output.entry.before →
+        Went (texts (F.stands files.old)) reads.old.keys (with_parts (own_of written.now) output.entry.path.now (parts_of work.now) bytes) (λ fresh. bytes ++ fresh.items) result reads.new.keys (F.broken files.old) (F.broken files.new)
+    }
+{
+    match work {
+        Work::Echo(words) => echo(alloc, output, words.as_slice()),
+        Work::Cat(paths) => cat(alloc, written, reads, files, output, paths.as_slice()),
+    }
 }
