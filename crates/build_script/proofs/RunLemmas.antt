@@ -15,3 +15,8 @@ pub traced-and_then : {A B : Type 0} (files : Files) (reads : List (List ℕ)) (
     traced files reads (and_then first next) ≡ traced files (traced files reads first).reads (next (traced files reads first).value)
 traced-and_then files reads (Done a) next = refl
 traced-and_then files reads (Asks path more) next = traced-and_then files (noted reads path) (more (files path)) next
+
+-- outputs that were found before those of the other targets
+abbrev pub outputs_onto : List (List ℕ) → Result (List (List ℕ)) ScriptFault → Result (List (List ℕ)) ScriptFault
+outputs_onto found (Ok more) = Ok (found ++ more)
+outputs_onto found (Err fault) = Err fault

@@ -193,3 +193,85 @@ fn make<F: Files>(
         Work::Cat(paths) => cat(alloc, written, reads, files, output, paths.as_slice()),
     }
 }
+
+/// Writes what a line made to its output: behind what it has, or in its place. Takes time linear in the fresh bytes and
+/// the path, spread over the writes to one output.
+fn store(
+    alloc: Global,
+    written: &mut Outputs,
+    output: &Path,
+    appends: bool,
+    fresh: Vec<u8>,
+) -> Result<(), NoMemory>
+    ensures { OnOk result (own_of written.new ≡ wrote output.now (begun appends (own_of written.old output.now) ++ fresh.items) (own_of written.old)) }
+{
+    let bytes = match written.remove(output) {
+        Some(mut bytes) if appends => {
+            bytes.extend_from_slice(fresh.as_slice())?;
+            bytes
+        }
+        _ => fresh,
+    };
+    written.insert(output.copy(alloc)?, bytes)?;
+    Ok(())
+}
+
+/// How many bytes an output has before a line writes to it.
+fn length_before(written: &Outputs, output: &Path, appends: bool) -> usize
+    ensures { result ≡ length (begun appends (own_of written.now output.now)) }
+{
+    match written.get(output) {
+        Some(bytes) if appends => bytes.len(),
+        _ => 0,
+    }
+}
+
+/// Carries out one line: it changes the outputs, or ends the run.
+pub(crate) fn carry_out<F: Files>(
+    alloc: Global,
+    written: &mut Outputs,
+    reads: &mut IndexSet<Path>,
+    files: &mut F,
+    targets: &[Path],
+    line: &Line,
+) -> Result<(), Halt>
+    ensures stays { Stays F.stands F.broken F.follows files.old files.new }
+    ensures went { Went (texts (F.stands files.old)) reads.old.keys (after_line targets.now (own_of written.old) line.now) (λ _. own_of written.new) result reads.new.keys (F.broken files.old) (F.broken files.new) }
+{
+    let Line::Makes {
+        work,
+        appends,
+        output: path,
+    } = line
+    else {
+        return Ok(());
+    };
+    if !targets.contains(path) {
+        return Err(Halt::Fault(ScriptFault::StrayWrite(path.copy(alloc)?)));
+    }
+    let output = Output {
+        path,
+        before: length_before(written, path, *appends),
+    };
+    let fresh = make(alloc, written, reads, files, output, work)?;
+    store(alloc, written, path, *appends, fresh)?;
+    Ok(())
+}
+
+/// The output of each target, or the fault of the first that was not written.
+pub(crate) fn outputs(
+    alloc: Global,
+    written: &Outputs,
+    targets: &[Path],
+) -> Result<List<Text>, Halt>
+    ensures { Gave (outputs_of targets.now (own_of written.now)) (λ outputs. outputs) result }
+{
+    let mut outputs = Vec::new(alloc);
+    for target in targets {
+        let Some(bytes) = written.get(target) else {
+            return Err(Halt::Fault(ScriptFault::NotWritten(target.copy(alloc)?)));
+        };
+        outputs.push(Text::from_bytes(alloc, bytes.as_slice())?)?;
+    }
+    Ok(List::of(outputs))
+}
