@@ -1,4 +1,5 @@
 pub mod Answers
+pub mod Ended
 pub mod Lines
 pub mod Parts
 pub mod Run

@@ -14,13 +14,17 @@ use Rattle.build_script.specs.declared.halts.Halt.TheVariants as halts
 abbrev pub IsStop : Stop → ℕ → ℕ → Type 0
 IsStop Broken old new = Rose old new
 
--- A part of a run, from these reads on: what it came to, as it is shown, and the reads by then are what it traces. One
--- that was given up says why alone.
+-- A part of a run, from these reads on, that ended early: by a fault of the script, and the fault and the reads by then
+-- are what it traces; or given up.
+abbrev pub Halted : {A : Type 0} → Files → List (List ℕ) → Asking (Result A ScriptFault) → Halt → List (List ℕ) → ℕ → ℕ → Type 0
+Halted files before asking (halts.Fault fault) after old new = traced files before asking ≡ record { value = Err fault; reads = after }
+Halted files before asking (halts.Stop stop) after old new = IsStop stop old new
+Halted files before asking halts.NoMemory after old new = Unit {0}
+
+-- A part of a run that ended early, or came to what it traces, as it is shown.
 abbrev pub Went : {X A : Type 0} → Files → List (List ℕ) → Asking (Result A ScriptFault) → (X → A) → Result X Halt → List (List ℕ) → ℕ → ℕ → Type 0
 Went files before asking shown (Ok x) after old new = traced files before asking ≡ record { value = Ok (shown x); reads = after }
-Went files before asking shown (Err (halts.Fault fault)) after old new = traced files before asking ≡ record { value = Err fault; reads = after }
-Went files before asking shown (Err (halts.Stop stop)) after old new = IsStop stop old new
-Went files before asking shown (Err halts.NoMemory) after old new = Unit {0}
+Went files before asking shown (Err halt) after old new = Halted files before asking halt after old new
 
 -- the same where nothing is asked for
 abbrev pub Gave : {X A : Type 0} → Result A ScriptFault → (X → A) → Result X Halt → Type 0

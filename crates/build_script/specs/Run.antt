@@ -92,14 +92,16 @@ begun _ _ = []
 abbrev pub wrote : List ℕ → List ℕ → Files → Files
 wrote output bytes own path = if bytes_eq output path then Some bytes else own path
 
--- the run's own outputs after a line; a line that writes no target is the first fault of all
+-- the run's own outputs after the work of a line, whose parts go to this output
+abbrev pub write_output : Files → Work → Bool → List ℕ → Asking (Result Files ScriptFault)
+write_output own work appends output =
+    and_then (with_parts own output (parts_of work) (begun appends (own output))) (unless_fault (λ bytes. Done (Ok (wrote output bytes own))))
+
+-- the run's own outputs after a line; a line that writes no target is a fault before all else
 abbrev pub after_line : List (List ℕ) → Files → Line → Asking (Result Files ScriptFault)
 after_line targets own Empty = Done (Ok own)
 after_line targets own (Makes work appends output) =
-    if list_any (bytes_eq output) targets
-    then and_then (with_parts own output (parts_of work) (begun appends (own output)))
-    (unless_fault (λ bytes. Done (Ok (wrote output bytes own))))
-    else Done (Err (StrayWrite output))
+    if list_any (λ target. bytes_eq target output) targets then write_output own work appends output else Done (Err (StrayWrite output))
 
 -- the run's own outputs after lines
 abbrev pub after_lines : List (List ℕ) → List Line → Files → Asking (Result Files ScriptFault)
@@ -117,14 +119,17 @@ abbrev pub outputs_of : List (List ℕ) → Files → Result (List (List ℕ)) S
 outputs_of [] own = Ok []
 outputs_of (target ∷ targets) own = output_before target (own target) (outputs_of targets own)
 
+-- a run of these lines, with these outputs written
+abbrev pub run_from : List (List ℕ) → List Line → Files → Asking (Result (List (List ℕ)) ScriptFault)
+run_from targets lines own = and_then (after_lines targets lines own) (unless_fault (λ after. Done (outputs_of targets after)))
+
 -- nothing is written when a run begins
 abbrev pub nothing_written : Files
 nothing_written path = None
 
 -- a run of these lines
 abbrev pub run_of_lines : List (List ℕ) → List Line → Asking (Result (List (List ℕ)) ScriptFault)
-run_of_lines targets lines =
-    and_then (after_lines targets lines nothing_written) (unless_fault (λ own. Done (outputs_of targets own)))
+run_of_lines targets lines = run_from targets lines nothing_written
 
 -- What a run comes to: an output for each target, or its first fault; and the paths that it asked the files for,
 -- absent ones included, each once, in the order of first asking.

@@ -14,5 +14,7 @@ pub mod files;
 mod halts;
 pub mod lines;
 mod parts;
+pub mod outcomes;
+pub mod run;
 pub mod scripts;
 mod words;

@@ -3,7 +3,7 @@
 ghost use Rattle.std.specs.Prelude.{◌≡◌, ◌+◌, ◌∷◌, ◌++◌, [], ℕ, List, Ok, IfOk, OnOk, map, length, nat_lt, option_map};
 ghost use Rattle.std.specs.List.{flat_map, join_with_byte, list_any};
 ghost use Rattle.std.specs.Str.{bytes_eq};
-ghost use Rattle.build_script.specs.Run.{Done, Asks, TextOf, parts_of, noted, lengthened, with_part, with_parts, begun, wrote, after_line, outputs_of, output_limit};
+ghost use Rattle.build_script.specs.Run.{Done, Asks, TextOf, parts_of, noted, lengthened, with_part, with_parts, begun, wrote, write_output, after_line, outputs_of, output_limit};
 ghost use Rattle.build_script.specs.Standings.{Stays, texts};
 ghost use Rattle.build_script.specs.Parts.{Went, Gave, own_of};
 
@@ -226,36 +226,60 @@ fn length_before(written: &Outputs, output: &Path, appends: bool) -> usize
     }
 }
 
-/// Carries out one line: it changes the outputs, or ends the run.
-pub(crate) fn carry_out<F: Files>(
-    alloc: Global,
-    written: &mut Outputs,
-    reads: &mut IndexSet<Path>,
-    files: &mut F,
-    targets: &[Path],
-    line: &Line,
-) -> Result<(), Halt>
-    ensures stays { Stays F.stands F.broken F.follows files.old files.new }
-    ensures went { Went (texts (F.stands files.old)) reads.old.keys (after_line targets.now (own_of written.old) line.now) (λ _. own_of written.new) result reads.new.keys (F.broken files.old) (F.broken files.new) }
-{
-    let Line::Makes {
-        work,
-        appends,
-        output: path,
-    } = line
-    else {
-        return Ok(());
-    };
-    if !targets.contains(path) {
-        return Err(Halt::Fault(ScriptFault::StrayWrite(path.copy(alloc)?)));
+/// What a run has written and asked for so far.
+#[derive(Drop)]
+pub(crate) struct Progress {
+    pub(crate) written: Outputs,
+    pub(crate) reads: IndexSet<Path>,
+}
+
+impl Progress {
+    /// Carries out the work of a line whose output is this target.
+    fn write<F: Files>(
+        &mut self,
+        alloc: Global,
+        files: &mut F,
+        work: &Work,
+        appends: bool,
+        path: &Path,
+    ) -> Result<(), Halt>
+        ensures stays { Stays F.stands F.broken F.follows files.old files.new }
+        ensures went { Went (texts (F.stands files.old)) self.old.reads.keys (write_output (own_of self.old.written) work.now appends path.now) (λ _. own_of self.new.written) result self.new.reads.keys (F.broken files.old) (F.broken files.new) }
+    {
+        let output = Output {
+            path,
+            before: length_before(&self.written, path, appends),
+        };
+        let fresh = make(alloc, &self.written, &mut self.reads, files, output, work)?;
+        store(alloc, &mut self.written, path, appends, fresh)?;
+        Ok(())
     }
-    let output = Output {
-        path,
-        before: length_before(written, path, *appends),
-    };
-    let fresh = make(alloc, written, reads, files, output, work)?;
-    store(alloc, written, path, *appends, fresh)?;
-    Ok(())
+
+    /// Carries out one line: it changes the outputs, or ends the run.
+    pub(crate) fn carry_out<F: Files>(
+        &mut self,
+        alloc: Global,
+        files: &mut F,
+        targets: &[Path],
+        line: &Line,
+    ) -> Result<(), Halt>
+        ensures stays { Stays F.stands F.broken F.follows files.old files.new }
+        ensures went { Went (texts (F.stands files.old)) self.old.reads.keys (after_line targets.now (own_of self.old.written) line.now) (λ _. own_of self.new.written) result self.new.reads.keys (F.broken files.old) (F.broken files.new) }
+    {
+        match line {
+            Line::Empty => Ok(()),
+            Line::Makes {
+                work,
+                appends,
+                output,
+            } => {
+                if !targets.contains(output) {
+                    return Err(Halt::Fault(ScriptFault::StrayWrite(output.copy(alloc)?)));
+                }
+                self.write(alloc, files, work, *appends, output)
+            }
+        }
+    }
 }
 
 /// The output of each target, or the fault of the first that was not written.
