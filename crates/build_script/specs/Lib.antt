@@ -1,5 +1,6 @@
 pub mod Answers
 pub mod Ended
+pub mod Frame
 pub mod Lines
 pub mod Parts
 pub mod Run

@@ -12,6 +12,7 @@
 
 pub mod files;
 mod halts;
+pub mod frame;
 pub mod lines;
 mod parts;
 pub mod outcomes;
