@@ -1,6 +1,6 @@
 -- The lines of a makefile, and what each of them is by itself.
-use Rattle.std.specs.Prelude.{ℕ, Bool, true, false, ◌&&◌, ◌||◌, ◌==◌, not, nat_lt, Option, Some, None, List, [], ◌∷◌, length, filter, slice_get, codes}
-use Rattle.std.specs.List.{list_any, list_all, slice_split}
+use Rattle.std.specs.Prelude.{ℕ, Bool, true, false, ◌-◌, ◌||◌, ◌==◌, not, Option, Some, None, List, [], ◌∷◌, length, filter, find, slice_get, codes}
+use Rattle.std.specs.List.{list_all, slice_split}
 use Rattle.std.specs.Str.{bytes_eq}
 
 -- a space or a tab
@@ -37,14 +37,11 @@ is_blank_line line = list_all is_blank line
 
 -- a `#` past the first blanks
 abbrev pub is_comment : List ℕ → Bool
-is_comment [] = false
-is_comment (b ∷ bs) = (is_blank b && is_comment bs) || (b == 35)
+is_comment line = is_byte 35 (find (λ b. not (is_blank b)) line)
 
 -- a backslash at the end joins a line to the next
 abbrev pub is_joined : List ℕ → Bool
-is_joined [] = false
-is_joined (b ∷ []) = b == 92
-is_joined (b ∷ c ∷ more) = is_joined (c ∷ more)
+is_joined line = is_byte 92 (slice_get line (length line - 1))
 
 -- a `$` begins a macro
 abbrev pub is_dollar : ℕ → Bool

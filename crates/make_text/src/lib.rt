@@ -10,3 +10,4 @@
 #![tactic(auto)]
 
 pub mod rules;
+mod words;
