@@ -2,9 +2,9 @@
 -- comment, joined line or included file. Any other line is not built yet.
 use Rattle.std.specs.Prelude.{◌≡◌, ℕ, ◌+◌, Bool, true, false, ◌&&◌, ◌||◌, ◌==◌, not, nat_lt, Option, Some, None, Result, Ok, Err, List, [], ◌∷◌, ◌++◌, length, drop, fold, count_by, slice_get, if◌then◌else◌}
 use Rattle.std.specs.List.{list_any, list_all, before_first, after_first}
+use Rattle.std.specs.Result.{result_ok}
 use Rattle.std.specs.Str.{bytes_eq}
 use Rattle.cc_names.specs.Paths.{path_of, is_root}
-use Rattle.cc_names.specs.declared.names.NameFault.{NameFault}
 use Rattle.cc_names.specs.declared.refusals.MakeCause.TheVariants.{NotBuilt}
 use Rattle.cc_names.specs.declared.refusals.MakeError.{MakeError}
 use Rattle.make_text.specs.Lines.{is_blank, is_byte, lines_of, is_script_line, is_blank_line, is_comment, is_joined, is_dollar, words, begins_with_include}
@@ -29,21 +29,32 @@ is_colon b = b == 58
 abbrev pub is_mark : ℕ → Bool
 is_mark b = (b == 35) || (b == 61) || (b == 59)
 
--- whether a line may be a rule by its bytes: one `:`, no other mark, not too long, and no `include`
-abbrev pub may_be_rule : List ℕ → Bool
-may_be_rule line =
-    (count_by is_colon line == 1) && not (list_any is_mark line) && not (nat_lt rule_limit (length line))
-    && not (begins_with_include (words line))
+-- whether the bytes of a line may be those of a rule: one `:`, no other mark, and not too many of them
+abbrev pub has_rule_bytes : List ℕ → Bool
+has_rule_bytes line = not (nat_lt rule_limit (length line)) && ((count_by is_colon line == 1) && not (list_any is_mark line))
 
--- a path below the root before paths, where all of them are so
-abbrev pub path_before : Result (List ℕ) NameFault → Option (List (List ℕ)) → Option (List (List ℕ))
-path_before (Ok path) (Some paths) = if is_root path then None else Some (path ∷ paths)
+-- whether a line may be a rule: by its bytes, and it is no `include`
+abbrev pub may_be_rule : List ℕ → Bool
+may_be_rule line = has_rule_bytes line && not (begins_with_include (words line))
+
+-- a path that is not the root
+abbrev pub unless_root : Option (List ℕ) → Option (List ℕ)
+unless_root None = None
+unless_root (Some path) = if is_root path then None else Some path
+
+-- a word as a path below the root, where it is one
+abbrev pub path_in : List ℕ → Option (List ℕ)
+path_in word = unless_root (result_ok (path_of word))
+
+-- a path before paths, where all of them are there
+abbrev pub path_before : Option (List ℕ) → Option (List (List ℕ)) → Option (List (List ℕ))
+path_before (Some path) (Some paths) = Some (path ∷ paths)
 path_before _ _ = None
 
--- words that are all paths below the root
+-- words as paths below the root, where all of them are so
 abbrev pub paths_of : List (List ℕ) → Option (List (List ℕ))
 paths_of [] = Some []
-paths_of (word ∷ words) = path_before (path_of word) (paths_of words)
+paths_of (word ∷ words) = path_before (path_in word) (paths_of words)
 
 -- a path behind paths, unless it stands there
 abbrev pub with_path : List (List ℕ) → List ℕ → List (List ℕ)
@@ -57,11 +68,16 @@ each_once paths = fold with_path [] paths
 abbrev pub begins_with_period : List ℕ → Bool
 begins_with_period path = is_byte 46 (slice_get path 0)
 
--- a rule of one target, which is not its own prerequisite and does not begin with a period; its script comes later
+-- whether a path may be a target of a plain makefile: it does not begin with a period and is not its own prerequisite
+abbrev pub may_be_target : List ℕ → List (List ℕ) → Bool
+may_be_target target prerequisites = not (begins_with_period target) && not (list_any (λ path. bytes_eq path target) prerequisites)
+
+-- a rule of one target; its script comes later
 abbrev pub rule_from : Option (List (List ℕ)) → Option (List (List ℕ)) → Option MakeRule
 rule_from (Some (target ∷ [])) (Some prerequisites) =
-    if begins_with_period target || list_any (bytes_eq target) prerequisites then None
-    else Some (record { targets = target ∷ []; prerequisites = each_once prerequisites; script = None })
+    if may_be_target target prerequisites
+    then Some (record { targets = target ∷ []; prerequisites = each_once prerequisites; script = None })
+    else None
 rule_from _ _ = None
 
 -- a rule line: a target, `:` and prerequisites
@@ -73,7 +89,7 @@ rule_of line =
 
 -- what no line of a plain makefile has: a number past the limit, a macro, or a line joined to it
 abbrev pub is_beyond : ℕ → List ℕ → Bool
-is_beyond n line = nat_lt line_limit n || list_any is_dollar line || is_joined line
+is_beyond n line = nat_lt line_limit n || (list_any is_dollar line || is_joined line)
 
 -- whether the lines below a rule begin with a script: blank lines and comments aside, a line behind a tab that has more
 -- than blanks
