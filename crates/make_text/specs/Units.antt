@@ -13,6 +13,8 @@ use Rattle.cc_names.specs.declared.units.Unit.{Unit}
 use Rattle.cc_names.specs.declared.units.UnitScript.{UnitScript}
 use Rattle.cc_names.specs.declared.units.UnitScript.TheVariants.{Bare, TooLong, Lines}
 use Rattle.make_text.specs.Makefiles.{Contents, begins_with_period, makefile_of}
+use Rattle.make_text.specs.declared.makefiles.Expanded.{Expanded}
+use Rattle.make_text.specs.declared.makefiles.Expanded.TheVariants as expansions
 use Rattle.make_text.specs.declared.rules.MakeRule.{MakeRule}
 
 -- the text of the file at each path, if there is one
@@ -23,10 +25,19 @@ Files = List ℕ → Option (List ℕ)
 abbrev pub script_limit : ℕ
 script_limit = 65536
 
--- the script of a unit: its macros expanded, of which a plain makefile has none
+-- a script with its macros expanded, of which a plain makefile has none
+abbrev pub expansion : List ℕ → Expanded
+expansion script = if nat_lt script_limit (length script) then expansions.TooLong else expansions.Lines script
+
+-- an expanded script as that of a unit
+abbrev pub script_of_unit : Expanded → UnitScript
+script_of_unit expansions.TooLong = TooLong
+script_of_unit (expansions.Lines script) = Lines script
+
+-- the script of a unit
 abbrev pub expanded : Option (List ℕ) → UnitScript
 expanded None = Bare
-expanded (Some script) = if nat_lt script_limit (length script) then TooLong else Lines script
+expanded (Some script) = script_of_unit (expansion script)
 
 -- the unit that a rule makes
 abbrev pub unit_of : MakeRule → Unit

@@ -9,5 +9,6 @@
 // What it stands on: `cc_names` for paths, texts, units and causes.
 #![tactic(auto)]
 
+pub mod makefiles;
 pub mod rules;
 mod words;

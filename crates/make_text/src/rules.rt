@@ -14,7 +14,7 @@ use indexmap::IndexSet;
 use std::alloc::{AllocError, Global};
 
 /// The most lines of a makefile.
-const LINE_LIMIT: u64 = 100_000;
+const LINE_LIMIT: u32 = 100_000;
 
 /// The most bytes of a rule line.
 const RULE_LIMIT: usize = 65_536;
@@ -59,7 +59,7 @@ fn has_one_colon(line: &[u8]) -> bool
 }
 
 /// Whether a line has what no line of a plain makefile has: a number past the limit, a macro, or a line joined to it.
-pub(crate) fn is_beyond(number: u64, line: &[u8]) -> bool
+pub(crate) fn is_beyond(number: u32, line: &[u8]) -> bool
     ensures { result ≡ is_beyond number line.now }
 {
     if number > LINE_LIMIT {
