@@ -3,9 +3,9 @@ use Rattle.std.proofs.Common.{◌≡◌, ℕ, Bool, true, false, List, [], ◌�
 use Rattle.std.specs.List.{AllByRecursion, list_any}
 use Rattle.std.specs.Str.{bytes_eq}
 use Rattle.std.proofs.lemmas.Slice.Eq.{bytes_eq-Decides}
-use Rattle.build_script.specs.Run.{Files, Asking, Done, Asks, traced, noted, carried_out, run_of, run}
+use Rattle.build_script.specs.Run.{Files, Asking, Done, Asks, traced, noted, run_of}
 use Rattle.build_script.specs.Lines.{script_of}
-use Rattle.build_script.specs.Frame.{Agree, IsFramed}
+use Rattle.build_script.specs.Frame.{IsFramed}
 
 -- what holds of each path but the last, and of the last
 front : (P : List ℕ → Type 0) (paths : List (List ℕ)) (last : List ℕ) → AllByRecursion P (paths ++ last ∷ []) → AllByRecursion P paths × P last
@@ -17,16 +17,18 @@ among : (P : List ℕ → Type 0) (paths : List (List ℕ)) (path : List ℕ) �
 among P [] path found h = cc
 among P (first ∷ paths) path found h =
     let P-at : (b : Bool) → bytes_eq path first ≡ b → P path = elim [
-      true ↦ λ same. subst P (sym ((bytes_eq-Decides path first).0 same)) h.0
-      | false ↦ λ other. among P paths path (rw other at found) h.1 ] in
+      | true ↦ λ same. subst P (sym ((bytes_eq-Decides path first).0 same)) h.0
+      | false ↦ λ other. among P paths path (rw other at found) h.1
+    ] in
     P-at (bytes_eq path first) refl
 
 -- what holds of each path once one is noted holds of those before and of that one
 pub before_noted : (P : List ℕ → Type 0) (paths : List (List ℕ)) (path : List ℕ) → AllByRecursion P (noted paths path) → AllByRecursion P paths × P path
 before_noted P paths path =
     let by : (b : Bool) → list_any (bytes_eq path) paths ≡ b → AllByRecursion P (if b then paths else paths ++ path ∷ []) → AllByRecursion P paths × P path = elim [
-      true ↦ λ found h. (h, among P paths path found h)
-      | false ↦ λ fresh h. front P paths path h ] in
+      | true ↦ λ found h. (h, among P paths path found h)
+      | false ↦ λ fresh h. front P paths path h
+    ] in
     by (list_any (bytes_eq path) paths) refl
 
 -- the reads before are among those after
@@ -45,5 +47,5 @@ traced_same one other reads (Asks path next) h =
 
 pub run_framed : (script : List ℕ) (targets : List (List ℕ)) → IsFramed script targets
 run_framed script targets = record {
-  equal = λ one other agree. ap (λ t. record { result = t.value; reads = t.reads }) (traced_same one other [] (run_of targets (script_of script)) agree.at)
+  equal = λ one other agree. ap (λ t. record { result = t.value; reads = t.reads }) (traced_same one other [] (run_of targets (script_of script)) agree.at);
 }

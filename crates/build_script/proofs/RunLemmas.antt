@@ -1,9 +1,9 @@
 -- How a run goes on, part by part.
-use Rattle.std.proofs.Common.{◌≡◌, ℕ, List, [], ◌∷◌, ◌++◌, Bool, true, false, Option, Some, None, Result, Ok, Err, refl, ap, sym, ◌∙◌, ◌+◌, ◌<◌, ◌≤◌, ◌⊎◌, inl, inr, suc, length, drop, get_or, add-one, drop-cons, arith}
+use Rattle.std.proofs.Common.{◌≡◌, ℕ, List, [], ◌∷◌, ◌++◌, Bool, Result, Ok, Err, refl, ap, sym, ◌∙◌, ◌+◌, ◌<◌, ◌≤◌, inl, inr, suc, length, drop, get_or, add-one, drop-cons, arith}
 use Rattle.std.specs.List.{flat_map, join_with_byte}
 use Rattle.std.proofs.lemmas.List.{append-nil}
 use Rattle.cc_names.specs.declared.refusals.ScriptFault.{ScriptFault}
-use Rattle.build_script.specs.Run.{Files, Asking, Done, Asks, traced, noted, and_then, unless_fault, begun, parts_of, with_parts, wrote, write_output, after_line, after_lines, run_from, outputs_of}
+use Rattle.build_script.specs.Run.{Files, Asking, Done, Asks, traced, noted, and_then, begun, parts_of, with_parts, wrote, write_output, after_line, after_lines, run_from, outputs_of}
 use Rattle.build_script.specs.declared.lines.Line.{Line}
 use Rattle.build_script.specs.Parts.{Halted, Gave, Went}
 use Rattle.build_script.specs.Standings.{Rose}

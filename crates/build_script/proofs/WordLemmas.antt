@@ -1,5 +1,5 @@
 -- How a line falls into runs and words, run by run.
-use Rattle.std.proofs.Common.{◌≡◌, ℕ, suc, zero, ◌+◌, ◌-◌, ◌<◌, ◌≤◌, min, Bool, true, false, List, [], ◌∷◌, ◌++◌, length, map, take, drop, refl, ap, sym, if◌then◌else◌, ◌∙◌, subst, arith, append_assoc, add-one, get_or, Bor}
+use Rattle.std.proofs.Common.{◌≡◌, ℕ, suc, ◌+◌, ◌-◌, ◌<◌, min, true, false, List, [], ◌∷◌, ◌++◌, length, map, refl, ap, if◌then◌else◌, subst, arith, append_assoc, Bor}
 use Rattle.std.specs.List.{flat_map, IsChunkByPrefix}
 use Rattle.std.proofs.lemmas.List.{map-append}
 use Rattle.build_script.specs.Words.{is_alike, before_runs, runs, arrows, words, words_of_run}
@@ -25,7 +25,7 @@ headed_before b [] = record { run = []; others = []; is = refl }
 headed_before b ([] ∷ others) = record { run = []; others = others; is = refl }
 headed_before b ((c ∷ run) ∷ others) =
     elim (is_alike b c) as (λ v. Headed b (if v then (b ∷ c ∷ run) ∷ others else (b ∷ []) ∷ (c ∷ run) ∷ others))
-      [ true ↦ record { run = c ∷ run; others = others; is = refl } | false ↦ record { run = []; others = (c ∷ run) ∷ others; is = refl } ]
+    [ true ↦ record { run = c ∷ run; others = others; is = refl } | false ↦ record { run = []; others = (c ∷ run) ∷ others; is = refl } ]
 
 alone : (b : ℕ) (rest : List ℕ) → Ends b rest → runs (b ∷ rest) ≡ (b ∷ []) ∷ runs rest
 alone b [] ends = refl
@@ -41,14 +41,16 @@ runs_of b (c ∷ run) rest is = rw (runs_of c run rest is.1) (rw is.0 refl)
 run_from_prefix : (b : ℕ) (run rest : List ℕ) → IsChunkByPrefix is_alike ((b ∷ run) ++ rest) (suc (length run)) → IsRun (b ∷ run) rest
 run_from_prefix b [] [] h = tt
 run_from_prefix b [] (c ∷ rest) h = h.1 (omega arith) 0
-run_from_prefix b (c ∷ run) rest h =
-    (h.0 0 0 (omega arith),
-     run_from_prefix c run rest
-       ((λ k d k_low. let low : suc k + 1 < suc (suc (length run)) = omega arith in let next : suc k + 1 ≡ suc (k + 1) = omega arith in rw next at (h.0 (suc k) d low)),
-        (λ low d. let low' : suc (suc (length run)) < suc (suc (length (run ++ rest))) = omega arith in
-          let last : suc (length run) - 1 ≡ length run = omega arith in
-          let before : suc (suc (length run)) - 1 ≡ suc (length run) = omega arith in
-          rw last (rw before at (h.1 low' d)))))
+run_from_prefix b (c ∷ run) rest h = (
+  h.0 0 0 (omega arith),
+  run_from_prefix c run rest (
+    (λ k d k_low. let low : suc k + 1 < suc (suc (length run)) = omega arith in let next : suc k + 1 ≡ suc (k + 1) = omega arith in rw next at (h.0 (suc k) d low)),
+    (λ low d. let low' : suc (suc (length run)) < suc (suc (length (run ++ rest))) = omega arith in
+        let last : suc (length run) - 1 ≡ length run = omega arith in
+        let before : suc (suc (length run)) - 1 ≡ suc (length run) = omega arith in
+        rw last (rw before at (h.1 low' d))),
+  ),
+)
 
 -- the run that `chunk_by` gives is the first, and the runs of what is left follow
 pub runs_cut : (line run rest : List ℕ) → line ≡ run ++ rest → 0 < length run → IsChunkByPrefix is_alike line (length run) → runs line ≡ run ∷ runs rest

@@ -1,9 +1,9 @@
 -- What the parts of the code that carry out a run come to.
-use Rattle.std.specs.Prelude.{◌≡◌, ℕ, ◌+◌, Bool, Option, Some, None, Result, Ok, Err, List, Vec, length, nat_lt, option_map}
+use Rattle.std.specs.Prelude.{◌≡◌, ℕ, Result, Ok, Err, List, Vec, option_map}
 use Rattle.std.specs.Str.{bytes_eq}
 use Rattle.std.specs.HashMap.{HashMap, get}
 use Rattle.cc_names.specs.declared.refusals.ScriptFault.{ScriptFault}
-use Rattle.build_script.specs.Run.{Files, Asking, Traced, traced, output_limit}
+use Rattle.build_script.specs.Run.{Files, Asking, traced}
 use Rattle.build_script.specs.Standings.{Rose}
 use Rattle.build_script.specs.declared.files.Stop.{Stop}
 use Rattle.build_script.specs.declared.files.Stop.TheVariants.{Broken}

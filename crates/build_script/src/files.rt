@@ -11,10 +11,7 @@ use cc_names::texts::Text;
 #[derive(Debug, Drop)]
 pub enum Got {
     /// A text stands there, made by this row.
-    Found {
-        row: u64,
-        text: Text,
-    },
+    Found { row: u64, text: Text },
     /// Nothing stands there.
     Absent,
     /// It cannot be told any more.

@@ -8,5 +8,4 @@ ghost use Rattle.build_script.specs.Frame.{IsFramed};
 #[tactic(auto, using(crate::proofs::FrameLemmas::run_framed))]
 pub fn runs_are_framed()
     ensures { (script : List ℕ) (targets : List (List ℕ)) → IsFramed script targets }
-{
-}
+{}

@@ -7,15 +7,17 @@
 // it; a run gives the outputs or the first fault that the definition of a run gives, and lists each path that it asked
 // the files for, once, in the order of first asking. A run depends on the files at those paths alone.
 //
-// What it stands on: `cc_names` for paths, texts and faults.
+// What it stands on: `cc_names` for paths, texts and faults; `indexmap` for reads in the order of first asking.
 #![tactic(auto)]
 
 pub mod files;
-mod halts;
 pub mod frame;
+mod halts;
 pub mod lines;
-mod parts;
 pub mod outcomes;
+mod parts;
 pub mod run;
 pub mod scripts;
+#[cfg(test)]
+mod tests;
 mod words;

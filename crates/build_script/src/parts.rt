@@ -68,16 +68,9 @@ fn is_too_big(before: usize, fresh: usize, more: usize) -> bool
 }
 
 /// More bytes behind what the line wrote so far, within the limit.
-fn lengthen(
-    alloc: Global,
-    output: Output<'_>,
-    fresh: &mut Vec<u8>,
-    more: &[u8],
-) -> Result<(), Halt>
-    ensures {
-        (bytes : List ℕ) → length bytes ≡ output.entry.before →
-        Gave (lengthened output.entry.path.now (bytes ++ fresh.old.items) more.now) (λ _. bytes ++ fresh.new.items) result
-    }
+fn lengthen(alloc: Global, output: Output<'_>, fresh: &mut Vec<u8>, more: &[u8]) -> Result<(), Halt>
+    ensures { (bytes : List ℕ) → length bytes ≡ output.entry.before →
+        Gave (lengthened output.entry.path.now (bytes ++ fresh.old.items) more.now) (λ _. bytes ++ fresh.new.items) result }
 {
     if is_too_big(output.before, fresh.len(), more.len()) {
         let path = output.path.copy(alloc)?;
@@ -98,10 +91,8 @@ fn pour<F: Files>(
     path: &Path,
 ) -> Result<(), Halt>
     ensures stays { Stays F.stands F.broken F.follows files.old files.new }
-    ensures went {
-        (bytes : List ℕ) → length bytes ≡ output.entry.before →
-        Went (texts (F.stands files.old)) reads.old.keys (with_part (own_of written.now) output.entry.path.now (bytes ++ fresh.old.items) (TextOf path.now)) (λ _. bytes ++ fresh.new.items) result reads.new.keys (F.broken files.old) (F.broken files.new)
-    }
+    ensures went { (bytes : List ℕ) → length bytes ≡ output.entry.before →
+        Went (texts (F.stands files.old)) reads.old.keys (with_part (own_of written.now) output.entry.path.now (bytes ++ fresh.old.items) (TextOf path.now)) (λ _. bytes ++ fresh.new.items) result reads.new.keys (F.broken files.old) (F.broken files.new) }
 {
     if let Some(own) = written.get(path) {
         return lengthen(alloc, output, fresh, own.as_slice());
@@ -122,10 +113,8 @@ fn cat<F: Files>(
     paths: &[Path],
 ) -> Result<Vec<u8>, Halt>
     ensures stays { Stays F.stands F.broken F.follows files.old files.new }
-    ensures went {
-        (bytes : List ℕ) → length bytes ≡ output.entry.before →
-        Went (texts (F.stands files.old)) reads.old.keys (with_parts (own_of written.now) output.entry.path.now (map TextOf paths.now) bytes) (λ fresh. bytes ++ fresh.items) result reads.new.keys (F.broken files.old) (F.broken files.new)
-    }
+    ensures went { (bytes : List ℕ) → length bytes ≡ output.entry.before →
+        Went (texts (F.stands files.old)) reads.old.keys (with_parts (own_of written.now) output.entry.path.now (map TextOf paths.now) bytes) (λ fresh. bytes ++ fresh.items) result reads.new.keys (F.broken files.old) (F.broken files.new) }
 {
     let mut fresh = Vec::new(alloc);
     for path in paths {
@@ -160,10 +149,8 @@ fn joined(alloc: Global, words: &[Text]) -> Result<Vec<u8>, NoMemory>
 
 /// The words behind what the output has.
 fn echo(alloc: Global, output: Output<'_>, words: &[Text]) -> Result<Vec<u8>, Halt>
-    ensures {
-        (bytes : List ℕ) → length bytes ≡ output.entry.before →
-        Gave (lengthened output.entry.path.now bytes (join_with_byte 32 words.now ++ 10 ∷ [])) (λ fresh. bytes ++ fresh.items) result
-    }
+    ensures { (bytes : List ℕ) → length bytes ≡ output.entry.before →
+        Gave (lengthened output.entry.path.now bytes (join_with_byte 32 words.now ++ 10 ∷ [])) (λ fresh. bytes ++ fresh.items) result }
 {
     let bytes = joined(alloc, words)?;
     if is_too_big(output.before, 0, bytes.len()) {
@@ -183,10 +170,8 @@ fn make<F: Files>(
     work: &Work,
 ) -> Result<Vec<u8>, Halt>
     ensures stays { Stays F.stands F.broken F.follows files.old files.new }
-    ensures went {
-        (bytes : List ℕ) → length bytes ≡ output.entry.before →
-        Went (texts (F.stands files.old)) reads.old.keys (with_parts (own_of written.now) output.entry.path.now (parts_of work.now) bytes) (λ fresh. bytes ++ fresh.items) result reads.new.keys (F.broken files.old) (F.broken files.new)
-    }
+    ensures went { (bytes : List ℕ) → length bytes ≡ output.entry.before →
+        Went (texts (F.stands files.old)) reads.old.keys (with_parts (own_of written.now) output.entry.path.now (parts_of work.now) bytes) (λ fresh. bytes ++ fresh.items) result reads.new.keys (F.broken files.old) (F.broken files.new) }
 {
     match work {
         Work::Echo(words) => echo(alloc, output, words.as_slice()),

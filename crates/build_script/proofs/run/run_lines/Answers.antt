@@ -1,10 +1,9 @@
-use Rattle.std.proofs.Common.{◌≡◌, ◌∷◌, ◌+◌, drop, sym, ap, subst, ◌∙◌, rules, List, ℕ, Option}
+use Rattle.std.proofs.Common.{◌+◌, drop, ◌∙◌, rules}
 use Rattle.std.proofs.lemmas.Result.{err_from_is_err_and}
 use Rattle.build_script.proofs.RunLemmas.{lines_at, lines_behind, lines_failed, halted_from, halted_along}
-use Rattle.build_script.specs.Parts.{own_of, Halted}
-use Rattle.build_script.specs.Run.{traced, after_line, after_lines}
+use Rattle.build_script.specs.Parts.{own_of}
+use Rattle.build_script.specs.Run.{after_lines}
 use Rattle.build_script.specs.Standings.{texts}
-use Rattle.build_script.specs.declared.lines.Line.{Line}
 use Rattle.build_script.proofs.run.run_lines.Goals as goal
 
 pub returns-in_err-carry_out-clause-went : goal.returns-in_err-carry_out-clause-went
@@ -19,9 +18,9 @@ returns-in_err-carry_out-clause-went g c =
     let new = g.F.Files.broken c.carry_out.new.files in
     let rest = lines_failed files c.loop-line.progress.reads.keys c.carry_out.new.self.reads.keys c.args.targets.now (own_of c.loop-line.progress.written) c.line-item.result behind halt old new failed in
     rw (p.1, p.2) (halted_from files c.args.progress.now.reads.keys c.carry_out.new.self.reads.keys (after_lines c.args.targets.now c.args.lines.now (own_of c.args.progress.now.written)) halt
-      (g.F.Files.broken c.args.files.now) old new c.loop-line.invariant.stays.count
-      (halted_along files c.args.progress.now.reads.keys c.loop-line.progress.reads.keys c.carry_out.new.self.reads.keys (after_lines c.args.targets.now c.args.lines.now (own_of c.args.progress.now.written))
-        (after_lines c.args.targets.now (drop c.loop-line.line-index c.args.lines.now) (own_of c.loop-line.progress.written)) halt old new c.loop-line.invariant.went (rw cut rest)))
+    (g.F.Files.broken c.args.files.now) old new c.loop-line.invariant.stays.count
+    (halted_along files c.args.progress.now.reads.keys c.loop-line.progress.reads.keys c.carry_out.new.self.reads.keys (after_lines c.args.targets.now c.args.lines.now (own_of c.args.progress.now.written))
+    (after_lines c.args.targets.now (drop c.loop-line.line-index c.args.lines.now) (own_of c.loop-line.progress.written)) halt old new c.loop-line.invariant.went (rw cut rest)))
 
 pub loop-line-preserved : goal.loop-line-preserved
 loop-line-preserved g c =
@@ -30,5 +29,5 @@ loop-line-preserved g c =
     record {
       stays = search rules;
       went = c.loop-line.invariant.went ∙ rw cut (lines_behind (texts (g.F.Files.stands c.args.files.now)) c.loop-line.progress.reads.keys c.carry_out.new.self.reads.keys c.args.targets.now
-        (own_of c.loop-line.progress.written) (own_of c.carry_out.new.self.written) c.line-item.result (drop (c.loop-line.line-index + 1) c.args.lines.now) passed);
+          (own_of c.loop-line.progress.written) (own_of c.carry_out.new.self.written) c.line-item.result (drop (c.loop-line.line-index + 1) c.args.lines.now) passed);
     }

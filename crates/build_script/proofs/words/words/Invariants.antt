@@ -1,6 +1,5 @@
 use Rattle.std.proofs.Common.{◌≡◌, ◌++◌, map}
-use Rattle.std.specs.List.{flat_map}
-use Rattle.build_script.specs.Words.{runs, words, words_of_run}
+use Rattle.build_script.specs.Words.{words}
 use Rattle.build_script.proofs.words.words.Given as goal
 
 abbrev pub invariant-loop-run : goal.invariant-loop-run
