@@ -1,4 +1,4 @@
-mod Cuts
+pub mod Cuts
 mod FirstFaults
 mod FormedRows
 mod Joins

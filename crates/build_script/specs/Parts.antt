@@ -1,0 +1,38 @@
+-- What the parts of the code that carry out a run come to.
+use Rattle.std.specs.Prelude.{◌≡◌, ℕ, Result, Ok, Err, List, Vec, option_map}
+use Rattle.std.specs.Str.{bytes_eq}
+use Rattle.std.specs.HashMap.{HashMap, get}
+use Rattle.cc_names.specs.declared.refusals.ScriptFault.{ScriptFault}
+use Rattle.build_script.specs.Run.{Files, Asking, traced}
+use Rattle.build_script.specs.Standings.{Rose}
+use Rattle.build_script.specs.declared.files.Stop.{Stop}
+use Rattle.build_script.specs.declared.files.Stop.TheVariants.{Broken}
+use Rattle.build_script.specs.declared.halts.Halt.{Halt}
+use Rattle.build_script.specs.declared.halts.Halt.TheVariants as halts
+
+-- a stop comes only where the count of broken answers rose
+abbrev pub IsStop : Stop → ℕ → ℕ → Type 0
+IsStop Broken old new = Rose old new
+
+-- A part of a run, from these reads on, that ended early: by a fault of the script, and the fault and the reads by then
+-- are what it traces; or given up.
+abbrev pub Halted : {A : Type 0} → Files → List (List ℕ) → Asking (Result A ScriptFault) → Halt → List (List ℕ) → ℕ → ℕ → Type 0
+Halted files before asking (halts.Fault fault) after old new = traced files before asking ≡ record { value = Err fault; reads = after }
+Halted files before asking (halts.Stop stop) after old new = IsStop stop old new
+Halted files before asking halts.NoMemory after old new = Unit {0}
+
+-- A part of a run that ended early, or came to what it traces, as it is shown.
+abbrev pub Went : {X A : Type 0} → Files → List (List ℕ) → Asking (Result A ScriptFault) → (X → A) → Result X Halt → List (List ℕ) → ℕ → ℕ → Type 0
+Went files before asking shown (Ok x) after old new = traced files before asking ≡ record { value = Ok (shown x); reads = after }
+Went files before asking shown (Err halt) after old new = Halted files before asking halt after old new
+
+-- the same where nothing is asked for
+abbrev pub Gave : {X A : Type 0} → Result A ScriptFault → (X → A) → Result X Halt → Type 0
+Gave value shown (Ok x) = value ≡ Ok (shown x)
+Gave value shown (Err (halts.Fault fault)) = value ≡ Err fault
+Gave value shown (Err (halts.Stop stop)) = ⊥
+Gave value shown (Err halts.NoMemory) = Unit {0}
+
+-- what a table of the outputs that a run has written says of a path
+abbrev pub own_of : {Y S : Type 0} → HashMap (List ℕ) (Vec ℕ Y) S → Files
+own_of written path = option_map (λ bytes. bytes.items) (get bytes_eq written path)

@@ -1,0 +1,48 @@
+// The files that a run reads.
+
+ghost use Rattle.std.specs.Prelude.{◌≡◌, ℕ, Option, List};
+ghost use Rattle.build_script.specs.Standings.{Standing, Stays};
+ghost use Rattle.build_script.specs.Answers.{IsAnswer};
+
+use cc_names::paths::Path;
+use cc_names::texts::Text;
+
+/// What the files answer for a path.
+#[derive(Debug, Drop)]
+pub enum Got {
+    /// A text stands there, made by this row.
+    Found { row: u64, text: Text },
+    /// Nothing stands there.
+    Absent,
+    /// It cannot be told any more.
+    Broken,
+    NoMemory,
+}
+
+/// Why a run was given up.
+#[derive(Clone, Copy, Debug, PartialEq, Eq)]
+pub enum Stop {
+    /// The files answered `Broken`.
+    Broken,
+}
+
+/// The files that a run may read: for each path a row and its text, or nothing. No call changes that.
+pub trait Files {
+    /// What stands at a path.
+    ghost stands: { Self → List ℕ → Option Standing };
+
+    /// How many answers were `Broken`.
+    ghost broken: { Self → ℕ };
+
+    /// What one call after the other keeps.
+    ghost follows: { Self → Self → Type 0 };
+
+    /// What stands at the path. `Broken` comes only where the count of such answers rose.
+    fn read(&mut self, path: &Path) -> Got
+        ensures stays { Stays stands broken follows self.old self.new }
+        ensures answer { IsAnswer result (stands self.old path.now) (broken self.old) (broken self.new) };
+
+    ghost reflexive: { (files : Self) → follows files files };
+
+    ghost transitive: { (one two three : Self) → follows one two → follows two three → follows one three };
+}

@@ -1,0 +1,87 @@
+// A run of a script.
+
+ghost use Rattle.std.specs.Prelude.{◌≡◌, ℕ, List, IfOk, IfErr};
+ghost use Rattle.build_script.specs.Run.{after_lines, run_from, run_of_lines, carried_out};
+ghost use Rattle.build_script.specs.Standings.{Stays, texts};
+ghost use Rattle.build_script.specs.Parts.{Went, own_of};
+ghost use Rattle.build_script.specs.Ended.{ran_of, IsGivenUp};
+
+use crate::files::{Files, Stop};
+use crate::halts::Halt;
+use crate::lines::Line;
+use crate::outcomes::{Ended, Outcome};
+use crate::parts::{Outputs, Progress, outputs};
+use crate::scripts::Script;
+use cc_names::lists::List;
+use cc_names::memory::Or;
+use cc_names::paths::Path;
+use cc_names::texts::Text;
+use indexmap::IndexSet;
+use std::alloc::{AllocError, Global};
+
+/// Carries out lines one after the other, up to the first fault.
+fn run_lines<F: Files>(
+    alloc: Global,
+    progress: &mut Progress,
+    files: &mut F,
+    targets: &[Path],
+    lines: &[Line],
+) -> Result<(), Halt>
+    ensures stays { Stays F.stands F.broken F.follows files.old files.new }
+    ensures went { Went (texts (F.stands files.old)) progress.old.reads.keys (after_lines targets.now lines.now (own_of progress.old.written)) (λ _. own_of progress.new.written) result progress.new.reads.keys (F.broken files.old) (F.broken files.new) }
+{
+    for line in lines {
+        progress.carry_out(alloc, files, targets, line)?;
+    }
+    Ok(())
+}
+
+/// Carries out lines, and takes the outputs.
+fn run_whole<F: Files>(
+    alloc: Global,
+    progress: &mut Progress,
+    files: &mut F,
+    targets: &[Path],
+    lines: &[Line],
+) -> Result<List<Text>, Halt>
+    ensures stays { Stays F.stands F.broken F.follows files.old files.new }
+    ensures went { Went (texts (F.stands files.old)) progress.old.reads.keys (run_from targets.now lines.now (own_of progress.old.written)) (λ outputs. outputs) result progress.new.reads.keys (F.broken files.old) (F.broken files.new) }
+{
+    run_lines(alloc, progress, files, targets, lines)?;
+    outputs(alloc, &progress.written, targets)
+}
+
+fn into_paths(alloc: Global, reads: IndexSet<Path>) -> Result<List<Path>, AllocError>
+    ensures { IfOk result (λ paths. paths ≡ reads.keys) }
+{
+    Ok(List::of(reads.into_iter().collect(alloc)?))
+}
+
+/// Carries out a script with these targets over these files.
+///
+/// The answer is the outputs or the first fault, and the reads; the files are asked for nothing else. A run is given up
+/// where the files broke, or where there is no memory. Takes time linear in the bytes of the script, of the texts that
+/// it reads and of what it writes, and for each line a look at the targets.
+pub fn run<F: Files>(
+    alloc: Global,
+    script: &Script,
+    targets: &[Path],
+    files: &mut F,
+) -> Result<Ended, Or<Stop>>
+    ensures ran { IfOk result (λ ended. ran_of ended ≡ carried_out (texts (F.stands files.old)) (run_of_lines targets.now script.now)) }
+    ensures given_up { IfErr result (λ stop. IsGivenUp stop (F.broken files.old) (F.broken files.new)) }
+    ensures stays { Stays F.stands F.broken F.follows files.old files.new }
+{
+    let mut progress = Progress {
+        written: Outputs::new(alloc),
+        reads: IndexSet::new(alloc),
+    };
+    let result = match run_whole(alloc, &mut progress, files, targets, script.lines()) {
+        Ok(outputs) => Ok(Outcome { outputs }),
+        Err(Halt::Fault(fault)) => Err(fault),
+        Err(Halt::Stop(stop)) => return Err(Or::Is(stop)),
+        Err(Halt::NoMemory) => return Err(Or::NoMemory),
+    };
+    let reads = into_paths(alloc, progress.reads)?;
+    Ok(Ended { result, reads })
+}

@@ -1,0 +1,4 @@
+pub mod Lines
+pub mod Makefiles
+pub mod Reading
+pub mod Units
