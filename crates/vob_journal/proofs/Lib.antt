@@ -1,0 +1,6 @@
+pub mod Finding
+pub mod Framing
+pub mod Passing
+pub mod Phasing
+pub mod Settling
+pub mod Telling
