@@ -1,10 +1,10 @@
 -- What a window shows of a journal, and what is found in it.
-use Rattle.std.proofs.Common.{◌≡◌, ◌<◌, ◌≤◌, ◌+◌, ◌-◌, ℕ, min, Bool, true, false, Option, Some, None, Result, Ok, Err, IfOk, List, length, take, drop, refl, sym, ◌∙◌, ap, subst, arith, length-drop}
+use Rattle.std.proofs.Common.{◌≡◌, ◌≤◌, ◌+◌, ◌-◌, ℕ, min, Option, Some, Result, Ok, Err, IfOk, List, length, take, drop, sym, ◌∙◌, ap, subst, arith, length-drop}
 use Rattle.std.proofs.lemmas.List.{drop-take, drop-drop, take-take}
 use Rattle.disk_model.specs.Devices.{Device, bytes_of}
 use Rattle.disk_model.specs.Told.{IfTold, Both}
 use Rattle.vob_journal.specs.declared.reading.Head.{Head}
-use Rattle.vob_journal.specs.declared.reading.Head.TheVariants.{Whole, Shut, Cut}
+use Rattle.vob_journal.specs.declared.reading.Head.TheVariants.{Whole}
 use Rattle.vob_journal.specs.declared.reading.Found.{Found}
 use Rattle.vob_journal.specs.declared.reading.Found.TheVariants.{Payload, End}
 use Rattle.vob_journal.specs.declared.window.Window.{Window}
@@ -37,7 +37,7 @@ pub told_part : (w : Window) (place size : ℕ) (old new : Option Device) → w.
     → Both Rests old new → IfShows (Some w) new → IfTold old (λ d. take size (drop (place - w.start) w.bytes.items) ≡ take size (drop place (bytes_of 0 d)))
 told_part w place size old new from to rests shows =
     told_back Rests (λ d. take size (drop (place - w.start) w.bytes.items) ≡ take size (drop place (bytes_of 0 d))) (Shows w) old new
-      (λ d e r s. shows_part w place size from to e s ∙ ap (λ f. take size (drop place f.bytes)) r.same) rests shows
+    (λ d e r s. shows_part w place size from to e s ∙ ap (λ f. take size (drop place f.bytes)) r.same) rests shows
 
 -- the payload that was read in a window
 pub told_payload : (w : Window) (tail count : ℕ) (payload part : List ℕ) (old new : Option Device) → w.start ≤ tail → tail + (5 + count) ≤ w.start + length w.bytes.items
@@ -45,8 +45,8 @@ pub told_payload : (w : Window) (tail count : ℕ) (payload part : List ℕ) (ol
     → IfTold old (λ d. payload ≡ take count (drop 5 (drop tail (bytes_of 0 d))))
 told_payload w tail count payload part old new from to is is_part rests shows =
     told_map (λ d. take count (drop ((tail + 5) - w.start) w.bytes.items) ≡ take count (drop (tail + 5) (bytes_of 0 d))) (λ d. payload ≡ take count (drop 5 (drop tail (bytes_of 0 d)))) old
-      (λ d h. is ∙ is_part ∙ h ∙ ap (take count) (sym (drop-drop 5 tail (bytes_of 0 d))))
-      (told_part w (tail + 5) count old new (omega arith) (omega arith) rests shows)
+    (λ d h. is ∙ is_part ∙ h ∙ ap (take count) (sym (drop-drop 5 tail (bytes_of 0 d))))
+    (told_part w (tail + 5) count old new (omega arith) (omega arith) rests shows)
 
 -- what stands at the head of the rest
 pub told_head : (head : Head) (w : Window) (size tail left : ℕ) (part : List ℕ) (old new : Option Device)
@@ -57,9 +57,9 @@ pub told_head : (head : Head) (w : Window) (size tail left : ℕ) (part : List �
     → IfTold old (λ d. Tells head (drop tail (bytes_of 0 d)))
 told_head head w size tail left part old new is_left within from to is_part all rests shows tells =
     told_both (λ d. size ≡ length (bytes_of 0 d)) (λ d. take (min left 5) (drop (tail - w.start) w.bytes.items) ≡ take (min left 5) (drop tail (bytes_of 0 d)))
-      (λ d. Tells head (drop tail (bytes_of 0 d))) old
-      (λ d s h. tells (drop tail (bytes_of 0 d)) (length-drop tail (bytes_of 0 d) ∙ omega (arith, s, is_left)) (is_part ∙ h))
-      all (told_part w tail (min left 5) old new from to rests shows)
+    (λ d. Tells head (drop tail (bytes_of 0 d))) old
+    (λ d s h. tells (drop tail (bytes_of 0 d)) (length-drop tail (bytes_of 0 d) ∙ omega (arith, s, is_left)) (is_part ∙ h))
+    all (told_part w tail (min left 5) old new from to rests shows)
 
 pub finds_payload : (found : Found) (size : ℕ) (rest : List ℕ) → Tells (Whole size) rest → IsPayload found (take size (drop 5 rest)) → Finds found rest
 finds_payload (Payload payload window) size rest tells is = tells.0 ∙ ap Some (sym is)
@@ -72,7 +72,7 @@ pub told_frame : {E : Type 0} (r : Result Found E) (count tail : ℕ) (old new :
     → IfOk r (λ found. IfTold old (λ d. Finds found (drop tail (bytes_of 0 d))))
 told_frame (Ok found) count tail old new rests tells is =
     told_both (λ d. Tells (Whole count) (drop tail (bytes_of 0 d))) (λ d. IsPayload found (take count (drop 5 (drop tail (bytes_of 0 d))))) (λ d. Finds found (drop tail (bytes_of 0 d))) old
-      (λ d t p. finds_payload found count (drop tail (bytes_of 0 d)) t p) tells
-      (told_back Rests (λ d. IsPayload found (take count (drop 5 (drop tail (bytes_of 0 d))))) (λ d. IsPayload found (take count (drop 5 (drop tail (bytes_of 0 d))))) old new
-        (λ d e r p. subst (λ f. IsPayload found (take count (drop 5 (drop tail f.bytes)))) r.same p) rests is)
+    (λ d t p. finds_payload found count (drop tail (bytes_of 0 d)) t p) tells
+    (told_back Rests (λ d. IsPayload found (take count (drop 5 (drop tail (bytes_of 0 d))))) (λ d. IsPayload found (take count (drop 5 (drop tail (bytes_of 0 d))))) old new
+    (λ d e r p. subst (λ f. IsPayload found (take count (drop 5 (drop tail f.bytes)))) r.same p) rests is)
 told_frame (Err fault) count tail old new rests tells is = tt

@@ -1,11 +1,10 @@
 -- The frames of bytes that are put together or taken apart.
-use Rattle.std.proofs.Common.{◌≡◌, ◌≢◌, ◌<◌, ◌≤◌, ◌+◌, ◌-◌, ◌^◌, ℕ, zero, suc, Bool, true, false, ◌==◌, ◌&&◌, nat_le, if◌then◌else◌, Option, Some, None, List, [], ◌∷◌, ◌++◌, length, take, drop, get_or, slice_index, refl, sym, ◌∙◌, ap, subst, arith, length-append, length-take, length-drop}
+use Rattle.std.proofs.Common.{◌≡◌, ◌≢◌, ◌<◌, ◌≤◌, ◌+◌, ◌^◌, ℕ, zero, suc, Bool, true, false, ◌==◌, ◌&&◌, nat_le, if◌then◌else◌, Option, Some, None, List, [], ◌∷◌, ◌++◌, length, take, drop, slice_index, refl, sym, ◌∙◌, ap, arith, length-append, length-take, length-drop}
 use Rattle.std.specs.Int.{w32, from_le_bytes, to_le_bytes}
-use Rattle.std.proofs.lemmas.List.{append_assoc, append-nil, take-append-drop, take-append-le, drop-append-le, take-take, drop-take, get_or_append_left, get_or-take, get_or-drop, take_at, drop_at, take_all, places}
+use Rattle.std.proofs.lemmas.List.{append_assoc, append-nil, take-append-le, drop-append-le, take-take, drop-take, get_or_append_left, get_or-take, drop_at, take_all}
 use Rattle.std.proofs.lemmas.Nat.{from_le_bytes-to_le_bytes_4}
 use Rattle.std.proofs.lemmas.Grind.{common_steps}
-use Rattle.std.proofs.lemmas.Bool.{eq-eqb}
-use Rattle.vob_journal.specs.Frames.{size_of, head, listed, frames_within, frames, written, payload_of, IsWritten}
+use Rattle.vob_journal.specs.Frames.{size_of, head, listed, frames_within, frames}
 use Rattle.vob_journal.specs.Tails.{IsWhole}
 
 if_some : {A : Type 0} (b : Bool) (x p : A) → (if b then Some x else None) ≡ Some p → (b ≡ true) × (p ≡ x)
@@ -60,13 +59,13 @@ head_take bytes payload h =
     let n = 5 + length payload in
     let at_one : 1 + (4 + length payload) ≡ n = omega arith in
     let rests : take 4 (drop 1 (take n bytes)) ≡ take 4 (drop 1 bytes) =
-      ap (λ k. take 4 (drop 1 (take k bytes))) (sym at_one) ∙ ap (take 4) (drop-take 1 (4 + length payload) bytes) ∙ take-take 4 (4 + length payload) (drop 1 bytes) (omega arith) in
+    ap (λ k. take 4 (drop 1 (take k bytes))) (sym at_one) ∙ ap (take 4) (drop-take 1 (4 + length payload) bytes) ∙ take-take 4 (4 + length payload) (drop 1 bytes) (omega arith) in
     let size : size_of (take n bytes) ≡ size_of bytes = ap (from_le_bytes w32) rests in
     record {
       gate = get_or-take n bytes 0 0 (omega arith) ∙ h.gate;
       fits = omega (arith, size, len.0, len.1, length-take n bytes);
       is = h.is ∙ sym (take-take (size_of bytes) (length payload) (drop 5 bytes) (omega (arith, len.0)))
-        ∙ ap (take (size_of bytes)) (sym (drop-take 5 (length payload) bytes)) ∙ ap (λ k. take k (drop 5 (take n bytes))) (sym size);
+          ∙ ap (take (size_of bytes)) (sym (drop-take 5 (length payload) bytes)) ∙ ap (λ k. take k (drop 5 (take n bytes))) (sym size);
     }
 
 -- nothing at the head
@@ -119,12 +118,14 @@ frames_more front frame payload whole h all =
     ∙ ap (λ list. frames front ++ list) (ap frames (sym (append-nil frame)) ∙ frames_frame frame payload [] h all ∙ ap (λ list. payload ∷ list) frames_nil)
 
 pub whole_more : (front frame payload : List ℕ) → IsWhole front → IsHead frame payload → length frame ≡ 5 + length payload → IsWhole (front ++ frame)
-whole_more front frame payload whole h all = record { goes_on = λ rest.
-    ap frames (append_assoc front frame rest)
-    ∙ whole.goes_on (frame ++ rest)
-    ∙ ap (λ list. frames front ++ list) (frames_frame frame payload rest h all)
-    ∙ sym (append_assoc (frames front) (payload ∷ []) (frames rest))
-    ∙ ap (λ list. list ++ frames rest) (sym (frames_more front frame payload whole h all)) }
+whole_more front frame payload whole h all = record {
+  goes_on = λ rest.
+      ap frames (append_assoc front frame rest)
+      ∙ whole.goes_on (frame ++ rest)
+      ∙ ap (λ list. frames front ++ list) (frames_frame frame payload rest h all)
+      ∙ sym (append_assoc (frames front) (payload ∷ []) (frames rest))
+      ∙ ap (λ list. list ++ frames rest) (sym (frames_more front frame payload whole h all));
+}
 
 -- a frame as it is written
 pub head_written : (payload : List ℕ) → length payload < 2 ^ 32 → IsHead (1 ∷ to_le_bytes w32 (length payload) ++ payload) payload

@@ -1,5 +1,6 @@
 pub mod Finding
 pub mod Framing
+pub mod Journals
 pub mod Passing
 pub mod Phasing
 pub mod Settling

@@ -1,9 +1,9 @@
 -- The phases of a commit, and how they go together.
-use Rattle.std.proofs.Common.{◌≡◌, ◌<◌, ◌≤◌, ◌+◌, ◌^◌, ◌⊎◌, ℕ, Bool, true, false, List, [], ◌∷◌, ◌++◌, length, refl, sym, ◌∙◌, ap, subst, inl, inr}
+use Rattle.std.proofs.Common.{◌≡◌, ◌<◌, ◌+◌, ◌^◌, ℕ, Bool, true, false, List, [], ◌∷◌, ◌++◌, length, refl, sym, ◌∙◌, ap, subst, inl, inr}
 use Rattle.std.proofs.lemmas.List.{append-nil}
 use Rattle.disk_model.specs.Devices.{Device, file_of}
 use Rattle.vob_journal.specs.declared.left.Left.TheVariants.{Nothing, Earlier, InFlight}
-use Rattle.vob_journal.specs.Calls.{put_down, settled_first, Keeps, Settles, StaysLoose, Commits, Fails}
+use Rattle.vob_journal.specs.Calls.{put_down, Keeps, Settles, StaysLoose, Commits, Fails}
 use Rattle.vob_journal.specs.Frames.{frames, written}
 use Rattle.vob_journal.specs.Moves.{Stands, Between, Passes, Moves}
 use Rattle.vob_journal.specs.Phases.{PutsDown, FailsToPut, IsStaged, IsStagedAt, Stages, Opens, MayOpen}
@@ -27,11 +27,11 @@ keeps_ajar : (settled : Bool) (tail : ℕ) (loose : List (List ℕ)) (d e : Devi
     → Keeps settled false tail d e
 keeps_ajar settled tail loose d e passes ajar =
     let moves : Moves (list_at tail d) (loose_at settled tail d) (list_at tail d) loose d e =
-      record { passes = passes; now = ajar_image (list_at tail d) loose tail (file_of 0 e) ajar } in
+    record { passes = passes; now = ajar_image (list_at tail d) loose tail (file_of 0 e) ajar } in
     let same = ajar.front.lists in
     record {
       moves = subst (λ l. Moves (list_at tail d) (loose_at settled tail d) l (loose_at false tail e) d e) (sym same)
-        (subst (λ l. Moves (list_at tail d) (loose_at settled tail d) (list_at tail d) l d e) (sym ajar.behind) moves);
+          (subst (λ l. Moves (list_at tail d) (loose_at settled tail d) (list_at tail d) l d e) (sym ajar.behind) moves);
       ends = subst (λ l. IsAjar l (loose_at false tail e) tail (file_of 0 e)) (sym same) (subst (λ l. IsAjar (list_at tail d) l tail (file_of 0 e)) (sym ajar.behind) ajar);
       same_list = same;
     }
@@ -66,7 +66,7 @@ pub stages_put : (tail : ℕ) (payload : List ℕ) (d e : Device) → IsTail tru
 stages_put tail payload d e shut did =
     let list = list_at tail d in
     let passes = put_passes (IsShut list tail) (λ image. frames image ≡ list) (tail + 1) (length (written payload)) (shut_image list tail)
-      (shut_torn list tail (length (written payload))) d (written payload) refl shut in
+    (shut_torn list tail (length (written payload))) d (written payload) refl shut in
     subst (Stages tail payload d) (sym did) (record { passes = passes; staged = staged_put list payload tail (file_of 0 d) shut; calls = refl })
 
 -- staging that failed
@@ -109,7 +109,6 @@ fails_settling settled tail payload d e stays = record {
 }
 
 module _ (settled : Bool) (tail : ℕ) (payload : List ℕ) (d e : Device) (settles : Settles settled tail d e) where
-
   -- what stops within the settling leave
   settling : (P : List ℕ → Type 0) → ((image : List ℕ) → Stands (list_at tail d) (loose_at settled tail d) image → P image) → Passes d e P
   settling P f = passes_weaker d e (Between (list_at tail d) (loose_at settled tail d) (list_at tail e) []) P
@@ -120,13 +119,13 @@ module _ (settled : Bool) (tail : ℕ) (payload : List ℕ) (d e : Device) (sett
   fails_staging f keeps =
       let P = Stands (list_at tail d) (loose_at settled tail d) in
       let more : Passes e f P = passes_weaker e f (Between (list_at tail e) [] (list_at tail f) []) P
-        (λ image h. elim h [
-          inl old ↦ inl (elim old [ inl same ↦ same ∙ settles.keeps.same_list | inr same ↦ same ∙ append-nil (list_at tail e) ∙ settles.keeps.same_list ])
+      (λ image h. elim h [
+        | inl old ↦ inl (elim old [ inl same ↦ same ∙ settles.keeps.same_list | inr same ↦ same ∙ append-nil (list_at tail e) ∙ settles.keeps.same_list ])
         | inr new ↦ inl (new ∙ append-nil (list_at tail f) ∙ keeps.same_list ∙ settles.keeps.same_list)
-        ]) keeps.moves.passes in
+      ]) keeps.moves.passes in
       record {
         keeps = keeps_shut settled tail d f (passes_then d e f P (settling P (λ image h. h)) more)
-          (subst (λ l. IsShut l tail (file_of 0 f)) (keeps.same_list ∙ settles.keeps.same_list) keeps.ends);
+            (subst (λ l. IsShut l tail (file_of 0 f)) (keeps.same_list ∙ settles.keeps.same_list) keeps.ends);
         loose = refl;
       }
 
@@ -145,7 +144,7 @@ module _ (settled : Bool) (tail : ℕ) (payload : List ℕ) (d e : Device) (sett
       let same = staged_list f stages in
       let P = Between list (loose_at settled tail d) list (payload ∷ []) in
       let more : Passes f g P = passes_weaker f g (Stands (list_at tail f) (payload ∷ [])) P
-        (λ image h. elim h [ inl old ↦ inl (inl (old ∙ same)) | inr new ↦ inr (new ∙ ap (λ l. l ++ payload ∷ []) same) ]) may.passes in
+      (λ image h. elim h [ inl old ↦ inl (inl (old ∙ same)) | inr new ↦ inr (new ∙ ap (λ l. l ++ payload ∷ []) same) ]) may.passes in
       let ajar = subst (λ l. IsAjar l (payload ∷ []) tail (file_of 0 g)) same may.ajar in
       record {
         keeps = keeps_ajar settled tail (payload ∷ []) d g (passes_then d f g P (staging f P (λ image h. inl h) stages) more) ajar;
@@ -160,7 +159,7 @@ module _ (settled : Bool) (tail : ℕ) (payload : List ℕ) (d e : Device) (sett
       let list : list_at behind g ≡ list_at tail d ++ payload ∷ [] = opens.shut.front.lists ∙ ap (λ l. l ++ payload ∷ []) same in
       let P = Between (list_at tail d) (loose_at settled tail d) (list_at behind g) [] in
       let more : Passes f g P = passes_weaker f g (Stands (list_at tail f) (payload ∷ [])) P
-        (λ image h. elim h [ inl old ↦ inl (inl (old ∙ same)) | inr new ↦ inr (new ∙ sym opens.shut.front.lists ∙ sym (append-nil (list_at behind g))) ]) opens.passes in
+      (λ image h. elim h [ inl old ↦ inl (inl (old ∙ same)) | inr new ↦ inr (new ∙ sym opens.shut.front.lists ∙ sym (append-nil (list_at behind g))) ]) opens.passes in
       record {
         moves = record {
           passes = passes_then d f g P (staging f P (λ image h. inl h) stages) more;

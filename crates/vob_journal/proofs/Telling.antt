@@ -1,5 +1,5 @@
 -- Relations of what is told before and after.
-use Rattle.std.proofs.Common.{◌≡◌, Option, Some, None, Result, Ok, Err, MatchResult}
+use Rattle.std.proofs.Common.{Option, Some, None, Result, Ok, Err, MatchResult}
 use Rattle.disk_model.specs.Devices.{Device}
 use Rattle.disk_model.specs.Told.{IfTold, Both}
 
@@ -68,3 +68,11 @@ pub told_back : (R : Device → Device → Type 0) (P Q : Device → Type 0) (ol
 told_back R P Q None new f h q = tt
 told_back R P Q (Some d) None f h q = absurd h
 told_back R P Q (Some d) (Some e) f h q = f d e h q
+
+-- what was known before is known afterwards
+pub told_from : (R : Device → Device → Type 0) (P Q : Device → Type 0) (old new : Option Device) → ((d e : Device) → P d → R d e → Q e)
+    → IfTold old P → Both R old new → IfTold new Q
+told_from R P Q None None f p h = tt
+told_from R P Q None (Some e) f p h = absurd h
+told_from R P Q (Some d) None f p h = tt
+told_from R P Q (Some d) (Some e) f p h = f d e p h

@@ -1,5 +1,5 @@
 -- What is read at the head of the rest of a journal.
-use Rattle.std.specs.Prelude.{◌≡◌, ◌≤◌, ◌+◌, ℕ, Bool, true, false, Option, Some, None, List, length, take, drop}
+use Rattle.std.specs.Prelude.{◌≡◌, ◌≤◌, ◌+◌, ℕ, true, false, Option, Some, None, List, length, take, drop}
 use Rattle.disk_model.specs.Devices.{Device}
 use Rattle.vob_journal.specs.Frames.{head, is_shut}
 use Rattle.vob_journal.specs.Windows.{IfShows}

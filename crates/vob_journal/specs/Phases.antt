@@ -1,5 +1,5 @@
 -- The phases of a commit.
-use Rattle.std.specs.Prelude.{◌≡◌, ◌⊎◌, ◌≤◌, ◌<◌, ◌+◌, ◌^◌, ℕ, Bool, if◌then◌else◌, Result, MatchResult, List, [], ◌∷◌, ◌++◌, length, drop}
+use Rattle.std.specs.Prelude.{◌≡◌, ◌⊎◌, ◌≤◌, ◌+◌, ℕ, Bool, if◌then◌else◌, Result, MatchResult, List, [], ◌∷◌, ◌++◌, length, drop}
 use Rattle.disk_model.specs.Counting.{raised}
 use Rattle.disk_model.specs.Files.{File, stable, IsTorn}
 use Rattle.disk_model.specs.Devices.{Device, Wrote, Failed, added, file_of, bytes_of}
@@ -17,7 +17,7 @@ PutsDown place piece d e = e ≡ put_down place piece d
 abbrev pub FailsToPut : ℕ → ℕ → Device → Device → Type 0
 FailsToPut place size d e = (e ≡ d) ⊎ (e ≡ added Failed d)
     ⊎ ((left : List ℕ) × IsTorn place size (bytes_of 0 d) left
-        × ((e ≡ added (Wrote 0 place size left) d) ⊎ (e ≡ added Failed (added (Wrote 0 place size left) d))))
+    × ((e ≡ added (Wrote 0 place size left) d) ⊎ (e ≡ added Failed (added (Wrote 0 place size left) d))))
 
 -- a file with this payload whole and synced behind a shut gate
 pub record IsStaged (list : List (List ℕ)) (payload : List ℕ) (tail : ℕ) (file : File) : Type 0 where

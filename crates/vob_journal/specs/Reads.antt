@@ -1,5 +1,5 @@
 -- The device calls that read a journal.
-use Rattle.std.specs.Prelude.{◌≡◌, ◌⊎◌, ◌≤◌, ◌+◌, ◌-◌, ℕ, min, Result, Ok, Err, List, length}
+use Rattle.std.specs.Prelude.{◌≡◌, ◌⊎◌, ◌≤◌, ◌+◌, ◌-◌, ℕ, min, Result, Ok, Err, length}
 use Rattle.disk_model.specs.Counting.{raised}
 use Rattle.disk_model.specs.Devices.{Device, Fetched, Failed, added, file_of, bytes_of, LeavesNow}
 use Rattle.disk_model.specs.Told.{Sight}
@@ -26,4 +26,3 @@ FaultsOf (Err (Is fault)) old new = new ≡ raised old
 -- at most so many device calls, and a fault only where the answer is one
 abbrev pub CountsReads : {T E : Type 0} → ℕ → Result T (Or E) → Sight → Sight → Type 0
 CountsReads most result old new = (old.ticks ≤ new.ticks) × (new.ticks ≤ old.ticks + most) × FaultsOf result old.faults new.faults
-

@@ -1,5 +1,5 @@
 -- The piece of a journal that is held in memory while it is read.
-use Rattle.std.specs.Prelude.{◌≡◌, ◌≤◌, ◌+◌, ℕ, Option, Some, None, List, length, take, drop}
+use Rattle.std.specs.Prelude.{◌≡◌, ◌≤◌, ◌+◌, Option, Some, None, length, take, drop}
 use Rattle.disk_model.specs.Devices.{Device, bytes_of}
 use Rattle.disk_model.specs.Told.{IfTold}
 use Rattle.vob_journal.specs.declared.window.Window.{Window}

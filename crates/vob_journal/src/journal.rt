@@ -38,14 +38,14 @@ impl<D: Disk> Model for Journal<D> {
     ghost Value = { Shown D };
 
     ghost view = { λ j. record {
-        disk = j.disk;
-        tail = j.tail;
-        list = told_list (D.sight j.disk).told j.ended j.tail;
-        rest = told_rest (D.sight j.disk).told j.ended j.tail;
-        loose = told_loose (D.sight j.disk).told j.ended j.settled j.tail;
-        ended = j.ended;
-        settled = j.settled;
-        left = j.left;
+      disk = j.disk;
+      tail = j.tail;
+      list = told_list (D.sight j.disk).told j.ended j.tail;
+      rest = told_rest (D.sight j.disk).told j.ended j.tail;
+      loose = told_loose (D.sight j.disk).told j.ended j.settled j.tail;
+      ended = j.ended;
+      settled = j.settled;
+      left = j.left;
     } };
 
     ghost invariant = { λ j. IsKept (D.sight j.disk).told j.ended j.settled j.tail j.size j.window };

@@ -62,7 +62,12 @@ fn open_gate<D: Disk>(disk: &mut D, tail: u64, frame: &Frame) -> Result<(), Disk
 }
 
 /// Commits a frame at the tail, or answers what it left.
-pub(crate) fn commit<D: Disk>(disk: &mut D, settled: bool, tail: u64, frame: &Frame) -> Result<(), Left>
+pub(crate) fn commit<D: Disk>(
+    disk: &mut D,
+    settled: bool,
+    tail: u64,
+    frame: &Frame,
+) -> Result<(), Left>
     requires small { tail ≤ 2 ^ 62 }
     requires ends { IfTold (D.sight disk.old).told (IsTail settled tail) }
     ensures most { IfOk result (λ _. tail + (5 + length frame.now) ≤ 2 ^ 62) }

@@ -71,5 +71,8 @@ pub(crate) fn look<D: Disk>(
     if let Err(fault) = disk.read_at(0, place, bytes.as_mut_slice()) {
         return Err(Or::Is(fault));
     }
-    Ok(Window { start: place, bytes })
+    Ok(Window {
+        start: place,
+        bytes,
+    })
 }

@@ -19,7 +19,7 @@ returns-in-Err-stage-clause-told g c =
     let tail = c.args.tail in
     let payload = c.args.frame.now in
     both_then (Settles settled tail) (Keeps true true tail) (Fails settled tail payload Nothing) _ _ _ (λ d e f s k. fails_staging settled tail payload d e s f k)
-      c.in_default.ensures.told c.in-Err-stage.ensures.told
+    c.in_default.ensures.told c.in-Err-stage.ensures.told
 
 pub returns-in-Err-open_gate-clause-told : goal.returns-in-Err-open_gate-clause-told
 returns-in-Err-open_gate-clause-told g c =
@@ -27,8 +27,8 @@ returns-in-Err-open_gate-clause-told g c =
     let tail = c.args.tail in
     let payload = c.args.frame.now in
     both_three (Settles settled tail) (Stages tail payload) (MayOpen tail payload) (Fails settled tail payload InFlight) _ _ _ _
-      (λ d e f h s t o. fails_opening settled tail payload d e s f h t o)
-      c.in_default.ensures.told c.in_default-stage.ensures.told c.in-Err-open_gate.ensures.told
+    (λ d e f h s t o. fails_opening settled tail payload d e s f h t o)
+    c.in_default.ensures.told c.in_default-stage.ensures.told c.in-Err-open_gate.ensures.told
 
 pub returns-clause-told : goal.returns-clause-told
 returns-clause-told g c =
@@ -36,5 +36,5 @@ returns-clause-told g c =
     let tail = c.args.tail in
     let payload = c.args.frame.now in
     both_three (Settles settled tail) (Stages tail payload) (Opens tail payload) (Commits settled tail payload) _ _ _ _
-      (λ d e f h s t o. commits settled tail payload d e s f h t o)
-      c.in_default.ensures.told c.in_default-stage.ensures.told c.in_default-open_gate.ensures.told
+    (λ d e f h s t o. commits settled tail payload d e s f h t o)
+    c.in_default.ensures.told c.in_default-stage.ensures.told c.in_default-open_gate.ensures.told

@@ -1,4 +1,4 @@
-use Rattle.std.proofs.Common.{◌≡◌, true, false, [], ◌∷◌, sym, subst}
+use Rattle.std.proofs.Common.{true, false, [], ◌∷◌, sym, subst}
 use Rattle.disk_model.specs.Devices.{Device}
 use Rattle.disk_model.specs.Told.{IfTold, Both}
 use Rattle.vob_journal.specs.Calls.{Settles, StaysLoose}
@@ -13,7 +13,7 @@ returns-then-settled-clause-told g c =
     let told = (g.D.Disk.sight c.args.disk.now).told in
     let tail = c.args.tail in
     subst (λ b. Both (Settles b tail) told told) (sym c.if-settled.true)
-      (both_same (IsTail true tail) (Settles true tail) told (settles_none tail) (subst (λ b. IfTold told (IsTail b tail)) c.if-settled.true c.requires))
+    (both_same (IsTail true tail) (Settles true tail) told (settles_none tail) (subst (λ b. IfTold told (IsTail b tail)) c.if-settled.true c.requires))
 
 pub returns-clause-told : goal.returns-clause-told
 returns-clause-told g c =
@@ -23,4 +23,4 @@ returns-clause-told g c =
     let settles = λ (d e : Device). subst (λ b. IsTail false tail d → PutsDown tail (0 ∷ []) d e → Settles b tail d e) (sym c.if-settled.false) (settles_put tail d e) in
     let stays = λ (d e : Device). subst (λ b. IsTail false tail d → FailsToPut tail 1 d e → StaysLoose b tail d e) (sym c.if-settled.false) (settling_failed tail d e) in
     answer_from c.put_down.result (IsTail false tail) (PutsDown tail (0 ∷ [])) (Settles c.args.settled tail) (FailsToPut tail 1) (StaysLoose c.args.settled tail) _ _
-      settles stays loose c.put_down.ensures.told
+    settles stays loose c.put_down.ensures.told

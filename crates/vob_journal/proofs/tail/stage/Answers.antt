@@ -12,4 +12,4 @@ returns-clause-told g c =
     let payload = c.args.frame.now in
     let piece = c.as_bytes.result.now in
     answer_from c.put_down.result (IsTail true tail) (PutsDown (tail + 1) piece) (Stages tail payload) (FailsToPut (tail + 1) (length piece)) (Keeps true true tail) _ _
-      (stages_piece tail payload piece c.as_bytes.ensures.bytes) (staging_failed tail (length piece)) c.requires.shut c.put_down.ensures.told
+    (stages_piece tail payload piece c.as_bytes.ensures.bytes) (staging_failed tail (length piece)) c.requires.shut c.put_down.ensures.told
