@@ -15,6 +15,8 @@ mod disk;
 mod files;
 mod images;
 mod memory;
+#[cfg(test)]
+mod tests;
 
 pub use calls::{Call, Entry};
 pub use cc_names::steps::Counts;

@@ -1,10 +1,7 @@
 -- How the fields of a row are spelled. Numbers have their least byte first.
-use Rattle.std.specs.Prelude.{◌≡◌, ◌<◌, ◌^◌, ℕ, Bool, true, false, Result, Ok, Err, List, [], ◌∷◌, ◌++◌, length}
+use Rattle.std.specs.Prelude.{ℕ, Bool, true, false, List, [], ◌∷◌, ◌++◌, length}
 use Rattle.std.specs.Int.{w32, w64, to_le_bytes}
 use Rattle.std.specs.List.{flat_map}
-use Rattle.std.specs.Borrow.{Bor}
-use Rattle.cc_names.specs.declared.memory.Or.{Or}
-use Rattle.cc_names.specs.declared.memory.Or.TheVariants.{NoMemory, Is}
 use Rattle.cc_names.specs.declared.rows.Kind.{Kind}
 use Rattle.cc_names.specs.declared.rows.Kind.TheVariants as kinds
 use Rattle.cc_names.specs.declared.rows.TypeKind.{TypeKind}
@@ -22,6 +19,10 @@ word n = to_le_bytes w32 n
 
 abbrev pub long : ℕ → List ℕ
 long n = to_le_bytes w64 n
+
+-- one byte
+abbrev pub byte : ℕ → List ℕ
+byte b = b ∷ []
 
 -- a text, a name or a path: a length of four bytes, and the bytes
 abbrev pub text : List ℕ → List ℕ
@@ -60,16 +61,3 @@ place_of placed = long placed.element ++ long placed.version
 abbrev pub stored : Stored → List ℕ
 stored (Here bytes) = 0 ∷ text bytes
 stored (There extent) = 1 ∷ (long extent.place ++ long extent.length)
-
--- What reading a field answers: a value that is as it should be, whose spelling the bytes began with; or a fault where no
--- such value is spelled there.
-abbrev pub Reads : {A E : Type 0} → (A → List ℕ) → (A → Type 0) → Result A (Or E) → List ℕ → List ℕ → Type 0
-Reads spelled Good (Ok value) old new = Good value × (old ≡ spelled value ++ new)
-Reads spelled Good (Err NoMemory) old new = Unit {0}
-Reads spelled Good (Err (Is fault)) old new = (value : _) (rest : List ℕ) → Good value → old ≡ spelled value ++ rest → ⊥
-
--- the same of a slice that is lent
-abbrev pub ReadsSlice : {E : Type 0} → (List ℕ → List ℕ) → (List ℕ → Type 0) → Result (Bor (List ℕ)) (Or E) → List ℕ → List ℕ → Type 0
-ReadsSlice spelled Good (Ok slice) old new = Good slice.now × (old ≡ spelled slice.now ++ new)
-ReadsSlice spelled Good (Err NoMemory) old new = Unit {0}
-ReadsSlice spelled Good (Err (Is fault)) old new = (bytes rest : List ℕ) → Good bytes → old ≡ spelled bytes ++ rest → ⊥

@@ -1,8 +1,6 @@
 -- The one spelling of a row.
-use Rattle.std.specs.Prelude.{◌≡◌, ℕ, Result, Ok, Err, List, [], ◌∷◌, ◌++◌}
-use Rattle.cc_names.specs.Formed.{Plain, IsFormed}
-use Rattle.cc_names.specs.declared.memory.Or.{Or}
-use Rattle.cc_names.specs.declared.memory.Or.TheVariants.{NoMemory, Is}
+use Rattle.std.specs.Prelude.{ℕ, List, ◌∷◌, ◌++◌}
+use Rattle.cc_names.specs.Formed.{Plain}
 use Rattle.cc_names.specs.declared.rows.Deed.{Deed}
 use Rattle.cc_names.specs.declared.rows.Deed.TheVariants as deeds
 use Rattle.row_form.specs.Fields.{word, long, text, listed, flag, kind, type_kind, out_byte, entry, place_of, stored}
@@ -77,17 +75,3 @@ abbrev pub spelled : Plain → List ℕ
 spelled row =
     first_byte row.deed ∷ (word row.tag.phase ++ (word row.tag.lane ++ (word row.tag.command ++ (long row.moment
       ++ (code_of row.deed ∷ fields_of row.deed)))))
-
--- whether rows of this deed are read
-abbrev pub IsKnown : Deed → Type 0
-IsKnown (deeds.Mkview view) = Unit {0}
-IsKnown (deeds.Put view path bytes) = Unit {0}
-IsKnown (deeds.Publish view targets script entries outputs) = Unit {0}
-IsKnown _ = ⊥
-
--- What reading bytes as a row answers: the row that they spell, which keeps its form; or a fault, exactly where they spell
--- no row of a deed that is read.
-abbrev pub IsReadAs : {E : Type 0} → Result Plain (Or E) → List ℕ → Type 0
-IsReadAs (Ok row) bytes = (bytes ≡ spelled row) × IsFormed row × IsKnown row.deed
-IsReadAs (Err NoMemory) bytes = Unit {0}
-IsReadAs (Err (Is fault)) bytes = (row : Plain) → IsFormed row → IsKnown row.deed → bytes ≡ spelled row → ⊥

@@ -9,8 +9,10 @@
 #![tactic(auto)]
 
 mod cursor;
+mod reading;
 mod writing;
 
 pub use cc_names::rows::{Deed, Extent, Kind, Out, Placed, ReadOf, Row, Stored, Tag, TypeKind};
 pub use cursor::NotARow;
+pub use reading::read;
 pub use writing::spell;

@@ -10,7 +10,7 @@ ghost use Rattle.row_form.specs.Spelled.{spelled, fields_of, code_of, first_byte
 use cc_names::memory::NoMemory;
 use cc_names::names::Name;
 use cc_names::paths::Path;
-use cc_names::rows::{Deed, Kind, Out, Placed, ReadOf, Row, Stored, TypeKind};
+use cc_names::rows::{Deed, Extent, Kind, Out, Placed, ReadOf, Row, Stored, TypeKind};
 use cc_names::texts::Text;
 use std::alloc::Global;
 
@@ -108,6 +108,13 @@ fn put_text(out: &mut Vec<u8>, bytes: &[u8]) -> Result<(), NoMemory>
     put_word(out, bytes.len() as u32)?;
     out.extend_from_slice(bytes)?;
     Ok(())
+}
+
+fn put_body(out: &mut Vec<u8>, body: &Text) -> Result<(), NoMemory>
+    requires { IsText body.now }
+    ensures { OnOk result (out.new.items ≡ out.old.items ++ text body.now) }
+{
+    put_text(out, body.as_bytes())
 }
 
 fn put_name(out: &mut Vec<u8>, name: &Name) -> Result<(), NoMemory>
@@ -214,9 +221,21 @@ impl Put for Placed {
     ghost fits = { λ placed. Unit {0} };
 
     fn put(&self, out: &mut Vec<u8>) -> Result<(), NoMemory> {
-        put_long(out, self.element)?;
-        put_long(out, self.version)
+        put_pair(out, self.element, self.version)
     }
+}
+
+fn put_pair(out: &mut Vec<u8>, first: u64, second: u64) -> Result<(), NoMemory>
+    ensures { OnOk result (out.new.items ≡ out.old.items ++ (long first ++ long second)) }
+{
+    put_long(out, first)?;
+    put_long(out, second)
+}
+
+fn put_extent(out: &mut Vec<u8>, extent: Extent) -> Result<(), NoMemory>
+    ensures { OnOk result (out.new.items ≡ out.old.items ++ (long extent.place ++ long extent.length)) }
+{
+    put_pair(out, extent.place, extent.length)
 }
 
 impl Put for Stored {
@@ -232,8 +251,7 @@ impl Put for Stored {
             }
             Stored::There(extent) => {
                 put_byte(out, 1)?;
-                put_long(out, extent.place)?;
-                put_long(out, extent.length)
+                put_extent(out, *extent)
             }
         }
     }
@@ -280,7 +298,7 @@ fn put_fields(out: &mut Vec<u8>, deed: &Deed) -> Result<(), NoMemory>
         Deed::Rmview { view } => put_name(out, view),
         Deed::Setcs { view, text } => {
             put_name(out, view)?;
-            put_text(out, text.as_bytes())
+            put_body(out, text)
         }
         Deed::Mkelem { view, directory, name, kind, out: is_out } => {
             put_two(out, view, *directory)?;
@@ -301,7 +319,7 @@ fn put_fields(out: &mut Vec<u8>, deed: &Deed) -> Result<(), NoMemory>
         }
         Deed::Save { view, element, text } => {
             put_two(out, view, *element)?;
-            put_text(out, text.as_bytes())
+            put_body(out, text)
         }
         Deed::Checkin { view, element } => put_two(out, view, *element),
         Deed::Uncheckout { view, element } => put_two(out, view, *element),
@@ -317,7 +335,7 @@ fn put_fields(out: &mut Vec<u8>, deed: &Deed) -> Result<(), NoMemory>
         Deed::Put { view, path, text } => {
             put_name(out, view)?;
             put_path(out, path)?;
-            put_text(out, text.as_bytes())
+            put_body(out, text)
         }
         Deed::Rm { view, path } => {
             put_name(out, view)?;
@@ -347,8 +365,7 @@ fn put_fields(out: &mut Vec<u8>, deed: &Deed) -> Result<(), NoMemory>
             put_list(out, placed.as_slice())
         }
         Deed::Arrow { element, tail, head } => {
-            put_long(out, *element)?;
-            put_long(out, *tail)?;
+            put_pair(out, *element, *tail)?;
             put_long(out, *head)
         }
         Deed::PublishAt { view, targets, script, entries, outputs } => {

@@ -15,6 +15,8 @@ mod journal;
 mod left;
 mod reading;
 mod tail;
+#[cfg(test)]
+mod tests;
 mod window;
 
 pub use frame::Frame;
