@@ -1,0 +1,11 @@
+-- What a disk in memory keeps true of its fields.
+use Rattle.std.specs.Prelude.{◌≡◌, ℕ, ◌^◌, ◌<◌, List, length}
+use Rattle.disk_model.specs.Devices.{Device, bytes_of}
+
+-- both files read as the record says, and there is a tick for each call of it
+pub record IsReplayed (d : Device) (journal objects : List ℕ) (ticks faults : ℕ) : Type 0 where
+  pub journal_reads : journal ≡ bytes_of 0 d
+  pub objects_read : objects ≡ bytes_of 1 d
+  pub a_tick_each : ticks ≡ length d.calls
+  pub ticks_fit : ticks < 2 ^ 64
+  pub faults_fit : faults < 2 ^ 64

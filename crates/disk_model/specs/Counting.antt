@@ -1,0 +1,6 @@
+-- The counts of a disk.
+use Rattle.std.specs.Prelude.{ℕ, ◌+◌, ◌-◌, ◌^◌, min}
+
+-- a count raised by one, which ends at 2^64 - 1
+abbrev pub raised : ℕ → ℕ
+raised n = min (n + 1) (2 ^ 64 - 1)

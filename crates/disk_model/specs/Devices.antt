@@ -1,0 +1,108 @@
+-- A device of two files, told by what it held at first and by the list of its calls, and what a stop at each call leaves.
+use Rattle.std.specs.Prelude.{◌≡◌, ◌⊎◌, ℕ, ◌+◌, max, ◌==◌, if◌then◌else◌, List, [], ◌∷◌, length}
+use Rattle.disk_model.specs.Files.{File, stable, overwritten, IsImage, IsTorn}
+
+-- A device call, with what it left: file 0 is the journal, file 1 the objects.
+pub data Event : Type 0 where
+  -- the file's length was asked
+  Measured : (file : ℕ) → Event
+  -- so many bytes were read from a place on
+  Fetched : (file place size : ℕ) → Event
+  -- so many bytes were to be written from a place on, and then the file reads so
+  Wrote : (file place size : ℕ) (left : List ℕ) → Event
+  -- the file is on the disk as it reads
+  Synced : (file : ℕ) → Event
+  -- the call failed before it did anything
+  Failed : Event
+
+-- both files as they were handed in, each of them stable, and the calls since, the newest first
+pub record Device : Type 0 where
+  pub journal : List ℕ
+  pub objects : List ℕ
+  pub calls : List Event
+
+-- a device that no call was made on
+abbrev pub fresh : List ℕ → List ℕ → Device
+fresh journal objects = record { journal = journal; objects = objects; calls = [] }
+
+-- a device on which one more call was made
+abbrev pub added : Event → Device → Device
+added event d = record d { calls = event ∷ d.calls }
+
+-- a file after a call that may have written it
+abbrev pub written_to : File → ℕ → ℕ → List ℕ → File
+written_to s place size left =
+    record { bytes = left; least = s.least; most = max s.most (place + size); written = (place, size) ∷ s.written }
+
+-- a file after a call
+abbrev pub after : ℕ → Event → File → File
+after file (Measured other) s = s
+after file (Fetched other place size) s = s
+after file (Wrote other place size left) s = if other == file then written_to s place size left else s
+after file (Synced other) s = if other == file then stable s.bytes else s
+after file Failed s = s
+
+-- a file within a call: a sync under way has done nothing yet
+abbrev pub during : ℕ → Event → File → File
+during file (Measured other) s = s
+during file (Fetched other place size) s = s
+during file (Wrote other place size left) s = after file (Wrote other place size left) s
+during file (Synced other) s = s
+during file Failed s = s
+
+-- a file after all of these calls
+abbrev pub replayed : ℕ → List ℕ → List Event → File
+replayed file first [] = stable first
+replayed file first (event ∷ earlier) = after file event (replayed file first earlier)
+
+-- a file as it was handed in
+abbrev pub first_of : ℕ → Device → List ℕ
+first_of file d = if file == 0 then d.journal else d.objects
+
+-- a file as it is now
+abbrev pub file_of : ℕ → Device → File
+file_of file d = replayed file (first_of file d) d.calls
+
+-- a file as a read gives it now
+abbrev pub bytes_of : ℕ → Device → List ℕ
+bytes_of file d = (file_of file d).bytes
+
+-- whether a stop at call number k, counted from 1, among these calls may leave this of a file
+abbrev pub Stopped : ℕ → List ℕ → List Event → ℕ → List ℕ → Type 0
+Stopped file first [] k image = ⊥
+Stopped file first (event ∷ earlier) k image =
+    ((k ≡ length earlier + 1) × IsImage (during file event (replayed file first earlier)) image) ⊎ Stopped file first earlier k image
+
+-- Whether a stop at call number k may leave this of a file. What stops at earlier calls leave does not change.
+abbrev pub Leaves : ℕ → Device → ℕ → List ℕ → Type 0
+Leaves file d k image = Stopped file (first_of file d) d.calls k image
+
+-- whether a stop after the last call may leave this of a file
+abbrev pub LeavesNow : ℕ → Device → List ℕ → Type 0
+LeavesNow file d image = IsImage (file_of file d) image
+
+-- whether a stop at call number k, or where k is one past the last, after it, may leave this of a file
+abbrev pub MayLeave : ℕ → Device → ℕ → List ℕ → Type 0
+MayLeave file d k image = Leaves file d k image ⊎ ((k ≡ length d.calls + 1) × LeavesNow file d image)
+
+-- what each call does, where it answers Ok
+abbrev pub Measures : ℕ → Device → Device → Type 0
+Measures file d e = e ≡ added (Measured file) d
+
+abbrev pub Fetches : ℕ → ℕ → ℕ → Device → Device → Type 0
+Fetches file place size d e = e ≡ added (Fetched file place size) d
+
+abbrev pub Writes : ℕ → ℕ → List ℕ → Device → Device → Type 0
+Writes file place piece d e = e ≡ added (Wrote file place (length piece) (overwritten place piece (bytes_of file d))) d
+
+abbrev pub Syncs : ℕ → Device → Device → Type 0
+Syncs file d e = e ≡ added (Synced file) d
+
+-- what a call does that fails and changes nothing: it may also not have been made at all
+abbrev pub Idles : Device → Device → Type 0
+Idles d e = (e ≡ d) ⊎ (e ≡ added Failed d)
+
+-- what a failed write does: nothing, or it leaves the range torn
+abbrev pub Tears : ℕ → ℕ → ℕ → Device → Device → Type 0
+Tears file place size d e =
+    Idles d e ⊎ ((left : List ℕ) × IsTorn place size (bytes_of file d) left × (e ≡ added (Wrote file place size left) d))

@@ -1,0 +1,34 @@
+-- What contracts see of a disk, and what they say of it where it tells its device.
+use Rattle.std.specs.Prelude.{◌≡◌, ℕ, ◌-◌, ◌^◌, ◌<◌, Option, Some, None, Result, MatchResult, length}
+use Rattle.disk_model.specs.Counting.{raised}
+use Rattle.disk_model.specs.Devices.{Device}
+
+-- the device, where the disk tells it, and both counts
+pub record Sight : Type 0 where
+  pub told : Option Device
+  pub ticks : ℕ
+  pub faults : ℕ
+
+-- where a device is told
+abbrev pub IfTold : Option Device → (Device → Type 0) → Type 0
+IfTold None P = Unit {0}
+IfTold (Some d) P = P d
+
+-- what is told before and after stands in this relation, or nothing is told at both times
+abbrev pub Both : (Device → Device → Type 0) → Option Device → Option Device → Type 0
+Both R None None = Unit {0}
+Both R None (Some e) = ⊥
+Both R (Some d) None = ⊥
+Both R (Some d) (Some e) = R d e
+
+-- Counts of a device call: a tick more, and a fault more exactly where the answer is an error.
+-- A disk whose ticks stand at their end answers only errors.
+abbrev pub Counted : {T E : Type 0} → Result T E → Sight → Sight → Type 0
+Counted result old new = (new.ticks ≡ raised old.ticks)
+    × MatchResult result (λ _. (new.faults ≡ old.faults) × (old.ticks < 2 ^ 64 - 1)) (λ _. new.faults ≡ raised old.faults)
+
+-- what holds of each disk: counts fit, and there is a tick for each call that is told
+pub record IsCounted (sight : Sight) : Type 0 where
+  pub ticks : sight.ticks < 2 ^ 64
+  pub faults : sight.faults < 2 ^ 64
+  pub told : IfTold sight.told (λ d. sight.ticks ≡ length d.calls)

@@ -1,0 +1,70 @@
+// The trait of disks.
+
+ghost use Rattle.std.specs.Prelude.{◌≡◌, ◌≤◌, ◌+◌, ◌^◌, length, take, drop, IfOk, MatchResult};
+ghost use Rattle.disk_model.specs.Devices.{bytes_of, Measures, Fetches, Writes, Syncs, Idles, Tears};
+ghost use Rattle.disk_model.specs.Told.{Sight, IfTold, Both, Counted, IsCounted};
+
+use crate::Counts;
+use std::fmt;
+
+/// A device call failed.
+#[derive(Clone, Copy, Debug, PartialEq, Eq)]
+pub struct DiskFault;
+
+impl fmt::Display for DiskFault {
+    fn fmt<W: fmt::Write>(&self, f: &mut fmt::Formatter<W>) -> fmt::Result {
+        write!(f, "disk fault")
+    }
+}
+
+impl std::error::Error for DiskFault {}
+
+/// Two files: file 0 is the journal of a base, file 1 its objects. Each call on a file raises the ticks by one, and the
+/// faults by one exactly where it answers `DiskFault`. A disk whose ticks stand at 2^64 - 1 makes no call any more and
+/// answers `DiskFault`.
+///
+/// A disk may tell its device: both files as they were handed in and the list of all calls. What the files hold, and
+/// what a stop at each call leaves of them, are functions of it.
+pub trait Disk {
+    /// The device, where it is told, and the counts.
+    ghost sight: { Self → Sight };
+
+    /// The file's length. A file longer than 2^62 bytes is a fault.
+    fn length(&mut self, file: u8) -> Result<u64, DiskFault>
+        requires { file ≤ 1 }
+        ensures length { IfOk result (λ n. IfTold (sight self.old).told (λ d. n ≡ length (bytes_of file d))) }
+        ensures most { IfOk result (λ n. n ≤ 2 ^ 62) }
+        ensures told { MatchResult result (λ _. Both (Measures file) (sight self.old).told (sight self.new).told) (λ _. Both Idles (sight self.old).told (sight self.new).told) }
+        ensures counts { Counted result (sight self.old) (sight self.new) };
+
+    /// Fills `into` with the file's bytes from a place on. The range lies in the file.
+    fn read_at(&mut self, file: u8, place: u64, into: &mut [u8]) -> Result<(), DiskFault>
+        requires file { file ≤ 1 }
+        requires within { IfTold (sight self.old).told (λ d. place + length into.old ≤ length (bytes_of file d)) }
+        ensures bytes { IfOk result (λ _. IfTold (sight self.old).told (λ d. into.new ≡ take (length into.old) (drop place (bytes_of file d)))) }
+        ensures told { MatchResult result (λ _. Both (Fetches file place (length into.old)) (sight self.old).told (sight self.new).told) (λ _. Both Idles (sight self.old).told (sight self.new).told) }
+        ensures counts { Counted result (sight self.old) (sight self.new) };
+
+    /// Writes a piece over the file from a place on, which is at most its length. A write that would pass 2^62 bytes is
+    /// a fault. After a fault the range may hold any bytes.
+    fn write_at(&mut self, file: u8, place: u64, piece: &[u8]) -> Result<(), DiskFault>
+        requires file { file ≤ 1 }
+        requires within { IfTold (sight self.old).told (λ d. place ≤ length (bytes_of file d)) }
+        ensures most { IfOk result (λ _. place + length piece.now ≤ 2 ^ 62) }
+        ensures told { MatchResult result (λ _. Both (Writes file place piece.now) (sight self.old).told (sight self.new).told) (λ _. Both (Tears file place (length piece.now)) (sight self.old).told (sight self.new).told) }
+        ensures counts { Counted result (sight self.old) (sight self.new) };
+
+    /// After Ok the file is on the disk as it reads.
+    fn sync(&mut self, file: u8) -> Result<(), DiskFault>
+        requires { file ≤ 1 }
+        ensures told { MatchResult result (λ _. Both (Syncs file) (sight self.old).told (sight self.new).told) (λ _. Both Idles (sight self.old).told (sight self.new).told) }
+        ensures counts { Counted result (sight self.old) (sight self.new) };
+
+    /// The device calls and the faults so far. It is no device call.
+    fn counts(&self) -> Counts
+        ensures ticks { result.ticks ≡ (sight self.now).ticks }
+        ensures faults { result.faults ≡ (sight self.now).faults };
+
+    /// The counts fit, and there is a tick for each call that is told.
+    ghost counted: { (disk : Self) → IsCounted (sight disk) };
+}

@@ -1,0 +1,256 @@
+// A disk in memory, which tells all that was done to it.
+
+ghost use Rattle.std.specs.Prelude.{◌≡◌, ◌≤◌, ◌<◌, ◌+◌, ◌^◌, ◌-◌, List, Some, None, length, IfOk, OnOk, OnErr, MatchResult};
+ghost use Rattle.disk_model.specs.Records.{device_of};
+ghost use Rattle.disk_model.specs.Contents.{IsReplayed};
+ghost use Rattle.disk_model.specs.Counting.{raised};
+
+use crate::Counts;
+use crate::calls::{Call, Entry};
+use crate::disk::{Disk, DiskFault};
+use crate::images::{Keep, image_of, overwrite};
+use cc_names::memory::NoMemory;
+use cc_names::texts::Text;
+use std::alloc::Global;
+
+/// The length that no file of a disk passes, 2^62.
+const MAX_LENGTH: u64 = 1 << 62;
+
+/// Both files.
+#[derive(Drop)]
+struct Contents {
+    journal: Vec<u8>,
+    objects: Vec<u8>,
+}
+
+impl Contents {
+    fn of(alloc: Global, journal: &[u8], objects: &[u8]) -> Result<Contents, NoMemory>
+        ensures { IfOk result (λ contents. (contents.journal.items ≡ journal.now) × (contents.objects.items ≡ objects.now)) }
+    {
+        Ok(Contents {
+            journal: Vec::from_slice(alloc, journal)?,
+            objects: Vec::from_slice(alloc, objects)?,
+        })
+    }
+}
+
+/// A disk in memory, which tells all that was done to it and keeps a record of all its calls. It grows as it is written,
+/// and so does its record; each call for which there is no memory is a fault that changes nothing.
+#[derive(Drop)]
+pub struct MemoryDisk {
+    alloc: Global,
+    first: Contents,
+    current: Contents,
+    fail: Vec<u64>,
+    entries: Vec<Entry>,
+    /// How many calls failed and changed nothing since the last entry.
+    failed: u64,
+    ticks: u64,
+    faults: u64,
+    ghost replayed: { IsReplayed (device_of first.journal.items first.objects.items entries.items failed) current.journal.items current.objects.items ticks faults },
+}
+
+impl MemoryDisk {
+    ghost use Rattle.disk_model.specs.Files.{overwritten};
+    ghost use Rattle.disk_model.specs.Devices.{bytes_of, Idles};
+    ghost use Rattle.disk_model.specs.Records.{called, ChangesNoBytes};
+    ghost use Rattle.disk_model.specs.Told.{Counted};
+    ghost use Rattle.disk_model.specs.MemoryDisks.{told_by, sight_of, handed_in, IsCrash};
+    ghost use Rattle.disk_model.specs.declared.calls.Call.TheVariants as calls;
+
+    /// A disk that holds these two files, stable, on which no call was made. A call fails where its number, counted from
+    /// 1, is in `fail`: a write then leaves the front half of its piece, any other call changes nothing.
+    pub fn new(
+        alloc: Global,
+        journal: &[u8],
+        objects: &[u8],
+        fail: &[u64],
+    ) -> Result<MemoryDisk, NoMemory>
+        ensures { IfOk result (λ disk. sight_of disk ≡ handed_in journal.now objects.now) }
+    {
+        Ok(MemoryDisk {
+            alloc,
+            first: Contents::of(alloc, journal, objects)?,
+            current: Contents::of(alloc, journal, objects)?,
+            fail: Vec::from_slice(alloc, fail)?,
+            entries: Vec::new(alloc),
+            failed: 0,
+            ticks: 0,
+            faults: 0,
+        })
+    }
+
+    /// What a stop at this call leaves, one past the last meaning after it: a disk that holds one image of each file,
+    /// stable, on which no call was made and none is to fail. Pick 0 keeps no write since the last sync, 1 keeps all,
+    /// another fills the ranges written since with its low byte. Takes time linear in all that was written.
+    pub fn crash(&self, alloc: Global, call: u64, pick: u64) -> Result<MemoryDisk, NoMemory>
+        requires from { 1 ≤ call }
+        requires to { call ≤ (sight_of self.now).ticks + 1 }
+        ensures { IfOk result (λ disk. IsCrash (told_by self.now) call (sight_of disk)) }
+    {
+        let keep = Keep::of(pick);
+        let entries = self.entries.as_slice();
+        let journal = image_of(alloc, self.first.journal.as_slice(), entries, 0, call, keep)?;
+        let objects = image_of(alloc, self.first.objects.as_slice(), entries, 1, call, keep)?;
+        MemoryDisk::new(alloc, journal.as_slice(), objects.as_slice(), &[])
+    }
+
+    /// The calls that were carried out, the oldest first.
+    pub fn entries(&self) -> &[Entry]
+        ensures { result.now ≡ self.now.entries.items }
+    {
+        self.entries.as_slice()
+    }
+
+    /// A file as it reads.
+    pub fn bytes(&self, file: u8) -> &[u8]
+        requires { file ≤ 1 }
+        ensures { result.now ≡ bytes_of file (told_by self.now) }
+    {
+        if file == 0 {
+            self.current.journal.as_slice()
+        } else {
+            self.current.objects.as_slice()
+        }
+    }
+
+    /// Whether the next call is one that is to fail.
+    fn is_planned(&self) -> bool {
+        self.ticks < u64::MAX && self.fail.as_slice().contains(&(self.ticks + 1))
+    }
+
+    fn count_fault(&mut self)
+        ensures told { told_by self.new ≡ told_by self.old }
+        ensures ticks { self.new.ticks ≡ self.old.ticks }
+        ensures faults { self.new.faults ≡ raised self.old.faults }
+    {
+        self.faults = self.faults.saturating_add(1);
+    }
+
+    /// A call that fails and changes nothing.
+    fn miss(&mut self) -> DiskFault
+        ensures told { Idles (told_by self.old) (told_by self.new) }
+        ensures ticks { self.new.ticks ≡ raised self.old.ticks }
+        ensures faults { self.new.faults ≡ raised self.old.faults }
+    {
+        self.count_fault();
+        if self.ticks < u64::MAX {
+            self.ticks += 1;
+            self.failed += 1;
+        }
+        DiskFault
+    }
+
+    /// A call that changes no bytes.
+    fn make(&mut self, call: Call) -> Result<(), DiskFault>
+        requires { ChangesNoBytes call }
+        ensures told { MatchResult result (λ _. told_by self.new ≡ called call (told_by self.old)) (λ _. Idles (told_by self.old) (told_by self.new)) }
+        ensures counts { Counted result (sight_of self.old) (sight_of self.new) }
+    {
+        if self.ticks == u64::MAX || self.is_planned() {
+            return Err(self.miss());
+        }
+        match self.entries.push(Entry {
+            failed_before: self.failed,
+            call,
+        }) {
+            Ok(()) => {
+                self.failed = 0;
+                self.ticks += 1;
+                Ok(())
+            }
+            Err(_) => Err(self.miss()),
+        }
+    }
+
+    /// A write of which these bytes land, and so many behind them are lost.
+    fn put(&mut self, file: u8, place: u64, landed: &[u8], lost: u64) -> Result<(), DiskFault>
+        requires { file ≤ 1 }
+        ensures told { MatchResult result (λ _. told_by self.new ≡ called (calls.Write file place landed.now lost) (told_by self.old)) (λ _. Idles (told_by self.old) (told_by self.new)) }
+        ensures counts { Counted result (sight_of self.old) (sight_of self.new) }
+    {
+        if self.ticks == u64::MAX {
+            return Err(self.miss());
+        }
+        let Ok(text) = Text::from_bytes(self.alloc, landed) else {
+            return Err(self.miss());
+        };
+        if self.entries.reserve(1).is_err() {
+            return Err(self.miss());
+        }
+        let written = if file == 0 {
+            overwrite(&mut self.current.journal, place, landed)
+        } else {
+            overwrite(&mut self.current.objects, place, landed)
+        };
+        if written.is_err() {
+            return Err(self.miss());
+        }
+        let call = Call::Write {
+            file,
+            place,
+            landed: text,
+            lost,
+        };
+        let _ = self.entries.push(Entry {
+            failed_before: self.failed,
+            call,
+        });
+        self.failed = 0;
+        self.ticks += 1;
+        Ok(())
+    }
+}
+
+impl Disk for MemoryDisk {
+    ghost use Rattle.disk_model.specs.MemoryDisks.{sight_of};
+
+    ghost sight = { sight_of };
+
+    ghost counted = { λ disk. record { ticks = disk.replayed.ticks_fit; faults = disk.replayed.faults_fit; told = disk.replayed.a_tick_each } };
+
+    fn length(&mut self, file: u8) -> Result<u64, DiskFault> {
+        let length = self.bytes(file).len() as u64;
+        if length > MAX_LENGTH {
+            return Err(self.miss());
+        }
+        self.make(Call::Length { file })?;
+        Ok(length)
+    }
+
+    fn read_at(&mut self, file: u8, place: u64, into: &mut [u8]) -> Result<(), DiskFault> {
+        let size = into.len();
+        let from = place as usize;
+        into.copy_from_slice(&self.bytes(file)[from..from + size]);
+        self.make(Call::Read {
+            file,
+            place,
+            size: size as u64,
+        })
+    }
+
+    fn write_at(&mut self, file: u8, place: u64, piece: &[u8]) -> Result<(), DiskFault> {
+        let size = piece.len() as u64;
+        if place > MAX_LENGTH || size > MAX_LENGTH - place {
+            return Err(self.miss());
+        }
+        if !self.is_planned() {
+            return self.put(file, place, piece, 0);
+        }
+        let half = piece.len() - piece.len() / 2;
+        self.put(file, place, &piece[..half], (piece.len() - half) as u64)?;
+        self.count_fault();
+        Err(DiskFault)
+    }
+
+    fn sync(&mut self, file: u8) -> Result<(), DiskFault> {
+        self.make(Call::Sync { file })
+    }
+
+    fn counts(&self) -> Counts {
+        Counts {
+            ticks: self.ticks,
+            faults: self.faults,
+        }
+    }
+}

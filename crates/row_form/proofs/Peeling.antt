@@ -1,0 +1,77 @@
+-- A field's spelling tells the field and what follows it.
+use Rattle.std.proofs.Common.{◌≡◌, ℕ, Ok, Err, List, ◌++◌, length, take, drop, refl, sym, ◌∙◌, ap, arith}
+use Rattle.std.specs.Int.{w32, w64, from_le_bytes}
+use Rattle.std.proofs.lemmas.List.{append_assoc, take_at, drop_at}
+use Rattle.std.proofs.lemmas.Nat.{from_le_bytes-to_le_bytes_4, from_le_bytes-to_le_bytes_8}
+use Rattle.std.proofs.lemmas.Grind.{common_steps}
+use Rattle.cc_names.specs.Formed.{IsWord, IsLong, IsText, IsBelowRoot}
+use Rattle.cc_names.specs.Names.{IsName, name_of, unless_fault}
+use Rattle.cc_names.specs.Paths.{IsPath, path_of}
+use Rattle.cc_names.specs.declared.names.NameFault.{NameFault}
+use Rattle.row_form.specs.Fields.{byte, word, long, text}
+use Rattle.row_form.specs.Reading.{NoneAt}
+
+-- two fronts of one length that are followed by something are the same
+pub fronts : (a b x y : List ℕ) → length a ≡ length b → a ++ x ≡ b ++ y → (a ≡ b) × (x ≡ y)
+fronts a b x y len e =
+    (sym (take_at a x (length a) refl) ∙ ap (take (length a)) e ∙ take_at b y (length a) (sym len),
+     sym (drop_at a x (length a) refl) ∙ ap (drop (length a)) e ∙ drop_at b y (length a) (sym len))
+
+pub peel_byte : (m n : ℕ) (x y : List ℕ) → byte m ++ x ≡ byte n ++ y → (m ≡ n) × (x ≡ y)
+peel_byte m n x y e = (cc, cc)
+
+pub peel_word : (m n : ℕ) (x y : List ℕ) → IsWord m → IsWord n → word m ++ x ≡ word n ++ y → (m ≡ n) × (x ≡ y)
+peel_word m n x y hm hn e =
+    let f = fronts (word m) (word n) x y refl e in
+    (sym (from_le_bytes-to_le_bytes_4 m hm) ∙ ap (from_le_bytes w32) f.0 ∙ from_le_bytes-to_le_bytes_4 n hn, f.1)
+
+pub peel_long : (m n : ℕ) (x y : List ℕ) → IsLong m → IsLong n → long m ++ x ≡ long n ++ y → (m ≡ n) × (x ≡ y)
+peel_long m n x y hm hn e =
+    let f = fronts (long m) (long n) x y refl e in
+    (sym (from_le_bytes-to_le_bytes_8 m hm) ∙ ap (from_le_bytes w64) f.0 ∙ from_le_bytes-to_le_bytes_8 n hn, f.1)
+
+pub peel_text : (a b x y : List ℕ) → IsText a → IsText b → text a ++ x ≡ text b ++ y → (a ≡ b) × (x ≡ y)
+peel_text a b x y ha hb e =
+    let w = peel_word (length a) (length b) (a ++ x) (b ++ y) ha hb (sym (append_assoc (word (length a)) a x) ∙ e ∙ append_assoc (word (length b)) b y) in
+    fronts a b x y w.0 w.1
+
+-- where its first field is none, a thing of two fields is none
+pub none_first : (A B C : Type 0) (one : A → List ℕ) (two : B → List ℕ) (GoodA : A → Type 0) (GoodC : C → Type 0) (f : C → A) (g : C → B) (whole : C → List ℕ)
+    → ((c : C) → whole c ≡ one (f c) ++ two (g c)) → ((c : C) → GoodC c → GoodA (f c)) → (old : List ℕ) → NoneAt one GoodA old → NoneAt whole GoodC old
+none_first A B C one two GoodA GoodC f g whole splits good old none = λ c rest h e.
+    none (f c) (two (g c) ++ rest) (good c h) (e ∙ ap (λ s. s ++ rest) (splits c) ∙ append_assoc (one (f c)) (two (g c)) rest)
+
+-- where its first field is read and its second is none, it is none
+pub none_second : (A B C : Type 0) (one : A → List ℕ) (two : B → List ℕ) (GoodA : A → Type 0) (GoodB : B → Type 0) (GoodC : C → Type 0) (f : C → A) (g : C → B) (whole : C → List ℕ)
+    → ((c : C) → whole c ≡ one (f c) ++ two (g c)) → ((c : C) → GoodC c → GoodA (f c)) → ((c : C) → GoodC c → GoodB (g c))
+    → ((a b : A) (x y : List ℕ) → GoodA a → GoodA b → one a ++ x ≡ one b ++ y → (a ≡ b) × (x ≡ y))
+    → (old new : List ℕ) (a : A) → GoodA a → old ≡ one a ++ new → NoneAt two GoodB new → NoneAt whole GoodC old
+none_second A B C one two GoodA GoodB GoodC f g whole splits goodA goodB peel old new a ha read none = λ c rest h e.
+    let e' : one a ++ new ≡ one (f c) ++ (two (g c) ++ rest) = sym read ∙ e ∙ ap (λ s. s ++ rest) (splits c) ∙ append_assoc (one (f c)) (two (g c)) rest in
+    none (g c) rest (goodB c h) (peel a (f c) new (two (g c) ++ rest) ha (goodA c h) e').1
+
+-- a name and a path are short
+pub name_short : (bytes : List ℕ) → IsName bytes → IsText bytes
+name_short bytes h = grind (arith, common_steps)
+
+pub path_short : (bytes : List ℕ) → IsPath bytes → IsText bytes
+path_short bytes h = grind (arith, common_steps)
+
+name_is : (bytes : List ℕ) → IsName bytes → name_of bytes ≡ Ok bytes
+name_is bytes h = ap (λ fault. unless_fault fault bytes) h.no_fault
+
+path_is : (bytes : List ℕ) → IsPath bytes → path_of bytes ≡ Ok bytes
+path_is bytes h = ap (λ fault. unless_fault fault bytes) h.no_fault
+
+-- bytes that are read as no name are none
+pub no_name : (bytes old new : List ℕ) (fault : NameFault) → IsText bytes → old ≡ text bytes ++ new → name_of bytes ≡ Err fault → NoneAt text IsName old
+no_name bytes old new fault short read is = λ name rest h e.
+    let peeled = peel_text bytes name new rest short (name_short name h) (sym read ∙ e) in
+    let clash : Err fault ≡ Ok name = sym is ∙ ap name_of peeled.0 ∙ name_is name h in
+    cc
+
+pub no_path : (bytes old new : List ℕ) (fault : NameFault) → IsText bytes → old ≡ text bytes ++ new → path_of bytes ≡ Err fault → NoneAt text IsBelowRoot old
+no_path bytes old new fault short read is = λ path rest h e.
+    let peeled = peel_text bytes path new rest short (path_short path h.0) (sym read ∙ e) in
+    let clash : Err fault ≡ Ok path = sym is ∙ ap path_of peeled.0 ∙ path_is path h.0 in
+    cc

@@ -1,0 +1,376 @@
+// How a row is spelled.
+#![tactic(auto, using(std::proofs::lemmas::List::append_assoc))]
+
+ghost use Rattle.std.specs.Prelude.{◌≡◌, ◌<◌, ◌^◌, ◌∷◌, [], ◌++◌, List, ℕ, length, IfOk, OnOk};
+ghost use Rattle.std.specs.List.{flat_map, AllByRecursion};
+ghost use Rattle.cc_names.specs.Formed.{IsDeedFormed, IsText, IsStored};
+ghost use Rattle.row_form.specs.Fields.{word, long, text, listed, flag, kind, type_kind, out_byte, entry, place_of, stored};
+ghost use Rattle.row_form.specs.Spelled.{spelled, fields_of, code_of, first_byte, form_of};
+
+use cc_names::memory::NoMemory;
+use cc_names::names::Name;
+use cc_names::paths::Path;
+use cc_names::rows::{Deed, Extent, Kind, Out, Placed, ReadOf, Row, Stored, TypeKind};
+use cc_names::texts::Text;
+use std::alloc::Global;
+
+/// The spelling of a row, in time linear in it.
+pub fn spell(alloc: Global, row: &Row) -> Result<Text, NoMemory>
+    ensures { IfOk result (λ bytes. bytes ≡ spelled row.now) }
+{
+    let deed = row.deed();
+    let tag = row.tag();
+    let mut out = Vec::new(alloc);
+    out.push(first_byte(deed))?;
+    put_word(&mut out, tag.phase)?;
+    put_word(&mut out, tag.lane)?;
+    put_word(&mut out, tag.command)?;
+    put_long(&mut out, row.moment())?;
+    out.push(code_of(deed))?;
+    put_fields(&mut out, deed)?;
+    Ok(Text::of(out))
+}
+
+fn form_of(targets: &[Path]) -> u8
+    ensures { result ≡ form_of targets.now }
+{
+    match targets {
+        [_, _, ..] => 2,
+        _ => 1,
+    }
+}
+
+fn first_byte(deed: &Deed) -> u8
+    ensures { result ≡ first_byte deed.now }
+{
+    match deed {
+        Deed::Publish { view: _, targets, script: _, entries: _, outputs: _ } => form_of(targets.as_slice()),
+        Deed::PublishAt { view: _, targets, script: _, entries: _, outputs: _ } => form_of(targets.as_slice()),
+        _ => 1,
+    }
+}
+
+fn code_of(deed: &Deed) -> u8
+    ensures { result ≡ code_of deed.now }
+{
+    match deed {
+        Deed::Mkview { .. } => 1,
+        Deed::Rmview { .. } => 2,
+        Deed::Setcs { .. } => 3,
+        Deed::Mkelem { .. } => 4,
+        Deed::Checkout { .. } => 5,
+        Deed::Branch { .. } => 6,
+        Deed::Save { .. } => 7,
+        Deed::Checkin { .. } => 8,
+        Deed::Uncheckout { .. } => 9,
+        Deed::Rmname { .. } => 10,
+        Deed::Mv { .. } => 11,
+        Deed::Put { .. } => 12,
+        Deed::Rm { .. } => 13,
+        Deed::Mktype { .. } => 14,
+        Deed::Label { .. } => 15,
+        Deed::Unlabel { .. } => 16,
+        Deed::Publish { .. } => 17,
+        Deed::Wink { .. } => 18,
+        Deed::Drop { .. } => 19,
+        Deed::Scrub { .. } => 20,
+        Deed::Labels { .. } => 21,
+        Deed::Arrow { .. } => 22,
+        Deed::PublishAt { .. } => 23,
+    }
+}
+
+fn put_word(out: &mut Vec<u8>, number: u32) -> Result<(), NoMemory>
+    ensures { OnOk result (out.new.items ≡ out.old.items ++ word number) }
+{
+    out.extend_from_slice(&number.to_le_bytes())?;
+    Ok(())
+}
+
+fn put_long(out: &mut Vec<u8>, number: u64) -> Result<(), NoMemory>
+    ensures { OnOk result (out.new.items ≡ out.old.items ++ long number) }
+{
+    out.extend_from_slice(&number.to_le_bytes())?;
+    Ok(())
+}
+
+fn put_byte(out: &mut Vec<u8>, byte: u8) -> Result<(), NoMemory>
+    ensures { OnOk result (out.new.items ≡ out.old.items ++ byte ∷ []) }
+{
+    out.push(byte)?;
+    Ok(())
+}
+
+fn put_text(out: &mut Vec<u8>, bytes: &[u8]) -> Result<(), NoMemory>
+    requires { length bytes.now < 2 ^ 32 }
+    ensures { OnOk result (out.new.items ≡ out.old.items ++ text bytes.now) }
+{
+    put_word(out, bytes.len() as u32)?;
+    out.extend_from_slice(bytes)?;
+    Ok(())
+}
+
+fn put_body(out: &mut Vec<u8>, body: &Text) -> Result<(), NoMemory>
+    requires { IsText body.now }
+    ensures { OnOk result (out.new.items ≡ out.old.items ++ text body.now) }
+{
+    put_text(out, body.as_bytes())
+}
+
+fn put_name(out: &mut Vec<u8>, name: &Name) -> Result<(), NoMemory>
+    ensures { OnOk result (out.new.items ≡ out.old.items ++ text name.now) }
+{
+    put_text(out, name.as_bytes())
+}
+
+fn put_path(out: &mut Vec<u8>, path: &Path) -> Result<(), NoMemory>
+    ensures { OnOk result (out.new.items ≡ out.old.items ++ text path.now) }
+{
+    put_text(out, path.as_bytes())
+}
+
+fn put_flag(out: &mut Vec<u8>, is: bool) -> Result<(), NoMemory>
+    ensures { OnOk result (out.new.items ≡ out.old.items ++ flag is) }
+{
+    if is { put_byte(out, 1) } else { put_byte(out, 0) }
+}
+
+fn put_kind(out: &mut Vec<u8>, sort: Kind) -> Result<(), NoMemory>
+    ensures { OnOk result (out.new.items ≡ out.old.items ++ kind sort) }
+{
+    match sort {
+        Kind::File => put_byte(out, 1),
+        Kind::Directory => put_byte(out, 2),
+    }
+}
+
+fn put_type_kind(out: &mut Vec<u8>, sort: TypeKind) -> Result<(), NoMemory>
+    ensures { OnOk result (out.new.items ≡ out.old.items ++ type_kind sort) }
+{
+    match sort {
+        TypeKind::Label => put_byte(out, 1),
+        TypeKind::Branch => put_byte(out, 2),
+    }
+}
+
+fn put_out(out: &mut Vec<u8>, how: Out) -> Result<(), NoMemory>
+    ensures { OnOk result (out.new.items ≡ out.old.items ++ out_byte how) }
+{
+    match how {
+        Out::No => put_byte(out, 0),
+        Out::Reserved => put_byte(out, 1),
+        Out::Unreserved => put_byte(out, 2),
+    }
+}
+
+/// A member of a list, as it is spelled.
+trait Put {
+    ghost spelled: { Self → List ℕ };
+
+    ghost fits: { Self → Type 0 };
+
+    fn put(&self, out: &mut Vec<u8>) -> Result<(), NoMemory>
+        requires { fits self.now }
+        ensures { OnOk result (out.new.items ≡ out.old.items ++ spelled self.now) };
+}
+
+impl Put for Path {
+    ghost spelled = { text };
+
+    ghost fits = { λ path. Unit {0} };
+
+    fn put(&self, out: &mut Vec<u8>) -> Result<(), NoMemory> {
+        put_path(out, self)
+    }
+}
+
+impl Put for Text {
+    ghost spelled = { text };
+
+    ghost fits = { IsText };
+
+    fn put(&self, out: &mut Vec<u8>) -> Result<(), NoMemory> {
+        put_text(out, self.as_bytes())
+    }
+}
+
+impl Put for ReadOf {
+    ghost spelled = { entry };
+
+    ghost fits = { λ read. Unit {0} };
+
+    fn put(&self, out: &mut Vec<u8>) -> Result<(), NoMemory> {
+        put_path(out, &self.path)?;
+        put_long(out, self.row)
+    }
+}
+
+impl Put for u64 {
+    ghost spelled = { long };
+
+    ghost fits = { λ number. Unit {0} };
+
+    fn put(&self, out: &mut Vec<u8>) -> Result<(), NoMemory> {
+        put_long(out, *self)
+    }
+}
+
+impl Put for Placed {
+    ghost spelled = { place_of };
+
+    ghost fits = { λ placed. Unit {0} };
+
+    fn put(&self, out: &mut Vec<u8>) -> Result<(), NoMemory> {
+        put_pair(out, self.element, self.version)
+    }
+}
+
+fn put_pair(out: &mut Vec<u8>, first: u64, second: u64) -> Result<(), NoMemory>
+    ensures { OnOk result (out.new.items ≡ out.old.items ++ (long first ++ long second)) }
+{
+    put_long(out, first)?;
+    put_long(out, second)
+}
+
+fn put_extent(out: &mut Vec<u8>, extent: Extent) -> Result<(), NoMemory>
+    ensures { OnOk result (out.new.items ≡ out.old.items ++ (long extent.place ++ long extent.length)) }
+{
+    put_pair(out, extent.place, extent.length)
+}
+
+impl Put for Stored {
+    ghost spelled = { stored };
+
+    ghost fits = { IsStored };
+
+    fn put(&self, out: &mut Vec<u8>) -> Result<(), NoMemory> {
+        match self {
+            Stored::Here(bytes) => {
+                put_byte(out, 0)?;
+                put_text(out, bytes.as_bytes())
+            }
+            Stored::There(extent) => {
+                put_byte(out, 1)?;
+                put_extent(out, *extent)
+            }
+        }
+    }
+}
+
+fn put_list<M: Put>(out: &mut Vec<u8>, members: &[M]) -> Result<(), NoMemory>
+    requires short { length members.now < 2 ^ 32 }
+    requires fit { AllByRecursion M.fits members.now }
+    ensures { OnOk result (out.new.items ≡ out.old.items ++ listed M.spelled members.now) }
+{
+    put_word(out, members.len() as u32)?;
+    for member in members {
+        member.put(out)?;
+    }
+    Ok(())
+}
+
+fn put_two(out: &mut Vec<u8>, name: &Name, number: u64) -> Result<(), NoMemory>
+    ensures { OnOk result (out.new.items ≡ out.old.items ++ (text name.now ++ long number)) }
+{
+    put_name(out, name)?;
+    put_long(out, number)
+}
+
+fn put_object(out: &mut Vec<u8>, view: &Name, targets: &[Path], script: &Text, entries: &[ReadOf]) -> Result<(), NoMemory>
+    requires targets { length targets.now < 2 ^ 32 }
+    requires script { IsText script.now }
+    requires entries { length entries.now < 2 ^ 32 }
+    ensures { OnOk result (out.new.items ≡ out.old.items ++ (text view.now ++ (listed text targets.now ++ (text script.now ++ listed entry entries.now)))) }
+{
+    put_name(out, view)?;
+    put_list(out, targets)?;
+    put_text(out, script.as_bytes())?;
+    put_list(out, entries)
+}
+
+/// The fields of a deed, in order.
+fn put_fields(out: &mut Vec<u8>, deed: &Deed) -> Result<(), NoMemory>
+    requires { IsDeedFormed deed.now }
+    ensures { OnOk result (out.new.items ≡ out.old.items ++ fields_of deed.now) }
+{
+    match deed {
+        Deed::Mkview { view } => put_name(out, view),
+        Deed::Rmview { view } => put_name(out, view),
+        Deed::Setcs { view, text } => {
+            put_name(out, view)?;
+            put_body(out, text)
+        }
+        Deed::Mkelem { view, directory, name, kind, out: is_out } => {
+            put_two(out, view, *directory)?;
+            put_name(out, name)?;
+            put_kind(out, *kind)?;
+            put_flag(out, *is_out)
+        }
+        Deed::Checkout { view, element, origin, reserved } => {
+            put_two(out, view, *element)?;
+            put_long(out, *origin)?;
+            put_flag(out, *reserved)
+        }
+        Deed::Branch { view, element, origin, name, out: how } => {
+            put_two(out, view, *element)?;
+            put_long(out, *origin)?;
+            put_name(out, name)?;
+            put_out(out, *how)
+        }
+        Deed::Save { view, element, text } => {
+            put_two(out, view, *element)?;
+            put_body(out, text)
+        }
+        Deed::Checkin { view, element } => put_two(out, view, *element),
+        Deed::Uncheckout { view, element } => put_two(out, view, *element),
+        Deed::Rmname { view, directory, name } => {
+            put_two(out, view, *directory)?;
+            put_name(out, name)
+        }
+        Deed::Mv { view, directory, from_name, to_name } => {
+            put_two(out, view, *directory)?;
+            put_name(out, from_name)?;
+            put_name(out, to_name)
+        }
+        Deed::Put { view, path, text } => {
+            put_name(out, view)?;
+            put_path(out, path)?;
+            put_body(out, text)
+        }
+        Deed::Rm { view, path } => {
+            put_name(out, view)?;
+            put_path(out, path)
+        }
+        Deed::Mktype { kind, name } => {
+            put_type_kind(out, *kind)?;
+            put_name(out, name)
+        }
+        Deed::Label { label, element, version } => {
+            put_two(out, label, *element)?;
+            put_long(out, *version)
+        }
+        Deed::Unlabel { label, element } => put_two(out, label, *element),
+        Deed::Publish { view, targets, script, entries, outputs } => {
+            put_object(out, view, targets.as_slice(), script, entries.as_slice())?;
+            put_list(out, outputs.as_slice())
+        }
+        Deed::Wink { view, object } => put_two(out, view, *object),
+        Deed::Drop { view, path } => {
+            put_name(out, view)?;
+            put_path(out, path)
+        }
+        Deed::Scrub { objects } => put_list(out, objects.as_slice()),
+        Deed::Labels { label, placed } => {
+            put_name(out, label)?;
+            put_list(out, placed.as_slice())
+        }
+        Deed::Arrow { element, tail, head } => {
+            put_pair(out, *element, *tail)?;
+            put_long(out, *head)
+        }
+        Deed::PublishAt { view, targets, script, entries, outputs } => {
+            put_object(out, view, targets.as_slice(), script, entries.as_slice())?;
+            put_list(out, outputs.as_slice())
+        }
+    }
+}

@@ -1,0 +1,84 @@
+-- How stops are told along calls.
+use Rattle.std.proofs.Common.{◌≡◌, ℕ, List, length, refl, sym, ◌∙◌, subst, inl, inr, arith}
+use Rattle.disk_model.specs.Files.{File, IsImage, IsTorn, overwritten}
+use Rattle.disk_model.specs.Devices.{Device, Event, Wrote, Synced, Failed, added, file_of, bytes_of, written_to, during, LeavesNow}
+use Rattle.disk_model.proofs.Torn.{torn_overwritten}
+use Rattle.vob_journal.specs.Calls.{put_down}
+use Rattle.vob_journal.specs.Moves.{Passes}
+use Rattle.vob_journal.specs.Phases.{FailsToPut}
+
+pub passes_none : (d : Device) (P : List ℕ → Type 0) → Passes d d P
+passes_none d P = record { no_fewer = omega arith; each = λ k image left. inl left; others = λ k image left. inl left; objects = refl }
+
+pub passes_then : (d e f : Device) (P : List ℕ → Type 0) → Passes d e P → Passes e f P → Passes d f P
+passes_then d e f P one two = record {
+  no_fewer = omega (arith, one.no_fewer, two.no_fewer);
+  each = λ k image left. elim (two.each k image left) [
+    | inl earlier ↦ one.each k image earlier
+    | inr now ↦ inr (omega (arith, one.no_fewer, now.0), now.1)
+  ];
+  others = λ k image left. elim (two.others k image left) [
+    | inl earlier ↦ one.others k image earlier
+    | inr now ↦ inr (omega (arith, one.no_fewer, now.0), subst (λ s. IsImage s image) one.objects now.1)
+  ];
+  objects = two.objects ∙ one.objects;
+}
+
+pub passes_weaker : (d e : Device) (P Q : List ℕ → Type 0) → ((image : List ℕ) → P image → Q image) → Passes d e P → Passes d e Q
+passes_weaker d e P Q f passes = record {
+  no_fewer = passes.no_fewer;
+  each = λ k image left. elim (passes.each k image left) [ inl earlier ↦ inl earlier | inr now ↦ inr (now.0, f image now.1) ];
+  others = passes.others;
+  objects = passes.objects;
+}
+
+-- one call that leaves the objects alone
+pub passes_call : (event : Event) (d : Device) (P : List ℕ → Type 0)
+    → ((image : List ℕ) → IsImage (during 0 event (file_of 0 d)) image → P image)
+    → ((image : List ℕ) → IsImage (during 1 event (file_of 1 d)) image → LeavesNow 1 d image)
+    → file_of 1 (added event d) ≡ file_of 1 d → Passes d (added event d) P
+passes_call event d P here there objects = record {
+  no_fewer = omega arith;
+  each = λ k image left. elim left [ inl now ↦ inr (omega (arith, now.0), here image now.1) | inr earlier ↦ inl earlier ];
+  others = λ k image left. elim left [ inl now ↦ inr (omega (arith, now.0), there image now.1) | inr earlier ↦ inl earlier ];
+  objects = objects;
+}
+
+-- A piece is put down on the journal, or part of it: T is what holds of the file, whatever of the piece landed, and P of
+-- its images.
+module _ (T : File → Type 0) (P : List ℕ → Type 0) (place size : ℕ)
+    (images : (s : File) → T s → (image : List ℕ) → IsImage s image → P image)
+    (torn : (s : File) (left : List ℕ) → T s → IsTorn place size s.bytes left → T (written_to s place size left)) where
+  failed_passes : (d : Device) → T (file_of 0 d) → Passes d (added Failed d) P
+  failed_passes d t = passes_call Failed d P (images (file_of 0 d) t) (λ image h. h) refl
+
+  wrote_passes : (d : Device) (left : List ℕ) → T (file_of 0 d) → IsTorn place size (bytes_of 0 d) left → Passes d (added (Wrote 0 place size left) d) P
+  wrote_passes d left t h =
+      passes_call (Wrote 0 place size left) d P (images (written_to (file_of 0 d) place size left) (torn (file_of 0 d) left t h)) (λ image i. i) refl
+
+  pub failed_put : (d e : Device) → T (file_of 0 d) → FailsToPut place size d e → Passes d e P × T (file_of 0 e)
+  failed_put d e t h = elim h [
+    | inl same ↦ subst (λ f. Passes d f P × T (file_of 0 f)) (sym same) (passes_none d P, t)
+    | inr more ↦ elim more [
+      | inl missed ↦ subst (λ f. Passes d f P × T (file_of 0 f)) (sym missed) (failed_passes d t, t)
+      | inr wrote ↦
+          let left = wrote.0 in
+          let one = wrote_passes d left t wrote.1 in
+          let kept = torn (file_of 0 d) left t wrote.1 in
+          let mid = added (Wrote 0 place size left) d in
+          elim wrote.2 [
+            | inl whole ↦ subst (λ f. Passes d f P × T (file_of 0 f)) (sym whole) (one, kept)
+            | inr missed ↦ subst (λ f. Passes d f P × T (file_of 0 f)) (sym missed) (passes_then d mid (added Failed mid) P one (failed_passes mid kept), kept)
+          ]
+    ]
+  ]
+
+  pub put_passes : (d : Device) (piece : List ℕ) → length piece ≡ size → T (file_of 0 d) → Passes d (put_down place piece d) P
+  put_passes d piece is t =
+      let left = overwritten place piece (bytes_of 0 d) in
+      let whole : IsTorn place size (bytes_of 0 d) left = torn_overwritten place size piece (bytes_of 0 d) (omega arith) in
+      let mid = added (Wrote 0 place size left) d in
+      let kept = torn (file_of 0 d) left t whole in
+      subst (λ n. Passes d (added (Synced 0) (added (Wrote 0 place n left) d)) P) (sym is)
+      (passes_then d mid (added (Synced 0) mid) P (wrote_passes d left t whole)
+      (passes_call (Synced 0) mid P (images (file_of 0 mid) kept) (λ image i. i) refl))

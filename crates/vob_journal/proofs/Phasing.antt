@@ -1,0 +1,175 @@
+-- The phases of a commit, and how they go together.
+use Rattle.std.proofs.Common.{◌≡◌, ◌<◌, ◌+◌, ◌^◌, ℕ, Bool, true, false, List, [], ◌∷◌, ◌++◌, length, refl, sym, ◌∙◌, ap, subst, inl, inr}
+use Rattle.std.proofs.lemmas.List.{append-nil}
+use Rattle.disk_model.specs.Devices.{Device, file_of}
+use Rattle.vob_journal.specs.declared.left.Left.TheVariants.{Nothing, Earlier, InFlight}
+use Rattle.vob_journal.specs.Calls.{put_down, Keeps, Settles, StaysLoose, Commits, Fails}
+use Rattle.vob_journal.specs.Frames.{frames, written}
+use Rattle.vob_journal.specs.Moves.{Stands, Between, Passes, Moves}
+use Rattle.vob_journal.specs.Phases.{PutsDown, FailsToPut, IsStaged, IsStagedAt, Stages, Opens, MayOpen}
+use Rattle.vob_journal.specs.Tails.{IsShut, IsAjar, IsTail, list_at, loose_at}
+use Rattle.vob_journal.proofs.Passing.{passes_none, passes_then, passes_weaker, failed_put, put_passes}
+use Rattle.vob_journal.proofs.Settling.{shut_image, ajar_image, shut_torn, ajar_torn, shut_closed, staged_put, staged_ajar, staged_opened}
+
+keeps_shut : (settled : Bool) (tail : ℕ) (d e : Device) → Passes d e (Stands (list_at tail d) (loose_at settled tail d)) → IsShut (list_at tail d) tail (file_of 0 e)
+    → Keeps settled true tail d e
+keeps_shut settled tail d e passes shut = record {
+  moves = record {
+    passes = passes_weaker d e (Stands (list_at tail d) (loose_at settled tail d)) (Between (list_at tail d) (loose_at settled tail d) (list_at tail e) []) (λ image h. inl h) passes;
+    now = λ image i. inl (shut_image (list_at tail d) tail (file_of 0 e) shut image i ∙ sym shut.front.lists);
+  };
+  ends = subst (λ l. IsShut l tail (file_of 0 e)) (sym shut.front.lists) shut;
+  same_list = shut.front.lists;
+}
+
+keeps_ajar : (settled : Bool) (tail : ℕ) (loose : List (List ℕ)) (d e : Device)
+    → Passes d e (Between (list_at tail d) (loose_at settled tail d) (list_at tail d) loose) → IsAjar (list_at tail d) loose tail (file_of 0 e)
+    → Keeps settled false tail d e
+keeps_ajar settled tail loose d e passes ajar =
+    let moves : Moves (list_at tail d) (loose_at settled tail d) (list_at tail d) loose d e =
+    record { passes = passes; now = ajar_image (list_at tail d) loose tail (file_of 0 e) ajar } in
+    let same = ajar.front.lists in
+    record {
+      moves = subst (λ l. Moves (list_at tail d) (loose_at settled tail d) l (loose_at false tail e) d e) (sym same)
+          (subst (λ l. Moves (list_at tail d) (loose_at settled tail d) (list_at tail d) l d e) (sym ajar.behind) moves);
+      ends = subst (λ l. IsAjar l (loose_at false tail e) tail (file_of 0 e)) (sym same) (subst (λ l. IsAjar (list_at tail d) l tail (file_of 0 e)) (sym ajar.behind) ajar);
+      same_list = same;
+    }
+
+-- settling, where there is nothing to do
+pub settles_none : (tail : ℕ) (d : Device) → IsTail true tail d → Settles true tail d d
+settles_none tail d shut = record { keeps = keeps_shut true tail d d (passes_none d (Stands (list_at tail d) [])) shut; calls = refl }
+
+-- settling that succeeded
+pub settles_put : (tail : ℕ) (d e : Device) → IsTail false tail d → PutsDown tail (0 ∷ []) d e → Settles false tail d e
+settles_put tail d e ajar did =
+    let list = list_at tail d in
+    let loose = loose_at false tail d in
+    let passes = put_passes (IsAjar list loose tail) (Stands list loose) tail 1 (ajar_image list loose tail) (ajar_torn list loose tail) d (0 ∷ []) refl ajar in
+    let shut = shut_closed list loose tail (file_of 0 d) ajar in
+    subst (Settles false tail d) (sym did) (record { keeps = keeps_shut false tail d (put_down tail (0 ∷ []) d) passes shut; calls = refl })
+
+-- settling that failed
+pub settling_failed : (tail : ℕ) (d e : Device) → IsTail false tail d → FailsToPut tail 1 d e → StaysLoose false tail d e
+settling_failed tail d e ajar did =
+    let list = list_at tail d in
+    let loose = loose_at false tail d in
+    let failed = failed_put (IsAjar list loose tail) (Stands list loose) tail 1 (ajar_image list loose tail) (ajar_torn list loose tail) d e ajar did in
+    record {
+      was_loose = refl;
+      keeps = keeps_ajar false tail loose d e (passes_weaker d e (Stands list loose) (Between list loose list loose) (λ image h. inl h) failed.0) failed.1;
+      same_loose = failed.1.behind;
+    }
+
+-- staging that succeeded
+pub stages_put : (tail : ℕ) (payload : List ℕ) (d e : Device) → IsTail true tail d → PutsDown (tail + 1) (written payload) d e → Stages tail payload d e
+stages_put tail payload d e shut did =
+    let list = list_at tail d in
+    let passes = put_passes (IsShut list tail) (λ image. frames image ≡ list) (tail + 1) (length (written payload)) (shut_image list tail)
+    (shut_torn list tail (length (written payload))) d (written payload) refl shut in
+    subst (Stages tail payload d) (sym did) (record { passes = passes; staged = staged_put list payload tail (file_of 0 d) shut; calls = refl })
+
+-- staging that failed
+pub staging_failed : (tail size : ℕ) (d e : Device) → IsTail true tail d → FailsToPut (tail + 1) size d e → Keeps true true tail d e
+staging_failed tail size d e shut did =
+    let list = list_at tail d in
+    let failed = failed_put (IsShut list tail) (λ image. frames image ≡ list) (tail + 1) size (shut_image list tail) (shut_torn list tail size) d e shut did in
+    keeps_shut true tail d e (passes_weaker d e (λ image. frames image ≡ list) (Stands list []) (λ image h. inl h) failed.0) failed.1
+
+-- a gate that was opened
+pub opens_put : (tail : ℕ) (payload : List ℕ) (d e : Device) → length payload < 2 ^ 32 → IsStagedAt tail payload d → PutsDown tail (1 ∷ []) d e → Opens tail payload d e
+opens_put tail payload d e short staged did =
+    let list = list_at tail d in
+    let loose = payload ∷ [] in
+    let ajar = staged_ajar list payload tail (file_of 0 d) short staged in
+    let passes = put_passes (IsAjar list loose tail) (Stands list loose) tail 1 (ajar_image list loose tail) (ajar_torn list loose tail) d (1 ∷ []) refl ajar in
+    subst (Opens tail payload d) (sym did) (record { passes = passes; shut = staged_opened list payload tail (file_of 0 d) short staged; calls = refl })
+
+-- a gate that may have been opened
+pub opening_failed : (tail : ℕ) (payload : List ℕ) (d e : Device) → length payload < 2 ^ 32 → IsStagedAt tail payload d → FailsToPut tail 1 d e → MayOpen tail payload d e
+opening_failed tail payload d e short staged did =
+    let list = list_at tail d in
+    let loose = payload ∷ [] in
+    let ajar = staged_ajar list payload tail (file_of 0 d) short staged in
+    let failed = failed_put (IsAjar list loose tail) (Stands list loose) tail 1 (ajar_image list loose tail) (ajar_torn list loose tail) d e ajar did in
+    record { passes = failed.0; ajar = failed.1 }
+
+-- where a phase left the tail settled, the next begins so
+pub settles_ends : (settled : Bool) (tail : ℕ) (d e : Device) → Settles settled tail d e → IsTail true tail e
+settles_ends settled tail d e s = s.keeps.ends
+
+pub stages_ends : (tail : ℕ) (payload : List ℕ) (d e : Device) → Stages tail payload d e → IsStagedAt tail payload e
+stages_ends tail payload d e s = subst (λ l. IsStaged l payload tail (file_of 0 e)) (sym s.staged.shut.front.lists) s.staged
+
+-- settling failed within a commit
+pub fails_settling : (settled : Bool) (tail : ℕ) (payload : List ℕ) (d e : Device) → StaysLoose settled tail d e → Fails settled tail payload Earlier d e
+fails_settling settled tail payload d e stays = record {
+  keeps = subst (λ b. Keeps b false tail d e) (sym stays.was_loose) stays.keeps;
+  loose = stays.same_loose ∙ ap (λ b. loose_at b tail d) (sym stays.was_loose);
+}
+
+module _ (settled : Bool) (tail : ℕ) (payload : List ℕ) (d e : Device) (settles : Settles settled tail d e) where
+  -- what stops within the settling leave
+  settling : (P : List ℕ → Type 0) → ((image : List ℕ) → Stands (list_at tail d) (loose_at settled tail d) image → P image) → Passes d e P
+  settling P f = passes_weaker d e (Between (list_at tail d) (loose_at settled tail d) (list_at tail e) []) P
+      (λ image h. elim h [ inl old ↦ f image old | inr new ↦ f image (inl (new ∙ append-nil (list_at tail e) ∙ settles.keeps.same_list)) ]) settles.keeps.moves.passes
+
+  -- staging failed within a commit
+  pub fails_staging : (f : Device) → Keeps true true tail e f → Fails settled tail payload Nothing d f
+  fails_staging f keeps =
+      let P = Stands (list_at tail d) (loose_at settled tail d) in
+      let more : Passes e f P = passes_weaker e f (Between (list_at tail e) [] (list_at tail f) []) P
+      (λ image h. elim h [
+        | inl old ↦ inl (elim old [ inl same ↦ same ∙ settles.keeps.same_list | inr same ↦ same ∙ append-nil (list_at tail e) ∙ settles.keeps.same_list ])
+        | inr new ↦ inl (new ∙ append-nil (list_at tail f) ∙ keeps.same_list ∙ settles.keeps.same_list)
+      ]) keeps.moves.passes in
+      record {
+        keeps = keeps_shut settled tail d f (passes_then d e f P (settling P (λ image h. h)) more)
+            (subst (λ l. IsShut l tail (file_of 0 f)) (keeps.same_list ∙ settles.keeps.same_list) keeps.ends);
+        loose = refl;
+      }
+
+  -- what stops within the staging leave
+  staging : (f : Device) (P : List ℕ → Type 0) → ((image : List ℕ) → Stands (list_at tail d) (loose_at settled tail d) image → P image) → Stages tail payload e f → Passes d f P
+  staging f P q stages = passes_then d e f P (settling P q)
+      (passes_weaker e f (λ image. frames image ≡ list_at tail e) P (λ image h. q image (inl (h ∙ settles.keeps.same_list))) stages.passes)
+
+  staged_list : (f : Device) → Stages tail payload e f → list_at tail f ≡ list_at tail d
+  staged_list f stages = stages.staged.shut.front.lists ∙ settles.keeps.same_list
+
+  -- opening the gate failed within a commit
+  pub fails_opening : (f g : Device) → Stages tail payload e f → MayOpen tail payload f g → Fails settled tail payload InFlight d g
+  fails_opening f g stages may =
+      let list = list_at tail d in
+      let same = staged_list f stages in
+      let P = Between list (loose_at settled tail d) list (payload ∷ []) in
+      let more : Passes f g P = passes_weaker f g (Stands (list_at tail f) (payload ∷ [])) P
+      (λ image h. elim h [ inl old ↦ inl (inl (old ∙ same)) | inr new ↦ inr (new ∙ ap (λ l. l ++ payload ∷ []) same) ]) may.passes in
+      let ajar = subst (λ l. IsAjar l (payload ∷ []) tail (file_of 0 g)) same may.ajar in
+      record {
+        keeps = keeps_ajar settled tail (payload ∷ []) d g (passes_then d f g P (staging f P (λ image h. inl h) stages) more) ajar;
+        loose = ajar.behind;
+      }
+
+  -- a commit
+  pub commits : (f g : Device) → Stages tail payload e f → Opens tail payload f g → Commits settled tail payload d g
+  commits f g stages opens =
+      let behind = tail + (5 + length payload) in
+      let same = staged_list f stages in
+      let list : list_at behind g ≡ list_at tail d ++ payload ∷ [] = opens.shut.front.lists ∙ ap (λ l. l ++ payload ∷ []) same in
+      let P = Between (list_at tail d) (loose_at settled tail d) (list_at behind g) [] in
+      let more : Passes f g P = passes_weaker f g (Stands (list_at tail f) (payload ∷ [])) P
+      (λ image h. elim h [ inl old ↦ inl (inl (old ∙ same)) | inr new ↦ inr (new ∙ sym opens.shut.front.lists ∙ sym (append-nil (list_at behind g))) ]) opens.passes in
+      record {
+        moves = record {
+          passes = passes_then d f g P (staging f P (λ image h. inl h) stages) more;
+          now = λ image i. inl (shut_image (list_at tail f ++ payload ∷ []) behind (file_of 0 g) opens.shut image i ∙ sym opens.shut.front.lists);
+        };
+        ends = subst (λ l. IsShut l behind (file_of 0 g)) (sym opens.shut.front.lists) opens.shut;
+        list = list;
+        calls = opens.calls ∙ ap (put_down tail (1 ∷ [])) (stages.calls ∙ ap (put_down (tail + 1) (written payload)) settles.calls);
+      }
+
+-- the phases by the piece that is written
+pub stages_piece : (tail : ℕ) (payload piece : List ℕ) → piece ≡ written payload → (d e : Device) → IsTail true tail d → PutsDown (tail + 1) piece d e → Stages tail payload d e
+stages_piece tail payload piece is d e shut did = stages_put tail payload d e shut (subst (λ p. PutsDown (tail + 1) p d e) is did)

@@ -1,0 +1,45 @@
+-- The frames of a journal.
+use Rattle.std.specs.Prelude.{◌≡◌, ℕ, zero, suc, ◌+◌, ◌-◌, ◌^◌, ◌<◌, ◌==◌, ◌&&◌, not, Bool, false, nat_le, if◌then◌else◌, Option, Some, None, List, [], ◌∷◌, ◌++◌, length, take, drop, slice_index}
+use Rattle.std.specs.Int.{w32, from_le_bytes, to_le_bytes}
+
+-- the length that is written behind a gate byte, in four bytes, least first
+abbrev pub size_of : List ℕ → ℕ
+size_of bytes = from_le_bytes w32 (take 4 (drop 1 bytes))
+
+-- the payload of the whole frame that bytes begin with: a gate byte 1, a length of four bytes, and so many bytes
+abbrev pub head : List ℕ → Option (List ℕ)
+head bytes =
+    if (slice_index bytes 0 == 1) && nat_le (5 + size_of bytes) (length bytes)
+    then Some (take (size_of bytes) (drop 5 bytes)) else None
+
+-- a payload, and what is listed so many bytes on; all but a whole frame ends the list
+abbrev pub listed : Option (List ℕ) → (ℕ → List (List ℕ)) → List (List ℕ)
+listed None behind = []
+listed (Some payload) behind = payload ∷ behind (5 + length payload)
+
+-- the payloads of at most so many frames, from the first on
+abbrev pub frames_within : ℕ → List ℕ → List (List ℕ)
+frames_within zero bytes = []
+frames_within (suc most) bytes = listed (head bytes) (λ n. frames_within most (drop n bytes))
+
+-- The list of a journal: the payloads of its frames. No journal has more frames than bytes.
+unfoldable pub frames : List ℕ → List (List ℕ)
+frames bytes = frames_within (length bytes) bytes
+
+-- whether a gate byte other than 1 stands there
+abbrev pub is_shut : List ℕ → Bool
+is_shut [] = false
+is_shut (gate ∷ rest) = not (gate == 1)
+
+-- what is written behind a gate byte: the payload's length, the payload, and the next gate byte, shut
+abbrev pub written : List ℕ → List ℕ
+written payload = to_le_bytes w32 (length payload) ++ payload ++ 0 ∷ []
+
+-- the payload of what is written behind a gate byte
+abbrev pub payload_of : List ℕ → List ℕ
+payload_of bytes = take (length bytes - 5) (drop 4 bytes)
+
+-- bytes that are written behind a gate byte for some payload
+pub record IsWritten (bytes : List ℕ) : Type 0 where
+  pub of_payload : bytes ≡ written (payload_of bytes)
+  pub short : length (payload_of bytes) < 2 ^ 32

@@ -1,0 +1,16 @@
+-- What a failed call leaves behind the list.
+use Rattle.std.specs.Prelude.{ℕ, Bool, true, false, List, [], ◌∷◌}
+use Rattle.vob_journal.specs.declared.left.Left.{Left}
+use Rattle.vob_journal.specs.declared.left.Left.TheVariants.{Nothing, Earlier, InFlight}
+
+-- the rows that may be found behind the list, from those before the call and the payload in flight
+abbrev pub loose_after : Left → List (List ℕ) → List ℕ → List (List ℕ)
+loose_after Nothing loose payload = []
+loose_after Earlier loose payload = loose
+loose_after InFlight loose payload = payload ∷ []
+
+-- whether the tail is settled then
+abbrev pub settled_after : Left → Bool
+settled_after Nothing = true
+settled_after Earlier = false
+settled_after InFlight = false

@@ -1,0 +1,11 @@
+pub mod Answered
+pub mod Calls
+pub mod Found
+pub mod Frames
+pub mod Lefts
+pub mod Moves
+pub mod Phases
+pub mod Reads
+pub mod Shown
+pub mod Tails
+pub mod Windows

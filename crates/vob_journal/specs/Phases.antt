@@ -1,0 +1,56 @@
+-- The phases of a commit.
+use Rattle.std.specs.Prelude.{◌≡◌, ◌⊎◌, ◌≤◌, ◌+◌, ℕ, Bool, if◌then◌else◌, Result, MatchResult, List, [], ◌∷◌, ◌++◌, length, drop}
+use Rattle.disk_model.specs.Counting.{raised}
+use Rattle.disk_model.specs.Files.{File, stable, IsTorn}
+use Rattle.disk_model.specs.Devices.{Device, Wrote, Failed, added, file_of, bytes_of}
+use Rattle.disk_model.specs.Told.{Sight}
+use Rattle.vob_journal.specs.Calls.{put_down}
+use Rattle.vob_journal.specs.Frames.{frames, written}
+use Rattle.vob_journal.specs.Moves.{Passes, Stands}
+use Rattle.vob_journal.specs.Tails.{IsShut, IsAjar, list_at}
+
+-- a piece was written and synced
+abbrev pub PutsDown : ℕ → List ℕ → Device → Device → Type 0
+PutsDown place piece d e = e ≡ put_down place piece d
+
+-- A piece of so many bytes was not written, or not synced: nothing was done, or its range is torn.
+abbrev pub FailsToPut : ℕ → ℕ → Device → Device → Type 0
+FailsToPut place size d e = (e ≡ d) ⊎ (e ≡ added Failed d)
+    ⊎ ((left : List ℕ) × IsTorn place size (bytes_of 0 d) left
+    × ((e ≡ added (Wrote 0 place size left) d) ⊎ (e ≡ added Failed (added (Wrote 0 place size left) d))))
+
+-- a file with this payload whole and synced behind a shut gate
+pub record IsStaged (list : List (List ℕ)) (payload : List ℕ) (tail : ℕ) (file : File) : Type 0 where
+  pub synced : file ≡ stable file.bytes
+  pub shut : IsShut list tail file
+  pub frame : (rest : List ℕ) × (drop (tail + 1) file.bytes ≡ written payload ++ rest)
+
+abbrev pub IsStagedAt : ℕ → List ℕ → Device → Type 0
+IsStagedAt tail payload d = IsStaged (list_at tail d) payload tail (file_of 0 d)
+
+-- a payload was staged
+pub record Stages (tail : ℕ) (payload : List ℕ) (d e : Device) : Type 0 where
+  pub passes : Passes d e (λ image. frames image ≡ list_at tail d)
+  pub staged : IsStaged (list_at tail d) payload tail (file_of 0 e)
+  pub calls : e ≡ put_down (tail + 1) (written payload) d
+
+-- the gate in front of a payload was opened
+pub record Opens (tail : ℕ) (payload : List ℕ) (d e : Device) : Type 0 where
+  pub passes : Passes d e (Stands (list_at tail d) (payload ∷ []))
+  pub shut : IsShut (list_at tail d ++ payload ∷ []) (tail + (5 + length payload)) (file_of 0 e)
+  pub calls : e ≡ put_down tail (1 ∷ []) d
+
+-- the gate in front of a payload was not opened for certain: a stop may leave it open or shut
+pub record MayOpen (tail : ℕ) (payload : List ℕ) (d e : Device) : Type 0 where
+  pub passes : Passes d e (Stands (list_at tail d) (payload ∷ []))
+  pub ajar : IsAjar (list_at tail d) (payload ∷ []) tail (file_of 0 e)
+
+-- Ok after exactly so many device calls; a fault after at most so many, the last of which failed
+abbrev pub Spends : {T E : Type 0} → ℕ → Result T E → Sight → Sight → Type 0
+Spends calls result old new = MatchResult result
+    (λ _. (new.ticks ≡ old.ticks + calls) × (new.faults ≡ old.faults))
+    (λ _. (old.ticks ≤ new.ticks) × (new.ticks ≤ old.ticks + calls) × (new.faults ≡ raised old.faults))
+
+-- the device calls of a commit
+abbrev pub calls_of : Bool → ℕ
+calls_of settled = if settled then 4 else 6

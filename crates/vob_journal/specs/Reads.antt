@@ -1,0 +1,28 @@
+-- The device calls that read a journal.
+use Rattle.std.specs.Prelude.{◌≡◌, ◌⊎◌, ◌≤◌, ◌+◌, ◌-◌, ℕ, min, Result, Ok, Err, length}
+use Rattle.disk_model.specs.Counting.{raised}
+use Rattle.disk_model.specs.Devices.{Device, Fetched, Failed, added, file_of, bytes_of, LeavesNow}
+use Rattle.disk_model.specs.Told.{Sight}
+use Rattle.cc_names.specs.declared.memory.Or.{Or}
+use Rattle.cc_names.specs.declared.memory.Or.TheVariants.{NoMemory, Is}
+use Rattle.vob_journal.specs.Moves.{Passes}
+
+-- the journal stays as it is, and stops leave what a stop before would have left
+pub record Rests (d e : Device) : Type 0 where
+  pub same : file_of 0 e ≡ file_of 0 d
+  pub passes : Passes d e (LeavesNow 0 d)
+
+-- No call, one that failed, or one that read the journal from this place on: at least 64 KiB, or all that is there.
+abbrev pub ReadsPiece : ℕ → Device → Device → Type 0
+ReadsPiece place d e = (e ≡ d) ⊎ (e ≡ added Failed d)
+    ⊎ ((size : ℕ) × (min 65536 (length (bytes_of 0 d) - place) ≤ size) × (e ≡ added (Fetched 0 place size) d))
+
+-- faults rise by one where a read answers a fault, and not else
+abbrev pub FaultsOf : {T E : Type 0} → Result T (Or E) → ℕ → ℕ → Type 0
+FaultsOf (Ok x) old new = new ≡ old
+FaultsOf (Err NoMemory) old new = new ≡ old
+FaultsOf (Err (Is fault)) old new = new ≡ raised old
+
+-- at most so many device calls, and a fault only where the answer is one
+abbrev pub CountsReads : {T E : Type 0} → ℕ → Result T (Or E) → Sight → Sight → Type 0
+CountsReads most result old new = (old.ticks ≤ new.ticks) × (new.ticks ≤ old.ticks + most) × FaultsOf result old.faults new.faults

@@ -1,0 +1,213 @@
+// The journal.
+
+ghost use Rattle.std.specs.Prelude.{◌≡◌, ◌≤◌, ◌+◌, ◌^◌, ◌++◌, ◌∷◌, [], IfOk, IfErr, OnOk, OnErr, MatchResult, is_ok, if◌then◌else◌, true, false, List, ℕ, length};
+ghost use Rattle.disk_model.specs.Devices.{file_of, bytes_of, LeavesNow};
+ghost use Rattle.disk_model.specs.Files.{stable};
+ghost use Rattle.disk_model.specs.Told.{IfTold, Both};
+
+use crate::frame::Frame;
+use crate::left::Left;
+use crate::reading::{Found, read_frame};
+use crate::tail::{commit, settle_tail};
+use crate::window::Window;
+use cc_names::memory::Or;
+use cc_names::texts::Text;
+use disk_model::{Counts, Disk, DiskFault};
+use std::alloc::Global;
+use std::marker::Model;
+
+/// A journal on a disk.
+#[derive(Drop)]
+pub struct Journal<D: Disk> {
+    disk: D,
+    /// The place behind the last frame that was read or written.
+    tail: u64,
+    /// The journal's length as it was opened.
+    size: u64,
+    window: Option<Window>,
+    /// Whether the end of the list was read.
+    ended: bool,
+    /// Whether a gate that is shut, and synced, stands at the tail.
+    settled: bool,
+    left: Left,
+}
+
+impl<D: Disk> Model for Journal<D> {
+    ghost use Rattle.vob_journal.specs.Shown.{Shown, told_list, told_rest, told_loose, IsKept};
+
+    ghost Value = { Shown D };
+
+    ghost view = { λ j. record {
+      disk = j.disk;
+      tail = j.tail;
+      list = told_list (D.sight j.disk).told j.ended j.tail;
+      rest = told_rest (D.sight j.disk).told j.ended j.tail;
+      loose = told_loose (D.sight j.disk).told j.ended j.settled j.tail;
+      ended = j.ended;
+      settled = j.settled;
+      left = j.left;
+    } };
+
+    ghost invariant = { λ j. IsKept (D.sight j.disk).told j.ended j.settled j.tail j.size j.window };
+}
+
+impl<D: Disk> Journal<D> {
+    ghost use Rattle.disk_model.specs.Devices.{Measures, Idles};
+    ghost use Rattle.vob_journal.specs.declared.left.Left.TheVariants as lefts;
+    ghost use Rattle.vob_journal.specs.Answered.{Gives, Ends, SettledAtEnd, OneMore, OneFault};
+    ghost use Rattle.vob_journal.specs.Calls.{committed, settled_first};
+    ghost use Rattle.vob_journal.specs.Frames.{frames};
+    ghost use Rattle.vob_journal.specs.Lefts.{loose_after, settled_after};
+    ghost use Rattle.vob_journal.specs.Moves.{Moves, Stands};
+    ghost use Rattle.vob_journal.specs.Phases.{Spends, calls_of};
+    ghost use Rattle.vob_journal.specs.Reads.{CountsReads};
+
+    /// The journal of a disk that was handed in. Asks its length, and reads nothing yet. Where that fails the disk
+    /// comes back.
+    pub fn open(disk: D) -> Result<Journal<D>, D>
+        requires { IfTold (D.sight disk).told (λ d. file_of 0 d ≡ stable (bytes_of 0 d)) }
+        ensures list { IfOk result (λ journal. IfTold (D.sight disk).told (λ d. journal.list ≡ frames (bytes_of 0 d))) }
+        ensures begins { IfOk result (λ journal. (journal.rest ≡ journal.list) × (journal.loose ≡ []) × (journal.tail ≡ 0) × (journal.ended ≡ false)) }
+        ensures told { MatchResult result (λ journal. Both (Measures 0) (D.sight disk).told (D.sight journal.disk).told) (λ back. Both Idles (D.sight disk).told (D.sight back).told) }
+        ensures moves { IfOk result (λ journal. Both (Moves journal.list [] journal.list journal.loose) (D.sight disk).told (D.sight journal.disk).told) }
+        ensures counts { MatchResult result (λ journal. OneMore (D.sight disk) (D.sight journal.disk)) (λ back. OneFault (D.sight disk) (D.sight back)) }
+    {
+        let mut disk = disk;
+        match disk.length(0) {
+            Ok(size) => Ok(Journal {
+                disk,
+                tail: 0,
+                size,
+                window: None,
+                ended: false,
+                settled: false,
+                left: Left::Nothing,
+            }),
+            Err(_) => Err(disk),
+        }
+    }
+
+    /// The next payload, or None at the end of the list. Reads in pieces of at least 64 KiB, so that all payloads take
+    /// time linear in the journal.
+    pub fn next(&mut self, alloc: Global) -> Result<Option<Text>, Or<DiskFault>>
+        ensures gives { IfOk result (λ found. IfTold (D.sight self.old.disk).told (λ _. Gives found self.old.rest self.new.rest)) }
+        ensures ends { Ends result self.old.ended self.new.ended }
+        ensures settled { IfOk result (λ found. IfTold (D.sight self.old.disk).told (SettledAtEnd found self.old.ended self.new.settled self.new.tail)) }
+        ensures list { self.new.list ≡ self.old.list }
+        ensures loose { self.new.loose ≡ self.old.loose }
+        ensures err { OnErr result (self.new.rest ≡ self.old.rest) }
+        ensures left { self.new.left ≡ self.old.left }
+        ensures moves { Both (Moves self.old.list self.old.loose self.new.list self.new.loose) (D.sight self.old.disk).told (D.sight self.new.disk).told }
+        ensures counts { CountsReads 2 result (D.sight self.old.disk) (D.sight self.new.disk) }
+    {
+        if self.ended {
+            return Ok(None);
+        }
+        let window = self.window.take();
+        match read_frame(alloc, &mut self.disk, window, self.size, self.tail) {
+            Ok(Found::Payload(payload, window)) => {
+                self.tail += 5 + payload.as_bytes().len() as u64;
+                self.window = Some(window);
+                Ok(Some(payload))
+            }
+            Ok(Found::End(settled)) => {
+                self.ended = true;
+                self.settled = settled;
+                Ok(None)
+            }
+            Err(fault) => Err(fault),
+        }
+    }
+
+    /// Commits a frame behind the list, and answers the tick at which it is acknowledged. It first settles a tail that
+    /// is not settled, by one byte 0 at the tail and a sync; then it makes four device calls: length, payload and the
+    /// next gate, shut, behind the gate; a sync; the open gate; a sync. A fault leaves what `left` says. Takes time
+    /// linear in the frame.
+    pub fn append(&mut self, frame: &Frame) -> Result<u64, DiskFault>
+        requires { self.old.ended ≡ true }
+        ensures moves { Both (Moves self.old.list self.old.loose self.new.list self.new.loose) (D.sight self.old.disk).told (D.sight self.new.disk).told }
+        ensures calls { OnOk result (Both (λ d e. e ≡ committed self.old.settled self.old.tail frame.now d) (D.sight self.old.disk).told (D.sight self.new.disk).told) }
+        ensures tick { IfOk result (λ tick. tick ≡ (D.sight self.new.disk).ticks) }
+        ensures ok { OnOk result (IfTold (D.sight self.old.disk).told (λ _. (self.new.list ≡ self.old.list ++ frame.now ∷ []) × (self.new.loose ≡ []))) }
+        ensures tail { self.new.tail ≡ (if is_ok result then self.old.tail + (5 + length frame.now) else self.old.tail) }
+        ensures err { OnErr result (IfTold (D.sight self.old.disk).told (λ _. (self.new.list ≡ self.old.list) × (self.new.loose ≡ loose_after self.new.left self.old.loose frame.now))) }
+        ensures left { OnOk result (self.new.left ≡ lefts.Nothing) }
+        ensures settled { self.new.settled ≡ settled_after self.new.left }
+        ensures ended { self.new.ended ≡ true }
+        ensures costs { Spends (calls_of self.old.settled) result (D.sight self.old.disk) (D.sight self.new.disk) }
+    {
+        match commit(&mut self.disk, self.settled, self.tail, frame) {
+            Ok(()) => {
+                self.tail += 5 + frame.payload_len();
+                self.settled = true;
+                self.left = Left::Nothing;
+                Ok(self.disk.counts().ticks)
+            }
+            Err(left) => {
+                self.settled = matches!(left, Left::Nothing);
+                self.left = left;
+                Err(DiskFault)
+            }
+        }
+    }
+
+    /// Settles the tail: where it is not settled, one byte 0 is written there and synced. Afterwards each stop leaves the
+    /// list and no more.
+    pub fn settle(&mut self) -> Result<(), DiskFault>
+        requires { self.old.ended ≡ true }
+        ensures moves { Both (Moves self.old.list self.old.loose self.new.list self.new.loose) (D.sight self.old.disk).told (D.sight self.new.disk).told }
+        ensures calls { OnOk result (Both (λ d e. e ≡ settled_first self.old.settled self.old.tail d) (D.sight self.old.disk).told (D.sight self.new.disk).told) }
+        ensures list { self.new.list ≡ self.old.list }
+        ensures loose { MatchResult result (λ _. self.new.loose ≡ []) (λ _. self.new.loose ≡ self.old.loose) }
+        ensures tail { self.new.tail ≡ self.old.tail }
+        ensures left { MatchResult result (λ _. self.new.left ≡ lefts.Nothing) (λ _. self.new.left ≡ lefts.Earlier) }
+        ensures settled { self.new.settled ≡ settled_after self.new.left }
+        ensures ended { self.new.ended ≡ true }
+        ensures costs { Spends (if self.old.settled then 0 else 2) result (D.sight self.old.disk) (D.sight self.new.disk) }
+    {
+        match settle_tail(&mut self.disk, self.settled, self.tail) {
+            Ok(()) => {
+                self.settled = true;
+                self.left = Left::Nothing;
+                Ok(())
+            }
+            Err(fault) => {
+                self.settled = false;
+                self.left = Left::Earlier;
+                Err(fault)
+            }
+        }
+    }
+
+    /// What the last call of `append` or `settle` left behind the list.
+    pub fn left(&self) -> Left
+        ensures { result ≡ self.now.left }
+    {
+        self.left
+    }
+
+    /// The disk's counts. A stop now leaves the list, and what is loose behind it or not.
+    pub fn counts(&self) -> Counts
+        ensures ticks { result.ticks ≡ (D.sight self.now.disk).ticks }
+        ensures faults { result.faults ≡ (D.sight self.now.disk).faults }
+        ensures now { IfTold (D.sight self.now.disk).told (λ d. (image : List ℕ) → LeavesNow 0 d image → Stands self.now.list self.now.loose image) }
+    {
+        self.disk.counts()
+    }
+
+    /// The disk.
+    pub fn into_disk(self) -> D
+        ensures { result ≡ self.disk }
+    {
+        let Journal {
+            disk,
+            tail: _,
+            size: _,
+            window: _,
+            ended: _,
+            settled: _,
+            left: _,
+        } = self;
+        disk
+    }
+}

@@ -1,0 +1,78 @@
+// The piece of a journal that is held in memory while it is read.
+
+ghost use Rattle.std.specs.Prelude.{◌≡◌, ◌≤◌, ◌+◌, ◌-◌, ◌^◌, ◌↔◌, Some, length, take, drop, IfOk, IsTrue};
+ghost use Rattle.disk_model.specs.Told.{IfTold, Both};
+ghost use Rattle.disk_model.specs.Devices.{bytes_of};
+ghost use Rattle.vob_journal.specs.Windows.{IfShows};
+ghost use Rattle.vob_journal.specs.Reads.{Rests, ReadsPiece, CountsReads};
+
+use cc_names::memory::Or;
+use disk_model::{Disk, DiskFault};
+use std::alloc::Global;
+
+/// The journal is read in pieces of at least so many bytes, where it has them.
+const PIECE: u64 = 65_536;
+
+/// Some bytes of the journal, from a place on.
+#[derive(Drop)]
+pub(crate) struct Window {
+    pub(crate) start: u64,
+    pub(crate) bytes: Vec<u8>,
+}
+
+impl Window {
+    fn covers(&self, place: u64, needed: u64) -> bool
+        requires { place + needed ≤ 2 ^ 62 }
+        ensures { IsTrue result ↔ ((self.now.start ≤ place) × (place + needed ≤ self.now.start + length self.now.bytes.items)) }
+    {
+        self.start <= place && place - self.start + needed <= self.bytes.len() as u64
+    }
+
+    /// So many bytes of the journal, from a place on.
+    pub(crate) fn part(&self, place: u64, size: u64) -> &[u8]
+        requires from { self.now.start ≤ place }
+        requires to { place + size ≤ self.now.start + length self.now.bytes.items }
+        ensures { result.now ≡ take size (drop (place - self.now.start) self.now.bytes.items) }
+    {
+        let from = (place - self.start) as usize;
+        &self.bytes.as_slice()[from..from + size as usize]
+    }
+}
+
+/// A window that has these bytes: the one at hand, or else a new one that begins there.
+pub(crate) fn look<D: Disk>(
+    alloc: Global,
+    disk: &mut D,
+    window: Option<Window>,
+    size: u64,
+    place: u64,
+    needed: u64,
+) -> Result<Window, Or<DiskFault>>
+    requires within { place + needed ≤ size }
+    requires small { size ≤ 2 ^ 62 }
+    requires all { IfTold (D.sight disk.old).told (λ d. size ≡ length (bytes_of 0 d)) }
+    requires shows { IfShows window (D.sight disk.old).told }
+    ensures from { IfOk result (λ window. window.start ≤ place) }
+    ensures to { IfOk result (λ window. place + needed ≤ window.start + length window.bytes.items) }
+    ensures shows { IfOk result (λ window. IfShows (Some window) (D.sight disk.new).told) }
+    ensures rests { Both Rests (D.sight disk.old).told (D.sight disk.new).told }
+    ensures pieces { Both (ReadsPiece place) (D.sight disk.old).told (D.sight disk.new).told }
+    ensures counts { CountsReads 1 result (D.sight disk.old) (D.sight disk.new) }
+{
+    if let Some(window) = window {
+        if window.covers(place, needed) {
+            return Ok(window);
+        }
+    }
+    let mut bytes = Vec::new(alloc);
+    let Ok(()) = bytes.resize(needed.max(PIECE).min(size - place) as usize, 0) else {
+        return Err(Or::NoMemory);
+    };
+    if let Err(fault) = disk.read_at(0, place, bytes.as_mut_slice()) {
+        return Err(Or::Is(fault));
+    }
+    Ok(Window {
+        start: place,
+        bytes,
+    })
+}
