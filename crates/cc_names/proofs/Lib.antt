@@ -1,3 +1,5 @@
 mod Cuts
 mod FirstFaults
 mod PathRows
+mod WorkedLabels
+mod WorkedVersions

@@ -1,5 +1,9 @@
 pub mod Answers
+pub mod Branches
 pub mod Formed
+pub mod Labels
+pub mod Last
 pub mod Names
 pub mod PathBytes
 pub mod Paths
+pub mod Versions

@@ -1,4 +1,5 @@
-// The three kinds of change that the indexes of a base keep, each with the number of the row that made it.
+// The three kinds of change that the indexes of a base keep, each with the number of the row that made it; and what the
+// trees of versions answer.
 
 use crate::lists::List;
 use crate::names::Name;
@@ -29,6 +30,21 @@ pub enum TreeChange {
         moment: u64,
         branch: u64,
     },
+}
+
+/// Where a version stands: its element, its branch, and its number on the branch, counted from 0.
+#[derive(Clone, Copy, Debug, PartialEq, Eq)]
+pub struct Place {
+    pub element: u64,
+    pub branch: u64,
+    pub number: u64,
+}
+
+/// One name of a directory's catalog, and the element that it names.
+#[derive(Debug, Drop)]
+pub struct Entry {
+    pub name: Name,
+    pub element: u64,
 }
 
 /// A change of a label on an element.
