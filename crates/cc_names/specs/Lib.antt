@@ -6,4 +6,5 @@ pub mod Last
 pub mod Names
 pub mod PathBytes
 pub mod Paths
+pub mod References
 pub mod Versions
