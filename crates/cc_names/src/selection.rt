@@ -14,6 +14,14 @@ pub enum Segment {
     OneName(Text),
 }
 
+/// Which paths a rule of a config spec bears on.
+#[derive(Debug, Drop)]
+pub struct Pattern {
+    /// Whether a leading `/` ties it to the root. One without it may begin at any name of a path.
+    pub anchored: bool,
+    pub segments: List<Segment>,
+}
+
 /// Which version a rule takes of an element.
 #[derive(Debug, Drop)]
 pub enum Selector {
@@ -31,6 +39,21 @@ pub enum Selector {
     Config(Path, u64),
     /// `-none`: no version, and the scan ends.
     Nothing,
+}
+
+/// One rule of a config spec.
+#[derive(Debug, Drop)]
+pub struct Rule {
+    /// The line on which it stands, counted from 1.
+    pub line: u32,
+    pub pattern: Pattern,
+    pub selector: Selector,
+    /// The moment before which a version must have been made to be the last on its branch.
+    pub before: Option<u64>,
+    /// `-nocheckout`: what the rule selects cannot be checked out.
+    pub nocheckout: bool,
+    /// `-mkbranch`: a checkout begins a branch of this type.
+    pub mkbranch: Option<Name>,
 }
 
 /// What a rule picked: the row that makes the text, the line of the rule, and whether it is the view's checkout.

@@ -1,0 +1,2 @@
+// Config specs.
+#![tactic(auto)]
