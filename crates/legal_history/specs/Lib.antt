@@ -3,5 +3,8 @@ pub mod Catalogs
 pub mod Changes
 pub mod Checkouts
 pub mod Closures
+pub mod Conditions
+pub mod Fits
+pub mod Seen
 pub mod Texts
 pub mod Views
