@@ -4,7 +4,7 @@ use Rattle.std.specs.List.{list_any}
 use Rattle.std.specs.declared.cmp.Ordering.{Ordering}
 use Rattle.std.specs.Ordering.{nat_cmp, on, then_cmp}
 use Rattle.std.specs.Cmp.Lexicographic.{slice_cmp}
-use Rattle.std.specs.FinMap.Entries.{put}
+use Rattle.std.specs.FinMap.Entries.{put, find}
 use Rattle.cc_names.specs.Versions.{place, put_if}
 use Rattle.cc_names.specs.declared.changes.Place.{Place}
 use Rattle.cc_names.specs.declared.rows.ReadOf.{ReadOf}
@@ -70,19 +70,27 @@ abbrev pub is_version_of : Base → ℕ → ℕ → Bool
 is_version_of b e row = is_of_element e (place (tree b) row)
 
 -- the greater of a number and another, where there is another
-abbrev pub greater_of : ℕ → Option ℕ → Option ℕ
-greater_of n None = Some n
-greater_of n (Some m) = Some (max n m)
+abbrev pub greater_of : ℕ → Option ℕ → ℕ
+greater_of n None = n
+greater_of n (Some m) = max n m
 
--- the greatest of a source's row and the others', where the row is a version of the element
-abbrev pub greatest_if : Bool → ℕ → Option ℕ → Option ℕ
-greatest_if true row others = greater_of row others
-greatest_if false row others = others
+-- versions by their elements, in the order of elements
+abbrev pub Listing : Type 0
+Listing = List (ℕ × ℕ)
 
--- the greatest row among the sources that is a version of the element
-abbrev pub version_among : Base → ℕ → Sources → Option ℕ
-version_among b e [] = None
-version_among b e (source ∷ sources) = greatest_if (is_version_of b e source.1) source.1 (version_among b e sources)
+-- a listing with one more version, of which the greatest of each element counts
+abbrev pub with_version_at : ℕ → Option Place → Listing → Listing
+with_version_at row None listing = listing
+with_version_at row (Some place) listing = put nat_cmp place.element (greater_of row (find nat_cmp place.element listing)) listing
+
+-- the versions among sources
+abbrev pub listing_of : Base → Sources → Listing
+listing_of b [] = []
+listing_of b (source ∷ sources) = with_version_at source.1 (place (tree b) source.1) (listing_of b sources)
+
+-- What the record of an object lists: of each element the greatest row of the object's closure that is a version of it.
+abbrev pub listing : Base → ℕ → Listing
+listing b id = listing_of b (closure b id)
 
 -- whether a path is among paths
 abbrev pub is_among : List ℕ → List (List ℕ) → Bool
@@ -90,5 +98,4 @@ is_among path paths = list_any (bytes_eq path) paths
 
 -- the version of the element that the record of the object lists, where the object has this target
 abbrev pub listed : Base → ℕ → List ℕ → ℕ → Option ℕ
-listed b id target e =
-    elim (is_among target (targets_of b id)) [ true ↦ version_among b e (closure b id) | false ↦ None ]
+listed b id target e = elim (is_among target (targets_of b id)) [ true ↦ find nat_cmp e (listing b id) | false ↦ None ]

@@ -1,9 +1,11 @@
 pub mod Base
+pub mod Builds
 pub mod Catalogs
 pub mod Changes
 pub mod Checkouts
 pub mod Closures
 pub mod Conditions
+pub mod Decisions
 pub mod Fits
 pub mod Seen
 pub mod Texts
