@@ -1,0 +1,74 @@
+-- What a script is: lines of words, each of a kind of its own.
+use Rattle.std.specs.Prelude.{◌≡◌, ℕ, ◌+◌, Bool, true, false, ◌==◌, Option, Some, None, Result, Ok, Err, List, [], ◌∷◌, reverse, if◌then◌else◌, codes}
+use Rattle.std.specs.List.{slice_split}
+use Rattle.std.specs.Str.{bytes_eq}
+use Rattle.cc_names.specs.Paths.{path_of}
+use Rattle.cc_names.specs.declared.names.NameFault.{NameFault}
+use Rattle.cc_names.specs.declared.refusals.ScriptFault.{ScriptFault}
+use Rattle.cc_names.specs.declared.refusals.ScriptFault.TheVariants as faults
+use Rattle.build_script.specs.Words.{words, without_at}
+use Rattle.build_script.specs.declared.lines.Work.{Work}
+use Rattle.build_script.specs.declared.lines.Work.TheVariants.{Echo, Cat}
+use Rattle.build_script.specs.declared.lines.Line.{Line}
+use Rattle.build_script.specs.declared.lines.Line.TheVariants.{Empty, Makes}
+
+-- a path before paths, where all of them are paths
+abbrev pub path_before : Result (List ℕ) NameFault → Option (List (List ℕ)) → Option (List (List ℕ))
+path_before (Ok path) (Some paths) = Some (path ∷ paths)
+path_before _ _ = None
+
+-- words that are all paths
+abbrev pub paths_of : List (List ℕ) → Option (List (List ℕ))
+paths_of [] = Some []
+paths_of (word ∷ words) = path_before (path_of word) (paths_of words)
+
+-- `cat` takes one path or more
+abbrev pub cat_of : Option (List (List ℕ)) → Option Work
+cat_of (Some (path ∷ paths)) = Some (Cat (path ∷ paths))
+cat_of _ = None
+
+-- the work that words name: a command and what it takes
+abbrev pub work_of : List (List ℕ) → Option Work
+work_of [] = None
+work_of (command ∷ arguments) =
+    if bytes_eq command (codes "echo") then Some (Echo arguments)
+    else if bytes_eq command (codes "cat") then cat_of (paths_of arguments)
+    else None
+
+-- whether an arrow appends, for `>>`, or replaces, for `>`; nothing for any other word
+abbrev pub appends_of : List ℕ → Option Bool
+appends_of word = if bytes_eq word (codes ">>") then Some true else if bytes_eq word (codes ">") then Some false else None
+
+-- a line of these parts, where each of them can be read
+abbrev pub makes : Option Work → Option Bool → Result (List ℕ) NameFault → Option Line
+makes (Some work) (Some appends) (Ok output) = Some (Makes work appends output)
+makes _ _ _ = None
+
+-- a line by its words, the last word first: it ends with an arrow and a path
+abbrev pub line_of_reversed : List (List ℕ) → Option Line
+line_of_reversed [] = Some Empty
+line_of_reversed (word ∷ []) = None
+line_of_reversed (output ∷ arrow ∷ before) = makes (work_of (reverse before)) (appends_of arrow) (path_of output)
+
+-- one line of a script, and nothing where its words are outside the language
+abbrev pub line_of : List ℕ → Option Line
+line_of bytes = line_of_reversed (reverse (words (without_at bytes)))
+
+-- a line before lines, or the fault of the first that is none
+abbrev pub line_before : ℕ → Option Line → Result (List Line) ScriptFault → Result (List Line) ScriptFault
+line_before n None later = Err (faults.BadLine n)
+line_before n (Some line) (Ok lines) = Ok (line ∷ lines)
+line_before n (Some line) (Err fault) = Err fault
+
+-- lines that are numbered from this number on
+abbrev pub lines_from : ℕ → List (List ℕ) → Result (List Line) ScriptFault
+lines_from n [] = Ok []
+lines_from n (bytes ∷ more) = line_before n (line_of bytes) (lines_from (n + 1) more)
+
+-- a newline
+abbrev pub is_newline : ℕ → Bool
+is_newline b = b == 10
+
+-- A text read as a script, or the fault of its first line that is outside the language. Lines are counted from 1.
+abbrev pub script_of : List ℕ → Result (List Line) ScriptFault
+script_of text = lines_from 1 (slice_split is_newline text)
