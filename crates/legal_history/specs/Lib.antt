@@ -2,11 +2,14 @@ pub mod Base
 pub mod Builds
 pub mod Catalogs
 pub mod Changes
+pub mod CheckoutLines
 pub mod Checkouts
 pub mod Closures
 pub mod Conditions
 pub mod Decisions
+pub mod FileLines
 pub mod Fits
 pub mod Seen
+pub mod Tests
 pub mod Texts
 pub mod Views
