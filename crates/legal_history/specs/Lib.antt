@@ -4,12 +4,16 @@ pub mod Catalogs
 pub mod Changes
 pub mod CheckoutLines
 pub mod Checkouts
+pub mod Choices
 pub mod Closures
 pub mod Conditions
 pub mod Decisions
 pub mod FileLines
 pub mod Fits
+pub mod Fresh
+pub mod Reuse
 pub mod Seen
+pub mod Serials
 pub mod Tests
 pub mod Texts
 pub mod Views
