@@ -8,12 +8,17 @@ pub mod Choices
 pub mod Closures
 pub mod Conditions
 pub mod Decisions
+pub mod DirectoryLines
 pub mod FileLines
 pub mod Fits
 pub mod Fresh
+pub mod LabelLines
+pub mod Lines
+pub mod ObjectLines
 pub mod Reuse
 pub mod Seen
 pub mod Serials
+pub mod States
 pub mod Tests
 pub mod Texts
 pub mod Views
