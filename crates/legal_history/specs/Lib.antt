@@ -19,6 +19,9 @@ pub mod Reuse
 pub mod Seen
 pub mod Serials
 pub mod States
+pub mod Steps
+pub mod Stories
 pub mod Tests
 pub mod Texts
+pub mod Turns
 pub mod Views
