@@ -1,0 +1,3 @@
+mod WorkedPatterns
+mod WorkedSpecs
+mod WorkedPicks

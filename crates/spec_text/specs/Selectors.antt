@@ -1,0 +1,81 @@
+-- Which words spell a selector of a config spec.
+use Rattle.std.specs.Prelude.{ℕ, ◌-◌, Bool, true, false, ◌&&◌, ◌==◌, Option, Some, None, ok_or, Result, Ok, Err, is_ok, List, [], ◌∷◌, length, take, codes, if◌then◌else◌}
+use Rattle.std.specs.List.{list_all, last_or, slice_split}
+use Rattle.std.specs.Option.{option_map, option_and_then}
+use Rattle.std.specs.Result.{result_ok}
+use Rattle.std.specs.Str.{bytes_eq}
+use Rattle.cc_names.specs.Formed.{begins_with_letter}
+use Rattle.cc_names.specs.Names.{name_of}
+use Rattle.cc_names.specs.Paths.{is_slash, path_of}
+use Rattle.cc_names.specs.declared.refusals.SpecCause.{SpecCause}
+use Rattle.cc_names.specs.declared.refusals.SpecCause.TheVariants.{BadSelector, BadType}
+use Rattle.cc_names.specs.declared.selection.Selector.{Selector}
+use Rattle.cc_names.specs.declared.selection.Selector.TheVariants.{CheckedOut, Label, Latest, Wherever, Numbered, Config, Nothing}
+use Rattle.spec_text.specs.Covers.{has_none}
+use Rattle.spec_text.specs.Words.{number_of}
+
+-- whether bytes are the name of a label type or a branch type
+abbrev pub is_type_name : List ℕ → Bool
+is_type_name bytes = begins_with_letter bytes && is_ok (name_of bytes)
+
+-- the selector of the branch behind `main` by these names, by what stands behind them: LATEST or a number
+abbrev pub on_branch : List (List ℕ) → List ℕ → Option Selector
+on_branch names end =
+    if bytes_eq end (codes "LATEST") then Some (Latest names) else option_map (Numbered names) (number_of end)
+
+-- the selector by what stands behind `/main/`: names of branch types, and then LATEST or a number
+abbrev pub behind_main : List (List ℕ) → Option Selector
+behind_main parts =
+    let names = take (length parts - 1) parts in
+    if list_all is_type_name names then option_and_then (on_branch names) (last_or None parts) else None
+
+-- the selector by what stands behind `.../`: the name of a branch type, and LATEST
+abbrev pub behind_dots : List (List ℕ) → Option Selector
+behind_dots (name ∷ end ∷ []) = if is_type_name name && bytes_eq end (codes "LATEST") then Some (Wherever name) else None
+behind_dots _ = None
+
+-- the selector by the parts of a word between its slashes
+abbrev pub selector_of_parts : List (List ℕ) → Option Selector
+selector_of_parts (first ∷ second ∷ parts) =
+    if bytes_eq first (codes "...") then behind_dots (second ∷ parts)
+    else if has_none first && bytes_eq second (codes "main") then behind_main parts
+    else None
+selector_of_parts _ = None
+
+-- the selector that one word spells
+abbrev pub selector_of_word : List ℕ → Option Selector
+selector_of_word word =
+    if bytes_eq word (codes "CHECKEDOUT") then Some CheckedOut
+    else if bytes_eq word (codes "-none") then Some Nothing
+    else if is_type_name word then Some (Label word)
+    else selector_of_parts (slice_split is_slash word)
+
+abbrev pub is_at : ℕ → Bool
+is_at b = b == 64
+
+-- the selector by an object's path and number
+abbrev pub of_object : List ℕ → List ℕ → Option Selector
+of_object path object =
+    option_and_then (λ row. option_map (λ target. Config target row) (result_ok (path_of path))) (number_of object)
+
+-- the selector by the parts of a word between its signs @
+abbrev pub object_of_parts : List (List ℕ) → Option Selector
+object_of_parts (path ∷ [] ∷ object ∷ []) = of_object path object
+object_of_parts _ = None
+
+-- what stands in a rule as its selector: one word, or `-config` and the word behind it
+pub data SelectorWords : Type 0 where
+  OneWord : List ℕ → SelectorWords
+  OfObject : List ℕ → SelectorWords
+
+abbrev pub selector_by : SelectorWords → Option Selector
+selector_by (OneWord word) = selector_of_word word
+selector_by (OfObject word) = object_of_parts (slice_split is_at word)
+
+abbrev pub selector_of : SelectorWords → Result Selector SpecCause
+selector_of words = ok_or (selector_by words) BadSelector
+
+-- what stands behind `-mkbranch`, where it is there, read as the name of a branch type
+abbrev pub branch_type_of : Option (List ℕ) → Result (Option (List ℕ)) SpecCause
+branch_type_of None = Ok None
+branch_type_of (Some bytes) = if is_type_name bytes then Ok (Some bytes) else Err BadType
