@@ -25,3 +25,4 @@ pub mod Tests
 pub mod Texts
 pub mod Turns
 pub mod Views
+pub mod Worked
