@@ -1,13 +1,11 @@
 -- The first build, worked: a view, a makefile, a source and one target; and the empty session.
-use Rattle.std.proofs.Common.{◌≡◌, refl, ℕ, true, false, Some, None, Ok, Err, List, [], ◌∷◌, ◌++◌}
+use Rattle.std.proofs.Common.{◌≡◌, refl, ℕ, true, false, Some, None, List, [], ◌∷◌, ◌++◌}
 use Rattle.std.specs.Prelude.{codes}
 use native.Mathlib.Bridge.{le_by_compare, IsLe}
 use Rattle.cc_names.specs.Formed.{Plain}
 use Rattle.cc_names.specs.declared.commands.Command.TheVariants as commands
 use Rattle.cc_names.specs.declared.commands.Phase.{Phase}
-use Rattle.cc_names.specs.declared.refusals.Refusal.TheVariants as refusals
 use Rattle.cc_names.specs.declared.rows.Deed.TheVariants as deeds
-use Rattle.cc_names.specs.declared.rows.ReadOf.{ReadOf}
 use Rattle.cc_names.specs.declared.steps.Step.TheVariants as steps
 use Rattle.cc_names.specs.declared.steps.Told.{Told}
 use Rattle.cc_names.specs.declared.steps.Told.TheVariants as told
@@ -57,23 +55,35 @@ abbrev opened : Told
 opened = told.Opened [] (record { ticks = 0; faults = 0 }) true
 
 abbrev phase : Phase
-phase = record { lanes = record { name = codes "a"; commands =
-    commands.Mkview (codes "v")
-    ∷ commands.Save (codes "v") (codes "Makefile") makefile
-    ∷ commands.Save (codes "v") (codes "in") (line (codes "hi"))
-    ∷ commands.Clearmake (codes "v") None false false 1 [] (codes "out" ∷ []) ∷ [] } ∷ [] }
+phase = record {
+  lanes = record {
+    name = codes "a";
+    commands =
+        commands.Mkview (codes "v")
+        ∷ commands.Save (codes "v") (codes "Makefile") makefile
+        ∷ commands.Save (codes "v") (codes "in") (line (codes "hi"))
+        ∷ commands.Clearmake (codes "v") None false false 1 [] (codes "out" ∷ []) ∷ [];
+  } ∷ [];
+}
 
 abbrev saves : List Told
 saves = opened ∷ told.Plan phase 1700000000 ∷ told.Commit row_1 7 ∷ told.Commit row_2 11 ∷ told.Commit row_3 15 ∷ []
 
 saves_are_legal : Legal saves
 unfolding IsLe
-saves_are_legal =
-    (record { first = refl; fits = refl },
-    (record { opened = refl; finished = refl; in_time = le_by_compare 1700000000 253402300799 tt },
-    (record { may = record { moment = refl; made = refl }; ticked = refl },
-    (record { may = record { moment = refl; made = refl }; ticked = refl },
-    (record { may = record { moment = refl; made = refl }; ticked = refl }, tt)))))
+saves_are_legal = (
+  record { first = refl; fits = refl },
+  (
+    record { opened = refl; finished = refl; in_time = le_by_compare 1700000000 253402300799 tt },
+    (
+      record { may = record { moment = refl; made = refl }; ticked = refl },
+      (
+        record { may = record { moment = refl; made = refl }; ticked = refl },
+        (record { may = record { moment = refl; made = refl }; ticked = refl }, tt),
+      ),
+    ),
+  ),
+)
 
 abbrev build : List Told
 build =
@@ -82,18 +92,45 @@ build =
 
 build_is_legal : Legal (saves ++ build)
 unfolding IsLe
-build_is_legal =
-    (record { first = refl; fits = refl },
-    (record { opened = refl; finished = refl; in_time = le_by_compare 1700000000 253402300799 tt },
-    (record { may = record { moment = refl; made = refl }; ticked = refl },
-    (record { may = record { moment = refl; made = refl }; ticked = refl },
-    (record { may = record { moment = refl; made = refl }; ticked = refl },
-    (record { units = _; chosen = refl; at_rows = refl; of_units = refl },
-    (record { build = _; unit = _; open_unit = record { waits = record { active = refl; is_unit = refl; waits = refl }; sound = refl; ready = refl; runs = refl }; nothing = refl },
-    (record { may = record { moment = refl; made = record {
-        n = 0; build = _; unit = _; place = refl;
-        running = record { waits = record { active = refl; is_unit = refl; waits = refl }; started = refl }; nothing = refl; made = refl } }; ticked = refl },
-    (record { build = _; active = refl; over = refl }, tt)))))))))
+build_is_legal = (
+  record { first = refl; fits = refl },
+  (
+    record { opened = refl; finished = refl; in_time = le_by_compare 1700000000 253402300799 tt },
+    (
+      record { may = record { moment = refl; made = refl }; ticked = refl },
+      (
+        record { may = record { moment = refl; made = refl }; ticked = refl },
+        (
+          record { may = record { moment = refl; made = refl }; ticked = refl },
+          (
+            record { units = _; chosen = refl; at_rows = refl; of_units = refl },
+            (
+              record { build = _; unit = _; open_unit = record { waits = record { active = refl; is_unit = refl; waits = refl }; sound = refl; ready = refl; runs = refl }; nothing = refl },
+              (
+                record {
+                  may = record {
+                    moment = refl;
+                    made = record {
+                      n = 0;
+                      build = _;
+                      unit = _;
+                      place = refl;
+                      running = record { waits = record { active = refl; is_unit = refl; waits = refl }; started = refl };
+                      nothing = refl;
+                      made = refl;
+                    };
+                  };
+                  ticked = refl;
+                },
+                (record { build = _; active = refl; over = refl }, tt),
+              ),
+            ),
+          ),
+        ),
+      ),
+    ),
+  ),
+)
 
 all_are_finished : all_done (state_of (saves ++ build)) ≡ true
 all_are_finished = refl

@@ -1,5 +1,5 @@
 -- A base: its rows, newest first. Row 0, which makes the root directory, is built in and lies below them.
-use Rattle.std.specs.Prelude.{ℕ, suc, Bool, true, false, ◌==◌, nat_lt, Option, Some, None, List, [], ◌∷◌, length}
+use Rattle.std.specs.Prelude.{ℕ, suc, true, false, ◌==◌, nat_lt, Option, Some, None, List, [], ◌∷◌, length}
 use Rattle.cc_names.specs.Formed.{Plain}
 use Rattle.cc_names.specs.declared.rows.Deed.{Deed}
 

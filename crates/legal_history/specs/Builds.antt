@@ -1,10 +1,10 @@
 -- The builds that are active, and what their units have come to.
-use Rattle.std.specs.Prelude.{ℕ, ◌+◌, Bool, true, false, ◌&&◌, Option, Some, None, option_map, List, [], ◌∷◌, length, find, bytes_eq, slice_get}
+use Rattle.std.specs.Prelude.{ℕ, ◌+◌, Bool, true, false, Option, Some, None, option_map, List, [], ◌∷◌, length, find, bytes_eq, slice_get}
 use Rattle.std.specs.Ordering.{nat_cmp}
 use Rattle.std.specs.FinMap.Entries.{find as find_key}
 use Rattle.cc_names.specs.declared.rows.Tag.{Tag}
 use Rattle.cc_names.specs.declared.steps.UnitEnd.{UnitEnd}
-use Rattle.cc_names.specs.declared.steps.UnitEnd.TheVariants.{Kept, Failed, Blocked, Bare}
+use Rattle.cc_names.specs.declared.steps.UnitEnd.TheVariants.{Kept}
 use Rattle.cc_names.specs.declared.units.Unit.{Unit}
 use Rattle.legal_history.specs.Closures.{is_among}
 

@@ -1,5 +1,5 @@
 -- The changes that a base's rows make: of the trees of versions, of labels and of references; and which objects are live.
-use Rattle.std.specs.Prelude.{ℕ, Bool, true, false, ◌==◌, Option, Some, None, List, [], ◌∷◌, ◌++◌, bytes_eq}
+use Rattle.std.specs.Prelude.{ℕ, ◌==◌, Option, Some, None, List, [], ◌∷◌, bytes_eq}
 use Rattle.std.specs.List.{list_any}
 use Rattle.cc_names.specs.Last.{Effect, Keeps, Ends, Sets, only_if, last}
 use Rattle.cc_names.specs.Branches.{branch_of_version}

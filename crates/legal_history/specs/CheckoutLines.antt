@@ -1,5 +1,5 @@
 -- The commands that take elements out and bring them in: the tests of each in their order, and its deed.
-use Rattle.std.specs.Prelude.{ℕ, Bool, true, false, not, ◌==◌, Option, Some, None, Result, List, [], ◌∷◌, ◌++◌, find, if◌then◌else◌}
+use Rattle.std.specs.Prelude.{ℕ, Bool, true, false, not, ◌==◌, Option, Some, None, Result, List, [], ◌∷◌, find}
 use Rattle.cc_names.specs.declared.refusals.Refusal.{Refusal}
 use Rattle.cc_names.specs.declared.rows.Deed.{Deed}
 use Rattle.cc_names.specs.declared.rows.Deed.TheVariants as deeds
@@ -8,7 +8,7 @@ use Rattle.cc_names.specs.declared.rows.Out.TheVariants as outs
 use Rattle.cc_names.specs.declared.selection.Picked.{Picked}
 use Rattle.cc_names.specs.declared.selection.Rule.{Rule}
 use Rattle.cc_names.specs.declared.selection.Seen.{Seen}
-use Rattle.cc_names.specs.declared.selection.Seen.TheVariants.{Private, Element, Unselected, Nothing}
+use Rattle.cc_names.specs.declared.selection.Seen.TheVariants.{Element}
 use Rattle.legal_history.specs.Base.{Base}
 use Rattle.legal_history.specs.Decisions.{Scene, Decision, makes}
 use Rattle.legal_history.specs.FileLines.{element_of}

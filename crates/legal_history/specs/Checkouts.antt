@@ -1,5 +1,5 @@
 -- All checkouts that stand in a base, and who holds a branch.
-use Rattle.std.specs.Prelude.{ℕ, Bool, true, false, not, ◌&&◌, ◌==◌, Option, Some, None, List, [], ◌∷◌, find, option_map, option_and_then, bytes_eq}
+use Rattle.std.specs.Prelude.{ℕ, Bool, true, false, not, ◌&&◌, Option, Some, None, List, [], ◌∷◌, find, option_map, option_and_then, bytes_eq}
 use Rattle.cc_names.specs.Branches.{branch_of_version}
 use Rattle.cc_names.specs.Versions.{is_number, latest, put_if}
 use Rattle.legal_history.specs.Base.{Base, size}

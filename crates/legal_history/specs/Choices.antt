@@ -1,24 +1,19 @@
 -- What a unit of a build sees, the object that it may reuse, and the row that its script's result would make.
-use Rattle.std.specs.Prelude.{ℕ, ◌+◌, Bool, true, false, not, ◌&&◌, ◌||◌, ◌==◌, Option, Some, None, Result, Ok, Err, is_some, is_none, List, [], ◌∷◌, ◌++◌, take, map, reverse, find, option_map, option_and_then, bytes_eq, unwrap_or}
-use Rattle.std.specs.List.{list_all}
+use Rattle.std.specs.Prelude.{ℕ, ◌+◌, true, false, Option, Some, None, Result, Ok, Err, List, [], ◌∷◌, take, map, option_and_then}
 use Rattle.std.specs.Ordering.{nat_cmp}
 use Rattle.std.specs.Cmp.Lexicographic.{slice_cmp}
 use Rattle.std.specs.FinMap.Entries.{put}
-use Rattle.cc_names.specs.References.{held_at}
-use Rattle.cc_names.specs.Versions.{is_number}
 use Rattle.cc_names.specs.declared.rows.Deed.{Deed}
 use Rattle.cc_names.specs.declared.rows.Deed.TheVariants as deeds
 use Rattle.cc_names.specs.declared.rows.ReadOf.{ReadOf}
 use Rattle.cc_names.specs.declared.refusals.ScriptFault.{ScriptFault}
 use Rattle.cc_names.specs.declared.units.Unit.{Unit}
 use Rattle.build_script.specs.Run.{Ran, run}
-use Rattle.legal_history.specs.Base.{Base, size, first_rows, deed_at}
-use Rattle.legal_history.specs.Builds.{Build, Came, Started, Ended, Given, came_to, object_of, unit_with}
-use Rattle.legal_history.specs.Changes.{held, live}
-use Rattle.legal_history.specs.Closures.{is_among}
-use Rattle.legal_history.specs.Fresh.{sees_file, sees_directory, script_text}
+use Rattle.legal_history.specs.Base.{Base, first_rows}
+use Rattle.legal_history.specs.Builds.{Build, Came, came_to, object_of}
+use Rattle.legal_history.specs.Fresh.{script_text}
 use Rattle.legal_history.specs.Seen.{file_at}
-use Rattle.legal_history.specs.Serials.{Standing, Bad, Good, standing_of_end, standing_or_file, early_end, makes, needed}
+use Rattle.legal_history.specs.Serials.{makes, needed}
 use Rattle.legal_history.specs.Texts.{text}
 
 -- a unit of a build with what it has come to

@@ -1,11 +1,11 @@
 -- What an object rests on in the end, and the version of each element that its record lists.
-use Rattle.std.specs.Prelude.{ℕ, Bool, true, false, ◌&&◌, ◌==◌, Option, Some, None, List, [], ◌∷◌, map, max, bytes_eq}
+use Rattle.std.specs.Prelude.{ℕ, Bool, true, false, ◌==◌, Option, Some, None, List, [], ◌∷◌, max, bytes_eq}
 use Rattle.std.specs.List.{list_any}
 use Rattle.std.specs.declared.cmp.Ordering.{Ordering}
 use Rattle.std.specs.Ordering.{nat_cmp, on, then_cmp}
 use Rattle.std.specs.Cmp.Lexicographic.{slice_cmp}
 use Rattle.std.specs.FinMap.Entries.{put, find}
-use Rattle.cc_names.specs.Versions.{place, put_if}
+use Rattle.cc_names.specs.Versions.{place}
 use Rattle.cc_names.specs.declared.changes.Place.{Place}
 use Rattle.cc_names.specs.declared.rows.ReadOf.{ReadOf}
 use Rattle.cc_names.specs.declared.rows.Deed.{Deed}

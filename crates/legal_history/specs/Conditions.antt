@@ -1,10 +1,9 @@
 -- The conditions under which a row fits a base, each a test of its own.
-use Rattle.std.specs.Prelude.{ℕ, Bool, true, false, not, ◌&&◌, ◌||◌, ◌==◌, nat_lt, Option, Some, None, is_some, is_none, is_ok, List, [], ◌∷◌, codes, option_map, option_and_then, bytes_eq}
-use Rattle.std.specs.List.{list_any, list_all}
+use Rattle.std.specs.Prelude.{ℕ, Bool, true, false, not, ◌&&◌, ◌||◌, ◌==◌, Option, Some, None, is_some, is_none, List, [], ◌∷◌, codes, option_and_then}
 use Rattle.cc_names.specs.Branches.{branch_named, branch_of_version}
 use Rattle.cc_names.specs.Labels.{holder}
-use Rattle.cc_names.specs.References.{is_held, held_at}
-use Rattle.cc_names.specs.Versions.{is_number, kind_of, element_of_branch}
+use Rattle.cc_names.specs.References.{is_held}
+use Rattle.cc_names.specs.Versions.{kind_of}
 use Rattle.cc_names.specs.declared.rows.Kind.{Kind}
 use Rattle.cc_names.specs.declared.rows.Kind.TheVariants.{File, Directory}
 use Rattle.cc_names.specs.declared.rows.TypeKind.{TypeKind}
@@ -13,13 +12,12 @@ use Rattle.cc_names.specs.declared.rows.Placed.{Placed}
 use Rattle.cc_names.specs.declared.rows.ReadOf.{ReadOf}
 use Rattle.cc_names.specs.declared.rows.Deed.{Deed}
 use Rattle.cc_names.specs.declared.rows.Deed.TheVariants as deeds
-use Rattle.spec_text.specs.Specs.{rules_of}
 use Rattle.legal_history.specs.Base.{Base, size, deed_at}
 use Rattle.legal_history.specs.Catalogs.{named, own_of}
 use Rattle.legal_history.specs.Changes.{tree, labels, held, live, kind_of_type, targets_of}
 use Rattle.legal_history.specs.Checkouts.{reserver, other_reserver, branch_of, is_latest}
-use Rattle.legal_history.specs.Closures.{is_publish, is_among, is_version_of}
-use Rattle.legal_history.specs.Views.{Checkout, view_row, out, private}
+use Rattle.legal_history.specs.Closures.{is_among, is_version_of}
+use Rattle.legal_history.specs.Views.{Checkout, view_row, out}
 
 -- whether the view exists
 abbrev pub exists : Base → List ℕ → Bool

@@ -1,13 +1,11 @@
 -- The commands on the names of directories: the tests of each in their order, and its deed. The catalog that is tested is
 -- that of the view's checkout of the directory.
-use Rattle.std.specs.Prelude.{ℕ, Bool, true, false, not, Option, Some, None, Result, Ok, Err, List, [], ◌∷◌, option_and_then}
+use Rattle.std.specs.Prelude.{ℕ, Bool, not, Option, Result, Ok, Err, List, [], ◌∷◌, option_and_then}
 use Rattle.cc_names.specs.Paths.{join_of}
 use Rattle.cc_names.specs.declared.names.NameFault.{NameFault}
 use Rattle.cc_names.specs.declared.refusals.Refusal.{Refusal}
-use Rattle.cc_names.specs.declared.rows.Deed.{Deed}
 use Rattle.cc_names.specs.declared.rows.Deed.TheVariants as deeds
 use Rattle.cc_names.specs.declared.rows.Kind.{Kind}
-use Rattle.cc_names.specs.declared.selection.Seen.{Seen}
 use Rattle.legal_history.specs.Base.{Base}
 use Rattle.legal_history.specs.Catalogs.{named, own_of}
 use Rattle.legal_history.specs.Decisions.{Scene, Decision, makes}

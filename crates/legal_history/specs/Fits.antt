@@ -1,5 +1,5 @@
 -- When a row fits a base, and what is a base at all.
-use Rattle.std.specs.Prelude.{ℕ, Bool, true, false, not, ◌&&◌, ◌==◌, nat_lt, is_some, is_none, is_ok, List, [], ◌∷◌}
+use Rattle.std.specs.Prelude.{ℕ, Bool, true, false, not, ◌&&◌, ◌==◌, nat_lt, is_some, is_none, is_ok, [], ◌∷◌}
 use Rattle.std.specs.List.{list_all}
 use Rattle.cc_names.specs.References.{held_at}
 use Rattle.cc_names.specs.declared.rows.Deed.{Deed}

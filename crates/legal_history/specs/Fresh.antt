@@ -1,11 +1,11 @@
 -- The build from nothing on what a view sees.
-use Rattle.std.specs.Prelude.{ℕ, Bool, true, false, Option, Some, None, Result, Ok, Err, is_some, List, [], ◌∷◌, reverse, option_and_then}
+use Rattle.std.specs.Prelude.{ℕ, Bool, Option, Some, None, Result, Ok, Err, is_some, List, [], ◌∷◌, reverse, option_and_then}
 use Rattle.cc_names.specs.declared.commands.Macro.{Macro}
 use Rattle.cc_names.specs.declared.refusals.Refusal.{Refusal}
 use Rattle.cc_names.specs.declared.refusals.ScriptFault.{ScriptFault}
 use Rattle.cc_names.specs.declared.refusals.UnitFault.TheVariants.{Script}
 use Rattle.cc_names.specs.declared.steps.UnitEnd.{UnitEnd}
-use Rattle.cc_names.specs.declared.steps.UnitEnd.TheVariants.{Failed, Bare}
+use Rattle.cc_names.specs.declared.steps.UnitEnd.TheVariants.{Failed}
 use Rattle.cc_names.specs.declared.units.Unit.{Unit}
 use Rattle.cc_names.specs.declared.units.UnitScript.{UnitScript}
 use Rattle.cc_names.specs.declared.units.UnitScript.TheVariants as scripts

@@ -1,5 +1,5 @@
 -- The commands on types, labels and arrows: the tests of each in their order, and its deed.
-use Rattle.std.specs.Prelude.{ℕ, Bool, true, false, not, ◌==◌, ◌&&◌, nat_lt, Option, Some, None, Result, List, [], ◌∷◌, is_some, is_none, map, unwrap_or, option_map, option_and_then}
+use Rattle.std.specs.Prelude.{ℕ, Bool, true, false, ◌&&◌, nat_lt, Option, Some, None, Result, List, [], ◌∷◌, is_none, map, unwrap_or, option_map, option_and_then}
 use Rattle.cc_names.specs.Branches.{branch_behind}
 use Rattle.cc_names.specs.Labels.{holder}
 use Rattle.cc_names.specs.References.{held_at}
@@ -7,7 +7,6 @@ use Rattle.cc_names.specs.Versions.{is_number, numbered, place}
 use Rattle.cc_names.specs.declared.commands.VersionName.{VersionName}
 use Rattle.cc_names.specs.declared.refusals.Refusal.{Refusal}
 use Rattle.cc_names.specs.declared.refusals.Refusal.TheVariants as refusals
-use Rattle.cc_names.specs.declared.rows.Deed.{Deed}
 use Rattle.cc_names.specs.declared.rows.Deed.TheVariants as deeds
 use Rattle.cc_names.specs.declared.rows.Placed.{Placed}
 use Rattle.cc_names.specs.declared.rows.TypeKind.{TypeKind}
@@ -18,7 +17,7 @@ use Rattle.legal_history.specs.Changes.{tree, labels, held}
 use Rattle.legal_history.specs.CheckoutLines.{picked_of}
 use Rattle.legal_history.specs.Closures.{Sources, closure, listing}
 use Rattle.legal_history.specs.Conditions.{has_label, arrow_row}
-use Rattle.legal_history.specs.Decisions.{Scene, Decision, Answers, makes, answers}
+use Rattle.legal_history.specs.Decisions.{Scene, Decision, makes, answers}
 use Rattle.legal_history.specs.FileLines.{element_of}
 use Rattle.legal_history.specs.Seen.{at}
 use Rattle.legal_history.specs.Tests.{refused_where, refused_unless, needs_view, needs_something, needs_selected, needs_element, needs_not_out, needs_label_type, needs_free_type, needs_object}

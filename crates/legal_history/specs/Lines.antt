@@ -1,5 +1,5 @@
 -- The decision on each command, a line a command.
-use Rattle.std.specs.Prelude.{Result, List, [], ◌∷◌}
+use Rattle.std.specs.Prelude.{Result, []}
 use Rattle.cc_names.specs.declared.commands.Command.{Command}
 use Rattle.cc_names.specs.declared.commands.Command.TheVariants as commands
 use Rattle.cc_names.specs.declared.refusals.Refusal.{Refusal}

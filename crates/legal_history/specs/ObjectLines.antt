@@ -1,16 +1,15 @@
 -- The commands on objects: dropping one, scrubbing those that are due, and building.
-use Rattle.std.specs.Prelude.{ℕ, ◌+◌, Bool, true, false, not, ◌&&◌, nat_le, Option, Some, None, Result, Ok, Err, List, [], ◌∷◌, is_some, length, reverse}
+use Rattle.std.specs.Prelude.{ℕ, ◌+◌, Bool, not, ◌&&◌, nat_le, Option, Some, None, Result, Ok, Err, List, [], ◌∷◌, is_some, length, reverse}
 use Rattle.cc_names.specs.References.{is_held}
 use Rattle.cc_names.specs.Versions.{put_if}
 use Rattle.cc_names.specs.declared.commands.Macro.{Macro}
 use Rattle.cc_names.specs.declared.refusals.Refusal.{Refusal}
-use Rattle.cc_names.specs.declared.rows.Deed.{Deed}
 use Rattle.cc_names.specs.declared.rows.Deed.TheVariants as deeds
 use Rattle.cc_names.specs.declared.units.Unit.{Unit}
 use Rattle.make_text.specs.Units.{units}
 use Rattle.legal_history.specs.Base.{Base, size}
 use Rattle.legal_history.specs.Changes.{held, live}
-use Rattle.legal_history.specs.Decisions.{Scene, Decision, Answers, first_refusal, makes, answers, begins}
+use Rattle.legal_history.specs.Decisions.{Scene, Decision, first_refusal, makes, answers, begins}
 use Rattle.legal_history.specs.Fresh.{texts}
 use Rattle.legal_history.specs.Tests.{needs_view, needs_idle, needs_object}
 

@@ -1,5 +1,5 @@
 -- Which object a unit may reuse in place of a run of its script.
-use Rattle.std.specs.Prelude.{ℕ, Bool, true, false, ◌&&◌, ◌==◌, Option, Some, None, is_some, is_none, List, [], ◌∷◌, option_and_then, bytes_eq}
+use Rattle.std.specs.Prelude.{ℕ, Bool, true, false, ◌&&◌, ◌==◌, Option, Some, None, is_some, is_none, List, [], ◌∷◌, bytes_eq}
 use Rattle.std.specs.List.{list_all}
 use Rattle.cc_names.specs.References.{held_at}
 use Rattle.cc_names.specs.Versions.{is_number}

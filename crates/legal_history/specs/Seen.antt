@@ -1,5 +1,5 @@
 -- What stands at a path in a view.
-use Rattle.std.specs.Prelude.{ℕ, Bool, true, false, Option, Some, None, Result, Ok, Err, List, [], ◌∷◌, reverse}
+use Rattle.std.specs.Prelude.{ℕ, true, false, Option, Some, None, Result, Ok, Err, List, [], ◌∷◌, reverse}
 use Rattle.cc_names.specs.Paths.{names_of, joined}
 use Rattle.cc_names.specs.Versions.{kind_of}
 use Rattle.cc_names.specs.declared.rows.Kind.{Kind}

@@ -1,15 +1,13 @@
 -- What the units of a build come to one after the other, from nothing: no record, no object, no lane and no thread.
-use Rattle.std.specs.Prelude.{ℕ, Bool, true, false, not, Option, Some, None, Result, Ok, Err, is_some, List, [], ◌∷◌, ◌++◌, find, reverse, option_map, option_and_then, bytes_eq, unwrap_or}
+use Rattle.std.specs.Prelude.{ℕ, Bool, true, false, Option, Some, None, List, [], ◌∷◌, ◌++◌, find, option_map}
 use Rattle.std.specs.List.{list_any}
 use Rattle.cc_names.specs.Paths.{root}
-use Rattle.cc_names.specs.declared.refusals.ScriptFault.{ScriptFault}
-use Rattle.cc_names.specs.declared.refusals.UnitFault.TheVariants.{NoRule, NoDirectory, ScriptTooLong, Script}
+use Rattle.cc_names.specs.declared.refusals.UnitFault.TheVariants.{NoRule, NoDirectory, ScriptTooLong}
 use Rattle.cc_names.specs.declared.steps.UnitEnd.{UnitEnd}
 use Rattle.cc_names.specs.declared.steps.UnitEnd.TheVariants.{Kept, Failed, Blocked, Bare}
 use Rattle.cc_names.specs.declared.units.Unit.{Unit}
 use Rattle.cc_names.specs.declared.units.UnitScript.{UnitScript}
 use Rattle.cc_names.specs.declared.units.UnitScript.TheVariants as scripts
-use Rattle.build_script.specs.Run.{Files, run}
 use Rattle.legal_history.specs.Closures.{is_among}
 use Rattle.legal_history.specs.FileLines.{parent}
 

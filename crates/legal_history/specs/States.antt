@@ -1,18 +1,17 @@
 -- What a story has come to: the state that its steps leave, one after the other.
-use Rattle.std.specs.Prelude.{ℕ, zero, suc, ◌+◌, Bool, true, false, not, ◌&&◌, ◌==◌, nat_lt, Option, Some, None, Result, Ok, Err, is_some, is_none, List, [], ◌∷◌, length, reverse, slice_get, option_map, option_and_then, fold, unwrap_or}
+use Rattle.std.specs.Prelude.{ℕ, zero, suc, ◌+◌, Bool, true, false, ◌&&◌, ◌==◌, Option, Some, None, Result, is_none, List, [], ◌∷◌, length, slice_get, option_map, option_and_then, unwrap_or}
 use Rattle.std.specs.Ordering.{nat_cmp}
-use Rattle.std.specs.FinMap.Entries.{put, find, where_key}
+use Rattle.std.specs.FinMap.Entries.{put, find}
 use Rattle.cc_names.specs.Formed.{Plain}
 use Rattle.cc_names.specs.declared.commands.Command.{Command}
-use Rattle.cc_names.specs.declared.commands.Command.TheVariants as commands
 use Rattle.cc_names.specs.declared.commands.Lane.{Lane}
 use Rattle.cc_names.specs.declared.commands.Phase.{Phase}
 use Rattle.cc_names.specs.declared.refusals.Refusal.{Refusal}
 use Rattle.cc_names.specs.declared.rows.Tag.{Tag}
 use Rattle.cc_names.specs.declared.steps.Counts.{Counts}
 use Rattle.legal_history.specs.Base.{Base}
-use Rattle.legal_history.specs.Builds.{Active, Build, Came, build_of}
-use Rattle.legal_history.specs.Decisions.{Scene, Decision, Begins}
+use Rattle.legal_history.specs.Builds.{Active, Build, build_of}
+use Rattle.legal_history.specs.Decisions.{Scene, Decision}
 use Rattle.legal_history.specs.Lines.{decision}
 
 -- the base as it was opened, with the disk's counts as it was handed in, and whether the disk tells its content
@@ -49,7 +48,7 @@ start = record {
   moment = 0;
   done = [];
   active = [];
-  ends = []
+  ends = [];
 }
 
 -- what a command meets in a state

@@ -1,8 +1,7 @@
 -- What each step of a story leaves of the state before it.
-use Rattle.std.specs.Prelude.{ℕ, ◌+◌, Bool, true, false, not, ◌==◌, Option, Some, None, Result, Ok, Err, List, [], ◌∷◌, reverse, option_map, option_and_then, fold}
+use Rattle.std.specs.Prelude.{ℕ, ◌+◌, true, false, not, ◌==◌, Option, Some, None, Result, Ok, List, [], ◌∷◌, reverse, option_and_then}
 use Rattle.std.specs.Ordering.{nat_cmp}
 use Rattle.std.specs.FinMap.Entries.{put, where_key}
-use Rattle.cc_names.specs.Formed.{Plain}
 use Rattle.cc_names.specs.declared.commands.Command.{Command}
 use Rattle.cc_names.specs.declared.commands.Command.TheVariants as commands
 use Rattle.cc_names.specs.declared.refusals.Refusal.{Refusal}
@@ -17,8 +16,8 @@ use Rattle.cc_names.specs.declared.units.Unit.{Unit}
 use Rattle.legal_history.specs.Base.{Base, size}
 use Rattle.legal_history.specs.Builds.{Active, Build, Came, Ended, Given, build_of, unit_at, unit_with_first}
 use Rattle.legal_history.specs.Changes.{targets_of}
-use Rattle.legal_history.specs.Decisions.{Decision, Makes, Answers, Begins}
-use Rattle.legal_history.specs.States.{State, Opening, Committed, Faulted, start, with_done, decided, next_command, build_by}
+use Rattle.legal_history.specs.Decisions.{Decision, Begins}
+use Rattle.legal_history.specs.States.{State, Committed, Faulted, start, with_done, decided, next_command, build_by}
 use Rattle.legal_history.specs.Turns.{came_by_start, unreadable}
 
 -- a build with what one of its units has come to
@@ -101,7 +100,7 @@ after_step s (steps.End tag) = record s { done = with_done s.done tag.lane; acti
 after_step s (steps.Fault tag left before faults tick) = record s {
   done = done_by_fault s.done tag.lane (build_by s tag);
   active = faulted_in s.active tag.lane (build_by s tag);
-  ends = Faulted left faults tick ∷ s.ends
+  ends = Faulted left faults tick ∷ s.ends;
 }
 after_step s step = s
 
@@ -114,7 +113,7 @@ after s (told.Commit row tick) = record s {
   base = row ∷ s.base;
   done = done_after s.done row.tag.lane row.deed;
   active = active_after s.base s.active row.tag.lane row.deed;
-  ends = Committed row tick ∷ s.ends
+  ends = Committed row tick ∷ s.ends;
 }
 after s (told.Other step) = after_step s step
 

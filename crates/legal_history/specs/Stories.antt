@@ -1,6 +1,6 @@
 -- Which stories are legal: each step is lawful in the state to which the steps before it have led.
 use Rattle.std.specs.Bool.{⊤}
-use Rattle.std.specs.Prelude.{◌≡◌, ℕ, ◌^◌, ◌-◌, ◌<◌, ◌≤◌, Bool, true, false, ◌&&◌, ◌||◌, ◌==◌, nat_lt, ◌⊎◌, Option, Some, None, Result, Ok, Err, is_some, List, [], ◌∷◌, length, reverse}
+use Rattle.std.specs.Prelude.{◌≡◌, ℕ, ◌^◌, ◌-◌, ◌≤◌, Bool, true, false, ◌&&◌, ◌||◌, ◌==◌, nat_lt, ◌⊎◌, Option, Some, None, Ok, Err, is_some, List, [], ◌∷◌, length, reverse}
 use Rattle.cc_names.specs.Formed.{Plain}
 use Rattle.cc_names.specs.Versions.{is_number}
 use Rattle.cc_names.specs.declared.rows.Deed.{Deed}
@@ -13,16 +13,16 @@ use Rattle.cc_names.specs.declared.steps.Step.TheVariants as steps
 use Rattle.cc_names.specs.declared.steps.Told.{Told}
 use Rattle.cc_names.specs.declared.steps.Told.TheVariants as told
 use Rattle.cc_names.specs.declared.steps.UnitEnd.{UnitEnd}
-use Rattle.cc_names.specs.declared.steps.UnitEnd.TheVariants.{Kept, Failed, Blocked, Bare}
+use Rattle.cc_names.specs.declared.steps.UnitEnd.TheVariants.{Kept, Failed}
 use Rattle.cc_names.specs.declared.units.Unit.{Unit}
-use Rattle.legal_history.specs.Base.{Base, size}
+use Rattle.legal_history.specs.Base.{size}
 use Rattle.legal_history.specs.Builds.{Build, Started, came_to, is_outcome, unit_at, unit_with_first}
 use Rattle.legal_history.specs.Changes.{targets_of}
 use Rattle.legal_history.specs.Choices.{here, publish_of}
 use Rattle.legal_history.specs.Decisions.{Makes, Answers, Begins}
 use Rattle.legal_history.specs.Fits.{is_base}
 use Rattle.legal_history.specs.Reuse.{choice, held_at_all}
-use Rattle.legal_history.specs.States.{State, decided, is_next, build_by, all_done, ticks_of, faults_of, hanging, start}
+use Rattle.legal_history.specs.States.{State, decided, build_by, all_done, ticks_of, faults_of, hanging, start}
 use Rattle.legal_history.specs.Steps.{after}
 use Rattle.legal_history.specs.Turns.{early, is_ready, is_complete}
 

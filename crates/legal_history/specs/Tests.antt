@@ -1,19 +1,17 @@
 -- What commands need of the base, each a test of its own: the refusal where the need is not met.
-use Rattle.std.specs.Prelude.{ℕ, Bool, true, false, not, ◌&&◌, ◌||◌, Option, Some, None, Result, Ok, Err, is_some, List, [], ◌∷◌, option_map, option_and_then, bytes_eq, if◌then◌else◌}
+use Rattle.std.specs.Prelude.{ℕ, Bool, true, false, not, ◌&&◌, ◌||◌, Option, Some, None, Result, Ok, Err, is_some, List, option_map, option_and_then, bytes_eq}
 use Rattle.cc_names.specs.Branches.{branch_named, branch_of_version}
-use Rattle.cc_names.specs.Labels.{holder}
 use Rattle.cc_names.specs.References.{held_at}
 use Rattle.cc_names.specs.Versions.{is_number}
 use Rattle.cc_names.specs.declared.refusals.Refusal.{Refusal}
 use Rattle.cc_names.specs.declared.refusals.Refusal.TheVariants as refusals
 use Rattle.cc_names.specs.declared.refusals.SpecError.{SpecError}
-use Rattle.cc_names.specs.declared.rows.Tag.{Tag}
 use Rattle.cc_names.specs.declared.selection.Rule.{Rule}
 use Rattle.cc_names.specs.declared.selection.Seen.{Seen}
 use Rattle.cc_names.specs.declared.selection.Seen.TheVariants.{Private, Element, Unselected, Nothing}
 use Rattle.legal_history.specs.Base.{Base}
 use Rattle.legal_history.specs.Builds.{building}
-use Rattle.legal_history.specs.Changes.{tree, labels, held}
+use Rattle.legal_history.specs.Changes.{tree, held}
 use Rattle.legal_history.specs.Checkouts.{reserver, other_reserver, branch_of, latest_beside, oldest_out}
 use Rattle.legal_history.specs.Conditions.{is_file, is_directory, has_name, is_label_type, is_branch_type, is_type_taken}
 use Rattle.legal_history.specs.Decisions.{Scene}

@@ -1,5 +1,5 @@
 -- What a unit of an active build may do next, by what the build's other units have come to.
-use Rattle.std.specs.Prelude.{ℕ, ◌+◌, Bool, true, false, ◌&&◌, Option, Some, None, Result, Ok, Err, List, [], ◌∷◌, option_map}
+use Rattle.std.specs.Prelude.{ℕ, ◌+◌, Bool, true, ◌&&◌, Option, Some, None, Result, Err, List, [], ◌∷◌, option_map}
 use Rattle.std.specs.List.{list_all}
 use Rattle.cc_names.specs.declared.refusals.ScriptFault.{ScriptFault}
 use Rattle.cc_names.specs.declared.refusals.ScriptFault.TheVariants as faults
@@ -9,9 +9,9 @@ use Rattle.cc_names.specs.declared.refusals.UnitFault.TheVariants.{Script}
 use Rattle.cc_names.specs.declared.units.Unit.{Unit}
 use Rattle.build_script.specs.Run.{nothing_written, run}
 use Rattle.legal_history.specs.Base.{Base, first_rows}
-use Rattle.legal_history.specs.Builds.{Build, Came, Started, Ended, Given, came_to, is_outcome, unit_with}
+use Rattle.legal_history.specs.Builds.{Build, Came, Started, Ended, came_to, is_outcome, unit_with}
 use Rattle.legal_history.specs.Fresh.{script_text, sees_file, sees_directory}
-use Rattle.legal_history.specs.Serials.{Standing, Missing, Good, Bad, standing_of_end, standing_or_file, early_end}
+use Rattle.legal_history.specs.Serials.{Standing, Good, standing_of_end, standing_or_file, early_end}
 
 -- how a unit stands; one without an outcome is not asked
 abbrev pub standing_of_came : Option Came → Standing

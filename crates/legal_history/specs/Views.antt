@@ -1,7 +1,6 @@
 -- A view's own state: its life, its checkouts, its private files and its config spec. Each is what the last deed that bears on it set.
-use Rattle.std.specs.Prelude.{ℕ, ◌+◌, Bool, true, false, ◌&&◌, ◌==◌, Option, Some, None, List, [], ◌∷◌, ◌++◌, bytes_eq, if◌then◌else◌}
+use Rattle.std.specs.Prelude.{ℕ, Bool, true, false, ◌&&◌, ◌==◌, Option, Some, None, List, [], ◌∷◌, bytes_eq}
 use Rattle.cc_names.specs.Last.{Effect, Keeps, Ends, Sets, only_if, last}
-use Rattle.cc_names.specs.Formed.{Plain}
 use Rattle.cc_names.specs.declared.rows.Deed.{Deed}
 use Rattle.cc_names.specs.declared.rows.Deed.TheVariants as deeds
 use Rattle.cc_names.specs.declared.rows.Out.{Out}
