@@ -1,5 +1,5 @@
 -- A base: its rows, newest first. Row 0, which makes the root directory, is built in and lies below them.
-use Rattle.std.specs.Prelude.{ℕ, suc, true, false, ◌==◌, nat_lt, Option, Some, None, List, [], ◌∷◌, length}
+use Rattle.std.specs.Prelude.{ℕ, Bool, suc, true, false, ◌==◌, nat_lt, Option, Some, None, List, [], ◌∷◌, length}
 use Rattle.cc_names.specs.Formed.{Plain}
 use Rattle.cc_names.specs.declared.rows.Deed.{Deed}
 
@@ -20,6 +20,11 @@ first_rows t (row ∷ older) = elim (nat_lt (size older) t) [ true ↦ row ∷ o
 abbrev pub row_at : Base → ℕ → Option Plain
 row_at [] n = None
 row_at (row ∷ older) n = elim (size older == n) [ true ↦ Some row | false ↦ row_at older n ]
+
+-- something, only where a test holds
+abbrev pub only_where : {A : Type 0} → Bool → Option A → Option A
+only_where true a = a
+only_where false a = None
 
 -- the deed of a row
 abbrev pub deed_of : Option Plain → Option Deed

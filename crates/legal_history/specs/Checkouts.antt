@@ -1,8 +1,9 @@
 -- All checkouts that stand in a base, and who holds a branch.
-use Rattle.std.specs.Prelude.{ℕ, Bool, true, false, not, ◌&&◌, Option, Some, None, List, [], ◌∷◌, find, option_map, option_and_then, bytes_eq}
+use Rattle.std.specs.Prelude.{ℕ, Bool, not, ◌&&◌, Option, Some, None, List, [], ◌∷◌, find, option_map, option_and_then, bytes_eq}
+use Rattle.std.specs.Option.{option_or}
 use Rattle.cc_names.specs.Branches.{branch_of_version}
 use Rattle.cc_names.specs.Versions.{is_number, latest, put_if}
-use Rattle.legal_history.specs.Base.{Base, size}
+use Rattle.legal_history.specs.Base.{Base, size, only_where}
 use Rattle.legal_history.specs.Changes.{tree}
 use Rattle.legal_history.specs.Views.{Checkout, TakenOut, made_out, out}
 
@@ -49,19 +50,10 @@ is_others b v branch taken = not (bytes_eq taken.view v) && reserves b branch ta
 abbrev pub other_reserver : Base → List ℕ → ℕ → Option (List ℕ)
 other_reserver b v branch = option_map view_of (find (is_others b v branch) (checkouts b))
 
--- a number, or another one where there is none
-abbrev pub number_or : Option ℕ → Option ℕ → Option ℕ
-number_or (Some n) other = Some n
-number_or None other = other
-
--- the row of a checkout, where it is the view's
-abbrev pub row_if_of : List ℕ → TakenOut → Option ℕ
-row_if_of v taken = elim (bytes_eq taken.view v) [ true ↦ Some taken.checkout.row | false ↦ None ]
-
 -- the oldest row of the view's checkouts in a list that has the newest first
 abbrev pub oldest_of : List ℕ → List TakenOut → Option ℕ
 oldest_of v [] = None
-oldest_of v (taken ∷ older) = number_or (oldest_of v older) (row_if_of v taken)
+oldest_of v (taken ∷ older) = option_or (oldest_of v older) (only_where (bytes_eq taken.view v) (Some taken.checkout.row))
 
 -- the row that made the view's oldest checkout
 abbrev pub oldest_out : Base → List ℕ → Option ℕ

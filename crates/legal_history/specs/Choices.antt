@@ -1,5 +1,6 @@
 -- What a unit of a build sees, the object that it may reuse, and the row that its script's result would make.
-use Rattle.std.specs.Prelude.{ℕ, ◌+◌, true, false, Option, Some, None, Result, Ok, Err, List, [], ◌∷◌, take, map, option_and_then}
+use Rattle.std.specs.Prelude.{ℕ, ◌+◌, Option, Some, None, Result, Ok, Err, List, [], ◌∷◌, take, map, option_and_then}
+use Rattle.std.specs.Option.{option_or}
 use Rattle.std.specs.Ordering.{nat_cmp}
 use Rattle.std.specs.Cmp.Lexicographic.{slice_cmp}
 use Rattle.std.specs.FinMap.Entries.{put}
@@ -9,7 +10,7 @@ use Rattle.cc_names.specs.declared.rows.ReadOf.{ReadOf}
 use Rattle.cc_names.specs.declared.refusals.ScriptFault.{ScriptFault}
 use Rattle.cc_names.specs.declared.units.Unit.{Unit}
 use Rattle.build_script.specs.Run.{Ran, run}
-use Rattle.legal_history.specs.Base.{Base, first_rows}
+use Rattle.legal_history.specs.Base.{Base, first_rows, only_where}
 use Rattle.legal_history.specs.Builds.{Build, Came, came_to, object_of}
 use Rattle.legal_history.specs.Fresh.{script_text}
 use Rattle.legal_history.specs.Seen.{file_at}
@@ -35,23 +36,18 @@ members_before build n = members_from build 0 (take n build.units) []
 
 -- the object that a member was given, where it has this target
 abbrev pub object_at : List ℕ → Member → Option ℕ
-object_at path member = elim (makes path member.unit) [ true ↦ object_of member.came | false ↦ None ]
+object_at path member = only_where (makes path member.unit) (object_of member.came)
 
 -- the object that one of some units was given at the path
 abbrev pub object_among : List ℕ → List Member → Option ℕ
 object_among path [] = None
-object_among path (member ∷ members) = elim (object_at path member) [ Some id ↦ Some id | None ↦ object_among path members ]
-
--- a row, or another one where there is none
-abbrev pub row_or : Option ℕ → Option ℕ → Option ℕ
-row_or (Some row) other = Some row
-row_or None other = other
+object_among path (member ∷ members) = option_or (object_at path member) (object_among path members)
 
 -- what a unit sees at a path where its build's reference rows are these: the object that the build gave to a unit that it
 -- needs, directly or through others, else the file of the view
 abbrev pub visible_in : Base → Build → ℕ → Unit → List ℕ → Option ℕ
 visible_in rows build n unit path =
-    row_or (object_among path (needed unit_of_member unit.prerequisites (members_before build n))) (file_at rows build.view path)
+    option_or (object_among path (needed unit_of_member unit.prerequisites (members_before build n))) (file_at rows build.view path)
 
 -- what unit n of a build sees at a path
 abbrev pub visible : Base → Build → ℕ → Unit → List ℕ → Option ℕ
@@ -72,15 +68,15 @@ entry_row (Some row) = row
 
 -- paths with their rows, in byte order of the paths
 abbrev pub in_order : (List ℕ → Option ℕ) → List (List ℕ) → List (List ℕ × ℕ)
-in_order visible [] = []
-in_order visible (path ∷ paths) = put (slice_cmp nat_cmp) path (entry_row (visible path)) (in_order visible paths)
+in_order rows [] = []
+in_order rows (path ∷ paths) = put (slice_cmp nat_cmp) path (entry_row (rows path)) (in_order rows paths)
 
 abbrev pub as_entry : List ℕ × ℕ → ReadOf
 as_entry pair = record { path = pair.0; row = pair.1 }
 
 -- the record of reads: each path that was asked for, with its row
 abbrev pub entries : (List ℕ → Option ℕ) → List (List ℕ) → List ReadOf
-entries visible reads = map as_entry (in_order visible reads)
+entries rows reads = map as_entry (in_order rows reads)
 
 -- the deed of a run that succeeded
 abbrev pub publish_by : Build → Unit → List ReadOf → Result (List (List ℕ)) ScriptFault → Option Deed

@@ -10,7 +10,7 @@ use Rattle.cc_names.specs.declared.changes.Place.{Place}
 use Rattle.cc_names.specs.declared.rows.ReadOf.{ReadOf}
 use Rattle.cc_names.specs.declared.rows.Deed.{Deed}
 use Rattle.cc_names.specs.declared.rows.Deed.TheVariants as deeds
-use Rattle.legal_history.specs.Base.{Base, size, deed_at}
+use Rattle.legal_history.specs.Base.{Base, size, deed_at, only_where}
 use Rattle.legal_history.specs.Changes.{tree, targets_of}
 
 -- a path, and the row that made the text there, 0 where nothing was there
@@ -98,4 +98,4 @@ is_among path paths = list_any (bytes_eq path) paths
 
 -- the version of the element that the record of the object lists, where the object has this target
 abbrev pub listed : Base → ℕ → List ℕ → ℕ → Option ℕ
-listed b id target e = elim (is_among target (targets_of b id)) [ true ↦ find nat_cmp e (listing b id) | false ↦ None ]
+listed b id target e = only_where (is_among target (targets_of b id)) (find nat_cmp e (listing b id))

@@ -1,5 +1,6 @@
 -- The conditions under which a row fits a base, each a test of its own.
 use Rattle.std.specs.Prelude.{ℕ, Bool, true, false, not, ◌&&◌, ◌||◌, ◌==◌, Option, Some, None, is_some, is_none, List, [], ◌∷◌, codes, option_and_then}
+use Rattle.std.specs.Option.{option_or}
 use Rattle.cc_names.specs.Branches.{branch_named, branch_of_version}
 use Rattle.cc_names.specs.Labels.{holder}
 use Rattle.cc_names.specs.References.{is_held}
@@ -12,7 +13,7 @@ use Rattle.cc_names.specs.declared.rows.Placed.{Placed}
 use Rattle.cc_names.specs.declared.rows.ReadOf.{ReadOf}
 use Rattle.cc_names.specs.declared.rows.Deed.{Deed}
 use Rattle.cc_names.specs.declared.rows.Deed.TheVariants as deeds
-use Rattle.legal_history.specs.Base.{Base, size, deed_at}
+use Rattle.legal_history.specs.Base.{Base, size, deed_at, only_where}
 use Rattle.legal_history.specs.Catalogs.{named, own_of}
 use Rattle.legal_history.specs.Changes.{tree, labels, held, live, kind_of_type, targets_of}
 use Rattle.legal_history.specs.Checkouts.{reserver, other_reserver, branch_of, is_latest}
@@ -137,4 +138,5 @@ is_arrow e tail head deed = false
 -- the row of the arrow between two versions of an element
 abbrev pub arrow_row : Base → ℕ → ℕ → ℕ → Option ℕ
 arrow_row [] e tail head = None
-arrow_row (row ∷ older) e tail head = elim (is_arrow e tail head row.deed) [ true ↦ Some (size older) | false ↦ arrow_row older e tail head ]
+arrow_row (row ∷ older) e tail head =
+    option_or (only_where (is_arrow e tail head row.deed) (Some (size older))) (arrow_row older e tail head)

@@ -15,7 +15,7 @@ use Rattle.legal_history.specs.Conditions.{is_directory}
 use Rattle.legal_history.specs.Decisions.{Scene, Decision, makes}
 use Rattle.legal_history.specs.Seen.{at}
 use Rattle.legal_history.specs.Tests.{refused_where, needs_view, needs_new_view, needs_idle, needs_no_checkouts, needs_rules, needs_selected, needs_directory, needs_private, needs_out}
-use Rattle.legal_history.specs.Views.{out}
+use Rattle.legal_history.specs.Views.{Checkout, out}
 
 -- the path of the directory in which a path lies; that of the root is never asked for
 abbrev pub parent : List ℕ → List ℕ
@@ -49,16 +49,17 @@ setcs_tests s v text = needs_view s.base v ∷ needs_idle s v ∷ needs_rules (r
 abbrev pub setcs : Scene → List ℕ → List ℕ → Result Decision Refusal
 setcs s v text = makes s (setcs_tests s v text) (deeds.Setcs v text)
 
--- an element that is saved is a file, and the view has it out
-abbrev pub saves_element : Base → List ℕ → List ℕ → ℕ → Option Refusal
-saves_element b v path e = elim (is_directory b e) [ true ↦ Some (refusals.IsDirectory path) | false ↦ needs_out path (out b v e) ]
+-- an element that is saved is no directory, and the view has it out
+abbrev pub saves_element : Bool → List ℕ → Option Checkout → Option Refusal
+saves_element true path taken = Some (refusals.IsDirectory path)
+saves_element false path taken = needs_out path taken
 
 -- what may be saved at a path where this stands: a private file always, a file element that the view has out, and a new
 -- private file where the view holds no object
 abbrev pub saves_at : Base → List ℕ → List ℕ → Seen → Option Refusal
 saves_at b v path (Private row) = None
-saves_at b v path (Element e picked) = saves_element b v path e
-saves_at b v path (Unselected e) = saves_element b v path e
+saves_at b v path (Element e picked) = saves_element (is_directory b e) path (out b v e)
+saves_at b v path (Unselected e) = saves_element (is_directory b e) path (out b v e)
 saves_at b v path Nothing = refused_where (is_some (held_at (held b) v path)) (refusals.IsDerived path)
 
 abbrev pub save_tests : Scene → List ℕ → List ℕ → List (Option Refusal)

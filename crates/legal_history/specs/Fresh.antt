@@ -1,5 +1,6 @@
 -- The build from nothing on what a view sees.
 use Rattle.std.specs.Prelude.{ℕ, Bool, Option, Some, None, Result, Ok, Err, is_some, List, [], ◌∷◌, reverse, option_and_then}
+use Rattle.std.specs.Option.{option_or}
 use Rattle.cc_names.specs.declared.commands.Macro.{Macro}
 use Rattle.cc_names.specs.declared.refusals.Refusal.{Refusal}
 use Rattle.cc_names.specs.declared.refusals.ScriptFault.{ScriptFault}
@@ -38,15 +39,10 @@ abbrev pub output_of : List ℕ → Unit → Outcome → Option (List ℕ)
 output_of path unit (Made outputs) = output_at path unit.targets outputs
 output_of path unit (Without end) = None
 
--- a text, or another one where there is none
-abbrev pub text_or : Option (List ℕ) → Option (List ℕ) → Option (List ℕ)
-text_or (Some text) other = Some text
-text_or None other = other
-
 -- the output of finished units at a path, else the file
 abbrev pub output_or_file : Files → List Finished → Files
 output_or_file files [] path = files path
-output_or_file files (finished ∷ earlier) path = text_or (output_of path finished.unit finished.outcome) (output_or_file files earlier path)
+output_or_file files (finished ∷ earlier) path = option_or (output_of path finished.unit finished.outcome) (output_or_file files earlier path)
 
 -- what a run makes of its unit
 abbrev pub outcome_of_run : Result (List (List ℕ)) ScriptFault → Outcome

@@ -1,5 +1,6 @@
 -- The commands on types, labels and arrows: the tests of each in their order, and its deed.
 use Rattle.std.specs.Prelude.{ℕ, Bool, true, false, ◌&&◌, nat_lt, Option, Some, None, Result, List, [], ◌∷◌, is_none, map, unwrap_or, option_map, option_and_then}
+use Rattle.std.specs.Option.{option_or}
 use Rattle.cc_names.specs.Branches.{branch_behind}
 use Rattle.cc_names.specs.Labels.{holder}
 use Rattle.cc_names.specs.References.{held_at}
@@ -10,9 +11,8 @@ use Rattle.cc_names.specs.declared.refusals.Refusal.TheVariants as refusals
 use Rattle.cc_names.specs.declared.rows.Deed.TheVariants as deeds
 use Rattle.cc_names.specs.declared.rows.Placed.{Placed}
 use Rattle.cc_names.specs.declared.rows.TypeKind.{TypeKind}
-use Rattle.cc_names.specs.declared.selection.Picked.{Picked}
 use Rattle.cc_names.specs.declared.selection.Seen.{Seen}
-use Rattle.legal_history.specs.Base.{Base}
+use Rattle.legal_history.specs.Base.{Base, only_where}
 use Rattle.legal_history.specs.Changes.{tree, labels, held}
 use Rattle.legal_history.specs.CheckoutLines.{picked_of}
 use Rattle.legal_history.specs.Closures.{Sources, closure, listing}
@@ -21,14 +21,15 @@ use Rattle.legal_history.specs.Decisions.{Scene, Decision, makes, answers}
 use Rattle.legal_history.specs.FileLines.{element_of}
 use Rattle.legal_history.specs.Seen.{at}
 use Rattle.legal_history.specs.Tests.{refused_where, refused_unless, needs_view, needs_something, needs_selected, needs_element, needs_not_out, needs_label_type, needs_free_type, needs_object}
-use Rattle.legal_history.specs.Views.{out}
+use Rattle.legal_history.specs.Views.{Checkout, out}
 
 abbrev pub mktype : Scene → TypeKind → List ℕ → Result Decision Refusal
 mktype s kind name = makes s (needs_free_type s.base name ∷ []) (deeds.Mktype kind name)
 
--- a view that selects its checkout is refused, with the row that made the checkout
-abbrev pub needs_version_picked : Base → List ℕ → ℕ → Picked → Option Refusal
-needs_version_picked b v e picked = elim picked.out [ true ↦ needs_not_out (out b v e) | false ↦ None ]
+-- a version is selected and no checkout; the refusal names the row that made the checkout
+abbrev pub needs_version_picked : Bool → Option Checkout → Option Refusal
+needs_version_picked true taken = needs_not_out taken
+needs_version_picked false taken = None
 
 -- a label stands on this version or on none of the element; the refusal names the version that holds it
 abbrev pub label_free : ℕ → Option ℕ → Option Refusal
@@ -43,7 +44,7 @@ needs_label_free b false label e version = label_free version (holder (labels b)
 abbrev pub mklabel_tests : Scene → List ℕ → Bool → List ℕ → List ℕ → Seen → List (Option Refusal)
 mklabel_tests s v replace label path seen =
     needs_view s.base v ∷ needs_selected path seen ∷ needs_element path seen ∷ needs_label_type s.base label
-    ∷ needs_version_picked s.base v (element_of seen) (picked_of seen)
+    ∷ needs_version_picked (picked_of seen).out (out s.base v (element_of seen))
     ∷ needs_label_free s.base replace label (element_of seen) (picked_of seen).row ∷ []
 
 abbrev pub mklabel : Scene → List ℕ → Bool → List ℕ → List ℕ → Result Decision Refusal
@@ -72,7 +73,7 @@ object_held b v path = unwrap_or (held_at (held b) v path) 0
 abbrev pub outsider_among : Base → Sources → Option (List ℕ)
 outsider_among b [] = None
 outsider_among b (source ∷ sources) =
-    elim (nat_lt 0 source.1 && is_none (place (tree b) source.1)) [ true ↦ Some source.0.0 | false ↦ outsider_among b sources ]
+    option_or (only_where (nat_lt 0 source.1 && is_none (place (tree b) source.1)) (Some source.0.0)) (outsider_among b sources)
 
 -- the first path of an object's closure that is there and no version
 abbrev pub outsider : Base → ℕ → Option (List ℕ)
@@ -112,7 +113,7 @@ abbrev pub mkarrow_tests : Scene → List ℕ → List ℕ → Seen → Option �
 mkarrow_tests s v path seen tail =
     needs_view s.base v ∷ needs_selected path seen ∷ needs_element path seen
     ∷ refused_where (is_none tail) (refusals.NoVersion path)
-    ∷ needs_version_picked s.base v (element_of seen) (picked_of seen)
+    ∷ needs_version_picked (picked_of seen).out (out s.base v (element_of seen))
     ∷ refused_where (is_number (picked_of seen).row tail) (refusals.SameVersion (picked_of seen).row)
     ∷ option_map refusals.ArrowExists (arrow_row s.base (element_of seen) (unwrap_or tail 0) (picked_of seen).row) ∷ []
 

@@ -1,5 +1,5 @@
 -- What stands at a path in a view.
-use Rattle.std.specs.Prelude.{ℕ, true, false, Option, Some, None, Result, Ok, Err, List, [], ◌∷◌, reverse}
+use Rattle.std.specs.Prelude.{ℕ, Bool, true, false, Option, Some, None, Result, Ok, Err, List, [], ◌∷◌, reverse}
 use Rattle.cc_names.specs.Paths.{names_of, joined}
 use Rattle.cc_names.specs.Versions.{kind_of}
 use Rattle.cc_names.specs.declared.rows.Kind.{Kind}
@@ -44,9 +44,14 @@ abbrev pub as_seen : ℕ → Option Picked → Seen
 as_seen e (Some picked) = Element e picked
 as_seen e None = Unselected e
 
--- the catalog of a selected directory: the view's own where its checkout was picked, else that of the version
+-- a view's own catalog where its checkout was picked, else that of the version
+abbrev pub catalog_by : Bool → Catalog → Catalog → Catalog
+catalog_by true own version = own
+catalog_by false own version = version
+
+-- the catalog of a selected directory
 abbrev pub entries_by : Base → List ℕ → ℕ → Picked → Option Kind → Option Catalog
-entries_by b v e picked (Some Directory) = elim picked.out [ true ↦ Some (own_of b v e) | false ↦ Some (catalog_of b picked.row) ]
+entries_by b v e picked (Some Directory) = Some (catalog_by picked.out (own_of b v e) (catalog_of b picked.row))
 entries_by b v e picked _ = None
 
 -- the catalog of what stands somewhere, where it is a directory with a selected version

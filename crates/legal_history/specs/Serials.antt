@@ -1,5 +1,6 @@
 -- What the units of a build come to one after the other, from nothing: no record, no object, no lane and no thread.
-use Rattle.std.specs.Prelude.{ℕ, Bool, true, false, Option, Some, None, List, [], ◌∷◌, ◌++◌, find, option_map}
+use Rattle.std.specs.Prelude.{not, ℕ, Bool, true, false, Option, Some, None, List, [], ◌∷◌, ◌++◌, find, option_map}
+use Rattle.std.specs.Option.{option_or}
 use Rattle.std.specs.List.{list_any}
 use Rattle.cc_names.specs.Paths.{root}
 use Rattle.cc_names.specs.declared.refusals.UnitFault.TheVariants.{NoRule, NoDirectory, ScriptTooLong}
@@ -8,6 +9,7 @@ use Rattle.cc_names.specs.declared.steps.UnitEnd.TheVariants.{Kept, Failed, Bloc
 use Rattle.cc_names.specs.declared.units.Unit.{Unit}
 use Rattle.cc_names.specs.declared.units.UnitScript.{UnitScript}
 use Rattle.cc_names.specs.declared.units.UnitScript.TheVariants as scripts
+use Rattle.legal_history.specs.Base.{only_where}
 use Rattle.legal_history.specs.Closures.{is_among}
 use Rattle.legal_history.specs.FileLines.{parent}
 
@@ -35,7 +37,8 @@ first_end (None ∷ ends) = first_end ends
 -- the first path whose parent is no directory
 abbrev pub outside : (List ℕ → Bool) → List (List ℕ) → Option (List ℕ)
 outside is_directory [] = None
-outside is_directory (path ∷ paths) = elim (is_directory (parent path)) [ true ↦ outside is_directory paths | false ↦ Some (parent path) ]
+outside is_directory (path ∷ paths) =
+    option_or (only_where (not (is_directory (parent path))) (Some (parent path))) (outside is_directory paths)
 
 abbrev pub no_directory : (List ℕ → Bool) → List (List ℕ) → UnitScript → Option UnitEnd
 no_directory is_directory targets scripts.Bare = None

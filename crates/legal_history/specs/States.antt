@@ -1,5 +1,5 @@
 -- What a story has come to: the state that its steps leave, one after the other.
-use Rattle.std.specs.Prelude.{ℕ, zero, suc, ◌+◌, Bool, true, false, ◌&&◌, ◌==◌, Option, Some, None, Result, is_none, List, [], ◌∷◌, length, slice_get, option_map, option_and_then, unwrap_or}
+use Rattle.std.specs.Prelude.{ℕ, zero, suc, ◌+◌, Bool, true, ◌&&◌, ◌==◌, Option, Some, None, Result, is_none, List, [], ◌∷◌, length, slice_get, option_map, option_and_then, unwrap_or}
 use Rattle.std.specs.Ordering.{nat_cmp}
 use Rattle.std.specs.FinMap.Entries.{put, find}
 use Rattle.cc_names.specs.Formed.{Plain}
@@ -9,7 +9,7 @@ use Rattle.cc_names.specs.declared.commands.Phase.{Phase}
 use Rattle.cc_names.specs.declared.refusals.Refusal.{Refusal}
 use Rattle.cc_names.specs.declared.rows.Tag.{Tag}
 use Rattle.cc_names.specs.declared.steps.Counts.{Counts}
-use Rattle.legal_history.specs.Base.{Base}
+use Rattle.legal_history.specs.Base.{Base, only_where}
 use Rattle.legal_history.specs.Builds.{Active, Build, build_of}
 use Rattle.legal_history.specs.Decisions.{Scene, Decision}
 use Rattle.legal_history.specs.Lines.{decision}
@@ -86,8 +86,7 @@ is_next s tag = same_tag tag (next_tag s tag.lane) && is_none (build_of s.active
 
 -- the command of this tag, where it is its lane's next
 abbrev pub next_command : State → Tag → Option Command
-next_command s tag =
-    elim (is_next s tag) [ true ↦ option_and_then (command_behind (done_of s.done tag.lane)) (lane_at s.phase tag.lane) | false ↦ None ]
+next_command s tag = only_where (is_next s tag) (option_and_then (command_behind (done_of s.done tag.lane)) (lane_at s.phase tag.lane))
 
 -- what is decided of the command of this tag, where it is its lane's next
 abbrev pub decided : State → Tag → Option (Result Decision Refusal)
@@ -95,7 +94,7 @@ decided s tag = option_map (decision (scene s)) (next_command s tag)
 
 -- a build where it is the command's
 abbrev pub build_if : Tag → Build → Option Build
-build_if tag build = elim (same_tag build.tag tag) [ true ↦ Some build | false ↦ None ]
+build_if tag build = only_where (same_tag build.tag tag) (Some build)
 
 -- the active build of the command of this tag
 abbrev pub build_by : State → Tag → Option Build

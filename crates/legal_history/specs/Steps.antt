@@ -64,7 +64,7 @@ new_build tag rows units command = None
 -- the units with which a decision begins a build
 abbrev pub units_begun : Option (Result Decision Refusal) → List Unit
 units_begun (Some (Ok (Begins units))) = units
-units_begun decided = []
+units_begun _ = []
 
 -- the build that a command begins in a state
 abbrev pub begun : State → Tag → Option Build
