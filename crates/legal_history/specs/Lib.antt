@@ -9,11 +9,14 @@ pub mod Closures
 pub mod Conditions
 pub mod Decisions
 pub mod DirectoryLines
+pub mod ElementTexts
 pub mod FileLines
 pub mod Fits
 pub mod Fresh
+pub mod HistoryTexts
 pub mod LabelLines
 pub mod Lines
+pub mod ListingTexts
 pub mod ObjectLines
 pub mod Reuse
 pub mod Seen
@@ -24,5 +27,6 @@ pub mod Stories
 pub mod Tests
 pub mod Texts
 pub mod Turns
+pub mod VersionNames
 pub mod Views
 pub mod Worked
