@@ -16,7 +16,8 @@ use Rattle.legal_history.specs.States.{all_done}
 use Rattle.legal_history.specs.Steps.{state_of}
 use Rattle.legal_history.specs.Stories.{Legal}
 use Rattle.legal_history.specs.Texts.{text}
-use Rattle.legal_history.specs.Worked.{line, tag, row}
+use Rattle.legal_history.specs.VersionNames.{line}
+use Rattle.legal_history.specs.Worked.{tag, row}
 
 abbrev makefile : List ℕ
 makefile = line (codes "out: in") ++ line (9 ∷ codes "cat in > out")

@@ -17,7 +17,10 @@ pub mod HistoryTexts
 pub mod LabelLines
 pub mod Lines
 pub mod ListingTexts
+pub mod Merges
 pub mod ObjectLines
+pub mod QueryLines
+pub mod RecordTexts
 pub mod Reuse
 pub mod Seen
 pub mod Serials

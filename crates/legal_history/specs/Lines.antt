@@ -1,16 +1,17 @@
 -- The decision on each command, a line a command.
-use Rattle.std.specs.Prelude.{Result, []}
+use Rattle.std.specs.Prelude.{Result}
 use Rattle.cc_names.specs.declared.commands.Command.{Command}
 use Rattle.cc_names.specs.declared.commands.Command.TheVariants as commands
 use Rattle.cc_names.specs.declared.refusals.Refusal.{Refusal}
 use Rattle.cc_names.specs.declared.rows.Kind.TheVariants.{File, Directory}
 use Rattle.cc_names.specs.declared.rows.TypeKind.TheVariants as type_kinds
 use Rattle.legal_history.specs.CheckoutLines.{checkout, mkbranch, checkin, uncheckout}
-use Rattle.legal_history.specs.Decisions.{Scene, Decision, answers}
+use Rattle.legal_history.specs.Decisions.{Scene, Decision}
 use Rattle.legal_history.specs.DirectoryLines.{mkelem, rmname, mv}
 use Rattle.legal_history.specs.FileLines.{mkview, rmview, setcs, save, rm}
 use Rattle.legal_history.specs.LabelLines.{mktype, mklabel, rmlabel, mklabel_config, mkarrow}
 use Rattle.legal_history.specs.ObjectLines.{rmdo, scrub, clearmake}
+use Rattle.legal_history.specs.QueryLines.{catcs, lsdo, ls, cat, describe, lsvtree, lshistory, catcr, diffcr, covers, findmerge}
 
 -- What is decided of a command: its first refusal in the order of its tests, else its row, its answer, or its build.
 abbrev pub decision : Scene → Command → Result Decision Refusal
@@ -36,4 +37,14 @@ decision s (commands.Scrub age) = scrub s age
 decision s (commands.Clearmake v file own_only rebuild jobs macros goals) = clearmake s v file macros goals
 decision s (commands.MklabelConfig v replace path label) = mklabel_config s v replace path label
 decision s (commands.Mkarrow v path version) = mkarrow s v path version
-decision s query = answers [] []
+decision s (commands.Catcs v) = catcs s v
+decision s (commands.Lsdo v) = lsdo s v
+decision s (commands.Ls v path) = ls s v path
+decision s (commands.Cat v path version) = cat s v path version
+decision s (commands.Describe v path) = describe s v path
+decision s (commands.Lsvtree v path) = lsvtree s v path
+decision s (commands.Lshistory v path) = lshistory s v path
+decision s (commands.Catcr v path) = catcr s v path
+decision s (commands.Diffcr v path other second) = diffcr s v path other second
+decision s (commands.Covers seer v path) = covers s seer v path
+decision s (commands.Findmerge v path branch) = findmerge s v path branch

@@ -1,12 +1,8 @@
 -- Words for worked rows: names, texts, tags and rows, as a reader writes them.
-use Rattle.std.specs.Prelude.{ℕ, List, [], ◌∷◌, ◌++◌}
+use Rattle.std.specs.Prelude.{ℕ}
 use Rattle.cc_names.specs.Formed.{Plain}
 use Rattle.cc_names.specs.declared.rows.Deed.{Deed}
 use Rattle.cc_names.specs.declared.rows.Tag.{Tag}
-
--- a line of a text
-abbrev pub line : List ℕ → List ℕ
-line text = text ++ 10 ∷ []
 
 -- the tag of command n of lane l in phase p
 abbrev pub tag : ℕ → ℕ → ℕ → Tag
