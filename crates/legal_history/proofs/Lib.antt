@@ -1,1 +1,6 @@
+mod CheckoutRows
 mod FirstBuild
+mod QueryRows
+mod RecordRows
+mod TimeRows
+pub mod TwoViews
