@@ -6,6 +6,7 @@ use Rattle.cc_names.specs.declared.commands.Command.TheVariants as commands
 use Rattle.cc_names.specs.declared.rows.Deed.{Deed}
 use Rattle.cc_names.specs.declared.rows.Deed.TheVariants as deeds
 use Rattle.cc_names.specs.declared.rows.Kind.TheVariants.{File}
+use Rattle.date_text.proofs.OnLiterals.{dates_on_literals}
 use Rattle.legal_history.specs.Base.{Base}
 use Rattle.legal_history.specs.Decisions.{Answers}
 use Rattle.legal_history.specs.Fits.{is_base}
@@ -30,9 +31,11 @@ two_moments =
     ∷ deeds.Save v 3 (line (codes "foo")) ∷ deeds.Checkin v 3 ∷ deeds.Checkin v 0 ∷ [])
 
 all_fit : is_base two_moments ≡ true
+unfolding dates_on_literals
 all_fit = refl
 
 the_moment_of_the_rule_is_not_before_it :
   decisions two_moments (commands.Cat w (codes "in") None ∷ commands.Cat v (codes "in") None ∷ [])
   ≡ Ok (Answers (line (codes "foo"))) ∷ Ok (Answers (line (codes "bar"))) ∷ []
+unfolding dates_on_literals
 the_moment_of_the_rule_is_not_before_it = refl
