@@ -6,3 +6,4 @@ mod ReuseRows
 mod StoryRows
 mod TimeRows
 pub mod TwoViews
+mod UnlawfulRows

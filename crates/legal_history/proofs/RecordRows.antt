@@ -1,28 +1,23 @@
 -- Labels and selection by a record, and merge arrows.
-use Rattle.std.proofs.Common.{◌≡◌, refl, ℕ, true, false, Some, None, Ok, Err, List, [], ◌∷◌, ◌++◌}
+use Rattle.std.proofs.Common.{◌≡◌, refl, ℕ, true, false, Some, Ok, Err, List, [], ◌∷◌, ◌++◌}
 use Rattle.std.specs.Prelude.{codes}
 use Rattle.std.specs.Fmt.{digits}
 use Rattle.cc_names.specs.declared.commands.Command.{Command}
 use Rattle.cc_names.specs.declared.commands.Command.TheVariants as commands
-use Rattle.cc_names.specs.declared.commands.VersionName.{VersionName}
 use Rattle.cc_names.specs.declared.refusals.Refusal.TheVariants as refusals
 use Rattle.cc_names.specs.declared.refusals.SpecCause.TheVariants as causes
-use Rattle.cc_names.specs.declared.rows.Deed.{Deed}
 use Rattle.cc_names.specs.declared.rows.Deed.TheVariants as deeds
 use Rattle.cc_names.specs.declared.rows.Out.TheVariants as outs
-use Rattle.cc_names.specs.declared.rows.Placed.{Placed}
-use Rattle.cc_names.specs.declared.rows.ReadOf.{ReadOf}
 use Rattle.cc_names.specs.declared.rows.TypeKind.TheVariants as type_kinds
 use Rattle.legal_history.specs.Base.{Base}
 use Rattle.legal_history.specs.Decisions.{Makes, Answers}
-use Rattle.legal_history.specs.Merges.{reaches}
 use Rattle.legal_history.specs.Seen.{file_at}
 use Rattle.legal_history.specs.VersionNames.{line}
 use Rattle.legal_history.specs.Worked.{base_of, decisions}
 use Rattle.legal_history.proofs.TwoViews.{v, w, hi, makefile, script, two_views, all_deeds}
 
 a_record_is_labelled_and_covered :
-  decisions two_views (
+    decisions two_views (
     commands.Mklbtype (codes "REL")
     ∷ commands.MklabelConfig v false (codes "out") (codes "REL")
     ∷ commands.Covers v w (codes "out")
@@ -30,7 +25,7 @@ a_record_is_labelled_and_covered :
     ∷ commands.Save v (codes "in") (line (codes "foo"))
     ∷ commands.Checkin v false (codes "in")
     ∷ commands.Covers v w (codes "out") ∷ [])
-  ≡
+    ≡
     Ok (Makes (deeds.Mktype type_kinds.Label (codes "REL")))
     ∷ Ok (Makes (deeds.Labels (codes "REL") (record { element = 6; version = 8 } ∷ [])))
     ∷ Ok (Answers (line (codes "covered")))
@@ -47,8 +42,8 @@ private_build = base_of (deeds.Mkview v ∷ deeds.Put v (codes "Makefile") makef
     ∷ deeds.Publish v (codes "out" ∷ []) script (record { path = codes "in"; row = 3 } ∷ []) (hi ∷ []) ∷ [])
 
 a_private_file_has_no_version :
-  decisions private_build (commands.Mklbtype (codes "REL") ∷ commands.MklabelConfig v false (codes "out") (codes "REL") ∷ [])
-  ≡ Ok (Makes (deeds.Mktype type_kinds.Label (codes "REL"))) ∷ Err (refusals.NotVersion (codes "in")) ∷ []
+    decisions private_build (commands.Mklbtype (codes "REL") ∷ commands.MklabelConfig v false (codes "out") (codes "REL") ∷ [])
+    ≡ Ok (Makes (deeds.Mktype type_kinds.Label (codes "REL"))) ∷ Err (refusals.NotVersion (codes "in")) ∷ []
 a_private_file_has_no_version = refl
 
 abbrev findmerge : Command
@@ -58,7 +53,7 @@ abbrev mkarrow : Command
 mkarrow = commands.Mkarrow w (codes "in") (record { branches = codes "fix" ∷ []; number = 1 })
 
 a_branch_is_merged :
-  decisions two_views (
+    decisions two_views (
     commands.Mkbrtype (codes "fix")
     ∷ commands.Mkbranch v false (codes "fix") (codes "in")
     ∷ commands.Save v (codes "in") (line (codes "foo"))
@@ -67,7 +62,7 @@ a_branch_is_merged :
     ∷ mkarrow
     ∷ findmerge
     ∷ mkarrow ∷ [])
-  ≡
+    ≡
     Ok (Makes (deeds.Mktype type_kinds.Branch (codes "fix")))
     ∷ Ok (Makes (deeds.Branch v 6 8 (codes "fix") outs.Reserved))
     ∷ Ok (Makes (deeds.Save v 6 (line (codes "foo"))))
@@ -81,11 +76,11 @@ unfolding digits
 a_branch_is_merged = refl
 
 nothing_else_is_merged :
-  decisions two_views (
+    decisions two_views (
     commands.Mkarrow w (codes "in") (record { branches = []; number = 9 })
     ∷ commands.Mkarrow w (codes "in") (record { branches = []; number = 1 })
     ∷ findmerge ∷ [])
-  ≡ Err (refusals.NoVersion (codes "in")) ∷ Err (refusals.SameVersion 8) ∷ Err (refusals.NoType (codes "fix")) ∷ []
+    ≡ Err (refusals.NoVersion (codes "in")) ∷ Err (refusals.SameVersion 8) ∷ Err (refusals.NoType (codes "fix")) ∷ []
 nothing_else_is_merged = refl
 
 -- a config spec that selects by the record of an object
@@ -109,5 +104,5 @@ such_a_view_covers_the_record : decisions selected_by_record (commands.Covers (c
 such_a_view_covers_the_record = refl
 
 a_record_needs_a_row :
-  decisions two_views (commands.Setcs w (line (codes "element in -config out")) ∷ []) ≡ Err (refusals.BadSpec 1 causes.BadSelector) ∷ []
+    decisions two_views (commands.Setcs w (line (codes "element in -config out")) ∷ []) ≡ Err (refusals.BadSpec 1 causes.BadSelector) ∷ []
 a_record_needs_a_row = refl

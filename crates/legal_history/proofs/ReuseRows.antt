@@ -1,10 +1,9 @@
 -- Which object a unit may reuse at its turn, in builds one after the other and side by side.
-use Rattle.std.proofs.Common.{◌≡◌, refl, ℕ, true, false, Bool, Some, None, Ok, Err, List, [], ◌∷◌, ◌++◌}
+use Rattle.std.proofs.Common.{◌≡◌, refl, ℕ, true, false, Some, None, Ok, List, [], ◌∷◌, ◌++◌}
 use Rattle.std.specs.Prelude.{codes}
 use Rattle.cc_names.specs.declared.commands.Command.TheVariants as commands
 use Rattle.cc_names.specs.declared.rows.Deed.{Deed}
 use Rattle.cc_names.specs.declared.rows.Deed.TheVariants as deeds
-use Rattle.cc_names.specs.declared.rows.ReadOf.{ReadOf}
 use Rattle.legal_history.specs.Base.{Base, first_rows}
 use Rattle.legal_history.specs.Builds.{Build}
 use Rattle.legal_history.specs.Decisions.{Makes, Answers}
@@ -40,8 +39,8 @@ a_checkout_is_built_anew = refl
 
 -- both views drop the object, and a scrub takes it once nobody holds it
 scrubs_are_decided :
-  decisions two_views (commands.Rmdo w (codes "out") ∷ commands.Scrub 0 ∷ commands.Rmdo v (codes "out") ∷ commands.Scrub 0 ∷ [])
-  ≡ Ok (Makes (deeds.Drop w (codes "out"))) ∷ Ok (Answers []) ∷ Ok (Makes (deeds.Drop v (codes "out"))) ∷ Ok (Makes (deeds.Scrub (10 ∷ []))) ∷ []
+    decisions two_views (commands.Rmdo w (codes "out") ∷ commands.Scrub 0 ∷ commands.Rmdo v (codes "out") ∷ commands.Scrub 0 ∷ [])
+    ≡ Ok (Makes (deeds.Drop w (codes "out"))) ∷ Ok (Answers []) ∷ Ok (Makes (deeds.Drop v (codes "out"))) ∷ Ok (Makes (deeds.Scrub (10 ∷ []))) ∷ []
 scrubs_are_decided = refl
 
 abbrev scrubbed : Base

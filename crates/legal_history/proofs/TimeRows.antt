@@ -1,5 +1,5 @@
 -- A rule with a time takes the last version made before it.
-use Rattle.std.proofs.Common.{◌≡◌, refl, ℕ, true, false, Some, None, Ok, Err, List, [], ◌∷◌, ◌++◌}
+use Rattle.std.proofs.Common.{◌≡◌, refl, ℕ, true, None, Ok, List, [], ◌∷◌, ◌++◌}
 use Rattle.std.specs.Prelude.{codes}
 use Rattle.cc_names.specs.Formed.{Plain}
 use Rattle.cc_names.specs.declared.commands.Command.TheVariants as commands
@@ -11,7 +11,7 @@ use Rattle.legal_history.specs.Base.{Base}
 use Rattle.legal_history.specs.Decisions.{Answers}
 use Rattle.legal_history.specs.Fits.{is_base}
 use Rattle.legal_history.specs.VersionNames.{line}
-use Rattle.legal_history.specs.Worked.{tag, row, base_of, decisions}
+use Rattle.legal_history.specs.Worked.{tag, base_of, decisions}
 use Rattle.legal_history.proofs.TwoViews.{v, w}
 
 -- a row of the second phase, one second later
@@ -35,7 +35,7 @@ unfolding dates_on_literals
 all_fit = refl
 
 the_moment_of_the_rule_is_not_before_it :
-  decisions two_moments (commands.Cat w (codes "in") None ∷ commands.Cat v (codes "in") None ∷ [])
-  ≡ Ok (Answers (line (codes "foo"))) ∷ Ok (Answers (line (codes "bar"))) ∷ []
+    decisions two_moments (commands.Cat w (codes "in") None ∷ commands.Cat v (codes "in") None ∷ [])
+    ≡ Ok (Answers (line (codes "foo"))) ∷ Ok (Answers (line (codes "bar"))) ∷ []
 unfolding dates_on_literals
 the_moment_of_the_rule_is_not_before_it = refl

@@ -1,14 +1,13 @@
 -- Two views on one makefile and one source: elements are made, saved and brought in; one view builds, and the other takes
 -- the object in.
-use Rattle.std.proofs.Common.{◌≡◌, refl, ℕ, true, false, Some, None, Ok, Err, List, [], ◌∷◌, ◌++◌, map}
+use Rattle.std.proofs.Common.{◌≡◌, refl, ℕ, true, false, Some, None, Ok, List, [], ◌∷◌, ◌++◌, map}
 use Rattle.std.specs.Prelude.{codes}
 use Rattle.std.specs.Fmt.{digits}
 use Rattle.cc_names.specs.declared.commands.Command.{Command}
 use Rattle.cc_names.specs.declared.commands.Command.TheVariants as commands
 use Rattle.cc_names.specs.declared.rows.Deed.{Deed}
 use Rattle.cc_names.specs.declared.rows.Deed.TheVariants as deeds
-use Rattle.cc_names.specs.declared.rows.Kind.TheVariants.{File, Directory}
-use Rattle.cc_names.specs.declared.rows.ReadOf.{ReadOf}
+use Rattle.cc_names.specs.declared.rows.Kind.TheVariants.{File}
 use Rattle.cc_names.specs.declared.units.Unit.{Unit}
 use Rattle.cc_names.specs.declared.units.UnitScript.TheVariants as scripts
 use Rattle.legal_history.specs.Base.{Base, first_rows}
@@ -19,8 +18,7 @@ use Rattle.legal_history.specs.Fits.{is_base}
 use Rattle.legal_history.specs.Seen.{file_at, directory_at}
 use Rattle.legal_history.specs.Texts.{text}
 use Rattle.legal_history.specs.VersionNames.{line, version_name}
-use Rattle.legal_history.specs.Views.{making}
-use Rattle.legal_history.specs.Worked.{row, base_of, decisions}
+use Rattle.legal_history.specs.Worked.{base_of, decisions}
 
 abbrev pub v : List ℕ
 v = codes "v"

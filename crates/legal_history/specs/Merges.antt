@@ -84,9 +84,9 @@ merge_target false picked taken = picked.row
 abbrev pub merge_line : Base → List ℕ → ℕ → Option ℕ → List ℕ
 merge_line b path target None = []
 merge_line b path target (Some source) = elim (reaches b source target) [
-    | true ↦ []
-    | false ↦ line (at_version path (version_name b source) ++ codes " into " ++ at_version path (version_name b target))
-  ]
+  | true ↦ []
+  | false ↦ line (at_version path (version_name b source) ++ codes " into " ++ at_version path (version_name b target))
+]
 
 -- paths with the elements that are selected there, in byte order
 abbrev pub Elements : Type 0

@@ -1,12 +1,12 @@
 -- Words for worked rows: tags, rows and what is decided of commands one after the other.
-use Rattle.std.specs.Prelude.{ℕ, Result, Ok, Err, List, [], ◌∷◌, reverse}
+use Rattle.std.specs.Prelude.{ℕ, Result, Ok, List, [], ◌∷◌, reverse}
 use Rattle.cc_names.specs.Formed.{Plain}
 use Rattle.cc_names.specs.declared.commands.Command.{Command}
 use Rattle.cc_names.specs.declared.refusals.Refusal.{Refusal}
 use Rattle.cc_names.specs.declared.rows.Deed.{Deed}
 use Rattle.cc_names.specs.declared.rows.Tag.{Tag}
 use Rattle.legal_history.specs.Base.{Base, size}
-use Rattle.legal_history.specs.Decisions.{Scene, Decision, Makes}
+use Rattle.legal_history.specs.Decisions.{Decision, Makes}
 use Rattle.legal_history.specs.Lines.{decision}
 
 -- the tag of command n of lane l in phase p
