@@ -30,6 +30,7 @@ pub mod Stories
 pub mod Tests
 pub mod Texts
 pub mod Turns
+pub mod Values
 pub mod VersionNames
 pub mod Views
 pub mod Worked
