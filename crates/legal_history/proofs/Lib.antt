@@ -3,7 +3,9 @@ mod FirstBuild
 mod QueryRows
 mod RecordRows
 mod ReuseRows
+pub mod Stay
 mod StoryRows
 mod TimeRows
 pub mod TwoViews
+pub mod TreesStay
 mod UnlawfulRows
