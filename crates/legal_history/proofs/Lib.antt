@@ -1,5 +1,6 @@
 mod CheckoutRows
 mod FirstBuild
+pub mod Fronts
 mod QueryRows
 mod RecordRows
 mod ReuseRows
