@@ -1,6 +1,8 @@
 mod CheckoutRows
 mod FirstBuild
 pub mod Fronts
+pub mod Grows
+pub mod Goes
 mod QueryRows
 mod RecordRows
 mod ReuseRows
@@ -8,5 +10,6 @@ pub mod Stay
 mod StoryRows
 mod TimeRows
 pub mod TwoViews
+pub mod Tables
 pub mod TreesStay
 mod UnlawfulRows

@@ -1,5 +1,5 @@
 -- What later steps of a story leave of earlier ones.
-use Rattle.std.specs.Prelude.{◌≡◌, ℕ, ◌≤◌, true, List, ◌++◌}
+use Rattle.std.specs.Prelude.{◌≡◌, ℕ, Option, Some, None, true, List, ◌++◌}
 use Rattle.cc_names.specs.declared.rows.Tag.{Tag}
 use Rattle.cc_names.specs.declared.units.Unit.{Unit}
 use Rattle.legal_history.specs.Base.{Base}
@@ -19,3 +19,8 @@ pub record Continues (old new : Build) : Type 0 where
   pub rebuild : new.rebuild ≡ old.rebuild
   pub units : new.units ≡ old.units
   pub outcomes : (n : ℕ) → is_outcome (came_to old n) ≡ true → came_to new n ≡ came_to old n
+
+-- an active build after a step: it goes on, or it is over
+pub data Goes (old : Build) (new : Option Build) : Type 0 where
+  Over : new ≡ None → Goes old new
+  On : (build : Build) → new ≡ Some build → Continues old build → Goes old new
