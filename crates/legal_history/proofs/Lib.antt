@@ -1,4 +1,5 @@
 mod CheckoutRows
+pub mod FileFits
 mod FirstBuild
 pub mod Fronts
 pub mod Grows
@@ -6,6 +7,7 @@ pub mod Goes
 mod QueryRows
 mod RecordRows
 mod ReuseRows
+pub mod Passed
 pub mod Stay
 mod StoryRows
 mod TimeRows
