@@ -1,10 +1,13 @@
 pub mod Answers
 pub mod Branches
+pub mod Copies
+pub mod CopyLaws
 pub mod Formed
 pub mod Labels
 pub mod Last
 pub mod Names
 pub mod PathBytes
+pub mod PathLaws
 pub mod Paths
 pub mod References
 pub mod Versions

@@ -14,6 +14,7 @@
 pub mod changes;
 pub mod commands;
 mod comparisons;
+pub mod copies;
 pub mod lists;
 pub mod memory;
 pub mod names;

@@ -1,7 +1,9 @@
 // A list as a field of plain data.
 
-ghost use Rattle.std.specs.Prelude.{◌≡◌, List};
+ghost use Rattle.std.specs.Prelude.{◌≡◌, ◌↔◌, IsTrue, List, [], length};
 
+use crate::copies::Copied;
+use std::alloc::{AllocError, Global};
 use std::marker::Model;
 
 /// A list that plain data holds in a field. Contracts see it as its items.
@@ -26,6 +28,29 @@ impl<X> List<X> {
         List { items }
     }
 
+    /// The list of no items. Takes no memory.
+    pub fn empty(alloc: Global) -> List<X>
+        ensures { result ≡ [] }
+    {
+        List {
+            items: Vec::new(alloc),
+        }
+    }
+
+    /// The number of items.
+    pub fn len(&self) -> usize
+        ensures { result ≡ length self.now }
+    {
+        self.items.len()
+    }
+
+    /// Whether there are no items.
+    pub fn is_empty(&self) -> bool
+        ensures { IsTrue result ↔ (self.now ≡ []) }
+    {
+        self.items.is_empty()
+    }
+
     /// The items, in order.
     pub fn as_slice(&self) -> &[X]
         ensures { result.now ≡ self.now }
@@ -39,5 +64,15 @@ impl<X> List<X> {
     {
         let List { items } = self;
         items
+    }
+}
+
+impl<X: Copied> Clone for List<X> {
+    ghost is_clone = { λ source copy. copy ≡ source };
+
+    fn clone(&self) -> Result<List<X>, AllocError> {
+        Ok(List {
+            items: self.items.clone()?,
+        })
     }
 }

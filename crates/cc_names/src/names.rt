@@ -6,7 +6,7 @@ ghost use Rattle.cc_names.specs.Answers.{Gives};
 ghost use Rattle.cc_names.specs.Names.{is_name_byte, is_dash, is_dot, begins_wrong, fault_of_bytes, fault_at, name_fault, name_of, IsName};
 
 use crate::memory::{NoMemory, Or};
-use std::alloc::Global;
+use std::alloc::{AllocError, Global};
 use std::fmt;
 use std::marker::Model;
 
@@ -56,13 +56,22 @@ impl Name {
         if let Some(fault) = fault_of(bytes) {
             return Err(Or::Is(fault));
         }
+        Ok(Name::of(alloc, bytes)?)
+    }
+
+    /// The name of these bytes, which are those of a name.
+    pub(crate) fn of(alloc: Global, bytes: &[u8]) -> Result<Name, NoMemory>
+        requires { IsName bytes.now }
+        ensures { IfOk result (λ name. name ≡ bytes.now) }
+    {
         let bytes = Vec::from_slice(alloc, bytes)?;
         Ok(Name { bytes })
     }
 
     /// A copy.
     pub fn copy(&self, alloc: Global) -> Result<Name, NoMemory>
-        ensures { IfOk result (λ name. name ≡ self.now) }
+        ensures copy { IfOk result (λ name. name ≡ self.now) }
+        ensures name { IsName self.now }
     {
         let bytes = Vec::from_slice(alloc, self.bytes.as_slice())?;
         Ok(Name { bytes })
@@ -74,6 +83,16 @@ impl Name {
         ensures name { IsName self.now }
     {
         self.bytes.as_slice()
+    }
+}
+
+impl Clone for Name {
+    ghost is_clone = { λ source copy. copy ≡ source };
+
+    fn clone(&self) -> Result<Name, AllocError> {
+        Ok(Name {
+            bytes: self.bytes.clone()?,
+        })
     }
 }
 

@@ -1,14 +1,17 @@
 // The rule of paths, and a path that meets it.
 
-ghost use Rattle.std.specs.Prelude.{◌≡◌, ◌+◌, ◌<◌, ◌^◌, IfOk, IfSome, length};
+ghost use Rattle.std.specs.Prelude.{◌≡◌, ◌+◌, ◌<◌, ◌^◌, false, IfOk, IfSome, MatchOption, Some, length, take, drop};
 ghost use Rattle.std.specs.List.{position, slice_split};
 ghost use Rattle.cc_names.specs.Answers.{Gives};
-ghost use Rattle.cc_names.specs.Paths.{is_slash, root, is_root, first_fault, path_fault, path_of, IsPath};
+ghost use Rattle.cc_names.specs.Names.{IsName};
+ghost use Rattle.cc_names.specs.Paths.{is_slash, root, is_root, first_fault, path_fault, path_of, parent_of, last_of, join_of, IsPath};
+ghost use Rattle.cc_names.specs.PathLaws.{JoinHasParts, PartsJoin};
+ghost use Rattle.cc_names.specs.PathBytes.{HoldsPath, PartsAre};
 
 use crate::memory::{NoMemory, Or};
-use crate::names::{NameFault, fault_at};
+use crate::names::{Name, NameFault, fault_at};
 use crate::texts::Text;
-use std::alloc::Global;
+use std::alloc::{AllocError, Global};
 use std::marker::Model;
 
 /// A path: `.` for the root, or names joined by `/`, at most 1,024 bytes in all. Contracts see it as its bytes.
@@ -62,7 +65,8 @@ impl Path {
 
     /// A copy.
     pub fn copy(&self, alloc: Global) -> Result<Path, NoMemory>
-        ensures { IfOk result (λ path. path ≡ self.now) }
+        ensures copy { IfOk result (λ path. path ≡ self.now) }
+        ensures path { IsPath self.now }
     {
         match &self.below_root {
             None => Ok(Path::root()),
@@ -70,6 +74,54 @@ impl Path {
                 below_root: Some(text.copy(alloc)?),
             }),
         }
+    }
+
+    /// The path of the directory that holds this one; the root has none.
+    pub fn parent(&self, alloc: Global) -> Result<Option<Path>, NoMemory>
+        ensures { IfOk result (λ parent. parent ≡ parent_of self.now) }
+    {
+        let Some(text) = &self.below_root else {
+            return Ok(None);
+        };
+        let bytes = text.as_bytes();
+        let Some(slash) = last_slash(bytes) else {
+            return Ok(Some(Path::root()));
+        };
+        let directory = Text::from_bytes(alloc, &bytes[..slash])?;
+        Ok(Some(Path {
+            below_root: Some(directory),
+        }))
+    }
+
+    /// The last name; the root has none.
+    pub fn last(&self, alloc: Global) -> Result<Option<Name>, NoMemory>
+        ensures { IfOk result (λ name. name ≡ last_of self.now) }
+    {
+        let Some(text) = &self.below_root else {
+            return Ok(None);
+        };
+        let bytes = text.as_bytes();
+        let name = match last_slash(bytes) {
+            Some(slash) => Name::of(alloc, &bytes[slash + 1..])?,
+            None => Name::of(alloc, bytes)?,
+        };
+        Ok(Some(name))
+    }
+
+    /// The path of this name in the directory that this path names, refused only where it would pass 1,024 bytes.
+    pub fn join(&self, alloc: Global, name: &Name) -> Result<Path, Or<NameFault>>
+        ensures { Gives result (join_of self.now name.now) }
+    {
+        let Some(directory) = &self.below_root else {
+            let text = Text::from_bytes(alloc, name.as_bytes())?;
+            return Ok(Path {
+                below_root: Some(text),
+            });
+        };
+        let text = join_bytes(alloc, directory.as_bytes(), name.as_bytes())?;
+        Ok(Path {
+            below_root: Some(text),
+        })
     }
 
     /// The bytes, which are those of a path.
@@ -84,10 +136,68 @@ impl Path {
     }
 }
 
+/// A path that is joined from a directory and a name has that parent and that last name.
+pub fn join_has_parts()
+    ensures { JoinHasParts }
+{}
+
+/// A path below the root is the join of its parent and its last name.
+pub fn parts_join()
+    ensures { PartsJoin }
+{}
+
+impl Clone for Path {
+    ghost is_clone = { λ source copy. copy ≡ source };
+
+    fn clone(&self) -> Result<Path, AllocError> {
+        Ok(Path {
+            below_root: self.below_root.clone()?,
+        })
+    }
+}
+
 fn is_root(bytes: &[u8]) -> bool
     ensures { result ≡ is_root bytes.now }
 {
     matches!(bytes, [b'.'])
+}
+
+/// The bytes of the directory, which is not the root, and of the name, with a slash between them.
+fn join_bytes(alloc: Global, directory: &[u8], name: &[u8]) -> Result<Text, Or<NameFault>>
+    requires path { IsPath directory.now }
+    requires below { is_root directory.now ≡ false }
+    requires name { IsName name.now }
+    ensures joined { Gives result (join_of directory.now name.now) }
+    ensures path { IfOk result (λ text. HoldsPath (Some text)) }
+{
+    let length = directory.len() + 1 + name.len();
+    if length > 1024 {
+        return Err(Or::Is(NameFault::TooLong(length as u64)));
+    }
+    let mut bytes = Vec::with_capacity(alloc, length)?;
+    bytes.extend_from_slice(directory)?;
+    bytes.push(b'/')?;
+    bytes.extend_from_slice(name)?;
+    Ok(Text::of(bytes))
+}
+
+/// The place of the last slash of a path below the root: before it stands the path of the directory, behind it the
+/// last name.
+fn last_slash(path: &[u8]) -> Option<usize>
+    requires path { IsPath path.now }
+    requires below { is_root path.now ≡ false }
+    ensures within { IfSome result (λ slash. slash < length path.now) }
+    ensures below { IfSome result (λ slash. is_root (take slash path.now) ≡ false) }
+    ensures parts { MatchOption result (PartsAre path.now root path.now) (λ slash. PartsAre path.now (take slash path.now) (drop (slash + 1) path.now)) }
+{
+    let mut end = path.len();
+    'end: while end > 0 {
+        end -= 1;
+        if path[end] == b'/' {
+            return Some(end);
+        }
+    }
+    None
 }
 
 fn first_slash(bytes: &[u8]) -> Option<usize>

@@ -67,7 +67,7 @@ pub struct SessionError {
 }
 
 /// Why a script's run gave nothing. Lines are counted from 1.
-#[derive(Debug, Drop)]
+#[derive(Clone, Debug, Drop)]
 pub enum ScriptFault {
     /// X1: a read found nothing at this path.
     Absent(Path),
@@ -86,7 +86,7 @@ pub enum ScriptFault {
 }
 
 /// Why a unit of a build failed.
-#[derive(Debug, Drop)]
+#[derive(Clone, Debug, Drop)]
 pub enum UnitFault {
     /// U1: this prerequisite is neither a unit nor a file of the view.
     NoRule(Path),
@@ -110,7 +110,7 @@ pub enum GraphFault {
 }
 
 /// Why a command was refused.
-#[derive(Debug, Drop)]
+#[derive(Clone, Debug, Drop)]
 pub enum Refusal {
     /// C1
     NoView,

@@ -13,7 +13,7 @@ pub struct Digest {
 }
 
 /// What a unit of a build came to, as its line says it.
-#[derive(Debug, Drop)]
+#[derive(Clone, Debug, Drop)]
 pub enum UnitWord {
     /// The view's own object was kept.
     Kept(Digest),

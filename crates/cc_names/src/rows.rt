@@ -4,6 +4,7 @@ use crate::lists::List;
 use crate::names::Name;
 use crate::paths::Path;
 use crate::texts::Text;
+use std::alloc::AllocError;
 use std::marker::Model;
 
 /// Which command made a row: its phase, its lane and its number in the lane, each counted from 1.
@@ -37,7 +38,7 @@ pub enum Out {
 }
 
 /// One read of a script: the path that it asked for and the row that made the text there, 0 where nothing was there.
-#[derive(Debug, Drop)]
+#[derive(Clone, Debug, Drop)]
 pub struct ReadOf {
     pub path: Path,
     pub row: u64,
@@ -58,14 +59,14 @@ pub struct Extent {
 }
 
 /// An output of an object as a row spells it: its bytes, or where they stand.
-#[derive(Debug, Drop)]
+#[derive(Clone, Debug, Drop)]
 pub enum Stored {
     Here(Text),
     There(Extent),
 }
 
 /// What a row does. Elements, versions, branches and objects are named by the number of the row that made them.
-#[derive(Debug, Drop)]
+#[derive(Clone, Debug, Drop)]
 pub enum Deed {
     Mkview {
         view: Name,
@@ -230,5 +231,19 @@ impl Row {
         ensures formed { IsFormed self.now }
     {
         &self.deed
+    }
+}
+
+impl Clone for Row {
+    ghost use Rattle.std.specs.Prelude.{◌≡◌};
+
+    ghost is_clone = { λ source copy. copy ≡ source };
+
+    fn clone(&self) -> Result<Row, AllocError> {
+        Ok(Row {
+            tag: self.tag,
+            moment: self.moment,
+            deed: self.deed.clone()?,
+        })
     }
 }

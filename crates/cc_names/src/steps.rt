@@ -8,7 +8,7 @@ use crate::rows::{Row, Tag};
 use crate::texts::Text;
 
 /// What a unit came to without a row of its own.
-#[derive(Debug, Drop)]
+#[derive(Clone, Debug, Drop)]
 pub enum UnitEnd {
     /// The view's object at the target was kept.
     Kept(u64),
