@@ -2,7 +2,7 @@ mod Cuts
 mod FirstFaults
 mod Joins
 mod NamesOfPaths
-mod PathParts
+pub mod PathParts
 mod PathRows
 mod WorkedLabels
 mod WorkedVersions

@@ -1,5 +1,6 @@
 -- The rows of the commands on views and private files fit.
-use Rattle.std.proofs.Common.{◌≡◌, refl, ap, sym, ◌∙◌, ℕ, Bool, true, false, not, ◌&&◌, Option, Some, None, Result, Ok, Err, List, [], ◌∷◌, nat_lt}
+use Rattle.std.proofs.Common.{◌≡◌, refl, ap, sym, subst, ◌∙◌, ℕ, Bool, true, false, not, ◌&&◌, Option, Some, None, Result, Ok, Err, List, [], ◌∷◌, nat_lt}
+use Rattle.std.proofs.lemmas.List.{reverse-reverse}
 use Rattle.std.specs.Prelude.{is_some, is_none, is_ok, reverse}
 use Rattle.cc_names.specs.declared.refusals.Refusal.{Refusal}
 use Rattle.cc_names.specs.declared.refusals.SpecError.{SpecError}
@@ -11,7 +12,8 @@ use Rattle.cc_names.specs.declared.selection.Seen.{Seen}
 use Rattle.cc_names.specs.declared.selection.Seen.TheVariants.{Private, Element, Unselected, Nothing}
 use Rattle.cc_names.specs.References.{held_at}
 use Rattle.spec_text.specs.Specs.{rules_of}
-use Rattle.cc_names.specs.Paths.{joined}
+use Rattle.cc_names.specs.Paths.{joined, names_of}
+use Rattle.cc_names.proofs.PathParts.{joined-names_of}
 use Rattle.cc_names.specs.declared.selection.Picked.{Picked}
 use Rattle.legal_history.specs.Base.{Base, size}
 use Rattle.legal_history.specs.Catalogs.{Catalog, named}
@@ -22,7 +24,9 @@ use Rattle.legal_history.specs.Decisions.{Decision, Makes, Scene}
 use Rattle.legal_history.specs.FileLines.{mkview, mkview_tests, rmview, rmview_tests, setcs, setcs_tests, rm, rm_tests}
 use Rattle.legal_history.specs.Fits.{fits}
 use Rattle.legal_history.specs.Seen.{at, at_names, below, private_or, as_seen, element_at, entries_of, selected}
-use Rattle.legal_history.specs.Tests.{needs_rules}
+use Rattle.legal_history.specs.LabelLines.{mktype}
+use Rattle.legal_history.specs.ObjectLines.{rmdo, rmdo_tests}
+use Rattle.legal_history.specs.Tests.{needs_rules, needs_private, needs_free_type}
 use Rattle.legal_history.proofs.Passed.{Made, made_by, where_passes, unless_passes, fits_by}
 
 -- Fits s decided: whatever row is decided fits
@@ -73,3 +77,29 @@ private_below b v names name (Some entries) row h =
 private_at : (b : Base) (v : List ℕ) (back : List (List ℕ)) (row : ℕ) → at_names b v back ≡ Private row → private b v (joined (reverse back)) ≡ Some row
 private_at b v [] row h = absurd (no_private 0 (selected b v 0 []) row h)
 private_at b v (name ∷ above) row h = private_below b v (reverse (name ∷ above)) name (entries_of b v (at_names b v above)) row h
+
+was_private : (path : List ℕ) (seen : Seen) → needs_private path seen ≡ None → (row : ℕ) × (seen ≡ Private row)
+was_private path (Private row) e = (row, refl)
+was_private path (Element e picked) h = absurd (cc)
+was_private path (Unselected e) h = absurd (cc)
+was_private path Nothing h = absurd (cc)
+
+pub rm_fits : (s : Scene) (v path : List ℕ) → RowFits s (rm s v path)
+rm_fits s v path made h =
+    let m = made_by s (rm_tests s v path) (deeds.Rm v path) made h in
+    let seen = was_private path (at s.base v path) m.pass.1.1.0 in
+    let there : private s.base v path ≡ Some seen.0 = subst (λ p. private s.base v p ≡ Some seen.0) back (private_at s.base v (reverse (names_of path)) seen.0 seen.1) in
+    fits_by s.base (deeds.Rm v path) made m.room m.is (rw there refl)
+  where
+  back : joined (reverse (reverse (names_of path))) ≡ path
+  back = ap joined (reverse-reverse (names_of path)) ∙ joined-names_of path
+
+pub mktype_fits : (s : Scene) (kind : TypeKind) (name : List ℕ) → RowFits s (mktype s kind name)
+mktype_fits s kind name made h =
+    let m = made_by s (needs_free_type s.base name ∷ []) (deeds.Mktype kind name) made h in
+    fits_by s.base (deeds.Mktype kind name) made m.room m.is (ap not (where_passes _ _ m.pass.0))
+
+pub rmdo_fits : (s : Scene) (v path : List ℕ) → RowFits s (rmdo s v path)
+rmdo_fits s v path made h =
+    let m = made_by s (rmdo_tests s v path) (deeds.Drop v path) made h in
+    fits_by s.base (deeds.Drop v path) made m.room m.is (unless_passes _ _ m.pass.1.1.0)

@@ -1,5 +1,6 @@
 mod CheckoutRows
 pub mod FileFits
+pub mod DirectoryFits
 mod FirstBuild
 pub mod Fronts
 pub mod Grows
