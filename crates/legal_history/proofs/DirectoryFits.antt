@@ -1,5 +1,5 @@
 -- The rows of the commands on names of directories, of uncheckout, of rmlabel and of scrubs fit.
-use Rattle.std.proofs.Common.{◌≡◌, refl, ap, sym, subst, ◌∙◌, ℕ, Bool, true, false, not, ◌&&◌, ◌||◌, Option, Some, None, Result, Ok, Err, List, [], ◌∷◌, ◌++◌}
+use Rattle.std.proofs.Common.{◌≡◌, refl, ap, sym, subst, ◌∙◌, ℕ, Bool, true, false, not, ◌&&◌, ◌||◌, Option, Some, None, Result, Ok, Err, List, [], ◌∷◌, ◌++◌, nat_lt}
 use Rattle.std.specs.Prelude.{is_some, is_none, option_and_then, reverse}
 use Rattle.std.specs.List.{list_all}
 use Rattle.cc_names.specs.declared.refusals.Refusal.{Refusal}
@@ -11,11 +11,11 @@ use Rattle.cc_names.specs.declared.selection.Seen.TheVariants.{Private, Element,
 use Rattle.legal_history.specs.Base.{Base, size}
 use Rattle.legal_history.specs.Catalogs.{named, own_of}
 use Rattle.legal_history.specs.CheckoutLines.{uncheckout, uncheckout_tests}
-use Rattle.legal_history.specs.Conditions.{exists, has_out, is_directory, has_name, has_out_by_name}
+use Rattle.legal_history.specs.Conditions.{exists, has_out, is_file, is_directory, has_name, has_out_by_name}
 use Rattle.legal_history.specs.Decisions.{Decision, Makes, Scene}
 use Rattle.legal_history.specs.DirectoryLines.{mkelem, mkelem_tests, rmname, rmname_tests, mv, mv_tests, directory_of, renamed}
-use Rattle.legal_history.specs.FileLines.{parent, last_name, element_of}
-use Rattle.legal_history.specs.Fits.{fits}
+use Rattle.legal_history.specs.FileLines.{parent, last_name, element_of, save, save_tests, save_deed, saves_at, saves_element}
+use Rattle.legal_history.specs.Fits.{fits, row_limit}
 use Rattle.legal_history.specs.LabelLines.{rmlabel, rmlabel_tests}
 use Rattle.legal_history.specs.Seen.{at}
 use Rattle.legal_history.specs.Tests.{needs_out, needs_not_out, needs_selected, needs_directory}
@@ -81,3 +81,32 @@ rmlabel_fits s v label path made h =
     let deed = deeds.Unlabel label (element_of (at s.base v path)) in
     let m = made_by s (rmlabel_tests s v label path (at s.base v path)) deed made h in
     fits_by s.base deed made m.room m.is (unless_passes _ _ m.pass.1.1.1.1.0)
+
+saves_by : (b : Base) (v path : List ℕ) (e : ℕ) (d : Bool) → saves_element d path (out b v e) ≡ None → (d ≡ false) × (has_out b v e ≡ true)
+saves_by b v path e true h = absurd (cc)
+saves_by b v path e false h = (refl, was_out path (out b v e) h)
+
+saved_element : (s : Scene) (v path text : List ℕ) (e : ℕ) (made : Deed) → nat_lt (size s.base) row_limit ≡ true →
+  ((e : ℕ) → has_out s.base v e ≡ true → is_directory s.base e ≡ false → is_file s.base e ≡ true) →
+  saves_element (is_directory s.base e) path (out s.base v e) ≡ None → made ≡ deeds.Save v e text → fits s.base made ≡ true
+saved_element s v path text e made room known h is =
+    let both = saves_by s.base v path e (is_directory s.base e) h in
+    let file : is_file s.base e ≡ true = known e both.1 both.0 in
+    let taken : has_out s.base v e ≡ true = both.1 in
+    fits_by s.base (deeds.Save v e text) made room is (rw (taken, file) refl)
+
+-- a save's own tests, by what stands at its path
+save_made : (s : Scene) (v path text : List ℕ) (seen : Seen) (made : Deed) → exists s.base v ≡ true → nat_lt (size s.base) row_limit ≡ true →
+  ((e : ℕ) → has_out s.base v e ≡ true → is_directory s.base e ≡ false → is_file s.base e ≡ true) →
+  saves_at s.base v path seen ≡ None → made ≡ save_deed v path text seen → fits s.base made ≡ true
+save_made s v path text (Private row) made there room known h is = fits_by s.base (deeds.Put v path text) made room is there
+save_made s v path text Nothing made there room known h is = fits_by s.base (deeds.Put v path text) made room is there
+save_made s v path text (Element e picked) made there room known h is = saved_element s v path text e made room known h is
+save_made s v path text (Unselected e) made there room known h is = saved_element s v path text e made room known h is
+
+-- the row of a save fits, where an element that the view has out and that is no directory is a file
+pub save_fits_by : (s : Scene) (v path text : List ℕ) →
+  ((e : ℕ) → has_out s.base v e ≡ true → is_directory s.base e ≡ false → is_file s.base e ≡ true) → RowFits s (save s v path text)
+save_fits_by s v path text known made h =
+    let m = made_by s (save_tests s v path) (save_deed v path text (at s.base v path)) made h in
+    save_made s v path text (at s.base v path) made (unless_passes _ _ m.pass.0) m.room known m.pass.1.1.1.1.0 m.is

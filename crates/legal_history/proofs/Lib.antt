@@ -1,3 +1,4 @@
+pub mod Below
 mod CheckoutRows
 pub mod FileFits
 pub mod DirectoryFits
