@@ -38,7 +38,7 @@ found_change (change ∷ older) r c e = elim (row_of_change change == r) as (λ 
   ] refl e
 
 -- a change behind a base's newest one is found as before
-older_change : (change : TreeChange) (before : List TreeChange) (r : ℕ) → (row_of_change change == r) ≡ false → change_at (change ∷ before) r ≡ change_at before r
+pub older_change : (change : TreeChange) (before : List TreeChange) (r : ℕ) → (row_of_change change == r) ≡ false → change_at (change ∷ before) r ≡ change_at before r
 older_change change before r e = ap (λ b. cond b (Some change) (change_at before r)) e
 
 -- the branch of each change of a base lies below its size, and so does its number
@@ -47,9 +47,9 @@ pub record InBase (b : Base) : Type 0 where
   pub branches : (r : ℕ) (c : TreeChange) → change_at (tree b) r ≡ Some c → branch_of_change c < size b
 
 -- the same of any changes below a number
-record Within (n : ℕ) (changes : List TreeChange) : Type 0 where
-  numbers : (r : ℕ) (c : TreeChange) → change_at changes r ≡ Some c → r < n
-  branches : (r : ℕ) (c : TreeChange) → change_at changes r ≡ Some c → branch_of_change c < n
+pub record Within (n : ℕ) (changes : List TreeChange) : Type 0 where
+  pub numbers : (r : ℕ) (c : TreeChange) → change_at changes r ≡ Some c → r < n
+  pub branches : (r : ℕ) (c : TreeChange) → change_at changes r ≡ Some c → branch_of_change c < n
 
 one_more_within : (n : ℕ) (change : TreeChange) (before : List TreeChange) → row_of_change change ≡ n → branch_of_change change < suc n → Within n before → Within (suc n) (change ∷ before)
 one_more_within n change before number branch h = record { numbers = λ r c e. (by r c (row_of_change change == r) refl e).0; branches = λ r c e. (by r c (row_of_change change == r) refl e).1 }
@@ -87,7 +87,7 @@ row_within older moment (deeds.Branch v e origin name out) before h = one_more_w
 row_within older moment (deeds.Checkin v e) before h = checkin_within (size older) moment (out older v e) before h
 row_within older moment deed before h = none_more_within (size older) before h
 
-within : (b : Base) → Within (size b) (tree b)
+pub within : (b : Base) → Within (size b) (tree b)
 within [] = one_more_within 0 (ElementMade 0 0 Directory) [] refl (omega arith) (record { numbers = λ r c e. absurd (cc); branches = λ r c e. absurd (cc) })
 within (row ∷ older) = row_within older row.moment row.deed (tree older) (within older)
 

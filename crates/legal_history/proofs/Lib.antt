@@ -17,3 +17,4 @@ pub mod TwoViews
 pub mod Tables
 pub mod TreesStay
 mod UnlawfulRows
+pub mod VersionsStay
