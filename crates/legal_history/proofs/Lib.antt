@@ -2,10 +2,13 @@ pub mod Below
 mod CheckoutRows
 pub mod FileFits
 pub mod DirectoryFits
+pub mod CheckoutFits
 mod FirstBuild
 pub mod Fronts
 pub mod Grows
 pub mod Goes
+pub mod Owned
+pub mod Origins
 mod QueryRows
 mod RecordRows
 mod ReuseRows

@@ -59,7 +59,7 @@ find_older change before r branch apart = by (branch_of_change change == branch)
 apart_below : (m n r : ℕ) → m ≡ n → r < n → (m == r) ≡ false
 apart_below m n r e h = grind (arith, nat_tests)
 
-owner_change : (before : List TreeChange) (branch e : ℕ) → element_of_branch before branch ≡ Some e → (c : TreeChange) × (change_at before branch ≡ Some c) × (element_by c ≡ Some e)
+pub owner_change : (before : List TreeChange) (branch e : ℕ) → element_of_branch before branch ≡ Some e → (c : TreeChange) × (change_at before branch ≡ Some c) × (element_by c ≡ Some e)
 owner_change before branch e h = by (change_at before branch) refl h
   where
   by : (o : Option TreeChange) → change_at before branch ≡ o → option_and_then element_by o ≡ Some e → (c : TreeChange) × (change_at before branch ≡ Some c) × (element_by c ≡ Some e)
