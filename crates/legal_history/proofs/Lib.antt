@@ -9,6 +9,7 @@ pub mod Grows
 pub mod Goes
 pub mod Owned
 pub mod Origins
+pub mod OnBranches
 mod QueryRows
 mod RecordRows
 mod ReuseRows

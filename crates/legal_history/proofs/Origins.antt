@@ -29,10 +29,10 @@ some_same : {A : Type 0} {a b : A} → Some a ≡ Some b → a ≡ b
 some_same e = cc
 
 -- the newest change is found by its number
-newest_change : (change : TreeChange) (before : List TreeChange) (n : ℕ) → (row_of_change change == n) ≡ true → change_at (change ∷ before) n ≡ Some change
+pub newest_change : (change : TreeChange) (before : List TreeChange) (n : ℕ) → (row_of_change change == n) ≡ true → change_at (change ∷ before) n ≡ Some change
 newest_change change before n e = ap (λ b. cond b (Some change) (change_at before n)) e
 
-newest_version : (v : Version) (rest : List Version) (n : ℕ) (on : Bool) → on ≡ true → (v.row == n) ≡ true → find (λ v. v.row == n) (put_if on v rest) ≡ Some v
+pub newest_version : (v : Version) (rest : List Version) (n : ℕ) (on : Bool) → on ≡ true → (v.row == n) ≡ true → find (λ v. v.row == n) (put_if on v rest) ≡ Some v
 newest_version v rest n on here number = rw here (ap (λ b. cond b (Some v) (find (λ v. v.row == n) rest)) number)
 
 -- the place of a version by the newest change, which makes its own branch of element e

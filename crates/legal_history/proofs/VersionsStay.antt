@@ -47,7 +47,7 @@ pub place_by : (changes : List TreeChange) (r : ℕ) (p : Place) → Parts chang
 place_by changes r p h = rw (h.made, h.found, h.owner) (ap Some (sym h.is))
 
 -- a version on a branch is found as before where a change behind it is no such version
-find_older : (change : TreeChange) (before : List TreeChange) (r branch : ℕ) → (row_of_change change == r) ≡ false →
+pub find_older : (change : TreeChange) (before : List TreeChange) (r branch : ℕ) → (row_of_change change == r) ≡ false →
   find (λ v. v.row == r) (versions_on (change ∷ before) branch) ≡ find (λ v. v.row == r) (versions_on before branch)
 find_older change before r branch apart = by (branch_of_change change == branch)
   where
@@ -56,7 +56,7 @@ find_older change before r branch apart = by (branch_of_change change == branch)
   by false = refl
 
 -- a number below another is not that one
-apart_below : (m n r : ℕ) → m ≡ n → r < n → (m == r) ≡ false
+pub apart_below : (m n r : ℕ) → m ≡ n → r < n → (m == r) ≡ false
 apart_below m n r e h = grind (arith, nat_tests)
 
 pub owner_change : (before : List TreeChange) (branch e : ℕ) → element_of_branch before branch ≡ Some e → (c : TreeChange) × (change_at before branch ≡ Some c) × (element_by c ≡ Some e)
