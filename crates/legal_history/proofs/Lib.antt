@@ -10,6 +10,7 @@ pub mod Goes
 pub mod Owned
 pub mod Origins
 pub mod OnBranches
+pub mod LabelsHold
 mod QueryRows
 mod RecordRows
 mod ReuseRows
