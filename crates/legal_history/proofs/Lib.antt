@@ -1,4 +1,5 @@
 pub mod Below
+pub mod CatalogElements
 mod CheckoutRows
 pub mod FileFits
 pub mod DirectoryFits
