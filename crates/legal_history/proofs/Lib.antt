@@ -12,6 +12,7 @@ pub mod Owned
 pub mod Origins
 pub mod OnBranches
 pub mod LabelsHold
+pub mod Picks
 mod QueryRows
 mod RecordRows
 mod ReuseRows
