@@ -1,10 +1,11 @@
-pub mod Cuts
+mod Cuts
 mod FirstFaults
 mod FormedRows
 mod Joins
 mod NamesOfPaths
-mod PathParts
 mod PathRows
 mod WorkedLabels
 mod WorkedVersions
 pub mod ByRows
+pub mod Cuts
+pub mod PathParts

@@ -1,5 +1,6 @@
 pub mod Answers
 pub mod Branches
+pub mod Copies
 pub mod CopyLaws
 pub mod Falling
 pub mod Formed
@@ -10,5 +11,6 @@ pub mod Names
 pub mod PathBytes
 pub mod PathLaws
 pub mod Paths
+pub mod References
 pub mod ReplyCopies
 pub mod Versions

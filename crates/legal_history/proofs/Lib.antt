@@ -1,0 +1,27 @@
+pub mod Below
+pub mod CatalogElements
+mod CheckoutRows
+pub mod FileFits
+pub mod DirectoryFits
+pub mod CheckoutFits
+mod FirstBuild
+pub mod Fronts
+pub mod Grows
+pub mod Goes
+pub mod Owned
+pub mod Origins
+pub mod OnBranches
+pub mod LabelsHold
+pub mod Picks
+mod QueryRows
+mod RecordRows
+mod ReuseRows
+pub mod Passed
+pub mod Stay
+mod StoryRows
+mod TimeRows
+pub mod TwoViews
+pub mod Tables
+pub mod TreesStay
+mod UnlawfulRows
+pub mod VersionsStay

@@ -1,0 +1,50 @@
+-- The texts of queries over two views: records, the objects held, a directory, and how two records differ.
+use Rattle.std.proofs.Common.{◌≡◌, refl, true, None, Ok, [], ◌∷◌, ◌++◌}
+use Rattle.std.specs.Prelude.{codes}
+use Rattle.std.specs.Fmt.{digits}
+use Rattle.cc_names.specs.declared.commands.Command.TheVariants as commands
+use Rattle.cc_names.specs.declared.rows.Deed.TheVariants as deeds
+use Rattle.cc_names.specs.declared.rows.TypeKind.TheVariants as type_kinds
+use Rattle.legal_history.specs.Base.{Base}
+use Rattle.legal_history.specs.Decisions.{Answers}
+use Rattle.legal_history.specs.VersionNames.{line}
+use Rattle.legal_history.specs.Worked.{base_of, decisions}
+use Rattle.legal_history.proofs.TwoViews.{v, w, hi, script, two_views, all_deeds}
+
+-- view w checks its source out and builds anew
+abbrev rebuilt : Base
+rebuilt = base_of (all_deeds ++ (deeds.Checkout w 6 8 true
+    ∷ deeds.Publish w (codes "out" ∷ []) script (record { path = codes "in"; row = 13 } ∷ []) (hi ∷ []) ∷ []))
+
+records_are_told :
+    decisions two_views (commands.Catcr w (codes "out") ∷ commands.Lsdo w ∷ [])
+    ≡ Ok (Answers (line (codes "target out") ++ line (codes "script cat in > out") ++ line (codes "read in@@/main/1")))
+    ∷ Ok (Answers (line (codes "out@@10 references 2"))) ∷ []
+unfolding digits
+records_are_told = refl
+
+differences_are_told :
+    decisions rebuilt (commands.Diffcr v (codes "out") w (codes "out") ∷ commands.Ls w None ∷ [])
+    ≡ Ok (Answers (line (codes "< in@@/main/1") ++ line (codes "> in checkedout 13")))
+    ∷ Ok (Answers (line (codes "Makefile@@/main/1 rule 2") ++ line (codes "in checkedout from /main/1 rule 1") ++ line (codes "out@@14 object"))) ∷ []
+unfolding digits
+differences_are_told = refl
+
+-- a source with a label and a branch
+abbrev labelled : Base
+labelled = base_of (all_deeds ++ (deeds.Mktype type_kinds.Label (codes "REL") ∷ deeds.Label (codes "REL") 6 8 ∷ []))
+
+an_element_is_told :
+    decisions labelled (commands.Describe v (codes "in") ∷ commands.Lsvtree v (codes "in") ∷ commands.Cat v (codes "in") None ∷ commands.Cat v (codes "out") None ∷ [])
+    ≡ Ok (Answers (line (codes "element 6") ++ line (codes "kind file") ++ line (codes "version /main/1") ++ line (codes "label REL")))
+    ∷ Ok (Answers (line (codes "in@@/main") ++ line (codes "in@@/main/0") ++ line (codes "in@@/main/1 (REL)")))
+    ∷ Ok (Answers hi) ∷ Ok (Answers hi) ∷ []
+unfolding digits
+an_element_is_told = refl
+
+a_history_is_told :
+    decisions labelled (commands.Lshistory v (codes "in") ∷ [])
+    ≡ Ok (Answers (line (codes "14-Nov-2023.22:13:20 label REL /main/1") ++ line (codes "14-Nov-2023.22:13:20 create version /main/1")
+    ++ line (codes "14-Nov-2023.22:13:20 create element"))) ∷ []
+unfolding digits
+a_history_is_told = refl
