@@ -1,13 +1,150 @@
-// A library with one function.
+// The holder of every label on every element, as it was at any number of rows.
 #![tactic(auto)]
 
-ghost use Rattle.std.specs.Prelude.{◌≡◌};
-ghost use Rattle.label_book.specs.Echo.{echo_of};
+ghost use Rattle.std.specs.Prelude.{◌≡◌, ℕ, ◌<◌, ◌∷◌, [], IsTrue, IfOk, OnOk, length, slice_index};
+ghost use Rattle.cc_names.specs.Labels.{labels_of_first_rows, holder};
+ghost use Rattle.cc_names.specs.Falling.{IsAbove};
+ghost use Rattle.cc_names.specs.declared.changes.LabelChange.TheVariants as changes;
+ghost use Rattle.label_book.specs.Marks.{rows_of_pair, is_ready, AddsChange, KeepsAll};
 
-// The `ensures` clause is the contract: what `echo` returns is `echo_of` of its argument, a definition
-// in `specs/Echo.antt`, which a caller's clause can cite too.
-pub fn echo(x: usize) -> usize
-    ensures { result ≡ echo_of x }
-{
-    x
+mod held;
+
+use cc_names::keys::key_of;
+use cc_names::memory::NoMemory;
+use cc_names::names::Name;
+use held::{Held, Move};
+use std::alloc::Global;
+use std::collections::HashMap;
+use std::marker::Model;
+
+/// The labels of a base on its elements. Contracts see the list of changes.
+#[derive(Debug, Drop)]
+pub struct Book {
+    alloc: Global,
+    held: Vec<Held>,
+    newest: HashMap<u64, usize>,
+}
+
+impl Model for Book {
+    ghost use Rattle.label_book.specs.Marks.{Marks};
+
+    ghost Value = { Marks };
+
+    ghost use Rattle.label_book.specs.BookFields.{marks_of, IsInStep};
+
+    ghost view = { marks_of };
+
+    ghost invariant = { IsInStep };
+}
+
+impl Book {
+    ghost use Rattle.label_book.specs.Holding.{change_by};
+
+    /// A book without labels.
+    pub fn new(alloc: Global) -> Result<Book, NoMemory>
+        ensures { IfOk result (λ book. book.changes ≡ []) }
+    {
+        Ok(Book {
+            alloc,
+            held: Vec::new(alloc),
+            newest: HashMap::new(alloc),
+        })
+    }
+
+    /// Makes room for one change of a label on each of these elements.
+    pub fn reserve(&mut self, alloc: Global, label: &Name, elements: &[u64]) -> Result<(), NoMemory>
+        ensures kept { KeepsAll self.old self.new }
+        ensures ready { OnOk result ((k : ℕ) → k < length elements.now → IsTrue (is_ready self.new label.now (slice_index elements.now k))) }
+    {
+        for element in elements {
+            self.reserve_one(alloc, label, *element)?;
+        }
+        Ok(())
+    }
+
+    // Makes room for one change of a label on an element.
+    fn reserve_one(&mut self, alloc: Global, label: &Name, element: u64) -> Result<(), NoMemory>
+        ensures kept { KeepsAll self.old self.new }
+        ensures ready { OnOk result (IsTrue (is_ready self.new label.now element)) }
+    {
+        let key = key_of(element, label);
+        let namesake = self.newest.get(&key).copied();
+        match Held::find(&self.held, namesake, label, element) {
+            Some(place) => {
+                let held = &mut self.held[place];
+                held.moves.reserve(1)?;
+            }
+            None => {
+                let label = label.copy(alloc)?;
+                let mut moves = Vec::new(alloc);
+                moves.reserve(1)?;
+                self.newest.reserve(1)?;
+                let place = self.held.len();
+                self.held.push(Held {
+                    label,
+                    element,
+                    namesake,
+                    moves,
+                })?;
+                match self.newest.insert(key, place) {
+                    Ok(_) => {}
+                    Err(_) => unreachable!(),
+                }
+            }
+        }
+        Ok(())
+    }
+
+    /// Puts a label on a version of an element. The row is above all rows so far of this label on this element.
+    pub fn attach(&mut self, row: u64, label: &Name, element: u64, version: u64)
+        requires above { IsAbove row (rows_of_pair label.now element self.old.changes) }
+        requires ready { IsTrue (is_ready self.old label.now element) }
+        ensures { AddsChange self.old self.new (changes.Put row label.now element version) }
+    {
+        self.add(
+            label,
+            element,
+            Move {
+                row,
+                version: Some(version),
+            },
+        );
+    }
+
+    /// Takes a label off an element. The row is above all rows so far of this label on this element.
+    pub fn detach(&mut self, row: u64, label: &Name, element: u64)
+        requires above { IsAbove row (rows_of_pair label.now element self.old.changes) }
+        requires ready { IsTrue (is_ready self.old label.now element) }
+        ensures { AddsChange self.old self.new (changes.Taken row label.now element) }
+    {
+        self.add(label, element, Move { row, version: None });
+    }
+
+    // Adds one change of a label on an element.
+    fn add(&mut self, label: &Name, element: u64, change: Move)
+        requires above { IsAbove change.row (rows_of_pair label.now element self.old.changes) }
+        requires ready { IsTrue (is_ready self.old label.now element) }
+        ensures { AddsChange self.old self.new (change_by label.now element change.row change.version) }
+    {
+        let newest = self.newest.get(&key_of(element, label)).copied();
+        match Held::find(&self.held, newest, label, element) {
+            Some(place) => {
+                let held = &mut self.held[place];
+                match held.moves.push(change) {
+                    Ok(()) => {}
+                    Err(_) => unreachable!(),
+                }
+            }
+            None => unreachable!(),
+        }
+    }
+
+    /// The version of an element that held a label after the first `rows` rows.
+    pub fn at(&self, label: &Name, element: u64, rows: u64) -> Option<u64>
+        ensures { result ≡ holder (labels_of_first_rows rows self.now.changes) label.now element }
+    {
+        let newest = self.newest.get(&key_of(element, label)).copied();
+        let place = Held::find(&self.held, newest, label, element)?;
+        self.held[place].at(rows)
+    }
 }

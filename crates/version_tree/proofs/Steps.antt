@@ -239,16 +239,16 @@ room_made made items p b' branch heads held step within found same_row same_mome
     let there = row_there items branch p step.branches_fall within found in
     let old = get_or items p b' in
     let rows : map row_of_branch (reverse (set items p b')) ≡ map row_of_branch (reverse items) =
-        map-reverse row_of_branch (set items p b') ∙ ap reverse (rows_set items p b' within (λ d. there d ∙ sym same_row)) ∙ sym (map-reverse row_of_branch items) in
+    map-reverse row_of_branch (set items p b') ∙ ap reverse (rows_set items p b' within (λ d. there d ∙ sym same_row)) ∙ sym (map-reverse row_of_branch items) in
     let fall_after : Falls (map row_of_branch (reverse (set items p b'))) = rw rows step.branches_fall in
     let old_found : branch_at (reverse items) branch ≡ Some old =
-        find-reverse row_of_branch branch items step.branches_fall ∙ sym found ∙ slice_get-get_or items p b' within in
+    find-reverse row_of_branch branch items step.branches_fall ∙ sym found ∙ slice_get-get_or items p b' within in
     let new_found : branch_at (reverse (set items p b')) branch ≡ Some b' =
-        find-reverse row_of_branch branch (set items p b') fall_after ∙ find_set_here items branch p step.branches_fall within found b' same_row in
+    find-reverse row_of_branch branch (set items p b') fall_after ∙ find_set_here items branch p step.branches_fall within found b' same_row in
     let same_versions : versions_kept old ≡ versions_kept b' =
-        ap (λ r. versions_from r old.moment (reverse old.later.items)) (there b' ∙ sym same_row)
-        ∙ ap (λ t. versions_from b'.row t (reverse old.later.items)) (sym (same_moment b'))
-        ∙ ap (λ ls. versions_from b'.row b'.moment (reverse ls)) (sym (same_later b')) in
+    ap (λ r. versions_from r old.moment (reverse old.later.items)) (there b' ∙ sym same_row)
+    ∙ ap (λ t. versions_from b'.row t (reverse old.later.items)) (sym (same_moment b'))
+    ∙ ap (λ ls. versions_from b'.row b'.moment (reverse ls)) (sym (same_later b')) in
     record {
       falls = step.falls;
       linked = step.linked;
@@ -256,16 +256,16 @@ room_made made items p b' branch heads held step within found same_row same_mome
       branches_fall = fall_after;
       branches_made = λ r higher. rw rows (step.branches_made r higher);
       kept = λ q. elim (bool_cases (eqb branch q)) [
-          inl same ↦
+        | inl same ↦
             let here : branch ≡ q = (Decides-eqb branch q).0 same in
             let old_there : branch_at (reverse items) q ≡ Some old = rw (← here) old_found in
             let new_there : branch_at (reverse (set items p b')) q ≡ Some b' = rw (← here) new_found in
             step.kept q ∙ ap versions_by old_there ∙ same_versions ∙ sym (ap versions_by new_there)
         | inr other ↦
             let others : branch_at (reverse (set items p b')) q ≡ branch_at (reverse items) q =
-                find-reverse row_of_branch q (set items p b') fall_after ∙ find_set_other items p b' within q (λ d. there d ∙ sym same_row) (rw same_row other) ∙ sym (find-reverse row_of_branch q items step.branches_fall) in
+            find-reverse row_of_branch q (set items p b') fall_after ∙ find_set_other items p b' within q (λ d. there d ∙ sym same_row) (rw same_row other) ∙ sym (find-reverse row_of_branch q items step.branches_fall) in
             step.kept q ∙ ap versions_by (sym others)
-        ];
+      ];
       in_order = step.in_order;
     }
 

@@ -15,7 +15,6 @@ mod contents;
 mod namesakes;
 
 use branches::{Branch, Later};
-
 use cc_names::by_row::{item_of, place_of};
 use cc_names::changes::TreeChange;
 pub use cc_names::changes::{Entry, Place};

@@ -23,7 +23,7 @@ invariant_of-self c =
     let at : (d : Branch) → get_or items place d ≡ on = λ d. get_or_default items place d on within ∙ there in
     let same_row : on.row ≡ c.args.branch = rw (at on) at (row_there items c.args.branch place c.self.invariant.branches_fall within found on) in
     room_made (reverse c.self.inside.made.items) items place b c.args.branch _ _ c.self.invariant within found same_row
-      (λ d. ap (λ (x : Branch). x.moment) (sym (at d))) (λ d. rw (at d) c.reserve.ensures.items)
+    (λ d. ap (λ (x : Branch). x.moment) (sym (at d))) (λ d. rw (at d) c.reserve.ensures.items)
 
 pub invariant_of-self-in_err-reserve : goal.invariant_of-self-in_err-reserve
 invariant_of-self-in_err-reserve c =
@@ -37,7 +37,7 @@ invariant_of-self-in_err-reserve c =
     let at : (d : Branch) → get_or items place d ≡ on = λ d. get_or_default items place d on within ∙ there in
     let same_row : on.row ≡ c.args.branch = rw (at on) at (row_there items c.args.branch place c.self.invariant.branches_fall within found on) in
     room_made (reverse c.self.inside.made.items) items place b c.args.branch _ _ c.self.invariant within found same_row
-      (λ d. ap (λ (x : Branch). x.moment) (sym (at d))) (λ d. rw (at d) c.reserve.ensures.items)
+    (λ d. ap (λ (x : Branch). x.moment) (sym (at d))) (λ d. rw (at d) c.reserve.ensures.items)
 
 -- it has room
 pub returns-in_ok-reserve-clause-ready : goal.returns-in_ok-reserve-clause-ready

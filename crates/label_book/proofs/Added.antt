@@ -1,0 +1,99 @@
+-- What one change more of a label on an element adds to all changes.
+use Rattle.std.proofs.Common.{◌≡◌, ◌≢◌, ℕ, zero, suc, ◌+◌, ◌<◌, Bool, true, false, ◌&&◌, eqb, List, [], ◌∷◌, ◌++◌, length, get_or, set, map, reverse, Option, Some, None, refl, inl, inr, sym, ap, ◌∙◌, arith}
+use Rattle.std.specs.Str.{bytes_eq}
+use Rattle.std.proofs.lemmas.List.{reverse-append, length-set, get_or-set_same, get_or-set_other, get_or_default}
+use Rattle.cc_names.specs.Falling.{IsAbove, Falls}
+use Rattle.cc_names.specs.Labels.{row_of_label_change, labels_of_first_rows, holder}
+use Rattle.cc_names.specs.declared.changes.LabelChange.{LabelChange}
+use Rattle.label_book.specs.Marks.{is_about, of_pair, rows_of_pair}
+use Rattle.label_book.specs.Holding.{row_of_move, change_by, change_of_move, changes_held, all_changes, is_pair, IsPlaceOf, HasNoPlace}
+use Rattle.label_book.specs.BookFields.{InStep}
+use Rattle.label_book.specs.declared.held.Move.{Move}
+use Rattle.label_book.specs.declared.held.Held.{Held}
+use Rattle.label_book.proofs.Chain.{bool_cases, pair_is}
+use Rattle.label_book.proofs.InBook.{SameHead, others_fail}
+use Rattle.label_book.proofs.Newest.{is_itself, row_by}
+use Rattle.label_book.proofs.Pairs.{holder_of_pair, about_by, of_pair_none, of_pair_at, of_pair_set_other}
+
+-- the rows of moves, as changes or not
+rows_by : (l : List ℕ) (e : ℕ) (moves : List Move) → map row_of_label_change (map (change_of_move l e) moves) ≡ map row_of_move moves
+rows_by l e [] = refl
+rows_by l e (move ∷ older) = rw (row_by l e move.row move.version) (ap (λ rows. move.row ∷ rows) (rows_by l e older))
+
+-- the same head is the same pair
+pub same_pair : (k : List ℕ) (n : ℕ) (one two : Held) → SameHead one two → is_pair k n one ≡ is_pair k n two
+same_pair k n one two same = ap (λ x. bytes_eq k x && eqb n one.element) same.label ∙ ap (λ x. bytes_eq k two.label && eqb n x) same.element
+
+-- the changes with one more at the head
+changes_more : (old held : Held) (move : Move) → SameHead held old → held.moves.items ≡ old.moves.items ++ move ∷ []
+    → changes_held held ≡ change_of_move old.label old.element move ∷ changes_held old
+changes_more old held move same more =
+    ap (λ l. map (change_of_move l held.element) (reverse held.moves.items)) same.label
+    ∙ ap (λ e. map (change_of_move old.label e) (reverse held.moves.items)) same.element
+    ∙ ap (λ ms. map (change_of_move old.label old.element) ms) (ap reverse more ∙ reverse-append old.moves.items (move ∷ []))
+
+module _ (all : List Held) (heads : ℕ → Option ℕ) (step : InStep all heads) (l : List ℕ) (e p : ℕ) (place : IsPlaceOf l e all p) where
+  -- the changes of the pair are those at its place
+  pub pair_at : (d : Held) → of_pair l e (all_changes all) ≡ changes_held (get_or all p d)
+  pair_at d = of_pair_at l e all p d place.within (place.is d) (others_fail all heads step l e p place)
+
+  -- its holder is told by those
+  pub holder_at : (rows : ℕ) (d : Held) → holder (labels_of_first_rows rows (all_changes all)) l e ≡ holder (labels_of_first_rows rows (changes_held (get_or all p d))) (get_or all p d).label (get_or all p d).element
+  holder_at rows d =
+      let (labels, elements) = pair_is l e (get_or all p d) (place.is d) in
+      holder_of_pair (all_changes all) rows l e
+      ∙ ap (λ cs. holder (labels_of_first_rows rows cs) l e) (pair_at d)
+      ∙ ap (λ k. holder (labels_of_first_rows rows (changes_held (get_or all p d))) k e) labels
+      ∙ ap (λ n. holder (labels_of_first_rows rows (changes_held (get_or all p d))) (get_or all p d).label n) elements
+
+  -- a row above those of the pair is above those at its place
+  pub above_at : (row : ℕ) (d : Held) → IsAbove row (rows_of_pair l e (all_changes all)) → IsAbove row (map row_of_move (reverse (get_or all p d).moves.items))
+  above_at row d above = rw (ap (map row_of_label_change) (pair_at d) ∙ rows_by (get_or all p d).label (get_or all p d).element (reverse (get_or all p d).moves.items)) at above
+
+  -- with the change the moves at the place are in order
+  pub falls_more : (move : Move) (held : Held) (d : Held) → held.moves.items ≡ (get_or all p d).moves.items ++ move ∷ [] → IsAbove move.row (rows_of_pair l e (all_changes all))
+      → Falls (map row_of_move (reverse held.moves.items))
+  falls_more move held d more above =
+      rw (more, reverse-append (get_or all p d).moves.items (move ∷ [])) (above_at move.row d above, step.fall p d place.within)
+
+  -- the change is added for the pair, and for no other
+  pub added : (move : Move) (held : Held) → ((d : Held) → SameHead held (get_or all p d)) → ((d : Held) → held.moves.items ≡ (get_or all p d).moves.items ++ move ∷ [])
+      → (k : List ℕ) (n : ℕ) → of_pair k n (all_changes (set all p held)) ≡ of_pair k n (change_by l e move.row move.version ∷ all_changes all)
+  added move held same more k n =
+      let old = get_or all p held in
+      let (labels, elements) = pair_is l e old (place.is held) in
+      let about : is_about k n (change_by l e move.row move.version) ≡ is_pair k n old =
+      about_by k n l e move.row move.version ∙ ap (λ x. bytes_eq k x && eqb n e) labels ∙ ap (λ x. bytes_eq k old.label && eqb n x) elements in
+      let at : (d : Held) → get_or all p d ≡ old = λ d. get_or_default all p d held place.within in
+      elim (bool_cases (is_pair k n old)) [
+        | inl is ↦
+            let here : IsPlaceOf k n all p = record { within = place.within; is = λ d. rw (at d) is } in
+            let there : get_or (set all p held) p held ≡ held = get_or-set_same all p held held place.within in
+            let is_held : is_pair k n held ≡ true = same_pair k n held old (same held) ∙ is in
+            let before : of_pair k n (all_changes all) ≡ changes_held old = of_pair_at k n all p held place.within is (others_fail all heads step k n p here) in
+            let after : of_pair k n (all_changes (set all p held)) ≡ changes_held (get_or (set all p held) p held) =
+            of_pair_at k n (set all p held) p held (omega (arith, length-set {A = Held}, place.within)) (rw there is_held)
+            (λ i f in_range apart. rw (get_or-set_other all p i held f apart) (others_fail all heads step k n p here i f (omega (arith, length-set {A = Held})) apart)) in
+            let change : change_of_move old.label old.element move ≡ change_by l e move.row move.version =
+            ap (λ x. change_by x old.element move.row move.version) (sym labels) ∙ ap (λ x. change_by l x move.row move.version) (sym elements) in
+            rw (about, is, before) (after ∙ ap changes_held there ∙ changes_more old held move (same held) (more held) ∙ ap (λ c. c ∷ changes_held old) change)
+        | inr is_not ↦
+            let not_held : is_pair k n held ≡ false = same_pair k n held old (same held) ∙ is_not in
+            rw (about, is_not) (of_pair_set_other k n all p held place.within (λ d. rw (at d) is_not) not_held)
+      ]
+
+-- a pair that stands nowhere has no holder
+pub holder_nowhere : (all : List Held) (l : List ℕ) (e rows : ℕ) → HasNoPlace l e all → holder (labels_of_first_rows rows (all_changes all)) l e ≡ None
+holder_nowhere all l e rows absent =
+    holder_of_pair (all_changes all) rows l e ∙ ap (λ cs. holder (labels_of_first_rows rows cs) l e) (of_pair_none l e all absent.none)
+
+-- the same moves are the same changes
+pub same_changes : (all : List Held) (p : ℕ) (held : Held) → p < length all → ((d : Held) → SameHead held (get_or all p d)) → ((d : Held) → held.moves.items ≡ (get_or all p d).moves.items)
+    → all_changes (set all p held) ≡ all_changes all
+same_changes [] p held within same moves = absurd (omega arith)
+same_changes (h ∷ more) zero held within same moves =
+    ap (λ cs. cs ++ all_changes more)
+    (ap (λ l. map (change_of_move l held.element) (reverse held.moves.items)) (same h).label
+    ∙ ap (λ e. map (change_of_move h.label e) (reverse held.moves.items)) (same h).element
+    ∙ ap (λ ms. map (change_of_move h.label h.element) (reverse ms)) (moves h))
+same_changes (h ∷ more) (suc p) held within same moves = ap (λ cs. changes_held h ++ cs) (same_changes more p held (omega arith) same moves)

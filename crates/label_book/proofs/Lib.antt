@@ -1,0 +1,6 @@
+mod Added
+mod Chain
+mod InBook
+mod Newest
+mod Pairs
+mod Ready
