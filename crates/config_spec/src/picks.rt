@@ -2,8 +2,8 @@
 
 ghost use Rattle.std.specs.Prelude.{◌≡◌};
 ghost use Rattle.cc_names.specs.Paths.{names_of};
-ghost use Rattle.spec_text.specs.Rules.{branch_of_type, latest_on, found_by, pick};
-ghost use Rattle.config_spec.specs.Sights.{sources_of, sources_in};
+ghost use Rattle.spec_text.specs.Rules.{branch_of_type, latest_on, found_by, is_checkout, ends_scan, pick};
+ghost use Rattle.config_spec.specs.Sights.{sources_of, sources_in, verdict};
 
 use crate::branches::branch_behind;
 use crate::rolls::Rolls;
@@ -50,13 +50,49 @@ fn found_by(sight: Sight, element: u64, rule: &Rule) -> Option<u64>
             let branch = branch_behind(sight.tree, element, names.as_slice(), sight.rows);
             latest_on(sight, branch, rule.before)
         }
-        Selector::Wherever(name) => latest_on(sight, branch_of_type(sight, element, name), rule.before),
+        Selector::Wherever(name) => latest_on(
+            sight,
+            branch_of_type(sight, element, name),
+            rule.before,
+        ),
         Selector::Numbered(names, number) => {
             let branch = branch_behind(sight.tree, element, names.as_slice(), sight.rows)?;
             sight.tree.numbered(branch, *number, sight.rows)
         }
-        Selector::Config(target, object) => sight.rolls.version(*object, target, element, sight.rows),
+        Selector::Config(target, object) => sight
+            .rolls
+            .version(*object, target, element, sight.rows),
         Selector::Nothing => None,
+    }
+}
+
+fn is_checkout(selector: &Selector) -> bool
+    ensures { result ≡ is_checkout selector.now }
+{
+    matches!(selector, Selector::CheckedOut)
+}
+
+fn ends_scan(selector: &Selector) -> bool
+    ensures { result ≡ ends_scan selector.now }
+{
+    matches!(selector, Selector::Nothing)
+}
+
+/// What a rule picks at a path, a version or none by `-none`, where it decides there.
+fn verdict(sight: Sight, element: u64, path: &Path, rule: &Rule) -> Option<Option<Picked>>
+    ensures { result ≡ verdict (sources_of sight.entry) element (names_of path.now) rule.now }
+{
+    if !rule.pattern.matches(path) {
+        return None;
+    }
+    match found_by(sight, element, rule) {
+        Some(row) => Some(Some(Picked {
+            row,
+            line: rule.line,
+            out: is_checkout(&rule.selector),
+        })),
+        None if ends_scan(&rule.selector) => Some(None),
+        None => None,
     }
 }
 
@@ -83,19 +119,8 @@ pub fn pick(
         out,
     };
     for rule in spec.rules() {
-        if !rule.pattern.matches(path) {
-            continue;
-        }
-        if matches!(rule.selector, Selector::Nothing) {
-            return None;
-        }
-        if let Some(row) = found_by(sight, element, rule) {
-            let out = matches!(rule.selector, Selector::CheckedOut);
-            return Some(Picked {
-                row,
-                line: rule.line,
-                out,
-            });
+        if let Some(picked) = verdict(sight, element, path, rule) {
+            return picked;
         }
     }
     None
