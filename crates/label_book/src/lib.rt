@@ -8,6 +8,8 @@ ghost use Rattle.cc_names.specs.declared.changes.LabelChange.TheVariants as chan
 ghost use Rattle.label_book.specs.Marks.{rows_of_pair, is_ready, AddsChange, KeepsAll};
 
 mod held;
+#[cfg(test)]
+mod tests;
 
 use cc_names::keys::key_of;
 use cc_names::memory::NoMemory;

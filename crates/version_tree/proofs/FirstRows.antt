@@ -9,6 +9,11 @@ use Rattle.version_tree.specs.Branches.{row_of_later, versions_from}
 use Rattle.version_tree.specs.declared.branches.Later.{Later}
 use Rattle.version_tree.proofs.Links.{bool_cases}
 
+-- a greater row is above as well
+pub above_le : (row higher : ℕ) (rows : List ℕ) → row ≤ higher → IsAbove row rows → IsAbove higher rows
+above_le row higher [] le above = tt
+above_le row higher (r ∷ rows) le above = (omega (arith, above.0), above_le row higher rows le above.1)
+
 -- all items of a list are among the first rows, where a row above them is
 pub filter_all : {X : Type 0} (n : X → ℕ) (row rows : ℕ) (xs : List X) → IsAbove row (map n xs) → row ≤ rows → filter (λ x. ltb (n x) rows) xs ≡ xs
 filter_all n row rows [] above le = refl
@@ -51,16 +56,12 @@ versions_of_first_rows rows (c ∷ older) b falls = elim (bool_cases (ltb (row_o
       let all_older : of_first_rows rows older ≡ older = filter_all row_of_change (row_of_change c) rows older falls.0 (omega arith) in
       let above_all : IsAbove (row_of_change c + 1) (map row_of_version (versions_on (c ∷ older) b)) =
       above_put (row_of_change c + 1) (eqb (branch_of_change c) b) (version_made c (length (versions_on older b))) (versions_on older b) (omega arith)
-      (above_more (row_of_change c) (versions_on older b) (versions_above (row_of_change c) older b falls.0)) in
+      (above_le (row_of_change c) (row_of_change c + 1) (map row_of_version (versions_on older b)) (omega arith) (versions_above (row_of_change c) older b falls.0)) in
       filter_all row_of_version (row_of_change c + 1) rows (versions_on (c ∷ older) b) above_all below ∙ rw (early, all_older) refl
   | inr late ↦
       filter_put (λ v. ltb v.row rows) (eqb (branch_of_change c) b) (version_made c (length (versions_on older b))) (versions_on older b) late
       ∙ versions_of_first_rows rows older b falls.1 ∙ rw late refl
 ]
-  where
-    above_more : (row : ℕ) (vs : List Version) → IsAbove row (map row_of_version vs) → IsAbove (row + 1) (map row_of_version vs)
-    above_more row [] above = tt
-    above_more row (v ∷ vs) above = (omega (arith, above.0), above_more row vs above.1)
 
 -- the versions behind version 0 fall where all versions do
 later_above : (row b moment : ℕ) (ls : List Later) → IsAbove row (map row_of_version (versions_from b moment ls)) → IsAbove row (map row_of_later ls)

@@ -1,4 +1,5 @@
 pub mod Branches
 pub mod Forest
+pub mod Laws
 pub mod Namesakes
 pub mod TreeFields

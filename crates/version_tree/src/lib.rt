@@ -12,7 +12,10 @@ ghost use Rattle.version_tree.specs.Forest.{AddsChange, SetsContents, KeepsAll, 
 
 mod branches;
 mod contents;
+pub mod laws;
 mod namesakes;
+#[cfg(test)]
+mod tests;
 
 use branches::{Branch, Later};
 use cc_names::by_row::{item_of, place_of};
