@@ -11,8 +11,8 @@ use Rattle.jiff_core.proofs.CalendarLemmas.{day_count-epoch, days_from_civil-day
 count_from_1970 : (y : ℤ) (m d : ℕ) → pos 1970 ≤ℤ y → 1 ≤ d → 4371953 ≤ day_count y m d
 count_from_1970 y m d h k =
     by_lt_z (pos 1970) y
-      (λ lt. omega (arith, signed_arith, day_count-later_year (pos 1970) y (omega (arith, signed_arith)) lt, day_count-epoch, day_count-day_of_year y m d k))
-      (λ le. let same : y ≡ pos 1970 = omega (arith, signed_arith) in rw same (omega (arith, day_count-epoch, day_count-day_of_year (pos 1970) m d k)))
+    (λ lt. omega (arith, signed_arith, day_count-later_year (pos 1970) y (omega (arith, signed_arith)) lt, day_count-epoch, day_count-day_of_year y m d k))
+    (λ le. let same : y ≡ pos 1970 = omega (arith, signed_arith) in rw same (omega (arith, day_count-epoch, day_count-day_of_year (pos 1970) m d k)))
 
 natural : (z : ℤ) → down z ≤ up z → pos (unsigned_abs z) ≡ z
 natural (pos n) h = refl

@@ -37,11 +37,11 @@ within_is begin lengths n k zero from days follows e h low high =
 within_is begin lengths n k (suc fuel) from days follows e h low high =
     elim (cases_order from n) [
       | inl same ↦ (let left : days ≡ k = omega (arith, ap begin same) in
-        rw (same, left) (at_once lengths (suc fuel) n k h))
+          rw (same, left) (at_once lengths (suc fuel) n k h))
       | inr (inl lt) ↦ (let next = follows from (omega arith) in
-        let order = later_one begin lengths (from + 1) n (λ j le. follows j (omega arith)) (omega arith) in
-        let past = le-ltb days (lengths from) (omega arith) in
-        rw past (within_is begin lengths n k fuel (from + 1) (days - lengths from) (λ j le. follows j (omega arith)) (omega arith) h (omega arith) (omega arith)))
+          let order = later_one begin lengths (from + 1) n (λ j le. follows j (omega arith)) (omega arith) in
+          let past = le-ltb days (lengths from) (omega arith) in
+          rw past (within_is begin lengths n k fuel (from + 1) (days - lengths from) (λ j le. follows j (omega arith)) (omega arith) h (omega arith) (omega arith)))
       | inr (inr gt) ↦ absurd (omega arith)
     ]
 
@@ -76,8 +76,8 @@ month_is y m d civil =
 pub from_1970 : (d : Date) (n : ℕ) → epoch_day d ≡ pos n → pos 1970 ≤ℤ d.year
 from_1970 d n e =
     by_lt_z d.year (pos 1970)
-      (λ lt. absurd (omega (arith, signed_arith, days_from_civil-day_count d.year d.month d.day, day_count-lt_year d.year d.month d.day (pos 1970) 1 1 (civil d) (omega arith) lt, day_count-epoch)))
-      (λ le. le)
+    (λ lt. absurd (omega (arith, signed_arith, days_from_civil-day_count d.year d.month d.day, day_count-lt_year d.year d.month d.day (pos 1970) 1 1 (civil d) (omega arith) lt, day_count-epoch)))
+    (λ le. le)
 
 -- 1 January 1970 has the day number 0
 pub first_day : (d : Date) → d.year ≡ pos 1970 → pos d.month ≡ pos 1 → pos d.day ≡ pos 1 → epoch_day d ≡ pos 0

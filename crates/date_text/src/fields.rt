@@ -76,7 +76,10 @@ fn sign_field(text: &[u8], place: usize, sign: u8) -> Field
     ensures { result ≡ sign_field text.now place sign }
 {
     let right = piece(text, place, 1) == [sign].as_slice();
-    Field { place: place as u64, right }
+    Field {
+        place: place as u64,
+        right,
+    }
 }
 
 fn number_field(text: &[u8], place: usize, count: usize, low: u64, high: u64) -> Field
@@ -84,20 +87,29 @@ fn number_field(text: &[u8], place: usize, count: usize, low: u64, high: u64) ->
     ensures { result ≡ number_field text.now place count low high }
 {
     let right = is_number(piece(text, place, count), count, low, high);
-    Field { place: place as u64, right }
+    Field {
+        place: place as u64,
+        right,
+    }
 }
 
 fn month_field(text: &[u8], place: usize) -> Field
     ensures { result ≡ month_field text.now place }
 {
     let right = month_place(piece(text, place, 3)).is_some();
-    Field { place: place as u64, right }
+    Field {
+        place: place as u64,
+        right,
+    }
 }
 
 fn end_field(text: &[u8], place: usize) -> Field
     ensures { result ≡ end_field text.now place }
 {
-    Field { place: place as u64, right: text.len() <= place }
+    Field {
+        place: place as u64,
+        right: text.len() <= place,
+    }
 }
 
 /// How many digits the day takes: those at the front, at most two.
@@ -105,7 +117,10 @@ pub(crate) fn day_length(text: &[u8]) -> usize
     ensures value { result ≡ day_length text.now }
     ensures bound { result ≤ 2 }
 {
-    piece(text, 0, 2).iter().take_while(|byte| byte.is_ascii_digit()).count()
+    piece(text, 0, 2)
+        .iter()
+        .take_while(|byte| byte.is_ascii_digit())
+        .count()
 }
 
 /// The fields of a text whose day has so many digits, in order.
@@ -134,5 +149,8 @@ pub(crate) fn fields(text: &[u8], day: usize) -> [Field; 12]
 pub(crate) fn first_wrong(fields: &[Field]) -> Option<u64>
     ensures { result ≡ first_wrong fields.now }
 {
-    fields.iter().find(|field| !field.right).map(|field| field.place)
+    fields
+        .iter()
+        .find(|field| !field.right)
+        .map(|field| field.place)
 }

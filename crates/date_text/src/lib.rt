@@ -17,6 +17,5 @@ mod reading;
 pub use printing::{DateText, print};
 pub use reading::{BadDate, read};
 
-
 #[cfg(test)]
 mod tests;

@@ -64,10 +64,26 @@ fn text(civil: Civil) -> DateText
     let month = month_name(civil.month);
     let (century, year) = (civil.year / 100, civil.year % 100);
     let bytes = [
-        tens(civil.day), ones(civil.day), b'-', month[0], month[1], month[2], b'-',
-        tens(century), ones(century), tens(year), ones(year), b'.',
-        tens(civil.hour), ones(civil.hour), b':', tens(civil.minute), ones(civil.minute), b':',
-        tens(civil.second), ones(civil.second),
+        tens(civil.day),
+        ones(civil.day),
+        b'-',
+        month[0],
+        month[1],
+        month[2],
+        b'-',
+        tens(century),
+        ones(century),
+        tens(year),
+        ones(year),
+        b'.',
+        tens(civil.hour),
+        ones(civil.hour),
+        b':',
+        tens(civil.minute),
+        ones(civil.minute),
+        b':',
+        tens(civil.second),
+        ones(civil.second),
     ];
     let start = if civil.day < 10 { 1 } else { 0 };
     DateText { bytes, start }
@@ -78,7 +94,7 @@ fn text(civil: Civil) -> DateText
 pub fn print(moment: u64) -> DateText
     requires { moment ≤ 253402300799 }
     ensures text { result ≡ text_of moment }
-    //ensures read_back { date_of result ≡ Ok moment }
+//ensures read_back { date_of result ≡ Ok moment }
 {
     text(Civil::of(moment))
 }

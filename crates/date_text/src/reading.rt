@@ -6,8 +6,8 @@ ghost use Rattle.jiff_core.specs.Date.{epoch_day};
 ghost use Rattle.date_text.specs.Civil.{moment_of, IsInForm};
 ghost use Rattle.date_text.specs.Dates.{date_of, parts_from, month_place, moment_of_day, fields_from, first_wrong};
 
-use crate::fields::{day_length, fields, first_wrong, month_place, piece, value};
 use crate::civil::Civil;
+use crate::fields::{day_length, fields, first_wrong, month_place, piece, value};
 use jiff::civil::Date;
 
 /// Bytes are no date: the place, counted from 0, where the first wrong field begins.

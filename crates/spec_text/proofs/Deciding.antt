@@ -47,9 +47,10 @@ none_of f None false h e = cc
 by_rule : (sources : Sources) (element : ℕ) (names : List (List ℕ)) (found : Option Rule) → ((rule : Rule) → found ≡ Some rule → decides sources element names rule ≡ true) → (option_and_then (picked_by sources element) found ≡ None) ↔ IfSome found (λ rule. ends_scan rule.selector ≡ true)
 by_rule sources element names None holds = (λ h. tt, λ h. refl)
 by_rule sources element names (Some rule) holds =
-    let tests = and_parts (matches rule.pattern names) (ends_scan rule.selector || is_some (found_by sources element rule)) (holds rule refl) in
-    (λ h. none_of _ (found_by sources element rule) (ends_scan rule.selector) tests.1 h,
-      λ e. let none = ends_none sources element rule.before rule.selector e in rw none refl)
+    let tests = and_parts (matches rule.pattern names) (ends_scan rule.selector || is_some (found_by sources element rule)) (holds rule refl) in (
+      λ h. none_of _ (found_by sources element rule) (ends_scan rule.selector) tests.1 h,
+      λ e. let none = ends_none sources element rule.before rule.selector e in rw none refl,
+    )
 
 pub picks_nothing : PicksNothing
 picks_nothing sources element names rules =

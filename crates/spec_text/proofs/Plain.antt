@@ -76,9 +76,10 @@ end_from test [] (x ∷ xs) h = or_left (test (x ∷ xs)) (list_any test (tails 
 end_from test (y ∷ above) end h = or_right (test (y ∷ (above ++ end))) (list_any test (tails (above ++ end))) (end_from test above end h)
 
 pub own_path : MatchesOwnPath
-own_path names path plain =
-    (λ h. elim (or_cases (matches_names (map OneName names) path) false h) [ inl here ↦ names_to names path plain here | inr there ↦ cc ],
-      λ e. rw e (or_left (matches_names (map OneName names) names) false (names_from names plain)))
+own_path names path plain = (
+  λ h. elim (or_cases (matches_names (map OneName names) path) false h) [ inl here ↦ names_to names path plain here | inr there ↦ cc ],
+  λ e. rw e (or_left (matches_names (map OneName names) names) false (names_from names plain)),
+)
 
 not_lone_star : (names : List (List ℕ)) → list_all is_plain names ≡ true → is_lone_star (map OneName names) ≡ false
 not_lone_star [] plain = refl
@@ -93,12 +94,13 @@ not_lone_star ((b ∷ []) ∷ name ∷ names) plain = refl
 not_lone_star ((b ∷ c ∷ bs) ∷ name ∷ names) plain = refl
 
 pub ends_of_paths : MatchesEndsOfPaths
-ends_of_paths names path plain =
-    (λ h. elim (or_cases (list_any (matches_names (map OneName names)) (tails path)) (is_lone_star (map OneName names) && has_none path) h) [
-        | inl here ↦ (let found = end_to (matches_names (map OneName names)) path here in
-            let same = names_to names found.1 plain found.3 in
-            (found.0, found.2 ∙ ap (λ end. found.0 ++ end) same))
-        | inr there ↦ (let lone = not_lone_star names plain in let bad = rw lone at there in cc)
-      ],
-      λ e. rw e.1 (or_left (list_any (matches_names (map OneName names)) (tails (e.0 ++ names))) (is_lone_star (map OneName names) && has_none (e.0 ++ names))
-        (end_from (matches_names (map OneName names)) e.0 names (names_from names plain))))
+ends_of_paths names path plain = (
+  λ h. elim (or_cases (list_any (matches_names (map OneName names)) (tails path)) (is_lone_star (map OneName names) && has_none path) h) [
+    | inl here ↦ (let found = end_to (matches_names (map OneName names)) path here in
+        let same = names_to names found.1 plain found.3 in
+        (found.0, found.2 ∙ ap (λ end. found.0 ++ end) same))
+    | inr there ↦ (let lone = not_lone_star names plain in let bad = rw lone at there in cc)
+  ],
+  λ e. rw e.1 (or_left (list_any (matches_names (map OneName names)) (tails (e.0 ++ names))) (is_lone_star (map OneName names) && has_none (e.0 ++ names))
+      (end_from (matches_names (map OneName names)) e.0 names (names_from names plain))),
+)

@@ -3,8 +3,8 @@
 
 pub mod laws;
 mod lines;
-mod options;
 mod matching;
+mod options;
 mod parts;
 mod patterns;
 mod selectors;

@@ -112,8 +112,11 @@ pub(crate) fn matches_where(anchored: bool, segments: &[Segment], names: Option<
 {
     let mut cards = segments;
     let mut left = names;
-    let mut again: Option<(&[Segment], Option<&[u8]>)> =
-        if anchored { None } else { Some((segments, names)) };
+    let mut again: Option<(&[Segment], Option<&[u8]>)> = if anchored {
+        None
+    } else {
+        Some((segments, names))
+    };
     'search: loop {
         match next_step(cards, left) {
             Step::AnyNames(behind) => {

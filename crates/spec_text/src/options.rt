@@ -44,7 +44,10 @@ fn with_time<'a>(options: Options<'a>, word: &'a [u8]) -> Option<Options<'a>>
 {
     match options.time {
         Some(_) => None,
-        None => Some(Options { time: Some(word), ..options }),
+        None => Some(Options {
+            time: Some(word),
+            ..options
+        }),
     }
 }
 
@@ -54,7 +57,10 @@ fn with_nocheckout<'a>(options: Options<'a>) -> Option<Options<'a>>
     if options.nocheckout {
         return None;
     }
-    Some(Options { nocheckout: true, ..options })
+    Some(Options {
+        nocheckout: true,
+        ..options
+    })
 }
 
 fn with_mkbranch<'a>(options: Options<'a>, word: &'a [u8]) -> Option<Options<'a>>
@@ -62,7 +68,10 @@ fn with_mkbranch<'a>(options: Options<'a>, word: &'a [u8]) -> Option<Options<'a>
 {
     match options.mkbranch {
         Some(_) => None,
-        None => Some(Options { mkbranch: Some(word), ..options }),
+        None => Some(Options {
+            mkbranch: Some(word),
+            ..options
+        }),
     }
 }
 

@@ -96,11 +96,7 @@ fn segment(alloc: Global, bytes: &[u8]) -> Result<Segment, NoMemory>
     Ok(Segment::OneName(Text::from_bytes(alloc, bytes)?))
 }
 
-fn read_segments(
-    alloc: Global,
-    anchored: bool,
-    bytes: &[u8],
-) -> Result<Pattern, Or<SpecCause>>
+fn read_segments(alloc: Global, anchored: bool, bytes: &[u8]) -> Result<Pattern, Or<SpecCause>>
     ensures { Gives result (pattern_of_segments anchored (slice_split is_slash bytes.now)) }
 {
     let mut segments = Vec::new(alloc);

@@ -4,7 +4,7 @@
 ghost use Rattle.std.specs.Prelude.{◌≡◌, ℕ, ◌==◌, ◌<◌, ◌≤◌, ◌+◌, ◌∷◌, [], ◌++◌, IsTrue, IsSome, IfOk, IfSome, OnOk, map, reverse, filter, nat_eq, nat_lt, option_copied, vec_len, vec_capacity, if◌then◌else◌};
 ghost use Rattle.std.specs.HashMap.{get, spare};
 ghost use Rattle.cc_names.specs.Versions.{row_of_change, branch_of_change, of_first_rows, change_at, element_of_branch, versions_on, latest, numbered, place, kind_of};
-ghost use Rattle.cc_names.specs.Branches.{branch_named, origin_of, name_of_branch};
+ghost use Rattle.cc_names.specs.Branches.{branch_named, branch_of_version, origin_of, name_of_branch};
 ghost use Rattle.cc_names.specs.declared.changes.TreeChange.TheVariants as changes;
 ghost use Rattle.version_tree.specs.declared.contents.Contents.TheVariants as contents;
 ghost use Rattle.cc_names.specs.Falling.{IsAbove, Falls};
@@ -320,6 +320,13 @@ impl Tree {
             branch,
             number,
         })
+    }
+
+    /// The branch on which the version that a row made stands.
+    pub fn branch(&self, version: u64) -> Option<u64>
+        ensures { result ≡ branch_of_version self.now.changes version }
+    {
+        Some(branch_of(self.change_at(version)?))
     }
 
     /// The catalog of a directory's version, in byte order of names.

@@ -6,10 +6,10 @@ use Rattle.date_text.proofs.reading.read.Goals as goal
 pub returns-in-Some : goal.returns-in-Some
 returns-in-Some c =
     date_of_steps c.args.bytes.now c.day_length-day.result c.fields.result (Some c.in-Some.place)
-      c.day_length-day.ensures.value c.fields.ensures (sym c.in-Some.is ∙ c.first_wrong.ensures)
+    c.day_length-day.ensures.value c.fields.ensures (sym c.in-Some.is ∙ c.first_wrong.ensures)
 
 pub returns-in-None : goal.returns-in-None
 returns-in-None c =
     c.moment.ensures ∙ ap moment_of_day c.parts.ensures.value
     ∙ date_of_steps c.args.bytes.now c.day_length-day.result c.fields.result None
-      c.day_length-day.ensures.value c.fields.ensures (sym c.in-None.is ∙ c.first_wrong.ensures)
+    c.day_length-day.ensures.value c.fields.ensures (sym c.in-None.is ∙ c.first_wrong.ensures)

@@ -11,7 +11,7 @@ returns-in_ok-with_nocheckout-in-NoCheckout c =
     let more = c.in_ok-with_nocheckout-in-NoCheckout.ensures in
     record {
       same = nocheckout_goes c.args.word.now (words_left (option_copied c.args.rest)) (plain_options c.args.options)
-        (plain_options c.in_ok-with_nocheckout-in-NoCheckout.field-0) (sym named) (sym more);
+          (plain_options c.in_ok-with_nocheckout-in-NoCheckout.field-0) (sym named) (sym more);
       less = omega arith;
     }
 
@@ -22,8 +22,8 @@ returns-in_ok-with_time-in-Time c =
     let more = c.in_ok-with_time-in-Time.ensures in
     record {
       same = time_goes c.args.word.now (words_left (option_copied c.args.rest)) c.in_ok-value-in-Time.value.now
-        (words_left (option_copied c.in_ok-value-in-Time.rest)) (plain_options c.args.options)
-        (plain_options c.in_ok-with_time-in-Time.field-0) (sym named) front (sym more);
+          (words_left (option_copied c.in_ok-value-in-Time.rest)) (plain_options c.args.options)
+          (plain_options c.in_ok-with_time-in-Time.field-0) (sym named) front (sym more);
       less = omega (arith, ap length front);
     }
 
@@ -34,8 +34,7 @@ returns-in_ok-with_mkbranch-in-MkBranch c =
     let more = c.in_ok-with_mkbranch-in-MkBranch.ensures in
     record {
       same = mkbranch_goes c.args.word.now (words_left (option_copied c.args.rest)) c.in_ok-value-in-MkBranch.value.now
-        (words_left (option_copied c.in_ok-value-in-MkBranch.rest)) (plain_options c.args.options)
-        (plain_options c.in_ok-with_mkbranch-in-MkBranch.field-0) (sym named) front (sym more);
+          (words_left (option_copied c.in_ok-value-in-MkBranch.rest)) (plain_options c.args.options)
+          (plain_options c.in_ok-with_mkbranch-in-MkBranch.field-0) (sym named) front (sym more);
       less = omega (arith, ap length front);
     }
-

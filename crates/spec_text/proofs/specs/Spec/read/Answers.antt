@@ -7,10 +7,11 @@ pub returns-in-Err : goal.returns-in-Err
 returns-in-Err c =
     let front = c.in-Some.ensures in
     rw (c.at_line.ensures, c.lines.invariant.0, front.line)
-      (ends_at_fault c.in-Err.fault c.in-Some.bytes.now (lines_of c.in-Some.rest.now) (c.lines.number + 1) c.lines.reader c.in-Err.ensures)
+    (ends_at_fault c.in-Err.fault c.in-Some.bytes.now (lines_of c.in-Some.rest.now) (c.lines.number + 1) c.lines.reader c.in-Err.ensures)
 
 pub lines-preserved : goal.lines-preserved
 lines-preserved c =
-    let front = c.in-Some.ensures in
-    (c.lines.invariant.0 ∙ rw front.line (goes_on c.in-Some.bytes.now (lines_of c.in-Some.rest.now) (c.lines.number + 1) c.lines.reader c.in-Ok.reader c.in-Ok.ensures),
-      omega (arith, front.less))
+    let front = c.in-Some.ensures in (
+      c.lines.invariant.0 ∙ rw front.line (goes_on c.in-Some.bytes.now (lines_of c.in-Some.rest.now) (c.lines.number + 1) c.lines.reader c.in-Ok.reader c.in-Ok.ensures),
+      omega (arith, front.less),
+    )

@@ -1,0 +1,11 @@
+use Rattle.std.proofs.Common.{◌≡◌, drop}
+use Rattle.cc_names.specs.Paths.{names_of}
+use Rattle.spec_text.specs.Rules.{pick}
+use Rattle.config_spec.specs.Sights.{sources_in}
+use Rattle.config_spec.proofs.picks.pick.Given as goal
+
+-- what is picked is what the rules that are left pick
+abbrev pub invariant-loop-rule : goal.invariant-loop-rule
+invariant-loop-rule l =
+    let sources = sources_in l.rows l.tree l.labels l.rolls l.fn.out in
+    pick sources l.element (names_of l.path) l.spec ≡ pick sources l.element (names_of l.path) (drop l.rule-index l.rule-items)
