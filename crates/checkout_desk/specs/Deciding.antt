@@ -1,0 +1,64 @@
+-- What a call answers that decides a command.
+use Rattle.std.specs.Prelude.{◌≡◌, ℕ, ◌+◌, ◌-◌, Bool, true, false, Option, Some, None, Result, Ok, Err, List, []}
+use Rattle.std.specs.List.{AllByRecursion}
+use Rattle.cc_names.specs.Formed.{Plain}
+use Rattle.cc_names.specs.declared.commands.Lane.{Lane}
+use Rattle.cc_names.specs.declared.commands.Phase.{Phase}
+use Rattle.cc_names.specs.declared.commands.Command.{Command}
+use Rattle.cc_names.specs.declared.commands.Command.TheVariants as commands
+use Rattle.cc_names.specs.declared.memory.Or.{Or}
+use Rattle.cc_names.specs.declared.memory.Or.TheVariants.{NoMemory, Is}
+use Rattle.cc_names.specs.declared.refusals.Refusal.{Refusal}
+use Rattle.cc_names.specs.declared.rows.Deed.TheVariants as deeds
+use Rattle.cc_names.specs.declared.rows.Tag.{Tag}
+use Rattle.legal_history.specs.Base.{Base, size}
+use Rattle.legal_history.specs.Builds.{Active, building, reserved}
+use Rattle.legal_history.specs.Decisions.{Decision, Makes, Scene}
+use Rattle.legal_history.specs.FileLines.{save_deed}
+use Rattle.legal_history.specs.Fits.{row_limit}
+use Rattle.legal_history.specs.Seen.{at}
+
+-- unless memory ran out, the refusal is the one that was decided
+abbrev pub RefusalIs : Or Refusal → Result Decision Refusal → Type 0
+RefusalIs NoMemory decision = Unit {0}
+RefusalIs (Is refusal) decision = decision ≡ Err refusal
+
+-- the row that was decided, with this tag and moment; or the refusal that was decided
+abbrev pub Decides : Tag → ℕ → Result Plain (Or Refusal) → Result Decision Refusal → Type 0
+Decides tag moment (Ok row) decision = (decision ≡ Ok (Makes row.deed)) × (row.tag ≡ tag) × (row.moment ≡ moment)
+Decides tag moment (Err refusal) decision = RefusalIs refusal decision
+
+-- how many more rows a base may get beside those that active builds reserve
+abbrev pub room_of : Scene → ℕ
+room_of s = row_limit - (size s.base + reserved s.active)
+
+-- The scene in which a command is decided: its base, its moment, the active build of this view, and the room that the
+-- active builds leave.
+pub record Sees (s : Scene) (b : Base) (now : ℕ) (v : List ℕ) (build : Option Tag) (rows : ℕ) : Type 0 where
+  pub base : s.base ≡ b
+  pub moment : s.moment ≡ now
+  pub busy : building s.active v ≡ build
+  pub room : room_of s ≡ rows
+
+-- the commands that are carried out so far, those that build aside
+abbrev pub is_carried_out : Command → Bool
+is_carried_out (commands.Mkview view) = true
+is_carried_out (commands.Save view path text) = true
+is_carried_out command = false
+
+-- the view in which a command is refused while it builds
+abbrev pub view_of : Command → List ℕ
+view_of (commands.Save view path text) = view
+view_of command = []
+
+-- whether all commands of a lane are carried out
+abbrev pub IsLaneCarriedOut : Lane → Type 0
+IsLaneCarriedOut lane = AllByRecursion (λ command. is_carried_out command ≡ true) lane.commands
+
+-- all commands of a phase are carried out
+abbrev pub AreCarriedOut : Phase → Type 0
+AreCarriedOut phase = AllByRecursion IsLaneCarriedOut phase.lanes
+
+-- a save at the path is one of a private file
+abbrev pub SavesPrivate : Base → List ℕ → List ℕ → Type 0
+SavesPrivate b v path = (text : List ℕ) → save_deed v path text (at b v path) ≡ deeds.Put v path text

@@ -1,0 +1,18 @@
+// The decision on each command that makes a row.
+//
+// What it is for: `decide` answers a command's row, or its first refusal in the order of the tests of its line.
+//
+// What it promises: the answer is the model's decision on the command, and a row has the command's tag and moment.
+//
+// What it stands on: `view_lookup` for what a view sees, and the definitions of `legal_history`.
+#![tactic(auto)]
+
+mod decisions;
+mod room;
+mod saves;
+mod stamps;
+mod views;
+
+pub use decisions::decide;
+pub use room::ROW_LIMIT;
+pub use stamps::Stamp;

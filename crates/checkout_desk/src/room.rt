@@ -1,0 +1,23 @@
+// Room for one more row.
+
+ghost use Rattle.std.specs.Prelude.{◌≡◌, ◌<◌, IfNone};
+ghost use Rattle.legal_history.specs.Decisions.{Scene, needs_room};
+ghost use Rattle.checkout_desk.specs.Deciding.{room_of};
+
+use cc_names::refusals::Refusal;
+
+/// The most rows that a base may have, row 0 included.
+pub const ROW_LIMIT: u64 = 4_000_000;
+
+/// The refusal of one more row where there is no room. It names the rows of the base and the reserved ones, or the
+/// limit where these are more.
+pub fn needs_room(room: u64) -> Option<Refusal>
+    ensures refusal { (scene : Scene) → room_of scene ≡ room → result ≡ needs_room scene 1 }
+    ensures room { IfNone result (0 < room) }
+{
+    if room == 0 {
+        Some(Refusal::Full(ROW_LIMIT))
+    } else {
+        None
+    }
+}

@@ -1,0 +1,102 @@
+// Saving the text of a file.
+
+ghost use Rattle.std.specs.Prelude.{◌≡◌, ℕ, ◌<◌, ◌≤◌, ◌^◌, ◌∷◌, [], ◌++◌, length, reverse, true, IfOk, IfNone, OnOk};
+ghost use Rattle.cc_names.specs.Formed.{IsBelowRoot};
+ghost use Rattle.cc_names.specs.declared.rows.Tag.{Tag};
+ghost use Rattle.legal_history.specs.Tests.{needs_selected, needs_directory};
+ghost use Rattle.view_lookup.specs.Roots.{IsRootOrFile};
+ghost use Rattle.legal_history.specs.Decisions.{Scene, first_refusal, needs_room};
+ghost use Rattle.legal_history.specs.FileLines.{save, save_tests};
+ghost use Rattle.view_lookup.specs.Unversioned.{is_unversioned, is_unversioned_deed};
+ghost use Rattle.checkout_desk.specs.Deciding.{Sees, Decides, SavesPrivate};
+
+use crate::room::needs_room;
+use crate::stamps::Stamp;
+use cc_names::memory::{NoMemory, Or};
+use cc_names::names::Name;
+use cc_names::paths::Path;
+use cc_names::refusals::Refusal;
+use cc_names::rows::{Deed, Row, Tag};
+use cc_names::selection::Seen;
+use cc_names::texts::Text;
+use std::alloc::Global;
+use view_lookup::{at, view_row};
+
+/// The refusal of a directory in which a private file may not be saved: nothing or a file stands there.
+fn needs_directory(parent: Path, seen: Seen) -> Option<Refusal>
+    requires { IsRootOrFile seen }
+    ensures { (scene : Scene) → is_unversioned scene.base ≡ true
+        → result ≡ first_refusal (needs_selected parent seen ∷ needs_directory scene.base parent seen ∷ []) }
+{
+    match seen {
+        Seen::Element(_, _) => None,
+        Seen::Private(_) => Some(Refusal::NotDirectory(parent)),
+        Seen::Unselected(_) => Some(Refusal::NoPath(parent)),
+        Seen::Nothing => Some(Refusal::NoPath(parent)),
+    }
+}
+
+/// The first refusal of `save V P`, its room included. Takes time linear in the rows.
+fn save_refusal(
+    alloc: Global,
+    rows: &[Row],
+    view: &Name,
+    path: &Path,
+    busy: Option<Tag>,
+    room: u64,
+) -> Result<Option<Refusal>, NoMemory>
+    requires rows { length rows.now < 2 ^ 63 }
+    requires unversioned { is_unversioned (reverse rows.now) ≡ true }
+    requires below { IsBelowRoot path.now }
+    ensures refusal { IfOk result (λ refusal. (scene : Scene) (now : ℕ) → Sees scene (reverse rows.now) now view.now busy room
+        → refusal ≡ first_refusal (save_tests scene view.now path.now ++ needs_room scene 1 ∷ [])) }
+    ensures room { IfOk result (λ refusal. IfNone refusal (0 < room)) }
+    ensures private { IfOk result (λ refusal. IfNone refusal (SavesPrivate (reverse rows.now) view.now path.now)) }
+{
+    if view_row(rows, view).is_none() {
+        return Ok(Some(Refusal::NoView));
+    }
+    match busy {
+        Some(build) => return Ok(Some(Refusal::Building(build))),
+        None => {}
+    }
+    let parent = path.parent(alloc)?.unwrap_or(Path::root());
+    let above = at(rows, view, &parent);
+    match needs_directory(parent, above) {
+        Some(refusal) => Ok(Some(refusal)),
+        None => Ok(needs_room(room)),
+    }
+}
+
+/// The row of `save V P` in a base without elements, or its first refusal.
+pub fn save(
+    alloc: Global,
+    rows: &[Row],
+    view: &Name,
+    path: &Path,
+    text: &Text,
+    stamp: Stamp,
+    busy: Option<Tag>,
+    room: u64,
+) -> Result<Row, Or<Refusal>>
+    requires rows { length rows.now < 2 ^ 63 }
+    requires unversioned { is_unversioned (reverse rows.now) ≡ true }
+    requires below { IsBelowRoot path.now }
+    requires short { length text.now ≤ 16777216 }
+    requires in_time { stamp.moment ≤ 253402300799 }
+    ensures decided { (scene : Scene) (now : ℕ) → Sees scene (reverse rows.now) now view.now busy room
+        → Decides stamp.tag stamp.moment result (save scene view.now path.now text.now) }
+    ensures unversioned { IfOk result (λ row. is_unversioned_deed row.deed ≡ true) }
+    ensures room { OnOk result (0 < room) }
+{
+    match save_refusal(alloc, rows, view, path, busy, room)? {
+        Some(refusal) => return Err(Or::Is(refusal)),
+        None => {}
+    }
+    let deed = Deed::Put {
+        view: view.copy(alloc)?,
+        path: path.copy(alloc)?,
+        text: text.copy(alloc)?,
+    };
+    Ok(Row::of(stamp.tag, stamp.moment, deed))
+}

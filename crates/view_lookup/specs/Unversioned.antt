@@ -1,0 +1,17 @@
+-- Bases in which nobody has made an element, published an object or set a config spec: their views see the root and their
+-- private files.
+use Rattle.std.specs.Prelude.{Bool, true, false, ◌&&◌, List, [], ◌∷◌}
+use Rattle.cc_names.specs.declared.rows.Deed.{Deed}
+use Rattle.cc_names.specs.declared.rows.Deed.TheVariants as deeds
+use Rattle.legal_history.specs.Base.{Base}
+
+-- whether a deed makes a view or a private file
+abbrev pub is_unversioned_deed : Deed → Bool
+is_unversioned_deed (deeds.Mkview v) = true
+is_unversioned_deed (deeds.Put v path text) = true
+is_unversioned_deed deed = false
+
+-- whether all rows of a base are of these deeds
+abbrev pub is_unversioned : Base → Bool
+is_unversioned [] = true
+is_unversioned (row ∷ older) = is_unversioned_deed row.deed && is_unversioned older

@@ -1,0 +1,49 @@
+// What stands at a path in a view.
+
+ghost use Rattle.std.specs.Prelude.{◌≡◌, ◌<◌, ◌^◌, length, reverse, true, IsSome};
+ghost use Rattle.std.specs.List.{list_any};
+ghost use Rattle.cc_names.specs.Paths.{is_slash};
+ghost use Rattle.legal_history.specs.Seen.{at};
+ghost use Rattle.legal_history.specs.Views.{view_row};
+ghost use Rattle.view_lookup.specs.Unversioned.{is_unversioned};
+ghost use Rattle.view_lookup.specs.Roots.{IsRootOrFile};
+
+use crate::views::private;
+use cc_names::names::Name;
+use cc_names::paths::Path;
+use cc_names::rows::Row;
+use cc_names::selection::{Picked, Seen};
+
+// The root's version 0, by the second rule of the default config spec.
+const ROOT: Picked = Picked {
+    row: 0,
+    line: 2,
+    out: false,
+};
+
+fn has_slash(bytes: &[u8]) -> bool
+    ensures { result ≡ list_any is_slash bytes.now }
+{
+    bytes.iter().any(|byte| *byte == b'/')
+}
+
+/// What stands at a path in a view that there is, in a base without elements: the root, picked by the second rule of
+/// the default config spec, or a private file below it, or nothing. Takes time linear in the rows.
+pub fn at(rows: &[Row], view: &Name, path: &Path) -> Seen
+    requires room { length rows.now < 2 ^ 63 }
+    requires unversioned { is_unversioned (reverse rows.now) ≡ true }
+    requires view { IsSome (view_row (reverse rows.now) view.now) }
+    ensures seen { result ≡ at (reverse rows.now) view.now path.now }
+    ensures root { IsRootOrFile result }
+{
+    if path.is_root() {
+        return Seen::Element(0, ROOT);
+    }
+    if has_slash(path.as_bytes()) {
+        return Seen::Nothing;
+    }
+    match private(rows, view, path) {
+        Some(row) => Seen::Private(row),
+        None => Seen::Nothing,
+    }
+}
