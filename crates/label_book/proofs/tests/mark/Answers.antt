@@ -1,4 +1,4 @@
-use Rattle.std.proofs.Common.{◌≡◌, ℕ, ◌+◌, ◌≤◌, Bool, true, false, cond, List, [], ◌∷◌, map, refl, arith}
+use Rattle.std.proofs.Common.{◌≡◌, ℕ, ◌+◌, Bool, true, false, cond, List, [], ◌∷◌, map, refl, arith}
 use Rattle.cc_names.specs.Falling.{IsAbove}
 use Rattle.cc_names.specs.Labels.{row_of_label_change}
 use Rattle.cc_names.specs.declared.changes.LabelChange.{LabelChange}

@@ -1,4 +1,4 @@
-use Rattle.std.proofs.Common.{ℕ, ◌<◌, ◌^◌, List}
+use Rattle.std.proofs.Common.{ℕ, List}
 use Rattle.cc_names.specs.Falling.{IsAbove}
 use Rattle.label_book.specs.Marks.{rows_of_pair}
 use Rattle.label_book.proofs.tests.marked.Given as goal
