@@ -1,10 +1,9 @@
 -- What one change more of a label on an element adds to all changes.
-use Rattle.std.proofs.Common.{◌≡◌, ◌≢◌, ℕ, zero, suc, ◌+◌, ◌<◌, Bool, true, false, ◌&&◌, eqb, List, [], ◌∷◌, ◌++◌, length, get_or, set, map, reverse, Option, Some, None, refl, inl, inr, sym, ap, ◌∙◌, arith}
+use Rattle.std.proofs.Common.{◌≡◌, ℕ, zero, suc, ◌<◌, true, false, ◌&&◌, eqb, List, [], ◌∷◌, ◌++◌, length, get_or, set, map, reverse, Option, None, refl, inl, inr, sym, ap, ◌∙◌, arith}
 use Rattle.std.specs.Str.{bytes_eq}
 use Rattle.std.proofs.lemmas.List.{reverse-append, length-set, get_or-set_same, get_or-set_other, get_or_default}
 use Rattle.cc_names.specs.Falling.{IsAbove, Falls}
 use Rattle.cc_names.specs.Labels.{row_of_label_change, labels_of_first_rows, holder}
-use Rattle.cc_names.specs.declared.changes.LabelChange.{LabelChange}
 use Rattle.label_book.specs.Marks.{is_about, of_pair, rows_of_pair}
 use Rattle.label_book.specs.Holding.{row_of_move, change_by, change_of_move, changes_held, all_changes, is_pair, IsPlaceOf, HasNoPlace}
 use Rattle.label_book.specs.BookFields.{InStep}
@@ -12,7 +11,7 @@ use Rattle.label_book.specs.declared.held.Move.{Move}
 use Rattle.label_book.specs.declared.held.Held.{Held}
 use Rattle.label_book.proofs.Chain.{bool_cases, pair_is}
 use Rattle.label_book.proofs.InBook.{SameHead, others_fail}
-use Rattle.label_book.proofs.Newest.{is_itself, row_by}
+use Rattle.label_book.proofs.Newest.{row_by}
 use Rattle.label_book.proofs.Pairs.{holder_of_pair, about_by, of_pair_none, of_pair_at, of_pair_set_other}
 
 -- the rows of moves, as changes or not

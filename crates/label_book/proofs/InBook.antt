@@ -1,14 +1,12 @@
 -- The fields of a book stay in step.
-use Rattle.std.proofs.Common.{◌≡◌, ◌≢◌, ℕ, zero, suc, ◌+◌, ◌<◌, ◌≤◌, Bool, true, false, cond, ◌&&◌, eqb, List, [], ◌∷◌, ◌++◌, length, get_or, set, map, reverse, Option, Some, None, ◌⊎◌, refl, inl, inr, sym, ap, ◌∙◌, arith}
-use Rattle.std.specs.Str.{bytes_eq}
-use Rattle.std.proofs.lemmas.List.{reverse-append, length-reverse, length-append, length-set, get_or-set_same, get_or-set_other, get_or_default}
+use Rattle.std.proofs.Common.{◌≡◌, ◌≢◌, ℕ, zero, suc, ◌<◌, true, false, List, [], ◌∷◌, ◌++◌, length, get_or, set, map, reverse, Option, refl, inl, inr, sym, ap, ◌∙◌, arith}
+use Rattle.std.proofs.lemmas.List.{reverse-append, length-append, length-set, get_or-set_same, get_or-set_other}
 use Rattle.std.proofs.Math.ListN.{get_or-append}
 use Rattle.std.proofs.Math.Seq.{get_or-append_seam}
 use Rattle.std.proofs.lemmas.Bool.{cases_lt, cases_eq}
-use Rattle.std.proofs.lemmas.Bool.Decides.{nat_tests}
 use Rattle.cc_names.specs.Falling.{Falls}
 use Rattle.cc_names.specs.Keys.{key_of}
-use Rattle.label_book.specs.Holding.{row_of_move, is_pair, has_key, newest_with, AreLinked, IsPlaceOf, HasNoPlace}
+use Rattle.label_book.specs.Holding.{row_of_move, is_pair, newest_with, AreLinked, IsPlaceOf, HasNoPlace}
 use Rattle.label_book.specs.BookFields.{InStep}
 use Rattle.label_book.specs.declared.held.Held.{Held}
 use Rattle.label_book.proofs.Chain.{bool_cases, pair_is}

@@ -1,5 +1,5 @@
 -- The version that the last change of a label on an element names.
-use Rattle.std.proofs.Common.{◌≡◌, ℕ, zero, suc, ◌+◌, ◌-◌, ◌<◌, ◌≤◌, Bool, true, false, cond, ◌&&◌, eqb, ltb, List, [], ◌∷◌, ◌++◌, length, get_or, take, map, reverse, Option, Some, None, refl, sym, ap, ◌∙◌, arith}
+use Rattle.std.proofs.Common.{◌≡◌, ℕ, zero, suc, ◌-◌, ◌<◌, ◌≤◌, Bool, true, false, cond, ◌&&◌, eqb, ltb, List, [], ◌∷◌, ◌++◌, length, get_or, take, map, reverse, Option, Some, None, refl, sym, ap, ◌∙◌, arith}
 use Rattle.std.specs.Prelude.{filter}
 use Rattle.std.specs.Str.{bytes_eq}
 use Rattle.std.specs.List.Sorted.{IsPartitionPoint}
@@ -7,7 +7,7 @@ use Rattle.std.proofs.lemmas.List.{reverse-append}
 use Rattle.std.proofs.lemmas.Bool.Decides.{Decides-eqb}
 use Rattle.std.proofs.lemmas.Slice.Eq.{bytes_eq-Decides}
 use Rattle.cc_names.specs.Labels.{row_of_label_change, labels_of_first_rows, label_effect, holder}
-use Rattle.cc_names.specs.Last.{left, only_if}
+use Rattle.cc_names.specs.Last.{left}
 use Rattle.cc_names.proofs.ByRows.{filter-reverse, filter_first}
 use Rattle.label_book.specs.Holding.{row_of_move, change_by, change_of_move}
 use Rattle.label_book.specs.declared.held.Move.{Move}

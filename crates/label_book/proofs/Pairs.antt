@@ -1,18 +1,16 @@
 -- The changes of one label on one element among all.
-use Rattle.std.proofs.Common.{◌≡◌, ◌≢◌, ℕ, zero, suc, ◌+◌, ◌<◌, ◌≤◌, Bool, true, false, cond, ◌&&◌, eqb, ltb, List, [], ◌∷◌, ◌++◌, length, get_or, set, map, reverse, Option, Some, None, ◌⊎◌, refl, inl, inr, sym, ap, ◌∙◌, arith}
-use Rattle.std.specs.Prelude.{filter}
+use Rattle.std.proofs.Common.{◌≡◌, ◌≢◌, ℕ, zero, suc, ◌<◌, Bool, true, false, cond, ◌&&◌, eqb, ltb, List, [], ◌∷◌, ◌++◌, length, get_or, set, map, reverse, Option, Some, None, refl, ap, ◌∙◌, arith}
 use Rattle.std.specs.Str.{bytes_eq}
-use Rattle.std.proofs.lemmas.List.{reverse-append, append-nil}
+use Rattle.std.proofs.lemmas.List.{append-nil}
 use Rattle.std.proofs.lemmas.List.Elements.{filter-append}
 use Rattle.cc_names.specs.Labels.{row_of_label_change, labels_of_first_rows, label_effect, holder}
-use Rattle.cc_names.specs.Last.{left, only_if}
+use Rattle.cc_names.specs.Last.{left}
 use Rattle.cc_names.specs.declared.changes.LabelChange.{LabelChange}
 use Rattle.cc_names.specs.declared.changes.LabelChange.TheVariants.{Put, Taken}
 use Rattle.label_book.specs.Marks.{is_about, of_pair}
-use Rattle.label_book.specs.Holding.{change_by, change_of_move, changes_held, all_changes, is_pair, IsPlaceOf, HasNoPlace}
+use Rattle.label_book.specs.Holding.{change_by, change_of_move, changes_held, all_changes, is_pair}
 use Rattle.label_book.specs.declared.held.Move.{Move}
 use Rattle.label_book.specs.declared.held.Held.{Held}
-use Rattle.label_book.proofs.Chain.{bool_cases}
 
 -- the holder of a label on an element is told by its own changes
 pub holder_of_pair : (changes : List LabelChange) (rows : ℕ) (l : List ℕ) (e : ℕ)

@@ -1,5 +1,5 @@
 -- Which labels on which elements have room.
-use Rattle.std.proofs.Common.{◌≡◌, ◌≢◌, ℕ, zero, suc, ◌+◌, ◌<◌, ◌≤◌, Bool, true, false, cond, ◌||◌, ltb, List, [], ◌∷◌, ◌++◌, length, get_or, set, vec_len, vec_capacity, refl, sym, ap, ◌∙◌, arith}
+use Rattle.std.proofs.Common.{◌≡◌, ◌≢◌, ℕ, zero, suc, ◌<◌, Bool, true, false, ◌||◌, ltb, List, [], ◌∷◌, ◌++◌, length, get_or, set, vec_len, vec_capacity, refl, ap, arith}
 use Rattle.std.specs.List.{list_any}
 use Rattle.cc_names.specs.Versions.{put_if}
 use Rattle.label_book.specs.Marks.{Pair, is_that}

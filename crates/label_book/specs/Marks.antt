@@ -1,5 +1,5 @@
 -- What contracts see of a `Book`: the changes of labels, of which the order counts only for one label on one element.
-use Rattle.std.specs.Prelude.{◌≡◌, ℕ, ◌==◌, ◌&&◌, Bool, true, IsTrue, List, ◌∷◌, map, filter}
+use Rattle.std.specs.Prelude.{◌≡◌, ℕ, ◌==◌, ◌&&◌, Bool, IsTrue, List, ◌∷◌, map, filter}
 use Rattle.std.specs.Str.{bytes_eq}
 use Rattle.std.specs.List.{list_any}
 use Rattle.cc_names.specs.Labels.{row_of_label_change}

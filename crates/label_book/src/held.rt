@@ -42,7 +42,7 @@ impl Held {
         label.as_bytes() == self.label.as_bytes() && element == self.element
     }
 
-    /// The version on which the label stood after the first `rows` rows.
+    /// The version on which the label stood in the first `rows` rows. Takes time logarithmic in the changes.
     pub fn at(&self, rows: u64) -> Option<u64>
         requires { Falls (map row_of_move (reverse self.now.moves.items)) }
         ensures { result ≡ holder (labels_of_first_rows rows (changes_held self.now)) self.now.label self.now.element }

@@ -1,4 +1,12 @@
 // The holder of every label on every element, as it was at any number of rows.
+//
+// What it is for: a label stands on at most one version of an element, and may be moved, taken off and put again. The book
+// answers on which version it stood when the base had only its first `rows` rows.
+//
+// What it promises: each answer is that of the definition over the list of changes (`cc_names`, `Labels`), None exactly
+// where it finds nothing. Putting a label and taking it off take no memory, where room was reserved before.
+//
+// What it stands on: `cc_names`.
 #![tactic(auto)]
 
 ghost use Rattle.std.specs.Prelude.{◌≡◌, ℕ, ◌<◌, ◌∷◌, [], IsTrue, IfOk, OnOk, length, slice_index};
@@ -53,7 +61,7 @@ impl Book {
         })
     }
 
-    /// Makes room for one change of a label on each of these elements.
+    /// Makes room for one change of a label on each of these elements. Takes time linear in the elements.
     pub fn reserve(&mut self, alloc: Global, label: &Name, elements: &[u64]) -> Result<(), NoMemory>
         ensures kept { KeepsAll self.old self.new }
         ensures ready { OnOk result ((k : ℕ) → k < length elements.now → IsTrue (is_ready self.new label.now (slice_index elements.now k))) }
@@ -141,7 +149,8 @@ impl Book {
         }
     }
 
-    /// The version of an element that held a label after the first `rows` rows.
+    /// The version of an element that held a label in the first `rows` rows. Takes time logarithmic in the changes of the
+    /// label on the element, and linear in the label's name.
     pub fn at(&self, label: &Name, element: u64, rows: u64) -> Option<u64>
         ensures { result ≡ holder (labels_of_first_rows rows self.now.changes) label.now element }
     {

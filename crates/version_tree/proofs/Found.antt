@@ -7,10 +7,9 @@ use Rattle.cc_names.specs.Versions.{row_of_change, change_at, of_first_rows, ver
 use Rattle.cc_names.specs.Falling.{Falls}
 use Rattle.version_tree.specs.Forest.{AreInOrder, entries_in}
 use Rattle.version_tree.specs.Namesakes.{change_of, changes_of}
-use Rattle.version_tree.specs.Branches.{row_of_later, versions_kept, versions_by}
+use Rattle.version_tree.specs.Branches.{row_of_later, versions_by}
 use Rattle.version_tree.specs.TreeFields.{row_of_made, branch_at, InStep}
 use Rattle.version_tree.specs.declared.contents.Contents.{Contents}
-use Rattle.version_tree.specs.declared.contents.Contents.TheVariants.{Text, Catalog}
 use Rattle.version_tree.specs.declared.namesakes.Made.{Made}
 use Rattle.version_tree.specs.declared.branches.Branch.{Branch}
 use Rattle.version_tree.proofs.FirstRows.{versions_of_first_rows, versions_fall, later_falls}

@@ -1,8 +1,7 @@
 -- Where a version stands.
-use Rattle.std.proofs.Common.{◌≡◌, ℕ, eqb, List, Option, Some, None, refl, sym, ap, ◌∙◌}
+use Rattle.std.proofs.Common.{◌≡◌, ℕ, eqb, List, Option, Some, None, refl, ap, ◌∙◌}
 use Rattle.std.specs.Prelude.{find, option_map, option_and_then}
 use Rattle.cc_names.specs.declared.changes.TreeChange.{TreeChange}
-use Rattle.cc_names.specs.declared.changes.Place.{Place}
 use Rattle.cc_names.specs.Versions.{Version, branch_of_change, change_at, version_at, versions_on, element_of_branch, number_of_version, place, place_of}
 use Rattle.version_tree.proofs.FirstRows.{found_on}
 

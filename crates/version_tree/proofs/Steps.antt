@@ -1,17 +1,15 @@
 -- The fields of a tree stay in step as changes are added.
-use Rattle.std.proofs.Common.{◌≡◌, ◌≢◌, ℕ, zero, suc, ◌+◌, ◌<◌, ◌≤◌, Bool, true, false, cond, ◌||◌, eqb, ltb, List, [], ◌∷◌, ◌++◌, length, get_or, set, map, reverse, Option, Some, None, ◌⊎◌, slice_get, vec_len, vec_capacity, refl, inl, inr, sym, ap, subst, ◌∙◌, arith}
-use Rattle.std.specs.Prelude.{filter, find}
+use Rattle.std.proofs.Common.{◌≡◌, ◌≢◌, ℕ, zero, suc, ◌<◌, Bool, true, false, cond, ◌||◌, eqb, ltb, List, [], ◌∷◌, ◌++◌, length, get_or, set, map, reverse, Option, Some, None, slice_get, vec_len, vec_capacity, refl, inl, inr, sym, ap, ◌∙◌, arith}
+use Rattle.std.specs.Prelude.{find}
 use Rattle.std.specs.List.{list_any}
 use Rattle.std.proofs.lemmas.List.{reverse-append, length-set, get_or-set_same, get_or-set_other}
 use Rattle.std.proofs.lemmas.Bool.{cases_lt}
 use Rattle.std.proofs.lemmas.Bool.Decides.{nat_tests, Decides-eqb}
 use Rattle.std.proofs.lemmas.Option.{slice_get-get_or}
-use Rattle.cc_names.specs.Versions.{Version, row_of_change, branch_of_change, moment_of_change, version_made, versions_on, latest, put_if}
-use Rattle.cc_names.specs.declared.changes.TreeChange.{TreeChange}
+use Rattle.cc_names.specs.Versions.{Version, row_of_change, branch_of_change, moment_of_change, versions_on, latest, put_if}
 use Rattle.cc_names.specs.declared.changes.TreeChange.TheVariants.{VersionMade}
 use Rattle.cc_names.specs.Falling.{IsAbove, Falls}
-use Rattle.version_tree.specs.Forest.{AreInOrder, entries_in}
-use Rattle.version_tree.specs.Namesakes.{change_of, changes_of, has_key, newest_with, AreLinked}
+use Rattle.version_tree.specs.Namesakes.{changes_of, has_key, newest_with}
 use Rattle.version_tree.specs.Branches.{versions_from, versions_kept, versions_by}
 use Rattle.version_tree.specs.TreeFields.{row_of_made, row_of_branch, ready_branches, branch_at, InStep}
 use Rattle.version_tree.specs.declared.contents.Contents.{Contents}
@@ -19,7 +17,7 @@ use Rattle.version_tree.specs.declared.namesakes.Made.{Made}
 use Rattle.version_tree.specs.declared.branches.Branch.{Branch}
 use Rattle.version_tree.specs.declared.branches.Later.{Later}
 use Rattle.version_tree.proofs.Links.{bool_cases}
-use Rattle.cc_names.proofs.ByRows.{find_nothing, find_first, find-reverse, rises_below}
+use Rattle.cc_names.proofs.ByRows.{find_first, find-reverse, rises_below}
 
 -- the rows of changes
 pub rows_of_made : (made : List Made) → map row_of_change (changes_of made) ≡ map row_of_made made

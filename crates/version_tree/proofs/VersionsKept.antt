@@ -1,10 +1,10 @@
 -- What is found among the versions that a branch keeps.
-use Rattle.std.proofs.Common.{◌≡◌, ℕ, zero, suc, ◌+◌, ◌-◌, ◌<◌, ◌≤◌, Bool, true, false, cond, eqb, ltb, List, [], ◌∷◌, ◌++◌, length, get_or, take, map, reverse, Option, Some, None, ◌⊎◌, slice_get, refl, inl, inr, sym, ap, ◌∙◌, arith}
-use Rattle.std.specs.Prelude.{filter, find, option_map, option_and_then}
+use Rattle.std.proofs.Common.{◌≡◌, ℕ, zero, suc, ◌+◌, ◌<◌, ◌≤◌, Bool, true, false, cond, eqb, ltb, List, [], ◌∷◌, ◌++◌, length, take, map, reverse, Option, Some, None, ◌⊎◌, slice_get, refl, inl, inr, sym, ap, ◌∙◌, arith}
+use Rattle.std.specs.Prelude.{filter, find, option_map}
 use Rattle.std.specs.List.Sorted.{IsPartitionPoint}
 use Rattle.std.specs.Option.{option_or, option_map_or}
-use Rattle.std.proofs.lemmas.List.{reverse-reverse, reverse-append, length-reverse, length-append}
-use Rattle.std.proofs.lemmas.Bool.{cases_lt, cases_eq}
+use Rattle.std.proofs.lemmas.List.{reverse-reverse, reverse-append, length-reverse}
+use Rattle.std.proofs.lemmas.Bool.{cases_eq}
 use Rattle.std.proofs.lemmas.Bool.Decides.{nat_tests}
 use Rattle.cc_names.specs.Versions.{Version, row_of_version, number_of_version, is_before}
 use Rattle.cc_names.specs.Falling.{IsAbove, Falls}

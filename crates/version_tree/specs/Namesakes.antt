@@ -2,7 +2,7 @@
 use Rattle.std.specs.Prelude.{◌≡◌, ℕ, ◌==◌, Bool, true, false, cond, Option, Some, None, List, [], ◌∷◌, length, map}
 use Rattle.cc_names.specs.Keys.{key_of}
 use Rattle.cc_names.specs.declared.changes.TreeChange.{TreeChange}
-use Rattle.cc_names.specs.declared.changes.TreeChange.TheVariants.{ElementMade, BranchMade, VersionMade}
+use Rattle.cc_names.specs.declared.changes.TreeChange.TheVariants.{BranchMade}
 use Rattle.version_tree.specs.declared.namesakes.Made.{Made}
 
 -- whether a change made a branch with the key

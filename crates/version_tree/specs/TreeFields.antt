@@ -1,5 +1,5 @@
 -- The fields of a `Tree`: what contracts see of them, and how they are in step.
-use Rattle.std.specs.Prelude.{◌≡◌, ℕ, ◌-◌, ◌==◌, min, nat_eq, nat_lt, Option, Some, None, List, [], ◌∷◌, length, map, reverse, find, vec_len, vec_capacity}
+use Rattle.std.specs.Prelude.{◌≡◌, ℕ, ◌-◌, ◌==◌, min, nat_eq, nat_lt, Option, List, [], ◌∷◌, map, reverse, find, vec_len, vec_capacity}
 use Rattle.std.specs.HashMap.{get, spare}
 use Rattle.cc_names.specs.Versions.{row_of_change, versions_on, put_if}
 use Rattle.cc_names.specs.Falling.{IsAbove, Falls}

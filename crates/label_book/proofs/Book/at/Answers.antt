@@ -1,6 +1,5 @@
-use Rattle.std.proofs.Common.{◌≡◌, get_or, Some, None, sym, ap, ◌∙◌, rules}
+use Rattle.std.proofs.Common.{◌≡◌, get_or, sym, ◌∙◌, rules}
 use Rattle.label_book.specs.Holding.{IsPlaceOf, HasNoPlace}
-use Rattle.label_book.specs.declared.held.Held.{Held}
 use Rattle.label_book.proofs.Added.{holder_at, holder_nowhere}
 use Rattle.label_book.proofs.Book.at.Goals as goal
 

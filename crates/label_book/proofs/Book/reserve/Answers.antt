@@ -1,7 +1,7 @@
-use Rattle.std.proofs.Common.{ℕ, ◌<◌, inl, inr, IsTrue, sym, ◌∙◌, arith}
+use Rattle.std.proofs.Common.{inl, inr, ◌∙◌, arith}
 use Rattle.std.specs.Prelude.{slice_index}
 use Rattle.std.proofs.lemmas.Bool.{cases_eq}
-use Rattle.label_book.specs.Marks.{Marks, is_ready, KeepsAll}
+use Rattle.label_book.specs.Marks.{Marks, KeepsAll}
 use Rattle.label_book.proofs.Book.reserve.Goals as goal
 
 -- what is kept twice is kept

@@ -1,4 +1,4 @@
-use Rattle.std.proofs.Common.{ℕ, ◌<◌, get_or, IsTrue}
+use Rattle.std.proofs.Common.{ℕ, ◌<◌, IsTrue}
 use Rattle.std.specs.Prelude.{slice_index}
 use Rattle.label_book.specs.Marks.{is_ready, KeepsAll}
 use Rattle.label_book.proofs.Book.reserve.Given as goal

@@ -1,6 +1,5 @@
-use Rattle.std.proofs.Common.{◌≡◌, ◌<◌, ◌&&◌, ℕ, true, cond, eqb, nat_eq, ltb, List, [], ◌∷◌, ◌++◌, length, get_or, map, reverse, Some, vec_len, vec_capacity, refl, sym, ap, ◌∙◌, arith, rules}
+use Rattle.std.proofs.Common.{◌≡◌, ℕ, true, cond, eqb, nat_eq, [], ◌∷◌, ◌++◌, length, get_or, map, reverse, Some, refl, sym, ap, ◌∙◌, arith, rules}
 use Rattle.std.specs.HashMap.{get}
-use Rattle.std.specs.Str.{bytes_eq}
 use Rattle.std.proofs.lemmas.List.{get_or_default, length-reverse}
 use Rattle.std.proofs.lemmas.Bool.Decides.{nat_tests}
 use Rattle.std.proofs.lemmas.Grind.{common_steps}

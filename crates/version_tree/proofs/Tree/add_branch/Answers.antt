@@ -1,4 +1,4 @@
-use Rattle.std.proofs.Common.{◌≡◌, ℕ, true, cond, eqb, nat_eq, List, [], ◌∷◌, length, map, reverse, Some, refl, sym, ap, ◌∙◌, arith, rules}
+use Rattle.std.proofs.Common.{◌≡◌, ℕ, true, cond, eqb, nat_eq, [], ◌∷◌, length, map, reverse, Some, refl, ap, ◌∙◌, arith, rules}
 use Rattle.std.proofs.lemmas.List.{reverse-append, length-reverse}
 use Rattle.std.specs.HashMap.{get}
 use Rattle.std.proofs.lemmas.Bool.Decides.{Decides-eqb}

@@ -1,4 +1,4 @@
-use Rattle.std.proofs.Common.{◌≡◌, ℕ, List, [], ◌∷◌, map, reverse, None, true, false, refl, sym, ◌∙◌}
+use Rattle.std.proofs.Common.{[], ◌∷◌, map, reverse, None, refl}
 use Rattle.std.proofs.lemmas.List.{reverse-append}
 use Rattle.cc_names.specs.declared.changes.TreeChange.TheVariants.{ElementMade}
 use Rattle.cc_names.specs.Falling.{IsAbove}

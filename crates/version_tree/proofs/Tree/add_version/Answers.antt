@@ -1,9 +1,8 @@
-use Rattle.std.proofs.Common.{◌≡◌, ◌<◌, ℕ, eqb, ltb, List, [], ◌∷◌, ◌++◌, length, get_or, map, reverse, slice_get, true, Some, None, vec_len, vec_capacity, refl, sym, ap, ◌∙◌, arith, rules}
+use Rattle.std.proofs.Common.{◌≡◌, ◌<◌, eqb, ltb, [], ◌∷◌, length, get_or, map, reverse, slice_get, true, None, vec_len, vec_capacity, refl, sym, ap, ◌∙◌, arith, rules}
 use Rattle.std.specs.Prelude.{find}
 use Rattle.std.specs.List.{list_any}
 use Rattle.std.proofs.lemmas.List.{reverse-append, get_or_default}
 use Rattle.std.proofs.lemmas.Bool.Decides.{nat_tests}
-use Rattle.std.proofs.lemmas.Grind.{common_steps}
 use Rattle.cc_names.specs.declared.changes.TreeChange.TheVariants.{VersionMade}
 use Rattle.cc_names.specs.Falling.{IsAbove}
 use Rattle.version_tree.specs.TreeFields.{row_of_made, ready_branches}

@@ -5,7 +5,6 @@ use Rattle.std.proofs.lemmas.List.{get_or_default}
 use Rattle.std.proofs.lemmas.Bool.Decides.{nat_tests}
 use Rattle.std.proofs.lemmas.Grind.{common_steps}
 use Rattle.cc_names.specs.Versions.{latest}
-use Rattle.version_tree.specs.Namesakes.{changes_of}
 use Rattle.version_tree.specs.declared.branches.Branch.{Branch}
 use Rattle.version_tree.proofs.Steps.{row_there, room_made, set_ready, latest_nowhere}
 use Rattle.version_tree.proofs.Tree.reserve_version.Goals as goal

@@ -1,8 +1,6 @@
-use Rattle.std.proofs.Common.{◌≡◌, ◌<◌, length, length-take, get_or, Some, None, sym, ◌∙◌, ap, arith, true, false, ltb, ◌&&◌, rules}
+use Rattle.std.proofs.Common.{◌≡◌, ◌<◌, length, length-take, get_or, Some, None, sym, ◌∙◌, ap, arith, false, ltb, ◌&&◌, rules}
 use Rattle.cc_names.specs.Branches.{makes_branch}
 use Rattle.cc_names.specs.Versions.{row_of_change}
-use Rattle.cc_names.specs.Keys.{key_of}
-use Rattle.version_tree.specs.Namesakes.{newest_with}
 use Rattle.version_tree.specs.declared.namesakes.Made.{Made}
 use Rattle.version_tree.proofs.Links.{newest_of, newest_none, both_hold}
 use Rattle.version_tree.proofs.namesakes.find_branch.Goals as goal

@@ -1,4 +1,4 @@
-use Rattle.std.proofs.Common.{◌≡◌, ◌+◌, IsSome, None, map, arith, rules}
+use Rattle.std.proofs.Common.{◌≡◌, ◌+◌, IsSome, None, map, arith}
 use Rattle.std.proofs.lemmas.Grind.{common_steps}
 use Rattle.cc_names.specs.Versions.{row_of_change, of_first_rows, latest}
 use Rattle.version_tree.proofs.FirstRows.{above_le, filter_all}

@@ -1,4 +1,4 @@
-use Rattle.std.proofs.Common.{◌≤◌, map, arith, rules}
+use Rattle.std.proofs.Common.{◌≤◌, map, arith}
 use Rattle.std.proofs.lemmas.Grind.{common_steps}
 use Rattle.cc_names.specs.Versions.{row_of_change}
 use Rattle.version_tree.proofs.FirstRows.{above_le}

@@ -1,5 +1,4 @@
-use Rattle.std.proofs.Common.{◌≡◌, ◌≤◌, ◌<◌, ◌-◌, length, get_or, Option, ℕ, sym, ap, ◌∙◌, arith, rules}
-use Rattle.std.proofs.lemmas.Grind.{common_steps}
+use Rattle.std.proofs.Common.{◌≡◌, ◌≤◌, ◌<◌, length, sym, ap, ◌∙◌, arith, rules}
 use Rattle.label_book.specs.declared.held.Move.{Move}
 use Rattle.label_book.proofs.Newest.{holder_none, holder_last}
 use Rattle.label_book.proofs.held.Held.at.Goals as goal

@@ -1,8 +1,8 @@
-use Rattle.std.proofs.Common.{◌≡◌, ℕ, ◌<◌, ◌≤◌, length, length-take, get_or, get_or-take, take, true, false, None, inl, inr, sym, ap, ◌∙◌, arith, rules}
+use Rattle.std.proofs.Common.{◌≡◌, ℕ, ◌<◌, length, length-take, get_or, get_or-take, take, false, None, inl, inr, sym, ap, ◌∙◌, arith, rules}
 use Rattle.std.proofs.lemmas.List.{get_or_default}
 use Rattle.std.proofs.lemmas.Bool.{cases_lt, cases_eq}
 use Rattle.cc_names.specs.Keys.{key_of}
-use Rattle.label_book.specs.Holding.{is_pair, has_key}
+use Rattle.label_book.specs.Holding.{is_pair}
 use Rattle.label_book.specs.declared.held.Held.{Held}
 use Rattle.label_book.proofs.Chain.{newest_of, none_of, other_key, take_take}
 use Rattle.label_book.proofs.held.Held.find.Goals as goal

@@ -1,4 +1,4 @@
-use Rattle.std.proofs.Common.{reverse, sym, ◌∙◌, ap, arith}
+use Rattle.std.proofs.Common.{reverse, sym, ◌∙◌, ap}
 use Rattle.std.proofs.lemmas.List.{reverse-reverse}
 use Rattle.version_tree.specs.Branches.{row_within}
 use Rattle.version_tree.proofs.VersionsKept.{numbered_kept}
