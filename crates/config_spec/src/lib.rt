@@ -14,3 +14,6 @@ mod rolls;
 
 pub use picks::pick;
 pub use rolls::{Listed, Rolls};
+
+#[cfg(test)]
+mod tests;
