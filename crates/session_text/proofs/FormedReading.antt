@@ -1,5 +1,5 @@
 -- What is read as a session has the form of one.
-use Rattle.std.proofs.Common.{◌≡◌, ◌∙◌, ℕ, ◌+◌, ◌<◌, ◌≤◌, Bool, true, false, Option, Some, None, Result, Ok, Err, List, [], ◌∷◌, ◌++◌, length, length-append, refl, sym, ap, arith, IfSome, cond, subst}
+use Rattle.std.proofs.Common.{◌≡◌, ℕ, ◌+◌, ◌<◌, ◌≤◌, Bool, true, false, Option, Some, None, List, [], ◌∷◌, length, length-append, refl, arith, IfSome, cond}
 use Rattle.std.specs.Prelude.{nat_le, not, is_none, ◌==◌}
 use Rattle.std.specs.List.{AllByRecursion, IsDistinct}
 use Rattle.std.specs.List.{slice_split, onto_first}
@@ -11,7 +11,6 @@ use Rattle.cc_names.specs.declared.names.NameFault.{NameFault}
 use Rattle.cc_names.specs.declared.commands.Command.{Command}
 use Rattle.cc_names.specs.declared.commands.Lane.{Lane}
 use Rattle.cc_names.specs.declared.commands.Phase.{Phase}
-use Rattle.cc_names.specs.declared.commands.Session.{Session}
 use Rattle.cc_names.specs.declared.refusals.SessionCause.{SessionCause}
 use Rattle.cc_names.specs.declared.refusals.SessionCause.TheVariants as causes
 use Rattle.cc_names.specs.declared.refusals.SessionError.{SessionError}
@@ -23,7 +22,7 @@ use Rattle.session_text.specs.Cuts.{lines_of, ended, is_newline, words_of}
 use Rattle.session_text.specs.Kinds.{kind_of, said}
 use Rattle.session_text.specs.Commands.{ok_of, one_name, below_root, command_of, save, mkview, clearmake}
 use Rattle.session_text.specs.Causes.{Above, is_empty, lane_causes, first_cause, where_so, is_taken, cause_of, above_next, with_lane, first_error, error_or, nothing}
-use Rattle.session_text.specs.Sessions.{ends_lane, before_text, body_of, before_commands, commands_said, commands_before, commands_of, before_lanes, lanes_said, lanes_before, lanes_of, phases_said, phases_before, phases_of, session_of, unless_wrong}
+use Rattle.session_text.specs.Sessions.{ends_lane, before_text, body_of, before_commands, commands_before, commands_of, before_lanes, lanes_before, lanes_of, phases_before, phases_of}
 use Rattle.session_text.specs.Formed.{IsCommand, IsLane, IsPhase, IsSession, AreAtMost}
 use Rattle.session_text.proofs.Parts.{length-lines_of}
 

@@ -1,7 +1,6 @@
 -- Sessions and texts that are none, worked out by hand.
-use Rattle.std.proofs.Common.{◌≡◌, List, ℕ, [], ◌∷◌, ◌++◌, refl, None, false, Ok, Err, Result}
+use Rattle.std.proofs.Common.{◌≡◌, ℕ, [], ◌∷◌, refl, None, false, Ok, Err, Result}
 use Rattle.std.specs.Prelude.{codes}
-use Rattle.cc_names.specs.declared.commands.Command.{Command}
 use Rattle.cc_names.specs.declared.commands.Command.TheVariants.{Mkview, Save, Clearmake}
 use Rattle.cc_names.specs.declared.commands.Session.{Session}
 use Rattle.cc_names.specs.declared.refusals.SessionCause.{SessionCause}

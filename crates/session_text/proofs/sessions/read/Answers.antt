@@ -1,4 +1,4 @@
-use Rattle.std.proofs.Common.{◌≡◌, ◌∙◌, ap, sym, subst, List, length}
+use Rattle.std.proofs.Common.{◌∙◌, ap, sym, subst, List, length}
 use Rattle.cc_names.specs.declared.commands.Phase.{Phase}
 use Rattle.session_text.specs.Sessions.{phases_of}
 use Rattle.session_text.specs.Formed.{IsSession}
