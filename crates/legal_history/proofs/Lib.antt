@@ -4,6 +4,7 @@ mod CheckoutRows
 pub mod FileFits
 pub mod DirectoryFits
 pub mod CheckoutFits
+pub mod ElementFits
 mod FirstBuild
 pub mod Fronts
 pub mod Grows
@@ -13,6 +14,7 @@ pub mod Origins
 pub mod OnBranches
 pub mod LabelsHold
 pub mod Picks
+pub mod Makings
 mod QueryRows
 mod RecordRows
 mod ReuseRows
