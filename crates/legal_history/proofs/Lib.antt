@@ -5,6 +5,7 @@ pub mod FileFits
 pub mod DirectoryFits
 pub mod CheckoutFits
 pub mod ElementFits
+pub mod DecidedFits
 mod FirstBuild
 pub mod Fronts
 pub mod Grows
