@@ -6,6 +6,7 @@ pub mod DirectoryFits
 pub mod CheckoutFits
 pub mod ElementFits
 pub mod DecidedFits
+pub mod FilesBelow
 mod FirstBuild
 pub mod Fronts
 pub mod Grows
