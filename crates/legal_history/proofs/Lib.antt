@@ -17,6 +17,7 @@ pub mod OnBranches
 pub mod LabelsHold
 pub mod Picks
 pub mod Makings
+pub mod Pairs
 mod QueryRows
 mod RecordRows
 mod ReuseRows
