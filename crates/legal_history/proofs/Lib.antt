@@ -18,6 +18,7 @@ pub mod LabelsHold
 pub mod Picks
 pub mod Makings
 pub mod Pairs
+pub mod FreshSeen
 mod QueryRows
 mod RecordRows
 mod ReuseRows
