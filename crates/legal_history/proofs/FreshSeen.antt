@@ -91,10 +91,10 @@ find_some rows build (suc n) m um path order is made low = by (unit_at build n) 
       let number : n ≡ m = cc in
       let same : u ≡ um = cc in
       ap Some (λ i. record { unit = same i; came = came_to build (number i); outcome = outcome_in rows build (number i) (same i) })
-  by_unit u false of_n test rest = rest (apart m n refl)
+  by_unit u false of_n test rest = rest lower
     where
-    apart : (a b : ℕ) → a ≡ m → m < n
-    apart a b e = elim (m == n) as (λ (x : Bool). (m == n) ≡ x → m < n) [
+    lower : m < n
+    lower = elim (m == n) as (λ (x : Bool). (m == n) ≡ x → m < n) [
         | true ↦ λ e. absurd (let number : m ≡ n = grind (arith, nat_tests) in let same : um ≡ u = cc in cc)
         | false ↦ λ e. lower_where e
       ] refl
@@ -105,3 +105,66 @@ find_some rows build (suc n) m um path order is made low = by (unit_at build n) 
       | false ↦ λ e. lower_where e
     ] refl)
   by (Some u) of_n rest = by_unit u (makes path u) of_n refl rest
+
+find_mapped : (path : List ℕ) (pairs : List Pair) → find (λ f. makes path f.unit) (map finished_of pairs) ≡ option_map finished_of (find (λ p. makes path p.unit) pairs)
+find_mapped path [] = refl
+find_mapped path (p ∷ pairs) = by (makes path p.unit) (find_mapped path pairs)
+  where
+  by : (t : Bool) → find (λ f. makes path f.unit) (map finished_of pairs) ≡ option_map finished_of (find (λ p. makes path p.unit) pairs) →
+    cond t (Some (finished_of p)) (find (λ f. makes path f.unit) (map finished_of pairs)) ≡ option_map finished_of (cond t (Some p) (find (λ p. makes path p.unit) pairs))
+  by true rest = refl
+  by false rest = rest
+
+-- what agrees stands the same
+agree_standing : (b : Base) (u : Unit) (came : Came) (outcome : Outcome) → Agrees b u came outcome → standing_of_came (Some came) ≡ standing_of_outcome outcome
+agree_standing b u (Given id) (Made outputs) h = refl
+agree_standing b u (Given id) (Without end) h = absurd h
+agree_standing b u (Ended end) (Without other) h = ap standing_of_end h.0
+agree_standing b u (Ended end) (Made outputs) h = absurd h
+agree_standing b u Started outcome h = absurd h
+
+-- an outcome that is there
+outcome_there : (o : Option Came) → is_outcome o ≡ true → (came : Came) × (o ≡ Some came)
+outcome_there None h = absurd (cc)
+outcome_there (Some came) h = (came, refl)
+
+-- a prerequisite of a ready unit stands as it does from nothing
+standing_same : (b : Base) (build : Build) (n : ℕ) (u : Unit) (path : List ℕ) → AgreesSoFar b build → unit_at build n ≡ Some u → IsReady build u → is_among path u.prerequisites ≡ true →
+  standing_or_file (sees_file (first_rows build.rows b) build.view path) (standing_of_unit build path)
+  ≡ standing_in (sees_file (first_rows build.rows b) build.view) (done_in (first_rows build.rows b) build n) path
+standing_same b build n u path h is ready among = ap (standing_or_file (sees_file rows build.view path)) (by (number_from 0 path build.units) refl)
+  where
+  rows : Base
+  rows = first_rows build.rows b
+  paired : option_map (λ f. standing_of_outcome f.outcome) (find (λ f. makes path f.unit) (done_in (first_rows build.rows b) build n))
+    ≡ option_map (λ f. standing_of_outcome f.outcome) (option_map finished_of (find (λ p. makes path p.unit) (pairs_before (first_rows build.rows b) build n)))
+  paired = ap (λ fs. option_map (λ f. standing_of_outcome f.outcome) (find (λ f. makes path f.unit) fs)) (done_paired (first_rows build.rows b) build n)
+    ∙ ap (option_map (λ f. standing_of_outcome f.outcome)) (find_mapped path (pairs_before (first_rows build.rows b) build n))
+  by : (o : Option ℕ) → number_from 0 path build.units ≡ o → option_map (λ m. standing_of_came (came_to build m)) o
+    ≡ option_map (λ f. standing_of_outcome f.outcome) (find (λ f. makes path f.unit) (done_in (first_rows build.rows b) build n))
+  by None e = sym (paired ∙ ap (λ o. option_map (λ f. standing_of_outcome f.outcome) (option_map finished_of o)) (find_none (first_rows build.rows b) build n path h.in_order e))
+  by (Some m) e =
+      let um = unit_numbered m path build.units e in
+      let found = find_some (first_rows build.rows b) build n m um.0 path h.in_order um.1 um.2 (h.in_order.earlier n m u path is among e) in
+      let there = outcome_there (came_to build m) (ready m path among e) in
+      let over : is_outcome (Some there.0) ≡ true = subst (λ o. is_outcome o ≡ true) there.1 (ready m path among e) in
+      let same = agree_standing b um.0 there.0 (outcome_in (first_rows build.rows b) build m um.0) (h.agrees m um.0 there.0 um.1 there.1 over) in
+      ap Some (ap standing_of_came there.1 ∙ same) ∙ sym (paired ∙ ap (λ o. option_map (λ f. standing_of_outcome f.outcome) (option_map finished_of o)) found)
+
+-- a ready unit ends without a run exactly as it does from nothing
+pub early_same : (b : Base) (build : Build) (n : ℕ) (u : Unit) → AgreesSoFar b build → unit_at build n ≡ Some u → IsReady build u →
+  early_in (first_rows build.rows b) build u ≡ early_from_nothing (first_rows build.rows b) build n u
+early_same b build n u h is ready =
+    ap (λ o. first_end (no_directory (sees_directory rows build.view) u.targets u.script ∷ option_map (λ path. Failed (NoRule path)) o
+      ∷ option_map Blocked (find (λ path. is_bad (here path)) u.prerequisites) ∷ no_script u.targets u.script ∷ []))
+      (find_agree (λ path. is_missing (here path)) (λ path. is_missing (fresh path)) u.prerequisites (λ path among. ap is_missing (standing_same b build n u path h is ready among)))
+    ∙ ap (λ o. first_end (no_directory (sees_directory rows build.view) u.targets u.script ∷ option_map (λ path. Failed (NoRule path)) (find (λ path. is_missing (fresh path)) u.prerequisites)
+      ∷ option_map Blocked o ∷ no_script u.targets u.script ∷ []))
+      (find_agree (λ path. is_bad (here path)) (λ path. is_bad (fresh path)) u.prerequisites (λ path among. ap is_bad (standing_same b build n u path h is ready among)))
+  where
+  rows : Base
+  rows = first_rows build.rows b
+  here : List ℕ → Standing
+  here path = standing_or_file (sees_file (first_rows build.rows b) build.view path) (standing_of_unit build path)
+  fresh : List ℕ → Standing
+  fresh path = standing_in (sees_file (first_rows build.rows b) build.view) (done_in (first_rows build.rows b) build n) path
