@@ -28,7 +28,7 @@ abbrev pub AllElements : Base → Catalog → Type 0
 AllElements b [] = ⊤
 AllElements b (entry ∷ catalog) = IsElement b entry.1 × AllElements b catalog
 
-element_stays : (row : Plain) (b : Base) (e : ℕ) → IsElement b e → IsElement (row ∷ b) e
+pub element_stays : (row : Plain) (b : Base) (e : ℕ) → IsElement b e → IsElement (row ∷ b) e
 element_stays row b e h = by (kind_of (tree b) e) refl h
   where
   by : (o : Option Kind) → kind_of (tree b) e ≡ o → is_some o ≡ true → IsElement (row ∷ b) e

@@ -31,7 +31,7 @@ use Rattle.legal_history.proofs.Passed.{Made, made_by, unless_passes, fits_by}
 use Rattle.legal_history.proofs.VersionsStay.{Parts, parts_of, of_element}
 
 -- what is there, by its test
-some_of : {A : Type 0} (o : Option A) → is_some o ≡ true → (a : A) × (o ≡ Some a)
+pub some_of : {A : Type 0} (o : Option A) → is_some o ≡ true → (a : A) × (o ≡ Some a)
 some_of None h = absurd (cc)
 some_of (Some a) h = (a, refl)
 
@@ -55,7 +55,7 @@ first_found [] r v h = absurd (cc)
 first_found (one ∷ more) r v h = refl
 
 -- beside a version there is a latest one
-has_latest : (b : Base) (e r : ℕ) → is_version_of b e r ≡ true → is_some (latest_beside b r) ≡ true
+pub has_latest : (b : Base) (e r : ℕ) → is_version_of b e r ≡ true → is_some (latest_beside b r) ≡ true
 has_latest b e r h =
     let p = of_element b e r h in
     let parts = parts_of (tree b) r p.0 p.1 in
@@ -63,11 +63,11 @@ has_latest b e r h =
     ap (λ o. is_some (option_and_then (λ branch. latest (tree b) branch None) o)) branch
     ∙ first_found (versions_on (tree b) (branch_of_change parts.change)) r parts.version parts.found
 
-latest_passes : (version : ℕ) (newest : Option ℕ) → is_some newest ≡ true → refused_unless_same version newest ≡ None → is_number version newest ≡ true
+pub latest_passes : (version : ℕ) (newest : Option ℕ) → is_some newest ≡ true → refused_unless_same version newest ≡ None → is_number version newest ≡ true
 latest_passes version None there h = absurd (cc)
 latest_passes version (Some newest) there h = unless_passes _ _ h
 
-none_mapped : {A : Type 0} (f : A → Refusal) (o : Option A) → option_map f o ≡ None → is_none o ≡ true
+pub none_mapped : {A : Type 0} (f : A → Refusal) (o : Option A) → option_map f o ≡ None → is_none o ≡ true
 none_mapped f None h = refl
 none_mapped f (Some a) h = absurd (cc)
 

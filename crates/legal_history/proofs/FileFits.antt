@@ -74,7 +74,7 @@ private_below b v names name None row h = absurd (cc)
 private_below b v names name (Some entries) row h =
     private_of_or (private b v (joined names)) (element_at b v names (named name entries)) row (no_private_element b v names (named name entries)) h
 
-private_at : (b : Base) (v : List ℕ) (back : List (List ℕ)) (row : ℕ) → at_names b v back ≡ Private row → private b v (joined (reverse back)) ≡ Some row
+pub private_at : (b : Base) (v : List ℕ) (back : List (List ℕ)) (row : ℕ) → at_names b v back ≡ Private row → private b v (joined (reverse back)) ≡ Some row
 private_at b v [] row h = absurd (no_private 0 (selected b v 0 []) row h)
 private_at b v (name ∷ above) row h = private_below b v (reverse (name ∷ above)) name (entries_of b v (at_names b v above)) row h
 

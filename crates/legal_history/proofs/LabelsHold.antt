@@ -74,7 +74,7 @@ labels_hold (row ∷ older) h =
     (held_on row older (labels older) (labels_hold older (rows_below row older h)))
 
 -- the greater of two numbers is one of them
-greater : (P : ℕ → Type 0) (a b : ℕ) → P a → P b → P (max a b)
+pub greater : (P : ℕ → Type 0) (a b : ℕ) → P a → P b → P (max a b)
 greater P a b p q = elim (nat_le a b) as (λ (x : Bool). nat_le a b ≡ x → P (max a b)) [
     | true ↦ λ test. let le : a ≤ b = grind (arith, nat_tests) in let same : b ≡ max a b = omega arith in subst P same q
     | false ↦ λ test. let le : b ≤ a = grind (arith, nat_tests) in let same : a ≡ max a b = omega arith in subst P same p

@@ -4,6 +4,9 @@ mod CheckoutRows
 pub mod FileFits
 pub mod DirectoryFits
 pub mod CheckoutFits
+pub mod ElementFits
+pub mod DecidedFits
+pub mod FilesBelow
 mod FirstBuild
 pub mod Fronts
 pub mod Grows
@@ -13,6 +16,9 @@ pub mod Origins
 pub mod OnBranches
 pub mod LabelsHold
 pub mod Picks
+pub mod Makings
+pub mod Pairs
+pub mod FreshSeen
 mod QueryRows
 mod RecordRows
 mod ReuseRows

@@ -83,7 +83,7 @@ made_sound older tag moment (deeds.Branch v f origin name how) taken fit e =
 made_sound older tag moment deed taken fit e = absurd (cc)
 
 -- what a made checkout sets is its own
-set_is : (v : List ℕ) (e : ℕ) (made : Option TakenOut) (checkout : Checkout) → set_by v e made ≡ Sets checkout → (taken : TakenOut) × (made ≡ Some taken) × (taken.element ≡ e) × (taken.checkout ≡ checkout)
+pub set_is : (v : List ℕ) (e : ℕ) (made : Option TakenOut) (checkout : Checkout) → set_by v e made ≡ Sets checkout → (taken : TakenOut) × (made ≡ Some taken) × (taken.element ≡ e) × (taken.checkout ≡ checkout)
 set_is v e None checkout h = absurd (cc)
 set_is v e (Some taken) checkout h = by (bytes_eq taken.view v && (taken.element == e)) refl h
   where
@@ -96,7 +96,7 @@ ends_nothing : (test : Bool) (checkout : Checkout) → only_if test Ends ≡ Set
 ends_nothing true checkout h = cc
 ends_nothing false checkout h = cc
 
-out_sets : (v : List ℕ) (e n : ℕ) (deed : Deed) (checkout : Checkout) → out_effect v e n deed ≡ Sets checkout → set_by v e (made_out n deed) ≡ Sets checkout
+pub out_sets : (v : List ℕ) (e n : ℕ) (deed : Deed) (checkout : Checkout) → out_effect v e n deed ≡ Sets checkout → set_by v e (made_out n deed) ≡ Sets checkout
 out_sets v e n (deeds.Mkview w) checkout h = absurd (ends_nothing _ checkout h)
 out_sets v e n (deeds.Rmview w) checkout h = absurd (ends_nothing _ checkout h)
 out_sets v e n (deeds.Checkin w f) checkout h = absurd (ends_nothing _ checkout h)

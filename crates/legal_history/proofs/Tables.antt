@@ -19,12 +19,13 @@ pub find_put_other : {X : Type 0} (q k : ℕ) (x : X) (table : List (ℕ × X)) 
   find nat_cmp q (put nat_cmp k x table) ≡ find nat_cmp q table
 find_put_other q k x table e = find_after_put q k x table ∙ ap (λ b. cond b (Some x) (find nat_cmp q table)) e
 
+-- numbers that tie are the same
+pub tied : (q x : ℕ) → nat_cmp q x ≡ Equal → q ≡ x
+tied q x e = grind (arith, nat_tests, sym (unsigned_tied q x), ap is_eq e)
+
 -- a key that is taken out is found no more, and any other key as before
 alike : (k q x : ℕ) → nat_cmp q x ≡ Equal → not (x == k) ≡ not (q == k)
 alike k q x e = ap (λ y. not (y == k)) (sym (tied q x e))
-  where
-  tied : (q x : ℕ) → nat_cmp q x ≡ Equal → q ≡ x
-  tied q x e = grind (arith, nat_tests, sym (unsigned_tied q x), ap is_eq e)
 
 pub find_without : {X : Type 0} (q k : ℕ) (table : List (ℕ × X)) →
   find nat_cmp q (where_key nat_cmp (λ key. not (key == k)) table) ≡ cond (not (q == k)) (find nat_cmp q table) None

@@ -13,6 +13,7 @@ pub mod ElementTexts
 pub mod FileLines
 pub mod Fits
 pub mod Fresh
+pub mod Freshness
 pub mod Growth
 pub mod HistoryTexts
 pub mod LabelLines

@@ -1,13 +1,12 @@
 -- What a unit of an active build may do next, by what the build's other units have come to.
-use Rattle.std.specs.Prelude.{ℕ, ◌+◌, Bool, true, ◌&&◌, Option, Some, None, Result, Err, List, [], ◌∷◌, option_map}
+use Rattle.std.specs.Prelude.{ℕ, ◌+◌, Bool, true, ◌&&◌, Option, Some, None, Result, Ok, Err, List, [], ◌∷◌, option_map}
 use Rattle.std.specs.List.{list_all}
 use Rattle.cc_names.specs.declared.refusals.ScriptFault.{ScriptFault}
-use Rattle.cc_names.specs.declared.refusals.ScriptFault.TheVariants as faults
 use Rattle.cc_names.specs.declared.steps.UnitEnd.{UnitEnd}
 use Rattle.cc_names.specs.declared.steps.UnitEnd.TheVariants.{Failed}
 use Rattle.cc_names.specs.declared.refusals.UnitFault.TheVariants.{Script}
 use Rattle.cc_names.specs.declared.units.Unit.{Unit}
-use Rattle.build_script.specs.Run.{nothing_written, run}
+use Rattle.build_script.specs.Lines.{script_of}
 use Rattle.legal_history.specs.Base.{Base, first_rows}
 use Rattle.legal_history.specs.Builds.{Build, Came, Started, Ended, came_to, is_outcome, unit_with}
 use Rattle.legal_history.specs.Fresh.{script_text, sees_file, sees_directory}
@@ -49,14 +48,14 @@ all_over build n (unit ∷ units) = is_outcome (came_to build n) && all_over bui
 abbrev pub is_complete : Build → Bool
 is_complete build = all_over build 0 build.units
 
--- the fault of a text that is no script
-abbrev pub bad_line : Result (List (List ℕ)) ScriptFault → Option ScriptFault
-bad_line (Err (faults.BadLine line)) = Some (faults.BadLine line)
-bad_line result = None
+-- the fault of a text that cannot be read
+abbrev pub fault_of : {A : Type 0} → Result A ScriptFault → Option ScriptFault
+fault_of (Err fault) = Some fault
+fault_of (Ok script) = None
 
--- The fault of a script that cannot be read, which no file changes.
+-- The fault of a unit's script that cannot be read.
 abbrev pub unreadable : Unit → Option ScriptFault
-unreadable unit = bad_line (run (script_text unit.script) unit.targets nothing_written).result
+unreadable unit = fault_of (script_of (script_text unit.script))
 
 -- what a unit that is started comes to: where its script cannot be read, this is its outcome
 abbrev pub came_by_start : Option ScriptFault → Came

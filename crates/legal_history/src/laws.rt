@@ -1,11 +1,16 @@
 // The laws of bases and of stories, each the contract of a function with an empty body.
 
-ghost use Rattle.std.specs.Prelude.{◌≡◌, ℕ, ◌<◌, ◌≤◌, List, ◌++◌, Some};
+ghost use Rattle.std.specs.Prelude.{◌≡◌, ℕ, ◌<◌, ◌≤◌, List, ◌++◌, Some, Ok, true};
+ghost use Rattle.cc_names.specs.declared.commands.Command.{Command};
+ghost use Rattle.cc_names.specs.declared.rows.Deed.{Deed};
 ghost use Rattle.cc_names.specs.declared.steps.Told.{Told};
 ghost use Rattle.legal_history.specs.Base.{Base, size, first_rows, row_at};
 ghost use Rattle.legal_history.specs.Builds.{Build, build_of};
 ghost use Rattle.legal_history.specs.Catalogs.{catalog_of};
+ghost use Rattle.legal_history.specs.Decisions.{Scene, Makes};
+ghost use Rattle.legal_history.specs.Fits.{fits, is_base};
 ghost use Rattle.legal_history.specs.Growth.{Extends, Goes};
+ghost use Rattle.legal_history.specs.Lines.{decision};
 ghost use Rattle.legal_history.specs.States.{State};
 ghost use Rattle.legal_history.specs.Steps.{after, state_of};
 ghost use Rattle.legal_history.specs.Stories.{Lawful, Legal};
@@ -32,5 +37,11 @@ pub fn a_base_only_grows()
 /// unit has changed.
 pub fn a_build_goes_on()
     ensures { (s : State) (x : Told) (lane : ℕ) (build : Build) → build_of s.active lane ≡ Some build → Lawful s x → Goes build (build_of (after s x).active lane) }
+{
+}
+
+/// A row that is decided of a command fits the base, for every command that makes one.
+pub fn a_decided_row_fits()
+    ensures { (s : Scene) (command : Command) (deed : Deed) → is_base s.base ≡ true → decision s command ≡ Ok (Makes deed) → fits s.base deed ≡ true }
 {
 }
