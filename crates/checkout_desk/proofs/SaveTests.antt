@@ -46,6 +46,7 @@ saves_there b v path n plain there below_root =
   where
     free : saves_at b v path Nothing ≡ None
     free = ap (λ object. refused_where (is_some object) (refusals.IsDerived path)) (nothing_held b v path plain)
+
     over : (file : Option ℕ) → saves_at b v path (private_or file Nothing) ≡ None
     over None = free
     over (Some row) = refl
@@ -65,11 +66,11 @@ only_one (Some refusal) = refl
 pub only_room : (s : Scene) (b : Base) (now : ℕ) (v path : List ℕ) (room n : ℕ) → Sees s b now v None room → is_unversioned b ≡ true → view_row b v ≡ Some n → is_root path ≡ false → first_refusal (parent_tests b (parent path) (at b v (parent path))) ≡ None → needs_room s 1 ≡ first_refusal (save_tests s v path ++ needs_room s 1 ∷ [])
 only_room s b now v path room n sees plain there below_root above =
     sym (ap (λ base. first_refusal (needs_view base v ∷ needs_idle s v ∷ needs_selected (parent path) (at base v (parent path)) ∷ needs_directory base (parent path) (at base v (parent path)) ∷ saves_at base v path (at base v path) ∷ needs_room s 1 ∷ [])) sees.base
-      ∙ ap (λ row. first_refusal (refused_unless (is_some row) refusals.NoView ∷ needs_idle s v ∷ needs_selected (parent path) (at b v (parent path)) ∷ needs_directory b (parent path) (at b v (parent path)) ∷ saves_at b v path (at b v path) ∷ needs_room s 1 ∷ [])) there
-      ∙ ap (λ build. first_refusal (option_map refusals.Building build ∷ needs_selected (parent path) (at b v (parent path)) ∷ needs_directory b (parent path) (at b v (parent path)) ∷ saves_at b v path (at b v path) ∷ needs_room s 1 ∷ [])) sees.busy
-      ∙ passed (needs_selected (parent path) (at b v (parent path))) (needs_directory b (parent path) (at b v (parent path))) (saves_at b v path (at b v path) ∷ needs_room s 1 ∷ []) above
-      ∙ ap (λ r. first_refusal (r ∷ needs_room s 1 ∷ [])) (saves_there b v path n plain there below_root)
-      ∙ only_one (needs_room s 1))
+    ∙ ap (λ row. first_refusal (refused_unless (is_some row) refusals.NoView ∷ needs_idle s v ∷ needs_selected (parent path) (at b v (parent path)) ∷ needs_directory b (parent path) (at b v (parent path)) ∷ saves_at b v path (at b v path) ∷ needs_room s 1 ∷ [])) there
+    ∙ ap (λ build. first_refusal (option_map refusals.Building build ∷ needs_selected (parent path) (at b v (parent path)) ∷ needs_directory b (parent path) (at b v (parent path)) ∷ saves_at b v path (at b v path) ∷ needs_room s 1 ∷ [])) sees.busy
+    ∙ passed (needs_selected (parent path) (at b v (parent path))) (needs_directory b (parent path) (at b v (parent path))) (saves_at b v path (at b v path) ∷ needs_room s 1 ∷ []) above
+    ∙ ap (λ r. first_refusal (r ∷ needs_room s 1 ∷ [])) (saves_there b v path n plain there below_root)
+    ∙ only_one (needs_room s 1))
 
 -- the value of an option that is not none
 pub value_of : (o : Option ℕ) → is_none o ≡ false → (n : ℕ) × (o ≡ Some n)

@@ -47,13 +47,7 @@ fn branch(
     Ok(())
 }
 
-fn version(
-    alloc: Global,
-    tree: &mut Tree,
-    row: u64,
-    moment: u64,
-    branch: u64,
-) -> Result<(), Fail>
+fn version(alloc: Global, tree: &mut Tree, row: u64, moment: u64, branch: u64) -> Result<(), Fail>
     requires { IsAbove row (map row_of_change tree.old.changes) }
     ensures { OnOk result (IsAbove (row + 1) (map row_of_change tree.new.changes)) }
 {
@@ -109,16 +103,51 @@ fn rolls(alloc: Global) -> Result<Rolls, Fail> {
 type Case = (&'static str, u64, Option<u64>, Option<(u64, u32, bool)>);
 
 const CASES: [Case; 33] = [
-    ("element in .../fix/LATEST\nelement in /main/LATEST -time 14-Nov-2023.22:13:21\nelement * CHECKEDOUT\nelement * /main/LATEST\n", 4, None, Some((2, 2, false))),
-    ("element * CHECKEDOUT\nelement * /main/LATEST\n", 11, None, Some((3, 2, false))),
-    ("element * CHECKEDOUT\nelement * /main/LATEST\n", 11, Some(10), Some((10, 1, true))),
-    ("element * CHECKEDOUT -time 1-Jan-1970.00:00:00", 11, Some(10), Some((10, 1, true))),
+    (
+        "element in .../fix/LATEST\nelement in /main/LATEST -time 14-Nov-2023.22:13:21\nelement * CHECKEDOUT\nelement * /main/LATEST\n",
+        4,
+        None,
+        Some((2, 2, false)),
+    ),
+    (
+        "element * CHECKEDOUT\nelement * /main/LATEST\n",
+        11,
+        None,
+        Some((3, 2, false)),
+    ),
+    (
+        "element * CHECKEDOUT\nelement * /main/LATEST\n",
+        11,
+        Some(10),
+        Some((10, 1, true)),
+    ),
+    (
+        "element * CHECKEDOUT -time 1-Jan-1970.00:00:00",
+        11,
+        Some(10),
+        Some((10, 1, true)),
+    ),
     ("element * /main/LATEST", 1, None, None),
     ("element * /main/LATEST", 2, None, Some((1, 1, false))),
     ("element * /main/LATEST", 3, None, Some((2, 1, false))),
-    ("element * /main/LATEST -time 14-Nov-2023.22:13:20", 11, None, None),
-    ("element * /main/LATEST -time 14-Nov-2023.22:13:22", 11, None, Some((3, 1, false))),
-    ("time 14-Nov-2023.22:13:21\nelement * /main/LATEST\nend time", 11, None, Some((2, 2, false))),
+    (
+        "element * /main/LATEST -time 14-Nov-2023.22:13:20",
+        11,
+        None,
+        None,
+    ),
+    (
+        "element * /main/LATEST -time 14-Nov-2023.22:13:22",
+        11,
+        None,
+        Some((3, 1, false)),
+    ),
+    (
+        "time 14-Nov-2023.22:13:21\nelement * /main/LATEST\nend time",
+        11,
+        None,
+        Some((2, 2, false)),
+    ),
     ("element * .../fix/LATEST", 11, None, Some((5, 1, false))),
     ("element * .../fix/LATEST", 5, None, Some((4, 1, false))),
     ("element * .../fix/LATEST", 4, None, None),
@@ -126,12 +155,22 @@ const CASES: [Case; 33] = [
     ("element * .../main/LATEST", 11, None, Some((3, 1, false))),
     ("element * .../dev/LATEST", 11, None, None),
     ("element * /main/fix/LATEST", 11, None, Some((5, 1, false))),
-    ("element * /main/fix/sub/LATEST", 11, None, Some((6, 1, false))),
+    (
+        "element * /main/fix/sub/LATEST",
+        11,
+        None,
+        Some((6, 1, false)),
+    ),
     ("element * /main/sub/LATEST", 11, None, None),
     ("element * /main/0", 11, None, Some((1, 1, false))),
     ("element * /main/2", 11, None, Some((3, 1, false))),
     ("element * /main/3", 11, None, None),
-    ("element * /main/fix/1 -time 1-Jan-1970.00:00:00", 11, None, Some((5, 1, false))),
+    (
+        "element * /main/fix/1 -time 1-Jan-1970.00:00:00",
+        11,
+        None,
+        Some((5, 1, false)),
+    ),
     ("element * REL", 7, None, None),
     ("element * REL", 8, None, Some((2, 1, false))),
     ("element * REL", 9, None, Some((3, 1, false))),
@@ -140,8 +179,18 @@ const CASES: [Case; 33] = [
     ("element in -config out@@10", 10, None, None),
     ("element in -config in@@10", 11, None, None),
     ("element a/in -none\nelement * /main/LATEST", 11, None, None),
-    ("element /in -none\nelement * /main/LATEST", 11, None, Some((3, 2, false))),
-    ("element b -none\nelement in REL\n\nelement /a/... /main/1 -nocheckout -mkbranch fix", 11, None, Some((2, 4, false))),
+    (
+        "element /in -none\nelement * /main/LATEST",
+        11,
+        None,
+        Some((3, 2, false)),
+    ),
+    (
+        "element b -none\nelement in REL\n\nelement /a/... /main/1 -nocheckout -mkbranch fix",
+        11,
+        None,
+        Some((2, 4, false)),
+    ),
 ];
 
 #[test]

@@ -4,16 +4,22 @@ ghost use Rattle.std.specs.Prelude.{◌≤◌};
 
 use super::*;
 use std::alloc::Global;
+use std::fs;
 use std::process::Abort;
 use std::test::Fail;
-use std::fs;
 
 fn put(rt: &impl Abort, disk: &mut MemoryDisk, place: u64, piece: &[u8]) -> Result<(), DiskFault> {
     assert!(rt; place <= disk.bytes(0).len() as u64);
     disk.write_at(0, place, piece)
 }
 
-fn stop(rt: &impl Abort, alloc: Global, disk: &MemoryDisk, call: u64, pick: u64) -> Result<MemoryDisk, Fail> {
+fn stop(
+    rt: &impl Abort,
+    alloc: Global,
+    disk: &MemoryDisk,
+    call: u64,
+    pick: u64,
+) -> Result<MemoryDisk, Fail> {
     assert!(rt; 1 <= call && call - 1 <= disk.counts().ticks);
     Ok(disk.crash(alloc, call, pick)?)
 }
@@ -43,7 +49,13 @@ fn a_stop_keeps_what_the_pick_says(rt: HostRuntime) -> Result<(), Fail> {
         let left = stop(&rt, rt.alloc(), &disk, call, pick)?;
         assert_eq!(rt; left.bytes(0), found);
         assert_eq!(rt; left.bytes(1), b"o".as_slice());
-        assert_eq!(rt; left.counts(), Counts { ticks: 0, faults: 0 });
+        assert_eq!(rt;
+            left.counts(),
+            Counts {
+                ticks: 0,
+                faults: 0
+            }
+        );
     }
     Ok(())
 }
@@ -53,9 +65,21 @@ fn a_failed_write_spoils_its_range(rt: HostRuntime) -> Result<(), Fail> {
     let mut disk = MemoryDisk::new(rt.alloc(), b"abcd", b"", &[1])?;
     assert!(rt; put(&rt, &mut disk, 1, b"xyz").is_err());
     assert_eq!(rt; disk.bytes(0), b"axyd".as_slice());
-    assert_eq!(rt; disk.counts(), Counts { ticks: 1, faults: 1 });
-    assert_eq!(rt; stop(&rt, rt.alloc(), &disk, 1, 0)?.bytes(0), b"abcd".as_slice());
-    assert_eq!(rt; stop(&rt, rt.alloc(), &disk, 2, 7)?.bytes(0), b"a\x07\x07\x07".as_slice());
+    assert_eq!(rt;
+        disk.counts(),
+        Counts {
+            ticks: 1,
+            faults: 1
+        }
+    );
+    assert_eq!(rt;
+        stop(&rt, rt.alloc(), &disk, 1, 0)?.bytes(0),
+        b"abcd".as_slice()
+    );
+    assert_eq!(rt;
+        stop(&rt, rt.alloc(), &disk, 2, 7)?.bytes(0),
+        b"a\x07\x07\x07".as_slice()
+    );
     Ok(())
 }
 
@@ -66,7 +90,13 @@ fn calls_fail_where_they_are_to(rt: HostRuntime) -> Result<(), Fail> {
     assert_eq!(rt; disk.length(0)?, 4);
     assert!(rt; disk.sync(1).is_err());
     disk.sync(0)?;
-    assert_eq!(rt; disk.counts(), Counts { ticks: 4, faults: 2 });
+    assert_eq!(rt;
+        disk.counts(),
+        Counts {
+            ticks: 4,
+            faults: 2
+        }
+    );
     let entries = disk.entries();
     assert_eq!(rt; entries.len(), 2);
     assert_eq!(rt; entries[0].failed_before, 1);
@@ -94,7 +124,13 @@ fn files_hold_what_was_written(rt: HostRuntime) -> Result<(), Fail> {
     assert!(rt; disk.read_at(0, 0, &mut much).is_err());
     assert_eq!(rt; disk.length(0)?, 5);
     assert_eq!(rt; disk.length(1)?, 0);
-    assert_eq!(rt; disk.counts(), Counts { ticks: 8, faults: 1 });
+    assert_eq!(rt;
+        disk.counts(),
+        Counts {
+            ticks: 8,
+            faults: 1
+        }
+    );
     fs::remove_file(&rt, "disk_model_content")?;
     fs::remove_file(&rt, "disk_model_content.objects")?;
     Ok(())

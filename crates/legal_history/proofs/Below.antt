@@ -18,24 +18,24 @@ use Rattle.legal_history.specs.Views.{Checkout, out}
 
 -- what holds where it is set, and stays when rows are added, holds of what was set last
 pub last_holds : {X A : Type 0} (P : List X → A → Type 0) (effect : List X → X → Effect A) →
-  ((x : X) (older : List X) (a : A) → P older a → P (x ∷ older) a) →
-  ((x : X) (older : List X) (a : A) → effect older x ≡ Sets a → P (x ∷ older) a) →
-  (xs : List X) (a : A) → last effect xs ≡ Some a → P xs a
+    ((x : X) (older : List X) (a : A) → P older a → P (x ∷ older) a) →
+    ((x : X) (older : List X) (a : A) → effect older x ≡ Sets a → P (x ∷ older) a) →
+    (xs : List X) (a : A) → last effect xs ≡ Some a → P xs a
 last_holds P effect stays sets [] a e = absurd (cc)
 last_holds {X} {A} P effect stays sets (x ∷ older) a e = by (effect older x) refl (last_holds P effect stays sets older a) e
   where
-  by : (f : Effect A) → effect older x ≡ f → (last effect older ≡ Some a → P older a) → left f (last effect older) ≡ Some a → P (x ∷ older) a
-  by Keeps is before e = stays x older a (before e)
-  by Ends is before e = absurd (cc)
-  by (Sets b) is before e = let same : b ≡ a = cc in sets x older a (is ∙ ap Sets same)
+    by : (f : Effect A) → effect older x ≡ f → (last effect older ≡ Some a → P older a) → left f (last effect older) ≡ Some a → P (x ∷ older) a
+    by Keeps is before e = stays x older a (before e)
+    by Ends is before e = absurd (cc)
+    by (Sets b) is before e = let same : b ≡ a = cc in sets x older a (is ∙ ap Sets same)
 
 -- a change of the trees is one with the number that it was found by
 pub found_change : (changes : List TreeChange) (r : ℕ) (c : TreeChange) → change_at changes r ≡ Some c → row_of_change c ≡ r
 found_change [] r c e = absurd (cc)
 found_change (change ∷ older) r c e = elim (row_of_change change == r) as (λ (x : Bool). (row_of_change change == r) ≡ x → cond x (Some change) (change_at older r) ≡ Some c → row_of_change c ≡ r) [
-    | true ↦ λ test found. let same : change ≡ c = cc in let number : row_of_change change ≡ r = grind (arith, nat_tests) in cc
-    | false ↦ λ test found. found_change older r c found
-  ] refl e
+  | true ↦ λ test found. let same : change ≡ c = cc in let number : row_of_change change ≡ r = grind (arith, nat_tests) in cc
+  | false ↦ λ test found. found_change older r c found
+] refl e
 
 -- a change behind a base's newest one is found as before
 pub older_change : (change : TreeChange) (before : List TreeChange) (r : ℕ) → (row_of_change change == r) ≡ false → change_at (change ∷ before) r ≡ change_at before r
@@ -54,23 +54,23 @@ pub record Within (n : ℕ) (changes : List TreeChange) : Type 0 where
 one_more_within : (n : ℕ) (change : TreeChange) (before : List TreeChange) → row_of_change change ≡ n → branch_of_change change < suc n → Within n before → Within (suc n) (change ∷ before)
 one_more_within n change before number branch h = record { numbers = λ r c e. (by r c (row_of_change change == r) refl e).0; branches = λ r c e. (by r c (row_of_change change == r) refl e).1 }
   where
-  by : (r : ℕ) (c : TreeChange) (x : Bool) → (row_of_change change == r) ≡ x → cond x (Some change) (change_at before r) ≡ Some c → (r < suc n) × (branch_of_change c < suc n)
-  by r c true test e = let same : change ≡ c = cc in (grind (arith, nat_tests), subst (λ c. branch_of_change c < suc n) same branch)
-  by r c false test e = let low = h.numbers r c e in let branch_low = h.branches r c e in (omega arith, omega arith)
+    by : (r : ℕ) (c : TreeChange) (x : Bool) → (row_of_change change == r) ≡ x → cond x (Some change) (change_at before r) ≡ Some c → (r < suc n) × (branch_of_change c < suc n)
+    by r c true test e = let same : change ≡ c = cc in (grind (arith, nat_tests), subst (λ c. branch_of_change c < suc n) same branch)
+    by r c false test e = let low = h.numbers r c e in let branch_low = h.branches r c e in (omega arith, omega arith)
 
 none_more_within : (n : ℕ) (before : List TreeChange) → Within n before → Within (suc n) before
 none_more_within n before h = record {
   numbers = λ r c e. let low = h.numbers r c e in omega arith;
-  branches = λ r c e. let low = h.branches r c e in omega arith
+  branches = λ r c e. let low = h.branches r c e in omega arith;
 }
 
 -- the branch of a version is that of the change that made it
 branch_within : (n : ℕ) (changes : List TreeChange) (r branch : ℕ) → Within n changes → branch_of_version changes r ≡ Some branch → branch < n
 branch_within n changes r branch h e = by (change_at changes r) refl e
   where
-  by : (o : Option TreeChange) → change_at changes r ≡ o → option_map branch_of_change o ≡ Some branch → branch < n
-  by None is e = absurd (cc)
-  by (Some c) is e = let same : branch_of_change c ≡ branch = cc in subst (λ m. m < n) same (h.branches r c is)
+    by : (o : Option TreeChange) → change_at changes r ≡ o → option_map branch_of_change o ≡ Some branch → branch < n
+    by None is e = absurd (cc)
+    by (Some c) is e = let same : branch_of_change c ≡ branch = cc in subst (λ m. m < n) same (h.branches r c is)
 
 version_within : (n moment : ℕ) (branch : Option ℕ) (before : List TreeChange) → ((m : ℕ) → branch ≡ Some m → m < n) → Within n before → Within (suc n) (with_version n moment branch before)
 version_within n moment None before low h = none_more_within n before h

@@ -31,9 +31,9 @@ AllElements b (entry ∷ catalog) = IsElement b entry.1 × AllElements b catalog
 pub element_stays : (row : Plain) (b : Base) (e : ℕ) → IsElement b e → IsElement (row ∷ b) e
 element_stays row b e h = by (kind_of (tree b) e) refl h
   where
-  by : (o : Option Kind) → kind_of (tree b) e ≡ o → is_some o ≡ true → IsElement (row ∷ b) e
-  by None is h = absurd (cc)
-  by (Some k) is h = ap is_some (kind_stays row b e k is)
+    by : (o : Option Kind) → kind_of (tree b) e ≡ o → is_some o ≡ true → IsElement (row ∷ b) e
+    by None is h = absurd (cc)
+    by (Some k) is h = ap is_some (kind_stays row b e k is)
 
 all_stay : (row : Plain) (b : Base) (catalog : Catalog) → AllElements b catalog → AllElements (row ∷ b) catalog
 all_stay row b [] h = tt
@@ -62,9 +62,9 @@ pub named_element : (b : Base) (name : List ℕ) (catalog : Catalog) (e : ℕ) �
 named_element b name [] e h is = absurd (cc)
 named_element b name (entry ∷ catalog) e h is = by (eq_by_cmp (slice_cmp nat_cmp) name entry.0) is (named_element b name catalog e h.1)
   where
-  by : (x : Bool) → cond x (Some entry.1) (named name catalog) ≡ Some e → (named name catalog ≡ Some e → IsElement b e) → IsElement b e
-  by true is rest = let same : entry.1 ≡ e = cc in subst (IsElement b) same h.0
-  by false is rest = rest is
+    by : (x : Bool) → cond x (Some entry.1) (named name catalog) ≡ Some e → (named name catalog ≡ Some e → IsElement b e) → IsElement b e
+    by true is rest = let same : entry.1 ≡ e = cc in subst (IsElement b) same h.0
+    by false is rest = rest is
 
 renamed_all : (b : Base) (name : List ℕ) (o : Option ℕ) (catalog : Catalog) → ((e : ℕ) → o ≡ Some e → IsElement b e) → AllElements b catalog → AllElements b (with_new_name name o catalog)
 renamed_all b name None catalog is h = h
@@ -97,8 +97,8 @@ row_adds row older v d (deeds.Mkelem w f name kind out_too) is =
     edit_first (row ∷ older) (bytes_eq w v && (size older == d) && out_too) (edit_where (bytes_eq w v && (f == d)) (Adds name (size older)))
     (edit_if (row ∷ older) (bytes_eq w v && (f == d)) (Adds name (size older)) new)
   where
-  new : IsElement (row ∷ older) (size older)
-  new = rw is (ap (λ b. is_some (option_and_then kind_by (cond b (Some (ElementMade (size older) row.moment kind)) (change_at (tree older) (size older))))) (same_is_same (size older)))
+    new : IsElement (row ∷ older) (size older)
+    new = rw is (ap (λ b. is_some (option_and_then kind_by (cond b (Some (ElementMade (size older) row.moment kind)) (change_at (tree older) (size older))))) (same_is_same (size older)))
 row_adds row older v d (deeds.Checkout w e origin reserved) is = edit_if (row ∷ older) (bytes_eq w v && (e == d)) (BeginsAs origin) tt
 row_adds row older v d (deeds.Branch w e origin name how) is = edit_if (row ∷ older) (bytes_eq w v && (e == d) && is_out how) (BeginsAs origin) tt
 row_adds row older v d (deeds.Rmname w f name) is = edit_if (row ∷ older) (bytes_eq w v && (f == d)) (Removes name) tt
@@ -106,7 +106,7 @@ row_adds row older v d (deeds.Mv w f from_name to_name) is = edit_if (row ∷ ol
 row_adds row older v d deed is = tt
 
 made_all : (b : Base) (test : Bool) (source : CatalogSource) (of_version : ℕ → Catalog) (of_checkout : List ℕ → ℕ → Catalog) (r : ℕ) →
-  ((r : ℕ) → AllElements b (of_version r)) → ((v : List ℕ) (d : ℕ) → AllElements b (of_checkout v d)) → AllElements b (made_or_older test source of_version of_checkout r)
+    ((r : ℕ) → AllElements b (of_version r)) → ((v : List ℕ) (d : ℕ) → AllElements b (of_checkout v d)) → AllElements b (made_or_older test source of_version of_checkout r)
 made_all b false source of_version of_checkout r h g = h r
 made_all b true Empty of_version of_checkout r h g = tt
 made_all b true (OfVersion origin) of_version of_checkout r h g = h origin
@@ -125,5 +125,5 @@ catalogued (row ∷ older) =
     let checkouts : (v : List ℕ) (d : ℕ) → AllElements (row ∷ older) (own_of older v d) = λ v d. all_stay row older (own_of older v d) (before.checkouts v d) in
     record {
       versions = λ r. made_all (row ∷ older) (size older == r) (catalog_source row.deed) (catalog_of older) (own_of older) r versions checkouts;
-      checkouts = λ v d. edited_all (row ∷ older) (edit_of v d (size older) row.deed) (catalog_of older) (own_of older v d) (row_adds row older v d row.deed refl) versions (checkouts v d)
+      checkouts = λ v d. edited_all (row ∷ older) (edit_of v d (size older) row.deed) (catalog_of older) (own_of older v d) (row_adds row older v d row.deed refl) versions (checkouts v d);
     }

@@ -43,11 +43,11 @@ file_or_directory (Some Directory) h d = absurd (cc)
 pub save_fits : (s : Scene) (v path text : List ℕ) → is_base s.base ≡ true → RowFits s (save s v path text)
 save_fits s v path text h = save_fits_by s v path text known
   where
-  known : (e : ℕ) → has_out s.base v e ≡ true → is_directory s.base e ≡ false → is_file s.base e ≡ true
-  known e taken no_directory =
-      let checkout = some_of (out s.base v e) taken in
-      let version = out_is_version s.base v e checkout.0 h checkout.1 in
-      file_or_directory (kind_of (tree s.base) e) (version_has_kind s.base e checkout.0.origin h version) no_directory
+    known : (e : ℕ) → has_out s.base v e ≡ true → is_directory s.base e ≡ false → is_file s.base e ≡ true
+    known e taken no_directory =
+        let checkout = some_of (out s.base v e) taken in
+        let version = out_is_version s.base v e checkout.0 h checkout.1 in
+        file_or_directory (kind_of (tree s.base) e) (version_has_kind s.base e checkout.0.origin h version) no_directory
 
 -- a branch with some version has a latest one
 first_found : (versions : List Version) (r : ℕ) (v : Version) → find (λ v. v.row == r) versions ≡ Some v → is_some (option_map row_of_version (find (λ v. is_before None v.moment) versions)) ≡ true
@@ -72,7 +72,7 @@ none_mapped f None h = refl
 none_mapped f (Some a) h = absurd (cc)
 
 checked_in : (b : Base) (v : List ℕ) (e : ℕ) (taken : Option Checkout) → ((c : Checkout) → taken ≡ Some c → is_version_of b e c.origin ≡ true) → is_some taken ≡ true →
-  needs_no_other b v taken ≡ None → needs_latest_origin b taken ≡ None → may_check_in b v taken ≡ true
+    needs_no_other b v taken ≡ None → needs_latest_origin b taken ≡ None → may_check_in b v taken ≡ true
 checked_in b v e None known there free newest = absurd (cc)
 checked_in b v e (Some c) known there free newest =
     let alone : is_none (option_and_then (other_reserver b v) (branch_of b c)) ≡ true = none_mapped refusals.Reserved _ free in

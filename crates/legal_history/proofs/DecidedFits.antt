@@ -68,10 +68,10 @@ put_version : (b : Base) (e r : ℕ) (listing : Listing) → ((f : ℕ) → nat_
 put_version b e r [] tied is h = (is, tt)
 put_version b e r (entry ∷ listing) tied is h = by (nat_cmp e entry.0) refl (put_version b e r listing tied is h.1)
   where
-  by : (o : Ordering) → nat_cmp e entry.0 ≡ o → AllVersions b (put nat_cmp e r listing) → AllVersions b (by_order o ((e, r) ∷ entry ∷ listing) ((entry.0, r) ∷ listing) (entry ∷ put nat_cmp e r listing))
-  by Less place rest = (is, h)
-  by Equal place rest = (tied entry.0 place, h.1)
-  by Greater place rest = (h.0, rest)
+    by : (o : Ordering) → nat_cmp e entry.0 ≡ o → AllVersions b (put nat_cmp e r listing) → AllVersions b (by_order o ((e, r) ∷ entry ∷ listing) ((entry.0, r) ∷ listing) (entry ∷ put nat_cmp e r listing))
+    by Less place rest = (is, h)
+    by Equal place rest = (tied entry.0 place, h.1)
+    by Greater place rest = (h.0, rest)
 
 greatest_version : (b : Base) (e r : ℕ) (o : Option ℕ) → is_version_of b e r ≡ true → ((m : ℕ) → o ≡ Some m → is_version_of b e m ≡ true) → is_version_of b e (greater_of r o) ≡ true
 greatest_version b e r None own others = own
@@ -82,7 +82,7 @@ one_version b row None sources is h = h
 one_version b row (Some p) sources is h =
     let r = greater_of row (find nat_cmp p.element (listing_of b sources)) in
     let version : is_version_of b p.element r ≡ true =
-        greatest_version b p.element row (find nat_cmp p.element (listing_of b sources)) (is_version b p.element row p is refl) (λ m found. (all_listed b sources).lists p.element m found) in
+    greatest_version b p.element row (find nat_cmp p.element (listing_of b sources)) (is_version b p.element row p is refl) (λ m found. (all_listed b sources).lists p.element m found) in
     put_version b p.element r (listing_of b sources) (λ f same. subst (λ f. is_version_of b f r ≡ true) (tied p.element f same) version) version h
 
 all_versions : (b : Base) (sources : Sources) → AllVersions b (listing_of b sources)
@@ -94,7 +94,7 @@ all_placed b [] h = refl
 all_placed b (entry ∷ listing) h = let first : is_version_of b entry.0 entry.1 ≡ true = h.0 in let rest = all_placed b listing h.1 in rw (first, rest) refl
 
 labels_made : (s : Scene) (tests : List (Option Refusal)) (label : List ℕ) (placed : List Placed) (made : Deed) → list_all (is_placed s.base) placed ≡ true →
-  ((m : Made s tests (deeds.Labels label placed) made) → is_label_type s.base label ≡ true) → labels_or_nothing s tests label placed ≡ Ok (Makes made) → fits s.base made ≡ true
+    ((m : Made s tests (deeds.Labels label placed) made) → is_label_type s.base label ≡ true) → labels_or_nothing s tests label placed ≡ Ok (Makes made) → fits s.base made ≡ true
 labels_made s tests label [] made all type h = absurd (answers_nothing tests [] made h)
 labels_made s tests label (one ∷ more) made all type h =
     let m = made_by s tests (deeds.Labels label (one ∷ more)) made h in
@@ -124,12 +124,12 @@ due_fit : (b : Base) (moment age : ℕ) (rows : Base) → list_all (may_be_scrub
 due_fit b moment age [] = refl
 due_fit b moment age (row ∷ older) = by (is_some (live b (size older)) && not (is_held (held b) (size older))) (nat_le (row.moment + age) moment) refl (due_fit b moment age older)
   where
-  by : (x y : Bool) → may_be_scrubbed b (size older) ≡ x → list_all (may_be_scrubbed b) (due_among b moment age older) ≡ true →
-    list_all (may_be_scrubbed b) (put_if (x && y) (size older) (due_among b moment age older)) ≡ true
-  by true true may rest = rw (may, rest) refl
-  by true false may rest = rest
-  by false true may rest = rest
-  by false false may rest = rest
+    by : (x y : Bool) → may_be_scrubbed b (size older) ≡ x → list_all (may_be_scrubbed b) (due_among b moment age older) ≡ true →
+        list_all (may_be_scrubbed b) (put_if (x && y) (size older) (due_among b moment age older)) ≡ true
+    by true true may rest = rw (may, rest) refl
+    by true false may rest = rest
+    by false true may rest = rest
+    by false false may rest = rest
 
 scrub_made : (s : Scene) (objects : List ℕ) (made : Deed) → list_all (may_be_scrubbed s.base) objects ≡ true → scrub_of s objects ≡ Ok (Makes made) → fits s.base made ≡ true
 scrub_made s [] made all h = absurd (answers_nothing [] [] made h)

@@ -87,8 +87,8 @@ saves_by b v path e true h = absurd (cc)
 saves_by b v path e false h = (refl, was_out path (out b v e) h)
 
 saved_element : (s : Scene) (v path text : List ℕ) (e : ℕ) (made : Deed) → nat_lt (size s.base) row_limit ≡ true →
-  ((e : ℕ) → has_out s.base v e ≡ true → is_directory s.base e ≡ false → is_file s.base e ≡ true) →
-  saves_element (is_directory s.base e) path (out s.base v e) ≡ None → made ≡ deeds.Save v e text → fits s.base made ≡ true
+    ((e : ℕ) → has_out s.base v e ≡ true → is_directory s.base e ≡ false → is_file s.base e ≡ true) →
+    saves_element (is_directory s.base e) path (out s.base v e) ≡ None → made ≡ deeds.Save v e text → fits s.base made ≡ true
 saved_element s v path text e made room known h is =
     let both = saves_by s.base v path e (is_directory s.base e) h in
     let file : is_file s.base e ≡ true = known e both.1 both.0 in
@@ -97,8 +97,8 @@ saved_element s v path text e made room known h is =
 
 -- a save's own tests, by what stands at its path
 save_made : (s : Scene) (v path text : List ℕ) (seen : Seen) (made : Deed) → exists s.base v ≡ true → nat_lt (size s.base) row_limit ≡ true →
-  ((e : ℕ) → has_out s.base v e ≡ true → is_directory s.base e ≡ false → is_file s.base e ≡ true) →
-  saves_at s.base v path seen ≡ None → made ≡ save_deed v path text seen → fits s.base made ≡ true
+    ((e : ℕ) → has_out s.base v e ≡ true → is_directory s.base e ≡ false → is_file s.base e ≡ true) →
+    saves_at s.base v path seen ≡ None → made ≡ save_deed v path text seen → fits s.base made ≡ true
 save_made s v path text (Private row) made there room known h is = fits_by s.base (deeds.Put v path text) made room is there
 save_made s v path text Nothing made there room known h is = fits_by s.base (deeds.Put v path text) made room is there
 save_made s v path text (Element e picked) made there room known h is = saved_element s v path text e made room known h is
@@ -106,7 +106,7 @@ save_made s v path text (Unselected e) made there room known h is = saved_elemen
 
 -- the row of a save fits, where an element that the view has out and that is no directory is a file
 pub save_fits_by : (s : Scene) (v path text : List ℕ) →
-  ((e : ℕ) → has_out s.base v e ≡ true → is_directory s.base e ≡ false → is_file s.base e ≡ true) → RowFits s (save s v path text)
+    ((e : ℕ) → has_out s.base v e ≡ true → is_directory s.base e ≡ false → is_file s.base e ≡ true) → RowFits s (save s v path text)
 save_fits_by s v path text known made h =
     let m = made_by s (save_tests s v path) (save_deed v path text (at s.base v path)) made h in
     save_made s v path text (at s.base v path) made (unless_passes _ _ m.pass.0) m.room known m.pass.1.1.1.1.0 m.is

@@ -43,7 +43,7 @@ record Picks (b : Base) (v : List ℕ) (e : ℕ) (picked : Picked) : Type 0 wher
   pick : IsPick b v e picked
 
 picks_at : (b : Base) (v path : List ℕ) (seen : Seen) → is_base b ≡ true → at b v path ≡ seen → needs_selected path seen ≡ None → needs_element path seen ≡ None →
-  Picks b v (element_of seen) (picked_of seen)
+    Picks b v (element_of seen) (picked_of seen)
 picks_at b v path (Private row) base is h g = absurd (cc)
 picks_at b v path (Element e picked) base is h g =
     let seen = seen_element b v (reverse (names_of path)) e picked is in
@@ -55,24 +55,24 @@ picks_at b v path Nothing base is h g = absurd (cc)
 picked_version : (b : Base) (v : List ℕ) (e : ℕ) (picked : Picked) → is_base b ≡ true → IsPick b v e picked → is_some (out b v e) ≡ false → is_version_of b e picked.row ≡ true
 picked_version b v e picked base pick idle = by picked.out refl
   where
-  by : (own : Bool) → picked.out ≡ own → is_version_of b e picked.row ≡ true
-  by true is = absurd (let taken = making_is_out b v e picked.row base (pick.own is) in cc)
-  by false is = pick.version is
+    by : (own : Bool) → picked.out ≡ own → is_version_of b e picked.row ≡ true
+    by true is = absurd (let taken = making_is_out b v e picked.row base (pick.own is) in cc)
+    by false is = pick.version is
 
 -- the same where only a picked checkout is asked not to be
 picked_no_checkout : (b : Base) (v : List ℕ) (e : ℕ) (picked : Picked) → is_base b ≡ true → IsPick b v e picked → needs_version_picked picked.out (out b v e) ≡ None → is_version_of b e picked.row ≡ true
 picked_no_checkout b v e picked base pick h = by picked.out refl h
   where
-  by : (own : Bool) → picked.out ≡ own → needs_version_picked own (out b v e) ≡ None → is_version_of b e picked.row ≡ true
-  by true is h = absurd (let taken = making_is_out b v e picked.row base (pick.own is) in let idle = was_not_out (out b v e) h in cc)
-  by false is h = pick.version is
+    by : (own : Bool) → picked.out ≡ own → needs_version_picked own (out b v e) ≡ None → is_version_of b e picked.row ≡ true
+    by true is h = absurd (let taken = making_is_out b v e picked.row base (pick.own is) in let idle = was_not_out (out b v e) h in cc)
+    by false is h = pick.version is
 
 no_some : {A : Type 0} (o : Option A) → is_none o ≡ true → is_some o ≡ false
 no_some None h = refl
 no_some (Some a) h = absurd (cc)
 
 branch_fits : (b : Base) (v : List ℕ) (e origin : ℕ) (name : List ℕ) (how : Out) (made : Deed) → nat_lt (size b) row_limit ≡ true → exists b v ≡ true → is_some (out b v e) ≡ false →
-  is_version_of b e origin ≡ true → needs_branch_type b name ≡ None → needs_no_branch b e name ≡ None → made ≡ deeds.Branch v e origin name how → fits b made ≡ true
+    is_version_of b e origin ≡ true → needs_branch_type b name ≡ None → needs_no_branch b e name ≡ None → made ≡ deeds.Branch v e origin name how → fits b made ≡ true
 branch_fits b v e origin name how made room there idle version typed free is =
     let type : is_branch_type b name ≡ true = unless_passes _ _ typed in
     let new : has_branch b e name ≡ false = no_some (branch_named (tree b) e name) (none_mapped refusals.BranchExists _ free) in
@@ -84,8 +84,8 @@ reserve_passes b origin true h = refl
 reserve_passes b origin false h = none_mapped refusals.Reserved _ h.0
 
 checkout_made : (s : Scene) (v : List ℕ) (unreserved : Bool) (seen : Seen) (name : Option (List ℕ)) (made : Deed) → nat_lt (size s.base) row_limit ≡ true →
-  exists s.base v ≡ true → is_some (out s.base v (element_of seen)) ≡ false → is_version_of s.base (element_of seen) (picked_of seen).row ≡ true →
-  AllPass (checkout_by s.base unreserved (element_of seen) (picked_of seen) name) → made ≡ checkout_deed v unreserved seen name → fits s.base made ≡ true
+    exists s.base v ≡ true → is_some (out s.base v (element_of seen)) ≡ false → is_version_of s.base (element_of seen) (picked_of seen).row ≡ true →
+    AllPass (checkout_by s.base unreserved (element_of seen) (picked_of seen) name) → made ≡ checkout_deed v unreserved seen name → fits s.base made ≡ true
 checkout_made s v unreserved seen (Some name) made room there idle version h is =
     branch_fits s.base v (element_of seen) (picked_of seen).row name (out_by unreserved) made room there idle version h.0 h.1.0 is
 checkout_made s v unreserved seen None made room there idle version h is =
@@ -130,8 +130,8 @@ apart_too m n h = grind (arith, nat_tests)
 
 -- an arrow's own tests, by the version at its tail
 arrow_made : (s : Scene) (v path : List ℕ) (seen : Seen) (tail : Option ℕ) (made : Deed) → is_base s.base ≡ true → at s.base v path ≡ seen →
-  ((t : ℕ) → IsElement s.base (element_of seen) → tail ≡ Some t → is_version_of s.base (element_of seen) t ≡ true) →
-  mkarrow_to s v path seen tail ≡ Ok (Makes made) → fits s.base made ≡ true
+    ((t : ℕ) → IsElement s.base (element_of seen) → tail ≡ Some t → is_version_of s.base (element_of seen) t ≡ true) →
+    mkarrow_to s v path seen tail ≡ Ok (Makes made) → fits s.base made ≡ true
 arrow_made s v path seen None made base is known h =
     let m = made_by s (mkarrow_tests s v path seen None) (deeds.Arrow (element_of seen) 0 (picked_of seen).row) made h in absurd (let refused = m.pass.1.1.1.0 in cc)
 arrow_made s v path seen (Some t) made base is known h =

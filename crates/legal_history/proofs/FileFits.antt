@@ -69,7 +69,7 @@ no_private_element b v names None r h = cc
 no_private_element b v names (Some e) r h = no_private e (selected b v e names) r h
 
 private_below : (b : Base) (v : List ℕ) (names : List (List ℕ)) (name : List ℕ) (entries : Option Catalog) (row : ℕ) →
-  below b v names name entries ≡ Private row → private b v (joined names) ≡ Some row
+    below b v names name entries ≡ Private row → private b v (joined names) ≡ Some row
 private_below b v names name None row h = absurd (cc)
 private_below b v names name (Some entries) row h =
     private_of_or (private b v (joined names)) (element_at b v names (named name entries)) row (no_private_element b v names (named name entries)) h
@@ -91,8 +91,8 @@ rm_fits s v path made h =
     let there : private s.base v path ≡ Some seen.0 = subst (λ p. private s.base v p ≡ Some seen.0) back (private_at s.base v (reverse (names_of path)) seen.0 seen.1) in
     fits_by s.base (deeds.Rm v path) made m.room m.is (rw there refl)
   where
-  back : joined (reverse (reverse (names_of path))) ≡ path
-  back = ap joined (reverse-reverse (names_of path)) ∙ joined-names_of path
+    back : joined (reverse (reverse (names_of path))) ≡ path
+    back = ap joined (reverse-reverse (names_of path)) ∙ joined-names_of path
 
 pub mktype_fits : (s : Scene) (kind : TypeKind) (name : List ℕ) → RowFits s (mktype s kind name)
 mktype_fits s kind name made h =

@@ -99,46 +99,47 @@ making_is_below b v e r h =
 pick_is_below : (b : Base) (v : List ℕ) (e : ℕ) (picked : Picked) → IsPick b v e picked → picked.row < size b
 pick_is_below b v e picked h = by picked.out refl
   where
-  by : (own : Bool) → picked.out ≡ own → picked.row < size b
-  by true is = making_is_below b v e picked.row (h.own is)
-  by false is =
-      let p = of_element b e picked.row (h.version is) in
-      let parts = parts_of (tree b) picked.row p.0 p.1 in
-      (within b).numbers picked.row parts.change parts.made
+    by : (own : Bool) → picked.out ≡ own → picked.row < size b
+    by true is = making_is_below b v e picked.row (h.own is)
+    by false is =
+        let p = of_element b e picked.row (h.version is) in
+        let parts = parts_of (tree b) picked.row p.0 p.1 in
+        (within b).numbers picked.row parts.change parts.made
 
 pub file_is_below : (b : Base) (v path : List ℕ) (r : ℕ) → is_base b ≡ true → file_at b v path ≡ Some r → r < size b
 file_is_below b v path r base h = by (at b v path) refl h
   where
-  of_kind : (picked : Picked) (k : Option Kind) → row_of_file picked k ≡ Some r → picked.row ≡ r
-  of_kind picked None h = absurd (cc)
-  of_kind picked (Some File) h = cc
-  of_kind picked (Some Directory) h = absurd (cc)
-  by : (seen : Seen) → at b v path ≡ seen → file_seen b seen ≡ Some r → r < size b
-  by (Private row) is h = let same : row ≡ r = cc in subst (λ r. r < size b) same (private_is_below b v (joined (reverse (reverse (names_of path)))) row (private_at b v (reverse (names_of path)) row is))
-  by (Element e picked) is h =
-      let seen = seen_element b v (reverse (names_of path)) e picked is in
-      let same : picked.row ≡ r = of_kind picked (kind_of (tree b) e) h in
-      subst (λ r. r < size b) same (pick_is_below b v e picked (picked_is b v e (reverse (reverse (names_of path))) picked base seen.element seen.picks))
-  by (Unselected e) is h = absurd (cc)
-  by Nothing is h = absurd (cc)
+    of_kind : (picked : Picked) (k : Option Kind) → row_of_file picked k ≡ Some r → picked.row ≡ r
+    of_kind picked None h = absurd (cc)
+    of_kind picked (Some File) h = cc
+    of_kind picked (Some Directory) h = absurd (cc)
+
+    by : (seen : Seen) → at b v path ≡ seen → file_seen b seen ≡ Some r → r < size b
+    by (Private row) is h = let same : row ≡ r = cc in subst (λ r. r < size b) same (private_is_below b v (joined (reverse (reverse (names_of path)))) row (private_at b v (reverse (names_of path)) row is))
+    by (Element e picked) is h =
+        let seen = seen_element b v (reverse (names_of path)) e picked is in
+        let same : picked.row ≡ r = of_kind picked (kind_of (tree b) e) h in
+        subst (λ r. r < size b) same (pick_is_below b v e picked (picked_is b v e (reverse (reverse (names_of path))) picked base seen.element seen.picks))
+    by (Unselected e) is h = absurd (cc)
+    by Nothing is h = absurd (cc)
 
 -- a base is its first rows with the others behind them
 pub beyond : (b : Base) (t : ℕ) → Extends (first_rows t b) b
 beyond [] t = record { more = []; is = refl }
 beyond (row ∷ older) t = elim (nat_lt (size older) t) as (λ (x : Bool). nat_lt (size older) t ≡ x → Extends (first_rows t (row ∷ older)) (row ∷ older)) [
-    | true ↦ λ test. let low : size older < t = ltb-true _ _ test in record { more = []; is = sym (all_rows (row ∷ older) t (omega arith)) }
-    | false ↦ λ test. let high : t ≤ size older = ltb-false _ _ test in
-        let rest = beyond older t in
-        record { more = row ∷ rest.more; is = ap (λ b. row ∷ b) rest.is ∙ ap (λ b. row ∷ (rest.more ++ b)) (sym (first_rows_stay row older t high)) }
-  ] refl
+  | true ↦ λ test. let low : size older < t = ltb-true _ _ test in record { more = []; is = sym (all_rows (row ∷ older) t (omega arith)) }
+  | false ↦ λ test. let high : t ≤ size older = ltb-false _ _ test in
+      let rest = beyond older t in
+      record { more = row ∷ rest.more; is = ap (λ b. row ∷ b) rest.is ∙ ap (λ b. row ∷ (rest.more ++ b)) (sym (first_rows_stay row older t high)) }
+] refl
 
 -- the text of a file that is seen in the first rows is what the base has there
 pub file_text : (b : Base) (t : ℕ) (v path : List ℕ) → is_base (first_rows t b) ≡ true → text_of_row b path (file_at (first_rows t b) v path) ≡ texts (first_rows t b) v path
 file_text b t v path base = by (file_at (first_rows t b) v path) refl
   where
-  by : (o : Option ℕ) → file_at (first_rows t b) v path ≡ o → text_of_row b path o ≡ option_and_then (λ row. text (first_rows t b) row path) o
-  by None is = refl
-  by (Some r) is =
-      let low = file_is_below (first_rows t b) v path r base is in
-      let more = beyond b t in
-      ap (λ b. text b r path) more.is ∙ text_stays_all more.more (first_rows t b) r path low
+    by : (o : Option ℕ) → file_at (first_rows t b) v path ≡ o → text_of_row b path o ≡ option_and_then (λ row. text (first_rows t b) row path) o
+    by None is = refl
+    by (Some r) is =
+        let low = file_is_below (first_rows t b) v path r base is in
+        let more = beyond b t in
+        ap (λ b. text b r path) more.is ∙ text_stays_all more.more (first_rows t b) r path low

@@ -49,24 +49,24 @@ owner_has_kind changes r p h e =
 
 -- a kind stays where a change by a later row is put in front
 kind_behind : (change : TreeChange) (before : List TreeChange) (e : ℕ) → ((c : TreeChange) → change_at before e ≡ Some c → (row_of_change change == e) ≡ false) →
-  is_some (kind_of before e) ≡ true → is_some (kind_of (change ∷ before) e) ≡ true
+    is_some (kind_of before e) ≡ true → is_some (kind_of (change ∷ before) e) ≡ true
 kind_behind change before e apart h = by (change_at before e) refl h
   where
-  by : (o : Option TreeChange) → change_at before e ≡ o → is_some (option_and_then kind_by o) ≡ true → is_some (kind_of (change ∷ before) e) ≡ true
-  by None is h = absurd (cc)
-  by (Some c) is h = ap (λ o. is_some (option_and_then kind_by o)) (older_change change before e (apart c is) ∙ is) ∙ h
+    by : (o : Option TreeChange) → change_at before e ≡ o → is_some (option_and_then kind_by o) ≡ true → is_some (kind_of (change ∷ before) e) ≡ true
+    by None is h = absurd (cc)
+    by (Some c) is h = ap (λ o. is_some (option_and_then kind_by o)) (older_change change before e (apart c is) ∙ is) ∙ h
 
 later_apart : (n : ℕ) (change : TreeChange) (before : List TreeChange) → row_of_change change ≡ n → Within n before → (e : ℕ) (c : TreeChange) → change_at before e ≡ Some c → (row_of_change change == e) ≡ false
 later_apart n change before number w e c is = let low = w.numbers e c is in grind (arith, nat_tests)
 
 -- one more change, whose own element has a kind
 one_more_owned : (n : ℕ) (change : TreeChange) (before : List TreeChange) → row_of_change change ≡ n → Within n before → AllOwned before →
-  ((e : ℕ) → element_by change ≡ Some e → is_some (kind_of (change ∷ before) e) ≡ true) → AllOwned (change ∷ before)
+    ((e : ℕ) → element_by change ≡ Some e → is_some (kind_of (change ∷ before) e) ≡ true) → AllOwned (change ∷ before)
 one_more_owned n change before number w h own = record { kinds = λ r c e. by r c e (row_of_change change == r) refl }
   where
-  by : (r : ℕ) (c : TreeChange) (e : ℕ) (x : Bool) → (row_of_change change == r) ≡ x → cond x (Some change) (change_at before r) ≡ Some c → element_by c ≡ Some e → is_some (kind_of (change ∷ before) e) ≡ true
-  by r c e true test is owns = let same : change ≡ c = cc in own e (ap element_by same ∙ owns)
-  by r c e false test is owns = kind_behind change before e (later_apart n change before number w e) (h.kinds r c e is owns)
+    by : (r : ℕ) (c : TreeChange) (e : ℕ) (x : Bool) → (row_of_change change == r) ≡ x → cond x (Some change) (change_at before r) ≡ Some c → element_by c ≡ Some e → is_some (kind_of (change ∷ before) e) ≡ true
+    by r c e true test is owns = let same : change ≡ c = cc in own e (ap element_by same ∙ owns)
+    by r c e false test is owns = kind_behind change before e (later_apart n change before number w e) (h.kinds r c e is owns)
 
 version_owned : (n moment : ℕ) (branch : Option ℕ) (before : List TreeChange) → Within n before → AllOwned before → AllOwned (with_version n moment branch before)
 version_owned n moment None before w h = h
@@ -96,12 +96,13 @@ row_owned older moment (deeds.Mkelem v directory name kind taken) fit h =
 row_owned older moment (deeds.Branch v f origin name taken) fit h =
     one_more_owned (size older) (BranchMade (size older) moment f origin name) (tree older) refl (within older) h own
   where
-  has_kind : is_some (kind_of (tree older) f) ≡ true
-  has_kind = let p = of_element older f origin (third_of (exists older v) (not (has_out older v f)) (is_version_of older f origin) (is_branch_type older name) (not (has_branch older f name)) fit) in subst (λ e. is_some (kind_of (tree older) e) ≡ true) p.2 (owner_has_kind (tree older) origin p.0 h p.1)
-  own : (e : ℕ) → Some f ≡ Some e → is_some (kind_of (BranchMade (size older) moment f origin name ∷ tree older) e) ≡ true
-  own e same = let number : f ≡ e = cc in
-      subst (λ e. is_some (kind_of (BranchMade (size older) moment f origin name ∷ tree older) e) ≡ true) number
-      (kind_behind (BranchMade (size older) moment f origin name) (tree older) f (later_apart (size older) (BranchMade (size older) moment f origin name) (tree older) refl (within older) f) has_kind)
+    has_kind : is_some (kind_of (tree older) f) ≡ true
+    has_kind = let p = of_element older f origin (third_of (exists older v) (not (has_out older v f)) (is_version_of older f origin) (is_branch_type older name) (not (has_branch older f name)) fit) in subst (λ e. is_some (kind_of (tree older) e) ≡ true) p.2 (owner_has_kind (tree older) origin p.0 h p.1)
+
+    own : (e : ℕ) → Some f ≡ Some e → is_some (kind_of (BranchMade (size older) moment f origin name ∷ tree older) e) ≡ true
+    own e same = let number : f ≡ e = cc in
+        subst (λ e. is_some (kind_of (BranchMade (size older) moment f origin name ∷ tree older) e) ≡ true) number
+        (kind_behind (BranchMade (size older) moment f origin name) (tree older) f (later_apart (size older) (BranchMade (size older) moment f origin name) (tree older) refl (within older) f) has_kind)
 row_owned older moment (deeds.Checkin v e) fit h = checkin_owned (size older) moment (out older v e) (tree older) (within older) h
 row_owned older moment deed fit h = h
 
@@ -114,4 +115,3 @@ all_owned (row ∷ older) h = row_owned older row.moment row.deed (row_fits row 
 pub version_has_kind : (b : Base) (e r : ℕ) → is_base b ≡ true → is_version_of b e r ≡ true → is_some (kind_of (tree b) e) ≡ true
 version_has_kind b e r h is =
     let p = of_element b e r is in subst (λ e. is_some (kind_of (tree b) e) ≡ true) p.2 (owner_has_kind (tree b) r p.0 (all_owned b h) p.1)
-

@@ -54,20 +54,20 @@ length_taken (y ∷ ys) zero x h = refl
 length_taken (y ∷ ys) (suc n) x h = ap suc (length_taken ys n x h)
 
 members_behind : (build : Build) (k : ℕ) (xs : List Unit) (u : Unit) (earlier : List Member) →
-  members_from build k (xs ++ (u ∷ [])) earlier ≡ record { unit = u; came = came_to build (k + length xs) } ∷ members_from build k xs earlier
+    members_from build k (xs ++ (u ∷ [])) earlier ≡ record { unit = u; came = came_to build (k + length xs) } ∷ members_from build k xs earlier
 members_behind build k [] u earlier = ap (λ m. record { unit = u; came = came_to build m } ∷ earlier) zero_more
   where
-  zero_more : k ≡ k + 0
-  zero_more = omega arith
+    zero_more : k ≡ k + 0
+    zero_more = omega arith
 members_behind build k (x ∷ xs) u earlier =
     members_behind build (k + 1) xs u (record { unit = x; came = came_to build k } ∷ earlier)
     ∙ ap (λ m. record { unit = u; came = came_to build m } ∷ members_from build (k + 1) xs (record { unit = x; came = came_to build k } ∷ earlier)) later
   where
-  later : (k + 1) + length xs ≡ k + suc (length xs)
-  later = omega arith
+    later : (k + 1) + length xs ≡ k + suc (length xs)
+    later = omega arith
 
 members_next : (rows : Base) (build : Build) (n : ℕ) (o : Option Unit) → unit_at build n ≡ o → members_before build n ≡ map member_of (pairs_before rows build n) →
-  members_before build (suc n) ≡ map member_of (with_pair rows build n o (pairs_before rows build n))
+    members_before build (suc n) ≡ map member_of (with_pair rows build n o (pairs_before rows build n))
 members_next rows build n None is h = ap (λ us. members_from build 0 us []) (take_all build.units n is) ∙ h
 members_next rows build n (Some u) is h =
     ap (λ us. members_from build 0 us []) (take_next build.units n u is)
@@ -75,15 +75,15 @@ members_next rows build n (Some u) is h =
     ∙ ap (λ m. record { unit = u; came = came_to build m } ∷ members_before build n) place
     ∙ ap (λ ms. record { unit = u; came = came_to build n } ∷ ms) h
   where
-  place : 0 + length (take n build.units) ≡ n
-  place = let e = length_taken build.units n u is in omega arith
+    place : 0 + length (take n build.units) ≡ n
+    place = let e = length_taken build.units n u is in omega arith
 
 pub members_paired : (rows : Base) (build : Build) (n : ℕ) → members_before build n ≡ map member_of (pairs_before rows build n)
 members_paired rows build zero = refl
 members_paired rows build (suc n) = members_next rows build n (unit_at build n) refl (members_paired rows build n)
 
 done_next : (rows : Base) (build : Build) (n : ℕ) (o : Option Unit) → unit_at build n ≡ o → done_in rows build n ≡ map finished_of (pairs_before rows build n) →
-  done_in rows build (suc n) ≡ map finished_of (with_pair rows build n o (pairs_before rows build n))
+    done_in rows build (suc n) ≡ map finished_of (with_pair rows build n o (pairs_before rows build n))
 done_next rows build n None is h = ap (λ us. serial (texts rows build.view) (sees_file rows build.view) (sees_directory rows build.view) (reverse us)) (take_all build.units n is) ∙ h
 done_next rows build n (Some u) is h =
     ap (λ us. serial (texts rows build.view) (sees_file rows build.view) (sees_directory rows build.view) (reverse us)) (take_next build.units n u is)
@@ -100,6 +100,6 @@ needed_mapped f unit paths [] = refl
 needed_mapped {A} {B} f unit paths (x ∷ xs) = elim (list_any (λ path. makes path (unit (f x))) paths) as (λ (b : Bool).
     elim b as (λ (b : Bool). List B) [ true ↦ f x ∷ needed unit (paths ++ (unit (f x)).prerequisites) (map f xs) | false ↦ needed unit paths (map f xs) ]
     ≡ map f (elim b as (λ (b : Bool). List A) [ true ↦ x ∷ needed (λ a. unit (f a)) (paths ++ (unit (f x)).prerequisites) xs | false ↦ needed (λ a. unit (f a)) paths xs ])) [
-    | true ↦ ap (λ ys. f x ∷ ys) (needed_mapped f unit (paths ++ (unit (f x)).prerequisites) xs)
-    | false ↦ needed_mapped f unit paths xs
-  ]
+      | true ↦ ap (λ ys. f x ∷ ys) (needed_mapped f unit (paths ++ (unit (f x)).prerequisites) xs)
+      | false ↦ needed_mapped f unit paths xs
+    ]

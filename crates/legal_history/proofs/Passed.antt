@@ -60,7 +60,7 @@ made_by s tests deed made h =
     record {
       pass = front_passes tests (needs_room s 1 ∷ []) passed;
       room = room_left s (rest_passes tests (needs_room s 1 ∷ []) passed).0;
-      is = cc
+      is = cc;
     }
 
 -- a query makes no row

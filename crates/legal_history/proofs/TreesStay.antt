@@ -57,22 +57,22 @@ tree_below (row ∷ older) t h =
 pub tree_of_first_rows : (b : Base) (t : ℕ) → 0 < t → of_first_rows t (tree b) ≡ tree (first_rows t b)
 tree_of_first_rows [] t h = tree_below [] t (omega arith)
 tree_of_first_rows (row ∷ older) t h = elim (nat_lt (size older) t) as (λ (x : Bool). nat_lt (size older) t ≡ x → of_first_rows t (tree (row ∷ older)) ≡ tree (first_rows t (row ∷ older))) [
-    | true ↦ λ test. let lower : size older < t = ltb-true _ _ test in
-        tree_below (row ∷ older) t (omega arith) ∙ ap tree (sym (all_rows (row ∷ older) t (omega arith)))
-    | false ↦ λ test. let higher : t ≤ size older = ltb-false _ _ test in
-        left_out t (size older) (tree older) (tree (row ∷ older)) higher (adds_row older row.moment row.deed (tree older))
-        ∙ tree_of_first_rows older t h ∙ ap tree (sym (first_rows_stay row older t higher))
-  ] refl
+  | true ↦ λ test. let lower : size older < t = ltb-true _ _ test in
+      tree_below (row ∷ older) t (omega arith) ∙ ap tree (sym (all_rows (row ∷ older) t (omega arith)))
+  | false ↦ λ test. let higher : t ≤ size older = ltb-false _ _ test in
+      left_out t (size older) (tree older) (tree (row ∷ older)) higher (adds_row older row.moment row.deed (tree older))
+      ∙ tree_of_first_rows older t h ∙ ap tree (sym (first_rows_stay row older t higher))
+] refl
 
 -- labels that one row places: left out at or behind the limit, kept before it
 places_out : (t n : ℕ) (label : List ℕ) (placed : List Placed) (changes : List LabelChange) → t ≤ n →
-  labels_of_first_rows t (all_placed n label placed changes) ≡ labels_of_first_rows t changes
+    labels_of_first_rows t (all_placed n label placed changes) ≡ labels_of_first_rows t changes
 places_out t n label [] changes h = refl
 places_out t n label (one ∷ more) changes h =
     places_out t n label more (Put n label one.element one.version ∷ changes) h ∙ grind (arith, nat_tests)
 
 places_kept : (t n : ℕ) (label : List ℕ) (placed : List Placed) (changes : List LabelChange) → n < t →
-  labels_of_first_rows t changes ≡ changes → labels_of_first_rows t (all_placed n label placed changes) ≡ all_placed n label placed changes
+    labels_of_first_rows t changes ≡ changes → labels_of_first_rows t (all_placed n label placed changes) ≡ all_placed n label placed changes
 places_kept t n label [] changes h same = same
 places_kept t n label (one ∷ more) changes h same =
     places_kept t n label more (Put n label one.element one.version ∷ changes) h (grind (arith, nat_tests, same))
@@ -84,7 +84,7 @@ labels_out t n (deeds.Labels label placed) changes h = places_out t n label plac
 labels_out t n deed changes h = refl
 
 labels_kept : (t n : ℕ) (deed : Deed) (changes : List LabelChange) → n < t → labels_of_first_rows t changes ≡ changes →
-  labels_of_first_rows t (labels_after n deed changes) ≡ labels_after n deed changes
+    labels_of_first_rows t (labels_after n deed changes) ≡ labels_after n deed changes
 labels_kept t n (deeds.Label label e version) changes h same = grind (arith, nat_tests, same)
 labels_kept t n (deeds.Unlabel label e) changes h same = grind (arith, nat_tests, same)
 labels_kept t n (deeds.Labels label placed) changes h same = places_kept t n label placed changes h same
@@ -99,8 +99,8 @@ labels_below (row ∷ older) t h = labels_kept t (size older) row.deed (labels o
 pub labels_of_first : (b : Base) (t : ℕ) → labels_of_first_rows t (labels b) ≡ labels (first_rows t b)
 labels_of_first [] t = refl
 labels_of_first (row ∷ older) t = elim (nat_lt (size older) t) as (λ (x : Bool). nat_lt (size older) t ≡ x → labels_of_first_rows t (labels (row ∷ older)) ≡ labels (first_rows t (row ∷ older))) [
-    | true ↦ λ test. let lower : size older < t = ltb-true _ _ test in
-        labels_below (row ∷ older) t (omega arith) ∙ ap labels (sym (all_rows (row ∷ older) t (omega arith)))
-    | false ↦ λ test. let higher : t ≤ size older = ltb-false _ _ test in
-        labels_out t (size older) row.deed (labels older) higher ∙ labels_of_first older t ∙ ap labels (sym (first_rows_stay row older t higher))
-  ] refl
+  | true ↦ λ test. let lower : size older < t = ltb-true _ _ test in
+      labels_below (row ∷ older) t (omega arith) ∙ ap labels (sym (all_rows (row ∷ older) t (omega arith)))
+  | false ↦ λ test. let higher : t ≤ size older = ltb-false _ _ test in
+      labels_out t (size older) row.deed (labels older) higher ∙ labels_of_first older t ∙ ap labels (sym (first_rows_stay row older t higher))
+] refl

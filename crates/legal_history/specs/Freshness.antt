@@ -55,4 +55,4 @@ pub record AgreesSoFar (b : Base) (build : Build) : Type 0 where
   pub ready : (n : ℕ) (unit : Unit) → unit_at build n ≡ Some unit → is_some (came_to build n) ≡ true → IsReady build unit
   pub runs : (n : ℕ) (unit : Unit) → unit_at build n ≡ Some unit → came_to build n ≡ Some Started → early_from_nothing (first_rows build.rows b) build n unit ≡ None
   pub agrees : (n : ℕ) (unit : Unit) (came : Came) → unit_at build n ≡ Some unit → came_to build n ≡ Some came → is_outcome (Some came) ≡ true →
-    Agrees b unit came (outcome_in (first_rows build.rows b) build n unit)
+      Agrees b unit came (outcome_in (first_rows build.rows b) build n unit)

@@ -34,9 +34,9 @@ output_of_run path targets (Some outputs) = output_at path targets outputs
 abbrev pub text_of_entry : Base → (ℕ → Option Ran) → List ℕ → ℕ → Option (List ℕ)
 text_of_entry b again path zero = None
 text_of_entry b again path (suc row) = elim (is_publish b (suc row)) [
-    | true ↦ output_of_run path (targets_of b (suc row)) (outputs_of_run (again (suc row)))
-    | false ↦ text b (suc row) path
-  ]
+  | true ↦ output_of_run path (targets_of b (suc row)) (outputs_of_run (again (suc row)))
+  | false ↦ text b (suc row) path
+]
 
 -- the texts of the entries of a record
 abbrev pub texts_of_entries : Base → (ℕ → Option Ran) → List ReadOf → Files
@@ -110,9 +110,9 @@ IsSound b = (id : ℕ) → is_dead_or_true b id ≡ true
 abbrev pub text_seen : Base → Files → (ℕ → Option Ran) → List ℕ → ℕ → Option (List ℕ)
 text_seen b seen again path zero = None
 text_seen b seen again path (suc row) = elim (is_publish b (suc row)) [
-    | true ↦ output_of_run path (targets_of b (suc row)) (outputs_of_run (again (suc row)))
-    | false ↦ seen path
-  ]
+  | true ↦ output_of_run path (targets_of b (suc row)) (outputs_of_run (again (suc row)))
+  | false ↦ seen path
+]
 
 abbrev pub texts_seen : Base → Files → (ℕ → Option Ran) → List ReadOf → Files
 texts_seen b seen again entries path = option_and_then (text_seen b seen again path) (row_in entries path)

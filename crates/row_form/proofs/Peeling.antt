@@ -13,9 +13,10 @@ use Rattle.row_form.specs.Reading.{NoneAt}
 
 -- two fronts of one length that are followed by something are the same
 pub fronts : (a b x y : List ℕ) → length a ≡ length b → a ++ x ≡ b ++ y → (a ≡ b) × (x ≡ y)
-fronts a b x y len e =
-    (sym (take_at a x (length a) refl) ∙ ap (take (length a)) e ∙ take_at b y (length a) (sym len),
-     sym (drop_at a x (length a) refl) ∙ ap (drop (length a)) e ∙ drop_at b y (length a) (sym len))
+fronts a b x y len e = (
+  sym (take_at a x (length a) refl) ∙ ap (take (length a)) e ∙ take_at b y (length a) (sym len),
+  sym (drop_at a x (length a) refl) ∙ ap (drop (length a)) e ∙ drop_at b y (length a) (sym len),
+)
 
 pub peel_byte : (m n : ℕ) (x y : List ℕ) → byte m ++ x ≡ byte n ++ y → (m ≡ n) × (x ≡ y)
 peel_byte m n x y e = (cc, cc)

@@ -74,9 +74,9 @@ same_rest form code (deeds.Mkview v) (deeds.Put w p b) x y hd he is = absurd (om
 same_rest form code (deeds.Mkview v) _ x y hd he is = absurd he.1
 same_rest form code (deeds.Put v p b) (deeds.Put w q c) x y hd he is =
     let one = peel_text v w ((text p ++ text b) ++ x) ((text q ++ text c) ++ y) (name_short v hd.0.0) (name_short w he.0.0)
-      (sym (append_assoc (text v) (text p ++ text b) x) ∙ is ∙ append_assoc (text w) (text q ++ text c) y) in
+    (sym (append_assoc (text v) (text p ++ text b) x) ∙ is ∙ append_assoc (text w) (text q ++ text c) y) in
     let two = peel_text p q (text b ++ x) (text c ++ y) (path_short p hd.0.1.0) (path_short q he.0.1.0)
-      (sym (append_assoc (text p) (text b) x) ∙ one.1 ∙ append_assoc (text q) (text c) y) in
+    (sym (append_assoc (text p) (text b) x) ∙ one.1 ∙ append_assoc (text q) (text c) y) in
     (peel_text b c x y hd.0.2 he.0.2 two.1).1
 same_rest form code (deeds.Put v p b) (deeds.Mkview w) x y hd he is = absurd (omega (arith, hd.3, he.3))
 same_rest form code (deeds.Put v p b) _ x y hd he is = absurd he.1

@@ -74,4 +74,4 @@ first_byte _ = 1
 abbrev pub spelled : Plain → List ℕ
 spelled row =
     first_byte row.deed ∷ (word row.tag.phase ++ (word row.tag.lane ++ (word row.tag.command ++ (long row.moment
-      ++ (code_of row.deed ∷ fields_of row.deed)))))
+    ++ (code_of row.deed ∷ fields_of row.deed)))))

@@ -56,7 +56,11 @@ fn read_tag(cursor: &mut Cursor<'_>) -> Result<Tag, NotARow>
         Err(fault) => return Err(fault),
     };
     match cursor.word() {
-        Ok(command) => Ok(Tag { phase, lane, command }),
+        Ok(command) => Ok(Tag {
+            phase,
+            lane,
+            command,
+        }),
         Err(fault) => Err(fault),
     }
 }
@@ -107,13 +111,23 @@ fn read_head(cursor: &mut Cursor<'_>) -> Result<Head, NotARow>
         Err(fault) => return Err(fault),
     };
     match cursor.byte() {
-        Ok(code) => Ok(Head { form, tag, moment, code }),
+        Ok(code) => Ok(Head {
+            form,
+            tag,
+            moment,
+            code,
+        }),
         Err(fault) => Err(fault),
     }
 }
 
 /// The deed of this first byte and code.
-fn read_deed(alloc: Global, cursor: &mut Cursor<'_>, form: u8, code: u8) -> Result<Deed, Or<NotARow>>
+fn read_deed(
+    alloc: Global,
+    cursor: &mut Cursor<'_>,
+    form: u8,
+    code: u8,
+) -> Result<Deed, Or<NotARow>>
     ensures { ReadsOr fields_of (IsDeedOf form code) result cursor.old.rest.now cursor.new.rest.now }
 {
     if form == 1 && code == 1 {

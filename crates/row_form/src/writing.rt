@@ -44,8 +44,20 @@ fn first_byte(deed: &Deed) -> u8
     ensures { result ≡ first_byte deed.now }
 {
     match deed {
-        Deed::Publish { view: _, targets, script: _, entries: _, outputs: _ } => form_of(targets.as_slice()),
-        Deed::PublishAt { view: _, targets, script: _, entries: _, outputs: _ } => form_of(targets.as_slice()),
+        Deed::Publish {
+            view: _,
+            targets,
+            script: _,
+            entries: _,
+            outputs: _,
+        } => form_of(targets.as_slice()),
+        Deed::PublishAt {
+            view: _,
+            targets,
+            script: _,
+            entries: _,
+            outputs: _,
+        } => form_of(targets.as_slice()),
         _ => 1,
     }
 }
@@ -132,7 +144,11 @@ fn put_path(out: &mut Vec<u8>, path: &Path) -> Result<(), NoMemory>
 fn put_flag(out: &mut Vec<u8>, is: bool) -> Result<(), NoMemory>
     ensures { OnOk result (out.new.items ≡ out.old.items ++ flag is) }
 {
-    if is { put_byte(out, 1) } else { put_byte(out, 0) }
+    if is {
+        put_byte(out, 1)
+    } else {
+        put_byte(out, 0)
+    }
 }
 
 fn put_kind(out: &mut Vec<u8>, sort: Kind) -> Result<(), NoMemory>
@@ -276,7 +292,13 @@ fn put_two(out: &mut Vec<u8>, name: &Name, number: u64) -> Result<(), NoMemory>
     put_long(out, number)
 }
 
-fn put_object(out: &mut Vec<u8>, view: &Name, targets: &[Path], script: &Text, entries: &[ReadOf]) -> Result<(), NoMemory>
+fn put_object(
+    out: &mut Vec<u8>,
+    view: &Name,
+    targets: &[Path],
+    script: &Text,
+    entries: &[ReadOf],
+) -> Result<(), NoMemory>
     requires targets { length targets.now < 2 ^ 32 }
     requires script { IsText script.now }
     requires entries { length entries.now < 2 ^ 32 }
@@ -300,34 +322,64 @@ fn put_fields(out: &mut Vec<u8>, deed: &Deed) -> Result<(), NoMemory>
             put_name(out, view)?;
             put_body(out, text)
         }
-        Deed::Mkelem { view, directory, name, kind, out: is_out } => {
+        Deed::Mkelem {
+            view,
+            directory,
+            name,
+            kind,
+            out: is_out,
+        } => {
             put_two(out, view, *directory)?;
             put_name(out, name)?;
             put_kind(out, *kind)?;
             put_flag(out, *is_out)
         }
-        Deed::Checkout { view, element, origin, reserved } => {
+        Deed::Checkout {
+            view,
+            element,
+            origin,
+            reserved,
+        } => {
             put_two(out, view, *element)?;
             put_long(out, *origin)?;
             put_flag(out, *reserved)
         }
-        Deed::Branch { view, element, origin, name, out: how } => {
+        Deed::Branch {
+            view,
+            element,
+            origin,
+            name,
+            out: how,
+        } => {
             put_two(out, view, *element)?;
             put_long(out, *origin)?;
             put_name(out, name)?;
             put_out(out, *how)
         }
-        Deed::Save { view, element, text } => {
+        Deed::Save {
+            view,
+            element,
+            text,
+        } => {
             put_two(out, view, *element)?;
             put_body(out, text)
         }
         Deed::Checkin { view, element } => put_two(out, view, *element),
         Deed::Uncheckout { view, element } => put_two(out, view, *element),
-        Deed::Rmname { view, directory, name } => {
+        Deed::Rmname {
+            view,
+            directory,
+            name,
+        } => {
             put_two(out, view, *directory)?;
             put_name(out, name)
         }
-        Deed::Mv { view, directory, from_name, to_name } => {
+        Deed::Mv {
+            view,
+            directory,
+            from_name,
+            to_name,
+        } => {
             put_two(out, view, *directory)?;
             put_name(out, from_name)?;
             put_name(out, to_name)
@@ -345,12 +397,22 @@ fn put_fields(out: &mut Vec<u8>, deed: &Deed) -> Result<(), NoMemory>
             put_type_kind(out, *kind)?;
             put_name(out, name)
         }
-        Deed::Label { label, element, version } => {
+        Deed::Label {
+            label,
+            element,
+            version,
+        } => {
             put_two(out, label, *element)?;
             put_long(out, *version)
         }
         Deed::Unlabel { label, element } => put_two(out, label, *element),
-        Deed::Publish { view, targets, script, entries, outputs } => {
+        Deed::Publish {
+            view,
+            targets,
+            script,
+            entries,
+            outputs,
+        } => {
             put_object(out, view, targets.as_slice(), script, entries.as_slice())?;
             put_list(out, outputs.as_slice())
         }
@@ -364,11 +426,21 @@ fn put_fields(out: &mut Vec<u8>, deed: &Deed) -> Result<(), NoMemory>
             put_name(out, label)?;
             put_list(out, placed.as_slice())
         }
-        Deed::Arrow { element, tail, head } => {
+        Deed::Arrow {
+            element,
+            tail,
+            head,
+        } => {
             put_pair(out, *element, *tail)?;
             put_long(out, *head)
         }
-        Deed::PublishAt { view, targets, script, entries, outputs } => {
+        Deed::PublishAt {
+            view,
+            targets,
+            script,
+            entries,
+            outputs,
+        } => {
             put_object(out, view, targets.as_slice(), script, entries.as_slice())?;
             put_list(out, outputs.as_slice())
         }

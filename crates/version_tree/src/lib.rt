@@ -334,14 +334,13 @@ impl Tree {
         })
     }
 
-    /// The branch on which the version that a row made stands.
+    /// The branch on which the version that a row made stands. Takes time logarithmic in the rows.
     pub fn branch(&self, version: u64) -> Option<u64>
         ensures { result ≡ branch_of_version self.now.changes version }
     {
         Some(branch_of(self.change_at(version)?))
     }
 
-    /// The catalog of a directory's version, in byte order of names.
     /// The catalog of a directory's version, in byte order of names; empty where none was set. Takes constant time.
     pub fn entries(&self, version: u64) -> &[Entry]
         ensures catalog { result.now ≡ entries_in (contents_of self.now version) }

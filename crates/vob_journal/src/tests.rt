@@ -25,7 +25,11 @@ fn read_all(alloc: Global, journal: &mut Journal<MemoryDisk>) -> Result<u64, Fai
     Err(Fail::new("no end"))
 }
 
-fn commit(alloc: Global, journal: &mut Journal<MemoryDisk>, payload: &[u8]) -> Result<Result<u64, DiskFault>, Fail>
+fn commit(
+    alloc: Global,
+    journal: &mut Journal<MemoryDisk>,
+    payload: &[u8],
+) -> Result<Result<u64, DiskFault>, Fail>
     requires { journal.old.ended ≡ true }
     ensures { journal.new.ended ≡ true }
 {
@@ -37,7 +41,13 @@ fn commit(alloc: Global, journal: &mut Journal<MemoryDisk>, payload: &[u8]) -> R
 }
 
 /// How many payloads a disk holds that a stop left.
-fn found(rt: &impl Abort, alloc: Global, disk: &MemoryDisk, call: u64, pick: u64) -> Result<u64, Fail> {
+fn found(
+    rt: &impl Abort,
+    alloc: Global,
+    disk: &MemoryDisk,
+    call: u64,
+    pick: u64,
+) -> Result<u64, Fail> {
     assert!(rt; 1 <= call && call - 1 <= disk.counts().ticks);
     let left = disk.crash(alloc, call, pick)?;
     let mut journal = Journal::open(left).ok().ok_or("opened")?;
@@ -45,7 +55,11 @@ fn found(rt: &impl Abort, alloc: Global, disk: &MemoryDisk, call: u64, pick: u64
 }
 
 /// An empty journal to which four rows are committed, on a disk that fails at these calls.
-fn four_rows(rt: &impl Abort, alloc: Global, fail: &[u64]) -> Result<(Journal<MemoryDisk>, [Result<u64, DiskFault>; 4]), Fail>
+fn four_rows(
+    rt: &impl Abort,
+    alloc: Global,
+    fail: &[u64],
+) -> Result<(Journal<MemoryDisk>, [Result<u64, DiskFault>; 4]), Fail>
     ensures { IfOk result (λ pair. pair.0.ended ≡ true) }
 {
     let disk = MemoryDisk::new(alloc, b"", b"", fail)?;
@@ -62,8 +76,17 @@ fn four_rows(rt: &impl Abort, alloc: Global, fail: &[u64]) -> Result<(Journal<Me
 fn kind_of(call: &Call) -> (char, u64, u64) {
     match call {
         Call::Length { file: _ } => ('l', 0, 0),
-        Call::Read { file: _, place, size } => ('r', *place, *size),
-        Call::Write { file: _, place, landed, lost: _ } => ('w', *place, landed.as_bytes().len() as u64),
+        Call::Read {
+            file: _,
+            place,
+            size,
+        } => ('r', *place, *size),
+        Call::Write {
+            file: _,
+            place,
+            landed,
+            lost: _,
+        } => ('w', *place, landed.as_bytes().len() as u64),
         Call::Sync { file: _ } => ('s', 0, 0),
     }
 }
@@ -74,7 +97,13 @@ fn four_rows_take_nineteen_calls(rt: HostRuntime) -> Result<(), Fail> {
     assert_eq!(rt; answers, [Ok(7), Ok(11), Ok(15), Ok(19)]);
     assert_eq!(rt; journal.left(), Left::Nothing);
     let disk = journal.into_disk();
-    assert_eq!(rt; disk.counts(), Counts { ticks: 19, faults: 0 });
+    assert_eq!(rt;
+        disk.counts(),
+        Counts {
+            ticks: 19,
+            faults: 0
+        }
+    );
     let kinds = [
         ('l', 0, 0),
         ('w', 0, 1),
@@ -140,7 +169,13 @@ fn a_fault_of_the_last_sync_leaves_the_row(rt: HostRuntime) -> Result<(), Fail> 
     assert_eq!(rt; journal.left(), Left::InFlight);
     // two calls settle, and four commit
     assert_eq!(rt; commit(rt.alloc(), &mut journal, b"five")?, Ok(25));
-    assert_eq!(rt; journal.counts(), Counts { ticks: 25, faults: 1 });
+    assert_eq!(rt;
+        journal.counts(),
+        Counts {
+            ticks: 25,
+            faults: 1
+        }
+    );
     let disk = journal.into_disk();
     assert_eq!(rt; found(&rt, rt.alloc(), &disk, 20, 0)?, 3);
     assert_eq!(rt; found(&rt, rt.alloc(), &disk, 20, 1)?, 4);
@@ -158,7 +193,13 @@ fn a_fault_of_the_settling_leaves_the_earlier_row(rt: HostRuntime) -> Result<(),
     assert_eq!(rt; journal.settle(), Ok(()));
     assert_eq!(rt; journal.left(), Left::Nothing);
     assert_eq!(rt; journal.settle(), Ok(()));
-    assert_eq!(rt; journal.counts(), Counts { ticks: 25, faults: 3 });
+    assert_eq!(rt;
+        journal.counts(),
+        Counts {
+            ticks: 25,
+            faults: 3
+        }
+    );
     Ok(())
 }
 
@@ -183,7 +224,10 @@ fn damage_ends_the_list(rt: HostRuntime) -> Result<(), Fail> {
         (b"\x07\x00\x00\x00\x00", 0),
         (b"\x01\x00\x00\x00\x00", 1),
         (b"\x01\x01\x00\x00\x00a\x01\x02\x00\x00\x00b", 1),
-        (b"\x01\x01\x00\x00\x00a\x01\x00\x00\x00\x00\x00\x01\x00\x00\x00\x00", 2),
+        (
+            b"\x01\x01\x00\x00\x00a\x01\x00\x00\x00\x00\x00\x01\x00\x00\x00\x00",
+            2,
+        ),
     ];
     for (bytes, count) in table {
         let disk = MemoryDisk::new(rt.alloc(), bytes, b"", &[])?;

@@ -14,4 +14,4 @@ returns-in-Err-read_deed c =
 pub returns-then-not-is_empty : goal.returns-then-not-is_empty
 returns-then-not-is_empty c =
     too_many c.in-Ok.head c.in-Ok-read_deed.deed c.args.bytes.now _ _ (sym c.over-cursor.ensures ∙ c.in-Ok.ensures.1) c.in-Ok-read_deed.ensures.0 c.in-Ok-read_deed.ensures.1
-      (λ e. let full : c.is_empty.result ≡ true = c.is_empty.ensures ∙ ap (λ rest. length rest == 0) e in cc)
+    (λ e. let full : c.is_empty.result ≡ true = c.is_empty.ensures ∙ ap (λ rest. length rest == 0) e in cc)
