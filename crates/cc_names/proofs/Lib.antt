@@ -1,11 +1,10 @@
-mod Cuts
+pub mod ByRows
+pub mod Cuts
 mod FirstFaults
 mod FormedRows
 mod Joins
 mod NamesOfPaths
+pub mod PathParts
 mod PathRows
 mod WorkedLabels
 mod WorkedVersions
-pub mod ByRows
-pub mod Cuts
-pub mod PathParts

@@ -1,6 +1,5 @@
 pub mod Answers
 pub mod Branches
-pub mod Copies
 pub mod CopyLaws
 pub mod Falling
 pub mod Formed
