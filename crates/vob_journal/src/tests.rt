@@ -72,7 +72,7 @@ fn four_rows(
     Ok((journal, [one, two, three, four]))
 }
 
-/// A word for the kind of a call: the journal's length, a write and a sync, its first byte written beside it.
+/// The kind of a call by a letter, with the place and the size of a read or a write.
 fn kind_of(call: &Call) -> (char, u64, u64) {
     match call {
         Call::Length { file: _ } => ('l', 0, 0),
@@ -177,8 +177,10 @@ fn a_fault_of_the_last_sync_leaves_the_row(rt: HostRuntime) -> Result<(), Fail> 
         }
     );
     let disk = journal.into_disk();
-    assert_eq!(rt; found(&rt, rt.alloc(), &disk, 20, 0)?, 3);
-    assert_eq!(rt; found(&rt, rt.alloc(), &disk, 20, 1)?, 4);
+    // at the failed sync the row may be found, and at the settling write its gate may be shut again
+    assert_eq!(rt; found(&rt, rt.alloc(), &disk, 19, 0)?, 3);
+    assert_eq!(rt; found(&rt, rt.alloc(), &disk, 19, 1)?, 4);
+    assert_eq!(rt; found(&rt, rt.alloc(), &disk, 20, 1)?, 3);
     assert_eq!(rt; found(&rt, rt.alloc(), &disk, 26, 0)?, 4);
     Ok(())
 }
