@@ -7,9 +7,6 @@ ghost use Rattle.disk_model.specs.Told.{Sight, IfTold, Both, Counted, IsCounted}
 use crate::Counts;
 use std::fmt;
 
-/// The length that no file of a disk passes, 2^62.
-pub(crate) const MAX_LENGTH: u64 = 1 << 62;
-
 /// A device call failed.
 #[derive(Clone, Copy, Debug, PartialEq, Eq)]
 pub struct DiskFault;

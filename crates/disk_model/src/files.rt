@@ -5,10 +5,13 @@ ghost use Rattle.disk_model.specs.Counting.{raised};
 ghost use Rattle.disk_model.specs.Told.{Sight};
 
 use crate::Counts;
-use crate::disk::{Disk, DiskFault, MAX_LENGTH};
+use crate::disk::{Disk, DiskFault};
 use std::fs::{OpenFile, OpenOptions};
 use std::io::{self, Read, Seek, SeekFrom, Write};
 use std::rt::Files;
+
+/// The length that no file of a disk passes, 2^62.
+const MAX_LENGTH: u64 = 1 << 62;
 
 /// A file by its name, and its handle while it is open.
 #[derive(Drop)]

@@ -7,11 +7,14 @@ ghost use Rattle.disk_model.specs.Counting.{raised};
 
 use crate::Counts;
 use crate::calls::{Call, Entry};
-use crate::disk::{Disk, DiskFault, MAX_LENGTH};
+use crate::disk::{Disk, DiskFault};
 use crate::images::{Keep, image_of, overwrite};
 use cc_names::memory::NoMemory;
 use cc_names::texts::Text;
 use std::alloc::Global;
+
+/// The length that no file of a disk passes, 2^62.
+const MAX_LENGTH: u64 = 1 << 62;
 
 /// Both files.
 #[derive(Drop)]
