@@ -1,6 +1,5 @@
-use crate::{Matches, Spec};
+use crate::Spec;
 use cc_names::memory::Or;
-use cc_names::paths::Path;
 use cc_names::refusals::SpecError;
 use cc_names::selection::{Pattern, Rule, Segment, Selector};
 use std::alloc::{AllocError, Global};
@@ -230,63 +229,4 @@ fn the_first_failing_line_has_its_cause(rt: HostRuntime) -> Result<(), Fail> {
             ("element * X\nelement a\nend time", "2 BadRule"),
         ],
     )
-}
-
-#[test]
-fn patterns_match_paths(rt: HostRuntime) -> Result<(), Fail> {
-    let table = [
-        ("*", ".", true),
-        ("*", "a", true),
-        ("*", "a/b", true),
-        ("**", ".", false),
-        ("/*", ".", false),
-        ("/*", "a", true),
-        ("/*", "a/b", false),
-        (".", ".", false),
-        ("...", ".", true),
-        ("...", "a/b", true),
-        ("/...", ".", true),
-        ("/...", "a/b/c", true),
-        ("in", "in", true),
-        ("in", "a/in", true),
-        ("in", "a/main", false),
-        ("in", "in/a", false),
-        ("/in", "in", true),
-        ("/in", "a/in", false),
-        ("a/b", "x/a/b", true),
-        ("a/b", "xa/b", false),
-        ("/a/...", "a", true),
-        ("/a/...", "a/b/c", true),
-        ("/a/...", "b/a", false),
-        (".../c", "c", true),
-        (".../c", "a/b/c", true),
-        ("/.../c", "a/b/c", true),
-        ("/.../c", "a/b/cc", false),
-        ("/a/.../c", "a/c", true),
-        ("/a/.../c", "a/b/b/c", true),
-        ("/a/.../c", "a/b/c/d", false),
-        ("/a/.../b/.../c", "a/b/x/b/c", true),
-        ("/a/.../b/.../c", "a/x/c", false),
-        ("*.c", "util.c", true),
-        ("*.c", "x/util.c", true),
-        ("*.c", "util.c.o", false),
-        ("a*b*c", "aXbYbZc", true),
-        ("a*b*c", "abXcb", false),
-        ("?", "a", true),
-        ("?", "ab", false),
-        ("a?c", "abc", true),
-        ("a?c", "ac", false),
-        ("*?*", "x", true),
-        ("....", "a", false),
-        ("-x", "x", false),
-    ];
-    for (pattern, path, wanted) in table {
-        let text = format!(in rt.alloc(); "element {pattern} -none")?;
-        let spec = Spec::read(rt.alloc(), text.as_bytes()).map_err(|_| "no spec")?;
-        let path = Path::read(rt.alloc(), path.as_bytes()).map_err(|_| "no path")?;
-        for rule in spec.rules() {
-            assert_eq!(rt; rule.pattern.matches(&path), wanted, "{pattern} {path}");
-        }
-    }
-    Ok(())
 }
