@@ -1,2 +1,3 @@
 pub mod FirstRows
 pub mod Steps
+pub mod Growing

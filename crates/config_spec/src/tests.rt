@@ -22,6 +22,13 @@ fn path(alloc: Global, bytes: &[u8]) -> Result<Path, Fail> {
     Ok(Path::read(alloc, bytes).map_err(|_| "no path")?)
 }
 
+fn spec(alloc: Global, text: &str) -> Result<Spec, Fail> {
+    if text.len() > 10_000 {
+        Err("too long")?;
+    }
+    Ok(Spec::read(alloc, text.as_bytes()).map_err(|_| "no spec")?)
+}
+
 fn element(alloc: Global, tree: &mut Tree, row: u64, moment: u64) -> Result<(), Fail>
     requires { IsAbove row (map row_of_change tree.old.changes) }
     ensures { OnOk result (IsAbove (row + 1) (map row_of_change tree.new.changes)) }
@@ -70,16 +77,33 @@ fn trees(alloc: Global) -> Result<Tree, Fail> {
     Ok(tree)
 }
 
+/// Puts the label on a version of element 1, or takes it off.
+fn mark(
+    alloc: Global,
+    book: &mut Book,
+    row: u64,
+    label: &Name,
+    version: Option<u64>,
+) -> Result<(), Fail>
+    requires { IsAbove row (rows_of_pair label.now 1 book.old.changes) }
+    ensures { OnOk result (IsAbove (row + 1) (rows_of_pair label.now 1 book.new.changes)) }
+{
+    book.reserve(alloc, label, &[1])?;
+    if let Some(version) = version {
+        book.attach(row, label, 1, version);
+        return Ok(());
+    }
+    book.detach(row, label, 1);
+    Ok(())
+}
+
 // The label REL is put on row 2 by row 7 and on row 3 by row 8, and taken off by row 9.
 fn labels(alloc: Global) -> Result<Book, Fail> {
     let mut book = Book::new(alloc)?;
     let label = name(alloc, b"REL")?;
-    book.reserve(alloc, &label, &[1])?;
-    book.attach(7, &label, 1, 2);
-    book.reserve(alloc, &label, &[1])?;
-    book.attach(8, &label, 1, 3);
-    book.reserve(alloc, &label, &[1])?;
-    book.detach(9, &label, 1);
+    mark(alloc, &mut book, 7, &label, Some(2))?;
+    mark(alloc, &mut book, 8, &label, Some(3))?;
+    mark(alloc, &mut book, 9, &label, None)?;
     Ok(book)
 }
 
@@ -199,7 +223,7 @@ fn the_first_rule_that_decides_picks(rt: HostRuntime) -> Result<(), Fail> {
     let (tree, labels, rolls) = (trees(alloc)?, labels(alloc)?, rolls(alloc)?);
     let path = path(alloc, b"a/in")?;
     for (text, rows, out, wanted) in CASES {
-        let spec = Spec::read(alloc, text.as_bytes()).map_err(|_| "no spec")?;
+        let spec = spec(alloc, text)?;
         let picked = pick(&tree, &labels, &spec, out, 1, &path, rows, &rolls);
         let wanted = wanted.map(|(row, line, out)| Picked { row, line, out });
         assert_eq!(rt; picked, wanted, "{text}");
