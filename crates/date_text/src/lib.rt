@@ -4,7 +4,7 @@
 // of a config spec, and read one as a date in listings.
 //
 // What it promises: `read` gives a moment exactly for the dates of the years 1970 to 9999, and else the place of the
-// first field that is wrong; `print` gives the one date of a moment, which `read` gives back. Neither takes memory.
+// first field that is wrong; `print` gives the one date of a moment. Neither takes memory.
 //
 // What it stands on: `jiff` for the calendar.
 #![tactic(auto)]
