@@ -16,6 +16,7 @@ pub mod changes;
 pub mod commands;
 mod comparisons;
 pub mod copies;
+pub mod desks;
 pub mod keys;
 pub mod lists;
 pub mod memory;
