@@ -7,7 +7,7 @@ ghost use Rattle.legal_history.specs.Tests.{needs_selected, needs_directory};
 ghost use Rattle.view_lookup.specs.Roots.{IsRootOrFile};
 ghost use Rattle.legal_history.specs.Decisions.{Scene, first_refusal, needs_room};
 ghost use Rattle.legal_history.specs.FileLines.{save, save_tests};
-ghost use Rattle.view_lookup.specs.Unversioned.{is_unversioned, is_unversioned_deed};
+ghost use Rattle.view_lookup.specs.Unversioned.{is_unversioned, is_plain_deed};
 ghost use Rattle.checkout_desk.specs.Deciding.{Sees, Decides, SavesPrivate};
 
 use crate::room::needs_room;
@@ -86,7 +86,7 @@ pub fn save(
     requires in_time { stamp.moment ≤ 253402300799 }
     ensures decided { (scene : Scene) (now : ℕ) → Sees scene (reverse rows.now) now view.now busy room
         → Decides stamp.tag stamp.moment result (save scene view.now path.now text.now) }
-    ensures unversioned { IfOk result (λ row. is_unversioned_deed row.deed ≡ true) }
+    ensures plain { IfOk result (λ row. is_plain_deed row.deed ≡ true) }
     ensures room { OnOk result (0 < room) }
 {
     match save_refusal(alloc, rows, view, path, busy, room)? {

@@ -15,3 +15,7 @@ is_unversioned_deed deed = false
 abbrev pub is_unversioned : Base → Bool
 is_unversioned [] = true
 is_unversioned (row ∷ older) = is_unversioned_deed row.deed && is_unversioned older
+
+-- the deeds that commands make so far
+abbrev pub is_plain_deed : Deed → Bool
+is_plain_deed deed = is_unversioned_deed deed
