@@ -20,13 +20,11 @@ use Rattle.cc_names.specs.declared.selection.Seen.TheVariants.{Private, Element,
 use Rattle.spec_text.specs.Rules.{Sources, pick}
 use Rattle.legal_history.specs.Base.{Base, size}
 use Rattle.legal_history.specs.Catalogs.{catalog_of, own_of, made_or_older, catalog_source}
-use Rattle.cc_names.specs.References.{references, held_at}
-use Rattle.cc_names.specs.declared.changes.ReferenceChange.{ReferenceChange}
-use Rattle.legal_history.specs.Changes.{tree, tree_after, holdings, holdings_after, held}
+use Rattle.legal_history.specs.Changes.{tree, tree_after}
 use Rattle.legal_history.specs.Conditions.{is_directory, is_directory_kind}
 use Rattle.legal_history.specs.Seen.{at, at_names, entries_of, entries_by, private_or, below, rules_of_spec, sources, selected}
 use Rattle.legal_history.specs.Views.{Checkout, view_row, view_effect, spec_text, spec_effect, default_spec, making, making_effect, making_of_out, private}
-use Rattle.view_lookup.specs.Unversioned.{is_unversioned_deed, is_unversioned}
+use Rattle.view_lookup.specs.Unversioned.{is_plain_deed, is_unversioned_deed, is_unversioned}
 
 -- both of two tests
 both : (a b : Bool) → (a && b) ≡ true → (a ≡ true) × (b ≡ true)
@@ -37,6 +35,7 @@ both false b h = absurd (cc)
 tree_stays : (older : Base) (moment : ℕ) (deed : Deed) (changes : List TreeChange) → is_unversioned_deed deed ≡ true → tree_after older moment deed changes ≡ changes
 tree_stays older moment (deeds.Mkview v) changes h = refl
 tree_stays older moment (deeds.Put v path text) changes h = refl
+tree_stays older moment (deeds.Publish v targets script entries outputs) changes h = refl
 tree_stays older moment deed changes h = cc
 
 -- the root is the only element
@@ -50,6 +49,7 @@ only_root (row ∷ older) h =
 making_stays : (v : List ℕ) (e n : ℕ) (deed : Deed) → is_unversioned_deed deed ≡ true → left (making_effect v e n deed) None ≡ None
 making_stays v e n (deeds.Mkview w) h = elim (bytes_eq w v) as (λ same. left (making_of_out (only_if {A = Checkout} same Ends)) None ≡ None) [ true ↦ refl | false ↦ refl ]
 making_stays v e n (deeds.Put w path text) h = refl
+making_stays v e n (deeds.Publish w targets script entries outputs) h = refl
 making_stays v e n deed h = cc
 
 -- no view has anything out
@@ -68,6 +68,7 @@ default_stays : (v : List ℕ) (n : ℕ) (deed : Deed) (made : Option ℕ) (spec
 default_stays v n (deeds.Mkview w) made spec h before =
     elim (bytes_eq w v) as (λ same. HasDefault (left (only_if same (Sets n)) made) (left (only_if same (Sets default_spec)) spec)) [ true ↦ refl | false ↦ before ]
 default_stays v n (deeds.Put w path text) made spec h before = before
+default_stays v n (deeds.Publish w targets script entries outputs) made spec h before = before
 default_stays v n deed made spec h before = cc
 
 has_default : (b : Base) (v : List ℕ) → is_unversioned b ≡ true → HasDefault (view_row b v) (spec_text b v)
@@ -166,21 +167,11 @@ two_or_more (x ∷ y ∷ rest) h = (x, y, rest, refl)
 names_below : (path : List ℕ) → is_root path ≡ false → names_of path ≡ slice_split is_slash path
 names_below path h = ap (λ root. cond root [] (slice_split is_slash path)) h
 
--- no object is held
-holdings_stay : (older : Base) (deed : Deed) (changes : List ReferenceChange) → is_unversioned_deed deed ≡ true → holdings_after older deed changes ≡ changes
-holdings_stay older (deeds.Mkview v) changes h = refl
-holdings_stay older (deeds.Put v path text) changes h = refl
-holdings_stay older deed changes h = cc
-
-no_holdings : (b : Base) → is_unversioned b ≡ true → holdings b ≡ []
-no_holdings [] h = refl
-no_holdings (row ∷ older) h =
-    let parts = both (is_unversioned_deed row.deed) (is_unversioned older) h in
-    holdings_stay older row.deed (holdings older) parts.0 ∙ no_holdings older parts.1
-
--- no view holds an object anywhere
-pub nothing_held : (b : Base) (v path : List ℕ) → is_unversioned b ≡ true → held_at (held b) v path ≡ None
-nothing_held b v path h = ap (λ changes. held_at (references changes) v path) (no_holdings b h)
+-- a plain deed is one of an unversioned base
+pub plain_is_unversioned : (deed : Deed) → is_plain_deed deed ≡ true → is_unversioned_deed deed ≡ true
+plain_is_unversioned (deeds.Mkview v) h = refl
+plain_is_unversioned (deeds.Put v path text) h = refl
+plain_is_unversioned deed h = cc
 
 -- the root is a directory
 pub root_directory : (b : Base) → is_unversioned b ≡ true → is_directory b 0 ≡ true
