@@ -1,6 +1,6 @@
 -- Bases in which nobody has made an element or set a config spec: their views see the root and their private files, and
 -- hold the objects that they published.
-use Rattle.std.specs.Prelude.{Bool, true, false, ◌&&◌, List, [], ◌∷◌}
+use Rattle.std.specs.Prelude.{Bool, true, false, ◌&&◌, [], ◌∷◌}
 use Rattle.cc_names.specs.declared.rows.Deed.{Deed}
 use Rattle.cc_names.specs.declared.rows.Deed.TheVariants as deeds
 use Rattle.legal_history.specs.Base.{Base}
