@@ -1,28 +1,24 @@
 -- The tests of a save in a base without elements.
-use Rattle.std.proofs.Common.{◌≡◌, ℕ, Bool, true, false, Option, Some, None, List, [], ◌∷◌, ◌++◌, ◌⊎◌, inl, inr, refl, ap, sym, subst, ◌∙◌}
-use Rattle.std.specs.Prelude.{IfNone, is_some, is_none, option_map}
-use Rattle.cc_names.specs.Formed.{IsBelowRoot}
+use Rattle.std.proofs.Common.{◌≡◌, ℕ, true, false, Option, Some, None, List, [], ◌∷◌, inl, inr, refl, ap, sym, subst, ◌∙◌}
+use Rattle.std.specs.Prelude.{IfNone, is_none}
 use Rattle.cc_names.specs.Paths.{is_root}
-use Rattle.cc_names.specs.References.{held_at}
 use Rattle.cc_names.specs.declared.refusals.Refusal.{Refusal}
 use Rattle.cc_names.specs.declared.refusals.Refusal.TheVariants as refusals
-use Rattle.cc_names.specs.declared.rows.Tag.{Tag}
 use Rattle.cc_names.specs.declared.selection.Picked.{Picked}
 use Rattle.cc_names.specs.declared.selection.Seen.{Seen}
-use Rattle.cc_names.specs.declared.selection.Seen.TheVariants.{Private, Element, Unselected, Nothing}
+use Rattle.cc_names.specs.declared.selection.Seen.TheVariants.{Element, Nothing}
 use Rattle.legal_history.specs.Base.{Base}
-use Rattle.legal_history.specs.Changes.{held}
 use Rattle.legal_history.specs.Conditions.{is_directory}
-use Rattle.legal_history.specs.Decisions.{Scene, first_refusal, needs_room}
-use Rattle.legal_history.specs.FileLines.{parent, saves_at, save_tests, save_deed}
+use Rattle.legal_history.specs.Decisions.{first_refusal}
+use Rattle.legal_history.specs.FileLines.{saves_at, save_deed}
 use Rattle.legal_history.specs.Seen.{at, private_or}
-use Rattle.legal_history.specs.Tests.{refused_where, refused_unless, needs_view, needs_idle, needs_selected, needs_directory}
+use Rattle.legal_history.specs.Tests.{refused_unless, needs_selected, needs_directory}
 use Rattle.legal_history.specs.Views.{view_row, private}
 use Rattle.view_lookup.proofs.Standing.{file_or_nothing}
 use Rattle.view_lookup.proofs.Unversioned.{root_directory}
 use Rattle.view_lookup.specs.Roots.{IsRootOrFile}
 use Rattle.view_lookup.specs.Unversioned.{is_unversioned}
-use Rattle.checkout_desk.specs.Deciding.{Sees, SavesPrivate}
+use Rattle.checkout_desk.specs.Deciding.{SavesPrivate}
 use Rattle.cc_names.specs.declared.rows.Deed.TheVariants as deeds
 
 -- the tests of the directory in which a file is saved
