@@ -10,6 +10,8 @@
 
 mod objects;
 mod seen;
+#[cfg(test)]
+mod tests;
 mod texts;
 mod views;
 
