@@ -142,6 +142,14 @@ impl Graph {
         self.units.as_slice()
     }
 
+    /// The units themselves, in order, in constant time.
+    pub fn into_units(self) -> Vec<Unit>
+        ensures { result.items ≡ self }
+    {
+        let Graph { units } = self;
+        units
+    }
+
     /// The units that a unit stands on, by their numbers, in order: those that make its prerequisites, and those that
     /// these stand on. Fails only where memory runs out.
     ///
