@@ -1,0 +1,16 @@
+// Builds: from a clearmake command to the units that it runs.
+//
+// What it is for: `graph` and `plan` say which units a build has, over the files of its view, or why it is refused.
+//
+// What it promises: the units, or the refusal in their place, are those of the definition of the units of a build, for
+// any files, makefile, macros and goals.
+//
+// What it stands on: `make_text` for makefiles and the definition of units, `make_graph` for the units of a makefile
+// that was read, `cc_names` for paths, units and refusals.
+#![tactic(auto)]
+
+mod plans;
+#[cfg(test)]
+mod tests;
+
+pub use plans::{graph, plan};

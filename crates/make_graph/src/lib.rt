@@ -1,0 +1,15 @@
+// The units of a build: which of them its goals want, in which order, and what waits for what.
+//
+// What it is for: `Graph::of` makes the units of a makefile that was read for the goals of a build; `closure` and
+// `ready` say what a unit stands on.
+//
+// What it promises: the units, or the fault in their place, are those of the definition of the units of a build;
+// `closure` gives the units that a unit stands on, and `ready` says whether those of its prerequisites are done.
+//
+// What it stands on: `make_text` for makefiles and the definition of units, `cc_names` for paths, units and faults.
+#![tactic(auto)]
+
+pub mod goals;
+pub mod graphs;
+#[cfg(test)]
+mod tests;
