@@ -1,0 +1,2 @@
+pub mod FreshRuns
+mod WorkedReplies
