@@ -1,6 +1,9 @@
 pub mod AgreeStays
+pub mod AllBuilds
+pub mod BuildSteps
 pub mod Decided
 pub mod FreshRuns
 pub mod PlainUnits
+pub mod Published
 pub mod ReadyUnits
 mod WorkedReplies
