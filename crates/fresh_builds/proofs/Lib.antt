@@ -2,8 +2,10 @@ pub mod AgreeStays
 pub mod AllBuilds
 pub mod BuildSteps
 pub mod Decided
+pub mod FileRows
 pub mod FreshRuns
 pub mod PlainUnits
 pub mod Published
 pub mod ReadyUnits
+pub mod VersionRows
 mod WorkedReplies
