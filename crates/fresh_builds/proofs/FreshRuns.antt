@@ -54,7 +54,7 @@ among_both path (x ∷ xs) ys h = by (bytes_eq path x) h (among_both path xs ys)
   by false h rest = rest h
 
 -- paths whose units all have outcomes
-abbrev AreOver : Build → List (List ℕ) → Type 0
+abbrev pub AreOver : Build → List (List ℕ) → Type 0
 AreOver build paths = (m : ℕ) (u : Unit) (path : List ℕ) → is_among path paths ≡ true → unit_at build m ≡ Some u → makes path u ≡ true → is_outcome (came_to build m) ≡ true
 
 over_both : (build : Build) (xs ys : List (List ℕ)) → AreOver build xs → AreOver build ys → AreOver build (xs ++ ys)
@@ -66,11 +66,11 @@ over_both build xs ys h g = λ m u path among is made. by m u path (among_both p
   by : (m : ℕ) (u : Unit) (path : List ℕ) → (t : Bool) × (is_among path xs ≡ t) × ((t ≡ false) → is_among path ys ≡ true) → unit_at build m ≡ Some u → makes path u ≡ true → is_outcome (came_to build m) ≡ true
   by m u path r is made = by_test m u path r.0 r.1 r.2 is made
 
-ready_over : (b : Base) (build : Build) (u : Unit) → AgreesSoFar b build → IsReady build u → AreOver build u.prerequisites
+pub ready_over : (b : Base) (build : Build) (u : Unit) → AgreesSoFar b build → IsReady build u → AreOver build u.prerequisites
 ready_over b build u h ready = λ m v path among is made. ready m path among (h.in_order.one m v path is made)
 
 -- all that is needed for such paths agrees
-needed_agree : (b : Base) (build : Build) (n : ℕ) (paths : List (List ℕ)) → AgreesSoFar b build → AreOver build paths → AllAgree b (needed unit_in paths (pairs_before (first_rows build.rows b) build n))
+pub needed_agree : (b : Base) (build : Build) (n : ℕ) (paths : List (List ℕ)) → AgreesSoFar b build → AreOver build paths → AllAgree b (needed unit_in paths (pairs_before (first_rows build.rows b) build n))
 needed_agree b build zero paths h over = tt
 needed_agree b build (suc n) paths h over = by (unit_at build n) refl (λ more over. needed_agree b build n more h over)
   where

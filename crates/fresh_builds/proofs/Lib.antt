@@ -2,6 +2,7 @@ pub mod AgreeStays
 pub mod AllBuilds
 pub mod BuildSteps
 pub mod Decided
+pub mod EntriesFit
 pub mod FileRows
 pub mod FreshRuns
 pub mod PlainUnits
