@@ -168,7 +168,7 @@ fails_may b build n unit fault h is waits started fails =
     }
 
 -- no object is chosen so far
-none_chosen : (id : ℕ) → None ≡ Some id → ⊥
+pub none_chosen : (id : ℕ) → None ≡ Some id → ⊥
 none_chosen id e = cc
 
 early_fine : (s : State) (tag : Tag) (n : ℕ) (end : UnitEnd) → Each (IsFine s.base) s.active → EndsEarly s tag n end → object_of (Some (Ended end)) ≡ None →
@@ -198,15 +198,24 @@ started_fine s tag n h e =
     (waited_fine s s.base tag n e.build e.unit (λ b. Some n) (came_by_start (unreadable e.unit)) h waits refl
     (start_may s.base e.build n e.unit agrees waits.is_unit waits.waits ready (sym (early_same s.base e.build n e.unit agrees waits.is_unit ready) ∙ e.open_unit.runs)))
 
--- a build that a command begins
-begun_fine : (s : State) (tag : Tag) (us : List Unit) → is_base s.base ≡ true → decided s tag ≡ Some (Ok (Begins us)) → (build : Build) → begun s tag ≡ Some build → IsFine s.base build
-begun_fine s tag us base h build is =
+-- the build that a command begins
+abbrev pub begun_by : (s : State) (tag : Tag) (us : List Unit) (view : List ℕ) (own_only rebuild : Bool) → Build
+begun_by s tag us view own_only rebuild = record { tag = tag; view = view; rows = size s.base; own_only = own_only; rebuild = rebuild; units = us; comes = []; faulted = false }
+
+pub begun_is : (s : State) (tag : Tag) (us : List Unit) (h : decided s tag ≡ Some (Ok (Begins us))) → let says = says_of s tag (Begins us) (decided_of s tag (Begins us) h) in
+    begun s tag ≡ Some (begun_by s tag us says.view says.own_only says.rebuild)
+begun_is s tag us h =
     let d = decided_of s tag (Begins us) h in
     let says = says_of s tag (Begins us) d in
-    let made : Some (record { tag = tag; view = says.view; rows = size s.base; own_only = says.own_only; rebuild = says.rebuild; units = us; comes = []; faulted = false }) ≡ Some build =
-        sym (ap (λ o. option_and_then (new_build tag (size s.base) (units_begun (decided s tag))) o) (d.next ∙ ap Some says.is) ∙ ap (λ o. new_build tag (size s.base) (units_begun o) (commands.Clearmake says.view says.file says.own_only says.rebuild says.jobs says.macros says.goals)) h) ∙ is in
+    ap (λ o. option_and_then (new_build tag (size s.base) (units_begun (decided s tag))) o) (d.next ∙ ap Some says.is)
+    ∙ ap (λ o. new_build tag (size s.base) (units_begun o) (commands.Clearmake says.view says.file says.own_only says.rebuild says.jobs says.macros says.goals)) h
+
+begun_fine : (s : State) (tag : Tag) (us : List Unit) → is_base s.base ≡ true → decided s tag ≡ Some (Ok (Begins us)) → (build : Build) → begun s tag ≡ Some build → IsFine s.base build
+begun_fine s tag us base h build is =
+    let says = says_of s tag (Begins us) (decided_of s tag (Begins us) h) in
+    let made : Some (begun_by s tag us says.view says.own_only says.rebuild) ≡ Some build = sym (begun_is s tag us h) ∙ is in
     subst (IsFine s.base) (some_same made) (record {
-      agrees = begins_so s.base (record { tag = tag; view = says.view; rows = size s.base; own_only = says.own_only; rebuild = says.rebuild; units = us; comes = []; faulted = false })
+      agrees = begins_so s.base (begun_by s tag us says.view says.own_only says.rebuild)
           (record { rows = refl; base = base; in_order = units_in_order (texts s.base says.view) says.file says.macros says.goals us says.of_makefile; nothing = refl });
       there = says.there;
     })

@@ -8,5 +8,7 @@ pub mod FreshRuns
 pub mod PlainUnits
 pub mod Published
 pub mod ReadyUnits
+pub mod Room
+pub mod RoomSteps
 pub mod VersionRows
 mod WorkedReplies
