@@ -10,5 +10,6 @@ pub mod Published
 pub mod ReadyUnits
 pub mod Room
 pub mod RoomSteps
+pub mod SoundStories
 pub mod VersionRows
 mod WorkedReplies
