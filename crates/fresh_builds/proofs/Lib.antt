@@ -8,6 +8,7 @@ pub mod FreshRuns
 pub mod PlainUnits
 pub mod Published
 pub mod ReadyUnits
+pub mod RepliesAgree
 pub mod Room
 pub mod RoomSteps
 pub mod SoundStories
