@@ -1,14 +1,13 @@
 -- A build that agrees so far goes on to agree: when a row is added, and when a unit that waits comes to what agrees.
-use Rattle.std.proofs.Common.{◌≡◌, refl, ap, sym, subst, ◌∙◌, ℕ, zero, suc, ◌<◌, ◌≤◌, Bool, true, false, cond, ◌==◌, Option, Some, None, List, [], ◌∷◌, arith}
-use Rattle.std.specs.Prelude.{is_some, slice_get}
+use Rattle.std.proofs.Common.{◌≡◌, refl, ap, sym, subst, ◌∙◌, ℕ, Bool, true, false, cond, ◌==◌, Some, None, List, [], ◌∷◌, arith}
+use Rattle.std.specs.Prelude.{is_some}
 use Rattle.std.specs.Ordering.{nat_cmp}
-use Rattle.std.specs.FinMap.Entries.{put, find}
+use Rattle.std.specs.FinMap.Entries.{find}
 use Rattle.cc_names.specs.Formed.{Plain}
 use Rattle.cc_names.specs.declared.units.Unit.{Unit}
 use Rattle.legal_history.specs.Base.{Base, size, first_rows, deed_of}
-use Rattle.legal_history.specs.Builds.{Build, Came, Started, Ended, Given, came_to, is_outcome, number_from, unit_at}
-use Rattle.legal_history.specs.Changes.{targets_of, targets_of_deed}
-use Rattle.legal_history.specs.Closures.{is_among}
+use Rattle.legal_history.specs.Builds.{Build, Came, Started, Ended, Given, came_to, is_outcome, unit_at}
+use Rattle.legal_history.specs.Changes.{targets_of_deed}
 use Rattle.legal_history.specs.Fits.{is_base}
 use Rattle.legal_history.specs.Freshness.{InOrder, Agrees, HasOutputs, IsReady, AgreesSoFar, outcome_in, early_from_nothing}
 use Rattle.legal_history.specs.Serials.{Outcome, Made, Without}

@@ -1,9 +1,8 @@
 -- What holds of every active build holds of every one after a change of them.
-use Rattle.std.proofs.Common.{◌≡◌, refl, ap, sym, subst, ◌∙◌, ℕ, Bool, true, false, cond, not, ◌==◌, Option, Some, None, List, [], ◌∷◌}
+use Rattle.std.proofs.Common.{◌≡◌, refl, sym, subst, ◌∙◌, ℕ, Bool, true, false, cond, not, ◌==◌, Option, Some, None, [], ◌∷◌}
 use Rattle.std.specs.Prelude.{bytes_eq, find, option_map}
 use Rattle.std.specs.Ordering.{nat_cmp, eq_by_cmp}
-use Rattle.std.specs.FinMap.Entries.{put, find as find_key}
-use Rattle.cc_names.specs.declared.rows.Tag.{Tag}
+use Rattle.std.specs.FinMap.Entries.{put}
 use Rattle.legal_history.specs.Builds.{Active, Build, Came, build_of, building, is_of_view, tag_of}
 use Rattle.legal_history.specs.Steps.{noted, noted_in, with_came, with_build, without_build, faulted_in}
 use Rattle.legal_history.proofs.FreshSeen.{bytes_itself}

@@ -1,13 +1,11 @@
 -- A lawful step leaves every active build agreeing with the build from nothing, in a view that exists.
-use Rattle.std.proofs.Common.{◌≡◌, refl, ap, sym, subst, ◌∙◌, inl, inr, ℕ, suc, ◌≤◌, Bool, true, false, ◌&&◌, Option, Some, None, Result, Ok, Err, List, [], ◌∷◌, arith}
+use Rattle.std.proofs.Common.{◌≡◌, refl, ap, sym, subst, ◌∙◌, ℕ, Bool, true, false, Option, Some, None, Result, Ok, Err, List, [], ◌∷◌}
 use Rattle.std.proofs.lemmas.Slice.Eq.{bytes_eq-Decides}
-use Rattle.std.specs.Bool.{⊤}
 use Rattle.std.specs.Prelude.{is_some, bytes_eq, option_and_then, option_map}
 use Rattle.cc_names.specs.Formed.{Plain}
-use Rattle.cc_names.specs.Last.{Effect, Keeps, Ends, Sets, only_if, left}
+use Rattle.cc_names.specs.Last.{Ends, Sets, only_if, left}
 use Rattle.cc_names.specs.declared.commands.Command.{Command}
 use Rattle.cc_names.specs.declared.commands.Command.TheVariants as commands
-use Rattle.cc_names.specs.declared.refusals.Refusal.{Refusal}
 use Rattle.cc_names.specs.declared.refusals.ScriptFault.{ScriptFault}
 use Rattle.cc_names.specs.declared.refusals.UnitFault.TheVariants as unit_faults
 use Rattle.cc_names.specs.declared.rows.Deed.{Deed}
@@ -22,27 +20,25 @@ use Rattle.cc_names.specs.declared.steps.UnitEnd.TheVariants as ends
 use Rattle.cc_names.specs.declared.units.Unit.{Unit}
 use Rattle.build_script.specs.Lines.{script_of}
 use Rattle.build_script.specs.declared.lines.Line.{Line}
-use Rattle.legal_history.specs.Base.{Base, size, first_rows, only_where}
-use Rattle.legal_history.specs.Builds.{Active, Build, Came, Started, Ended, Given, build_of, building, came_to, is_outcome, object_of, unit_at, unit_with_first}
+use Rattle.legal_history.specs.Base.{Base, size, first_rows}
+use Rattle.legal_history.specs.Builds.{Build, Came, Started, Ended, Given, build_of, building, came_to, is_outcome, object_of, unit_at, unit_with_first}
 use Rattle.legal_history.specs.Choices.{here, text_of_row, visible}
 use Rattle.legal_history.specs.Conditions.{exists}
 use Rattle.legal_history.specs.Decisions.{Decision, Makes, Begins}
 use Rattle.legal_history.specs.Fits.{is_base}
 use Rattle.legal_history.specs.Fresh.{outcome_of_run, script_text, texts}
-use Rattle.legal_history.specs.Freshness.{Agrees, IsReady, AgreesSoFar, outcome_in, early_from_nothing}
+use Rattle.legal_history.specs.Freshness.{Agrees, IsReady, AgreesSoFar, early_from_nothing}
 use Rattle.legal_history.specs.Lines.{decision}
-use Rattle.legal_history.specs.Serials.{Outcome, Made, Without}
 use Rattle.legal_history.specs.States.{State, scene, decided, next_command, build_by}
 use Rattle.legal_history.specs.Steps.{after, after_step, noted, with_came, came_by_starting, came_of_unit, active_after, begun, new_build, units_begun}
-use Rattle.legal_history.specs.Stories.{Lawful, LawfulStep, MakesRow, Settles, Waits, IsOpen, IsRunning, EndsEarly, Starts}
+use Rattle.legal_history.specs.Stories.{Lawful, LawfulStep, MakesRow, Settles, Waits, EndsEarly, Starts}
 use Rattle.legal_history.specs.Turns.{early, came_by_start, unreadable, fault_of}
 use Rattle.legal_history.specs.Views.{view_row}
 use Rattle.legal_history.proofs.FreshSeen.{early_same}
 use Rattle.legal_history.proofs.Goes.{of_lane}
-use Rattle.legal_history.proofs.Owned.{same_is_same}
-use Rattle.fresh_builds.proofs.AgreeStays.{row_added, Begins as BeginsNow, begins_so, MayCome, came_so}
-use Rattle.fresh_builds.proofs.AllBuilds.{Each, each_put, each_without, each_noted, each_begun, each_faulted, builds_there}
-use Rattle.fresh_builds.proofs.Decided.{Spares, IsMade, BeginsBy, Says, decided_says}
+use Rattle.fresh_builds.proofs.AgreeStays.{row_added, begins_so, MayCome, came_so}
+use Rattle.fresh_builds.proofs.AllBuilds.{Each, each_without, each_noted, each_begun, each_faulted, builds_there}
+use Rattle.fresh_builds.proofs.Decided.{Spares, Says, decided_says}
 use Rattle.fresh_builds.proofs.PlainUnits.{units_in_order}
 use Rattle.fresh_builds.proofs.Published.{IsPublish, is_publish, given_agrees}
 use Rattle.fresh_builds.proofs.ReadyUnits.{ready_by, outcome_by_end, outcome_by_run, unreadable_fails}

@@ -1,9 +1,9 @@
 -- What it says of a command that something was decided on it: of a row that there is room for one more and that no view
 -- goes in which a build is active; of a build what its units are.
-use Rattle.std.proofs.Common.{◌≡◌, refl, ap, sym, subst, ◌∙◌, ℕ, zero, suc, ◌+◌, ◌≤◌, Bool, true, false, not, Option, Some, None, Result, Ok, Err, List, [], ◌∷◌, ◌++◌, arith, nat_lt, length}
+use Rattle.std.proofs.Common.{◌≡◌, refl, subst, ℕ, ◌+◌, ◌≤◌, Bool, true, false, not, Option, Some, None, Result, Ok, Err, List, [], ◌∷◌, ◌++◌, length}
 use Rattle.std.proofs.lemmas.Bool.{ltb-false}
 use Rattle.std.specs.Bool.{⊤}
-use Rattle.std.specs.Prelude.{is_some, unwrap_or, if◌then◌else◌, option_map}
+use Rattle.std.specs.Prelude.{unwrap_or, if◌then◌else◌, option_map}
 use Rattle.cc_names.specs.Paths.{root}
 use Rattle.cc_names.specs.declared.commands.Command.{Command}
 use Rattle.cc_names.specs.declared.commands.Command.TheVariants as commands
@@ -20,11 +20,11 @@ use Rattle.cc_names.specs.declared.selection.Seen.{Seen}
 use Rattle.cc_names.specs.declared.selection.Seen.TheVariants.{Private, Element, Unselected, Nothing}
 use Rattle.cc_names.specs.declared.units.Unit.{Unit}
 use Rattle.make_text.specs.Units.{units}
-use Rattle.legal_history.specs.Base.{Base, size}
+use Rattle.legal_history.specs.Base.{size}
 use Rattle.legal_history.specs.Builds.{Active, building, reserved}
 use Rattle.legal_history.specs.CheckoutLines.{picked_of, checkout_tests, checkout_deed, deciding_rule, branch_by, mkbranch_tests, out_unless, checkin_tests, uncheckout_tests}
 use Rattle.legal_history.specs.Conditions.{exists}
-use Rattle.legal_history.specs.Decisions.{Decision, Makes, Answers, Begins, Scene, first_refusal, unless_refused, needs_room, makes, answers, begins}
+use Rattle.legal_history.specs.Decisions.{Decision, Makes, Answers, Begins, Scene, first_refusal, unless_refused, needs_room, makes, answers}
 use Rattle.legal_history.specs.DirectoryLines.{mkelem_tests, rmname_tests, mv_tests, directory_of}
 use Rattle.legal_history.specs.ElementTexts.{describe_text, lsvtree_text}
 use Rattle.legal_history.specs.FileLines.{element_of, last_name, mkview_tests, rmview_tests, setcs_tests, save_tests, save_deed, rm_tests}
@@ -35,11 +35,11 @@ use Rattle.legal_history.specs.LabelLines.{mklabel_tests, rmlabel_tests, mklabel
 use Rattle.legal_history.specs.Lines.{decision}
 use Rattle.legal_history.specs.ListingTexts.{ls_text, lsdo_text}
 use Rattle.legal_history.specs.Merges.{findmerge_text}
-use Rattle.legal_history.specs.ObjectLines.{rmdo_tests, due, scrub_of, clearmake_tests, build_unless, build_of_units}
+use Rattle.legal_history.specs.ObjectLines.{rmdo_tests, due, scrub_of, clearmake_tests, build_unless}
 use Rattle.legal_history.specs.QueryLines.{ls_tests, cat_tests, cat_version_tests, text_row, text_at, version_seen, element_tests, diffcr_tests, findmerge_tests}
 use Rattle.legal_history.specs.RecordTexts.{catcr_text, diffcr_text, covers_text, uncovered}
 use Rattle.legal_history.specs.Seen.{at}
-use Rattle.legal_history.specs.Tests.{needs_view, needs_idle, needs_object, needs_free_type}
+use Rattle.legal_history.specs.Tests.{needs_view, needs_object, needs_free_type}
 use Rattle.legal_history.specs.Views.{spec_text}
 use Rattle.legal_history.proofs.Passed.{AllPass, all_pass, front_passes, rest_passes, unless_passes}
 

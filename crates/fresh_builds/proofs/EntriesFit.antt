@@ -1,33 +1,30 @@
 -- The record of a ready unit's run fits: each entry says that nothing was there, or names the text of a file or an output.
-use Rattle.std.proofs.Common.{◌≡◌, refl, ap, sym, subst, ◌∙◌, ℕ, zero, suc, ◌<◌, ◌≤◌, Bool, true, false, cond, not, ◌&&◌, ◌||◌, ◌==◌, Option, Some, None, List, [], ◌∷◌, ◌++◌, map, arith}
+use Rattle.std.proofs.Common.{◌≡◌, refl, ap, sym, subst, ◌∙◌, ℕ, zero, suc, Bool, true, false, ◌&&◌, ◌||◌, ◌==◌, Option, Some, None, List, [], ◌∷◌, map, arith}
 use Rattle.std.proofs.lemmas.Map.Text.{is_eq-slice_cmp}
 use Rattle.std.proofs.lemmas.Slice.Eq.{bytes_eq-Decides}
 use Rattle.std.specs.Bool.{⊤}
 use Rattle.std.specs.Option.{option_or}
-use Rattle.std.specs.Prelude.{bytes_eq}
 use Rattle.std.specs.Cmp.Lexicographic.{slice_cmp}
 use Rattle.std.specs.List.{list_all}
 use Rattle.std.specs.Ordering.{nat_cmp, is_eq}
 use Rattle.std.specs.declared.cmp.Ordering.{Ordering}
 use Rattle.std.specs.declared.cmp.Ordering.TheVariants.{Less, Equal, Greater}
 use Rattle.std.specs.FinMap.Entries.{put, by_order}
-use Rattle.cc_names.specs.declared.rows.ReadOf.{ReadOf}
-use Rattle.cc_names.specs.declared.steps.UnitEnd.{UnitEnd}
 use Rattle.cc_names.specs.declared.units.Unit.{Unit}
-use Rattle.legal_history.specs.Base.{Base, size, first_rows, deed_at, only_where}
+use Rattle.legal_history.specs.Base.{Base, first_rows, deed_at, only_where}
 use Rattle.legal_history.specs.Builds.{Build, Came, Started, Ended, Given, object_of}
 use Rattle.legal_history.specs.Changes.{targets_of}
-use Rattle.legal_history.specs.Choices.{Member, unit_of_member, members_before, object_at, object_among, visible, entry_row, in_order, as_entry, entries}
+use Rattle.legal_history.specs.Choices.{unit_of_member, members_before, object_among, visible, entry_row, in_order, as_entry, entries}
 use Rattle.legal_history.specs.Closures.{is_among}
 use Rattle.legal_history.specs.Conditions.{is_entry, makes_file_text}
-use Rattle.legal_history.specs.Freshness.{Agrees, HasOutputs, IsReady, AgreesSoFar}
+use Rattle.legal_history.specs.Freshness.{Agrees, IsReady, AgreesSoFar}
 use Rattle.legal_history.specs.Seen.{file_at}
 use Rattle.legal_history.specs.Serials.{Outcome, Made, Without, makes, needed}
 use Rattle.legal_history.proofs.FilesBelow.{beyond}
 use Rattle.legal_history.proofs.FreshSeen.{or_first, or_second}
 use Rattle.legal_history.proofs.Pairs.{Pair, unit_in, member_of, pairs_before, members_paired, needed_mapped}
 use Rattle.fresh_builds.proofs.FileRows.{FileText, file_is_text, file_text_stays_all}
-use Rattle.fresh_builds.proofs.FreshRuns.{PairAgrees, AllAgree, needed_agree, ready_over}
+use Rattle.fresh_builds.proofs.FreshRuns.{AllAgree, needed_agree, ready_over}
 
 -- an object that one of some agreeing units was given at a path has this path as a target
 given_has : (b : Base) (p : Pair) (path : List ℕ) (id : ℕ) (came : Came) (outcome : Outcome) → makes path p.unit ≡ true → object_of (Some came) ≡ Some id → Agrees b p.unit came outcome →

@@ -1,6 +1,6 @@
 -- The row of a file that a view sees made the text of a file.
-use Rattle.std.proofs.Common.{◌≡◌, refl, ap, sym, subst, ◌∙◌, ℕ, zero, suc, ◌<◌, ◌≤◌, Bool, true, false, cond, not, ◌&&◌, ◌||◌, ◌==◌, Option, Some, None, List, [], ◌∷◌, ◌++◌, arith}
-use Rattle.std.specs.Prelude.{is_some, option_and_then, bytes_eq, reverse}
+use Rattle.std.proofs.Common.{◌≡◌, refl, ap, sym, subst, ◌∙◌, ℕ, ◌<◌, Bool, true, false, ◌&&◌, ◌||◌, ◌==◌, Option, Some, None, List, [], ◌∷◌, ◌++◌, arith}
+use Rattle.std.specs.Prelude.{bytes_eq, reverse}
 use Rattle.cc_names.specs.Formed.{Plain}
 use Rattle.cc_names.specs.Last.{Effect, Keeps, Ends, Sets, only_if}
 use Rattle.cc_names.specs.Paths.{names_of, joined}
@@ -19,7 +19,6 @@ use Rattle.legal_history.specs.Changes.{tree}
 use Rattle.legal_history.specs.Closures.{is_version_of}
 use Rattle.legal_history.specs.Conditions.{element_of_text, is_put, is_file, is_file_kind, is_some_file, makes_file_text}
 use Rattle.legal_history.specs.Fits.{is_base}
-use Rattle.legal_history.specs.Growth.{Extends}
 use Rattle.legal_history.specs.Seen.{at, file_at, file_seen, row_of_file}
 use Rattle.legal_history.specs.Views.{Checkout, TakenOut, checkout_of_element, checkout_of_branch, made_out, making, making_effect, making_of_out, out_effect, private, private_effect, taken_out}
 use Rattle.legal_history.proofs.Below.{last_holds}

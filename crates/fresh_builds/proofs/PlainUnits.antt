@@ -1,24 +1,22 @@
 -- The units of a build are in order: so far a makefile has one rule at most, whose target is none of its own prerequisites.
-use Rattle.std.proofs.Common.{◌≡◌, refl, ap, sym, subst, ◌∙◌, ℕ, zero, suc, ◌+◌, ◌<◌, Bool, true, false, cond, not, ◌&&◌, ◌||◌, Option, Some, None, Result, Ok, Err, List, [], ◌∷◌, ◌++◌, arith}
+use Rattle.std.proofs.Common.{◌≡◌, refl, ap, sym, subst, ◌∙◌, ℕ, zero, suc, ◌+◌, Bool, true, false, cond, not, ◌||◌, Option, Some, None, Result, Ok, Err, List, [], ◌∷◌, ◌++◌}
 use Rattle.std.proofs.lemmas.Slice.Eq.{bytes_eq-Decides}
 use Rattle.std.specs.Bool.{⊤}
-use Rattle.std.specs.Prelude.{bytes_eq, find, fold, filter, map, flat_map, slice_get, is_some, if◌then◌else◌}
+use Rattle.std.specs.Prelude.{bytes_eq, find, fold, map, flat_map, slice_get, is_some, if◌then◌else◌}
 use Rattle.std.specs.List.{list_any, before_first, after_first}
 use Rattle.cc_names.specs.declared.commands.Macro.{Macro}
 use Rattle.cc_names.specs.declared.refusals.GraphFault.{GraphFault}
-use Rattle.cc_names.specs.declared.refusals.MakeError.{MakeError}
-use Rattle.cc_names.specs.declared.refusals.Refusal.{Refusal}
 use Rattle.cc_names.specs.declared.units.Unit.{Unit}
 use Rattle.make_text.specs.Lines.{is_script_line, is_blank_line, lines_of, words}
-use Rattle.make_text.specs.Makefiles.{Contents, is_colon, with_path, each_once, begins_with_period, may_be_target, rule_from, rule_of, may_be_rule, is_beyond, has_script, below_rule, with_script, rules_from, contents_of, makefile_of, paths_of}
+use Rattle.make_text.specs.Makefiles.{is_colon, with_path, each_once, begins_with_period, may_be_target, rule_from, rule_of, may_be_rule, is_beyond, has_script, below_rule, with_script, rules_from, contents_of, paths_of}
 use Rattle.make_text.specs.Units.{Files, unit_of, wanted, goals_of, missing_goal, unless_source, unless_missing, graph_of, made_by, unless_refused, units_of, units_at, units, main_file}
 use Rattle.make_text.specs.declared.rules.MakeRule.{MakeRule}
 use Rattle.legal_history.specs.Builds.{number_from}
 use Rattle.legal_history.specs.Closures.{is_among}
 use Rattle.legal_history.specs.Freshness.{InOrder}
 use Rattle.legal_history.specs.Serials.{makes}
-use Rattle.legal_history.proofs.Owned.{and_first, and_second}
-use Rattle.legal_history.proofs.FreshSeen.{or_first, or_second}
+use Rattle.legal_history.proofs.Owned.{and_second}
+use Rattle.legal_history.proofs.FreshSeen.{or_first}
 
 -- one target that is none of the prerequisites
 pub record IsPlain (targets prerequisites : List (List ℕ)) : Type 0 where

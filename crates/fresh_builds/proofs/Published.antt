@@ -1,5 +1,5 @@
 -- The object that a unit's run publishes agrees with what the unit comes to from nothing.
-use Rattle.std.proofs.Common.{◌≡◌, refl, ap, sym, subst, ◌∙◌, ℕ, suc, ◌<◌, ◌≤◌, Bool, true, false, ◌==◌, Option, Some, None, Result, Ok, Err, List, [], ◌∷◌, arith}
+use Rattle.std.proofs.Common.{◌≡◌, refl, ap, sym, subst, ◌∙◌, ℕ, true, false, Option, Some, None, Result, Ok, Err, List, ◌∷◌, arith}
 use Rattle.std.specs.Prelude.{is_some}
 use Rattle.cc_names.specs.Formed.{Plain}
 use Rattle.cc_names.specs.declared.refusals.ScriptFault.{ScriptFault}
@@ -9,13 +9,13 @@ use Rattle.cc_names.specs.declared.rows.ReadOf.{ReadOf}
 use Rattle.cc_names.specs.declared.rows.Tag.{Tag}
 use Rattle.cc_names.specs.declared.units.Unit.{Unit}
 use Rattle.legal_history.specs.Base.{Base, size, first_rows, row_at, deed_of}
-use Rattle.legal_history.specs.Builds.{Build, Came, Started, Ended, Given, came_to, is_outcome, unit_at}
-use Rattle.legal_history.specs.Changes.{targets_of, targets_of_deed}
+use Rattle.legal_history.specs.Builds.{Build, Given}
+use Rattle.legal_history.specs.Changes.{targets_of_deed}
 use Rattle.legal_history.specs.Choices.{here, visible, entries, publish_of, publish_by, text_of_row}
 use Rattle.legal_history.specs.Fresh.{outcome_of_run, script_text}
 use Rattle.legal_history.specs.Freshness.{Agrees, HasOutputs, IsReady, AgreesSoFar, outcome_in, early_from_nothing}
-use Rattle.legal_history.specs.Serials.{Outcome, Made, Without, makes}
-use Rattle.legal_history.specs.Texts.{Source, Bytes, OfRow, NoText, of_output, output_at, text}
+use Rattle.legal_history.specs.Serials.{makes}
+use Rattle.legal_history.specs.Texts.{Bytes, OfRow, NoText, of_output, output_at, text}
 use Rattle.legal_history.proofs.Owned.{same_is_same}
 use Rattle.legal_history.proofs.Stay.{first_rows_stay}
 use Rattle.fresh_builds.proofs.ReadyUnits.{outcome_by_run, outputs_whole}

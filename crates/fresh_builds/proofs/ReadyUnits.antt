@@ -1,24 +1,22 @@
 -- What a ready unit of a build that agrees so far comes to from nothing: an early end, or what its run gives here.
-use Rattle.std.proofs.Common.{◌≡◌, refl, ap, sym, subst, ◌∙◌, ℕ, zero, suc, Bool, true, false, ◌&&◌, ◌||◌, Option, Some, None, Result, Ok, Err, List, [], ◌∷◌, arith}
+use Rattle.std.proofs.Common.{◌≡◌, refl, ap, sym, subst, ◌∙◌, ℕ, Bool, true, false, ◌||◌, Option, Some, None, Result, Ok, Err, List, [], ◌∷◌}
 use Rattle.std.proofs.lemmas.Slice.Eq.{bytes_eq-Decides}
 use Rattle.std.specs.Prelude.{is_some, bytes_eq, if◌then◌else◌}
 use Rattle.std.specs.List.{list_all}
 use Rattle.cc_names.specs.declared.refusals.ScriptFault.{ScriptFault}
-use Rattle.cc_names.specs.declared.refusals.UnitFault.TheVariants.{Script}
 use Rattle.cc_names.specs.declared.steps.UnitEnd.{UnitEnd}
-use Rattle.cc_names.specs.declared.steps.UnitEnd.TheVariants.{Failed}
 use Rattle.cc_names.specs.declared.units.Unit.{Unit}
 use Rattle.build_script.specs.Lines.{script_of}
-use Rattle.build_script.specs.Run.{Files, Asking, Done, Asks, Ran, run, run_of, run_of_lines, run_from, after_lines, nothing_written, carried_out, traced, and_then, unless_fault, output_before, outputs_of}
+use Rattle.build_script.specs.Run.{Files, Done, Ran, run, run_of, after_lines, nothing_written, carried_out, traced, unless_fault, output_before, outputs_of}
 use Rattle.build_script.specs.declared.lines.Line.{Line}
 use Rattle.build_script.proofs.RunLemmas.{traced-and_then}
 use Rattle.legal_history.specs.Base.{Base, first_rows}
-use Rattle.legal_history.specs.Builds.{Build, came_to, is_outcome, number_from, unit_at, unit_with}
+use Rattle.legal_history.specs.Builds.{Build, came_to, is_outcome, number_from, unit_with}
 use Rattle.legal_history.specs.Choices.{here}
 use Rattle.legal_history.specs.Closures.{is_among}
-use Rattle.legal_history.specs.Fresh.{outcome_of_run, end_or_run, output_or_file, script_text, texts}
+use Rattle.legal_history.specs.Fresh.{outcome_of_run, end_or_run, output_or_file, texts}
 use Rattle.legal_history.specs.Freshness.{IsReady, AgreesSoFar, done_in, outcome_in, early_from_nothing}
-use Rattle.legal_history.specs.Serials.{Outcome, Made, Without, unit_of, needed}
+use Rattle.legal_history.specs.Serials.{Without, unit_of, needed}
 use Rattle.legal_history.specs.Texts.{output_at}
 use Rattle.legal_history.specs.Turns.{is_over, is_ready}
 use Rattle.legal_history.proofs.FreshSeen.{bytes_turned}
@@ -101,5 +99,5 @@ outputs_whole script targets outputs files h = by (script_of script) refl h
     by (Ok lines) is h =
         let ran = traced files [] (after_lines targets lines nothing_written) in
         let own = written targets outputs files ran.reads ran.value
-            (sym (ap (λ t. t.value) (traced-and_then files [] (after_lines targets lines nothing_written) (unless_fault (λ after. Done (outputs_of targets after))))) ∙ h) in
+        (sym (ap (λ t. t.value) (traced-and_then files [] (after_lines targets lines nothing_written) (unless_fault (λ after. Done (outputs_of targets after))))) ∙ h) in
         outputs_there targets outputs own.0 own.1

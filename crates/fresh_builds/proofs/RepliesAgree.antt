@@ -1,13 +1,10 @@
 -- A build whose units all have outcomes that agree is replied as the build from nothing.
-use Rattle.std.proofs.Common.{◌≡◌, refl, ap, sym, subst, ◌∙◌, ℕ, zero, suc, ◌+◌, Bool, true, false, ◌&&◌, Option, Some, None, List, [], ◌∷◌, ◌++◌, append_assoc, length, length-append, map, take, arith}
+use Rattle.std.proofs.Common.{◌≡◌, refl, ap, sym, subst, ◌∙◌, ℕ, zero, suc, ◌+◌, true, Option, Some, None, List, [], ◌∷◌, ◌++◌, append_assoc, length, length-append, map, take, arith}
 use Rattle.std.proofs.lemmas.List.{reverse-append}
 use Rattle.std.proofs.Math.Seq.{take-length}
-use Rattle.std.specs.Prelude.{is_some, reverse, slice_get}
-use Rattle.cc_names.specs.declared.replies.Reply.{Reply}
+use Rattle.std.specs.Prelude.{reverse, slice_get}
 use Rattle.cc_names.specs.declared.replies.Reply.TheVariants.{Built}
 use Rattle.cc_names.specs.declared.replies.UnitLine.{UnitLine}
-use Rattle.cc_names.specs.declared.replies.UnitWord.{UnitWord}
-use Rattle.cc_names.specs.declared.steps.UnitEnd.{UnitEnd}
 use Rattle.cc_names.specs.declared.units.Unit.{Unit}
 use Rattle.legal_history.specs.Base.{Base, first_rows}
 use Rattle.legal_history.specs.Builds.{Build, Came, Started, Ended, Given, came_to, is_outcome, unit_at}
@@ -16,7 +13,7 @@ use Rattle.legal_history.specs.Freshness.{Agrees, AgreesSoFar, outcome_in}
 use Rattle.legal_history.specs.Serials.{Outcome, Made, Without, Finished}
 use Rattle.legal_history.specs.Turns.{all_over, is_complete}
 use Rattle.legal_history.proofs.Owned.{and_first, and_second}
-use Rattle.legal_history.proofs.Pairs.{Pair, finished_of, with_pair, pairs_before, done_paired}
+use Rattle.legal_history.proofs.Pairs.{finished_of, with_pair, pairs_before, done_paired}
 use Rattle.fresh_builds.specs.Replied.{digest_at, word_of_object, word_of_end, word_of_came, word_of_outcome, lines_of, lines_from, finished_from, reply_of, reply_from_nothing}
 use Rattle.fresh_builds.proofs.FreshRuns.{outcome_there}
 

@@ -1,15 +1,14 @@
 -- How many units of the active builds still wait: each may make one more row.
-use Rattle.std.proofs.Common.{◌≡◌, refl, ap, sym, subst, ◌∙◌, ℕ, zero, suc, ◌+◌, ◌<◌, ◌≤◌, Bool, true, false, cond, not, ◌&&◌, ◌==◌, T, Option, Some, None, List, [], ◌∷◌, length, arith}
+use Rattle.std.proofs.Common.{◌≡◌, refl, ap, ◌∙◌, ℕ, zero, suc, ◌+◌, ◌≤◌, Bool, true, false, cond, not, ◌&&◌, ◌==◌, T, Some, None, List, [], ◌∷◌, length, arith}
 use Rattle.std.proofs.lemmas.Cmp.{nat_cmp_total}
 use Rattle.std.specs.Prelude.{slice_get}
-use Rattle.std.specs.Ordering.{nat_cmp, eq_by_cmp, is_eq, is_lt}
+use Rattle.std.specs.Ordering.{nat_cmp, is_eq, is_lt}
 use Rattle.std.specs.declared.cmp.Ordering.{Ordering}
 use Rattle.std.specs.declared.cmp.Ordering.TheVariants.{Less, Equal, Greater}
-use Rattle.std.specs.FinMap.Entries.{put, find, where_key, by_order, below_all, is_sorted, is_sorted-put, is_sorted-where_key}
+use Rattle.std.specs.FinMap.Entries.{put, find, where_key, by_order, below_all, is_sorted}
 use Rattle.cc_names.specs.References.{one_where}
 use Rattle.cc_names.specs.declared.units.Unit.{Unit}
-use Rattle.legal_history.specs.Builds.{Active, Build, Came, build_of, came_to, is_outcome, reserved, unit_at}
-use Rattle.legal_history.specs.Steps.{with_came}
+use Rattle.legal_history.specs.Builds.{Active, Build, Came, build_of, is_outcome, reserved}
 use Rattle.legal_history.proofs.Goes.{same_number}
 use Rattle.legal_history.proofs.Tables.{find_after_put, find_put_same}
 
@@ -51,7 +50,7 @@ one_less comes n m came waits = by (m == n) refl
         let new = one_at_most (not (is_outcome (find nat_cmp m (put nat_cmp n came comes)))) in omega arith
     by false e =
         let same : one_where (not (is_outcome (find nat_cmp m (put nat_cmp n came comes)))) ≡ one_where (not (is_outcome (find nat_cmp m comes))) =
-            ap (λ o. one_where (not (is_outcome o))) (find_after_put m n came comes ∙ ap (λ b. cond b (Some came) (find nat_cmp m comes)) e) in
+        ap (λ o. one_where (not (is_outcome o))) (find_after_put m n came comes ∙ ap (λ b. cond b (Some came) (find nat_cmp m comes)) e) in
         omega arith
 
 pub no_more_wait : (comes : List (ℕ × Came)) (n k : ℕ) (came : Came) (units : List Unit) → is_outcome (find nat_cmp n comes) ≡ false → waits_from (put nat_cmp n came comes) k units ≤ waits_from comes k units
@@ -66,7 +65,7 @@ fewer_wait comes n k zero came unit (u ∷ units) place is waits over =
     let number : k ≡ n = omega arith in
     let old : one_where (not (is_outcome (find nat_cmp k comes))) ≡ 1 = ap (λ m. one_where (not (is_outcome (find nat_cmp m comes)))) number ∙ ap (λ t. one_where (not t)) waits in
     let new : one_where (not (is_outcome (find nat_cmp k (put nat_cmp n came comes)))) ≡ 0 =
-        ap (λ m. one_where (not (is_outcome (find nat_cmp m (put nat_cmp n came comes))))) number ∙ ap (λ o. one_where (not (is_outcome o))) (find_put_same n came comes) ∙ ap (λ t. one_where (not t)) over in
+    ap (λ m. one_where (not (is_outcome (find nat_cmp m (put nat_cmp n came comes))))) number ∙ ap (λ o. one_where (not (is_outcome o))) (find_put_same n came comes) ∙ ap (λ t. one_where (not t)) over in
     let rest = no_more_wait comes n (k + 1) came units waits in
     omega arith
 fewer_wait comes n k (suc j) came unit (u ∷ units) place is waits over =

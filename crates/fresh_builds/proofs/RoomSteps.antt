@@ -1,8 +1,8 @@
 -- A lawful step leaves room for a row of each unit that waits.
-use Rattle.std.proofs.Common.{◌≡◌, refl, ap, sym, subst, ◌∙◌, ℕ, zero, suc, ◌+◌, ◌<◌, ◌≤◌, Bool, true, false, not, ◌==◌, T, Option, Some, None, Result, Ok, Err, List, [], ◌∷◌, length, arith, nat_lt}
+use Rattle.std.proofs.Common.{◌≡◌, refl, ap, sym, subst, ◌∙◌, ℕ, ◌+◌, ◌≤◌, true, not, ◌==◌, T, Option, Some, None, Ok, List, [], ◌∷◌, length, arith, nat_lt}
 use Rattle.std.proofs.lemmas.Bool.{lt-ltb}
 use Rattle.std.proofs.lemmas.Cmp.{nat_cmp_total}
-use Rattle.std.specs.Prelude.{is_some, slice_get}
+use Rattle.std.specs.Prelude.{is_some}
 use Rattle.std.specs.Ordering.{nat_cmp}
 use Rattle.std.specs.FinMap.Entries.{put, is_sorted, is_sorted-put, is_sorted-where_key}
 use Rattle.cc_names.specs.Formed.{Plain}
@@ -18,11 +18,11 @@ use Rattle.cc_names.specs.declared.steps.UnitEnd.{UnitEnd}
 use Rattle.cc_names.specs.declared.steps.UnitEnd.TheVariants as ends
 use Rattle.cc_names.specs.declared.units.Unit.{Unit}
 use Rattle.legal_history.specs.Base.{Base, size}
-use Rattle.legal_history.specs.Builds.{Active, Build, Came, Given, Ended, build_of, is_outcome, reserved, unit_with_first}
+use Rattle.legal_history.specs.Builds.{Active, Build, Came, Given, Ended, build_of, is_outcome, unit_with_first}
 use Rattle.legal_history.specs.Decisions.{Makes, Begins}
 use Rattle.legal_history.specs.Fits.{row_limit}
-use Rattle.legal_history.specs.States.{State, scene, decided, build_by}
-use Rattle.legal_history.specs.Steps.{after, after_step, noted, noted_in, with_came, came_by_starting, active_after, begun, new_build, units_begun, with_build, without_build, faulted_in}
+use Rattle.legal_history.specs.States.{State, decided, build_by}
+use Rattle.legal_history.specs.Steps.{after, after_step, noted, noted_in, with_came, came_by_starting, active_after, begun, with_build, without_build, faulted_in}
 use Rattle.legal_history.specs.Stories.{Lawful, LawfulStep, MakesRow, Settles, Waits}
 use Rattle.legal_history.proofs.Goes.{of_lane, decided_is_idle}
 use Rattle.fresh_builds.proofs.BuildSteps.{decided_of, says_of, begun_by, begun_is, none_chosen}

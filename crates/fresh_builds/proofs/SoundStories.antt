@@ -1,33 +1,30 @@
 -- Along a legal story the rows stay a base, and every active build agrees with the build from nothing.
-use Rattle.std.proofs.Common.{◌≡◌, refl, ap, sym, subst, ◌∙◌, ℕ, zero, suc, ◌+◌, ◌<◌, ◌≤◌, Bool, true, false, ◌&&◌, Option, Some, None, Result, Ok, List, [], ◌∷◌, arith, nat_lt}
+use Rattle.std.proofs.Common.{◌≡◌, refl, ap, sym, subst, ◌∙◌, ℕ, ◌<◌, ◌≤◌, true, ◌&&◌, Some, List, [], ◌∷◌, arith, nat_lt}
 use Rattle.std.proofs.lemmas.Bool.{ltb-true}
 use Rattle.std.specs.Prelude.{is_some, reverse}
 use Rattle.std.specs.List.{list_all}
-use Rattle.cc_names.specs.Formed.{Plain}
 use Rattle.cc_names.specs.declared.rows.Deed.{Deed}
 use Rattle.cc_names.specs.declared.rows.Deed.TheVariants as deeds
 use Rattle.cc_names.specs.declared.rows.Tag.{Tag}
-use Rattle.cc_names.specs.declared.steps.Step.{Step}
 use Rattle.cc_names.specs.declared.steps.Step.TheVariants as steps
 use Rattle.cc_names.specs.declared.steps.Told.{Told}
 use Rattle.cc_names.specs.declared.steps.Told.TheVariants as told
 use Rattle.cc_names.specs.declared.units.Unit.{Unit}
 use Rattle.legal_history.specs.Base.{Base, size}
-use Rattle.legal_history.specs.Builds.{Active, Build, Given, build_of, unit_with_first}
+use Rattle.legal_history.specs.Builds.{Build, build_of}
 use Rattle.legal_history.specs.Choices.{here, visible, entries}
 use Rattle.legal_history.specs.Conditions.{exists, is_entry}
 use Rattle.legal_history.specs.Decisions.{Makes}
-use Rattle.legal_history.specs.Fits.{deed_fits, fits, is_base, row_limit}
-use Rattle.legal_history.specs.Fresh.{script_text}
+use Rattle.legal_history.specs.Fits.{fits, is_base, row_limit}
 use Rattle.legal_history.specs.Freshness.{AgreesSoFar, IsReady}
 use Rattle.legal_history.specs.States.{State, scene, start}
-use Rattle.legal_history.specs.Steps.{after, after_step, active_after, state_from, state_of}
-use Rattle.legal_history.specs.Stories.{Lawful, LegalFrom, Legal, MakesRow, Publishes}
+use Rattle.legal_history.specs.Steps.{after, active_after, state_from, state_of}
+use Rattle.legal_history.specs.Stories.{Lawful, LegalFrom, Legal, MakesRow}
 use Rattle.legal_history.proofs.DecidedFits.{decided_fits}
 use Rattle.legal_history.proofs.Fronts.{first_opens}
 use Rattle.legal_history.proofs.Goes.{of_lane}
 use Rattle.legal_history.proofs.Grows.{stays_opened}
-use Rattle.legal_history.proofs.Owned.{and_first, rows_below}
+use Rattle.legal_history.proofs.Owned.{and_first}
 use Rattle.fresh_builds.proofs.AllBuilds.{Each}
 use Rattle.fresh_builds.proofs.BuildSteps.{IsFine, step_fine, decided_of, none_chosen}
 use Rattle.fresh_builds.proofs.EntriesFit.{entries_fit}

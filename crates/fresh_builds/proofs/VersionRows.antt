@@ -1,30 +1,27 @@
 -- The row of a version, or of a view's own text of an element, is one that made a text of this element.
-use Rattle.std.proofs.Common.{◌≡◌, refl, ap, sym, subst, ◌∙◌, ℕ, suc, ◌<◌, ◌≤◌, Bool, true, false, cond, not, ◌&&◌, ◌==◌, Option, Some, None, List, [], ◌∷◌, arith}
+use Rattle.std.proofs.Common.{◌≡◌, refl, ap, sym, subst, ◌∙◌, ℕ, ◌<◌, Bool, true, false, cond, ◌==◌, Option, Some, None, List, [], ◌∷◌, arith}
 use Rattle.std.proofs.lemmas.Bool.Decides.{nat_tests}
-use Rattle.std.specs.Prelude.{is_some, option_and_then, option_map, bytes_eq, find}
+use Rattle.std.specs.Prelude.{option_and_then, option_map}
 use Rattle.cc_names.specs.Formed.{Plain}
-use Rattle.cc_names.specs.Last.{Effect, Keeps, Ends, Sets, only_if}
 use Rattle.cc_names.specs.Branches.{branch_of_version}
-use Rattle.cc_names.specs.Versions.{row_of_change, branch_of_change, change_at, element_by, element_of_branch, place}
+use Rattle.cc_names.specs.Versions.{row_of_change, branch_of_change, change_at, element_by, element_of_branch}
 use Rattle.cc_names.specs.declared.changes.TreeChange.{TreeChange}
 use Rattle.cc_names.specs.declared.changes.TreeChange.TheVariants.{ElementMade, BranchMade, VersionMade}
 use Rattle.cc_names.specs.declared.rows.Deed.{Deed}
 use Rattle.cc_names.specs.declared.rows.Deed.TheVariants as deeds
 use Rattle.cc_names.specs.declared.rows.Kind.TheVariants.{Directory}
-use Rattle.cc_names.specs.declared.rows.Out.{Out}
-use Rattle.cc_names.specs.declared.rows.Out.TheVariants as outs
 use Rattle.cc_names.specs.declared.rows.Tag.{Tag}
 use Rattle.legal_history.specs.Base.{Base, size, row_at, deed_of, deed_at}
 use Rattle.legal_history.specs.Changes.{tree, tree_after, with_version, with_checkin}
 use Rattle.legal_history.specs.Closures.{is_version_of}
 use Rattle.legal_history.specs.Conditions.{element_of_text}
 use Rattle.legal_history.specs.Fits.{is_base}
-use Rattle.legal_history.specs.Views.{Checkout, TakenOut, checkout_of_element, checkout_of_branch, made_out, making, making_effect, making_of_out, out, out_effect, taken_out}
-use Rattle.legal_history.proofs.Below.{Within, within, last_holds, older_change}
+use Rattle.legal_history.specs.Views.{Checkout, out}
+use Rattle.legal_history.proofs.Below.{within, older_change}
 use Rattle.legal_history.proofs.Goes.{same_number}
 use Rattle.legal_history.proofs.OnBranches.{all_stand}
-use Rattle.legal_history.proofs.Origins.{newest_change, out_is_version, out_sets, set_is}
-use Rattle.legal_history.proofs.Owned.{and_second, rows_below, same_is_same}
+use Rattle.legal_history.proofs.Origins.{newest_change, out_is_version}
+use Rattle.legal_history.proofs.Owned.{rows_below, same_is_same}
 use Rattle.legal_history.proofs.Stay.{row_stays}
 use Rattle.legal_history.proofs.VersionsStay.{of_element, parts_of}
 
