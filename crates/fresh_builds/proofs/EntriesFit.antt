@@ -24,7 +24,7 @@ use Rattle.legal_history.proofs.FilesBelow.{beyond}
 use Rattle.legal_history.proofs.FreshSeen.{or_first, or_second}
 use Rattle.legal_history.proofs.Pairs.{Pair, unit_in, member_of, pairs_before, members_paired, needed_mapped}
 use Rattle.fresh_builds.proofs.FileRows.{FileText, file_is_text, file_text_stays_all}
-use Rattle.fresh_builds.proofs.FreshRuns.{AllAgree, needed_agree, ready_over}
+use Rattle.fresh_builds.proofs.NeededAgree.{AllAgree, needed_agree, ready_over}
 
 -- an object that one of some agreeing units was given at a path has this path as a target
 given_has : (b : Base) (p : Pair) (path : List ℕ) (id : ℕ) (came : Came) (outcome : Outcome) → makes path p.unit ≡ true → object_of (Some came) ≡ Some id → Agrees b p.unit came outcome →

@@ -26,7 +26,9 @@ use Rattle.legal_history.proofs.Goes.{of_lane}
 use Rattle.legal_history.proofs.Grows.{stays_opened}
 use Rattle.legal_history.proofs.Owned.{and_first}
 use Rattle.fresh_builds.proofs.AllBuilds.{Each}
-use Rattle.fresh_builds.proofs.BuildSteps.{IsFine, step_fine, decided_of, none_chosen}
+use Rattle.fresh_builds.proofs.BuildSteps.{step_fine}
+use Rattle.fresh_builds.proofs.DecidedSteps.{decided_of, none_chosen}
+use Rattle.fresh_builds.proofs.FineBuilds.{IsFine}
 use Rattle.fresh_builds.proofs.EntriesFit.{entries_fit}
 use Rattle.fresh_builds.proofs.Published.{IsPublish, is_publish}
 use Rattle.fresh_builds.proofs.RoomSteps.{HasRoom, step_room, room_for}
