@@ -1,5 +1,5 @@
 -- What a core keeps after a step that finishes a command of a lane.
-use Rattle.std.proofs.Common.{◌≡◌, ◌≢◌, ℕ, suc, ◌+◌, ◌-◌, ◌<◌, ◌≤◌, inl, inr, true, false, Some, Result, Ok, Err, List, [], ◌∷◌, ◌++◌, length, length-append, refl, ap, sym, subst, ◌∙◌, arith}
+use Rattle.std.proofs.Common.{◌≡◌, ◌≢◌, ℕ, suc, ◌+◌, ◌-◌, ◌<◌, ◌≤◌, inl, inr, true, false, Option, Some, None, Result, Ok, Err, List, [], ◌∷◌, ◌++◌, length, length-append, refl, ap, sym, subst, ◌∙◌, arith}
 use Rattle.std.proofs.lemmas.List.{append-nil, reverse-append, length-set, length-reverse}
 use Rattle.std.specs.Prelude.{OnOk, is_err}
 use Rattle.cc_names.specs.declared.memory.NoMemory.{NoMemory}
@@ -13,14 +13,20 @@ use Rattle.cc_names.specs.declared.steps.Step.TheVariants as steps
 use Rattle.cc_names.specs.declared.steps.Told.{Told}
 use Rattle.cc_names.specs.declared.steps.Told.TheVariants as told
 use Rattle.legal_history.specs.Decisions.{Makes}
-use Rattle.legal_history.specs.States.{start, done_of, with_done, decided}
+use Rattle.legal_history.specs.Base.{size, first_rows}
+use Rattle.legal_history.specs.Builds.{Build, build_of, reserved}
+use Rattle.legal_history.specs.Fits.{row_limit}
+use Rattle.legal_history.specs.States.{State, start, done_of, with_done, decided}
 use Rattle.legal_history.specs.Steps.{after, state_of}
 use Rattle.legal_history.specs.Stories.{Lawful}
 use Rattle.view_lookup.specs.Unversioned.{is_plain_deed}
+use Rattle.base_core.specs.Building.{IsBuildKept}
 use Rattle.base_core.specs.Acting.{IsNextRow, IsNextRefusal}
 use Rattle.base_core.specs.Kept.{last_phase, replies_at, with_reply, Agrees, AreReplies, IsKept}
 use Rattle.base_core.specs.Logs.{Logged, with_row, with_step}
 use Rattle.base_core.specs.Replying.{in_lane, replies_after, replies_of, no_replies}
+use Rattle.base_core.proofs.Idle.{decided_is_free, not_both}
+use Rattle.base_core.proofs.Staying.{first_stay, build_stays}
 use Rattle.base_core.proofs.Growing.{state_from-more, legal_more, replies_from-more}
 use Rattle.base_core.proofs.Lanes.{done_same, done_other, in_same, in_other, one_or_two, replies_same, replies_other}
 use Rattle.base_core.proofs.PlainRows.{good_reply, finishes, builds_nothing, makes_row, plain_unversioned, newest_too, one_more_rises}
@@ -44,30 +50,53 @@ finished story x lanes phase tag reply h low high said done =
       ];
     }
 
+-- the builds of other lanes are kept after a step with which a lane without a build finishes a command
+others_kept : (log : Logged) (lanes : List (List Reply)) (builds : List (Option Build)) (now : ℕ) (x : Told) (tag : Tag) → IsKept log lanes builds now → build_of (state_of log.story).active tag.lane ≡ None → (after (state_of log.story) x).active ≡ (state_of log.story).active → (after (state_of log.story) x).phase ≡ (state_of log.story).phase → (after (state_of log.story) x).number ≡ (state_of log.story).number → (after (state_of log.story) x).done ≡ with_done (state_of log.story).done tag.lane → ((t : ℕ) → t ≤ size (state_of log.story).base → first_rows t (after (state_of log.story) x).base ≡ first_rows t (state_of log.story).base) → size (state_of log.story).base ≤ size (after (state_of log.story) x).base
+    → (lane : ℕ) (build : Build) → build_of (state_of (log.story ++ x ∷ [])).active lane ≡ Some build → IsBuildKept (state_of (log.story ++ x ∷ [])) lane build
+others_kept log lanes builds now x tag h free active phase number done rows grows lane build is =
+    subst (λ t. IsBuildKept t lane build) (sym more)
+    (build_stays s (after s x) lane build kept phase number (ap (λ d. done_of d lane) done ∙ done_other s.done tag.lane lane differs) (rows build.rows kept.rows) grows)
+  where
+  s : State
+  s = state_of log.story
+  more : state_of (log.story ++ x ∷ []) ≡ after s x
+  more = state_from-more start log.story x
+  was : build_of s.active lane ≡ Some build
+  was = ap (λ a. build_of a lane) (sym active) ∙ ap (λ t. build_of t.active lane) (sym more) ∙ is
+  kept : IsBuildKept s lane build
+  kept = h.building lane build was
+  differs : lane ≢ tag.lane
+  differs = λ e. not_both (build_of s.active lane) build (ap (build_of s.active) e ∙ free) was
+
 -- what is kept after a commit
-pub kept_commit : (log : Logged) (lanes : List (List Reply)) (now : ℕ) (row : Plain) → IsKept log lanes now → is_plain_deed row.deed ≡ true → row.moment ≡ now → decided (state_of log.story) row.tag ≡ Some (Ok (Makes row.deed)) → 1 ≤ row.tag.lane → row.tag.lane ≤ length lanes → length log.rows + 1 < 4000000 → IsKept (with_row log row) (with_reply lanes row.tag.lane replies.Good) now
-kept_commit log lanes now row h plain in_time made low high room =
+pub kept_commit : (log : Logged) (lanes : List (List Reply)) (builds : List (Option Build)) (now : ℕ) (row : Plain) → IsKept log lanes builds now → is_plain_deed row.deed ≡ true → row.moment ≡ now → decided (state_of log.story) row.tag ≡ Some (Ok (Makes row.deed)) → 1 ≤ row.tag.lane → row.tag.lane ≤ length lanes → length log.rows + 1 < row_limit → IsKept (with_row log row) (with_reply lanes row.tag.lane replies.Good) builds now
+kept_commit log lanes builds now row h plain in_time made low high room =
     let story = log.story in
     let x = told.Commit row (suc (length log.rows)) in
     let done : (after (state_of story) x).done ≡ with_done (state_of story).done row.tag.lane = finishes (state_of story).done row.tag.lane row.deed plain in
+    let active : (after (state_of story) x).active ≡ (state_of story).active = builds_nothing (state_of story).base (state_of story).active row.tag.lane row.deed plain in
     let lawful : Lawful (state_of story) x = record {
       may = record { moment = in_time ∙ sym h.agrees.moment; made = makes_row (state_of story) row row.deed plain made };
       ticked = one_more_rises _ (suc (length log.rows)) (omega (arith, h.agrees.ticks));
     } in
     record {
       legal = legal_more start story x h.legal lawful;
-      agrees = subst (λ s. Agrees s (log.rows ++ row ∷ []) log.phases now) (sym (state_from-more start story x))
+      agrees = subst (λ s. Agrees s (log.rows ++ row ∷ []) log.phases builds now) (sym (state_from-more start story x))
           (record {
             opened = h.agrees.opened;
             base = ap (λ b. row ∷ b) h.agrees.base ∙ sym (reverse-append log.rows (row ∷ []));
             phase = h.agrees.phase;
             number = h.agrees.number;
             moment = h.agrees.moment;
-            idle = builds_nothing (state_of story).base (state_of story).active row.tag.lane row.deed plain ∙ h.agrees.idle;
+            active = active ∙ h.agrees.active;
             ticks = omega (arith, length-append log.rows (row ∷ []));
           });
       replies = finished story x lanes (last_phase log.phases) row.tag replies.Good h.replies low high
           (λ l. ap (λ r. replies_of story l ++ in_lane l row.tag r) (good_reply (row ∷ (state_of story).base) row.deed plain)) done;
+      count = h.count ∙ sym (length-set lanes (row.tag.lane - 1) (replies_at lanes row.tag.lane ++ replies.Good ∷ []));
+      building = others_kept log lanes builds now x row.tag h (decided_is_free (state_of story) row.tag (Ok (Makes row.deed)) made) active refl refl done
+          (λ t within. first_stay row (state_of story).base t within) (omega arith);
+      reserves = subst (λ s. reserved s.active ≤ row_limit) (sym (state_from-more start story x)) (subst (λ a. reserved a ≤ row_limit) (sym active) h.reserves);
       formed = h.formed;
       carried_out = h.carried_out;
       unversioned = newest_too row log.rows (plain_unversioned row.deed plain) h.unversioned;
@@ -77,23 +106,26 @@ kept_commit log lanes now row h plain in_time made low high room =
     }
 
 -- what is kept after a refusal
-pub kept_refusal : (log : Logged) (lanes : List (List Reply)) (now : ℕ) (tag : Tag) (refusal : Refusal) → IsKept log lanes now → decided (state_of log.story) tag ≡ Some (Err refusal) → 1 ≤ tag.lane → tag.lane ≤ length lanes → IsKept (with_step log (steps.Refused tag refusal)) (with_reply lanes tag.lane (replies.Refused refusal)) now
-kept_refusal log lanes now tag refusal h made low high =
+pub kept_refusal : (log : Logged) (lanes : List (List Reply)) (builds : List (Option Build)) (now : ℕ) (tag : Tag) (refusal : Refusal) → IsKept log lanes builds now → decided (state_of log.story) tag ≡ Some (Err refusal) → 1 ≤ tag.lane → tag.lane ≤ length lanes → IsKept (with_step log (steps.Refused tag refusal)) (with_reply lanes tag.lane (replies.Refused refusal)) builds now
+kept_refusal log lanes builds now tag refusal h made low high =
     let story = log.story in
     let x = told.Other (steps.Refused tag refusal) in
     record {
       legal = legal_more start story x h.legal made;
-      agrees = subst (λ s. Agrees s log.rows log.phases now) (sym (state_from-more start story x))
+      agrees = subst (λ s. Agrees s log.rows log.phases builds now) (sym (state_from-more start story x))
           (record {
             opened = h.agrees.opened;
             base = h.agrees.base;
             phase = h.agrees.phase;
             number = h.agrees.number;
             moment = h.agrees.moment;
-            idle = h.agrees.idle;
+            active = h.agrees.active;
             ticks = h.agrees.ticks;
           });
       replies = finished story x lanes (last_phase log.phases) tag (replies.Refused refusal) h.replies low high (λ l. refl) refl;
+      count = h.count ∙ sym (length-set lanes (tag.lane - 1) (replies_at lanes tag.lane ++ replies.Refused refusal ∷ []));
+      building = others_kept log lanes builds now x tag h (decided_is_free (state_of story) tag (Err refusal) made) refl refl refl refl (λ t within. refl) (omega arith);
+      reserves = subst (λ s. reserved s.active ≤ row_limit) (sym (state_from-more start story x)) h.reserves;
       formed = h.formed;
       carried_out = h.carried_out;
       unversioned = h.unversioned;
@@ -108,17 +140,17 @@ done_well (Ok u) e h = h
 done_well (Err error) e h = absurd (cc)
 
 -- what is kept after the row of a lane's next command
-pub kept_next_row : (log : Logged) (lanes : List (List Reply)) (now : ℕ) (story : List Told) (row : Plain) (lane : ℕ) → log.story ≡ story → lane ≡ row.tag.lane → IsKept log lanes now → IsNextRow (state_of story) row → IsKept (with_row log row) (with_reply lanes lane replies.Good) now
-kept_next_row log lanes now story row lane same at_lane h next =
+pub kept_next_row : (log : Logged) (lanes : List (List Reply)) (builds : List (Option Build)) (now : ℕ) (story : List Told) (row : Plain) (lane : ℕ) → log.story ≡ story → lane ≡ row.tag.lane → IsKept log lanes builds now → IsNextRow (state_of story) row → IsKept (with_row log row) (with_reply lanes lane replies.Good) builds now
+kept_next_row log lanes builds now story row lane same at_lane h next =
     let here : IsNextRow (state_of log.story) row = subst (λ t. IsNextRow (state_of t) row) (sym same) next in
-    subst (λ l. IsKept (with_row log row) (with_reply lanes l replies.Good) now) (sym at_lane)
-    (kept_commit log lanes now row h here.plain (here.at_moment ∙ h.agrees.moment) here.made here.of_next.from
+    subst (λ l. IsKept (with_row log row) (with_reply lanes l replies.Good) builds now) (sym at_lane)
+    (kept_commit log lanes builds now row h here.plain (here.at_moment ∙ h.agrees.moment) here.made here.of_next.from
     (omega (arith, here.of_next.upto, h.replies.count, ap (λ p. length p.lanes) h.agrees.phase))
     (omega (arith, here.room, ap length h.agrees.base, length-reverse log.rows)))
 
 -- what is kept after the refusal of a lane's next command
-pub kept_next_refusal : (log : Logged) (lanes : List (List Reply)) (now : ℕ) (story : List Told) (tag : Tag) (refusal : Refusal) → log.story ≡ story → IsKept log lanes now → IsNextRefusal (state_of story) tag refusal → IsKept (with_step log (steps.Refused tag refusal)) (with_reply lanes tag.lane (replies.Refused refusal)) now
-kept_next_refusal log lanes now story tag refusal same h next =
+pub kept_next_refusal : (log : Logged) (lanes : List (List Reply)) (builds : List (Option Build)) (now : ℕ) (story : List Told) (tag : Tag) (refusal : Refusal) → log.story ≡ story → IsKept log lanes builds now → IsNextRefusal (state_of story) tag refusal → IsKept (with_step log (steps.Refused tag refusal)) (with_reply lanes tag.lane (replies.Refused refusal)) builds now
+kept_next_refusal log lanes builds now story tag refusal same h next =
     let here : IsNextRefusal (state_of log.story) tag refusal = subst (λ t. IsNextRefusal (state_of t) tag refusal) (sym same) next in
-    kept_refusal log lanes now tag refusal h here.made here.of_next.from
+    kept_refusal log lanes builds now tag refusal h here.made here.of_next.from
     (omega (arith, here.of_next.upto, h.replies.count, ap (λ p. length p.lanes) h.agrees.phase))

@@ -1,9 +1,16 @@
 pub mod Beginning
+pub mod Closing
 pub mod Finishing
 pub mod Growing
+pub mod Idle
 pub mod Lanes
 pub mod LogSteps
 pub mod NextCommands
+pub mod Noting
+pub mod Opening
 pub mod Phases
 pub mod PlainRows
+pub mod Publishing
+pub mod Reserving
+pub mod Staying
 pub mod Stories

@@ -1,4 +1,5 @@
 pub mod Acting
+pub mod Building
 pub mod Kept
 pub mod Logs
 pub mod Nexts

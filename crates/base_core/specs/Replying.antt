@@ -1,5 +1,5 @@
 -- What the commands of a story are replied, as the story goes.
-use Rattle.std.specs.Prelude.{ℕ, true, false, ◌==◌, Option, Some, None, List, [], ◌∷◌, ◌++◌, length}
+use Rattle.std.specs.Prelude.{ℕ, true, false, ◌==◌, Option, Some, None, List, [], ◌∷◌, ◌++◌, length, if◌then◌else◌}
 use Rattle.cc_names.specs.declared.commands.Command.{Command}
 use Rattle.cc_names.specs.declared.commands.Command.TheVariants as commands
 use Rattle.cc_names.specs.declared.replies.Reply.{Reply}
@@ -10,6 +10,7 @@ use Rattle.cc_names.specs.declared.rows.Tag.{Tag}
 use Rattle.cc_names.specs.declared.steps.Step.TheVariants as steps
 use Rattle.cc_names.specs.declared.steps.Told.{Told}
 use Rattle.cc_names.specs.declared.steps.Told.TheVariants as told
+use Rattle.fresh_builds.specs.Replied.{reply_of}
 use Rattle.legal_history.specs.Base.{Base}
 use Rattle.legal_history.specs.Builds.{Build}
 use Rattle.legal_history.specs.States.{State, next_command, build_by, start}
@@ -39,17 +40,23 @@ abbrev pub reply_to_fault : Option Build → Option Reply
 reply_to_fault None = Some replies.DiskFault
 reply_to_fault (Some build) = None
 
+-- the reply to a command that built: by what its units have come to, or that the disk failed under it
+abbrev pub reply_to_end : Base → Option Build → Option Reply
+reply_to_end b None = None
+reply_to_end b (Some build) = Some (if build.faulted then replies.DiskFault else reply_of b build)
+
 -- a reply where there is one and the lane is this one
 abbrev pub in_lane : ℕ → Tag → Option Reply → List Reply
 in_lane lane tag None = []
 in_lane lane tag (Some reply) = elim (tag.lane == lane) [ true ↦ reply ∷ [] | false ↦ [] ]
 
--- The replies to the commands of a lane that a step finishes: one or none. A build's end is not told so far.
+-- The replies to the commands of a lane that a step finishes: one or none.
 abbrev pub replies_by : State → ℕ → Told → List Reply
 replies_by s lane (told.Commit row tick) = in_lane lane row.tag (reply_to_row (row ∷ s.base) row.deed)
 replies_by s lane (told.Other (steps.Refused tag refusal)) = in_lane lane tag (Some (replies.Refused refusal))
 replies_by s lane (told.Other (steps.Answer tag text)) = in_lane lane tag (Some (reply_to_answer (next_command s tag) text))
 replies_by s lane (told.Other (steps.Fault tag left before faults tick)) = in_lane lane tag (reply_to_fault (build_by s tag))
+replies_by s lane (told.Other (steps.End tag)) = in_lane lane tag (reply_to_end s.base (build_by s tag))
 replies_by s lane step = []
 
 -- a lane's replies after a step; a new phase has none yet
