@@ -1,6 +1,6 @@
 -- Where nobody builds, and where a lane does not.
 use Rattle.std.proofs.Common.{◌≡◌, ℕ, zero, suc, ◌+◌, ◌-◌, ◌<◌, ◌≤◌, ◌==◌, Bool, true, false, ◌&&◌, Option, Some, None, Result, List, [], ◌∷◌, length, refl, ap, ap₂, sym, subst, ◌∙◌, arith}
-use Rattle.std.specs.Prelude.{option_and_then, option_map, is_none, slice_get}
+use Rattle.std.specs.Prelude.{IsSome, option_and_then, option_map, is_none, slice_get}
 use Rattle.std.proofs.lemmas.Bool.{eqb-true}
 use Rattle.std.proofs.lemmas.Option.{slice_get_past}
 use Rattle.cc_names.specs.declared.commands.Command.{Command}
@@ -26,6 +26,11 @@ use Rattle.base_core.specs.Nexts.{waiting, next_by, next_of}
 -- nothing is not something
 pub not_both : {A : Type 0} (found : Option A) (a : A) → found ≡ None → found ≡ Some a → ⊥
 not_both found a none some = cc
+
+-- what is nothing is not there
+pub none_is_there : {A : Type 0} (found : Option A) → found ≡ None → IsSome found → ⊥
+none_is_there None e there = cc
+none_is_there (Some a) e there = cc
 
 -- one thing is the other
 pub some_same : {A : Type 0} (one other : A) → Some one ≡ Some other → one ≡ other

@@ -12,5 +12,6 @@ pub mod Phases
 pub mod PlainRows
 pub mod Publishing
 pub mod Reserving
+pub mod SlotLists
 pub mod Staying
 pub mod Stories

@@ -4,6 +4,7 @@ ghost use Rattle.std.specs.Prelude.{◌≡◌, ◌<◌, option_and_then, length}
 ghost use Rattle.std.specs.Option.{option_copied};
 ghost use Rattle.base_core.specs.Kept.{last_phase, replies_at};
 ghost use Rattle.base_core.specs.Nexts.{next_by};
+ghost use Rattle.checkout_desk.specs.Deciding.{view_of};
 ghost use Rattle.legal_history.specs.States.{command_behind, lane_at};
 
 use crate::lane_replies::LaneReplies;
@@ -70,5 +71,15 @@ pub fn next_by(command: &Command, tag: Tag) -> Next
     match command {
         Command::Clearmake { .. } => Next::Build(tag),
         _ => Next::Act,
+    }
+}
+
+/// The view in which a command is refused while it builds; no bytes where there is none.
+pub fn building_view(command: &Command) -> &[u8]
+    ensures { result.now ≡ view_of command.now }
+{
+    match command {
+        Command::Save { view, .. } => view.as_bytes(),
+        _ => &[],
     }
 }
