@@ -38,7 +38,7 @@ use Rattle.fresh_builds.proofs.RoomSteps.{HasRoom, step_room, room_for}
 pub record IsSound (s : State) : Type 0 where
   pub opened : is_some s.opened ≡ true
   pub base : is_base s.base ≡ true
-  pub fine : Each (IsFine s.base) s.active
+  pub fine : Each (λ lane. IsFine s.base) s.active
   pub room : HasRoom s.base s.active
 
 publish_fits : (b : Base) (build : Build) (n : ℕ) (unit : Unit) (deed : Deed) → IsFine b build → IsReady build unit → nat_lt (size b) row_limit ≡ true → IsPublish b build n unit deed → fits b deed ≡ true
