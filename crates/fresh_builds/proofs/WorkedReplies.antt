@@ -1,0 +1,68 @@
+-- The reply of a build of one unit, worked: its own object, another build's object, a unit that fails, and a kept object.
+use Rattle.std.proofs.Common.{◌≡◌, refl, ℕ, false, List, [], ◌∷◌}
+use Rattle.std.specs.Prelude.{codes}
+use Rattle.cc_names.specs.declared.refusals.UnitFault.TheVariants.{NoRule}
+use Rattle.cc_names.specs.declared.replies.Reply.{Reply}
+use Rattle.cc_names.specs.declared.replies.Reply.TheVariants.{Built}
+use Rattle.cc_names.specs.declared.replies.UnitWord.{UnitWord}
+use Rattle.cc_names.specs.declared.replies.UnitWord.TheVariants as words
+use Rattle.cc_names.specs.declared.rows.Deed.{Deed}
+use Rattle.cc_names.specs.declared.rows.Deed.TheVariants as deeds
+use Rattle.cc_names.specs.declared.steps.UnitEnd.TheVariants.{Kept, Failed}
+use Rattle.cc_names.specs.declared.units.UnitScript.TheVariants.{Lines}
+use Rattle.legal_history.specs.Base.{Base}
+use Rattle.legal_history.specs.Builds.{Build, Came, Ended, Given}
+use Rattle.legal_history.specs.VersionNames.{line}
+use Rattle.legal_history.specs.Worked.{tag, base_of}
+use Rattle.fresh_builds.specs.Replied.{digest_of, reply_of, reply_from_nothing}
+
+abbrev script : List ℕ
+script = line (codes "cat in > out")
+
+abbrev publish : Deed
+publish = deeds.Publish (codes "v") (codes "out" ∷ []) script (record { path = codes "in"; row = 2 } ∷ []) (line (codes "hi") ∷ [])
+
+abbrev base : Base
+base = base_of (deeds.Mkview (codes "v") ∷ deeds.Put (codes "v") (codes "in") (line (codes "hi")) ∷ publish ∷ [])
+
+-- the build by command n of the one lane, at this many reference rows, whose unit has come to this
+abbrev build : ℕ → ℕ → Came → Build
+build n rows came = record {
+  tag = tag 1 1 n;
+  view = codes "v";
+  rows = rows;
+  own_only = false;
+  rebuild = false;
+  units = record { targets = codes "out" ∷ []; prerequisites = codes "in" ∷ []; script = Lines script } ∷ [];
+  comes = (0, came) ∷ [];
+  faulted = false;
+}
+
+abbrev reply : UnitWord → Reply
+reply word = Built (record { path = codes "out"; word = word } ∷ [])
+
+own_is_built : reply_of base (build 3 3 (Given 3)) ≡ reply (words.Made (digest_of (line (codes "hi"))))
+own_is_built = refl
+
+own_from_nothing : reply_from_nothing base (build 3 3 (Given 3)) ≡ reply (words.Made (digest_of (line (codes "hi"))))
+own_from_nothing = refl
+
+other_is_winked : reply_of base (build 4 4 (Given 3)) ≡ reply (words.Winked (digest_of (line (codes "hi"))))
+other_is_winked = refl
+
+other_from_nothing : reply_from_nothing base (build 4 4 (Given 3)) ≡ reply (words.Winked (digest_of (line (codes "hi"))))
+other_from_nothing = refl
+
+-- at two reference rows there is no source yet
+failed : reply_of base (build 2 2 (Ended (Failed (NoRule (codes "in"))))) ≡ reply (words.Failed (NoRule (codes "in")))
+failed = refl
+
+failed_from_nothing : reply_from_nothing base (build 2 2 (Ended (Failed (NoRule (codes "in"))))) ≡ reply (words.Failed (NoRule (codes "in")))
+failed_from_nothing = refl
+
+-- the view keeps its own object
+kept : reply_of base (build 4 4 (Ended (Kept 3))) ≡ reply (words.Kept (digest_of (line (codes "hi"))))
+kept = refl
+
+kept_from_nothing : reply_from_nothing base (build 4 4 (Ended (Kept 3))) ≡ reply (words.Kept (digest_of (line (codes "hi"))))
+kept_from_nothing = refl
