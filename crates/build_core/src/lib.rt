@@ -10,9 +10,11 @@
 #![tactic(auto)]
 
 mod active;
+mod begins;
 mod plans;
 #[cfg(test)]
 mod tests;
 
 pub use active::{ActiveBuild, Came};
+pub use begins::plan_build;
 pub use plans::{graph, plan};
