@@ -179,8 +179,7 @@ pub fn plan_build(
             )?;
             let size = rows.len() as u64 + 1;
             let view = view.copy(alloc)?;
-            let build =
-                ActiveBuild::begin(alloc, tag, size, view, *own_only, *rebuild, units)?;
+            let build = ActiveBuild::begin(alloc, tag, size, view, *own_only, *rebuild, units)?;
             Ok(build)
         }
         _ => unreachable!(),
