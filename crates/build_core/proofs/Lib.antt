@@ -1,1 +1,2 @@
 mod Cames
+mod FormedUnits

@@ -10,9 +10,13 @@
 #![tactic(auto)]
 
 mod active;
+mod begins;
 mod plans;
+mod replies;
 #[cfg(test)]
 mod tests;
 
 pub use active::{ActiveBuild, Came};
+pub use begins::plan_build;
 pub use plans::{graph, plan};
+pub use replies::reply_of;

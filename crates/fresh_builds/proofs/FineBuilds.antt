@@ -43,7 +43,7 @@ view_stays s tag moment (deeds.Rmview w) lane build spares is there = by (bytes_
     by false other = there
 view_stays s tag moment deed lane build spares is there = there
 
-pub fine_stays : (s : State) (row : Plain) → Spares s.active row.deed → Each (IsFine s.base) s.active → Each (IsFine (row ∷ s.base)) s.active
+pub fine_stays : (s : State) (row : Plain) → Spares s.active row.deed → Each (λ lane. IsFine s.base) s.active → Each (λ lane. IsFine (row ∷ s.base)) s.active
 fine_stays s row spares h = record {
   holds = λ lane build is. record {
     agrees = row_added row s.base build (h.holds lane build is).agrees;
@@ -59,9 +59,9 @@ pub some_same : {A : Type 0} {a c : A} → Some a ≡ Some c → a ≡ c
 some_same e = cc
 
 -- a unit of the lane's build that waits comes to something, and each build stays fine
-pub waited_fine : (s : State) (b : Base) (tag : Tag) (n : ℕ) (build : Build) (unit : Unit) (number : Build → Option ℕ) (came : Came) → Each (IsFine b) s.active → Waits s tag n build unit → number build ≡ Some n →
-    MayCome b build n unit came → Each (IsFine b) (noted s.active tag.lane number came)
-waited_fine s b tag n build unit number came h waits place may = each_noted (IsFine b) s.active tag.lane number came h own
+pub waited_fine : (s : State) (b : Base) (tag : Tag) (n : ℕ) (build : Build) (unit : Unit) (number : Build → Option ℕ) (came : Came) → Each (λ lane. IsFine b) s.active → Waits s tag n build unit → number build ≡ Some n →
+    MayCome b build n unit came → Each (λ lane. IsFine b) (noted s.active tag.lane number came)
+waited_fine s b tag n build unit number came h waits place may = each_noted (λ lane. IsFine b) s.active tag.lane number came h own
   where
     own : (other : Build) → build_of s.active tag.lane ≡ Some other → IsFine b (with_came other (number other) came)
     own other is =

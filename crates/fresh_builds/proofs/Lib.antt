@@ -1,6 +1,8 @@
 pub mod AgreeStays
 pub mod AllBuilds
 pub mod BuildSteps
+pub mod CommandStays
+pub mod CommandSteps
 pub mod Decided
 pub mod DecidedSays
 pub mod DecidedSteps

@@ -1,6 +1,7 @@
 -- Along a legal story the rows stay a base, and every active build agrees with the build from nothing.
 use Rattle.std.proofs.Common.{◌≡◌, refl, ap, sym, subst, ◌∙◌, ℕ, ◌<◌, ◌≤◌, true, ◌&&◌, Some, List, [], ◌∷◌, arith, nat_lt}
 use Rattle.std.proofs.lemmas.Bool.{ltb-true}
+use Rattle.std.specs.Bool.{⊤}
 use Rattle.std.specs.Prelude.{is_some, reverse}
 use Rattle.std.specs.List.{list_all}
 use Rattle.cc_names.specs.declared.rows.Deed.{Deed}
@@ -38,7 +39,7 @@ use Rattle.fresh_builds.proofs.RoomSteps.{HasRoom, step_room, room_for}
 pub record IsSound (s : State) : Type 0 where
   pub opened : is_some s.opened ≡ true
   pub base : is_base s.base ≡ true
-  pub fine : Each (IsFine s.base) s.active
+  pub fine : Each (λ lane. IsFine s.base) s.active
   pub room : HasRoom s.base s.active
 
 publish_fits : (b : Base) (build : Build) (n : ℕ) (unit : Unit) (deed : Deed) → IsFine b build → IsReady build unit → nat_lt (size b) row_limit ≡ true → IsPublish b build n unit deed → fits b deed ≡ true
@@ -71,7 +72,7 @@ step_base s (told.Other (steps.End tag)) h e room = h.base
 step_base s (told.Other (steps.Fault tag left before faults tick)) h e room = h.base
 step_base s (told.Other step) h e room = h.base
 
-sound_step : (s : State) (x : Told) → IsSound s → Lawful s x → IsSound (after s x)
+pub sound_step : (s : State) (x : Told) → IsSound s → Lawful s x → IsSound (after s x)
 sound_step s x h e =
     let room = step_room s x h.opened h.room e in
     record { opened = stays_opened s x h.opened; base = step_base s x h e room; fine = step_fine s x h.base h.opened h.fine e; room = room }
@@ -80,28 +81,42 @@ sound_from : (s : State) (story : List Told) → IsSound s → LegalFrom s story
 sound_from s [] h e = h
 sound_from s (x ∷ story) h e = sound_from (after s x) story (sound_step s x h e.0) e.1
 
--- the first step opens a base
+-- a base has no more rows than the limit
 base_within : (b : Base) → is_base b ≡ true → size b ≤ row_limit
 base_within [] h = omega arith
 base_within (row ∷ older) h = let low : size older < row_limit = ltb-true _ _ (and_first _ _ (and_first _ _ h)) in omega arith
 
-sound_first : (x : Told) → Lawful start x → IsSound (after start x)
+-- the first step of a legal story is that one
+abbrev IsOpening : Told → Type 0
+IsOpening (told.Opened rows counts tells) = ⊤
+IsOpening x = ⊥
+
+opens_first : (x : Told) → Lawful start x → IsOpening x
+opens_first (told.Opened rows counts tells) e = tt
+opens_first (told.Plan phase moment) e = let opened = first_opens (told.Plan phase moment) e in cc
+opens_first (told.Commit row tick) e = let opened = first_opens (told.Commit row tick) e in cc
+opens_first (told.Other (steps.Refused tag refusal)) e = let opened = first_opens (told.Other (steps.Refused tag refusal)) e in cc
+opens_first (told.Other (steps.Answer tag text)) e = let opened = first_opens (told.Other (steps.Answer tag text)) e in cc
+opens_first (told.Other (steps.Begin tag rows count)) e = let opened = first_opens (told.Other (steps.Begin tag rows count)) e in cc
+opens_first (told.Other (steps.Start tag n)) e = let opened = first_opens (told.Other (steps.Start tag n)) e in cc
+opens_first (told.Other (steps.Settled tag n end)) e = let opened = first_opens (told.Other (steps.Settled tag n end)) e in cc
+opens_first (told.Other (steps.End tag)) e = let opened = first_opens (told.Other (steps.End tag)) e in cc
+opens_first (told.Other (steps.Fault tag left before faults tick)) e = let opened = first_opens (told.Other (steps.Fault tag left before faults tick)) e in cc
+opens_first (told.Other step) e = e
+
+-- after it nothing builds
+pub none_active : (x : Told) → Lawful start x → (after start x).active ≡ []
+none_active (told.Opened rows counts tells) e = refl
+none_active x e = absurd (opens_first x e)
+
+pub sound_first : (x : Told) → Lawful start x → IsSound (after start x)
 sound_first (told.Opened rows counts tells) e = record {
   opened = refl;
   base = e.fits;
   fine = record { holds = λ lane build is. absurd (cc) };
   room = record { sorted = tt; room = let within = base_within (reverse rows) e.fits in omega arith };
 }
-sound_first (told.Plan phase moment) e = absurd (let opened = first_opens (told.Plan phase moment) e in cc)
-sound_first (told.Commit row tick) e = absurd (let opened = first_opens (told.Commit row tick) e in cc)
-sound_first (told.Other (steps.Refused tag refusal)) e = absurd (let opened = first_opens (told.Other (steps.Refused tag refusal)) e in cc)
-sound_first (told.Other (steps.Answer tag text)) e = absurd (let opened = first_opens (told.Other (steps.Answer tag text)) e in cc)
-sound_first (told.Other (steps.Begin tag rows count)) e = absurd (let opened = first_opens (told.Other (steps.Begin tag rows count)) e in cc)
-sound_first (told.Other (steps.Start tag n)) e = absurd (let opened = first_opens (told.Other (steps.Start tag n)) e in cc)
-sound_first (told.Other (steps.Settled tag n end)) e = absurd (let opened = first_opens (told.Other (steps.Settled tag n end)) e in cc)
-sound_first (told.Other (steps.End tag)) e = absurd (let opened = first_opens (told.Other (steps.End tag)) e in cc)
-sound_first (told.Other (steps.Fault tag left before faults tick)) e = absurd (let opened = first_opens (told.Other (steps.Fault tag left before faults tick)) e in cc)
-sound_first (told.Other step) e = absurd e
+sound_first x e = absurd (opens_first x e)
 
 -- A legal story with a step leads to a sound state.
 pub story_is_sound : (x : Told) (story : List Told) → Legal (x ∷ story) → IsSound (state_of (x ∷ story))

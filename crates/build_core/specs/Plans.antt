@@ -1,0 +1,49 @@
+-- What is decided of a clearmake.
+use Rattle.std.specs.Prelude.{◌≡◌, ℕ, ◌+◌, ◌<◌, ◌^◌, Bool, true, false, Option, Some, Result, Ok, Err, List, [], length}
+use Rattle.std.specs.List.{AllByRecursion}
+use Rattle.cc_names.specs.Answers.{FaultIs}
+use Rattle.cc_names.specs.declared.commands.Command.{Command}
+use Rattle.cc_names.specs.declared.commands.Command.TheVariants as commands
+use Rattle.cc_names.specs.declared.memory.Or.{Or}
+use Rattle.cc_names.specs.declared.refusals.Refusal.{Refusal}
+use Rattle.cc_names.specs.declared.rows.Tag.{Tag}
+use Rattle.cc_names.specs.declared.units.Unit.{Unit}
+use Rattle.legal_history.specs.Base.{Base, size}
+use Rattle.legal_history.specs.Builds.{Build, building, reserved}
+use Rattle.legal_history.specs.Decisions.{Scene, Decision, Begins}
+use Rattle.legal_history.specs.Lines.{decision}
+use Rattle.legal_history.specs.Steps.{new_build}
+use Rattle.build_core.specs.BuildForms.{IsUnitFormed}
+
+-- whether a command is one that builds
+abbrev pub is_clearmake : Command → Bool
+is_clearmake (commands.Clearmake v file own_only rebuild jobs macros goals) = true
+is_clearmake command = false
+
+-- the view in which a command builds
+abbrev pub view_of : Command → List ℕ
+view_of (commands.Clearmake v file own_only rebuild jobs macros goals) = v
+view_of command = []
+
+-- The scene in which a build of a view is decided: its base, the active build of the view, and how many rows there are and
+-- are reserved.
+pub record Meets (s : Scene) (b : Base) (v : List ℕ) (build : Option Tag) (rows : ℕ) : Type 0 where
+  pub base : s.base ≡ b
+  pub busy : building s.active v ≡ build
+  pub taken : size s.base + reserved s.active ≡ rows
+
+-- the form of units, of which there are as many as numbers of four bytes count
+pub record AreUnits (units : List Unit) : Type 0 where
+  pub formed : AllByRecursion IsUnitFormed units
+  pub few : length units < 2 ^ 32
+
+-- the units with which a build was decided to begin, or the refusal that was decided
+abbrev pub Begun : Result (List Unit) (Or Refusal) → Result Decision Refusal → Type 0
+Begun (Ok units) decision = decision ≡ Ok (Begins units)
+Begun (Err fault) decision = FaultIs fault decision
+
+-- the build that was decided to begin, as the command begins one; or the refusal that was decided
+abbrev pub Plans : Tag → Scene → Command → Result Build (Or Refusal) → Type 0
+Plans tag s command (Ok build) =
+    (decision s command ≡ Ok (Begins build.units)) × (new_build tag (size s.base) build.units command ≡ Some build)
+Plans tag s command (Err fault) = FaultIs fault (decision s command)

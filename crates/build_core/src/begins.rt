@@ -1,0 +1,187 @@
+// The decision on a clearmake: the build that begins, or its first refusal.
+
+ghost use Rattle.std.specs.Prelude.{◌≡◌, ℕ, ◌+◌, ◌∷◌, [], ◌<◌, ◌≤◌, ◌^◌, length, reverse, true, option_copied, IsSome, IfOk, IfNone};
+ghost use Rattle.cc_names.specs.Answers.{Gives};
+ghost use Rattle.session_text.specs.Formed.{IsCommand};
+ghost use Rattle.legal_history.specs.Base.{size};
+ghost use Rattle.legal_history.specs.Builds.{building, reserved};
+ghost use Rattle.legal_history.specs.Decisions.{Scene, first_refusal, needs_room};
+ghost use Rattle.legal_history.specs.Fresh.{texts};
+ghost use Rattle.legal_history.specs.ObjectLines.{clearmake, clearmake_tests};
+ghost use Rattle.legal_history.specs.Views.{view_row};
+ghost use Rattle.make_text.specs.Reading.{result_items};
+ghost use Rattle.make_text.specs.Units.{units};
+ghost use Rattle.view_lookup.specs.Unversioned.{is_unversioned};
+ghost use Rattle.build_core.specs.BuildForms.{IsBuildFormed};
+ghost use Rattle.build_core.specs.Plans.{is_clearmake, view_of, Meets, AreUnits, Begun, Plans};
+
+use crate::active::ActiveBuild;
+use crate::plans::plan;
+use cc_names::commands::{Command, Macro};
+use cc_names::memory::Or;
+use cc_names::names::Name;
+use cc_names::paths::Path;
+use cc_names::refusals::Refusal;
+use cc_names::rows::{Row, Tag};
+use cc_names::units::Unit;
+use make_text::makefiles::Texts;
+use std::alloc::Global;
+use view_lookup::{text_at, view_row};
+
+/// The most rows that a base may have, row 0 included.
+const ROW_LIMIT: u64 = 4_000_000;
+
+// The texts of the files of a view that there is.
+#[derive(Drop)]
+struct ViewTexts<'a> {
+    rows: &'a [Row],
+    owner: &'a Name,
+    ghost room: { length rows.now < 2 ^ 63 },
+    ghost unversioned: { is_unversioned (reverse rows.now) ≡ true },
+    ghost there: { IsSome (view_row (reverse rows.now) owner.now) },
+}
+
+impl Texts for ViewTexts<'_> {
+    ghost use Rattle.std.specs.Prelude.{reverse};
+    ghost use Rattle.legal_history.specs.Fresh.{texts};
+
+    ghost texts = { λ files path. texts (reverse files.rows.now) files.owner.now path };
+
+    fn text(&self, path: &Path) -> Option<&[u8]> {
+        text_at(self.rows, self.owner, path)
+    }
+}
+
+/// The units of a build in a view that there is, over the view's files.
+fn units_in(
+    alloc: Global,
+    rows: &[Row],
+    view: &Name,
+    file: Option<&Path>,
+    macros: &[Macro],
+    goals: &[Path],
+) -> Result<Vec<Unit>, Or<Refusal>>
+    requires room { length rows.now < 2 ^ 63 }
+    requires unversioned { is_unversioned (reverse rows.now) ≡ true }
+    requires view { IsSome (view_row (reverse rows.now) view.now) }
+    requires goals { length goals.now < 2 ^ 31 }
+    ensures { Gives (result_items result) (units (texts (reverse rows.now) view.now) (option_copied file.entry) macros.now goals.now) }
+{
+    let files = ViewTexts { rows, owner: view };
+    plan(alloc, &files, file, macros, goals)
+}
+
+/// The refusal of a build before its units are planned: there is no such view, or a build of it is active.
+fn refusal_of_view(rows: &[Row], view: &Name, busy: Option<Tag>) -> Option<Refusal>
+    requires { length rows.now < 2 ^ 63 }
+    ensures refusal { (scene : Scene) → scene.base ≡ reverse rows.now → building scene.active view.now ≡ busy
+        → result ≡ first_refusal (clearmake_tests scene view.now) }
+    ensures view { IfNone result (IsSome (view_row (reverse rows.now) view.now)) }
+{
+    if view_row(rows, view).is_none() {
+        return Some(Refusal::NoView);
+    }
+    match busy {
+        Some(build) => Some(Refusal::Building(build)),
+        None => None,
+    }
+}
+
+/// The refusal of a build of this many units where there is no room for a row of each.
+fn refusal_of_room(taken: u64, units: u64) -> Option<Refusal>
+    requires taken { taken < 2 ^ 63 }
+    requires units { units < 2 ^ 63 }
+    ensures refusal { (scene : Scene) → size scene.base + reserved scene.active ≡ taken → result ≡ needs_room scene units }
+    ensures room { IfNone result (taken + units ≤ 4000000) }
+{
+    if taken + units > ROW_LIMIT {
+        Some(Refusal::Full(taken.min(ROW_LIMIT)))
+    } else {
+        None
+    }
+}
+
+/// The units with which a build in a view begins, or its first refusal.
+fn begun(
+    alloc: Global,
+    rows: &[Row],
+    view: &Name,
+    file: Option<&Path>,
+    macros: &[Macro],
+    goals: &[Path],
+    busy: Option<Tag>,
+    taken: u64,
+) -> Result<Vec<Unit>, Or<Refusal>>
+    requires rows { length rows.now < 2 ^ 63 }
+    requires unversioned { is_unversioned (reverse rows.now) ≡ true }
+    requires goals { length goals.now < 2 ^ 31 }
+    requires taken { taken < 2 ^ 63 }
+    ensures decided { (scene : Scene) → Meets scene (reverse rows.now) view.now busy taken
+        → Begun (result_items result) (clearmake scene view.now (option_copied file.entry) macros.now goals.now) }
+    ensures formed { IfOk result (λ units. AreUnits units.items) }
+    ensures view { IfOk result (λ units. IsSome (view_row (reverse rows.now) view.now)) }
+    ensures room { IfOk result (λ units. taken + length units.items ≤ 4000000) }
+{
+    if let Some(refusal) = refusal_of_view(rows, view, busy) {
+        return Err(Or::Is(refusal));
+    }
+    let units = units_in(alloc, rows, view, file, macros, goals)?;
+    if let Some(refusal) = refusal_of_room(taken, units.len() as u64) {
+        return Err(Or::Is(refusal));
+    }
+    Ok(units)
+}
+
+/// The build that a clearmake begins, or its first refusal: there is no such view (C1), a build of the view is active
+/// (C18), its units cannot be planned, or there is no room for a row of each (C23). `busy` is the active build of the
+/// command's view, and `taken` is how many rows there are, row 0 included, and are reserved. Fails also where memory
+/// runs out.
+///
+/// Takes time linear in the rows, and what `plan` takes with a walk over the rows for each file that it looks at.
+pub fn plan_build(
+    alloc: Global,
+    rows: &[Row],
+    command: &Command,
+    tag: Tag,
+    busy: Option<Tag>,
+    taken: u64,
+) -> Result<ActiveBuild, Or<Refusal>>
+    requires rows { length rows.now < 2 ^ 63 }
+    requires unversioned { is_unversioned (reverse rows.now) ≡ true }
+    requires builds { is_clearmake command.now ≡ true }
+    requires formed { IsCommand 16777216 command.now }
+    requires taken { taken < 2 ^ 63 }
+    ensures planned { (scene : Scene) → Meets scene (reverse rows.now) (view_of command.now) busy taken
+        → Plans tag scene command.now result }
+    ensures view { IfOk result (λ build. IsSome (view_row (reverse rows.now) build.view)) }
+    ensures formed { IfOk result (λ build. IsBuildFormed build) }
+    ensures room { IfOk result (λ build. taken + length build.units ≤ 4000000) }
+{
+    match command {
+        Command::Clearmake {
+            view,
+            file,
+            own_only,
+            rebuild,
+            macros,
+            goals,
+            ..
+        } => {
+            let units = begun(
+                alloc,
+                rows,
+                view,
+                file.as_ref(),
+                macros.as_slice(),
+                goals.as_slice(),
+                busy,
+                taken,
+            )?;
+            let size = rows.len() as u64 + 1;
+            let view = view.copy(alloc)?;
+            let build = ActiveBuild::begin(alloc, tag, size, view, *own_only, *rebuild, units)?;
+            Ok(build)
+        }
+        _ => unreachable!(),
+    }
+}

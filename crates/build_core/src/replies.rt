@@ -1,0 +1,196 @@
+// The reply of a build that has ended: a line for each target of its units.
+
+ghost use Rattle.std.specs.Prelude.{◌≡◌, ◌++◌, ◌<◌, ◌^◌, [], true, Some, length, reverse, option_copied, IfOk, OnOk};
+ghost use Rattle.fresh_builds.specs.Replied.{digest_at, is_of_tag, is_own, word_of_object, word_of_end, word_of_came, line_before, lines_of, lines_from, reply_of};
+ghost use Rattle.legal_history.specs.Base.{row_at};
+ghost use Rattle.legal_history.specs.Builds.{came_to, Given};
+ghost use Rattle.legal_history.specs.Texts.{text};
+ghost use Rattle.view_lookup.specs.Unversioned.{is_unversioned};
+
+use crate::active::{ActiveBuild, Came};
+use cc_names::copies::Copied;
+use cc_names::lists::List;
+use cc_names::memory::NoMemory;
+use cc_names::paths::Path;
+use cc_names::replies::{Digest, Reply, UnitLine, UnitWord};
+use cc_names::rows::{Row, Tag};
+use cc_names::steps::UnitEnd;
+use reply_text::digest_of;
+use std::alloc::Global;
+use view_lookup::text_of;
+
+/// The length and the SHA-256 of an output; of no bytes where there is none.
+fn digest_at(output: Option<&[u8]>) -> Digest
+    ensures { result ≡ digest_at (option_copied output.entry) }
+{
+    let bytes = match output {
+        Some(bytes) => bytes,
+        None => b"",
+    };
+    Digest {
+        length: bytes.len() as u64,
+        sha256: digest_of(bytes),
+    }
+}
+
+/// The row of this number.
+fn row_at(rows: &[Row], number: u64) -> Option<&Row>
+    ensures { option_copied result ≡ row_at (reverse rows.now) number }
+{
+    let index = number.checked_sub(1)?;
+    rows.get(index as usize)
+}
+
+fn is_of_tag(tag: Tag, row: Option<&Row>) -> bool
+    ensures { result ≡ is_of_tag tag (option_copied row.entry) }
+{
+    match row {
+        None => false,
+        Some(row) => {
+            let own = row.tag();
+            own.phase == tag.phase && own.lane == tag.lane && own.command == tag.command
+        }
+    }
+}
+
+/// Whether a build published an object itself.
+fn is_own(rows: &[Row], build: &ActiveBuild, id: u64) -> bool
+    ensures { result ≡ is_own (reverse rows.now) build.now id }
+{
+    build.rows() <= id && is_of_tag(build.tag(), row_at(rows, id))
+}
+
+/// The word for an object that a unit was given, by its output at a path.
+fn word_of_given(rows: &[Row], build: &ActiveBuild, path: &Path, id: u64) -> UnitWord
+    requires room { length rows.now < 2 ^ 63 }
+    requires unversioned { is_unversioned (reverse rows.now) ≡ true }
+    ensures { result ≡ word_of_object (reverse rows.now) build.now (Some (Given id)) (digest_at (text (reverse rows.now) id path.now)) }
+{
+    let digest = digest_at(text_of(rows, id, path));
+    if is_own(rows, build, id) {
+        UnitWord::Made(digest)
+    } else {
+        UnitWord::Winked(digest)
+    }
+}
+
+/// The word for an end without a row.
+fn word_of_end(
+    alloc: Global,
+    rows: &[Row],
+    path: &Path,
+    end: &UnitEnd,
+) -> Result<UnitWord, NoMemory>
+    requires room { length rows.now < 2 ^ 63 }
+    requires unversioned { is_unversioned (reverse rows.now) ≡ true }
+    ensures { IfOk result (λ word. word ≡ word_of_end (reverse rows.now) path.now end.now) }
+{
+    match end {
+        UnitEnd::Kept(id) => Ok(UnitWord::Kept(digest_at(text_of(rows, *id, path)))),
+        UnitEnd::Bare => Ok(UnitWord::Bare),
+        UnitEnd::Failed(fault) => Ok(UnitWord::Failed(fault.copy(alloc)?)),
+        UnitEnd::Blocked(other) => Ok(UnitWord::Blocked(other.copy(alloc)?)),
+    }
+}
+
+/// The word for a unit at one of its targets, if the unit has its outcome.
+fn word_of(
+    alloc: Global,
+    rows: &[Row],
+    build: &ActiveBuild,
+    unit: u32,
+    path: &Path,
+) -> Result<Option<UnitWord>, NoMemory>
+    requires room { length rows.now < 2 ^ 63 }
+    requires unversioned { is_unversioned (reverse rows.now) ≡ true }
+    ensures { IfOk result (λ word. word ≡ word_of_came (reverse rows.now) build.now path.now (came_to build.now unit)) }
+{
+    match build.came_to(unit) {
+        None | Some(Came::Started) => Ok(None),
+        Some(Came::Ended(end)) => Ok(Some(word_of_end(alloc, rows, path, end)?)),
+        Some(Came::Given(id)) => Ok(Some(word_of_given(rows, build, path, *id))),
+    }
+}
+
+/// Puts the line of a unit at one of its targets behind others, if the unit has its outcome.
+fn push_line(
+    alloc: Global,
+    rows: &[Row],
+    build: &ActiveBuild,
+    unit: u32,
+    path: &Path,
+    lines: &mut Vec<UnitLine>,
+) -> Result<(), NoMemory>
+    requires room { length rows.now < 2 ^ 63 }
+    requires unversioned { is_unversioned (reverse rows.now) ≡ true }
+    ensures { OnOk result (lines.new.items ≡ lines.old.items ++ line_before path.now (word_of_came (reverse rows.now) build.now path.now (came_to build.now unit)) []) }
+{
+    if let Some(word) = word_of(alloc, rows, build, unit, path)? {
+        let path = path.copy(alloc)?;
+        lines.push(UnitLine { path, word })?;
+    }
+    Ok(())
+}
+
+/// Puts the lines of a unit at these targets behind others.
+fn push_lines(
+    alloc: Global,
+    rows: &[Row],
+    build: &ActiveBuild,
+    unit: u32,
+    targets: &[Path],
+    lines: &mut Vec<UnitLine>,
+) -> Result<(), NoMemory>
+    requires room { length rows.now < 2 ^ 63 }
+    requires unversioned { is_unversioned (reverse rows.now) ≡ true }
+    ensures { OnOk result (lines.new.items ≡ lines.old.items ++ lines_of (λ path. word_of_came (reverse rows.now) build.now path (came_to build.now unit)) targets.now) }
+{
+    let mut rest = targets;
+    while let Some((path, more)) = rest.split_first() {
+        push_line(alloc, rows, build, unit, path, lines)?;
+        rest = more;
+    }
+    Ok(())
+}
+
+/// The lines of all units, in order.
+fn lines_of_units(
+    alloc: Global,
+    rows: &[Row],
+    build: &ActiveBuild,
+) -> Result<Vec<UnitLine>, NoMemory>
+    requires room { length rows.now < 2 ^ 63 }
+    requires unversioned { is_unversioned (reverse rows.now) ≡ true }
+    requires few { length build.now.units < 2 ^ 32 }
+    ensures { IfOk result (λ lines. lines.items ≡ lines_from (reverse rows.now) build.now 0 build.now.units) }
+{
+    let mut lines = Vec::new(alloc);
+    let mut rest = build.units();
+    let mut number = 0;
+    while let Some((unit, more)) = rest.split_first() {
+        push_lines(
+            alloc,
+            rows,
+            build,
+            number,
+            unit.targets.as_slice(),
+            &mut lines,
+        )?;
+        rest = more;
+        number += 1;
+    }
+    Ok(lines)
+}
+
+/// The reply of a build in a base without elements: unit by unit in order, a line for each target of those that have
+/// their outcome. Fails where memory runs out. Takes time linear in the targets and in the outputs, and for a unit with
+/// several targets in the square of their number.
+pub fn reply_of(alloc: Global, rows: &[Row], build: &ActiveBuild) -> Result<Reply, NoMemory>
+    requires room { length rows.now < 2 ^ 63 }
+    requires unversioned { is_unversioned (reverse rows.now) ≡ true }
+    requires few { length build.now.units < 2 ^ 32 }
+    ensures { IfOk result (λ reply. reply ≡ reply_of (reverse rows.now) build.now) }
+{
+    let lines = lines_of_units(alloc, rows, build)?;
+    Ok(Reply::Built(List::of(lines)))
+}
