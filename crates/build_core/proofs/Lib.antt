@@ -1,1 +1,3 @@
 mod Cames
+mod Early
+mod Waiting

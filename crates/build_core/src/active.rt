@@ -148,7 +148,7 @@ impl ActiveBuild {
     }
 
     /// What the unit at an index has come to.
-    fn came_at(&self, index: usize) -> Option<&Came>
+    pub(crate) fn came_at(&self, index: usize) -> Option<&Came>
         ensures { option_map came_of (option_copied result) ≡ came_to self.now index }
     {
         self.comes.get(index)?.as_ref()
@@ -162,7 +162,7 @@ impl ActiveBuild {
     }
 
     /// Whether the unit at an index has its outcome.
-    fn is_over(&self, index: usize) -> bool
+    pub(crate) fn is_over(&self, index: usize) -> bool
         ensures { result ≡ is_outcome (came_to self.now index) }
     {
         matches!(self.came_at(index), Some(Came::Ended(_) | Came::Given(_)))

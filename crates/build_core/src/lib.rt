@@ -11,8 +11,10 @@
 
 mod active;
 mod plans;
+mod steps;
 #[cfg(test)]
 mod tests;
 
 pub use active::{ActiveBuild, Came};
 pub use plans::{graph, plan};
+pub use steps::{UnitStep, step};
