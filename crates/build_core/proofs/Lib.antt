@@ -1,3 +1,4 @@
 mod Cames
 mod Early
+mod Members
 mod Waiting

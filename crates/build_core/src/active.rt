@@ -182,15 +182,22 @@ impl ActiveBuild {
         matches!(self.came_to(unit), Some(Came::Started))
     }
 
-    /// The object that a unit was given or kept.
-    pub fn object_of(&self, unit: u32) -> Option<u64>
-        ensures { result ≡ object_of (came_to self.now unit) }
+    /// The object that the unit at an index was given or kept.
+    pub(crate) fn object_at(&self, index: usize) -> Option<u64>
+        ensures { result ≡ object_of (came_to self.now index) }
     {
-        match self.came_to(unit)? {
+        match self.came_at(index)? {
             Came::Given(id) => Some(*id),
             Came::Ended(UnitEnd::Kept(id)) => Some(*id),
             _ => None,
         }
+    }
+
+    /// The object that a unit was given or kept.
+    pub fn object_of(&self, unit: u32) -> Option<u64>
+        ensures { result ≡ object_of (came_to self.now unit) }
+    {
+        self.object_at(unit as usize)
     }
 
     /// Notes what a unit has come to. Takes no memory.
