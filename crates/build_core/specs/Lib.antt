@@ -1,4 +1,5 @@
 pub mod Comes
+pub mod SightLaws
 pub mod Sights
 pub mod Slots
 pub mod SlotLaws
