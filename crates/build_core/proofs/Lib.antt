@@ -1,2 +1,5 @@
 mod Cames
 mod FormedUnits
+mod Early
+mod Members
+mod Waiting

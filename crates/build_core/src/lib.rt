@@ -13,6 +13,8 @@ mod active;
 mod begins;
 mod plans;
 mod replies;
+mod sights;
+mod steps;
 #[cfg(test)]
 mod tests;
 
@@ -20,3 +22,5 @@ pub use active::{ActiveBuild, Came};
 pub use begins::plan_build;
 pub use plans::{graph, plan};
 pub use replies::reply_of;
+pub use sights::{fetch, visible};
+pub use steps::{UnitStep, step};
