@@ -5,7 +5,7 @@ use Rattle.cc_names.specs.declared.commands.Phase.{Phase}
 use Rattle.cc_names.specs.declared.replies.Reply.{Reply}
 use Rattle.cc_names.specs.declared.steps.Told.TheVariants as told
 use Rattle.session_text.specs.Formed.{IsPhase}
-use Rattle.checkout_desk.specs.Deciding.{AreCarriedOut}
+use Rattle.base_core.specs.Carried.{AreCarriedOut}
 use Rattle.build_core.specs.Slots.{numbered}
 use Rattle.legal_history.specs.Builds.{Build, build_of, reserved}
 use Rattle.legal_history.specs.States.{start, all_done, done_of}

@@ -1,37 +1,19 @@
 -- What a core keeps of the active builds of its lanes.
-use Rattle.std.specs.Bool.{⊤}
-use Rattle.std.specs.Prelude.{◌≡◌, ℕ, ◌<◌, ◌≤◌, ◌^◌, false, IsSome, List, length}
-use Rattle.std.specs.List.{AllByRecursion}
-use Rattle.cc_names.specs.Formed.{AreTargets}
-use Rattle.cc_names.specs.Names.{IsName}
+use Rattle.std.specs.Prelude.{◌≡◌, ℕ, ◌+◌, ◌≤◌, false, IsSome, Some, Result, Ok, Err, length}
+use Rattle.cc_names.specs.declared.memory.Or.{Or}
+use Rattle.cc_names.specs.declared.refusals.Refusal.{Refusal}
+use Rattle.cc_names.specs.declared.rows.Tag.{Tag}
 use Rattle.cc_names.specs.declared.desks.Next.TheVariants as nexts
-use Rattle.cc_names.specs.declared.units.Unit.{Unit}
-use Rattle.cc_names.specs.declared.units.UnitScript.{UnitScript}
-use Rattle.cc_names.specs.declared.units.UnitScript.TheVariants as scripts
+use Rattle.build_core.specs.BuildForms.{IsBuildFormed}
 use Rattle.legal_history.specs.Base.{size, first_rows}
-use Rattle.legal_history.specs.Builds.{Build}
-use Rattle.legal_history.specs.States.{State, next_tag}
+use Rattle.legal_history.specs.Builds.{Build, reserved}
+use Rattle.legal_history.specs.Decisions.{Begins}
+use Rattle.legal_history.specs.Fits.{row_limit}
+use Rattle.legal_history.specs.States.{State, decided, next_tag}
+use Rattle.legal_history.specs.Steps.{begun}
 use Rattle.legal_history.specs.Views.{view_row}
+use Rattle.base_core.specs.Acting.{IsNextTag, RefusalWas}
 use Rattle.base_core.specs.Nexts.{next_of}
-
--- the most bytes of the script of a unit
-abbrev pub script_limit : ℕ
-script_limit = 65536
-
--- a script within the limit
-abbrev pub IsShort : UnitScript → Type 0
-IsShort (scripts.Lines text) = length text ≤ script_limit
-IsShort script = ⊤
-
--- the form of a unit: its targets are those of a row, and its script is within the limit
-abbrev pub IsUnitFormed : Unit → Type 0
-IsUnitFormed unit = AreTargets unit.targets × IsShort unit.script
-
--- the form of a build's view and units, of which there are as many as numbers of four bytes count
-pub record IsBuildFormed (build : Build) : Type 0 where
-  pub named : IsName build.view
-  pub units : AllByRecursion IsUnitFormed build.units
-  pub few : length build.units < 2 ^ 32
 
 -- The active build of a lane: it is that of the lane's next command, its view was there at its reference rows, and the disk
 -- has not failed under it.
@@ -43,3 +25,16 @@ pub record IsBuildKept (s : State) (lane : ℕ) (build : Build) : Type 0 where
   pub view : IsSome (view_row (first_rows build.rows s.base) build.view)
   pub formed : IsBuildFormed build
   pub sound : build.faulted ≡ false
+
+-- the build that was decided to begin for the next command of its lane, and there is room for its units
+pub record IsNextBuild (s : State) (build : Build) : Type 0 where
+  pub of_next : IsNextTag s build.tag
+  pub made : decided s build.tag ≡ Some (Ok (Begins build.units))
+  pub begins : begun s build.tag ≡ Some build
+  pub kept : IsBuildKept s build.tag.lane build
+  pub room : reserved s.active + length build.units ≤ row_limit
+
+-- what was decided for the next command of a lane, which builds
+abbrev pub PlansNext : State → Tag → Result Build (Or Refusal) → Type 0
+PlansNext s tag (Ok build) = IsNextBuild s build × (build.tag ≡ tag)
+PlansNext s tag (Err refusal) = RefusalWas s tag refusal

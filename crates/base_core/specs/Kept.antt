@@ -11,7 +11,7 @@ use Rattle.legal_history.specs.Fits.{row_limit}
 use Rattle.legal_history.specs.States.{State, done_of, ticks_of}
 use Rattle.legal_history.specs.Steps.{state_of}
 use Rattle.legal_history.specs.Stories.{Legal, last_moment}
-use Rattle.checkout_desk.specs.Deciding.{AreCarriedOut}
+use Rattle.base_core.specs.Carried.{AreCarriedOut}
 use Rattle.view_lookup.specs.Unversioned.{is_unversioned}
 use Rattle.base_core.specs.Building.{IsBuildKept}
 use Rattle.base_core.specs.Logs.{Logged}

@@ -1,5 +1,7 @@
 pub mod Acting
 pub mod Building
+pub mod Carried
+pub mod Going
 pub mod Kept
 pub mod Logs
 pub mod Nexts

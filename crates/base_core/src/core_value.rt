@@ -44,7 +44,7 @@ impl Core {
     ghost use Rattle.cc_names.specs.declared.desks.Next.TheVariants as nexts;
     ghost use Rattle.cc_names.specs.declared.steps.Told.TheVariants as told;
     ghost use Rattle.session_text.specs.Formed.{IsPhase};
-    ghost use Rattle.checkout_desk.specs.Deciding.{AreCarriedOut};
+    ghost use Rattle.base_core.specs.Carried.{AreCarriedOut};
     ghost use Rattle.legal_history.specs.States.{all_done, next_tag};
     ghost use Rattle.legal_history.specs.Steps.{state_of};
     ghost use Rattle.legal_history.specs.Stories.{last_moment, Legal};
