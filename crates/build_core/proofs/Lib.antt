@@ -1,0 +1,5 @@
+pub mod RunsAlong
+pub mod RunsEach
+pub mod RunsRead
+pub mod RunsScripts
+pub mod RunsWords
