@@ -31,7 +31,7 @@ noted_few reads path = by (list_any (bytes_eq path) reads)
     by true = omega arith
     by false = omega (arith, length-append reads (path ∷ []))
 
-noted_only : (P : List ℕ → Type 0) (reads : List (List ℕ)) (path : List ℕ) → P path → AllByRecursion P reads → AllByRecursion P (noted reads path)
+pub noted_only : (P : List ℕ → Type 0) (reads : List (List ℕ)) (path : List ℕ) → P path → AllByRecursion P reads → AllByRecursion P (noted reads path)
 noted_only P reads path here h = by (list_any (bytes_eq path) reads)
   where
     by : (t : Bool) → AllByRecursion P (if t then reads else reads ++ path ∷ [])
