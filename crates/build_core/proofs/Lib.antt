@@ -2,6 +2,8 @@ pub mod RunsAlong
 pub mod RunsEach
 pub mod RunsEnded
 pub mod RunsEntries
+pub mod RunsFormed
 pub mod RunsRead
 pub mod RunsScripts
+pub mod RunsSeen
 pub mod RunsWords
