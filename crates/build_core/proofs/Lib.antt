@@ -6,4 +6,5 @@ pub mod RunsFormed
 pub mod RunsRead
 pub mod RunsScripts
 pub mod RunsSeen
+pub mod RunsWell
 pub mod RunsWords
