@@ -4,6 +4,7 @@ pub mod RunsEnded
 pub mod RunsEntries
 pub mod RunsFormed
 pub mod RunsRead
+pub mod RunsReady
 pub mod RunsScripts
 pub mod RunsSeen
 pub mod RunsWell

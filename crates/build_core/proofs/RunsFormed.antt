@@ -12,7 +12,7 @@ use Rattle.cc_names.specs.declared.units.Unit.{Unit}
 use Rattle.legal_history.specs.Base.{Base, size, first_rows}
 use Rattle.legal_history.specs.Builds.{Build}
 use Rattle.legal_history.specs.Choices.{entries, here, publish_by, publish_of, text_of_row, visible}
-use Rattle.legal_history.specs.Fits.{is_base}
+use Rattle.legal_history.specs.Fits.{row_limit, is_base}
 use Rattle.legal_history.specs.Fresh.{script_text}
 use Rattle.build_core.proofs.RunsEach.{each_so}
 use Rattle.build_core.proofs.RunsEnded.{AreOutputs, outputs_short, reads_found}
@@ -26,7 +26,7 @@ pub record CanPublish (b : Base) (build : Build) (unit : Unit) : Type 0 where
   pub view : IsName build.view
   pub targets : AreTargets unit.targets
   pub script : length (script_text unit.script) ≤ 65536
-  pub room : size b ≤ 4000000
+  pub room : size b ≤ row_limit
   pub base : is_base (first_rows build.rows b) ≡ true
   pub objects : HasObjects b build
 
