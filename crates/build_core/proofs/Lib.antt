@@ -7,5 +7,6 @@ pub mod RunsRead
 pub mod RunsReady
 pub mod RunsScripts
 pub mod RunsSeen
+pub mod RunsUnits
 pub mod RunsWell
 pub mod RunsWords
