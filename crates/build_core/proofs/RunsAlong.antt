@@ -1,13 +1,11 @@
 -- What a run reads: paths that its script has, no more of them than there are, and each once.
-use Rattle.std.proofs.Common.{◌≡◌, refl, ap, sym, subst, ℕ, ◌+◌, ◌≤◌, Bool, true, false, Option, Some, None, Result, Ok, Err, List, [], ◌∷◌, ◌++◌, length, map, if◌then◌else◌, arith, length-append}
+use Rattle.std.proofs.Common.{sym, subst, ℕ, ◌+◌, ◌≤◌, Bool, true, false, Option, Some, None, Result, Ok, Err, List, [], ◌∷◌, ◌++◌, length, if◌then◌else◌, arith, length-append}
 use Rattle.std.proofs.lemmas.List.{append-nil}
-use Rattle.std.proofs.lemmas.Map.Keys.{IsDistinct-push}
-use Rattle.std.proofs.lemmas.Slice.Eq.{bytes_eq-Decides}
-use Rattle.std.specs.List.{AllByRecursion, IsDistinct, flat_map, list_any}
+use Rattle.std.specs.List.{AllByRecursion, flat_map, list_any}
 use Rattle.std.specs.Str.{bytes_eq}
 use Rattle.cc_names.specs.declared.refusals.ScriptFault.{ScriptFault}
 use Rattle.cc_names.specs.declared.refusals.ScriptFault.TheVariants.{StrayWrite}
-use Rattle.build_script.specs.Run.{Files, Asking, Done, Asks, Traced, traced, noted, and_then, Part, Says, TextOf, parts_of, see, lengthened, lengthened_by, with_part, with_parts, unless_fault, begun, wrote, write_output, after_line, after_lines, outputs_of, run_from, nothing_written, run_of_lines, run_of}
+use Rattle.build_script.specs.Run.{Files, Asking, Done, Asks, Traced, traced, noted, and_then, Part, Says, TextOf, parts_of, see, lengthened, lengthened_by, with_part, with_parts, unless_fault, begun, wrote, write_output, after_line, after_lines, outputs_of, nothing_written, run_of}
 use Rattle.build_script.specs.declared.lines.Work.{Work}
 use Rattle.build_script.specs.declared.lines.Line.{Line}
 use Rattle.build_script.specs.declared.lines.Line.TheVariants.{Empty, Makes}

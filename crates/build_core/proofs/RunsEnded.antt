@@ -1,17 +1,10 @@
 -- What a run that succeeds has made and read: outputs within the limit, one for each target, and a text at each path.
-use Rattle.std.proofs.Common.{◌≡◌, refl, ap, sym, subst, ℕ, suc, ◌≤◌, Bool, true, false, Option, Some, None, Result, Ok, Err, is_some, List, [], ◌∷◌, ◌++◌, length, nat_lt, if◌then◌else◌, arith}
-use Rattle.std.proofs.lemmas.Bool.{ltb-false}
-use Rattle.std.specs.List.{AllByRecursion, list_any}
-use Rattle.std.specs.Str.{bytes_eq}
+use Rattle.std.proofs.Common.{◌≡◌, refl, ap, subst, ℕ, suc, ◌≤◌, true, Option, Some, None, Result, Ok, Err, is_some, List, [], ◌∷◌, length}
+use Rattle.std.specs.List.{AllByRecursion}
 use Rattle.cc_names.specs.declared.refusals.ScriptFault.{ScriptFault}
-use Rattle.cc_names.specs.declared.refusals.ScriptFault.TheVariants.{TooBig, StrayWrite}
 use Rattle.build_script.specs.Lines.{script_of}
-use Rattle.build_script.specs.Run.{Files, Asking, Done, Asks, Traced, traced, noted, and_then, Part, Says, TextOf, parts_of, see, output_limit, lengthened, lengthened_by, with_part, with_parts, unless_fault, begun, wrote, write_output, after_line, after_lines, output_before, outputs_of, nothing_written, run_of, run}
+use Rattle.build_script.specs.Run.{Files, Done, after_lines, output_before, outputs_of, nothing_written, run_of, run}
 use Rattle.build_script.specs.declared.lines.Line.{Line}
-use Rattle.build_script.specs.declared.lines.Line.TheVariants.{Empty, Makes}
-use Rattle.build_script.specs.declared.lines.Work.{Work}
-use Rattle.build_script.proofs.RunLemmas.{traced-and_then}
-use Rattle.build_core.proofs.RunsAlong.{noted_only}
 use Rattle.build_core.proofs.RunsWell.{IsShort, AreShort, AreFound, Gives, Ends, GoesWell, well_done, well_then, lines_well}
 
 -- outputs within the limit, one for each target

@@ -1,8 +1,8 @@
 -- The row that a unit's run publishes has the form of a row.
-use Rattle.std.proofs.Common.{◌≡◌, refl, ap, sym, subst, ◌∙◌, ℕ, ◌<◌, ◌≤◌, Bool, true, false, Option, Some, None, Result, Ok, Err, is_some, List, [], ◌∷◌, length, arith}
+use Rattle.std.proofs.Common.{◌≡◌, refl, ap, subst, ℕ, ◌≤◌, Bool, true, false, Some, Result, Ok, Err, is_some, List, [], ◌∷◌, length, arith}
 use Rattle.std.proofs.lemmas.Bool.Decides.{nat_tests}
 use Rattle.std.specs.List.{AllByRecursion}
-use Rattle.cc_names.specs.Formed.{IsText, IsLong, IsBelowRoot, IsListOf, AreEntries, AreTargets, IsDeedFormed}
+use Rattle.cc_names.specs.Formed.{IsText, IsBelowRoot, IsListOf, AreEntries, AreTargets, IsDeedFormed}
 use Rattle.cc_names.specs.Names.{IsName}
 use Rattle.cc_names.specs.Paths.{IsPath, root, is_root}
 use Rattle.cc_names.specs.declared.refusals.ScriptFault.{ScriptFault}
@@ -20,8 +20,8 @@ use Rattle.build_core.proofs.RunsEntries.{entries_formed}
 use Rattle.build_core.proofs.RunsRead.{reads_few, reads_are_paths}
 use Rattle.build_core.proofs.RunsSeen.{HasObjects, seen_is_below, nothing_at_root}
 
--- What makes a unit's row a formed one: the view's name, its targets, a script within the limit, a base of which the
--- reference rows are one, and what the other units are.
+-- What a unit's run needs to publish a formed row: a view with a name, formed targets, a script within the limit, no more
+-- rows than a base may have, reference rows that are a base, and objects of the base alone.
 pub record CanPublish (b : Base) (build : Build) (unit : Unit) : Type 0 where
   pub view : IsName build.view
   pub targets : AreTargets unit.targets
@@ -43,11 +43,11 @@ found_below b build n unit path h found is_path = (is_path, by (is_root path) re
     by : (t : Bool) → is_root path ≡ t → t ≡ false
     by false is = refl
     by true is = absurd (
-      let nothing = ap (text_of_row b root) (nothing_at_root b build n unit h) in
-      let something = subst (λ p. is_some (text_of_row b p (visible b build n unit p)) ≡ true) (the_root path is) found in
-      cc)
+        let nothing = ap (text_of_row b root) (nothing_at_root b build n unit h) in
+        let something = subst (λ p. is_some (text_of_row b p (visible b build n unit p)) ≡ true) (the_root path is) found in
+        cc)
 
--- what holds of each path by one fact and by another holds by both
+-- so none of the paths with a text is
 each_below : (b : Base) (build : Build) (n : ℕ) (unit : Unit) (reads : List (List ℕ)) → HasObjects b build → AllByRecursion (λ path. is_some (text_of_row b path (visible b build n unit path)) ≡ true) reads →
     AllByRecursion IsPath reads → AllByRecursion IsBelowRoot reads
 each_below b build n unit [] h found are = tt
@@ -73,8 +73,7 @@ outputs_formed targets outputs are h = (
 pub publish_is_formed : (b : Base) (build : Build) (n : ℕ) (unit : Unit) (outputs : List (List ℕ)) → CanPublish b build unit → (here b build n unit).result ≡ Ok outputs →
     IsDeedFormed (deeds.Publish build.view unit.targets (script_text unit.script) (entries (visible b build n unit) (here b build n unit).reads) outputs)
 publish_is_formed b build n unit outputs h ran =
-    let are = outputs_short (script_text unit.script) unit.targets (λ path. text_of_row b path (visible b build n unit path)) outputs ran in
-    (
+    let are = outputs_short (script_text unit.script) unit.targets (λ path. text_of_row b path (visible b build n unit path)) outputs ran in (
       (h.view, h.targets, (let short = h.script in omega arith), reads_formed b build n unit outputs h ran, are.many),
       outputs_formed unit.targets outputs h.targets are,
     )

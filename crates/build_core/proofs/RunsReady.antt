@@ -1,18 +1,19 @@
 -- When a unit's run may publish: in a build that agrees so far, at a base.
-use Rattle.std.proofs.Common.{◌≡◌, refl, ap, sym, subst, ◌∙◌, ℕ, suc, ◌<◌, ◌≤◌, ◌&&◌, nat_lt, Bool, true, false, Option, Some, None, List, [], ◌∷◌, length, arith}
+use Rattle.std.proofs.Common.{◌≡◌, refl, subst, ℕ, ◌<◌, ◌≤◌, ◌&&◌, nat_lt, true, Option, Some, None, [], ◌∷◌, arith}
 use Rattle.std.proofs.lemmas.Bool.{ltb-true}
-use Rattle.cc_names.specs.Formed.{AreTargets}
+use Rattle.std.specs.List.{AllByRecursion}
 use Rattle.cc_names.specs.Names.{IsName}
 use Rattle.cc_names.specs.declared.units.Unit.{Unit}
 use Rattle.legal_history.specs.Base.{Base, size, first_rows}
 use Rattle.legal_history.specs.Builds.{Build, Came, Started, Ended, Given, came_to, object_of, unit_at}
 use Rattle.legal_history.specs.Fits.{row_limit, deed_fits, is_base}
-use Rattle.legal_history.specs.Fresh.{script_text}
 use Rattle.legal_history.specs.Freshness.{Agrees, AgreesSoFar, outcome_in}
 use Rattle.legal_history.specs.Serials.{Outcome, Made, Without}
 use Rattle.legal_history.proofs.Owned.{and_first}
+use Rattle.build_core.proofs.RunsEach.{each_at}
 use Rattle.build_core.proofs.RunsFormed.{CanPublish}
 use Rattle.build_core.proofs.RunsSeen.{HasObjects, makes_no_root}
+use Rattle.build_core.proofs.RunsUnits.{IsUnitFormed}
 
 -- a base has no more rows than it may have
 pub base_has_room : (b : Base) → is_base b ≡ true → size b ≤ row_limit
@@ -40,24 +41,19 @@ object_below b build m unit id h is given = by (came_to build m) refl given
     by (Some (Given other)) came given = object_agrees b unit id (Given other) (outcome_in (first_rows build.rows b) build m unit) given (h.agrees m unit (Given other) is came refl)
     by (Some (Ended end)) came given = object_agrees b unit id (Ended end) (outcome_in (first_rows build.rows b) build m unit) given (h.agrees m unit (Ended end) is came refl)
 
--- The units of a build as its makefile gives them: their targets are below the root, and their scripts within the limit.
-pub record AreUnits (build : Build) : Type 0 where
-  pub targets : (m : ℕ) (unit : Unit) → unit_at build m ≡ Some unit → AreTargets unit.targets
-  pub scripts : (m : ℕ) (unit : Unit) → unit_at build m ≡ Some unit → length (script_text unit.script) ≤ 65536
-
--- A build of such units that agrees so far has objects of the base alone.
-pub agreeing_objects : (b : Base) (build : Build) → AreUnits build → AgreesSoFar b build → HasObjects b build
+-- A build of formed units that agrees so far has objects of the base alone.
+pub agreeing_objects : (b : Base) (build : Build) → AllByRecursion IsUnitFormed build.units → AgreesSoFar b build → HasObjects b build
 agreeing_objects b build units h = record {
-  rootless = λ m unit is. makes_no_root unit (units.targets m unit is);
+  rootless = λ m unit is. makes_no_root unit (each_at IsUnitFormed build.units m unit units is).targets;
   below = λ m unit id. object_below b build m unit id h;
 }
 
 -- Its units may publish.
-pub can_publish : (b : Base) (build : Build) (n : ℕ) (unit : Unit) → IsName build.view → AreUnits build → is_base b ≡ true → AgreesSoFar b build → unit_at build n ≡ Some unit → CanPublish b build unit
+pub can_publish : (b : Base) (build : Build) (n : ℕ) (unit : Unit) → IsName build.view → AllByRecursion IsUnitFormed build.units → is_base b ≡ true → AgreesSoFar b build → unit_at build n ≡ Some unit → CanPublish b build unit
 can_publish b build n unit view units base h is = record {
   view = view;
-  targets = units.targets n unit is;
-  script = units.scripts n unit is;
+  targets = (each_at IsUnitFormed build.units n unit units is).targets;
+  script = (each_at IsUnitFormed build.units n unit units is).script;
   room = base_has_room b base;
   base = h.base;
   objects = agreeing_objects b build units h;

@@ -1,12 +1,11 @@
 -- What a unit of a build sees: rows of the base alone, and no file at the root.
-use Rattle.std.proofs.Common.{◌≡◌, refl, ap, sym, subst, ◌∙◌, ℕ, zero, suc, ◌<◌, ◌||◌, Bool, true, false, Option, Some, None, List, [], ◌∷◌, ◌++◌, length, map, bytes_eq, arith, length-append}
+use Rattle.std.proofs.Common.{◌≡◌, refl, ap, sym, subst, ◌∙◌, ℕ, zero, suc, ◌<◌, ◌||◌, Bool, true, false, Option, Some, None, List, [], ◌∷◌, ◌++◌, map, bytes_eq, arith, length-append}
 use Rattle.std.proofs.lemmas.Slice.Eq.{bytes_eq-Decides}
 use Rattle.std.specs.List.{AllByRecursion, list_any}
 use Rattle.std.specs.Option.{option_or}
-use Rattle.cc_names.specs.Formed.{Plain, IsBelowRoot, AreTargets}
+use Rattle.cc_names.specs.Formed.{IsBelowRoot, AreTargets}
 use Rattle.cc_names.specs.Paths.{root, is_root}
 use Rattle.cc_names.specs.Versions.{kind_of}
-use Rattle.cc_names.specs.declared.rows.Kind.{Kind}
 use Rattle.cc_names.specs.declared.rows.Kind.TheVariants.{Directory}
 use Rattle.cc_names.specs.declared.selection.Picked.{Picked}
 use Rattle.cc_names.specs.declared.units.Unit.{Unit}
@@ -19,7 +18,7 @@ use Rattle.legal_history.specs.Fits.{is_base}
 use Rattle.legal_history.specs.Seen.{as_seen, file_at, file_seen, row_of_file, selected}
 use Rattle.legal_history.specs.Serials.{makes, needed}
 use Rattle.legal_history.proofs.FilesBelow.{beyond, file_is_below}
-use Rattle.legal_history.proofs.Pairs.{Pair, member_of, pairs_before, with_pair, members_paired}
+use Rattle.legal_history.proofs.Pairs.{member_of, pairs_before, with_pair, members_paired}
 use Rattle.legal_history.proofs.VersionsStay.{kind_stays}
 
 -- the root is a directory, so a view sees no file there

@@ -1,19 +1,19 @@
 -- The units of a build are formed: their targets are below the root, each once, and their scripts within the limit.
-use Rattle.std.proofs.Common.{◌≡◌, refl, ap, sym, subst, ◌∙◌, ℕ, suc, ◌+◌, ◌<◌, ◌≤◌, ◌||◌, not, nat_lt, Bool, true, false, cond, Option, Some, None, Result, Ok, Err, is_some, List, [], ◌∷◌, length, map, filter, find, flat_map, slice_get, if◌then◌else◌, arith}
+use Rattle.std.proofs.Common.{◌≡◌, refl, subst, ℕ, ◌+◌, ◌≤◌, ◌||◌, nat_lt, Bool, true, false, cond, Option, Some, None, Result, Ok, Err, is_some, List, [], ◌∷◌, length, map, filter, find, flat_map, if◌then◌else◌, arith}
 use Rattle.std.proofs.lemmas.Bool.{ltb-false}
 use Rattle.std.specs.List.{AllByRecursion, IsDistinct, list_any, before_first, after_first}
 use Rattle.std.specs.Result.{result_ok}
 use Rattle.std.specs.Str.{bytes_eq}
 use Rattle.cc_names.specs.Formed.{IsBelowRoot, AreTargets}
 use Rattle.cc_names.specs.Names.{unless_fault}
-use Rattle.cc_names.specs.Paths.{IsPath, is_root, path_fault}
+use Rattle.cc_names.specs.Paths.{is_root, path_fault}
 use Rattle.cc_names.specs.declared.commands.Macro.{Macro}
 use Rattle.cc_names.specs.declared.names.NameFault.{NameFault}
 use Rattle.cc_names.specs.declared.refusals.GraphFault.{GraphFault}
 use Rattle.cc_names.specs.declared.units.Unit.{Unit}
 use Rattle.make_text.specs.Lines.{lines_of, words, is_script_line, is_blank_line}
 use Rattle.make_text.specs.Makefiles.{path_in, unless_root, path_before, paths_of, is_colon, may_be_rule, may_be_target, each_once, rule_from, rule_of, is_beyond, has_script, below_rule, with_script, rules_from, contents_of}
-use Rattle.make_text.specs.Units.{Files, script_limit, expanded, expansion, script_of_unit, unit_of, wanted, goals_of, missing_goal, unless_source, unless_missing, graph_of, made_by, unless_refused, units_of, units_at, units, main_file}
+use Rattle.make_text.specs.Units.{Files, script_limit, expanded, script_of_unit, unit_of, wanted, goals_of, missing_goal, unless_source, unless_missing, graph_of, made_by, unless_refused, units_of, units_at, units, main_file}
 use Rattle.make_text.specs.declared.makefiles.Expanded.TheVariants as expansions
 use Rattle.make_text.specs.declared.rules.MakeRule.{MakeRule}
 use Rattle.legal_history.specs.Fresh.{script_text}

@@ -1,12 +1,11 @@
 -- How a run goes without a fault: what it writes is within the limit, and what it asks for is there.
-use Rattle.std.proofs.Common.{◌≡◌, refl, ap, sym, subst, ℕ, suc, ◌≤◌, Bool, true, false, Option, Some, None, Result, Ok, Err, is_some, List, [], ◌∷◌, ◌++◌, length, nat_lt, if◌then◌else◌, arith}
+use Rattle.std.proofs.Common.{◌≡◌, refl, ap, sym, subst, ℕ, ◌≤◌, Bool, true, false, Option, Some, None, Result, Ok, Err, is_some, List, [], ◌∷◌, ◌++◌, length, nat_lt, if◌then◌else◌, arith}
 use Rattle.std.proofs.lemmas.Bool.{ltb-false}
 use Rattle.std.specs.List.{AllByRecursion, list_any}
 use Rattle.std.specs.Str.{bytes_eq}
 use Rattle.cc_names.specs.declared.refusals.ScriptFault.{ScriptFault}
 use Rattle.cc_names.specs.declared.refusals.ScriptFault.TheVariants.{TooBig, StrayWrite}
-use Rattle.build_script.specs.Lines.{script_of}
-use Rattle.build_script.specs.Run.{Files, Asking, Done, Asks, Traced, traced, noted, and_then, Part, Says, TextOf, parts_of, see, output_limit, lengthened, lengthened_by, with_part, with_parts, unless_fault, begun, wrote, write_output, after_line, after_lines, output_before, outputs_of, nothing_written, run_of, run}
+use Rattle.build_script.specs.Run.{Files, Asking, Done, Traced, traced, noted, and_then, Part, Says, TextOf, parts_of, see, output_limit, lengthened, lengthened_by, with_part, with_parts, unless_fault, begun, wrote, write_output, after_line, after_lines}
 use Rattle.build_script.specs.declared.lines.Line.{Line}
 use Rattle.build_script.specs.declared.lines.Line.TheVariants.{Empty, Makes}
 use Rattle.build_script.specs.declared.lines.Work.{Work}
