@@ -1,3 +1,4 @@
+mod Cames
 pub mod RunsAlong
 pub mod RunsEach
 pub mod RunsEnded

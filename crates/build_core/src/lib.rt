@@ -9,8 +9,10 @@
 // that was read, `cc_names` for paths, units and refusals.
 #![tactic(auto)]
 
+mod active;
 mod plans;
 #[cfg(test)]
 mod tests;
 
+pub use active::{ActiveBuild, Came};
 pub use plans::{graph, plan};

@@ -1,0 +1,222 @@
+// The active builds: which units a build has, and what they have come to.
+
+ghost use Rattle.std.specs.Prelude.{◌≡◌, ◌<◌, [], true, false, Some, length, option_copied, option_map, IfOk};
+ghost use Rattle.legal_history.specs.Builds.{came_to, is_outcome, object_of};
+ghost use Rattle.legal_history.specs.Steps.{with_came};
+ghost use Rattle.legal_history.specs.Turns.{is_complete};
+ghost use Rattle.build_core.specs.Comes.{came_of, comes_of, is_started};
+
+use cc_names::memory::NoMemory;
+use cc_names::names::Name;
+use cc_names::rows::Tag;
+use cc_names::steps::UnitEnd;
+use cc_names::units::Unit;
+use std::alloc::Global;
+use std::marker::Model;
+
+/// What a unit has come to.
+#[derive(Debug, Drop)]
+pub enum Came {
+    /// Its script was started.
+    Started,
+    /// It ended without a row.
+    Ended(UnitEnd),
+    /// It was given the object of this row.
+    Given(u64),
+}
+
+/// An active build. Contracts see it as the model's record of a build.
+#[derive(Debug, Drop)]
+pub struct ActiveBuild {
+    tag: Tag,
+    view: Name,
+    rows: u64,
+    own_only: bool,
+    rebuild: bool,
+    units: Vec<Unit>,
+    comes: Vec<Option<Came>>,
+    faulted: bool,
+}
+
+impl Model for ActiveBuild {
+    ghost use Rattle.std.specs.Prelude.{◌≡◌, length};
+    ghost use Rattle.legal_history.specs.Builds.{Build};
+
+    ghost Value = { Build };
+
+    ghost use Rattle.build_core.specs.Comes.{comes_of};
+
+    ghost view = { λ build. record {
+      tag = build.tag;
+      view = build.view;
+      rows = build.rows;
+      own_only = build.own_only;
+      rebuild = build.rebuild;
+      units = build.units.items;
+      comes = comes_of build.comes.items;
+      faulted = build.faulted;
+    } };
+
+    ghost invariant = { λ build. length build.comes.items ≡ length build.units.items };
+}
+
+/// An empty slot for each unit.
+fn slots_for(alloc: Global, units: &[Unit]) -> Result<Vec<Option<Came>>, NoMemory>
+    ensures length { IfOk result (λ slots. length slots.items ≡ length units.now) }
+    ensures empty { IfOk result (λ slots. comes_of slots.items ≡ []) }
+{
+    let mut slots = Vec::with_capacity(alloc, units.len())?;
+    for unit in units {
+        slots.push(None)?;
+    }
+    Ok(slots)
+}
+
+impl ActiveBuild {
+    /// A build that begins: none of its units has come to anything. Takes time linear in the units.
+    pub fn begin(
+        alloc: Global,
+        tag: Tag,
+        rows: u64,
+        view: Name,
+        own_only: bool,
+        rebuild: bool,
+        units: Vec<Unit>,
+    ) -> Result<ActiveBuild, NoMemory>
+        ensures { IfOk result (λ build. build ≡ record { tag = tag; view = view; rows = rows; own_only = own_only; rebuild = rebuild; units = units.items; comes = []; faulted = false }) }
+    {
+        let comes = slots_for(alloc, units.as_slice())?;
+        Ok(ActiveBuild {
+            tag,
+            view,
+            rows,
+            own_only,
+            rebuild,
+            units,
+            comes,
+            faulted: false,
+        })
+    }
+
+    /// The command that builds.
+    pub fn tag(&self) -> Tag
+        ensures { result ≡ self.now.tag }
+    {
+        self.tag
+    }
+
+    /// The view in which it builds.
+    pub fn view(&self) -> &Name
+        ensures { result.now ≡ self.now.view }
+    {
+        &self.view
+    }
+
+    /// How many rows, row 0 included, its units see.
+    pub fn rows(&self) -> u64
+        ensures { result ≡ self.now.rows }
+    {
+        self.rows
+    }
+
+    /// Whether it reuses its own view's objects alone.
+    pub fn own_only(&self) -> bool
+        ensures { result ≡ self.now.own_only }
+    {
+        self.own_only
+    }
+
+    /// Whether it reuses no object.
+    pub fn rebuild(&self) -> bool
+        ensures { result ≡ self.now.rebuild }
+    {
+        self.rebuild
+    }
+
+    /// The units, in order.
+    pub fn units(&self) -> &[Unit]
+        ensures { result.now ≡ self.now.units }
+    {
+        self.units.as_slice()
+    }
+
+    /// Whether the disk failed under it.
+    pub fn is_faulted(&self) -> bool
+        ensures { result ≡ self.now.faulted }
+    {
+        self.faulted
+    }
+
+    /// What the unit at an index has come to.
+    fn came_at(&self, index: usize) -> Option<&Came>
+        ensures { option_map came_of (option_copied result) ≡ came_to self.now index }
+    {
+        self.comes.get(index)?.as_ref()
+    }
+
+    /// What a unit has come to, if to anything.
+    pub fn came_to(&self, unit: u32) -> Option<&Came>
+        ensures { option_map came_of (option_copied result) ≡ came_to self.now unit }
+    {
+        self.came_at(unit as usize)
+    }
+
+    /// Whether the unit at an index has its outcome.
+    fn is_over(&self, index: usize) -> bool
+        ensures { result ≡ is_outcome (came_to self.now index) }
+    {
+        matches!(self.came_at(index), Some(Came::Ended(_) | Came::Given(_)))
+    }
+
+    /// Whether a unit has its outcome.
+    pub fn has_outcome(&self, unit: u32) -> bool
+        ensures { result ≡ is_outcome (came_to self.now unit) }
+    {
+        self.is_over(unit as usize)
+    }
+
+    /// Whether a unit's script was started and the unit has no outcome.
+    pub fn is_started(&self, unit: u32) -> bool
+        ensures { result ≡ is_started (came_to self.now unit) }
+    {
+        matches!(self.came_to(unit), Some(Came::Started))
+    }
+
+    /// The object that a unit was given or kept.
+    pub fn object_of(&self, unit: u32) -> Option<u64>
+        ensures { result ≡ object_of (came_to self.now unit) }
+    {
+        match self.came_to(unit)? {
+            Came::Given(id) => Some(*id),
+            Came::Ended(UnitEnd::Kept(id)) => Some(*id),
+            _ => None,
+        }
+    }
+
+    /// Notes what a unit has come to. Takes no memory.
+    pub fn note(&mut self, unit: u32, came: Came)
+        requires { unit < length self.old.units }
+        ensures { self.new ≡ with_came self.old (Some unit) (came_of came) }
+    {
+        self.comes[unit as usize] = Some(came);
+    }
+
+    /// Notes that the disk failed under it. Takes no memory.
+    pub fn note_fault(&mut self)
+        ensures { self.new ≡ record self.old { faulted = true } }
+    {
+        self.faulted = true;
+    }
+
+    /// Whether each unit has its outcome, in time linear in the units.
+    pub fn is_complete(&self) -> bool
+        ensures { result ≡ is_complete self.now }
+    {
+        for index in 0..self.units.len() {
+            if !self.is_over(index) {
+                return false;
+            }
+        }
+        true
+    }
+}
