@@ -1,4 +1,6 @@
 mod Cames
+mod Early
+mod Members
 pub mod RunsAlong
 pub mod RunsEach
 pub mod RunsEnded
@@ -11,3 +13,4 @@ pub mod RunsSeen
 pub mod RunsUnits
 pub mod RunsWell
 pub mod RunsWords
+mod Waiting

@@ -148,7 +148,7 @@ impl ActiveBuild {
     }
 
     /// What the unit at an index has come to.
-    fn came_at(&self, index: usize) -> Option<&Came>
+    pub(crate) fn came_at(&self, index: usize) -> Option<&Came>
         ensures { option_map came_of (option_copied result) ≡ came_to self.now index }
     {
         self.comes.get(index)?.as_ref()
@@ -162,7 +162,7 @@ impl ActiveBuild {
     }
 
     /// Whether the unit at an index has its outcome.
-    fn is_over(&self, index: usize) -> bool
+    pub(crate) fn is_over(&self, index: usize) -> bool
         ensures { result ≡ is_outcome (came_to self.now index) }
     {
         matches!(self.came_at(index), Some(Came::Ended(_) | Came::Given(_)))
@@ -182,15 +182,22 @@ impl ActiveBuild {
         matches!(self.came_to(unit), Some(Came::Started))
     }
 
-    /// The object that a unit was given or kept.
-    pub fn object_of(&self, unit: u32) -> Option<u64>
-        ensures { result ≡ object_of (came_to self.now unit) }
+    /// The object that the unit at an index was given or kept.
+    pub(crate) fn object_at(&self, index: usize) -> Option<u64>
+        ensures { result ≡ object_of (came_to self.now index) }
     {
-        match self.came_to(unit)? {
+        match self.came_at(index)? {
             Came::Given(id) => Some(*id),
             Came::Ended(UnitEnd::Kept(id)) => Some(*id),
             _ => None,
         }
+    }
+
+    /// The object that a unit was given or kept.
+    pub fn object_of(&self, unit: u32) -> Option<u64>
+        ensures { result ≡ object_of (came_to self.now unit) }
+    {
+        self.object_at(unit as usize)
     }
 
     /// Notes what a unit has come to. Takes no memory.

@@ -11,8 +11,12 @@
 
 mod active;
 mod plans;
+mod sights;
+mod steps;
 #[cfg(test)]
 mod tests;
 
 pub use active::{ActiveBuild, Came};
 pub use plans::{graph, plan};
+pub use sights::{fetch, visible};
+pub use steps::{UnitStep, step};

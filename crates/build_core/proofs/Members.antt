@@ -1,0 +1,102 @@
+-- The walk back over the units that a unit needs.
+use Rattle.std.proofs.Common.{◌≡◌, ℕ, zero, suc, ◌+◌, ◌<◌, ◌≤◌, Bool, true, false, Option, Some, None, List, [], ◌∷◌, ◌++◌, length, take, get_or, refl, ap, sym, ◌∙◌, arith, add-one}
+use Rattle.std.proofs.Math.Seq.{take-suc}
+use Rattle.std.proofs.lemmas.List.{length-take-le}
+use Rattle.std.specs.List.{list_any}
+use Rattle.std.specs.Option.{option_or}
+use Rattle.cc_names.specs.declared.units.Unit.{Unit}
+use Rattle.legal_history.specs.Base.{only_where}
+use Rattle.legal_history.specs.Builds.{Build, came_to, object_of}
+use Rattle.legal_history.specs.Choices.{Member, unit_of_member, members_from, members_before, object_at, object_among}
+use Rattle.legal_history.specs.Closures.{is_among}
+use Rattle.legal_history.specs.Serials.{needed, makes}
+
+-- a unit with what its number has come to
+abbrev member : Build → ℕ → Unit → Member
+member build n unit = record { unit = unit; came = came_to build n }
+
+last_member : (build : Build) (k : ℕ) (units : List Unit) (unit : Unit) (earlier : List Member) →
+    members_from build k (units ++ unit ∷ []) earlier ≡ member build (k + length units) unit ∷ members_from build k units earlier
+last_member build k [] unit earlier =
+    let e : k ≡ k + 0 = omega arith in
+    ap (λ n. member build n unit ∷ earlier) e
+last_member build k (first ∷ units) unit earlier =
+    let e : (k + 1) + length units ≡ k + suc (length units) = omega arith in
+    last_member build (k + 1) units unit (member build k first ∷ earlier)
+    ∙ ap (λ n. member build n unit ∷ members_from build (k + 1) units (member build k first ∷ earlier)) e
+
+-- the unit before is the last of those before
+before : (build : Build) (n : ℕ) (unit : Unit) → n < length build.units → unit ≡ get_or build.units n unit →
+    members_before build (n + 1) ≡ member build n unit ∷ members_before build n
+before build n unit h e =
+    let whole : take (n + 1) build.units ≡ take n build.units ++ unit ∷ [] =
+    ap (λ k. take k build.units) (add-one n) ∙ take-suc build.units n unit h ∙ ap (λ u. take n build.units ++ u ∷ []) (sym e)
+    in
+    let size : length (take n build.units) ≡ n = length-take-le n build.units (omega arith) in
+    let count : 0 + length (take n build.units) ≡ n = omega arith in
+    ap (λ units. members_from build 0 units []) whole
+    ∙ last_member build 0 (take n build.units) unit []
+    ∙ ap (λ k. member build k unit ∷ members_before build n) count
+
+-- whether a unit makes one of some paths
+abbrev makes_any : Unit → List (List ℕ) → Bool
+makes_any unit paths = list_any (λ path. makes path unit) paths
+
+-- a unit that makes none of what is wanted is passed over
+step_past : (paths : List (List ℕ)) (a : Member) (earlier : List Member) → makes_any a.unit paths ≡ false →
+    needed unit_of_member paths (a ∷ earlier) ≡ needed unit_of_member paths earlier
+step_past paths a earlier e =
+    ap (λ (b : Bool). elim b as (λ _. List Member) [ true ↦ a ∷ needed unit_of_member (paths ++ a.unit.prerequisites) earlier | false ↦ needed unit_of_member paths earlier ]) e
+
+step_taken : (paths : List (List ℕ)) (a : Member) (earlier : List Member) → makes_any a.unit paths ≡ true →
+    needed unit_of_member paths (a ∷ earlier) ≡ a ∷ needed unit_of_member (paths ++ a.unit.prerequisites) earlier
+step_taken paths a earlier e =
+    ap (λ (b : Bool). elim b as (λ _. List Member) [ true ↦ a ∷ needed unit_of_member (paths ++ a.unit.prerequisites) earlier | false ↦ needed unit_of_member paths earlier ]) e
+
+-- what the units before a number that are needed have at a path
+abbrev pub object_before : Build → List (List ℕ) → ℕ → List ℕ → Option ℕ
+object_before build paths n path = object_among path (needed unit_of_member paths (members_before build n))
+
+passed : (build : Build) (paths : List (List ℕ)) (n : ℕ) (path : List ℕ) (unit : Unit) → n < length build.units → unit ≡ get_or build.units n unit →
+    makes_any unit paths ≡ false → object_before build paths (n + 1) path ≡ object_before build paths n path
+passed build paths n path unit h at e =
+    ap (λ members. object_among path (needed unit_of_member paths members)) (before build n unit h at)
+    ∙ ap (object_among path) (step_past paths (member build n unit) (members_before build n) e)
+
+taken : (build : Build) (paths : List (List ℕ)) (n : ℕ) (path : List ℕ) (unit : Unit) → n < length build.units → unit ≡ get_or build.units n unit →
+    makes_any unit paths ≡ true →
+    object_before build paths (n + 1) path ≡ option_or (only_where (is_among path unit.targets) (object_of (came_to build n))) (object_before build (paths ++ unit.prerequisites) n path)
+taken build paths n path unit h at e =
+    ap (λ members. object_among path (needed unit_of_member paths members)) (before build n unit h at)
+    ∙ ap (object_among path) (step_taken paths (member build n unit) (members_before build n) e)
+
+-- Unit n stands right below the number m, and whether it makes one of these paths is known.
+pub record Turn (build : Build) (paths : List (List ℕ)) (m n : ℕ) (unit : Unit) (makes : Bool) : Type 0 where
+  pub below : m ≡ n + 1
+  pub within : n < length build.units
+  pub unit_is : unit ≡ get_or build.units n unit
+  pub makes_one : list_any (λ path. is_among path unit.targets) paths ≡ makes
+
+-- one that makes none is passed over
+pub pass_over : (build : Build) (paths : List (List ℕ)) (m n : ℕ) (path : List ℕ) (unit : Unit) → Turn build paths m n unit false →
+    object_before build paths n path ≡ object_before build paths m path
+pass_over build paths m n path unit turn =
+    sym (ap (λ k. object_before build paths k path) turn.below ∙ passed build paths n path unit turn.within turn.unit_is turn.makes_one)
+
+-- one with an object at the path gives it
+pub give : (build : Build) (paths : List (List ℕ)) (m n : ℕ) (path : List ℕ) (unit : Unit) (id : ℕ) → Turn build paths m n unit true →
+    only_where (is_among path unit.targets) (object_of (came_to build n)) ≡ Some id →
+    object_before build paths m path ≡ Some id
+give build paths m n path unit id turn here =
+    ap (λ k. object_before build paths k path) turn.below
+    ∙ taken build paths n path unit turn.within turn.unit_is turn.makes_one
+    ∙ ap (λ o. option_or o (object_before build (paths ++ unit.prerequisites) n path)) here
+
+-- one without any is needed, and so are those that it needs
+pub need : (build : Build) (paths : List (List ℕ)) (m n : ℕ) (path : List ℕ) (unit : Unit) → Turn build paths m n unit true →
+    only_where (is_among path unit.targets) (object_of (came_to build n)) ≡ None →
+    object_before build (paths ++ unit.prerequisites) n path ≡ object_before build paths m path
+need build paths m n path unit turn here =
+    sym (ap (λ k. object_before build paths k path) turn.below
+    ∙ taken build paths n path unit turn.within turn.unit_is turn.makes_one
+    ∙ ap (λ o. option_or o (object_before build (paths ++ unit.prerequisites) n path)) here)

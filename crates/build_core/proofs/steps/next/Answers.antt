@@ -1,0 +1,26 @@
+-- A unit that waits for none is ready.
+use Rattle.std.proofs.Common.{◌≡◌, true, None, ap, sym, ◌∙◌}
+use Rattle.legal_history.specs.Turns.{is_ready}
+use Rattle.build_core.specs.UnitSteps.{first_awaited}
+use Rattle.build_core.proofs.Waiting.{awaits_none}
+use Rattle.build_core.proofs.steps.next.Goals as goal
+
+pub returns-in-Some-2 : goal.returns-in-Some-2
+returns-in-Some-2 c =
+    let none : first_awaited c.args.build.now c.args.unit.now.prerequisites ≡ None =
+    ap (first_awaited c.args.build.now) (sym c.as_slice.ensures) ∙ sym c.in_default.ensures.first
+    in
+    record {
+      ready = awaits_none c.args.build.now c.args.unit.now.prerequisites none;
+      ends = sym c.in_ok-end.ensures ∙ c.in-Some-2.is;
+    }
+
+pub start-requires : goal.start-requires
+start-requires c =
+    let none : first_awaited c.args.build.now c.args.unit.now.prerequisites ≡ None =
+    ap (first_awaited c.args.build.now) (sym c.as_slice.ensures) ∙ sym c.in_default.ensures.first
+    in
+    record {
+      ready = awaits_none c.args.build.now c.args.unit.now.prerequisites none;
+      runs = sym c.in_ok-end.ensures ∙ c.in_default-2.is;
+    }

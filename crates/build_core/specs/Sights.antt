@@ -1,0 +1,25 @@
+-- What the script of a unit finds at a path.
+use Rattle.std.specs.Prelude.{◌≡◌, ℕ, Option, Some, None, option_map, option_and_then, List}
+use Rattle.cc_names.specs.declared.units.Unit as units
+use Rattle.build_script.specs.Standings.{Standing}
+use Rattle.build_script.specs.declared.files.Got.{Got}
+use Rattle.build_script.specs.declared.files.Got.TheVariants as gots
+use Rattle.legal_history.specs.Base.{Base}
+use Rattle.legal_history.specs.Builds.{Build}
+use Rattle.legal_history.specs.Choices.{visible}
+use Rattle.legal_history.specs.Texts.{text}
+
+-- a row with its text, where it has one at the path
+abbrev pub standing_of : Base → List ℕ → ℕ → Option Standing
+standing_of b path row = option_map (λ bytes. record { row = row; text = bytes }) (text b row path)
+
+-- the row that unit n of a build sees at a path, with its text
+abbrev pub stands : Base → Build → ℕ → units.Unit → List ℕ → Option Standing
+stands b build n unit path = option_and_then (standing_of b path) (visible b build n unit path)
+
+-- an answer is what stands there, or memory ran out
+abbrev pub IsFetched : Got → Option Standing → Type 0
+IsFetched (gots.Found row text) standing = standing ≡ Some (record { row = row; text = text })
+IsFetched gots.Absent standing = standing ≡ None
+IsFetched gots.Broken standing = ⊥
+IsFetched gots.NoMemory standing = Unit {0}

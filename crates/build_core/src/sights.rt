@@ -1,0 +1,136 @@
+// What the script of a unit sees.
+
+ghost use Rattle.std.specs.Prelude.{◌≡◌, ◌<◌, ◌≤◌, ◌^◌, ◌++◌, Some, true, length, reverse, option_and_then, option_copied, IfOk, OnOk, IsSome};
+ghost use Rattle.std.specs.List.{list_any};
+ghost use Rattle.cc_names.specs.declared.units.Unit as units;
+ghost use Rattle.legal_history.specs.Base.{first_rows, only_where};
+ghost use Rattle.legal_history.specs.Builds.{came_to, object_of, unit_at};
+ghost use Rattle.legal_history.specs.Choices.{members_before, object_among, unit_of_member, visible};
+ghost use Rattle.legal_history.specs.Closures.{is_among};
+ghost use Rattle.legal_history.specs.Serials.{needed};
+ghost use Rattle.legal_history.specs.Views.{view_row};
+ghost use Rattle.view_lookup.specs.Unversioned.{is_unversioned};
+ghost use Rattle.build_core.specs.Sights.{standing_of, stands, IsFetched};
+
+use crate::active::ActiveBuild;
+use crate::steps::makes;
+use build_script::files::Got;
+use cc_names::memory::NoMemory;
+use cc_names::paths::Path;
+use cc_names::rows::Row;
+use cc_names::texts::Text;
+use cc_names::units::Unit;
+use std::alloc::Global;
+use view_lookup::{file_at, first_rows, text_of};
+
+/// Whether a unit makes one of these paths.
+fn makes_any(unit: &Unit, paths: &[Path]) -> bool
+    ensures { result ≡ list_any (λ path. is_among path unit.now.targets) paths.now }
+{
+    paths.iter().any(|path| makes(unit, path))
+}
+
+fn push_paths(alloc: Global, wanted: &mut Vec<Path>, paths: &[Path]) -> Result<(), NoMemory>
+    ensures { OnOk result (wanted.new.items ≡ wanted.old.items ++ paths.now) }
+{
+    for path in paths {
+        wanted.push(path.copy(alloc)?)?;
+    }
+    Ok(())
+}
+
+/// The object that a unit was given or kept, where the unit makes the path.
+fn object_at(build: &ActiveBuild, index: usize, unit: &Unit, path: &Path) -> Option<u64>
+    ensures { result ≡ only_where (is_among path.now unit.now.targets) (object_of (came_to build.now index)) }
+{
+    if makes(unit, path) {
+        build.object_at(index)
+    } else {
+        None
+    }
+}
+
+/// The object at a path of the units below a number that make what is wanted, and of those that these need in turn.
+fn object_below(
+    alloc: Global,
+    build: &ActiveBuild,
+    below: u32,
+    paths: &[Path],
+    path: &Path,
+) -> Result<Option<u64>, NoMemory>
+    requires { below ≤ length build.now.units }
+    ensures { IfOk result (λ id. id ≡ object_among path.now (needed unit_of_member paths.now (members_before build.now below))) }
+{
+    let mut wanted = Vec::new(alloc);
+    push_paths(alloc, &mut wanted, paths)?;
+    let units = build.units();
+    let mut number = below;
+    while number > 0 {
+        number -= 1;
+        let unit = &units[number as usize];
+        if makes_any(unit, wanted.as_slice()) {
+            if let Some(id) = object_at(build, number as usize, unit, path) {
+                return Ok(Some(id));
+            }
+            push_paths(alloc, &mut wanted, unit.prerequisites.as_slice())?;
+        }
+    }
+    Ok(None)
+}
+
+/// The row that a unit of an active build sees at a path, in a base without elements: the object that the build gave to a
+/// unit that it needs, directly or through others, else the file of the view as the build began. Fails only where memory
+/// runs out.
+///
+/// Takes time that grows with the units before it times the prerequisites met, and with the rows.
+pub fn visible(
+    alloc: Global,
+    rows: &[Row],
+    build: &ActiveBuild,
+    unit: u32,
+    path: &Path,
+) -> Result<Option<u64>, NoMemory>
+    requires room { length rows.now < 2 ^ 63 }
+    requires unversioned { is_unversioned (reverse rows.now) ≡ true }
+    requires unit { unit < length build.now.units }
+    requires view { IsSome (view_row (first_rows build.now.rows (reverse rows.now)) build.now.view) }
+    ensures { (it : units.Unit) → unit_at build.now unit ≡ Some it → IfOk result (λ row. row ≡ visible (reverse rows.now) build.now unit it path.now) }
+{
+    let wanted = build.units()[unit as usize].prerequisites.as_slice();
+    if let Some(id) = object_below(alloc, build, unit, wanted, path)? {
+        return Ok(Some(id));
+    }
+    let rows = first_rows(rows, build.rows());
+    Ok(file_at(rows, build.view(), path))
+}
+
+/// What a row made at the path.
+fn found(alloc: Global, rows: &[Row], row: u64, path: &Path) -> Got
+    requires room { length rows.now < 2 ^ 63 }
+    requires unversioned { is_unversioned (reverse rows.now) ≡ true }
+    ensures { IsFetched result (standing_of (reverse rows.now) path.now row) }
+{
+    let Some(bytes) = text_of(rows, row, path) else {
+        return Got::Absent;
+    };
+    match Text::from_bytes(alloc, bytes) {
+        Ok(text) => Got::Found { row, text },
+        Err(NoMemory) => Got::NoMemory,
+    }
+}
+
+/// What the script of a unit finds at a path, in a base without elements: the row that the unit sees there with its
+/// text, or nothing. It never breaks. Takes the time of `visible`, and that of a copy of the text.
+pub fn fetch(alloc: Global, rows: &[Row], build: &ActiveBuild, unit: u32, path: &Path) -> Got
+    requires room { length rows.now < 2 ^ 63 }
+    requires unversioned { is_unversioned (reverse rows.now) ≡ true }
+    requires unit { unit < length build.now.units }
+    requires view { IsSome (view_row (first_rows build.now.rows (reverse rows.now)) build.now.view) }
+    ensures { (it : units.Unit) → unit_at build.now unit ≡ Some it → IsFetched result (stands (reverse rows.now) build.now unit it path.now) }
+{
+    match visible(alloc, rows, build, unit, path) {
+        Ok(Some(row)) => found(alloc, rows, row, path),
+        Ok(None) => Got::Absent,
+        Err(NoMemory) => Got::NoMemory,
+    }
+}

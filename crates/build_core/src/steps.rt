@@ -1,0 +1,297 @@
+// What comes next for a unit of an active build.
+
+ghost use Rattle.std.specs.Prelude.{◌≡◌, ◌<◌, ◌^◌, Bool, true, false, None, length, reverse, find, option_copied, IfOk, IfSome, IsSome};
+ghost use Rattle.cc_names.specs.Answers.{Gives};
+ghost use Rattle.cc_names.specs.Paths.{is_root};
+ghost use Rattle.build_script.specs.Lines.{script_of};
+ghost use Rattle.legal_history.specs.Base.{first_rows};
+ghost use Rattle.legal_history.specs.Builds.{number_from};
+ghost use Rattle.legal_history.specs.Closures.{is_among};
+ghost use Rattle.legal_history.specs.FileLines.{parent};
+ghost use Rattle.legal_history.specs.Fresh.{script_text, sees_file};
+ghost use Rattle.legal_history.specs.Serials.{is_missing, is_bad, standing_or_file, first_target, no_directory, no_script, outside};
+ghost use Rattle.legal_history.specs.Turns.{standing_of_unit, early_in};
+ghost use Rattle.legal_history.specs.Views.{view_row};
+ghost use Rattle.view_lookup.specs.Unversioned.{is_unversioned};
+ghost use Rattle.build_core.specs.UnitSteps.{first_awaited, IsNext, IsStep, IsOpen};
+
+use crate::active::{ActiveBuild, Came};
+use build_script::scripts::Script;
+use cc_names::copies::Copied;
+use cc_names::lists::List;
+use cc_names::memory::{NoMemory, Or};
+use cc_names::paths::Path;
+use cc_names::refusals::{ScriptFault, UnitFault};
+use cc_names::rows::Row;
+use cc_names::steps::UnitEnd;
+use cc_names::units::{Unit, UnitScript};
+use std::alloc::Global;
+use view_lookup::{file_at, first_rows};
+
+/// What comes next for a unit.
+#[derive(Debug, Drop)]
+pub enum UnitStep {
+    /// The unit has its outcome.
+    Settled,
+    /// It waits for this unit, the first of those that make its prerequisites and have no outcome.
+    NotReady(u32),
+    /// It ends without a run.
+    Settle(UnitEnd),
+    /// Its script, and the targets that a run is to write.
+    Start(Script, List<Path>),
+    /// Its script cannot be read.
+    Unreadable(ScriptFault),
+}
+
+pub(crate) fn makes(unit: &Unit, path: &Path) -> bool
+    ensures { result ≡ is_among path.now unit.now.targets }
+{
+    unit.targets.as_slice().contains(path)
+}
+
+/// The place of the first unit that makes the path.
+fn number_of(units: &[Unit], path: &Path) -> Option<usize>
+    ensures number { result ≡ number_from 0 path.now units.now }
+    ensures within { IfSome result (λ n. n < length units.now) }
+{
+    for (index, unit) in units.iter().enumerate() {
+        if makes(unit, path) {
+            return Some(index);
+        }
+    }
+    None
+}
+
+/// The first of the units that make these paths and have no outcome.
+fn first_awaited(build: &ActiveBuild, paths: &[Path]) -> Option<u32>
+    requires { length build.now.units < 2 ^ 32 }
+    ensures first { result ≡ first_awaited build.now paths.now }
+    ensures within { IfSome result (λ m. m < length build.now.units) }
+{
+    for path in paths {
+        if let Some(number) = number_of(build.units(), path) {
+            if !build.is_over(number) {
+                return Some(number as u32);
+            }
+        }
+    }
+    None
+}
+
+/// Whether a path is neither a unit's nor a file.
+fn is_missing(rows: &[Row], build: &ActiveBuild, path: &Path) -> bool
+    requires room { length rows.now < 2 ^ 63 }
+    requires unversioned { is_unversioned (reverse rows.now) ≡ true }
+    requires view { IsSome (view_row (reverse rows.now) build.now.view) }
+    ensures { result ≡ is_missing (standing_or_file (sees_file (reverse rows.now) build.now.view path.now) (standing_of_unit build.now path.now)) }
+{
+    number_of(build.units(), path).is_none() && file_at(rows, build.view(), path).is_none()
+}
+
+/// Whether a path is that of a unit that failed or was blocked.
+fn is_bad(build: &ActiveBuild, path: &Path) -> bool
+    ensures { (is_file : Bool) → result ≡ is_bad (standing_or_file is_file (standing_of_unit build.now path.now)) }
+{
+    let Some(number) = number_of(build.units(), path) else {
+        return false;
+    };
+    matches!(
+        build.came_at(number),
+        Some(Came::Ended(UnitEnd::Failed(_) | UnitEnd::Blocked(_)))
+    )
+}
+
+fn first_missing<'a>(rows: &[Row], build: &ActiveBuild, paths: &'a [Path]) -> Option<&'a Path>
+    requires room { length rows.now < 2 ^ 63 }
+    requires unversioned { is_unversioned (reverse rows.now) ≡ true }
+    requires view { IsSome (view_row (reverse rows.now) build.now.view) }
+    ensures { option_copied result ≡ find (λ path. is_missing (standing_or_file (sees_file (reverse rows.now) build.now.view path) (standing_of_unit build.now path))) paths.now }
+{
+    for path in paths {
+        if is_missing(rows, build, path) {
+            return Some(path);
+        }
+    }
+    None
+}
+
+fn first_bad<'a>(rows: &[Row], build: &ActiveBuild, paths: &'a [Path]) -> Option<&'a Path>
+    ensures { option_copied result ≡ find (λ path. is_bad (standing_or_file (sees_file (reverse rows.now) build.now.view path) (standing_of_unit build.now path))) paths.now }
+{
+    for path in paths {
+        if is_bad(build, path) {
+            return Some(path);
+        }
+    }
+    None
+}
+
+/// The directory in which a path lies.
+fn parent(alloc: Global, path: &Path) -> Result<Path, NoMemory>
+    ensures { IfOk result (λ directory. directory ≡ parent path.now) }
+{
+    match path.parent(alloc)? {
+        Some(directory) => Ok(directory),
+        None => Ok(Path::root()),
+    }
+}
+
+/// The first parent of a path that is no directory: in a base without elements the root is the only one.
+fn outside(alloc: Global, paths: &[Path]) -> Result<Option<Path>, NoMemory>
+    ensures { IfOk result (λ found. found ≡ outside is_root paths.now) }
+{
+    for path in paths {
+        let directory = parent(alloc, path)?;
+        if !directory.is_root() {
+            return Ok(Some(directory));
+        }
+    }
+    Ok(None)
+}
+
+fn no_directory(alloc: Global, unit: &Unit) -> Result<Option<UnitEnd>, NoMemory>
+    ensures { IfOk result (λ end. end ≡ no_directory is_root unit.now.targets unit.now.script) }
+{
+    if let UnitScript::Bare = unit.script {
+        return Ok(None);
+    }
+    match outside(alloc, unit.targets.as_slice())? {
+        Some(path) => Ok(Some(UnitEnd::Failed(UnitFault::NoDirectory(path)))),
+        None => Ok(None),
+    }
+}
+
+fn first_target(alloc: Global, targets: &[Path]) -> Result<Path, NoMemory>
+    ensures { IfOk result (λ target. target ≡ first_target targets.now) }
+{
+    match targets {
+        [first, ..] => first.copy(alloc),
+        [] => Ok(Path::root()),
+    }
+}
+
+fn no_script(alloc: Global, unit: &Unit) -> Result<Option<UnitEnd>, NoMemory>
+    ensures { IfOk result (λ end. end ≡ no_script unit.now.targets unit.now.script) }
+{
+    match &unit.script {
+        UnitScript::Bare => Ok(Some(UnitEnd::Bare)),
+        UnitScript::TooLong => {
+            let target = first_target(alloc, unit.targets.as_slice())?;
+            Ok(Some(UnitEnd::Failed(UnitFault::ScriptTooLong(target))))
+        }
+        UnitScript::Lines(_) => Ok(None),
+    }
+}
+
+/// What the unit comes to without a run, where these are the rows that its build sees.
+fn early(
+    alloc: Global,
+    rows: &[Row],
+    build: &ActiveBuild,
+    unit: &Unit,
+) -> Result<Option<UnitEnd>, NoMemory>
+    requires room { length rows.now < 2 ^ 63 }
+    requires unversioned { is_unversioned (reverse rows.now) ≡ true }
+    requires view { IsSome (view_row (reverse rows.now) build.now.view) }
+    ensures { IfOk result (λ end. end ≡ early_in (reverse rows.now) build.now unit.now) }
+{
+    if let Some(end) = no_directory(alloc, unit)? {
+        return Ok(Some(end));
+    }
+    if let Some(path) = first_missing(rows, build, unit.prerequisites.as_slice()) {
+        let path = path.copy(alloc)?;
+        return Ok(Some(UnitEnd::Failed(UnitFault::NoRule(path))));
+    }
+    if let Some(path) = first_bad(rows, build, unit.prerequisites.as_slice()) {
+        return Ok(Some(UnitEnd::Blocked(path.copy(alloc)?)));
+    }
+    no_script(alloc, unit)
+}
+
+/// The text of the unit's script, nothing where it has none.
+fn script_text(unit: &Unit) -> &[u8]
+    ensures { result.now ≡ script_text unit.now.script }
+{
+    match &unit.script {
+        UnitScript::Lines(text) => text.as_bytes(),
+        _ => &[],
+    }
+}
+
+/// Reads the unit's script. One of 4 GiB, which no makefile gives, is answered as if memory ran out.
+fn read_script(alloc: Global, unit: &Unit) -> Result<Script, Or<ScriptFault>>
+    ensures { Gives result (script_of (script_text unit.now.script)) }
+{
+    let text = script_text(unit);
+    if text.len() > u32::MAX as usize {
+        return Err(Or::NoMemory);
+    }
+    Script::read(alloc, text)
+}
+
+/// The start of an open unit.
+fn start(
+    alloc: Global,
+    rows: &[Row],
+    build: &ActiveBuild,
+    unit: &Unit,
+) -> Result<UnitStep, NoMemory>
+    requires { IsOpen (reverse rows.now) build.now unit.now }
+    ensures { IfOk result (λ step. IsNext (reverse rows.now) build.now unit.now step) }
+{
+    match read_script(alloc, unit) {
+        Ok(script) => {
+            let targets = unit.targets.copy(alloc)?;
+            Ok(UnitStep::Start(script, targets))
+        }
+        Err(Or::Is(fault)) => Ok(UnitStep::Unreadable(fault)),
+        Err(Or::NoMemory) => Err(NoMemory),
+    }
+}
+
+/// What comes next for a unit without an outcome, where these are the rows that its build sees.
+fn next(
+    alloc: Global,
+    rows: &[Row],
+    build: &ActiveBuild,
+    unit: &Unit,
+) -> Result<UnitStep, NoMemory>
+    requires room { length rows.now < 2 ^ 63 }
+    requires unversioned { is_unversioned (reverse rows.now) ≡ true }
+    requires few { length build.now.units < 2 ^ 32 }
+    requires view { IsSome (view_row (reverse rows.now) build.now.view) }
+    ensures { IfOk result (λ step. IsNext (reverse rows.now) build.now unit.now step) }
+{
+    if let Some(other) = first_awaited(build, unit.prerequisites.as_slice()) {
+        return Ok(UnitStep::NotReady(other));
+    }
+    if let Some(end) = early(alloc, rows, build, unit)? {
+        return Ok(UnitStep::Settle(end));
+    }
+    start(alloc, rows, build, unit)
+}
+
+/// What comes next for a unit of an active build, in a base without elements: nothing where it has its outcome; else the
+/// wait for another unit, the end without a run, or its start with its script. Fails only where memory runs out.
+///
+/// Takes time that grows with the rows times the unit's prerequisites, with the units times them, and with the bytes of
+/// the script.
+pub fn step(
+    alloc: Global,
+    rows: &[Row],
+    build: &ActiveBuild,
+    unit: u32,
+) -> Result<UnitStep, NoMemory>
+    requires room { length rows.now < 2 ^ 63 }
+    requires unversioned { is_unversioned (reverse rows.now) ≡ true }
+    requires unit { unit < length build.now.units }
+    requires few { length build.now.units < 2 ^ 32 }
+    requires view { IsSome (view_row (first_rows build.now.rows (reverse rows.now)) build.now.view) }
+    ensures { IfOk result (λ step. IsStep (reverse rows.now) build.now unit step) }
+{
+    if build.has_outcome(unit) {
+        return Ok(UnitStep::Settled);
+    }
+    let rows = first_rows(rows, build.rows());
+    next(alloc, rows, build, &build.units()[unit as usize])
+}
