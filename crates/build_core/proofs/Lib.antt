@@ -6,6 +6,7 @@ pub mod RunsEach
 pub mod RunsEnded
 pub mod RunsEntries
 pub mod RunsFormed
+pub mod RunsHere
 pub mod RunsRead
 pub mod RunsReady
 pub mod RunsScripts

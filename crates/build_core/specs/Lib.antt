@@ -1,5 +1,6 @@
 pub mod Comes
 pub mod Sights
-pub mod Slots
 pub mod SlotLaws
+pub mod Slots
+pub mod UnitSights
 pub mod UnitSteps

@@ -11,6 +11,7 @@
 
 mod active;
 mod plans;
+mod runs;
 mod sights;
 mod steps;
 #[cfg(test)]
@@ -18,5 +19,6 @@ mod tests;
 
 pub use active::{ActiveBuild, Came};
 pub use plans::{graph, plan};
+pub use runs::run_unit;
 pub use sights::{fetch, visible};
 pub use steps::{UnitStep, step};
