@@ -3,6 +3,7 @@ pub mod Comes
 pub mod Plans
 pub mod SightLaws
 pub mod Sights
-pub mod Slots
 pub mod SlotLaws
+pub mod Slots
+pub mod UnitSights
 pub mod UnitSteps

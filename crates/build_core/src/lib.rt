@@ -13,6 +13,7 @@ mod active;
 mod begins;
 mod plans;
 mod replies;
+mod runs;
 mod sights;
 mod steps;
 #[cfg(test)]
@@ -22,5 +23,6 @@ pub use active::{ActiveBuild, Came};
 pub use begins::plan_build;
 pub use plans::{graph, plan};
 pub use replies::reply_of;
+pub use runs::run_unit;
 pub use sights::{fetch, visible};
 pub use steps::{UnitStep, step};

@@ -1,0 +1,90 @@
+-- The row that a unit's run publishes has the form of a row.
+use Rattle.std.proofs.Common.{◌≡◌, refl, ap, subst, ℕ, ◌≤◌, Bool, true, false, Some, Result, Ok, Err, is_some, List, [], ◌∷◌, length, arith}
+use Rattle.std.proofs.lemmas.Bool.Decides.{nat_tests}
+use Rattle.std.specs.List.{AllByRecursion}
+use Rattle.cc_names.specs.Formed.{IsText, IsBelowRoot, IsListOf, AreEntries, AreTargets, IsDeedFormed}
+use Rattle.cc_names.specs.Names.{IsName}
+use Rattle.cc_names.specs.Paths.{IsPath, root, is_root}
+use Rattle.cc_names.specs.declared.refusals.ScriptFault.{ScriptFault}
+use Rattle.cc_names.specs.declared.rows.Deed.{Deed}
+use Rattle.cc_names.specs.declared.rows.Deed.TheVariants as deeds
+use Rattle.cc_names.specs.declared.units.Unit.{Unit}
+use Rattle.legal_history.specs.Base.{Base, size, first_rows}
+use Rattle.legal_history.specs.Builds.{Build}
+use Rattle.legal_history.specs.Choices.{entries, here, publish_by, publish_of, text_of_row, visible}
+use Rattle.legal_history.specs.Fits.{row_limit, is_base}
+use Rattle.legal_history.specs.Fresh.{script_text}
+use Rattle.build_core.proofs.RunsEach.{each_so}
+use Rattle.build_core.proofs.RunsEnded.{AreOutputs, outputs_short, reads_found}
+use Rattle.build_core.proofs.RunsEntries.{entries_formed}
+use Rattle.build_core.proofs.RunsRead.{reads_few, reads_are_paths}
+use Rattle.build_core.proofs.RunsSeen.{HasObjects, seen_is_below, nothing_at_root}
+
+-- What a unit's run needs to publish a formed row: a view with a name, formed targets, a script within the limit, no more
+-- rows than a base may have, reference rows that are a base, and objects of the base alone.
+pub record CanPublish (b : Base) (build : Build) (unit : Unit) : Type 0 where
+  pub view : IsName build.view
+  pub targets : AreTargets unit.targets
+  pub script : length (script_text unit.script) ≤ 65536
+  pub room : size b ≤ row_limit
+  pub base : is_base (first_rows build.rows b) ≡ true
+  pub objects : HasObjects b build
+
+-- the root is one path
+the_root : (path : List ℕ) → is_root path ≡ true → path ≡ root
+the_root [] h = absurd (cc)
+the_root (b ∷ []) h = let same : b ≡ 46 = grind (arith, nat_tests) in ap (λ byte. byte ∷ []) same
+the_root (b ∷ c ∷ path) h = absurd (cc)
+
+-- a path with a text is not the root
+found_below : (b : Base) (build : Build) (n : ℕ) (unit : Unit) (path : List ℕ) → HasObjects b build → is_some (text_of_row b path (visible b build n unit path)) ≡ true → IsPath path → IsBelowRoot path
+found_below b build n unit path h found is_path = (is_path, by (is_root path) refl)
+  where
+    by : (t : Bool) → is_root path ≡ t → t ≡ false
+    by false is = refl
+    by true is = absurd (
+        let nothing = ap (text_of_row b root) (nothing_at_root b build n unit h) in
+        let something = subst (λ p. is_some (text_of_row b p (visible b build n unit p)) ≡ true) (the_root path is) found in
+        cc)
+
+-- so none of the paths with a text is
+each_below : (b : Base) (build : Build) (n : ℕ) (unit : Unit) (reads : List (List ℕ)) → HasObjects b build → AllByRecursion (λ path. is_some (text_of_row b path (visible b build n unit path)) ≡ true) reads →
+    AllByRecursion IsPath reads → AllByRecursion IsBelowRoot reads
+each_below b build n unit [] h found are = tt
+each_below b build n unit (path ∷ reads) h found are = (found_below b build n unit path h found.0 are.0, each_below b build n unit reads h found.1 are.1)
+
+reads_formed : (b : Base) (build : Build) (n : ℕ) (unit : Unit) (outputs : List (List ℕ)) → CanPublish b build unit → (here b build n unit).result ≡ Ok outputs →
+    AreEntries (entries (visible b build n unit) (here b build n unit).reads)
+reads_formed b build n unit outputs h ran =
+    entries_formed (visible b build n unit) (here b build n unit).reads
+    (λ path row is. let low = seen_is_below b build n unit path row h.base h.objects is in let room = h.room in omega arith)
+    (each_below b build n unit (here b build n unit).reads h.objects
+    (reads_found (script_text unit.script) unit.targets (λ path. text_of_row b path (visible b build n unit path)) outputs ran)
+    (reads_are_paths (script_text unit.script) unit.targets (λ path. text_of_row b path (visible b build n unit path))))
+    (let few = reads_few (script_text unit.script) unit.targets (λ path. text_of_row b path (visible b build n unit path)) in let short = h.script in omega arith)
+
+outputs_formed : (targets outputs : List (List ℕ)) → AreTargets targets → AreOutputs targets outputs → IsListOf IsText outputs
+outputs_formed targets outputs are h = (
+  (let few = are.0.0 in let many = h.many in omega arith),
+  each_so (λ output. length output ≤ 1048576) IsText (λ output short. omega arith) outputs h.short,
+)
+
+-- The deed of a unit's run that succeeds is formed.
+pub publish_is_formed : (b : Base) (build : Build) (n : ℕ) (unit : Unit) (outputs : List (List ℕ)) → CanPublish b build unit → (here b build n unit).result ≡ Ok outputs →
+    IsDeedFormed (deeds.Publish build.view unit.targets (script_text unit.script) (entries (visible b build n unit) (here b build n unit).reads) outputs)
+publish_is_formed b build n unit outputs h ran =
+    let are = outputs_short (script_text unit.script) unit.targets (λ path. text_of_row b path (visible b build n unit path)) outputs ran in (
+      (h.view, h.targets, (let short = h.script in omega arith), reads_formed b build n unit outputs h ran, are.many),
+      outputs_formed unit.targets outputs h.targets are,
+    )
+
+-- So is the deed that a unit would publish.
+pub published_is_formed : (b : Base) (build : Build) (n : ℕ) (unit : Unit) (deed : Deed) → CanPublish b build unit → publish_of b build n unit ≡ Some deed → IsDeedFormed deed
+published_is_formed b build n unit deed h is = by (here b build n unit).result refl is
+  where
+    by : (r : Result (List (List ℕ)) ScriptFault) → (here b build n unit).result ≡ r →
+        publish_by build unit (entries (visible b build n unit) (here b build n unit).reads) r ≡ Some deed → IsDeedFormed deed
+    by (Err fault) ran is = absurd (cc)
+    by (Ok outputs) ran is =
+        let same : deeds.Publish build.view unit.targets (script_text unit.script) (entries (visible b build n unit) (here b build n unit).reads) outputs ≡ deed = cc in
+        subst IsDeedFormed same (publish_is_formed b build n unit outputs h ran)

@@ -1,0 +1,50 @@
+-- A run over the files of a unit is the unit's run.
+use Rattle.std.proofs.Common.{◌≡◌, refl, ap, sym, ◌∙◌, ℕ, Option, Some, None, Result, Ok, List, [], ◌∷◌, option_map, option_and_then}
+use Rattle.std.specs.List.{AllByRecursion}
+use Rattle.cc_names.specs.declared.refusals.ScriptFault.{ScriptFault}
+use Rattle.cc_names.specs.declared.units.Unit.{Unit}
+use Rattle.build_script.proofs.FrameLemmas.{traced_same}
+use Rattle.build_script.specs.Lines.{script_of}
+use Rattle.build_script.specs.Run.{Files, Asking, Ran, carried_out, run_of, run_of_lines, traced}
+use Rattle.build_script.specs.Standings.{text_of, texts}
+use Rattle.build_script.specs.declared.lines.Line.{Line}
+use Rattle.legal_history.specs.Base.{Base}
+use Rattle.legal_history.specs.Builds.{Build, unit_at}
+use Rattle.legal_history.specs.Choices.{here, text_of_row, visible}
+use Rattle.legal_history.specs.Fresh.{script_text}
+use Rattle.legal_history.specs.Texts.{text}
+use Rattle.build_core.specs.Sights.{standing_of, stands}
+use Rattle.build_core.specs.UnitSights.{standing_at}
+
+each_holds : (P : List ℕ → Type 0) → ((path : List ℕ) → P path) → (paths : List (List ℕ)) → AllByRecursion P paths
+each_holds P holds [] = tt
+each_holds P holds (path ∷ paths) = (holds path, each_holds P holds paths)
+
+-- files with the same texts have the same runs
+carried_same : (one other : Files) (asking : Asking (Result (List (List ℕ)) ScriptFault)) → ((path : List ℕ) → one path ≡ other path) → carried_out one asking ≡ carried_out other asking
+carried_same one other asking same =
+    ap (λ t. record { result = t.value; reads = t.reads })
+    (traced_same one other [] asking (each_holds (λ path. one path ≡ other path) same (traced one [] asking).reads))
+
+-- the text of what stands where a row was seen
+text_standing : (b : Base) (path : List ℕ) (row : Option ℕ) → option_map text_of (option_and_then (standing_of b path) row) ≡ text_of_row b path row
+text_standing b path None = refl
+text_standing b path (Some row) = by (text b row path)
+  where
+    by : (o : Option (List ℕ)) → option_map text_of (option_map (λ bytes. record { row = row; text = bytes }) o) ≡ o
+    by None = refl
+    by (Some bytes) = refl
+
+texts_standing : (b : Base) (build : Build) (n : ℕ) (unit : Unit) → unit_at build n ≡ Some unit → (path : List ℕ) →
+    texts (standing_at b build n) path ≡ text_of_row b path (visible b build n unit path)
+texts_standing b build n unit is path =
+    ap (λ o. option_map text_of (option_and_then (λ it. stands b build n it path) o)) is ∙ text_standing b path (visible b build n unit path)
+
+-- What a run of the unit's script came to over its files is what the unit's run comes to.
+pub runs_here : (b : Base) (build : Build) (n : ℕ) (unit : Unit) (lines : List Line) (targets : List (List ℕ)) (ran : Ran) → unit_at build n ≡ Some unit → script_of (script_text unit.script) ≡ Ok lines → targets ≡ unit.targets →
+    ran ≡ carried_out (texts (standing_at b build n)) (run_of_lines targets lines) → ran ≡ here b build n unit
+runs_here b build n unit lines targets ran is read same came =
+    came
+    ∙ carried_same (texts (standing_at b build n)) (λ path. text_of_row b path (visible b build n unit path)) (run_of_lines targets lines) (texts_standing b build n unit is)
+    ∙ ap (λ ts. carried_out (λ path. text_of_row b path (visible b build n unit path)) (run_of ts (Ok lines))) same
+    ∙ ap (λ r. carried_out (λ path. text_of_row b path (visible b build n unit path)) (run_of unit.targets r)) (sym read)

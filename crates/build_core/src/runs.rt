@@ -1,0 +1,88 @@
+// The run of a unit's script, over the files that the unit sees.
+
+ghost use Rattle.std.specs.Prelude.{◌≡◌, ◌<◌, ◌^◌, true, Some, Ok, length, reverse, IfOk, IsSome};
+ghost use Rattle.cc_names.specs.declared.units.Unit as units;
+ghost use Rattle.build_script.specs.Ended.{ran_of};
+ghost use Rattle.build_script.specs.Lines.{script_of};
+ghost use Rattle.legal_history.specs.Base.{first_rows};
+ghost use Rattle.legal_history.specs.Builds.{unit_at};
+ghost use Rattle.legal_history.specs.Choices.{here};
+ghost use Rattle.legal_history.specs.Fresh.{script_text};
+ghost use Rattle.legal_history.specs.Views.{view_row};
+ghost use Rattle.view_lookup.specs.Unversioned.{is_unversioned};
+
+use crate::active::ActiveBuild;
+use crate::sights::fetch;
+use build_script::files::{Files, Got, Stop};
+use build_script::outcomes::Ended;
+use build_script::run::run;
+use build_script::scripts::Script;
+use cc_names::memory::{NoMemory, Or};
+use cc_names::paths::Path;
+use cc_names::rows::Row;
+use std::alloc::Global;
+
+/// The files that the script of a unit sees.
+#[derive(Drop)]
+struct UnitFiles<'a> {
+    alloc: Global,
+    rows: &'a [Row],
+    build: &'a ActiveBuild,
+    unit: u32,
+    ghost room: { length rows.now < 2 ^ 63 },
+    ghost unversioned: { is_unversioned (reverse rows.now) ≡ true },
+    ghost within: { unit < length build.now.units },
+    ghost view: { IsSome (view_row (first_rows build.now.rows (reverse rows.now)) build.now.view) },
+}
+
+impl Files for UnitFiles<'_> {
+    ghost use Rattle.std.specs.Prelude.{reverse};
+    ghost use Rattle.build_core.specs.UnitSights.{standing_at};
+
+    ghost stands = { λ files. standing_at (reverse files.rows.now) files.build.now files.unit };
+
+    ghost broken = { λ files. 0 };
+
+    ghost follows = { λ before after. Unit {0} };
+
+    fn read(&mut self, path: &Path) -> Got {
+        fetch(self.alloc, self.rows, self.build, self.unit, path)
+    }
+
+    ghost reflexive = { λ files. tt };
+
+    ghost transitive = { λ one two three first second. tt };
+}
+
+/// Runs the script of a unit over what the unit sees, in a base without elements. The script and the targets are those
+/// of the unit. Fails only where memory runs out.
+///
+/// Takes what `run` takes, and for each path that it reads a walk over the rows and one over the units.
+pub fn run_unit(
+    alloc: Global,
+    rows: &[Row],
+    build: &ActiveBuild,
+    unit: u32,
+    script: &Script,
+    targets: &[Path],
+) -> Result<Ended, NoMemory>
+    requires room { length rows.now < 2 ^ 63 }
+    requires unversioned { is_unversioned (reverse rows.now) ≡ true }
+    requires unit { unit < length build.now.units }
+    requires view { IsSome (view_row (first_rows build.now.rows (reverse rows.now)) build.now.view) }
+    requires script { (it : units.Unit) → unit_at build.now unit ≡ Some it → script_of (script_text it.script) ≡ Ok script.now }
+    requires targets { (it : units.Unit) → unit_at build.now unit ≡ Some it → targets.now ≡ it.targets }
+    ensures { (it : units.Unit) → unit_at build.now unit ≡ Some it → IfOk result (λ ended. ran_of ended ≡ here (reverse rows.now) build.now unit it) }
+{
+    let mut files = UnitFiles {
+        alloc,
+        rows,
+        build,
+        unit,
+    };
+    match run(alloc, script, targets, &mut files) {
+        Ok(ended) => Ok(ended),
+        Err(Or::NoMemory) => Err(NoMemory),
+        Err(Or::Is(Stop::Broken)) => unreachable!(),
+    }
+}
