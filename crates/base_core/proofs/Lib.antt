@@ -1,6 +1,7 @@
 pub mod Beginning
 pub mod Closing
 pub mod Finishing
+pub mod Goings
 pub mod Growing
 pub mod Idle
 pub mod Lanes

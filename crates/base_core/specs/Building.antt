@@ -31,6 +31,7 @@ pub record IsNextBuild (s : State) (build : Build) : Type 0 where
   pub of_next : IsNextTag s build.tag
   pub made : decided s build.tag ≡ Some (Ok (Begins build.units))
   pub begins : begun s build.tag ≡ Some build
+  pub at_rows : build.rows ≡ size s.base
   pub kept : IsBuildKept s build.tag.lane build
   pub room : reserved s.active + length build.units ≤ row_limit
 

@@ -1,0 +1,33 @@
+-- How stories go on: not at all, by one step, and by one way after another.
+use Rattle.std.proofs.Common.{◌≡◌, ℕ, true, Some, List, [], ◌∷◌, ◌++◌, refl, ap, ap₂, sym, subst, ◌∙◌}
+use Rattle.std.proofs.lemmas.List.{append-nil}
+use Rattle.std.proofs.Common.{append_assoc}
+use Rattle.cc_names.specs.declared.steps.Told.{Told}
+use Rattle.legal_history.specs.Builds.{Build, build_of, came_to, is_outcome}
+use Rattle.legal_history.specs.Steps.{state_of}
+use Rattle.base_core.specs.Going.{SamePhase, StillBuilds, GoesOn, HasOutcome}
+
+-- a story that does not go on
+pub goes_nowhere : (story : List Told) (lane : ℕ) → GoesOn story story lane
+goes_nowhere story lane = record {
+  steps = [];
+  grows = sym (append-nil story);
+  phase = record { phase = refl; number = refl; moment = refl };
+  done = refl;
+  still = λ build is. record { build = build; active = is; units = refl; outcomes = λ n e. e };
+}
+
+-- one way after another
+pub goes_further : (one two three : List Told) (lane : ℕ) → GoesOn one two lane → GoesOn two three lane → GoesOn one three lane
+goes_further one two three lane h g = record {
+  steps = h.steps ++ g.steps;
+  grows = g.grows ∙ ap (λ s. s ++ g.steps) h.grows ∙ append_assoc one h.steps g.steps;
+  phase = record { phase = g.phase.phase ∙ h.phase.phase; number = g.phase.number ∙ h.phase.number; moment = g.phase.moment ∙ h.phase.moment };
+  done = g.done ∙ h.done;
+  still = λ build is. after build (h.still build is);
+}
+  where
+  after : (build : Build) → StillBuilds (state_of two) lane build → StillBuilds (state_of three) lane build
+  after build a =
+      let b = g.still a.build a.active in
+      record { build = b.build; active = b.active; units = b.units ∙ a.units; outcomes = λ n e. b.outcomes n (a.outcomes n e) }
