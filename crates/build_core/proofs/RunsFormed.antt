@@ -18,17 +18,8 @@ use Rattle.build_core.proofs.RunsEach.{each_so}
 use Rattle.build_core.proofs.RunsEnded.{AreOutputs, outputs_short, reads_found}
 use Rattle.build_core.proofs.RunsEntries.{entries_formed}
 use Rattle.build_core.proofs.RunsRead.{reads_few, reads_are_paths}
-use Rattle.build_core.proofs.RunsSeen.{HasObjects, seen_is_below, nothing_at_root}
-
--- What a unit's run needs to publish a formed row: a view with a name, formed targets, a script within the limit, no more
--- rows than a base may have, reference rows that are a base, and objects of the base alone.
-pub record CanPublish (b : Base) (build : Build) (unit : Unit) : Type 0 where
-  pub view : IsName build.view
-  pub targets : AreTargets unit.targets
-  pub script : length (script_text unit.script) ≤ 65536
-  pub room : size b ≤ row_limit
-  pub base : is_base (first_rows build.rows b) ≡ true
-  pub objects : HasObjects b build
+use Rattle.build_core.proofs.RunsSeen.{seen_is_below, nothing_at_root}
+use Rattle.build_core.specs.Publishing.{HasObjects, CanPublish}
 
 -- the root is one path
 the_root : (path : List ℕ) → is_root path ≡ true → path ≡ root

@@ -1,4 +1,6 @@
+pub mod BuildForms
 pub mod Comes
+pub mod Publishing
 pub mod Sights
 pub mod SlotLaws
 pub mod Slots

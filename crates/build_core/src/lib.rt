@@ -10,7 +10,9 @@
 #![tactic(auto)]
 
 mod active;
+mod laws;
 mod plans;
+mod publishes;
 mod runs;
 mod sights;
 mod steps;
@@ -18,7 +20,9 @@ mod steps;
 mod tests;
 
 pub use active::{ActiveBuild, Came};
+pub use laws::{a_unit_may_publish, units_are_formed};
 pub use plans::{graph, plan};
+pub use publishes::publish_row;
 pub use runs::run_unit;
 pub use sights::{fetch, visible};
 pub use steps::{UnitStep, step};
