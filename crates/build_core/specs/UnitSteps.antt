@@ -32,6 +32,7 @@ first_awaited build (path ∷ paths) = option_or (awaited build (unit_with build
 pub record Awaits (build : Build) (unit : Unit) (m : ℕ) : Type 0 where
   pub first : first_awaited build unit.prerequisites ≡ Some m
   pub within : m < length build.units
+  pub waits : is_outcome (came_to build m) ≡ false
 
 -- the unit ends without a run, where its build's reference rows are these
 pub record EndsEarly (rows : Base) (build : Build) (unit : Unit) (end : UnitEnd) : Type 0 where

@@ -5,7 +5,7 @@ ghost use Rattle.cc_names.specs.Answers.{Gives};
 ghost use Rattle.cc_names.specs.Paths.{is_root};
 ghost use Rattle.build_script.specs.Lines.{script_of};
 ghost use Rattle.legal_history.specs.Base.{first_rows};
-ghost use Rattle.legal_history.specs.Builds.{number_from};
+ghost use Rattle.legal_history.specs.Builds.{came_to, is_outcome, number_from};
 ghost use Rattle.legal_history.specs.Closures.{is_among};
 ghost use Rattle.legal_history.specs.FileLines.{parent};
 ghost use Rattle.legal_history.specs.Fresh.{script_text, sees_file};
@@ -67,6 +67,7 @@ fn first_awaited(build: &ActiveBuild, paths: &[Path]) -> Option<u32>
     requires { length build.now.units < 2 ^ 32 }
     ensures first { result ≡ first_awaited build.now paths.now }
     ensures within { IfSome result (λ m. m < length build.now.units) }
+    ensures waits { IfSome result (λ m. is_outcome (came_to build.now m) ≡ false) }
 {
     for path in paths {
         if let Some(number) = number_of(build.units(), path) {
