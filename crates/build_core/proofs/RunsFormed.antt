@@ -3,16 +3,14 @@ use Rattle.std.proofs.Common.{◌≡◌, refl, ap, subst, ℕ, ◌≤◌, Bool, 
 use Rattle.std.proofs.lemmas.Bool.Decides.{nat_tests}
 use Rattle.std.specs.List.{AllByRecursion}
 use Rattle.cc_names.specs.Formed.{IsText, IsBelowRoot, IsListOf, AreEntries, AreTargets, IsDeedFormed}
-use Rattle.cc_names.specs.Names.{IsName}
 use Rattle.cc_names.specs.Paths.{IsPath, root, is_root}
 use Rattle.cc_names.specs.declared.refusals.ScriptFault.{ScriptFault}
 use Rattle.cc_names.specs.declared.rows.Deed.{Deed}
 use Rattle.cc_names.specs.declared.rows.Deed.TheVariants as deeds
 use Rattle.cc_names.specs.declared.units.Unit.{Unit}
-use Rattle.legal_history.specs.Base.{Base, size, first_rows}
+use Rattle.legal_history.specs.Base.{Base}
 use Rattle.legal_history.specs.Builds.{Build}
 use Rattle.legal_history.specs.Choices.{entries, here, publish_by, publish_of, text_of_row, visible}
-use Rattle.legal_history.specs.Fits.{row_limit, is_base}
 use Rattle.legal_history.specs.Fresh.{script_text}
 use Rattle.build_core.proofs.RunsEach.{each_so}
 use Rattle.build_core.proofs.RunsEnded.{AreOutputs, outputs_short, reads_found}

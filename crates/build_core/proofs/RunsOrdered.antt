@@ -33,7 +33,7 @@ pub one_more : (rows : List ℕ → Option ℕ) (reads : List (List ℕ)) (i : �
 one_more rows reads i path o before after within some at seen stood put_in =
     let next : suc (i - 1) ≡ i = omega arith in
     let front : drop (i - 1) reads ≡ path ∷ drop i reads =
-        drop-cons reads (i - 1) path within ∙ ap (λ p. p ∷ drop (suc (i - 1)) reads) (sym at) ∙ ap (λ n. path ∷ drop n reads) next in
+    drop-cons reads (i - 1) path within ∙ ap (λ p. p ∷ drop (suc (i - 1)) reads) (sym at) ∙ ap (λ n. path ∷ drop n reads) next in
     put_in
     ∙ inserted path (unwrap_or o 0) before
     ∙ ap (λ row. put (slice_cmp nat_cmp) path row before) (row_is o ∙ ap entry_row seen)

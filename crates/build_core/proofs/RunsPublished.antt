@@ -1,9 +1,8 @@
 -- The row that is made of what a run gave is the one that the unit publishes, and has the form of a row.
-use Rattle.std.proofs.Common.{◌≡◌, ap, sym, subst, ◌∙◌, ℕ, zero, suc, ◌<◌, Some, Ok, List, [], ◌∷◌, length, map, get_or, slice_get, arith}
+use Rattle.std.proofs.Common.{◌≡◌, ap, sym, ◌∙◌, ℕ, zero, suc, ◌<◌, Some, List, [], ◌∷◌, length, map, get_or, slice_get, arith}
 use Rattle.cc_names.specs.Formed.{Plain, IsDeedFormed}
 use Rattle.cc_names.specs.declared.rows.Deed.{Deed}
 use Rattle.cc_names.specs.declared.rows.Deed.TheVariants as deeds
-use Rattle.cc_names.specs.declared.rows.ReadOf.{ReadOf}
 use Rattle.cc_names.specs.declared.units.Unit.{Unit}
 use Rattle.legal_history.specs.Base.{Base}
 use Rattle.legal_history.specs.Builds.{Build}

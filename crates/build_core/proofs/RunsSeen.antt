@@ -10,7 +10,7 @@ use Rattle.cc_names.specs.declared.rows.Kind.TheVariants.{Directory}
 use Rattle.cc_names.specs.declared.selection.Picked.{Picked}
 use Rattle.cc_names.specs.declared.units.Unit.{Unit}
 use Rattle.legal_history.specs.Base.{Base, size, first_rows, only_where}
-use Rattle.legal_history.specs.Builds.{Build, came_to, object_of, unit_at}
+use Rattle.legal_history.specs.Builds.{Build, object_of, unit_at}
 use Rattle.legal_history.specs.Changes.{tree}
 use Rattle.legal_history.specs.Choices.{Member, unit_of_member, members_before, object_among, visible}
 use Rattle.legal_history.specs.Closures.{is_among}

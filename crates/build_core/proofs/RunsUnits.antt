@@ -1,5 +1,5 @@
 -- The units of a build are formed: their targets are below the root, each once, and their scripts within the limit.
-use Rattle.std.proofs.Common.{◌≡◌, refl, subst, ℕ, ◌+◌, ◌≤◌, ◌||◌, nat_lt, Bool, true, false, cond, Option, Some, None, Result, Ok, Err, is_some, List, [], ◌∷◌, length, map, filter, find, flat_map, if◌then◌else◌, arith}
+use Rattle.std.proofs.Common.{◌≡◌, refl, subst, ℕ, ◌+◌, ◌||◌, nat_lt, Bool, true, false, cond, Option, Some, None, Result, Ok, Err, is_some, List, [], ◌∷◌, length, map, filter, find, flat_map, if◌then◌else◌, arith}
 use Rattle.std.proofs.lemmas.Bool.{ltb-false}
 use Rattle.std.specs.List.{AllByRecursion, IsDistinct, list_any, before_first, after_first}
 use Rattle.std.specs.Result.{result_ok}

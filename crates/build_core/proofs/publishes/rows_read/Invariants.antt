@@ -1,4 +1,4 @@
-use Rattle.std.proofs.Common.{◌≡◌, ◌≤◌, Some, drop, length, reverse}
+use Rattle.std.proofs.Common.{◌≡◌, Some, drop, reverse}
 use Rattle.cc_names.specs.declared.units.Unit as units
 use Rattle.legal_history.specs.Builds.{unit_at}
 use Rattle.legal_history.specs.Choices.{in_order, visible}
