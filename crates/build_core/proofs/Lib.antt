@@ -8,6 +8,8 @@ pub mod RunsEnded
 pub mod RunsEntries
 pub mod RunsFormed
 pub mod RunsHere
+pub mod RunsOrdered
+pub mod RunsPublished
 pub mod RunsRead
 pub mod RunsReady
 pub mod RunsScripts

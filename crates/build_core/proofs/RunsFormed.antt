@@ -3,32 +3,21 @@ use Rattle.std.proofs.Common.{◌≡◌, refl, ap, subst, ℕ, ◌≤◌, Bool, 
 use Rattle.std.proofs.lemmas.Bool.Decides.{nat_tests}
 use Rattle.std.specs.List.{AllByRecursion}
 use Rattle.cc_names.specs.Formed.{IsText, IsBelowRoot, IsListOf, AreEntries, AreTargets, IsDeedFormed}
-use Rattle.cc_names.specs.Names.{IsName}
 use Rattle.cc_names.specs.Paths.{IsPath, root, is_root}
 use Rattle.cc_names.specs.declared.refusals.ScriptFault.{ScriptFault}
 use Rattle.cc_names.specs.declared.rows.Deed.{Deed}
 use Rattle.cc_names.specs.declared.rows.Deed.TheVariants as deeds
 use Rattle.cc_names.specs.declared.units.Unit.{Unit}
-use Rattle.legal_history.specs.Base.{Base, size, first_rows}
+use Rattle.legal_history.specs.Base.{Base}
 use Rattle.legal_history.specs.Builds.{Build}
 use Rattle.legal_history.specs.Choices.{entries, here, publish_by, publish_of, text_of_row, visible}
-use Rattle.legal_history.specs.Fits.{row_limit, is_base}
 use Rattle.legal_history.specs.Fresh.{script_text}
 use Rattle.build_core.proofs.RunsEach.{each_so}
 use Rattle.build_core.proofs.RunsEnded.{AreOutputs, outputs_short, reads_found}
 use Rattle.build_core.proofs.RunsEntries.{entries_formed}
 use Rattle.build_core.proofs.RunsRead.{reads_few, reads_are_paths}
-use Rattle.build_core.proofs.RunsSeen.{HasObjects, seen_is_below, nothing_at_root}
-
--- What a unit's run needs to publish a formed row: a view with a name, formed targets, a script within the limit, no more
--- rows than a base may have, reference rows that are a base, and objects of the base alone.
-pub record CanPublish (b : Base) (build : Build) (unit : Unit) : Type 0 where
-  pub view : IsName build.view
-  pub targets : AreTargets unit.targets
-  pub script : length (script_text unit.script) ≤ 65536
-  pub room : size b ≤ row_limit
-  pub base : is_base (first_rows build.rows b) ≡ true
-  pub objects : HasObjects b build
+use Rattle.build_core.proofs.RunsSeen.{seen_is_below, nothing_at_root}
+use Rattle.build_core.specs.Publishing.{HasObjects, CanPublish}
 
 -- the root is one path
 the_root : (path : List ℕ) → is_root path ≡ true → path ≡ root

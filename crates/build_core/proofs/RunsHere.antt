@@ -1,5 +1,5 @@
 -- A run over the files of a unit is the unit's run.
-use Rattle.std.proofs.Common.{◌≡◌, refl, ap, sym, ◌∙◌, ℕ, Option, Some, None, Result, Ok, List, [], ◌∷◌, option_map, option_and_then}
+use Rattle.std.proofs.Common.{◌≡◌, ap, sym, ◌∙◌, ℕ, Some, Result, Ok, List, [], ◌∷◌, option_map, option_and_then}
 use Rattle.std.specs.List.{AllByRecursion}
 use Rattle.cc_names.specs.declared.refusals.ScriptFault.{ScriptFault}
 use Rattle.cc_names.specs.declared.units.Unit.{Unit}
@@ -12,8 +12,8 @@ use Rattle.legal_history.specs.Base.{Base}
 use Rattle.legal_history.specs.Builds.{Build, unit_at}
 use Rattle.legal_history.specs.Choices.{here, text_of_row, visible}
 use Rattle.legal_history.specs.Fresh.{script_text}
-use Rattle.legal_history.specs.Texts.{text}
-use Rattle.build_core.specs.Sights.{standing_of, stands}
+use Rattle.build_core.specs.SightLaws.{texts_seen}
+use Rattle.build_core.specs.Sights.{stands}
 use Rattle.build_core.specs.UnitSights.{standing_at}
 
 each_holds : (P : List ℕ → Type 0) → ((path : List ℕ) → P path) → (paths : List (List ℕ)) → AllByRecursion P paths
@@ -26,19 +26,11 @@ carried_same one other asking same =
     ap (λ t. record { result = t.value; reads = t.reads })
     (traced_same one other [] asking (each_holds (λ path. one path ≡ other path) same (traced one [] asking).reads))
 
--- the text of what stands where a row was seen
-text_standing : (b : Base) (path : List ℕ) (row : Option ℕ) → option_map text_of (option_and_then (standing_of b path) row) ≡ text_of_row b path row
-text_standing b path None = refl
-text_standing b path (Some row) = by (text b row path)
-  where
-    by : (o : Option (List ℕ)) → option_map text_of (option_map (λ bytes. record { row = row; text = bytes }) o) ≡ o
-    by None = refl
-    by (Some bytes) = refl
-
+-- the texts of what stands are those of the rows that are seen
 texts_standing : (b : Base) (build : Build) (n : ℕ) (unit : Unit) → unit_at build n ≡ Some unit → (path : List ℕ) →
     texts (standing_at b build n) path ≡ text_of_row b path (visible b build n unit path)
 texts_standing b build n unit is path =
-    ap (λ o. option_map text_of (option_and_then (λ it. stands b build n it path) o)) is ∙ text_standing b path (visible b build n unit path)
+    ap (λ o. option_map text_of (option_and_then (λ it. stands b build n it path) o)) is ∙ texts_seen b build n unit path
 
 -- What a run of the unit's script came to over its files is what the unit's run comes to.
 pub runs_here : (b : Base) (build : Build) (n : ℕ) (unit : Unit) (lines : List Line) (targets : List (List ℕ)) (ran : Ran) → unit_at build n ≡ Some unit → script_of (script_text unit.script) ≡ Ok lines → targets ≡ unit.targets →

@@ -10,7 +10,7 @@ use Rattle.cc_names.specs.declared.rows.Kind.TheVariants.{Directory}
 use Rattle.cc_names.specs.declared.selection.Picked.{Picked}
 use Rattle.cc_names.specs.declared.units.Unit.{Unit}
 use Rattle.legal_history.specs.Base.{Base, size, first_rows, only_where}
-use Rattle.legal_history.specs.Builds.{Build, came_to, object_of, unit_at}
+use Rattle.legal_history.specs.Builds.{Build, object_of, unit_at}
 use Rattle.legal_history.specs.Changes.{tree}
 use Rattle.legal_history.specs.Choices.{Member, unit_of_member, members_before, object_among, visible}
 use Rattle.legal_history.specs.Closures.{is_among}
@@ -20,6 +20,7 @@ use Rattle.legal_history.specs.Serials.{makes, needed}
 use Rattle.legal_history.proofs.FilesBelow.{beyond, file_is_below}
 use Rattle.legal_history.proofs.Pairs.{member_of, pairs_before, with_pair, members_paired}
 use Rattle.legal_history.proofs.VersionsStay.{kind_stays}
+use Rattle.build_core.specs.Publishing.{HasObjects}
 
 -- the root is a directory, so a view sees no file there
 root_kind : (b : Base) → kind_of (tree b) 0 ≡ Some Directory
@@ -45,12 +46,7 @@ root_among (path ∷ paths) h = by (bytes_eq root path) refl (root_among paths h
 pub makes_no_root : (unit : Unit) → AreTargets unit.targets → makes root unit ≡ false
 makes_no_root unit h = root_among unit.targets h.0.1
 
--- A build whose units have no target at the root, and objects of the base alone.
-pub record HasObjects (b : Base) (build : Build) : Type 0 where
-  pub rootless : (m : ℕ) (unit : Unit) → unit_at build m ≡ Some unit → makes root unit ≡ false
-  pub below : (m : ℕ) (unit : Unit) (id : ℕ) → unit_at build m ≡ Some unit → object_of (came_to build m) ≡ Some id → id < size b
-
--- one of its units
+-- a unit without a target at the root, and an object of the base alone
 record Fits (b : Base) (member : Member) : Type 0 where
   rootless : makes root member.unit ≡ false
   below : (id : ℕ) → object_of member.came ≡ Some id → id < size b

@@ -1,5 +1,5 @@
 -- The units of a build are formed: their targets are below the root, each once, and their scripts within the limit.
-use Rattle.std.proofs.Common.{◌≡◌, refl, subst, ℕ, ◌+◌, ◌≤◌, ◌||◌, nat_lt, Bool, true, false, cond, Option, Some, None, Result, Ok, Err, is_some, List, [], ◌∷◌, length, map, filter, find, flat_map, if◌then◌else◌, arith}
+use Rattle.std.proofs.Common.{◌≡◌, refl, subst, ℕ, ◌+◌, ◌||◌, nat_lt, Bool, true, false, cond, Option, Some, None, Result, Ok, Err, is_some, List, [], ◌∷◌, length, map, filter, find, flat_map, if◌then◌else◌, arith}
 use Rattle.std.proofs.lemmas.Bool.{ltb-false}
 use Rattle.std.specs.List.{AllByRecursion, IsDistinct, list_any, before_first, after_first}
 use Rattle.std.specs.Result.{result_ok}
@@ -16,7 +16,7 @@ use Rattle.make_text.specs.Makefiles.{path_in, unless_root, path_before, paths_o
 use Rattle.make_text.specs.Units.{Files, script_limit, expanded, script_of_unit, unit_of, wanted, goals_of, missing_goal, unless_source, unless_missing, graph_of, made_by, unless_refused, units_of, units_at, units, main_file}
 use Rattle.make_text.specs.declared.makefiles.Expanded.TheVariants as expansions
 use Rattle.make_text.specs.declared.rules.MakeRule.{MakeRule}
-use Rattle.legal_history.specs.Fresh.{script_text}
+use Rattle.build_core.specs.BuildForms.{IsShort, IsUnitFormed}
 
 -- a word that is read as a path below the root is one
 word_below : (word path : List ℕ) → path_in word ≡ Some path → IsBelowRoot path
@@ -88,17 +88,13 @@ rules_formed n (line ∷ more) rules h = by (is_beyond n line || is_script_line 
     by false true h rest = rest h
     by false false h rest = scripted_formed n (rule_of line) (has_script more) (below_rule (n + 1) more) rules (line_formed line) h
 
--- a unit with targets below the root and a script within the limit
-pub record IsUnitFormed (unit : Unit) : Type 0 where
-  pub targets : AreTargets unit.targets
-  pub script : length (script_text unit.script) ≤ 65536
-
-script_short : (script : Option (List ℕ)) → length (script_text (expanded script)) ≤ 65536
-script_short None = omega arith
+-- a unit's script is within the limit
+script_short : (script : Option (List ℕ)) → IsShort (expanded script)
+script_short None = tt
 script_short (Some script) = by (nat_lt script_limit (length script)) refl
   where
-    by : (t : Bool) → nat_lt script_limit (length script) ≡ t → length (script_text (script_of_unit (if t then expansions.TooLong else expansions.Lines script))) ≤ 65536
-    by true test = omega arith
+    by : (t : Bool) → nat_lt script_limit (length script) ≡ t → IsShort (script_of_unit (if t then expansions.TooLong else expansions.Lines script))
+    by true test = tt
     by false test = ltb-false _ _ test
 
 wanted_formed : (test : MakeRule → Bool) (rules : List MakeRule) → AreRules rules → AllByRecursion IsUnitFormed (map unit_of (filter test rules))
@@ -106,7 +102,7 @@ wanted_formed test [] h = tt
 wanted_formed test (rule ∷ rules) h =
     let rest = wanted_formed test rules h.1 in
     elim (test rule) as (λ (t : Bool). AllByRecursion IsUnitFormed (map unit_of (cond t (rule ∷ filter test rules) (filter test rules))))
-    [ true ↦ (record { targets = h.0; script = script_short rule.script }, rest) | false ↦ rest ]
+    [ true ↦ ((h.0, script_short rule.script), rest) | false ↦ rest ]
 
 -- units that were not refused
 source_is : (o : Option (List ℕ)) (us made : List Unit) → unless_source o us ≡ Ok made → us ≡ made

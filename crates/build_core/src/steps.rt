@@ -210,7 +210,7 @@ fn early(
 }
 
 /// The text of the unit's script, nothing where it has none.
-fn script_text(unit: &Unit) -> &[u8]
+pub(crate) fn script_text(unit: &Unit) -> &[u8]
     ensures { result.now ≡ script_text unit.now.script }
 {
     match &unit.script {

@@ -1,0 +1,24 @@
+// The laws of builds, each the contract of a function with an empty body.
+
+ghost use Rattle.std.specs.Prelude.{◌≡◌, ℕ, List, Option, Some, Ok, true};
+ghost use Rattle.std.specs.List.{AllByRecursion};
+ghost use Rattle.cc_names.specs.Names.{IsName};
+ghost use Rattle.cc_names.specs.declared.commands.Macro.{Macro};
+ghost use Rattle.cc_names.specs.declared.units.Unit.{Unit};
+ghost use Rattle.legal_history.specs.Base.{Base};
+ghost use Rattle.legal_history.specs.Builds.{Build, unit_at};
+ghost use Rattle.legal_history.specs.Fits.{is_base};
+ghost use Rattle.legal_history.specs.Freshness.{AgreesSoFar};
+ghost use Rattle.make_text.specs.Units.{Files, units};
+ghost use Rattle.build_core.specs.BuildForms.{IsUnitFormed};
+ghost use Rattle.build_core.specs.Publishing.{CanPublish};
+
+/// Each unit of a build of formed units, whose outcomes so far agree with the build from nothing, may publish.
+pub fn a_unit_may_publish()
+    ensures { (b : Base) (build : Build) (n : ℕ) (unit : Unit) → IsName build.view → AllByRecursion IsUnitFormed build.units → is_base b ≡ true → AgreesSoFar b build → unit_at build n ≡ Some unit → CanPublish b build unit }
+{}
+
+/// The units of a build are formed, over any files, makefile, macros and goals.
+pub fn units_are_formed()
+    ensures { (files : Files) (file : Option (List ℕ)) (macros : List Macro) (goals : List (List ℕ)) (made : List Unit) → units files file macros goals ≡ Ok made → AllByRecursion IsUnitFormed made }
+{}

@@ -1,0 +1,91 @@
+// The row that the run of a unit's script publishes.
+
+ghost use Rattle.std.specs.Prelude.{◌≡◌, ◌<◌, ◌≤◌, ◌^◌, true, Some, length, map, reverse, IfOk, IsSome};
+ghost use Rattle.cc_names.specs.declared.units.Unit as units;
+ghost use Rattle.legal_history.specs.Base.{first_rows};
+ghost use Rattle.legal_history.specs.Builds.{unit_at};
+ghost use Rattle.legal_history.specs.Choices.{as_entry, in_order, visible};
+ghost use Rattle.legal_history.specs.Views.{view_row};
+ghost use Rattle.view_lookup.specs.Unversioned.{is_unversioned};
+ghost use Rattle.build_core.specs.Publishing.{CanPublish, HasRun, IsPublishOf};
+
+use crate::active::ActiveBuild;
+use crate::sights::visible;
+use crate::steps::script_text;
+use cc_names::copies::Copied;
+use cc_names::lists::List;
+use cc_names::memory::NoMemory;
+use cc_names::paths::Path;
+use cc_names::rows::{Deed, ReadOf, Row};
+use cc_names::texts::Text;
+use std::alloc::Global;
+use std::collections::BTreeMap;
+
+/// The row that a unit sees at each of these paths, 0 where it sees none, in byte order of the paths.
+fn rows_read(
+    alloc: Global,
+    rows: &[Row],
+    build: &ActiveBuild,
+    unit: u32,
+    reads: &[Path],
+) -> Result<BTreeMap<Path, u64>, NoMemory>
+    requires room { length rows.now < 2 ^ 63 }
+    requires unversioned { is_unversioned (reverse rows.now) ≡ true }
+    requires unit { unit < length build.now.units }
+    requires view { IsSome (view_row (first_rows build.now.rows (reverse rows.now)) build.now.view) }
+    ensures { (it : units.Unit) → unit_at build.now unit ≡ Some it → IfOk result (λ found. found.entries ≡ in_order (visible (reverse rows.now) build.now unit it) reads.now) }
+{
+    let mut found = BTreeMap::new(alloc);
+    for index in (0..reads.len()).rev() {
+        let path = &reads[index];
+        let row = visible(alloc, rows, build, unit, path)?.unwrap_or(0);
+        found.insert(path.copy(alloc)?, row)?;
+    }
+    Ok(found)
+}
+
+/// The record of reads.
+fn entries_of(alloc: Global, found: BTreeMap<Path, u64>) -> Result<List<ReadOf>, NoMemory>
+    ensures { IfOk result (λ entries. entries ≡ map as_entry found.entries) }
+{
+    let entries = found
+        .into_iter()
+        .map(|(path, row)| ReadOf { path, row })
+        .collect(alloc)?;
+    Ok(List::of(entries))
+}
+
+/// The row that a unit of an active build publishes at this moment, in a base without elements: its run gave these
+/// outputs, and asked for these paths. Fails only where memory runs out.
+///
+/// Takes for each read a walk over the rows and one over the units, and time linear in what it copies.
+pub fn publish_row(
+    alloc: Global,
+    rows: &[Row],
+    build: &ActiveBuild,
+    unit: u32,
+    moment: u64,
+    outputs: List<Text>,
+    reads: &[Path],
+) -> Result<Row, NoMemory>
+    requires room { length rows.now < 2 ^ 63 }
+    requires unversioned { is_unversioned (reverse rows.now) ≡ true }
+    requires unit { unit < length build.now.units }
+    requires view { IsSome (view_row (first_rows build.now.rows (reverse rows.now)) build.now.view) }
+    requires moment { moment ≤ 253402300799 }
+    requires formed { (it : units.Unit) → unit_at build.now unit ≡ Some it → CanPublish (reverse rows.now) build.now it }
+    requires ran { (it : units.Unit) → unit_at build.now unit ≡ Some it → HasRun (reverse rows.now) build.now unit it outputs reads.now }
+    ensures { (it : units.Unit) → unit_at build.now unit ≡ Some it → IfOk result (λ row. IsPublishOf (reverse rows.now) build.now unit it moment row) }
+{
+    let found = rows_read(alloc, rows, build, unit, reads)?;
+    let entries = entries_of(alloc, found)?;
+    let unit = &build.units()[unit as usize];
+    let deed = Deed::Publish {
+        view: build.view().copy(alloc)?,
+        targets: unit.targets.copy(alloc)?,
+        script: Text::from_bytes(alloc, script_text(unit))?,
+        entries,
+        outputs,
+    };
+    Ok(Row::of(build.tag(), moment, deed))
+}
