@@ -1,27 +1,24 @@
 -- The tests of a save in a base without elements.
-use Rattle.std.proofs.Common.{◌≡◌, ℕ, Bool, true, false, Option, Some, None, List, [], ◌∷◌, ◌++◌, ◌⊎◌, inl, inr, refl, ap, sym, subst, ◌∙◌}
-use Rattle.std.specs.Prelude.{IfNone, is_some, is_none, option_map}
-use Rattle.cc_names.specs.Formed.{IsBelowRoot}
+use Rattle.std.proofs.Common.{◌≡◌, ℕ, true, false, Option, Some, None, List, [], ◌∷◌, inl, inr, refl, ap, sym, subst, ◌∙◌}
+use Rattle.std.specs.Prelude.{IfNone, is_none}
 use Rattle.cc_names.specs.Paths.{is_root}
-use Rattle.cc_names.specs.References.{held_at}
 use Rattle.cc_names.specs.declared.refusals.Refusal.{Refusal}
 use Rattle.cc_names.specs.declared.refusals.Refusal.TheVariants as refusals
-use Rattle.cc_names.specs.declared.rows.Tag.{Tag}
 use Rattle.cc_names.specs.declared.selection.Picked.{Picked}
 use Rattle.cc_names.specs.declared.selection.Seen.{Seen}
-use Rattle.cc_names.specs.declared.selection.Seen.TheVariants.{Private, Element, Unselected, Nothing}
+use Rattle.cc_names.specs.declared.selection.Seen.TheVariants.{Element, Nothing}
 use Rattle.legal_history.specs.Base.{Base}
-use Rattle.legal_history.specs.Changes.{held}
 use Rattle.legal_history.specs.Conditions.{is_directory}
-use Rattle.legal_history.specs.Decisions.{Scene, first_refusal, needs_room}
-use Rattle.legal_history.specs.FileLines.{parent, saves_at, save_tests, save_deed}
+use Rattle.legal_history.specs.Decisions.{first_refusal}
+use Rattle.legal_history.specs.FileLines.{saves_at, save_deed}
 use Rattle.legal_history.specs.Seen.{at, private_or}
-use Rattle.legal_history.specs.Tests.{refused_where, refused_unless, needs_view, needs_idle, needs_selected, needs_directory}
+use Rattle.legal_history.specs.Tests.{refused_unless, needs_selected, needs_directory}
 use Rattle.legal_history.specs.Views.{view_row, private}
-use Rattle.view_lookup.proofs.Unversioned.{there_is, file_or_nothing, nothing_held, root_directory}
+use Rattle.view_lookup.proofs.Standing.{file_or_nothing}
+use Rattle.view_lookup.proofs.Unversioned.{root_directory}
 use Rattle.view_lookup.specs.Roots.{IsRootOrFile}
 use Rattle.view_lookup.specs.Unversioned.{is_unversioned}
-use Rattle.checkout_desk.specs.Deciding.{Sees, SavesPrivate}
+use Rattle.checkout_desk.specs.Deciding.{SavesPrivate}
 use Rattle.cc_names.specs.declared.rows.Deed.TheVariants as deeds
 
 -- the tests of the directory in which a file is saved
@@ -36,51 +33,22 @@ root_passes b path seen e picked plain root is =
     ∙ ap (λ n. first_refusal (refused_unless (is_directory b n) (refusals.NotDirectory path) ∷ [])) first
     ∙ ap (λ d. first_refusal (refused_unless d (refusals.NotDirectory path) ∷ [])) (root_directory b plain)
 
--- a private file or nothing may be saved over
-pub saves_there : (b : Base) (v path : List ℕ) (n : ℕ) → is_unversioned b ≡ true → view_row b v ≡ Some n → is_root path ≡ false → saves_at b v path (at b v path) ≡ None
-saves_there b v path n plain there below_root =
+-- a private file may be saved over
+pub saves_over : (b : Base) (v path : List ℕ) (n : ℕ) → is_unversioned b ≡ true → view_row b v ≡ Some n → is_root path ≡ false → ((at b v path ≡ Nothing) → ⊥) → saves_at b v path (at b v path) ≡ None
+saves_over b v path n plain there below_root something =
     elim (file_or_nothing b v path n plain there below_root) [
-      | inl e ↦ ap (saves_at b v path) e ∙ over (private b v path)
-      | inr e ↦ ap (saves_at b v path) e ∙ free
+      | inl e ↦ ap (saves_at b v path) e ∙ over (private b v path) (sym e)
+      | inr e ↦ absurd (something e)
     ]
   where
-    free : saves_at b v path Nothing ≡ None
-    free = ap (λ object. refused_where (is_some object) (refusals.IsDerived path)) (nothing_held b v path plain)
-
-    over : (file : Option ℕ) → saves_at b v path (private_or file Nothing) ≡ None
-    over None = free
-    over (Some row) = refl
-
--- two tests that pass, one after the other
-passed : (one two : Option Refusal) (rest : List (Option Refusal)) → first_refusal (one ∷ two ∷ []) ≡ None → first_refusal (one ∷ two ∷ rest) ≡ first_refusal rest
-passed None None rest h = refl
-passed None (Some refusal) rest h = cc
-passed (Some refusal) two rest h = cc
-
--- the first refusal of one test
-only_one : (test : Option Refusal) → first_refusal (test ∷ []) ≡ test
-only_one None = refl
-only_one (Some refusal) = refl
-
--- the first refusal is that of room, where the view exists and builds nothing, and its directory passes its tests
-pub only_room : (s : Scene) (b : Base) (now : ℕ) (v path : List ℕ) (room n : ℕ) → Sees s b now v None room → is_unversioned b ≡ true → view_row b v ≡ Some n → is_root path ≡ false → first_refusal (parent_tests b (parent path) (at b v (parent path))) ≡ None → needs_room s 1 ≡ first_refusal (save_tests s v path ++ needs_room s 1 ∷ [])
-only_room s b now v path room n sees plain there below_root above =
-    sym (ap (λ base. first_refusal (needs_view base v ∷ needs_idle s v ∷ needs_selected (parent path) (at base v (parent path)) ∷ needs_directory base (parent path) (at base v (parent path)) ∷ saves_at base v path (at base v path) ∷ needs_room s 1 ∷ [])) sees.base
-    ∙ ap (λ row. first_refusal (refused_unless (is_some row) refusals.NoView ∷ needs_idle s v ∷ needs_selected (parent path) (at b v (parent path)) ∷ needs_directory b (parent path) (at b v (parent path)) ∷ saves_at b v path (at b v path) ∷ needs_room s 1 ∷ [])) there
-    ∙ ap (λ build. first_refusal (option_map refusals.Building build ∷ needs_selected (parent path) (at b v (parent path)) ∷ needs_directory b (parent path) (at b v (parent path)) ∷ saves_at b v path (at b v path) ∷ needs_room s 1 ∷ [])) sees.busy
-    ∙ passed (needs_selected (parent path) (at b v (parent path))) (needs_directory b (parent path) (at b v (parent path))) (saves_at b v path (at b v path) ∷ needs_room s 1 ∷ []) above
-    ∙ ap (λ r. first_refusal (r ∷ needs_room s 1 ∷ [])) (saves_there b v path n plain there below_root)
-    ∙ only_one (needs_room s 1))
+    over : (file : Option ℕ) → private_or file Nothing ≡ at b v path → saves_at b v path (private_or file Nothing) ≡ None
+    over None e = absurd (something (sym e))
+    over (Some row) e = refl
 
 -- the value of an option that is not none
 pub value_of : (o : Option ℕ) → is_none o ≡ false → (n : ℕ) × (o ≡ Some n)
 value_of (Some n) h = (n, refl)
 value_of None h = cc
-
--- the directory in which a path lies passes, by what was found of it
-pub above_passes : (b : Base) (v path p : List ℕ) (seen : Seen) → p ≡ parent path → seen ≡ at b v p → None ≡ first_refusal (parent_tests b p seen) → first_refusal (parent_tests b (parent path) (at b v (parent path))) ≡ None
-above_passes b v path p seen is found passes =
-    sym (passes ∙ ap (λ s. first_refusal (parent_tests b p s)) found ∙ ap (λ q. first_refusal (parent_tests b q (at b v q))) is)
 
 -- the file that is saved is a private one
 pub saves_private : (b : Base) (v path : List ℕ) (n : ℕ) → is_unversioned b ≡ true → view_row b v ≡ Some n → is_root path ≡ false → SavesPrivate b v path

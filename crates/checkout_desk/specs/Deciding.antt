@@ -1,5 +1,5 @@
 -- What a call answers that decides a command.
-use Rattle.std.specs.Prelude.{◌≡◌, ℕ, ◌+◌, ◌-◌, Bool, true, false, Option, Some, None, Result, Ok, Err, List, []}
+use Rattle.std.specs.Prelude.{◌≡◌, ℕ, ◌+◌, ◌-◌, Bool, true, false, Option, Result, Ok, Err, List, []}
 use Rattle.std.specs.List.{AllByRecursion}
 use Rattle.cc_names.specs.Formed.{Plain}
 use Rattle.cc_names.specs.declared.commands.Lane.{Lane}
@@ -12,7 +12,7 @@ use Rattle.cc_names.specs.declared.refusals.Refusal.{Refusal}
 use Rattle.cc_names.specs.declared.rows.Deed.TheVariants as deeds
 use Rattle.cc_names.specs.declared.rows.Tag.{Tag}
 use Rattle.legal_history.specs.Base.{Base, size}
-use Rattle.legal_history.specs.Builds.{Active, building, reserved}
+use Rattle.legal_history.specs.Builds.{building, reserved}
 use Rattle.legal_history.specs.Decisions.{Decision, Makes, Scene}
 use Rattle.legal_history.specs.FileLines.{save_deed}
 use Rattle.legal_history.specs.Fits.{row_limit}

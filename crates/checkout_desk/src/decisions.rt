@@ -4,7 +4,7 @@ ghost use Rattle.std.specs.Prelude.{◌≡◌, ℕ, ◌<◌, ◌≤◌, ◌^◌,
 ghost use Rattle.session_text.specs.Formed.{IsCommand};
 ghost use Rattle.legal_history.specs.Decisions.{Scene};
 ghost use Rattle.legal_history.specs.Lines.{decision};
-ghost use Rattle.view_lookup.specs.Unversioned.{is_unversioned, is_unversioned_deed};
+ghost use Rattle.view_lookup.specs.Unversioned.{is_unversioned, is_plain_deed};
 ghost use Rattle.checkout_desk.specs.Deciding.{Sees, Decides, is_carried_out, view_of};
 
 use crate::saves::save;
@@ -17,7 +17,7 @@ use cc_names::rows::{Row, Tag};
 use std::alloc::Global;
 
 /// A command's row, or its first refusal in the order of the tests of its line. `busy` is the active build of the
-/// command's view, and `room` is how many rows may still be made. Takes time linear in the rows.
+/// command's view, and `room` is how many rows may still be made. Takes time linear in the rows and their targets.
 pub fn decide(
     alloc: Global,
     rows: &[Row],
@@ -34,7 +34,7 @@ pub fn decide(
 
     ensures decided { (scene : Scene) (now : ℕ) → Sees scene (reverse rows.now) now (view_of command.now) busy room
         → Decides stamp.tag stamp.moment result (decision scene command.now) }
-    ensures unversioned { IfOk result (λ row. is_unversioned_deed row.deed ≡ true) }
+    ensures plain { IfOk result (λ row. is_plain_deed row.deed ≡ true) }
     ensures room { OnOk result (0 < room) }
 {
     match command {

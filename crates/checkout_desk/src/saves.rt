@@ -1,13 +1,15 @@
 // Saving the text of a file.
 
-ghost use Rattle.std.specs.Prelude.{◌≡◌, ℕ, ◌<◌, ◌≤◌, ◌^◌, ◌∷◌, [], ◌++◌, length, reverse, true, IfOk, IfNone, OnOk};
+ghost use Rattle.std.specs.Prelude.{◌≡◌, ℕ, ◌<◌, ◌≤◌, ◌^◌, ◌∷◌, [], ◌++◌, length, reverse, true, IsSome, IfOk, IfNone, OnOk};
 ghost use Rattle.cc_names.specs.Formed.{IsBelowRoot};
 ghost use Rattle.cc_names.specs.declared.rows.Tag.{Tag};
 ghost use Rattle.legal_history.specs.Tests.{needs_selected, needs_directory};
 ghost use Rattle.view_lookup.specs.Roots.{IsRootOrFile};
+ghost use Rattle.legal_history.specs.Seen.{at};
+ghost use Rattle.legal_history.specs.Views.{view_row};
 ghost use Rattle.legal_history.specs.Decisions.{Scene, first_refusal, needs_room};
-ghost use Rattle.legal_history.specs.FileLines.{save, save_tests};
-ghost use Rattle.view_lookup.specs.Unversioned.{is_unversioned, is_unversioned_deed};
+ghost use Rattle.legal_history.specs.FileLines.{save, save_tests, saves_at};
+ghost use Rattle.view_lookup.specs.Unversioned.{is_unversioned, is_plain_deed};
 ghost use Rattle.checkout_desk.specs.Deciding.{Sees, Decides, SavesPrivate};
 
 use crate::room::needs_room;
@@ -20,7 +22,7 @@ use cc_names::rows::{Deed, Row, Tag};
 use cc_names::selection::Seen;
 use cc_names::texts::Text;
 use std::alloc::Global;
-use view_lookup::{at, view_row};
+use view_lookup::{at, held, view_row};
 
 /// The refusal of a directory in which a private file may not be saved: nothing or a file stands there.
 fn needs_directory(parent: Path, seen: Seen) -> Option<Refusal>
@@ -36,7 +38,31 @@ fn needs_directory(parent: Path, seen: Seen) -> Option<Refusal>
     }
 }
 
-/// The first refusal of `save V P`, its room included. Takes time linear in the rows.
+/// The refusal of a file that may not be saved at a path below the root: nothing stands there, and the view holds an
+/// object. Takes time linear in the rows and their targets.
+fn saves_at(
+    alloc: Global,
+    rows: &[Row],
+    view: &Name,
+    path: &Path,
+) -> Result<Option<Refusal>, NoMemory>
+    requires rows { length rows.now < 2 ^ 63 }
+    requires unversioned { is_unversioned (reverse rows.now) ≡ true }
+    requires view { IsSome (view_row (reverse rows.now) view.now) }
+    requires below { IsBelowRoot path.now }
+    ensures { IfOk result (λ refusal. refusal ≡ saves_at (reverse rows.now) view.now path.now (at (reverse rows.now) view.now path.now)) }
+{
+    match at(rows, view, path) {
+        Seen::Nothing => {}
+        _ => return Ok(None),
+    }
+    if held(rows, view, path).is_none() {
+        return Ok(None);
+    }
+    Ok(Some(Refusal::IsDerived(path.copy(alloc)?)))
+}
+
+/// The first refusal of `save V P`, its room included. Takes time linear in the rows and their targets.
 fn save_refusal(
     alloc: Global,
     rows: &[Row],
@@ -63,6 +89,10 @@ fn save_refusal(
     let parent = path.parent(alloc)?.unwrap_or(Path::root());
     let above = at(rows, view, &parent);
     match needs_directory(parent, above) {
+        Some(refusal) => return Ok(Some(refusal)),
+        None => {}
+    }
+    match saves_at(alloc, rows, view, path)? {
         Some(refusal) => Ok(Some(refusal)),
         None => Ok(needs_room(room)),
     }
@@ -86,7 +116,7 @@ pub fn save(
     requires in_time { stamp.moment ≤ 253402300799 }
     ensures decided { (scene : Scene) (now : ℕ) → Sees scene (reverse rows.now) now view.now busy room
         → Decides stamp.tag stamp.moment result (save scene view.now path.now text.now) }
-    ensures unversioned { IfOk result (λ row. is_unversioned_deed row.deed ≡ true) }
+    ensures plain { IfOk result (λ row. is_plain_deed row.deed ≡ true) }
     ensures room { OnOk result (0 < room) }
 {
     match save_refusal(alloc, rows, view, path, busy, room)? {

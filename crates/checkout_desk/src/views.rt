@@ -2,7 +2,7 @@
 
 ghost use Rattle.std.specs.Prelude.{◌≡◌, ℕ, List, Option, ◌<◌, ◌≤◌, ◌^◌, ◌∷◌, [], ◌++◌, length, reverse, IfNone, IfOk, OnOk, true};
 ghost use Rattle.cc_names.specs.Names.{IsName};
-ghost use Rattle.view_lookup.specs.Unversioned.{is_unversioned_deed};
+ghost use Rattle.view_lookup.specs.Unversioned.{is_plain_deed};
 ghost use Rattle.legal_history.specs.Decisions.{Scene, first_refusal, needs_room};
 ghost use Rattle.legal_history.specs.FileLines.{mkview, mkview_tests};
 ghost use Rattle.legal_history.specs.Builds.{Active};
@@ -43,7 +43,7 @@ pub fn mkview(
     requires in_time { stamp.moment ≤ 253402300799 }
     ensures decided { (scene : Scene) (now : ℕ) (other : List ℕ) (busy : Option Tag) → Sees scene (reverse rows.now) now other busy room
         → Decides stamp.tag stamp.moment result (mkview scene view.now) }
-    ensures unversioned { IfOk result (λ row. is_unversioned_deed row.deed ≡ true) }
+    ensures plain { IfOk result (λ row. is_plain_deed row.deed ≡ true) }
     ensures room { OnOk result (0 < room) }
 {
     if let Some(refusal) = mkview_refusal(rows, view, room) {

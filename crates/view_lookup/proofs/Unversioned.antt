@@ -1,12 +1,7 @@
 -- What stands in a view of a base in which nobody has made an element.
-use Rattle.std.proofs.Common.{◌≡◌, ℕ, ◌+◌, ◌<◌, Bool, true, false, ◌&&◌, ◌||◌, ◌==◌, cond, arith, ◌⊎◌, inl, inr, Option, Some, None, IsSome, List, [], ◌∷◌, ◌++◌, length, reverse, refl, ap, sym, ◌∙◌, bytes_eq}
-use Rattle.std.specs.List.{slice_split, onto_first, list_any}
-use Rattle.std.proofs.lemmas.List.{length-reverse}
-use Rattle.std.proofs.lemmas.List.Splits.{length-slice_split}
+use Rattle.std.proofs.Common.{◌≡◌, ℕ, Bool, true, false, ◌&&◌, ◌==◌, arith, Option, Some, None, List, [], ◌∷◌, reverse, refl, ap, ◌∙◌, bytes_eq}
 use Rattle.std.proofs.lemmas.Bool.Decides.{nat_tests}
-use Rattle.cc_names.specs.Last.{Effect, Keeps, Ends, Sets, only_if, left}
-use Rattle.cc_names.specs.Formed.{Plain}
-use Rattle.cc_names.specs.Paths.{names_of, joined, is_slash, is_root}
+use Rattle.cc_names.specs.Last.{Ends, Sets, only_if, left}
 use Rattle.cc_names.specs.Versions.{kind_of}
 use Rattle.cc_names.specs.declared.changes.LabelChange.{LabelChange}
 use Rattle.cc_names.specs.declared.changes.TreeChange.{TreeChange}
@@ -15,21 +10,18 @@ use Rattle.cc_names.specs.declared.rows.Deed.{Deed}
 use Rattle.cc_names.specs.declared.rows.Deed.TheVariants as deeds
 use Rattle.cc_names.specs.declared.rows.Kind.TheVariants.{Directory}
 use Rattle.cc_names.specs.declared.selection.Picked.{Picked}
-use Rattle.cc_names.specs.declared.selection.Seen.{Seen}
-use Rattle.cc_names.specs.declared.selection.Seen.TheVariants.{Private, Element, Nothing}
-use Rattle.spec_text.specs.Rules.{Sources, pick}
+use Rattle.cc_names.specs.declared.selection.Seen.TheVariants.{Element, Nothing}
+use Rattle.spec_text.specs.Rules.{pick}
 use Rattle.legal_history.specs.Base.{Base, size}
 use Rattle.legal_history.specs.Catalogs.{catalog_of, own_of, made_or_older, catalog_source}
-use Rattle.cc_names.specs.References.{references, held_at}
-use Rattle.cc_names.specs.declared.changes.ReferenceChange.{ReferenceChange}
-use Rattle.legal_history.specs.Changes.{tree, tree_after, holdings, holdings_after, held}
+use Rattle.legal_history.specs.Changes.{tree, tree_after}
 use Rattle.legal_history.specs.Conditions.{is_directory, is_directory_kind}
-use Rattle.legal_history.specs.Seen.{at, at_names, entries_of, entries_by, private_or, below, rules_of_spec, sources, selected}
+use Rattle.legal_history.specs.Seen.{at_names, entries_of, entries_by, private_or, below, rules_of_spec}
 use Rattle.legal_history.specs.Views.{Checkout, view_row, view_effect, spec_text, spec_effect, default_spec, making, making_effect, making_of_out, private}
-use Rattle.view_lookup.specs.Unversioned.{is_unversioned_deed, is_unversioned}
+use Rattle.view_lookup.specs.Unversioned.{is_plain_deed, is_unversioned_deed, is_unversioned}
 
 -- both of two tests
-both : (a b : Bool) → (a && b) ≡ true → (a ≡ true) × (b ≡ true)
+pub both : (a b : Bool) → (a && b) ≡ true → (a ≡ true) × (b ≡ true)
 both true b h = (refl, h)
 both false b h = absurd (cc)
 
@@ -37,6 +29,7 @@ both false b h = absurd (cc)
 tree_stays : (older : Base) (moment : ℕ) (deed : Deed) (changes : List TreeChange) → is_unversioned_deed deed ≡ true → tree_after older moment deed changes ≡ changes
 tree_stays older moment (deeds.Mkview v) changes h = refl
 tree_stays older moment (deeds.Put v path text) changes h = refl
+tree_stays older moment (deeds.Publish v targets script entries outputs) changes h = refl
 tree_stays older moment deed changes h = cc
 
 -- the root is the only element
@@ -50,6 +43,7 @@ only_root (row ∷ older) h =
 making_stays : (v : List ℕ) (e n : ℕ) (deed : Deed) → is_unversioned_deed deed ≡ true → left (making_effect v e n deed) None ≡ None
 making_stays v e n (deeds.Mkview w) h = elim (bytes_eq w v) as (λ same. left (making_of_out (only_if {A = Checkout} same Ends)) None ≡ None) [ true ↦ refl | false ↦ refl ]
 making_stays v e n (deeds.Put w path text) h = refl
+making_stays v e n (deeds.Publish w targets script entries outputs) h = refl
 making_stays v e n deed h = cc
 
 -- no view has anything out
@@ -68,6 +62,7 @@ default_stays : (v : List ℕ) (n : ℕ) (deed : Deed) (made : Option ℕ) (spec
 default_stays v n (deeds.Mkview w) made spec h before =
     elim (bytes_eq w v) as (λ same. HasDefault (left (only_if same (Sets n)) made) (left (only_if same (Sets default_spec)) spec)) [ true ↦ refl | false ↦ before ]
 default_stays v n (deeds.Put w path text) made spec h before = before
+default_stays v n (deeds.Publish w targets script entries outputs) made spec h before = before
 default_stays v n deed made spec h before = cc
 
 has_default : (b : Base) (v : List ℕ) → is_unversioned b ≡ true → HasDefault (view_row b v) (spec_text b v)
@@ -125,94 +120,12 @@ deeper_seen b v n one two [] h there =
 deeper_seen b v n one two (three ∷ above) h there =
     ap (λ seen. below b v (reverse (one ∷ two ∷ three ∷ above)) one (entries_of b v seen)) (deeper_seen b v n two three above h there)
 
--- neither of two tests
-neither : (a b : Bool) → (a || b) ≡ false → (a ≡ false) × (b ≡ false)
-neither false b h = (refl, h)
-neither true b h = cc
-
--- text without a slash is one part
-one_part : (bytes : List ℕ) → list_any is_slash bytes ≡ false → slice_split is_slash bytes ≡ bytes ∷ []
-one_part [] h = refl
-one_part (b ∷ bytes) h =
-    let parts = neither (is_slash b) (list_any is_slash bytes) h in
-    ap (λ slash. cond slash ([] ∷ slice_split is_slash bytes) (onto_first b (slice_split is_slash bytes))) parts.0
-    ∙ ap (onto_first b) (one_part bytes parts.1)
-
--- the other of two tests
-other : (a b : Bool) → (a || b) ≡ true → a ≡ false → b ≡ true
-other false b h e = h
-other true b h e = cc
-
--- one byte more makes no part go
-parts_more : (slash : Bool) (b : ℕ) (parts : List (List ℕ)) → 0 < length parts → (slash ≡ false → 1 < length parts) → 1 < length (cond slash ([] ∷ parts) (onto_first b parts))
-parts_more true b parts some rest = omega arith
-parts_more false b [] some rest = absurd (omega arith)
-parts_more false b (part ∷ parts) some rest = rest refl
-
--- text with a slash has two parts or more
-two_parts : (bytes : List ℕ) → list_any is_slash bytes ≡ true → 1 < length (slice_split is_slash bytes)
-two_parts [] h = cc
-two_parts (b ∷ bytes) h =
-    parts_more (is_slash b) b (slice_split is_slash bytes) (omega (arith, length-slice_split is_slash bytes))
-    (λ e. two_parts bytes (other (is_slash b) (list_any is_slash bytes) h e))
-
--- a list of two or more
-two_or_more : {A : Type 0} (xs : List A) → 1 < length xs → (one : A) × (two : A) × (above : List A) × (xs ≡ one ∷ two ∷ above)
-two_or_more [] h = absurd (omega arith)
-two_or_more (x ∷ []) h = absurd (omega arith)
-two_or_more (x ∷ y ∷ rest) h = (x, y, rest, refl)
-
--- the names of a path below the root
-names_below : (path : List ℕ) → is_root path ≡ false → names_of path ≡ slice_split is_slash path
-names_below path h = ap (λ root. cond root [] (slice_split is_slash path)) h
-
--- no object is held
-holdings_stay : (older : Base) (deed : Deed) (changes : List ReferenceChange) → is_unversioned_deed deed ≡ true → holdings_after older deed changes ≡ changes
-holdings_stay older (deeds.Mkview v) changes h = refl
-holdings_stay older (deeds.Put v path text) changes h = refl
-holdings_stay older deed changes h = cc
-
-no_holdings : (b : Base) → is_unversioned b ≡ true → holdings b ≡ []
-no_holdings [] h = refl
-no_holdings (row ∷ older) h =
-    let parts = both (is_unversioned_deed row.deed) (is_unversioned older) h in
-    holdings_stay older row.deed (holdings older) parts.0 ∙ no_holdings older parts.1
-
--- no view holds an object anywhere
-pub nothing_held : (b : Base) (v path : List ℕ) → is_unversioned b ≡ true → held_at (held b) v path ≡ None
-nothing_held b v path h = ap (λ changes. held_at (references changes) v path) (no_holdings b h)
+-- a plain deed is one of an unversioned base
+pub plain_is_unversioned : (deed : Deed) → is_plain_deed deed ≡ true → is_unversioned_deed deed ≡ true
+plain_is_unversioned (deeds.Mkview v) h = refl
+plain_is_unversioned (deeds.Put v path text) h = refl
+plain_is_unversioned deed h = cc
 
 -- the root is a directory
 pub root_directory : (b : Base) → is_unversioned b ≡ true → is_directory b 0 ≡ true
 root_directory b h = ap (λ t. is_directory_kind (kind_of t 0)) (only_root b h)
-
--- A path has one name where it has no slash and is not the root, and then nothing but private files stand there.
-pub seen_of_name : (b : Base) (v path : List ℕ) (n : ℕ) → is_unversioned b ≡ true → view_row b v ≡ Some n → is_root path ≡ false → list_any is_slash path ≡ false → at b v path ≡ private_or (private b v path) Nothing
-seen_of_name b v path n h there below_root whole =
-    ap (λ names. at_names b v (reverse names)) (names_below path below_root ∙ one_part path whole) ∙ name_seen b v path n h there
-
--- Nothing stands at a path of two names or more.
-pub seen_deeper : (b : Base) (v path : List ℕ) (n : ℕ) → is_unversioned b ≡ true → view_row b v ≡ Some n → is_root path ≡ false → list_any is_slash path ≡ true → at b v path ≡ Nothing
-seen_deeper b v path n h there below_root cut =
-    let many : 1 < length (reverse (slice_split is_slash path)) = omega (arith, length-reverse (slice_split is_slash path), two_parts path cut) in
-    let parts = two_or_more (reverse (slice_split is_slash path)) many in
-    ap (λ names. at_names b v (reverse names)) (names_below path below_root)
-    ∙ ap (at_names b v) parts.3
-    ∙ deeper_seen b v n parts.0 parts.1 parts.2 h there
-
--- the root stands at its path
-pub seen_root : (b : Base) (v path : List ℕ) (n : ℕ) → is_unversioned b ≡ true → view_row b v ≡ Some n → is_root path ≡ true → at b v path ≡ Element 0 root_picked
-seen_root b v path n h there is = ap (λ root. at_names b v (reverse (cond root [] (slice_split is_slash path)))) is ∙ root_seen b v n h there
-
--- the value of an option that has one
-pub there_is : (o : Option ℕ) → IsSome o → (n : ℕ) × (o ≡ Some n)
-there_is (Some n) h = (n, refl)
-there_is None h = cc
-
--- no element stands below the root
-pub file_or_nothing : (b : Base) (v path : List ℕ) (n : ℕ) → is_unversioned b ≡ true → view_row b v ≡ Some n → is_root path ≡ false → (at b v path ≡ private_or (private b v path) Nothing) ⊎ (at b v path ≡ Nothing)
-file_or_nothing b v path n h there below_root = by_slash (list_any is_slash path) refl
-  where
-    by_slash : (cut : Bool) → list_any is_slash path ≡ cut → (at b v path ≡ private_or (private b v path) Nothing) ⊎ (at b v path ≡ Nothing)
-    by_slash true e = inr (seen_deeper b v path n h there below_root e)
-    by_slash false e = inl (seen_of_name b v path n h there below_root e)

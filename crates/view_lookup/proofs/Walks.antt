@@ -1,5 +1,5 @@
 -- A walk over the rows of a base from the oldest on, which keeps what the last row that bears on a thing set.
-use Rattle.std.proofs.Common.{◌≡◌, ℕ, ◌+◌, ◌<◌, ◌≤◌, suc, List, [], ◌∷◌, ◌++◌, Option, length, reverse, take, get_or, refl, ap, sym, ◌∙◌, arith, length-append}
+use Rattle.std.proofs.Common.{◌≡◌, ℕ, ◌+◌, ◌<◌, ◌≤◌, [], ◌∷◌, Option, length, reverse, take, get_or, ap, sym, ◌∙◌, arith}
 use Rattle.std.proofs.lemmas.List.{take_more, length-reverse, length-take-le, reverse-append}
 use Rattle.cc_names.specs.Last.{Effect, left, last}
 use Rattle.cc_names.specs.Formed.{Plain}

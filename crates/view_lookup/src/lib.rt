@@ -1,14 +1,21 @@
-// What a view sees: which views there are, their private files, and what stands at a path.
+// What a view sees: which views there are, their private files, the objects that they hold, and what stands at a path.
 //
 // What it is for: the look-ups on which every decision on a command and every build stand.
 //
-// What it promises: each answer is that of the model's definition over the rows.
+// What it promises: each answer is that of the model's definition over the rows. `first_rows` gives the rows of an
+// earlier moment, over which every look-up answers as of then.
 //
 // What it stands on: the rows of `cc_names` and the definitions of `legal_history`.
 #![tactic(auto)]
 
+mod objects;
 mod seen;
+#[cfg(test)]
+mod tests;
+mod texts;
 mod views;
 
-pub use seen::at;
+pub use objects::held;
+pub use seen::{at, file_at, is_directory};
+pub use texts::{first_rows, text_at, text_of};
 pub use views::{private, view_row};

@@ -1,9 +1,10 @@
 // What stands at a path in a view.
 
-ghost use Rattle.std.specs.Prelude.{◌≡◌, ◌<◌, ◌^◌, length, reverse, true, IsSome};
+ghost use Rattle.std.specs.Prelude.{◌≡◌, ℕ, List, ◌<◌, ◌^◌, length, reverse, true, is_some, IsSome};
 ghost use Rattle.std.specs.List.{list_any};
 ghost use Rattle.cc_names.specs.Paths.{is_slash};
-ghost use Rattle.legal_history.specs.Seen.{at};
+ghost use Rattle.legal_history.specs.Base.{Base};
+ghost use Rattle.legal_history.specs.Seen.{at, file_at, directory_at};
 ghost use Rattle.legal_history.specs.Views.{view_row};
 ghost use Rattle.view_lookup.specs.Unversioned.{is_unversioned};
 ghost use Rattle.view_lookup.specs.Roots.{IsRootOrFile};
@@ -46,4 +47,26 @@ pub fn at(rows: &[Row], view: &Name, path: &Path) -> Seen
         Some(row) => Seen::Private(row),
         None => Seen::Nothing,
     }
+}
+
+/// The row that put the file that a view sees at a path, where there is one: in a base without elements it is a private
+/// file of the view. Takes time linear in the rows.
+pub fn file_at(rows: &[Row], view: &Name, path: &Path) -> Option<u64>
+    requires room { length rows.now < 2 ^ 63 }
+    requires unversioned { is_unversioned (reverse rows.now) ≡ true }
+    requires view { IsSome (view_row (reverse rows.now) view.now) }
+    ensures { result ≡ file_at (reverse rows.now) view.now path.now }
+{
+    match at(rows, view, path) {
+        Seen::Private(row) => Some(row),
+        _ => None,
+    }
+}
+
+/// Whether a view that there is sees a directory at a path, in a base without elements: at the root alone.
+pub fn is_directory(path: &Path) -> bool
+    ensures { (base : Base) (v : List ℕ) → is_unversioned base ≡ true → IsSome (view_row base v)
+        → result ≡ is_some (directory_at base v path.now) }
+{
+    path.is_root()
 }

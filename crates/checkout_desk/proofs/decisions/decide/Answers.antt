@@ -1,5 +1,5 @@
 -- The command is a save.
-use Rattle.std.proofs.Common.{ap, sym, subst, reverse}
+use Rattle.std.proofs.Common.{sym, subst, reverse}
 use Rattle.legal_history.specs.Lines.{decision}
 use Rattle.checkout_desk.specs.Deciding.{Sees, Decides, view_of}
 use Rattle.checkout_desk.proofs.decisions.decide.Goals as goal

@@ -1,5 +1,5 @@
 -- The first refusal is the decision, and without one the row is a put of the copies.
-use Rattle.std.proofs.Common.{ap, sym, subst, IfNone, List, ℕ, reverse, ◌∙◌, Ok, None}
+use Rattle.std.proofs.Common.{ap, sym, subst, IfNone, reverse, ◌∙◌, Ok}
 use Rattle.legal_history.specs.Decisions.{Makes, unless_refused}
 use Rattle.legal_history.specs.FileLines.{save_deed}
 use Rattle.legal_history.specs.Seen.{at}

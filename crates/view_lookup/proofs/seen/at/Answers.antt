@@ -1,10 +1,10 @@
 -- By the path: the root, one name, or more.
-use Rattle.std.proofs.Common.{◌≡◌, ℕ, Option, Some, None, IsSome, reverse, refl, sym, ap, ◌∙◌}
+use Rattle.std.proofs.Common.{reverse, sym, ap, ◌∙◌}
 use Rattle.std.specs.List.{list_any}
 use Rattle.cc_names.specs.Paths.{is_slash}
 use Rattle.legal_history.specs.Seen.{private_or}
 use Rattle.cc_names.specs.declared.selection.Seen.TheVariants.{Nothing}
-use Rattle.view_lookup.proofs.Unversioned.{there_is, seen_root, seen_deeper, seen_of_name}
+use Rattle.view_lookup.proofs.Standing.{there_is, seen_root, seen_deeper, seen_of_name}
 use Rattle.view_lookup.proofs.seen.at.Goals as goal
 
 pub returns-then-is_root-clause-seen : goal.returns-then-is_root-clause-seen

@@ -1,5 +1,4 @@
 -- One more row is one more change, and its number is the size of the rows below it.
-use Rattle.std.proofs.Common.{arith}
 use Rattle.legal_history.specs.Views.{private_effect}
 use Rattle.view_lookup.proofs.Walks.{walk_more}
 use Rattle.view_lookup.proofs.views.private.Goals as goal

@@ -1,0 +1,124 @@
+-- What a core keeps after a step that finishes a command of a lane.
+use Rattle.std.proofs.Common.{◌≡◌, ◌≢◌, ℕ, suc, ◌+◌, ◌-◌, ◌<◌, ◌≤◌, inl, inr, true, false, Some, Result, Ok, Err, List, [], ◌∷◌, ◌++◌, length, length-append, refl, ap, sym, subst, ◌∙◌, arith}
+use Rattle.std.proofs.lemmas.List.{append-nil, reverse-append, length-set, length-reverse}
+use Rattle.std.specs.Prelude.{OnOk, is_err}
+use Rattle.cc_names.specs.declared.memory.NoMemory.{NoMemory}
+use Rattle.cc_names.specs.Formed.{Plain}
+use Rattle.cc_names.specs.declared.commands.Phase.{Phase}
+use Rattle.cc_names.specs.declared.refusals.Refusal.{Refusal}
+use Rattle.cc_names.specs.declared.replies.Reply.{Reply}
+use Rattle.cc_names.specs.declared.replies.Reply.TheVariants as replies
+use Rattle.cc_names.specs.declared.rows.Tag.{Tag}
+use Rattle.cc_names.specs.declared.steps.Step.TheVariants as steps
+use Rattle.cc_names.specs.declared.steps.Told.{Told}
+use Rattle.cc_names.specs.declared.steps.Told.TheVariants as told
+use Rattle.legal_history.specs.Decisions.{Makes}
+use Rattle.legal_history.specs.States.{start, done_of, with_done, decided}
+use Rattle.legal_history.specs.Steps.{after, state_of}
+use Rattle.legal_history.specs.Stories.{Lawful}
+use Rattle.view_lookup.specs.Unversioned.{is_plain_deed}
+use Rattle.base_core.specs.Acting.{IsNextRow, IsNextRefusal}
+use Rattle.base_core.specs.Kept.{last_phase, replies_at, with_reply, Agrees, AreReplies, IsKept}
+use Rattle.base_core.specs.Logs.{Logged, with_row, with_step}
+use Rattle.base_core.specs.Replying.{in_lane, replies_after, replies_of, no_replies}
+use Rattle.base_core.proofs.Growing.{state_from-more, legal_more, replies_from-more}
+use Rattle.base_core.proofs.Lanes.{done_same, done_other, in_same, in_other, one_or_two, replies_same, replies_other}
+use Rattle.base_core.proofs.PlainRows.{good_reply, finishes, builds_nothing, makes_row, plain_unversioned, newest_too, one_more_rises}
+
+-- the replies after a step with which one lane finishes a command
+pub finished : (story : List Told) (x : Told) (lanes : List (List Reply)) (phase : Phase) (tag : Tag) (reply : Reply) → AreReplies story lanes phase → 1 ≤ tag.lane → tag.lane ≤ length lanes → ((l : ℕ) → replies_after (state_of story) x (replies_of story) l ≡ replies_of story l ++ in_lane l tag (Some reply)) → (after (state_of story) x).done ≡ with_done (state_of story).done tag.lane → AreReplies (story ++ x ∷ []) (with_reply lanes tag.lane reply) phase
+finished story x lanes phase tag reply h low high said done =
+    let grown : (l : ℕ) → replies_of (story ++ x ∷ []) l ≡ replies_of story l ++ in_lane l tag (Some reply) = λ l. ap (λ f. f l) (replies_from-more start no_replies story x) ∙ said l in
+    let same : replies_of (story ++ x ∷ []) tag.lane ≡ replies_of story tag.lane ++ reply ∷ [] = grown tag.lane ∙ ap (λ r. replies_of story tag.lane ++ r) (in_same tag tag.lane reply refl) in
+    let others : (l : ℕ) → l ≢ tag.lane → replies_of (story ++ x ∷ []) l ≡ replies_of story l = λ l differs. grown l ∙ ap (λ r. replies_of story l ++ r) (in_other tag tag.lane l reply refl differs) ∙ append-nil (replies_of story l) in
+    let state : (state_of (story ++ x ∷ [])).done ≡ with_done (state_of story).done tag.lane = ap (λ s. s.done) (state_from-more start story x) ∙ done in
+    record {
+      count = length-set lanes (tag.lane - 1) _ ∙ h.count;
+      replies = λ l from upto. elim (one_or_two l tag.lane) as (λ _. replies_at (with_reply lanes tag.lane reply) l ≡ replies_of (story ++ x ∷ []) l) [
+        | inl e ↦ ap (replies_at (with_reply lanes tag.lane reply)) e ∙ replies_same lanes tag.lane _ low high ∙ ap (λ r. r ++ reply ∷ []) (h.replies tag.lane low high) ∙ sym same ∙ ap (replies_of (story ++ x ∷ [])) (sym e)
+        | inr differs ↦ replies_other lanes tag.lane l _ low from differs ∙ h.replies l from (subst (λ n. l ≤ n) (length-set lanes (tag.lane - 1) _) upto) ∙ sym (others l differs)
+      ];
+      done = λ l. elim (one_or_two l tag.lane) as (λ _. done_of (state_of (story ++ x ∷ [])).done l ≡ length (replies_of (story ++ x ∷ []) l)) [
+        | inl e ↦ ap (done_of (state_of (story ++ x ∷ [])).done) e ∙ ap (λ d. done_of d tag.lane) state ∙ done_same (state_of story).done tag.lane ∙ ap (λ n. n + 1) (h.done tag.lane) ∙ sym (ap length same ∙ length-append (replies_of story tag.lane) (reply ∷ [])) ∙ ap (λ k. length (replies_of (story ++ x ∷ []) k)) (sym e)
+        | inr differs ↦ ap (λ d. done_of d l) state ∙ done_other (state_of story).done tag.lane l differs ∙ h.done l ∙ sym (ap length (others l differs))
+      ];
+    }
+
+-- what is kept after a commit
+pub kept_commit : (log : Logged) (lanes : List (List Reply)) (now : ℕ) (row : Plain) → IsKept log lanes now → is_plain_deed row.deed ≡ true → row.moment ≡ now → decided (state_of log.story) row.tag ≡ Some (Ok (Makes row.deed)) → 1 ≤ row.tag.lane → row.tag.lane ≤ length lanes → length log.rows + 1 < 4000000 → IsKept (with_row log row) (with_reply lanes row.tag.lane replies.Good) now
+kept_commit log lanes now row h plain in_time made low high room =
+    let story = log.story in
+    let x = told.Commit row (suc (length log.rows)) in
+    let done : (after (state_of story) x).done ≡ with_done (state_of story).done row.tag.lane = finishes (state_of story).done row.tag.lane row.deed plain in
+    let lawful : Lawful (state_of story) x = record {
+      may = record { moment = in_time ∙ sym h.agrees.moment; made = makes_row (state_of story) row row.deed plain made };
+      ticked = one_more_rises _ (suc (length log.rows)) (omega (arith, h.agrees.ticks));
+    } in
+    record {
+      legal = legal_more start story x h.legal lawful;
+      agrees = subst (λ s. Agrees s (log.rows ++ row ∷ []) log.phases now) (sym (state_from-more start story x))
+          (record {
+            opened = h.agrees.opened;
+            base = ap (λ b. row ∷ b) h.agrees.base ∙ sym (reverse-append log.rows (row ∷ []));
+            phase = h.agrees.phase;
+            number = h.agrees.number;
+            moment = h.agrees.moment;
+            idle = builds_nothing (state_of story).base (state_of story).active row.tag.lane row.deed plain ∙ h.agrees.idle;
+            ticks = omega (arith, length-append log.rows (row ∷ []));
+          });
+      replies = finished story x lanes (last_phase log.phases) row.tag replies.Good h.replies low high
+          (λ l. ap (λ r. replies_of story l ++ in_lane l row.tag r) (good_reply (row ∷ (state_of story).base) row.deed plain)) done;
+      formed = h.formed;
+      carried_out = h.carried_out;
+      unversioned = newest_too row log.rows (plain_unversioned row.deed plain) h.unversioned;
+      room = omega (arith, room, length-append log.rows (row ∷ []));
+      few = h.few;
+      in_time = h.in_time;
+    }
+
+-- what is kept after a refusal
+pub kept_refusal : (log : Logged) (lanes : List (List Reply)) (now : ℕ) (tag : Tag) (refusal : Refusal) → IsKept log lanes now → decided (state_of log.story) tag ≡ Some (Err refusal) → 1 ≤ tag.lane → tag.lane ≤ length lanes → IsKept (with_step log (steps.Refused tag refusal)) (with_reply lanes tag.lane (replies.Refused refusal)) now
+kept_refusal log lanes now tag refusal h made low high =
+    let story = log.story in
+    let x = told.Other (steps.Refused tag refusal) in
+    record {
+      legal = legal_more start story x h.legal made;
+      agrees = subst (λ s. Agrees s log.rows log.phases now) (sym (state_from-more start story x))
+          (record {
+            opened = h.agrees.opened;
+            base = h.agrees.base;
+            phase = h.agrees.phase;
+            number = h.agrees.number;
+            moment = h.agrees.moment;
+            idle = h.agrees.idle;
+            ticks = h.agrees.ticks;
+          });
+      replies = finished story x lanes (last_phase log.phases) tag (replies.Refused refusal) h.replies low high (λ l. refl) refl;
+      formed = h.formed;
+      carried_out = h.carried_out;
+      unversioned = h.unversioned;
+      room = h.room;
+      few = h.few;
+      in_time = h.in_time;
+    }
+
+-- what a call that answered no error has done
+pub done_well : {P : Type 0} → (r : Result (Unit {0}) NoMemory) → is_err r ≡ false → OnOk r P → P
+done_well (Ok u) e h = h
+done_well (Err error) e h = absurd (cc)
+
+-- what is kept after the row of a lane's next command
+pub kept_next_row : (log : Logged) (lanes : List (List Reply)) (now : ℕ) (story : List Told) (row : Plain) (lane : ℕ) → log.story ≡ story → lane ≡ row.tag.lane → IsKept log lanes now → IsNextRow (state_of story) row → IsKept (with_row log row) (with_reply lanes lane replies.Good) now
+kept_next_row log lanes now story row lane same at_lane h next =
+    let here : IsNextRow (state_of log.story) row = subst (λ t. IsNextRow (state_of t) row) (sym same) next in
+    subst (λ l. IsKept (with_row log row) (with_reply lanes l replies.Good) now) (sym at_lane)
+    (kept_commit log lanes now row h here.plain (here.at_moment ∙ h.agrees.moment) here.made here.of_next.from
+    (omega (arith, here.of_next.upto, h.replies.count, ap (λ p. length p.lanes) h.agrees.phase))
+    (omega (arith, here.room, ap length h.agrees.base, length-reverse log.rows)))
+
+-- what is kept after the refusal of a lane's next command
+pub kept_next_refusal : (log : Logged) (lanes : List (List Reply)) (now : ℕ) (story : List Told) (tag : Tag) (refusal : Refusal) → log.story ≡ story → IsKept log lanes now → IsNextRefusal (state_of story) tag refusal → IsKept (with_step log (steps.Refused tag refusal)) (with_reply lanes tag.lane (replies.Refused refusal)) now
+kept_next_refusal log lanes now story tag refusal same h next =
+    let here : IsNextRefusal (state_of log.story) tag refusal = subst (λ t. IsNextRefusal (state_of t) tag refusal) (sym same) next in
+    kept_refusal log lanes now tag refusal h here.made here.of_next.from
+    (omega (arith, here.of_next.upto, h.replies.count, ap (λ p. length p.lanes) h.agrees.phase))

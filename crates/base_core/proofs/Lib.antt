@@ -1,0 +1,9 @@
+pub mod Beginning
+pub mod Finishing
+pub mod Growing
+pub mod Lanes
+pub mod LogSteps
+pub mod NextCommands
+pub mod Phases
+pub mod PlainRows
+pub mod Stories

@@ -1,0 +1,104 @@
+-- What a lane's next command is, and what is decided of it.
+use Rattle.std.proofs.Common.{◌≡◌, ℕ, zero, suc, ◌+◌, ◌-◌, ◌<◌, ◌≤◌, ◌==◌, true, ◌&&◌, Option, Some, None, Result, Ok, Err, List, [], length, reverse, refl, ap, ap₂, sym, subst, ◌∙◌, arith}
+use Rattle.std.specs.Prelude.{option_and_then, option_map, is_none, OnOk, IfOk, slice_get}
+use Rattle.std.proofs.lemmas.List.{length-reverse}
+use Rattle.std.proofs.lemmas.Bool.Decides.{nat_tests}
+use Rattle.std.proofs.lemmas.Option.{slice_get_within}
+use Rattle.cc_names.specs.Formed.{Plain}
+use Rattle.cc_names.specs.declared.commands.Command.{Command}
+use Rattle.cc_names.specs.declared.commands.Lane.{Lane}
+use Rattle.cc_names.specs.declared.commands.Phase.{Phase}
+use Rattle.cc_names.specs.declared.memory.Or.{Or}
+use Rattle.cc_names.specs.declared.memory.Or.TheVariants.{NoMemory, Is}
+use Rattle.cc_names.specs.declared.refusals.Refusal.{Refusal}
+use Rattle.cc_names.specs.declared.replies.Reply.{Reply}
+use Rattle.cc_names.specs.declared.rows.Tag.{Tag}
+use Rattle.cc_names.specs.declared.steps.Told.{Told}
+use Rattle.checkout_desk.specs.Deciding.{Decides, Sees, view_of}
+use Rattle.legal_history.specs.Base.{Base, size, only_where}
+use Rattle.legal_history.specs.Builds.{building, build_of, reserved}
+use Rattle.legal_history.specs.Decisions.{Scene}
+use Rattle.legal_history.specs.Lines.{decision}
+use Rattle.legal_history.specs.States.{State, scene, done_of, lane_at, command_behind, same_tag, next_tag, next_command, decided}
+use Rattle.legal_history.specs.Steps.{state_of}
+use Rattle.view_lookup.specs.Unversioned.{is_plain_deed}
+use Rattle.base_core.specs.Acting.{DecidesNext}
+use Rattle.base_core.specs.Kept.{last_phase, replies_at, IsKept}
+use Rattle.base_core.specs.Logs.{Logged}
+
+-- the lane of a command is one of the phase
+pub in_phase : (phase : Phase) (lane done : ℕ) (command : Command) → option_and_then (command_behind done) (lane_at phase lane) ≡ Some command → (1 ≤ lane) × (lane ≤ length phase.lanes)
+in_phase phase zero done command e = absurd (cc)
+in_phase phase (suc n) done command e = by (slice_get phase.lanes n) refl e
+  where
+    by : (found : Option Lane) → slice_get phase.lanes n ≡ found → option_and_then (command_behind done) found ≡ Some command → (1 ≤ suc n) × (suc n ≤ length phase.lanes)
+    by None is e = absurd (cc)
+    by (Some lane) is e = let within = slice_get_within phase.lanes n lane is in (omega arith, omega (arith, within))
+
+-- a tag is the same as itself
+same_as_itself : (tag : Tag) → same_tag tag tag ≡ true
+same_as_itself tag =
+    let phase : (tag.phase == tag.phase) ≡ true = grind (arith, nat_tests) in
+    let lane : (tag.lane == tag.lane) ≡ true = grind (arith, nat_tests) in
+    let command : (tag.command == tag.command) ≡ true = grind (arith, nat_tests) in
+    ap₂ ◌&&◌ (ap₂ ◌&&◌ phase lane) command
+
+-- where nobody builds, a lane's next command is the one behind those that are finished
+pub next_is : (s : State) (lane : ℕ) (command : Command) → s.active ≡ [] → option_and_then (command_behind (done_of s.done lane)) (lane_at s.phase lane) ≡ Some command → next_command s (next_tag s lane) ≡ Some command
+next_is s lane command idle e =
+    let free : is_none (build_of s.active lane) ≡ true = ap (λ active. is_none (build_of active lane)) idle in
+    ap (λ is. only_where is (option_and_then (command_behind (done_of s.done lane)) (lane_at s.phase lane))) (ap₂ ◌&&◌ (same_as_itself (next_tag s lane)) free) ∙ e
+
+-- what is decided of the command that waits
+pub decides_next : (s : State) (lane room now : ℕ) (command : Command) (result : Result Plain (Or Refusal)) → s.active ≡ [] → s.moment ≡ now → option_and_then (command_behind (done_of s.done lane)) (lane_at s.phase lane) ≡ Some command → room + size s.base ≡ 4000000 → Decides (next_tag s lane) now result (decision (scene s) command) → IfOk result (λ row. is_plain_deed row.deed ≡ true) → OnOk result (0 < room) → DecidesNext s (next_tag s lane) result
+decides_next s lane room now command (Ok row) idle moment e count decides plain space =
+    let within = in_phase s.phase lane (done_of s.done lane) command e in
+    let made : decided s (next_tag s lane) ≡ Some (decision (scene s) command) = ap (option_map (decision (scene s))) (next_is s lane command idle e) in
+    let at_lane : row.tag.lane ≡ lane = ap (λ t. t.lane) decides.1 in (
+      record {
+        of_next = record {
+          next = decides.1 ∙ ap (next_tag s) (sym at_lane);
+          from = omega (arith, within.0, at_lane);
+          upto = omega (arith, within.1, at_lane);
+        };
+        made = ap (decided s) decides.1 ∙ made ∙ ap Some decides.0;
+        at_moment = decides.2 ∙ sym moment;
+        plain = plain;
+        room = omega (arith, count, space);
+      },
+      decides.1,
+    )
+decides_next s lane room now command (Err NoMemory) idle moment e count decides plain space = tt
+decides_next s lane room now command (Err (Is refusal)) idle moment e count decides plain space =
+    let within = in_phase s.phase lane (done_of s.done lane) command e in
+    let made : decided s (next_tag s lane) ≡ Some (decision (scene s) command) = ap (option_map (decision (scene s))) (next_is s lane command idle e) in
+    record {
+      of_next = record { next = refl; from = within.0; upto = within.1 };
+      made = made ∙ ap Some decides;
+    }
+
+-- a lane's next command by the replies that are kept is that by the story
+pub waits : (log : Logged) (lanes : List (List Reply)) (now lane : ℕ) (command : Command) → IsKept log lanes now → option_and_then (command_behind (length (replies_at lanes lane))) (lane_at (last_phase log.phases) lane) ≡ Some command → option_and_then (command_behind (done_of (state_of log.story).done lane)) (lane_at (state_of log.story).phase lane) ≡ Some command
+waits log lanes now lane command h e =
+    let within = in_phase (last_phase log.phases) lane (length (replies_at lanes lane)) command e in
+    let done : done_of (state_of log.story).done lane ≡ length (replies_at lanes lane) = h.replies.done lane ∙ ap length (sym (h.replies.replies lane within.0 (omega (arith, within.1, h.replies.count)))) in
+    ap₂ (λ n phase. option_and_then (command_behind n) (lane_at phase lane)) done h.agrees.phase ∙ e
+
+-- the scene of a core in which nobody builds
+sees : (log : Logged) (lanes : List (List Reply)) (now room : ℕ) (view : List ℕ) → IsKept log lanes now → room ≡ 4000000 - (suc (length log.rows)) → Sees (scene (state_of log.story)) (reverse log.rows) now view None room
+sees log lanes now room view h e = record {
+  base = h.agrees.base;
+  moment = h.agrees.moment;
+  busy = ap (λ active. building active view) h.agrees.idle;
+  room = ap₂ (λ (b : Base) active. 4000000 - (size b + reserved active)) h.agrees.base h.agrees.idle ∙ omega (arith, e, length-reverse log.rows);
+}
+
+-- what is decided of a lane's next command, by what is kept
+pub decided_so : (log : Logged) (lanes : List (List Reply)) (now lane room : ℕ) (story : List Told) (tag : Tag) (command : Command) (result : Result Plain (Or Refusal)) → log.story ≡ story → IsKept log lanes now → option_and_then (command_behind (length (replies_at lanes lane))) (lane_at (last_phase log.phases) lane) ≡ Some command → tag ≡ next_tag (state_of story) lane → room ≡ 4000000 - suc (length log.rows) → ((scene : Scene) (moment : ℕ) → Sees scene (reverse log.rows) moment (view_of command) None room → Decides tag now result (decision scene command)) → IfOk result (λ row. is_plain_deed row.deed ≡ true) → OnOk result (0 < room) → DecidesNext (state_of story) (next_tag (state_of story) lane) result
+decided_so log lanes now lane room story tag command result same h e of_lane count decides plain space =
+    let s = state_of log.story in
+    let here : tag ≡ next_tag s lane = of_lane ∙ ap (λ t. next_tag (state_of t) lane) (sym same) in
+    let decided : Decides (next_tag s lane) now result (decision (scene s) command) = subst (λ t. Decides t now result (decision (scene s) command)) here (decides (scene s) now (sees log lanes now room (view_of command) h count)) in
+    let whole : room + size s.base ≡ 4000000 = omega (arith, count, h.room, ap length h.agrees.base, length-reverse log.rows) in
+    subst (λ t. DecidesNext (state_of t) (next_tag (state_of t) lane) result) same
+    (decides_next s lane room now command result h.agrees.idle h.agrees.moment (waits log lanes now lane command h e) whole decided plain space)

@@ -1,0 +1,15 @@
+-- a phase begins: what is kept then
+use Rattle.std.proofs.Common.{◌≡◌, ◌+◌, ◌<◌, ◌^◌, length, true, ap, sym, subst, ◌∙◌, arith}
+use Rattle.legal_history.specs.States.{all_done}
+use Rattle.legal_history.specs.Steps.{state_of}
+use Rattle.base_core.specs.Kept.{IsKept}
+use Rattle.base_core.proofs.Beginning.{kept_plan}
+use Rattle.base_core.proofs.core_value.Core.begin_phase.Goals as goal
+
+pub invariant_of-self-2 : goal.invariant_of-self-2
+invariant_of-self-2 c =
+    let finished : all_done (state_of c.self.inside.log.story) ≡ true = ap (λ v. all_done (state_of v.story)) c.self.view_is ∙ c.requires.finished in
+    let number : (state_of c.self.inside.log.story).number + 1 < 2 ^ 32 = subst (λ v. (state_of v.story).number + 1 < 2 ^ 32) (sym c.self.view_is) c.requires.few in
+    subst (λ log. IsKept log c.in_ok-replies.replies.items c.args.moment) (sym c.in_ok-plan.ensures.ok)
+    (kept_plan c.self.inside.log c.self.inside.replies.items c.in_ok-replies.replies.items c.self.inside.moment c.args.moment c.args.phase c.self.invariant finished c.requires.formed c.requires.carried_out
+    (omega (arith, number, c.self.invariant.agrees.number)) c.requires.in_time (c.in_ok-replies.ensures.count ∙ ap length c.as_slice.ensures) c.in_ok-replies.ensures.empty)

@@ -1,0 +1,13 @@
+-- a step is told behind the story
+use Rattle.std.proofs.Common.{ap, ◌∙◌}
+use Rattle.base_core.specs.Logs.{with_step}
+use Rattle.base_core.proofs.LogSteps.{shown_step, is_told_step}
+use Rattle.base_core.proofs.logs.Log.tell.Goals as goal
+
+pub invariant_of-self-2 : goal.invariant_of-self-2
+invariant_of-self-2 c = is_told_step c.self.inside.steps.items _ c.self.inside.rows.items c.self.inside.phases.items c.args.step c.self.invariant c.requires.alone c.in_ok-push_step.ensures.ok
+
+pub returns-clause-ok : goal.returns-clause-ok
+returns-clause-ok c =
+    shown_step c.self.inside.steps.items _ c.self.inside.rows.items c.self.inside.phases.items c.args.step c.self.invariant c.requires.alone c.in_ok-push_step.ensures.ok
+    ∙ ap (λ log. with_step log c.args.step) c.self.view_is

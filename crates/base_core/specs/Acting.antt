@@ -1,0 +1,66 @@
+-- What a lane's next command comes to.
+use Rattle.std.specs.Prelude.{◌≡◌, ℕ, ◌<◌, ◌≤◌, true, Option, Some, Result, Ok, Err, List, [], ◌∷◌, ◌++◌, length}
+use Rattle.cc_names.specs.Formed.{Plain}
+use Rattle.cc_names.specs.declared.desks.Done.{Done}
+use Rattle.cc_names.specs.declared.desks.Done.TheVariants.{Committed, Refused, Answered, Faulted}
+use Rattle.cc_names.specs.declared.memory.Or.{Or}
+use Rattle.cc_names.specs.declared.memory.Or.TheVariants.{NoMemory, Is}
+use Rattle.cc_names.specs.declared.refusals.Refusal.{Refusal}
+use Rattle.cc_names.specs.declared.rows.Tag.{Tag}
+use Rattle.cc_names.specs.declared.steps.Step.TheVariants as steps
+use Rattle.cc_names.specs.declared.steps.Told.{Told}
+use Rattle.cc_names.specs.declared.steps.Told.TheVariants as told
+use Rattle.legal_history.specs.Base.{size}
+use Rattle.legal_history.specs.Decisions.{Decision, Makes, Answers}
+use Rattle.legal_history.specs.States.{State, decided, next_tag}
+use Rattle.legal_history.specs.Steps.{state_of}
+use Rattle.view_lookup.specs.Unversioned.{is_plain_deed}
+
+-- The step of a command of this tag, by what was decided: its row at the moment of the phase, its refusal or its answer. A
+-- row that no disk keeps is acknowledged at its own number.
+abbrev pub step_of : State → Tag → Option (Result Decision Refusal) → Told
+step_of s tag (Some (Ok (Makes deed))) = told.Commit (record { tag = tag; moment = s.moment; deed = deed }) (size s.base)
+step_of s tag (Some (Ok (Answers text))) = told.Other (steps.Answer tag text)
+step_of s tag (Some (Err refusal)) = told.Other (steps.Refused tag refusal)
+step_of s tag decided = told.Other (steps.End tag)
+
+-- the kind of step that a decision makes
+abbrev pub kind_of : Option (Result Decision Refusal) → Done
+kind_of (Some (Ok (Makes deed))) = Committed
+kind_of (Some (Ok (Answers text))) = Answered
+kind_of (Some (Err refusal)) = Refused
+kind_of decided = Faulted
+
+-- A lane's next command was carried out: the story has one step more, the one that was decided, and this is its kind.
+pub record Acts (old new : List Told) (lane : ℕ) (done : Done) : Type 0 where
+  pub step : new ≡ old ++ step_of (state_of old) (next_tag (state_of old) lane) (decided (state_of old) (next_tag (state_of old) lane)) ∷ []
+  pub kind : done ≡ kind_of (decided (state_of old) (next_tag (state_of old) lane))
+
+-- this is the tag of the next command of a lane of the last phase
+pub record IsNextTag (s : State) (tag : Tag) : Type 0 where
+  pub next : tag ≡ next_tag s tag.lane
+  pub from : 1 ≤ tag.lane
+  pub upto : tag.lane ≤ length s.phase.lanes
+
+-- the row that was decided for the next command of its lane, for which there is room
+pub record IsNextRow (s : State) (row : Plain) : Type 0 where
+  pub of_next : IsNextTag s row.tag
+  pub made : decided s row.tag ≡ Some (Ok (Makes row.deed))
+  pub at_moment : row.moment ≡ s.moment
+  pub plain : is_plain_deed row.deed ≡ true
+  pub room : size s.base < 4000000
+
+-- the refusal that was decided for the next command of its lane
+pub record IsNextRefusal (s : State) (tag : Tag) (refusal : Refusal) : Type 0 where
+  pub of_next : IsNextTag s tag
+  pub made : decided s tag ≡ Some (Err refusal)
+
+-- unless memory ran out, the refusal was decided
+abbrev pub RefusalWas : State → Tag → Or Refusal → Type 0
+RefusalWas s tag NoMemory = Unit {0}
+RefusalWas s tag (Is refusal) = IsNextRefusal s tag refusal
+
+-- what was decided for the next command of a lane
+abbrev pub DecidesNext : State → Tag → Result Plain (Or Refusal) → Type 0
+DecidesNext s tag (Ok row) = IsNextRow s row × (row.tag ≡ tag)
+DecidesNext s tag (Err refusal) = RefusalWas s tag refusal

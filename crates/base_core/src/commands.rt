@@ -1,0 +1,74 @@
+// Which command a lane has next.
+
+ghost use Rattle.std.specs.Prelude.{◌≡◌, ◌<◌, option_and_then, length};
+ghost use Rattle.std.specs.Option.{option_copied};
+ghost use Rattle.base_core.specs.Kept.{last_phase, replies_at};
+ghost use Rattle.base_core.specs.Nexts.{next_by};
+ghost use Rattle.legal_history.specs.States.{command_behind, lane_at};
+
+use crate::lane_replies::LaneReplies;
+use cc_names::commands::{Command, Lane, Phase};
+use cc_names::desks::Next;
+use cc_names::rows::Tag;
+
+/// The lane of this number, counted from 1.
+fn lane_at(phase: &Phase, lane: u32) -> Option<&Lane>
+    ensures { option_copied result ≡ lane_at phase.now lane }
+{
+    if lane == 0 {
+        return None;
+    }
+    phase.lanes.as_slice().get(lane as usize - 1)
+}
+
+/// The phase that began last.
+pub fn last_phase(phases: &[Phase]) -> &Phase
+    requires { 0 < length phases.now }
+    ensures { result.now ≡ last_phase phases.now }
+{
+    &phases[phases.len() - 1]
+}
+
+/// The command behind those of the lane that are finished.
+pub fn command_at(phase: &Phase, lane: u32, done: usize) -> Option<&Command>
+    ensures { option_copied result ≡ option_and_then (command_behind done) (lane_at phase.now lane) }
+{
+    match lane_at(phase, lane) {
+        Some(lane) => lane.commands.as_slice().get(done),
+        None => None,
+    }
+}
+
+/// How many commands a lane has finished: one for each reply.
+fn done_at(replies: &[LaneReplies], lane: u32) -> usize
+    ensures { result ≡ length (replies_at replies.now lane) }
+{
+    match replies.get((lane as usize).saturating_sub(1)) {
+        Some(replies) => replies.len(),
+        None => 0,
+    }
+}
+
+/// The first command of a lane that is not finished.
+pub fn next_command<'a>(
+    phases: &'a [Phase],
+    replies: &[LaneReplies],
+    lane: u32,
+) -> Option<&'a Command>
+    ensures { option_copied result ≡ option_and_then (command_behind (length (replies_at replies.now lane))) (lane_at (last_phase phases.now) lane) }
+{
+    if phases.is_empty() {
+        return None;
+    }
+    command_at(last_phase(phases), lane, done_at(replies, lane))
+}
+
+/// What a lane has to do whose next command this is, with its tag.
+pub fn next_by(command: &Command, tag: Tag) -> Next
+    ensures { result ≡ next_by (Some command.now) tag }
+{
+    match command {
+        Command::Clearmake { .. } => Next::Build(tag),
+        _ => Next::Act,
+    }
+}

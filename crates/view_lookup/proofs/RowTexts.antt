@@ -1,0 +1,103 @@
+-- The text that a row of a base without elements made, found by the row's number.
+use Rattle.std.proofs.Common.{◌≡◌, ℕ, zero, suc, ◌+◌, ◌<◌, Bool, true, false, cond, ◌==◌, Option, Some, None, List, [], ◌∷◌, ◌++◌, length, reverse, get_or, drop, refl, ap, sym, ◌∙◌, arith, bytes_eq}
+use Rattle.std.specs.Prelude.{option_and_then}
+use Rattle.std.specs.List.{slice_get}
+use Rattle.std.proofs.lemmas.Bool.Decides.{nat_tests}
+use Rattle.std.proofs.lemmas.List.{length-reverse, reverse-append, reverse-reverse, drop_more, drop-drop}
+use Rattle.cc_names.specs.Formed.{Plain}
+use Rattle.cc_names.specs.declared.rows.Deed.{Deed}
+use Rattle.cc_names.specs.declared.rows.Deed.TheVariants as deeds
+use Rattle.legal_history.specs.Base.{Base, size, row_at, deed_at, deed_of}
+use Rattle.legal_history.specs.Texts.{Source, Bytes, OfRow, NoText, source_of, output_at, of_output, text}
+use Rattle.view_lookup.specs.Made.{text_made}
+use Rattle.view_lookup.specs.Unversioned.{is_unversioned_deed, is_unversioned}
+use Rattle.view_lookup.proofs.Unversioned.{both}
+
+-- the text of a source, where an earlier row has this one
+abbrev text_by : (ℕ → Option (List ℕ)) → Source → Option (List ℕ)
+text_by of_row source = elim source [ Bytes bytes ↦ Some bytes | OfRow origin ↦ of_row origin | NoText ↦ None ]
+
+output_text : (of_row : ℕ → Option (List ℕ)) (output : Option (List ℕ)) → text_by of_row (of_output output) ≡ output
+output_text of_row None = refl
+output_text of_row (Some output) = refl
+
+-- a deed makes its text by itself
+own_text : (older : Base) (of_row : ℕ → Option (List ℕ)) (path : List ℕ) (deed : Deed) → is_unversioned_deed deed ≡ true → text_by of_row (source_of older path deed) ≡ text_made path deed
+own_text older of_row path (deeds.Mkview v) h = refl
+own_text older of_row path (deeds.Put v q bytes) h = refl
+own_text older of_row path (deeds.Publish v targets script entries outputs) h = output_text of_row (output_at path targets outputs)
+own_text older of_row path deed h = cc
+
+-- the text of a row, by its deed
+pub text_by_deed : (b : Base) (r : ℕ) (path : List ℕ) → is_unversioned b ≡ true → text b r path ≡ option_and_then (text_made path) (deed_at b r)
+text_by_deed [] r path h = refl
+text_by_deed (row ∷ older) r path h =
+    let parts = both (is_unversioned_deed row.deed) (is_unversioned older) h in
+    elim (size older == r) as (λ same. elim same [ false ↦ text older r path | true ↦ text_by (λ origin. text older origin path) (source_of older path row.deed) ] ≡ option_and_then (text_made path) (deed_of (elim same [ true ↦ Some row | false ↦ row_at older r ]))) [
+      | true ↦ own_text older (λ origin. text older origin path) path row.deed parts.0
+      | false ↦ text_by_deed older r path parts.1
+    ]
+
+-- no number behind another is 0
+not_zero : (n : ℕ) → (suc n == 0) ≡ false
+not_zero n = grind (arith, nat_tests)
+
+not_suc : (n : ℕ) → (0 == suc n) ≡ false
+not_suc n = grind (arith, nat_tests)
+
+same_suc : (m n : ℕ) → (suc m == suc n) ≡ (m == n)
+same_suc m n = grind (arith, nat_tests)
+
+-- one row more
+get_one_more : (rows : Base) (row : Plain) (n : ℕ) → slice_get (rows ++ row ∷ []) n ≡ cond (length rows == n) (Some row) (slice_get rows n)
+get_one_more [] row zero = refl
+get_one_more [] row (suc n) = sym (ap (λ same. cond same (Some row) None) (not_suc n))
+get_one_more (first ∷ rows) row zero = sym (ap (λ same. cond same (Some row) (Some first)) (not_zero (length rows)))
+get_one_more (first ∷ rows) row (suc n) = get_one_more rows row n ∙ sym (ap (λ same. cond same (Some row) (slice_get rows n)) (same_suc (length rows) n))
+
+-- the newest row or an older one
+newest_or : (same : Bool) (row : Plain) (older : Option Plain) → elim same [ true ↦ Some row | false ↦ older ] ≡ cond same (Some row) older
+newest_or true row older = refl
+newest_or false row older = refl
+
+at_number : (b : Base) (n : ℕ) → row_at b (suc n) ≡ slice_get (reverse b) n
+at_number [] n = refl
+at_number (row ∷ older) n =
+    newest_or (size older == suc n) row (row_at older (suc n))
+    ∙ ap (cond (size older == suc n) (Some row)) (at_number older n)
+    ∙ ap (λ same. cond same (Some row) (slice_get (reverse older) n)) (same_suc (length older) n ∙ ap (λ l. l == n) (sym (length-reverse older)))
+    ∙ sym (get_one_more (reverse older) row n)
+    ∙ ap (λ rows. slice_get rows n) (sym (reverse-append (row ∷ []) older))
+
+-- row n + 1 stands at place n
+pub row_numbered : (rows : Base) (n : ℕ) → row_at (reverse rows) (suc n) ≡ slice_get rows n
+row_numbered rows n = at_number (reverse rows) n ∙ ap (λ all. slice_get all n) (reverse-reverse rows)
+
+-- row 0 is none of the rows
+pub no_row : (b : Base) → row_at b 0 ≡ None
+no_row [] = refl
+no_row (row ∷ older) =
+    newest_or (size older == 0) row (row_at older 0) ∙ ap (λ same. cond same (Some row) (row_at older 0)) (not_zero (length older)) ∙ no_row older
+
+-- the text of the row at a place
+pub text_numbered : (rows : Base) (n : ℕ) (path : List ℕ) → is_unversioned (reverse rows) ≡ true → text (reverse rows) (suc n) path ≡ option_and_then (text_made path) (deed_of (slice_get rows n))
+text_numbered rows n path h = text_by_deed (reverse rows) (suc n) path h ∙ ap (λ row. option_and_then (text_made path) (deed_of row)) (row_numbered rows n)
+
+pub no_text : (b : Base) (path : List ℕ) → is_unversioned b ≡ true → text b 0 path ≡ None
+no_text b path h = text_by_deed b 0 path h ∙ ap (λ row. option_and_then (text_made path) (deed_of row)) (no_row b)
+
+-- no output is at a place without a target
+output_nowhere : (path : List ℕ) (targets : List (List ℕ)) → output_at path targets [] ≡ None
+output_nowhere path [] = refl
+output_nowhere path (target ∷ targets) = refl
+
+-- a target that is not this one is passed with its output
+passed : (path target : List ℕ) (targets outputs : List (List ℕ)) → bytes_eq target path ≡ false → output_at path (target ∷ targets) outputs ≡ output_at path targets (drop 1 outputs)
+passed path target targets [] other = sym (output_nowhere path targets)
+passed path target targets (output ∷ outputs) other = ap (λ same. cond same (Some output) (output_at path targets outputs)) other
+
+pub output_later : (path : List ℕ) (targets outputs : List (List ℕ)) (i : ℕ) (target : List ℕ) → i < length targets → target ≡ get_or targets i target → bytes_eq target path ≡ false → output_at path (drop i targets) (drop i outputs) ≡ output_at path (drop (i + 1) targets) (drop (i + 1) outputs)
+output_later path targets outputs i target within is other =
+    ap (λ rest. output_at path rest (drop i outputs)) (drop_more targets i target within ∙ ap (λ t. t ∷ drop (i + 1) targets) (sym is))
+    ∙ passed path target (drop (i + 1) targets) (drop i outputs) other
+    ∙ ap (output_at path (drop (i + 1) targets)) (drop-drop 1 i outputs)

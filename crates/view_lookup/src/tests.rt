@@ -1,0 +1,227 @@
+// What two views see of a base of seven rows.
+
+ghost use Rattle.std.specs.Prelude.{◌≡◌, ◌<◌, ◌≤◌, ◌^◌, length, reverse, true, IfOk, IsSome};
+ghost use Rattle.cc_names.specs.Formed.{IsBelowRoot, IsText, IsListOf, AreTargets};
+ghost use Rattle.legal_history.specs.Views.{view_row};
+ghost use Rattle.view_lookup.specs.Unversioned.{is_unversioned_deed, is_unversioned};
+
+use super::*;
+use cc_names::lists::List;
+use cc_names::names::Name;
+use cc_names::paths::Path;
+use cc_names::rows::{Deed, Row, Tag};
+use cc_names::selection::{Picked, Seen};
+use cc_names::texts::Text;
+use std::alloc::Global;
+use std::process::Abort;
+use std::test::Fail;
+
+fn name(alloc: Global, bytes: &[u8]) -> Result<Name, Fail> {
+    Ok(Name::read(alloc, bytes).map_err(|_| "no name")?)
+}
+
+fn path(alloc: Global, bytes: &[u8]) -> Result<Path, Fail> {
+    Ok(Path::read(alloc, bytes).map_err(|_| "no path")?)
+}
+
+fn path_below(alloc: Global, bytes: &[u8]) -> Result<Path, Fail>
+    ensures { IfOk result (λ path. IsBelowRoot path) }
+{
+    let path = path(alloc, bytes)?;
+    if path.is_root() {
+        Err("the root")?;
+    }
+    path.as_bytes();
+    Ok(path)
+}
+
+fn text(alloc: Global, bytes: &[u8]) -> Result<Text, Fail>
+    ensures { IfOk result (λ text. length text ≤ 100) }
+{
+    if bytes.len() > 100 {
+        Err("long")?;
+    }
+    Ok(Text::from_bytes(alloc, bytes)?)
+}
+
+const TAG: Tag = Tag {
+    phase: 1,
+    lane: 1,
+    command: 1,
+};
+
+fn mkview(alloc: Global, view: &[u8]) -> Result<Row, Fail>
+    ensures { IfOk result (λ row. is_unversioned_deed row.deed ≡ true) }
+{
+    let view = name(alloc, view)?;
+    view.as_bytes();
+    Ok(Row::of(TAG, 1_700_000_000, Deed::Mkview { view }))
+}
+
+fn put(alloc: Global, view: &[u8], path: &[u8], text: &[u8]) -> Result<Row, Fail>
+    ensures { IfOk result (λ row. is_unversioned_deed row.deed ≡ true) }
+{
+    let view = name(alloc, view)?;
+    view.as_bytes();
+    let path = path_below(alloc, path)?;
+    let text = self::text(alloc, text)?;
+    Ok(Row::of(TAG, 1_700_000_000, Deed::Put { view, path, text }))
+}
+
+fn two_targets(alloc: Global, targets: [&[u8]; 2]) -> Result<List<Path>, Fail>
+    ensures { IfOk result (λ paths. (length paths ≡ 2) × AreTargets paths) }
+{
+    let first = path_below(alloc, targets[0])?;
+    let second = path_below(alloc, targets[1])?;
+    if first.as_bytes() == second.as_bytes() {
+        return Err(Fail::new("one target"));
+    }
+    let mut paths = Vec::new(alloc);
+    paths.push(first)?;
+    paths.push(second)?;
+    Ok(List::of(paths))
+}
+
+fn two_texts(alloc: Global, outputs: [&[u8]; 2]) -> Result<List<Text>, Fail>
+    ensures { IfOk result (λ texts. (length texts ≡ 2) × IsListOf IsText texts) }
+{
+    let mut texts = Vec::new(alloc);
+    texts.push(text(alloc, outputs[0])?)?;
+    texts.push(text(alloc, outputs[1])?)?;
+    Ok(List::of(texts))
+}
+
+/// An object with two targets, each with an output.
+fn publish(
+    alloc: Global,
+    view: &[u8],
+    targets: [&[u8]; 2],
+    outputs: [&[u8]; 2],
+) -> Result<Row, Fail>
+    ensures { IfOk result (λ row. is_unversioned_deed row.deed ≡ true) }
+{
+    let view = name(alloc, view)?;
+    view.as_bytes();
+    let deed = Deed::Publish {
+        view,
+        targets: two_targets(alloc, targets)?,
+        script: text(alloc, b"echo\n")?,
+        entries: List::empty(alloc),
+        outputs: two_texts(alloc, outputs)?,
+    };
+    Ok(Row::of(TAG, 1_700_000_000, deed))
+}
+
+fn seven_rows(alloc: Global) -> Result<[Row; 7], Fail>
+    ensures { IfOk result (λ rows. is_unversioned (reverse rows) ≡ true) }
+{
+    Ok([
+        mkview(alloc, b"v")?,
+        put(alloc, b"v", b"a", b"old")?,
+        mkview(alloc, b"w")?,
+        put(alloc, b"w", b"a", b"of w")?,
+        put(alloc, b"v", b"a", b"new")?,
+        publish(alloc, b"v", [b"out", b"log"], [b"built", b"done"])?,
+        publish(alloc, b"w", [b"out", b"a.o"], [b"other", b"code"])?,
+    ])
+}
+
+/// What a view sees at a path, what it holds there, and the text of the file.
+fn looked_up<'a>(
+    rt: &impl Abort,
+    rows: &'a [Row],
+    view: &Name,
+    path: &Path,
+) -> (Seen, Option<u64>, Option<&'a [u8]>)
+    requires room { length rows.now < 2 ^ 63 }
+    requires unversioned { is_unversioned (reverse rows.now) ≡ true }
+{
+    assert!(rt; view_row(rows, view).is_some());
+    let seen = at(rows, view, path);
+    let file = file_at(rows, view, path);
+    assert_eq!(rt; file, private(rows, view, path));
+    (seen, held(rows, view, path), text_at(rows, view, path))
+}
+
+const ROOT: Seen = Seen::Element(
+    0,
+    Picked {
+        row: 0,
+        line: 2,
+        out: false,
+    },
+);
+
+// How many rows with row 0, a view and a path, and what stands there, what the view holds and the text.
+const SEEN: [(u64, &[u8], &[u8], Seen, Option<u64>, Option<&[u8]>); 11] = [
+    (8, b"v", b".", ROOT, None, None),
+    (8, b"v", b"a", Seen::Private(5), None, Some(b"new")),
+    (8, b"w", b"a", Seen::Private(4), None, Some(b"of w")),
+    (8, b"v", b"b", Seen::Nothing, None, None),
+    (8, b"v", b"a/b", Seen::Nothing, None, None),
+    (8, b"v", b"out", Seen::Nothing, Some(6), None),
+    (8, b"v", b"log", Seen::Nothing, Some(6), None),
+    (8, b"w", b"out", Seen::Nothing, Some(7), None),
+    (8, b"w", b"log", Seen::Nothing, None, None),
+    (5, b"v", b"a", Seen::Private(2), None, Some(b"old")),
+    (5, b"v", b"out", Seen::Nothing, None, None),
+];
+
+#[test]
+fn views_see_and_hold(rt: HostRuntime) -> Result<(), Fail> {
+    let alloc = rt.alloc();
+    let rows = seven_rows(alloc)?;
+    for (count, view, bytes, seen, held, text) in SEEN {
+        let view = name(alloc, view)?;
+        let path = path(alloc, bytes)?;
+        let found = looked_up(&rt, first_rows(&rows, count), &view, &path);
+        assert_eq!(rt; found.0, seen);
+        assert_eq!(rt; found.1, held);
+        assert_eq!(rt; found.2, text);
+    }
+    Ok(())
+}
+
+#[test]
+fn views_begin_with_their_rows(rt: HostRuntime) -> Result<(), Fail> {
+    let alloc = rt.alloc();
+    let rows = seven_rows(alloc)?;
+    let table: [(u64, &[u8], Option<u64>); 4] = [
+        (8, b"v", Some(1)),
+        (8, b"w", Some(3)),
+        (8, b"x", None),
+        (3, b"w", None),
+    ];
+    for (count, view, row) in table {
+        let view = name(alloc, view)?;
+        assert_eq!(rt; view_row(first_rows(&rows, count), &view), row);
+    }
+    Ok(())
+}
+
+#[test]
+fn rows_have_texts(rt: HostRuntime) -> Result<(), Fail> {
+    let alloc = rt.alloc();
+    let rows = seven_rows(alloc)?;
+    let table: [(u64, &[u8], Option<&[u8]>); 7] = [
+        (0, b"a", None),
+        (1, b"a", None),
+        (2, b"a", Some(b"old")),
+        (6, b"out", Some(b"built")),
+        (6, b"log", Some(b"done")),
+        (6, b"a", None),
+        (8, b"out", None),
+    ];
+    for (row, bytes, text) in table {
+        let path = path(alloc, bytes)?;
+        assert_eq!(rt; text_of(&rows, row, &path), text);
+    }
+    Ok(())
+}
+
+#[test]
+fn the_root_is_the_directory(rt: HostRuntime) -> Result<(), Fail> {
+    assert!(rt; is_directory(&path(rt.alloc(), b".")?));
+    assert!(rt; !is_directory(&path(rt.alloc(), b"a")?));
+    Ok(())
+}
