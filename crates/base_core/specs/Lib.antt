@@ -1,5 +1,4 @@
 pub mod Acting
-pub mod BuildCalls
 pub mod Building
 pub mod Carried
 pub mod Going

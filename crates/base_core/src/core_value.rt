@@ -58,7 +58,6 @@ impl Core {
     ghost use Rattle.build_core.specs.Comes.{came_of};
     ghost use Rattle.legal_history.specs.Builds.{build_of};
     ghost use Rattle.base_core.specs.Building.{IsNextBuild, PlansNext};
-    ghost use Rattle.base_core.specs.BuildCalls.{Begins, Notes, Noted, IsObjectRow, Settled};
 
     /// Opens a base that has no rows but row 0, in memory.
     pub fn open(alloc: Global) -> Result<Core, NoMemory>

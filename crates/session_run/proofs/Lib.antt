@@ -1,0 +1,7 @@
+pub mod LaneSteps
+pub mod MoreSteps
+pub mod PhaseSteps
+pub mod Promises
+pub mod Ready
+pub mod Running
+pub mod Within

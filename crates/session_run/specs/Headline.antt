@@ -1,0 +1,183 @@
+-- The headline of the product:
+--
+-- For every session, the printed replies are those of one legal history that holds each command once in its lane's order.
+--
+-- A call of the program is seen as plain values: its words, what the source had left and gave, what the sink holds, what the
+-- clock tells, its status, and the story of the base that it opened, which is empty where it opened none. Each record is one
+-- promise of the sentence. What it says of bytes and moments holds where the source, the sink and the clock tell them.
+use Rattle.std.specs.Prelude.{◌≡◌, ℕ, zero, suc, ◌<◌, ◌≤◌, min, Bool, true, false, Option, IfSome, Result, Ok, Err, List, [], ◌∷◌, ◌++◌, length}
+use Rattle.std.specs.List.{list_any}
+use Rattle.std.specs.Str.{bytes_eq}
+use Rattle.std.specs.Prelude.{codes}
+use Rattle.std.specs.Io.KnownBytes.{Appends, IsAtEnd}
+use Rattle.cc_names.specs.declared.commands.Phase.{Phase}
+use Rattle.cc_names.specs.declared.commands.Session.{Session}
+use Rattle.cc_names.specs.declared.refusals.SessionError.{SessionError}
+use Rattle.cc_names.specs.declared.steps.Step.TheVariants as steps
+use Rattle.cc_names.specs.declared.steps.Told.{Told}
+use Rattle.cc_names.specs.declared.steps.Told.TheVariants as told
+use Rattle.cc_outside.specs.Counts.{raised, Rose, RoseAbove}
+use Rattle.cc_outside.specs.Feeds.{AppendsFront}
+use Rattle.cc_outside.specs.Moments.{moment_at}
+use Rattle.session_text.specs.Sessions.{session_of}
+use Rattle.legal_history.specs.States.{all_done}
+use Rattle.legal_history.specs.Steps.{state_of}
+use Rattle.legal_history.specs.Stories.{Legal, last_moment}
+use Rattle.session_run.specs.Rendered.{rendered, earlier_text}
+use Rattle.session_run.specs.Statuses.{is_through, is_cut, status_line}
+use Rattle.session_run.specs.declared.statuses.Status.{Status}
+use Rattle.session_run.specs.declared.statuses.Status.TheVariants as statuses
+
+-- the most bytes of a session's text
+abbrev pub text_limit : ℕ
+text_limit = 16777216
+
+-- the one form of words: FILE `run`
+abbrev pub is_run : List (List ℕ) → Bool
+is_run (file ∷ word ∷ []) = bytes_eq word (codes "run")
+is_run words = false
+
+-- whether a base was opened
+abbrev pub is_opened : List Told → Bool
+is_opened [] = false
+is_opened (x ∷ story) = true
+
+-- the phases that began, and their moments
+abbrev pub phases_begun : List Told → List Phase
+phases_begun [] = []
+phases_begun (told.Plan phase moment ∷ story) = phase ∷ phases_begun story
+phases_begun (x ∷ story) = phases_begun story
+
+abbrev pub moments_begun : List Told → List ℕ
+moments_begun [] = []
+moments_begun (told.Plan phase moment ∷ story) = moment ∷ moments_begun story
+moments_begun (x ∷ story) = moments_begun story
+
+-- the phases of a text that spells a session; none where it spells none
+abbrev pub phases_read : Result Session SessionError → List Phase
+phases_read (Ok session) = session.phases
+phases_read (Err error) = []
+
+abbrev pub phases_spelled : List ℕ → List Phase
+phases_spelled text = phases_read (session_of text)
+
+-- whether a text spells a session
+abbrev pub is_read : Result Session SessionError → Bool
+is_read (Ok session) = true
+is_read (Err error) = false
+
+abbrev pub is_session : List ℕ → Bool
+is_session text = is_read (session_of text)
+
+-- the first items of a list, from its front on
+abbrev pub IsFront : {A : Type 0} → List A → List A → Type 0
+IsFront {A = A} front whole = (rest : List A) × (whole ≡ front ++ rest)
+
+-- the moments that a clock tells from a reading on, none above the last one of all
+abbrev pub clock_moments : List ℕ → ℕ → ℕ → List ℕ
+clock_moments told reading zero = []
+clock_moments told reading (suc n) = min (moment_at told reading) last_moment ∷ clock_moments told (raised reading 1) n
+
+-- whether a command was refused
+abbrev pub is_refusal : Told → Bool
+is_refusal (told.Other (steps.Refused tag refusal)) = true
+is_refusal x = false
+
+abbrev pub has_refusal : List Told → Bool
+has_refusal story = list_any is_refusal story
+
+-- *The session*: the phases of the history are the first of the session that the source's bytes spell, and all of them
+-- where it was run through; where the bytes spell none the history is empty. Their moments are the clock's, in order.
+pub record IsSession (status : Status) (story : List Told) (text clock : Option (List ℕ)) (reading : ℕ) : Type 0 where
+  pub begun : IfSome text (λ bytes. IsFront (phases_begun story) (phases_spelled bytes))
+  pub all : is_through status ≡ true → IfSome text (λ bytes. phases_begun story ≡ phases_spelled bytes)
+  pub none : IfSome text (λ bytes. is_session bytes ≡ false → story ≡ [])
+  pub moments : IfSome clock (λ told. moments_begun story ≡ clock_moments told reading (length (moments_begun story)))
+
+-- a sink that failed took the transcripts of all phases but the last, and each command of these phases is finished
+pub record IsCutAtLast (story : List Told) (old new : Option (List ℕ)) : Type 0 where
+  pub begun : 0 < length (phases_begun story)
+  pub finished : all_done (state_of story) ≡ true
+  pub written : (more : List ℕ) × Appends old new (earlier_text story ++ more)
+
+-- *One legal history*: the story is legal, so a phase begins where each command of the one before is finished. Each command
+-- of the last phase is finished too where the session was run through, and where the sink failed.
+pub record IsOneHistory (status : Status) (story : List Told) (old new : Option (List ℕ)) : Type 0 where
+  pub legal : Legal story
+  pub complete : is_through status ≡ true → all_done (state_of story) ≡ true
+  pub cut : is_opened story ≡ true → status ≡ statuses.WriteFault → IsCutAtLast story old new
+
+-- the status's line was written; the line of a bad session names the first line that stands wrong
+pub record PrintsLine (status : Status) (text old new : Option (List ℕ)) : Type 0 where
+  pub error : SessionError
+  pub written : Appends old new (status_line status error)
+  pub first : status ≡ statuses.BadSession → IfSome text (λ bytes. session_of bytes ≡ Err error)
+
+-- a front of a status's line was written
+pub record PrintsFront (old new : Option (List ℕ)) : Type 0 where
+  pub status : Status
+  pub error : SessionError
+  pub written : AppendsFront old new (status_line status error)
+
+-- *Printed replies*: what the sink holds more is the text of the history, where a base was opened; else it is the
+-- status's line. Where the sink failed or memory ran out it is a front of that.
+pub record ArePrinted (status : Status) (story : List Told) (text old new : Option (List ℕ)) : Type 0 where
+  pub whole : is_opened story ≡ true → is_cut status ≡ false → Appends old new (rendered story)
+  pub front : is_opened story ≡ true → is_cut status ≡ true → AppendsFront old new (rendered story)
+  pub line : is_opened story ≡ false → is_cut status ≡ false → PrintsLine status text old new
+  pub line_front : is_opened story ≡ false → is_cut status ≡ true → PrintsFront old new
+
+-- a count or a text as the call began and as it ended
+pub record Change (A : Type 0) : Type 0 where
+  pub before : A
+  pub after : A
+
+-- what came in: the words, and of the source the bytes that are left and the counts of bytes given and of faults
+pub record Intake : Type 0 where
+  pub words : List (List ℕ)
+  pub text : Change (Option (List ℕ))
+  pub given : Change ℕ
+  pub faults : Change ℕ
+
+-- the words have the form, and the source was read to its end, which came within the limit
+pub record IsRead (intake : Intake) : Type 0 where
+  pub words : is_run intake.words ≡ true
+  pub at_end : IsAtEnd intake.text.after
+  pub count : ℕ
+  pub within : count ≤ text_limit
+  pub given : intake.given.after ≡ raised intake.given.before count
+  pub bytes : IfSome intake.text.before (λ bytes. length bytes ≡ count)
+
+-- a whole run: the source's bytes spell a session, a base was opened, and each command is finished
+pub record IsWhole (intake : Intake) (story : List Told) : Type 0 where
+  pub read : IsRead intake
+  pub session : IfSome intake.text.before (λ bytes. is_session bytes ≡ true)
+  pub opened : is_opened story ≡ true
+  pub finished : all_done (state_of story) ≡ true
+
+-- the source's bytes spell no session
+abbrev pub SpellsNone : Intake → Type 0
+SpellsNone intake = IfSome intake.text.before (λ bytes. is_session bytes ≡ false)
+
+-- the source failed
+pub record SourceFailed (intake : Intake) : Type 0 where
+  pub words : is_run intake.words ≡ true
+  pub rose : Rose intake.faults.before intake.faults.after
+
+-- the source gave more bytes than the limit
+pub record GaveTooMuch (intake : Intake) : Type 0 where
+  pub words : is_run intake.words ≡ true
+  pub rose : RoseAbove text_limit intake.given.before intake.given.after
+  pub bytes : IfSome intake.text.before (λ bytes. text_limit < length bytes)
+
+-- *The cause of each status*. Memory may run out anywhere. The other causes exclude one another, a failed source and a failed
+-- sink aside, so each status but those comes exactly where its cause does, unless the sink fails or memory runs out.
+abbrev pub HasCause : Status → Intake → Change ℕ → List Told → Type 0
+HasCause statuses.Good intake sink_faults story = IsWhole intake story × (has_refusal story ≡ false)
+HasCause statuses.SomeRefused intake sink_faults story = IsWhole intake story × (has_refusal story ≡ true)
+HasCause statuses.BadWords intake sink_faults story = (is_run intake.words ≡ false) × (story ≡ [])
+HasCause statuses.BadSession intake sink_faults story = IsRead intake × SpellsNone intake × (story ≡ [])
+HasCause statuses.ReadFault intake sink_faults story = SourceFailed intake × (story ≡ [])
+HasCause statuses.WriteFault intake sink_faults story = Rose sink_faults.before sink_faults.after
+HasCause statuses.NoMemory intake sink_faults story = Unit {0}
+HasCause statuses.TooLong intake sink_faults story = GaveTooMuch intake × (story ≡ [])

@@ -1,0 +1,54 @@
+-- How a call ends: its status, the status's number, and the line that it writes where no base was opened.
+use Rattle.std.specs.Prelude.{ℕ, Bool, true, false, List, [], ◌∷◌, ◌++◌, codes}
+use Rattle.std.specs.Fmt.{decimal}
+use Rattle.cc_names.specs.declared.refusals.SessionCause.{SessionCause}
+use Rattle.cc_names.specs.declared.refusals.SessionCause.TheVariants as causes
+use Rattle.cc_names.specs.declared.refusals.SessionError.{SessionError}
+use Rattle.session_run.specs.declared.statuses.Status.{Status}
+use Rattle.session_run.specs.declared.statuses.Status.TheVariants as statuses
+
+-- the number of a status, with which the program ends
+abbrev pub number_of : Status → ℕ
+number_of statuses.Good = 0
+number_of statuses.SomeRefused = 1
+number_of statuses.BadWords = 2
+number_of statuses.BadSession = 3
+number_of statuses.ReadFault = 5
+number_of statuses.WriteFault = 6
+number_of statuses.NoMemory = 8
+number_of statuses.TooLong = 9
+
+-- whether the session was run through
+abbrev pub is_through : Status → Bool
+is_through statuses.Good = true
+is_through statuses.SomeRefused = true
+is_through status = false
+
+-- whether the text may be cut short: the sink failed, or memory ran out
+abbrev pub is_cut : Status → Bool
+is_cut statuses.WriteFault = true
+is_cut statuses.NoMemory = true
+is_cut status = false
+
+-- the word of a cause
+abbrev pub cause_word : SessionCause → List ℕ
+cause_word causes.NoPhase = codes "NoPhase"
+cause_word causes.NoLane = codes "NoLane"
+cause_word causes.NoBody = codes "NoBody"
+cause_word causes.TwoLanes = codes "TwoLanes"
+cause_word causes.TooManyLanes = codes "TooManyLanes"
+cause_word causes.UnknownCommand = codes "UnknownCommand"
+cause_word causes.NotBuilt = codes "NotBuilt"
+cause_word causes.BadWord = codes "BadWord"
+
+-- the number and the cause of a session's wrong line
+abbrev pub error_words : SessionError → List ℕ
+error_words error = decimal error.line ++ 32 ∷ cause_word error.cause
+
+-- the line of a status, with the session's error where it is one of a bad session
+abbrev pub status_line : Status → SessionError → List ℕ
+status_line statuses.BadWords error = codes "bad words\n"
+status_line statuses.BadSession error = codes "bad session " ++ error_words error ++ 10 ∷ []
+status_line statuses.ReadFault error = codes "read fault\n"
+status_line statuses.TooLong error = codes "too long\n"
+status_line status error = []

@@ -1,0 +1,94 @@
+// The line that is written where no base is opened.
+
+ghost use Rattle.std.specs.Prelude.{◌≡◌, ◌++◌, IfOk, OnOk};
+ghost use Rattle.std.specs.Fmt.{decimal};
+ghost use Rattle.session_run.specs.declared.sessions.Stop.TheVariants as stops;
+ghost use Rattle.session_run.specs.Statuses.{cause_word, error_words};
+ghost use Rattle.session_run.specs.Stops.{stop_status, stop_line, WritesStop};
+
+use crate::sessions::Stop;
+use crate::statuses::Status;
+use cc_names::memory::NoMemory;
+use cc_names::refusals::{SessionCause, SessionError};
+use cc_names::texts::Text;
+use cc_outside::{Sink, write_whole};
+use std::alloc::Global;
+
+fn cause_word(cause: SessionCause) -> &'static [u8]
+    ensures { result.now ≡ cause_word cause }
+{
+    match cause {
+        SessionCause::NoPhase => b"NoPhase",
+        SessionCause::NoLane => b"NoLane",
+        SessionCause::NoBody => b"NoBody",
+        SessionCause::TwoLanes => b"TwoLanes",
+        SessionCause::TooManyLanes => b"TooManyLanes",
+        SessionCause::UnknownCommand => b"UnknownCommand",
+        SessionCause::NotBuilt => b"NotBuilt",
+        SessionCause::BadWord => b"BadWord",
+    }
+}
+
+/// The status of a stop.
+fn status_of(stop: Stop) -> Status
+    ensures { result ≡ stop_status stop }
+{
+    match stop {
+        Stop::BadWords => Status::BadWords,
+        Stop::ReadFault => Status::ReadFault,
+        Stop::TooLong => Status::TooLong,
+        Stop::BadSession(_) => Status::BadSession,
+        Stop::NoMemory => Status::NoMemory,
+    }
+}
+
+fn push_number(alloc: Global, text: &mut Vec<u8>, number: u32) -> Result<(), NoMemory>
+    ensures { OnOk result (text.new.items ≡ text.old.items ++ decimal number) }
+{
+    let digits = format!(in alloc; "{number}")?;
+    text.extend_from_slice(digits.as_bytes())?;
+    Ok(())
+}
+
+fn push_error(alloc: Global, text: &mut Vec<u8>, error: SessionError) -> Result<(), NoMemory>
+    ensures { OnOk result (text.new.items ≡ text.old.items ++ error_words error) }
+{
+    push_number(alloc, text, error.line)?;
+    text.push(b' ')?;
+    text.extend_from_slice(cause_word(error.cause))?;
+    Ok(())
+}
+
+fn error_line(alloc: Global, error: SessionError) -> Result<Text, NoMemory>
+    ensures { IfOk result (λ line. line ≡ stop_line (stops.BadSession error)) }
+{
+    let mut text = Vec::from_slice(alloc, b"bad session ")?;
+    push_error(alloc, &mut text, error)?;
+    text.push(b'\n')?;
+    Ok(Text::of(text))
+}
+
+fn line_of(alloc: Global, stop: Stop) -> Result<Text, NoMemory>
+    ensures { IfOk result (λ line. line ≡ stop_line stop) }
+{
+    match stop {
+        Stop::BadWords => Text::from_bytes(alloc, b"bad words\n"),
+        Stop::ReadFault => Text::from_bytes(alloc, b"read fault\n"),
+        Stop::TooLong => Text::from_bytes(alloc, b"too long\n"),
+        Stop::BadSession(error) => error_line(alloc, error),
+        Stop::NoMemory => Text::from_bytes(alloc, b""),
+    }
+}
+
+/// Writes the line of a stop, and answers the status.
+pub(crate) fn refuse<K: Sink>(alloc: Global, stop: Stop, sink: &mut K) -> Status
+    ensures { WritesStop stop result (K.held sink.old) (K.held sink.new) (record { before = K.faults sink.old; after = K.faults sink.new }) }
+{
+    let Ok(line) = line_of(alloc, stop) else {
+        return Status::NoMemory;
+    };
+    match write_whole(sink, line.as_bytes()) {
+        Ok(()) => status_of(stop),
+        Err(_fault) => Status::WriteFault,
+    }
+}

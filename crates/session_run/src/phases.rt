@@ -1,0 +1,98 @@
+// The phases of a session, one after the other.
+
+ghost use Rattle.std.specs.Prelude.{◌≡◌, ◌≤◌, ◌<◌, ◌+◌, ◌^◌, ℕ, IfOk, IfErr, IfSome, OnOk, OnErr, length, true, min, Bool};
+ghost use Rattle.std.specs.Io.KnownBytes.{Appends};
+ghost use Rattle.cc_outside.specs.Counts.{raised, Rose};
+ghost use Rattle.cc_outside.specs.Feeds.{AppendsFront};
+ghost use Rattle.cc_outside.specs.Moments.{moment_at};
+ghost use Rattle.legal_history.specs.States.{all_done};
+ghost use Rattle.legal_history.specs.Steps.{state_of};
+ghost use Rattle.legal_history.specs.Stories.{last_moment};
+ghost use Rattle.base_core.specs.Replying.{replies_of};
+ghost use Rattle.base_core.specs.Telling.{no_counts};
+ghost use Rattle.cc_names.specs.declared.steps.Told.TheVariants as told;
+ghost use Rattle.std.specs.Prelude.{false, ◌∷◌, []};
+ghost use Rattle.session_run.specs.Headline.{is_opened};
+ghost use Rattle.session_run.specs.Rendered.{transcript};
+ghost use Rattle.session_run.specs.Runs.{IsReady, IsRunnable, RunsPhase, LeavesPhase, HasRun, IsGivenUp, OnWriteFault};
+
+use crate::lanes::run_lanes;
+use crate::transcripts::transcript;
+use base_core::Core;
+use cc_names::commands::Phase;
+use cc_names::memory::{NoMemory, Or};
+use cc_outside::{Clock, Sink, WriteFault, write_whole};
+use std::alloc::Global;
+
+// The last moment of the year 9999.
+const LAST_MOMENT: u64 = 253_402_300_799;
+
+/// The moment now, none above the last one of the year 9999.
+fn moment_of<C: Clock>(clock: &mut C) -> u64
+    ensures capped { result ≤ last_moment }
+    ensures moment { IfSome (C.told clock.old) (λ moments. result ≡ min (moment_at moments (C.readings clock.old)) last_moment) }
+    ensures list { C.told clock.new ≡ C.told clock.old }
+    ensures counted { C.readings clock.new ≡ raised (C.readings clock.old) 1 }
+{
+    clock.now().min(LAST_MOMENT)
+}
+
+/// Begins a phase and carries out its commands, and answers whether one of them was refused.
+fn run_commands(alloc: Global, core: &mut Core, phase: Phase, moment: u64) -> Result<bool, NoMemory>
+    requires finished { all_done (state_of core.old.story) ≡ true }
+    requires opened { is_opened core.old.story ≡ true }
+    requires ready { IsReady phase }
+    requires few { (state_of core.old.story).number + 1 < 2 ^ 32 }
+    requires in_time { moment ≤ last_moment }
+    ensures ok { IfOk result (RunsPhase phase moment core.old.story core.new.story) }
+    ensures err { OnErr result (LeavesPhase phase moment core.old.story core.new.story) }
+{
+    core.begin_phase(alloc, phase, moment)?;
+    run_lanes(alloc, core)
+}
+
+/// Writes the transcript of the last phase, which has this number.
+fn write_transcript<K: Sink>(
+    alloc: Global,
+    core: &Core,
+    number: u32,
+    sink: &mut K,
+) -> Result<(), Or<WriteFault>>
+    requires begun { 0 < (state_of core.now.story).number }
+    requires few { length (state_of core.now.story).phase.lanes ≤ 64 }
+    ensures ok { OnOk result (Appends (K.held sink.old) (K.held sink.new) (transcript number (state_of core.now.story).phase (replies_of core.now.story))) }
+    ensures err { OnErr result (AppendsFront (K.held sink.old) (K.held sink.new) (transcript number (state_of core.now.story).phase (replies_of core.now.story))) }
+    ensures kept { K.faults sink.old ≤ K.faults sink.new }
+    ensures fault { OnWriteFault result (Rose (K.faults sink.old) (K.faults sink.new)) }
+{
+    let text = transcript(alloc, core, number)?;
+    match write_whole(sink, text.as_bytes()) {
+        Ok(()) => Ok(()),
+        Err(fault) => Err(Or::Is(fault)),
+    }
+}
+
+/// Runs the phases of a session and writes the transcript of each, and answers whether a command was refused.
+pub(crate) fn run_phases<K: Sink, C: Clock>(
+    alloc: Global,
+    core: &mut Core,
+    phases: Vec<Phase>,
+    sink: &mut K,
+    clock: &mut C,
+) -> Result<bool, Or<WriteFault>>
+    requires opened { core.old.story ≡ told.Opened [] no_counts false ∷ [] }
+    requires runnable { IsRunnable phases.items }
+    ensures ok { IfOk result (HasRun phases.items core.new.story (record { held = K.held sink.old; holds = K.held sink.new; moments = C.told clock.old; first = C.readings clock.old; reading = C.readings clock.new })) }
+    ensures err { IfErr result (λ cut. IsGivenUp cut phases.items core.new.story (K.held sink.old) (K.held sink.new) (C.told clock.old) (C.readings clock.old)) }
+    ensures fault { OnWriteFault result (Rose (K.faults sink.old) (K.faults sink.new)) }
+{
+    let mut refused = false;
+    let mut number = 0u32;
+    for phase in phases {
+        number += 1;
+        let moment = moment_of(clock);
+        refused |= run_commands(alloc, core, phase, moment)?;
+        write_transcript(alloc, core, number, sink)?;
+    }
+    Ok(refused)
+}

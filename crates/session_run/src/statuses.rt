@@ -1,0 +1,43 @@
+// How a call ends.
+
+ghost use Rattle.std.specs.Prelude.{◌≡◌};
+ghost use Rattle.session_run.specs.Statuses.{number_of};
+
+/// How a call of the program ends.
+#[derive(Clone, Copy, Debug, PartialEq, Eq)]
+pub enum Status {
+    /// Each command was carried out.
+    Good,
+    /// A command was refused.
+    SomeRefused,
+    /// The words have none of the forms.
+    BadWords,
+    /// The source's bytes spell no session.
+    BadSession,
+    /// The source failed.
+    ReadFault,
+    /// The sink failed.
+    WriteFault,
+    /// Memory ran out.
+    NoMemory,
+    /// The source gave too many bytes.
+    TooLong,
+}
+
+impl Status {
+    /// The number with which the program ends.
+    pub fn code(&self) -> u8
+        ensures { result ≡ number_of self.now }
+    {
+        match self {
+            Status::Good => 0,
+            Status::SomeRefused => 1,
+            Status::BadWords => 2,
+            Status::BadSession => 3,
+            Status::ReadFault => 5,
+            Status::WriteFault => 6,
+            Status::NoMemory => 8,
+            Status::TooLong => 9,
+        }
+    }
+}
