@@ -1,15 +1,15 @@
 -- Sessions and texts that are none, worked out by hand.
-use Rattle.std.proofs.Common.{◌≡◌, ℕ, [], ◌∷◌, refl, Ok, Err, Result}
+use Rattle.std.proofs.Common.{◌≡◌, ℕ, [], ◌∷◌, refl, None, false, Ok, Err, Result}
 use Rattle.std.specs.Prelude.{codes}
-use Rattle.cc_names.specs.declared.commands.Command.TheVariants.{Mkview, Save}
+use Rattle.cc_names.specs.declared.commands.Command.TheVariants.{Mkview, Save, Clearmake}
 use Rattle.cc_names.specs.declared.commands.Session.{Session}
 use Rattle.cc_names.specs.declared.refusals.SessionCause.{SessionCause}
 use Rattle.cc_names.specs.declared.refusals.SessionCause.TheVariants as causes
 use Rattle.cc_names.specs.declared.refusals.SessionError.{SessionError}
 use Rattle.session_text.specs.Sessions.{session_of}
 
--- the session that makes a view, and saves a makefile and a source in it
-first_saves : session_of (codes "phase\nlane a\nmkview v\nsave v Makefile\n|out: in\n|\tcat in > out\nsave v in\n|hi\n")
+-- the session that makes a view, saves a makefile and a source and builds one target
+first_build : session_of (codes "phase\nlane a\nmkview v\nsave v Makefile\n|out: in\n|\tcat in > out\nsave v in\n|hi\nclearmake v out\n")
     ≡ Ok (record {
       phases = record {
         lanes = record {
@@ -18,11 +18,12 @@ first_saves : session_of (codes "phase\nlane a\nmkview v\nsave v Makefile\n|out:
               Mkview (codes "v")
               ∷ Save (codes "v") (codes "Makefile") (codes "out: in\n\tcat in > out\n")
               ∷ Save (codes "v") (codes "in") (codes "hi\n")
+              ∷ Clearmake (codes "v") None false false 1 [] (codes "out" ∷ [])
               ∷ [];
         } ∷ [];
       } ∷ [];
     })
-first_saves = refl
+first_build = refl
 
 -- a line without its newline, comments, empty lines, an empty body line and blanks round words
 loose_lines : session_of (codes "# note\n\nphase\n\tlane  a \nsave v in\n|\n\n#\n||x\nmkview w")
@@ -78,7 +79,3 @@ second_lane = refl
 blanks_alone : session_of (codes "phase\nlane a\n \t\n") ≡ wrong 3 causes.UnknownCommand
 unfolding wrong
 blanks_alone = refl
-
-a_build : session_of (codes "phase\nlane a\nclearmake v out\n") ≡ wrong 3 causes.NotBuilt
-unfolding wrong
-a_build = refl

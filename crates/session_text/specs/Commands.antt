@@ -1,6 +1,7 @@
 -- The commands that lines say.
-use Rattle.std.specs.Prelude.{ℕ, Bool, true, false, Option, Some, None, Result, Ok, Err, List, [], ◌∷◌, if◌then◌else◌}
-use Rattle.cc_names.specs.Names.{name_of}
+use Rattle.std.specs.Prelude.{ℕ, Bool, true, false, ◌||◌, ◌==◌, Option, Some, None, Result, Ok, Err, List, [], ◌∷◌, slice_get, if◌then◌else◌}
+use Rattle.std.specs.List.{list_any}
+use Rattle.cc_names.specs.Names.{name_of, is_dash}
 use Rattle.cc_names.specs.Paths.{path_of, is_root}
 use Rattle.cc_names.specs.declared.commands.Command.{Command}
 use Rattle.cc_names.specs.declared.commands.Command.TheVariants as commands
@@ -48,8 +49,18 @@ abbrev pub takes_body : Verb → Bool
 takes_body verbs.Save = true
 takes_body _ = false
 
+-- a `=`
+abbrev pub is_equals : ℕ → Bool
+is_equals b = b == 61
+
+-- whether a word behind `clearmake V` is an option or a macro
+abbrev pub is_option : List ℕ → Bool
+is_option word = is_dash (slice_get word 0) || list_any is_equals word
+
 -- Whether a verb with these words is read but not carried out yet.
 abbrev pub is_later : Verb → List (List ℕ) → Bool
 is_later verbs.Later words = true
-is_later verbs.Clearmake words = true
+is_later verbs.Clearmake (view ∷ []) = true
+is_later verbs.Clearmake (view ∷ goal ∷ []) = is_option goal
+is_later verbs.Clearmake (view ∷ goal ∷ more ∷ words) = true
 is_later _ words = false

@@ -132,7 +132,7 @@ impl Above {
             Ok(Some(SessionCause::NoLane))
         } else if matches!(verb, Verb::Unknown) {
             Ok(Some(SessionCause::UnknownCommand))
-        } else if is_later(verb) {
+        } else if is_later(verb, words.again()) {
             Ok(Some(SessionCause::NotBuilt))
         } else if is_no_command(alloc, verb, words.again())? {
             Ok(Some(SessionCause::BadWord))

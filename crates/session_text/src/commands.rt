@@ -1,9 +1,10 @@
 // The commands that lines say.
 
-ghost use Rattle.std.specs.Prelude.{◌≡◌, ℕ, List, [], IfOk, is_none, None};
-ghost use Rattle.cc_names.specs.Names.{name_of};
+ghost use Rattle.std.specs.Prelude.{◌≡◌, [], IfOk, slice_get, is_none, None};
+ghost use Rattle.std.specs.List.{list_any};
+ghost use Rattle.cc_names.specs.Names.{name_of, is_dash};
 ghost use Rattle.cc_names.specs.Paths.{path_of, is_root};
-ghost use Rattle.session_text.specs.Commands.{ok_of, one_name, below_root, command_of, takes_body, is_later};
+ghost use Rattle.session_text.specs.Commands.{ok_of, one_name, below_root, command_of, takes_body, is_equals, is_option, is_later};
 ghost use Rattle.session_text.specs.declared.verbs.Verb.TheVariants as verbs;
 
 use crate::cuts::Words;
@@ -139,9 +140,38 @@ pub(crate) fn takes_body(verb: Verb) -> bool
     matches!(verb, Verb::Save)
 }
 
-/// Whether a verb is read but not carried out yet.
-pub(crate) fn is_later(verb: Verb) -> bool
-    ensures { (words : List (List ℕ)) → result ≡ is_later verb words }
+fn begins_with_dash(word: &[u8]) -> bool
+    ensures { result ≡ is_dash (slice_get word.now 0) }
 {
-    matches!(verb, Verb::Later | Verb::Clearmake)
+    match word.first() {
+        Some(byte) => *byte == b'-',
+        None => false,
+    }
+}
+
+fn has_equals(word: &[u8]) -> bool
+    ensures { result ≡ list_any is_equals word.now }
+{
+    word.iter().any(|byte| *byte == b'=')
+}
+
+fn is_option(word: &[u8]) -> bool
+    ensures { result ≡ is_option word.now }
+{
+    begins_with_dash(word) || has_equals(word)
+}
+
+/// Whether a verb with these words is read but not carried out yet.
+pub(crate) fn is_later(verb: Verb, mut words: Words<'_>) -> bool
+    ensures { result ≡ is_later verb words.entry }
+{
+    match verb {
+        Verb::Later => true,
+        Verb::Clearmake => match (words.next(), words.next(), words.next()) {
+            (None, _, _) => false,
+            (Some(_), Some(goal), None) => is_option(goal),
+            _ => true,
+        },
+        _ => false,
+    }
 }

@@ -15,6 +15,15 @@ fn words_of(alloc: Global, command: &Command) -> Result<String, AllocError> {
     match command {
         Command::Mkview { view } => format!(in alloc; "mkview {view}"),
         Command::Save { view, path, text } => format!(in alloc; "save {view} {path} [{text}]"),
+        Command::Clearmake {
+            view,
+            goals,
+            jobs,
+            ..
+        } => match goals.as_slice() {
+            [goal] => format!(in alloc; "clearmake {view} {goal} -J {jobs}"),
+            _ => format!(in alloc; "clearmake {view}"),
+        },
         _ => format!(in alloc; "other"),
     }
 }
@@ -34,9 +43,9 @@ fn assert_commands(
 }
 
 #[test]
-fn a_view_and_two_saves_are_read(rt: HostRuntime) -> Result<(), Fail> {
+fn the_first_build_is_read(rt: HostRuntime) -> Result<(), Fail> {
     let text =
-        b"phase\nlane a\nmkview v\nsave v Makefile\n|out: in\n|\tcat in > out\nsave v in\n|hi\n";
+        b"phase\nlane a\nmkview v\nsave v Makefile\n|out: in\n|\tcat in > out\nsave v in\n|hi\nclearmake v out\n";
     let session = read(rt.alloc(), text)?;
     let [phase] = session.phases.as_slice() else {
         panic!(&rt; "one phase");
@@ -49,6 +58,7 @@ fn a_view_and_two_saves_are_read(rt: HostRuntime) -> Result<(), Fail> {
         "mkview v",
         "save v Makefile [out: in\n\tcat in > out\n]",
         "save v in [hi\n]",
+        "clearmake v out -J 1",
     ];
     assert_commands(&rt, rt.alloc(), lane, &commands)?;
     Ok(())
@@ -108,7 +118,7 @@ fn each_cause_comes_with_its_line(rt: HostRuntime) {
         ("phase\nlane a\nclearmake v\n", 3, NotBuilt),
         ("phase\nlane a\nclearmake v out in\n", 3, NotBuilt),
         ("phase\nlane a\nclearmake v -V\n", 3, NotBuilt),
-        ("phase\nlane a\nclearmake v out\n", 3, NotBuilt),
+        ("phase\nlane a\nclearmake v A=b\n", 3, NotBuilt),
         ("phase x\n", 1, BadWord),
         ("phase\nlane\n", 2, BadWord),
         ("phase\nlane a b\n", 2, BadWord),
@@ -120,6 +130,8 @@ fn each_cause_comes_with_its_line(rt: HostRuntime) {
         ("phase\nlane a\nsave v a//b\n", 3, BadWord),
         ("phase\nlane a\nsave v .\n", 3, BadWord),
         ("phase\nlane a\nsave -v in\n", 3, BadWord),
+        ("phase\nlane a\nclearmake\n", 3, BadWord),
+        ("phase\nlane a\nclearmake v a//b\n", 3, BadWord),
     ] {
         assert_wrong(&rt, rt.alloc(), text, line, cause);
     }
