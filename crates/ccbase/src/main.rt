@@ -18,8 +18,8 @@ Reads a session from standard input and writes its replies to standard output.
 FILE is any word.
 
 Ends with the status
-  0  each command was carried out
-  1  a command was refused
+  0  each command was carried out, and each unit of each build is made
+  1  a command was refused, or a unit of a build failed or was blocked
   2  the words are none of the forms
   3  the text is no session
   5  the input failed

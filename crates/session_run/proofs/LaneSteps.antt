@@ -1,156 +1,171 @@
--- What a command of a lane does to the story.
-use Rattle.std.proofs.Common.{◌≡◌, ℕ, ◌+◌, ◌-◌, ◌<◌, Bool, true, false, Option, Some, None, Result, Ok, Err, List, [], ◌∷◌, ◌++◌, refl, ap, sym, ◌∙◌, arith}
-use Rattle.std.specs.Prelude.{◌||◌, IfSome, option_map}
-use Rattle.std.proofs.lemmas.List.{append-nil}
+-- What the turns of a lane do to the story.
+use Rattle.std.proofs.Common.{◌≡◌, ℕ, ◌+◌, ◌-◌, ◌<◌, Bool, true, false, Option, Some, None, Result, Ok, Err, List, [], ◌∷◌, ◌++◌, refl, ap, sym, subst, ◌∙◌, arith}
+use Rattle.std.specs.Prelude.{IfSome, IsSome, option_map}
 use Rattle.cc_names.specs.declared.commands.Command.{Command}
 use Rattle.cc_names.specs.declared.commands.Command.TheVariants as commands
 use Rattle.cc_names.specs.declared.desks.Done.{Done}
-use Rattle.cc_names.specs.declared.desks.Next.{Next}
 use Rattle.cc_names.specs.declared.desks.Next.TheVariants as nexts
 use Rattle.cc_names.specs.declared.refusals.Refusal.{Refusal}
-use Rattle.cc_names.specs.declared.replies.Reply.{Reply}
 use Rattle.cc_names.specs.declared.rows.Tag.{Tag}
 use Rattle.cc_names.specs.declared.rows.Deed.{Deed}
 use Rattle.cc_names.specs.declared.rows.Deed.TheVariants as deeds
+use Rattle.cc_names.specs.declared.selection.Seen.{Seen}
+use Rattle.cc_names.specs.declared.selection.Seen.TheVariants.{Element, Unselected}
 use Rattle.cc_names.specs.declared.steps.Told.{Told}
-use Rattle.checkout_desk.specs.Deciding.{is_carried_out, AreCarriedOut}
+use Rattle.base_core.specs.Acting.{Acts, step_of}
+use Rattle.base_core.specs.Carried.{is_carried_out, AreCarriedOut}
+use Rattle.base_core.specs.Going.{SamePhase, Finishes, GoesOn}
+use Rattle.base_core.specs.Nexts.{next_of, next_by, waiting}
+use Rattle.std.proofs.lemmas.List.{append-nil}
 use Rattle.legal_history.specs.Base.{only_where}
+use Rattle.legal_history.specs.Builds.{build_of}
 use Rattle.legal_history.specs.Decisions.{Scene, Decision, Makes, Answers, Begins, unless_refused}
 use Rattle.legal_history.specs.FileLines.{save_deed}
 use Rattle.legal_history.specs.Lines.{decision}
-use Rattle.cc_names.specs.declared.selection.Seen.{Seen}
-use Rattle.cc_names.specs.declared.selection.Seen.TheVariants.{Element, Unselected}
 use Rattle.legal_history.specs.States.{State, start, scene, done_of, with_done, is_next, next_tag, decided, lane_at}
 use Rattle.legal_history.specs.Steps.{after, done_after, state_of}
-use Rattle.base_core.specs.Acting.{Acts, step_of, kind_of}
-use Rattle.base_core.specs.Nexts.{next_of, next_by, waiting}
-use Rattle.base_core.specs.Replying.{replies_of, no_replies}
-use Rattle.session_run.specs.Headline.{phases_begun, moments_begun, is_opened, is_refusal, has_refusal}
-use Rattle.session_run.specs.Rendered.{closed_by, earlier_text}
-use Rattle.session_run.specs.Runs.{Goes, GoesInLane, IsWithin, IsFinished, count_of, is_refused}
-use Rattle.session_run.proofs.MoreSteps.{state_more, phases_more, moments_more, closed_more, refusals_more, opened_more}
+use Rattle.session_run.specs.Headline.{is_opened}
+use Rattle.session_run.specs.Runs.{Goes, GoesInLane, TakesTurn, IsWithin, IsFinished, count_of}
+use Rattle.session_run.proofs.MoreSteps.{state_more, goes_on}
 use Rattle.session_run.proofs.Within.{done_same, done_other, waits_below, waiting_carried, finished_where}
 
 -- what is decided finishes the command: its row is none of a build
-Finishes : Option (Result Decision Refusal) → Type 0
-Finishes (Some (Ok (Makes deed))) = (done : List (ℕ × ℕ)) (lane : ℕ) → done_after done lane deed ≡ with_done done lane
-Finishes decided = Unit {0}
+EndsCommand : Option (Result Decision Refusal) → Type 0
+EndsCommand (Some (Ok (Makes deed))) = (done : List (ℕ × ℕ)) (lane : ℕ) → done_after done lane deed ≡ with_done done lane
+EndsCommand decided = Unit {0}
 
-makes_finishes : (refusal : Option Refusal) (deed : Deed) → ((done : List (ℕ × ℕ)) (lane : ℕ) → done_after done lane deed ≡ with_done done lane) → Finishes (Some (unless_refused refusal (Makes deed)))
-unfolding Finishes
-makes_finishes None deed h = h
-makes_finishes (Some refusal) deed h = tt
+makes_ends : (refusal : Option Refusal) (deed : Deed) → ((done : List (ℕ × ℕ)) (lane : ℕ) → done_after done lane deed ≡ with_done done lane) → EndsCommand (Some (unless_refused refusal (Makes deed)))
+unfolding EndsCommand
+makes_ends None deed h = h
+makes_ends (Some refusal) deed h = tt
 
-saves_finish : (v path text : List ℕ) (seen : Seen) (done : List (ℕ × ℕ)) (lane : ℕ) → done_after done lane (save_deed v path text seen) ≡ with_done done lane
-saves_finish v path text (Element e picked) done lane = refl
-saves_finish v path text (Unselected e) done lane = refl
-saves_finish v path text seen done lane = refl
+saves_end : (v path text : List ℕ) (seen : Seen) (done : List (ℕ × ℕ)) (lane : ℕ) → done_after done lane (save_deed v path text seen) ≡ with_done done lane
+saves_end v path text (Element e picked) done lane = refl
+saves_end v path text (Unselected e) done lane = refl
+saves_end v path text seen done lane = refl
 
-decision_finishes : (sc : Scene) (command : Command) → is_carried_out command ≡ true → Finishes (Some (decision sc command))
-decision_finishes sc (commands.Mkview v) h = makes_finishes _ (deeds.Mkview v) (λ done lane. refl)
-decision_finishes sc (commands.Save v path text) h = makes_finishes _ _ (saves_finish v path text _)
-decision_finishes sc command h = absurd (cc)
+decision_ends : (sc : Scene) (command : Command) (tag : Tag) → is_carried_out command ≡ true → next_by (Some command) tag ≡ nexts.Act → EndsCommand (Some (decision sc command))
+decision_ends sc (commands.Mkview v) tag h acts = makes_ends _ (deeds.Mkview v) (λ done lane. refl)
+decision_ends sc (commands.Save v path text) tag h acts = makes_ends _ _ (saves_end v path text _)
+decision_ends sc (commands.Clearmake v file own_only rebuild jobs macros goals) tag h acts = absurd (cc)
+decision_ends sc command tag h acts = absurd (cc)
 
-found_finishes : (sc : Scene) (is : Bool) (found : Option Command) → IfSome found (λ command. is_carried_out command ≡ true) → Finishes (option_map (decision sc) (only_where is found))
-unfolding Finishes
-found_finishes sc false found h = tt
-found_finishes sc true None h = tt
-found_finishes sc true (Some command) h = decision_finishes sc command h
+found_ends : (sc : Scene) (is : Bool) (found : Option Command) (tag : Tag) → IfSome found (λ command. is_carried_out command ≡ true) → next_by found tag ≡ nexts.Act → EndsCommand (option_map (decision sc) (only_where is found))
+unfolding EndsCommand
+found_ends sc false found tag h acts = tt
+found_ends sc true None tag h acts = tt
+found_ends sc true (Some command) tag h acts = decision_ends sc command tag h acts
 
-decided_finishes : (s : State) (lane : ℕ) → AreCarriedOut s.phase → Finishes (decided s (next_tag s lane))
-decided_finishes s lane h = found_finishes (scene s) (is_next s (next_tag s lane)) (waiting s lane) (waiting_carried s lane h)
+decided_ends : (s : State) (lane : ℕ) → AreCarriedOut s.phase → next_of s lane ≡ nexts.Act → EndsCommand (decided s (next_tag s lane))
+decided_ends s lane h acts = found_ends (scene s) (is_next s (next_tag s lane)) (waiting s lane) (next_tag s lane) (waiting_carried s lane h) acts
 
 -- a step that finishes a command of a lane
-record IsLaneStep (s : State) (x : Told) (lane : ℕ) (refused : Bool) : Type 0 where
-  no_phase : phases_begun (x ∷ []) ≡ []
-  no_moment : moments_begun (x ∷ []) ≡ []
-  phase : (after s x).phase ≡ s.phase
-  number : (after s x).number ≡ s.number
-  closes : (replies : ℕ → List Reply) → closed_by s replies x ≡ []
+record IsLaneStep (s : State) (x : Told) (lane : ℕ) : Type 0 where
+  phase : SamePhase s (after s x)
   done : (after s x).done ≡ with_done s.done lane
-  refusal : is_refusal x ≡ refused
 
-lane_step : (s : State) (tag : Tag) (chosen : Option (Result Decision Refusal)) → Finishes chosen → IsLaneStep s (step_of s tag chosen) tag.lane (is_refused (kind_of chosen))
-unfolding Finishes
-lane_step s tag None h = record { no_phase = refl; no_moment = refl; phase = refl; number = refl; closes = λ r. refl; done = refl; refusal = refl }
-lane_step s tag (Some (Ok (Makes deed))) h = record { no_phase = refl; no_moment = refl; phase = refl; number = refl; closes = λ r. refl; done = h s.done tag.lane; refusal = refl }
-lane_step s tag (Some (Ok (Answers text))) h = record { no_phase = refl; no_moment = refl; phase = refl; number = refl; closes = λ r. refl; done = refl; refusal = refl }
-lane_step s tag (Some (Ok (Begins units))) h = record { no_phase = refl; no_moment = refl; phase = refl; number = refl; closes = λ r. refl; done = refl; refusal = refl }
-lane_step s tag (Some (Err refusal)) h = record { no_phase = refl; no_moment = refl; phase = refl; number = refl; closes = λ r. refl; done = refl; refusal = refl }
+lane_step : (s : State) (tag : Tag) (chosen : Option (Result Decision Refusal)) → EndsCommand chosen → IsLaneStep s (step_of s tag chosen) tag.lane
+unfolding EndsCommand
+lane_step s tag None h = record { phase = record { phase = refl; number = refl; moment = refl }; done = refl }
+lane_step s tag (Some (Ok (Makes deed))) h = record { phase = record { phase = refl; number = refl; moment = refl }; done = h s.done tag.lane }
+lane_step s tag (Some (Ok (Answers text))) h = record { phase = record { phase = refl; number = refl; moment = refl }; done = refl }
+lane_step s tag (Some (Ok (Begins units))) h = record { phase = record { phase = refl; number = refl; moment = refl }; done = refl }
+lane_step s tag (Some (Err refusal)) h = record { phase = record { phase = refl; number = refl; moment = refl }; done = refl }
 
-or_assoc : (a b c : Bool) → ((a || b) || c) ≡ (a || (b || c))
-or_assoc true b c = refl
-or_assoc false b c = refl
+-- a lane that acts finishes its command
+pub act_finishes : (old new : List Told) (lane : ℕ) (done : Done) → AreCarriedOut (state_of old).phase → next_of (state_of old) lane ≡ nexts.Act → Acts old new lane done → Finishes old new lane
+act_finishes old new lane done carried acts by_act =
+    let s = state_of old in
+    let x = step_of s (next_tag s lane) (decided s (next_tag s lane)) in
+    let step = lane_step s (next_tag s lane) (decided s (next_tag s lane)) (decided_ends s lane carried acts) in
+    let state : state_of new ≡ after s x = ap state_of by_act.step ∙ state_more start old (x ∷ []) in
+    record {
+      steps = x ∷ [];
+      grows = by_act.step;
+      phase = subst (SamePhase s) (sym state) step.phase;
+      done = ap (λ t. done_of t.done lane) state ∙ ap (λ d. done_of d lane) step.done ∙ done_same s.done lane;
+      others = λ other differs. ap (λ t. done_of t.done other) state ∙ ap (λ d. done_of d other) step.done ∙ done_other s.done lane other differs;
+    }
 
-or_false : (b : Bool) → b ≡ (b || false)
-or_false true = refl
-or_false false = refl
+-- a command waits where a lane acts
+waits_where : (found : Option Command) (tag : Tag) → next_by found tag ≡ nexts.Act → IsSome found
+waits_where None tag acts = absurd (cc)
+waits_where (Some command) tag acts = refl
+
+pub act_waits : (story : List Told) (lane : ℕ) → next_of (state_of story) lane ≡ nexts.Act → IsSome (waiting (state_of story) lane)
+act_waits story lane acts = waits_where (waiting (state_of story) lane) (next_tag (state_of story) lane) acts
+
+-- what a turn did, by its answer
+pub has_turned : (waits : Bool) (old new : List Told) (lane : ℕ) → waits ≡ true → TakesTurn (Ok waits) old new lane → IsSome (waiting (state_of old) lane) × Finishes old new lane
+has_turned true old new lane e h = h
+has_turned false old new lane e h = absurd (cc)
+
+pub has_rested : (waits : Bool) (old new : List Told) (lane : ℕ) → waits ≡ false → TakesTurn (Ok waits) old new lane → (waiting (state_of old) lane ≡ None) × (new ≡ old)
+has_rested true old new lane e h = absurd (cc)
+has_rested false old new lane e h = h
+
+-- a lane in which nothing was done
+pub stays : (old new : List Told) (lane : ℕ) → new ≡ old → GoesOn old new lane
+stays old new lane same = record {
+  steps = [];
+  grows = same ∙ sym (append-nil old);
+  phase = let s = ap state_of same in record { phase = ap (λ t. t.phase) s; number = ap (λ t. t.number) s; moment = ap (λ t. t.moment) s };
+  done = ap (λ t. t.done) (ap state_of same);
+  still = λ build is.
+      let at : build_of (state_of new).active lane ≡ Some build = ap (λ t. build_of t.active lane) (ap state_of same) ∙ is in
+      record { build = build; active = at; units = refl; outcomes = λ n e. e };
+}
 
 pub goes_nowhere : (story : List Told) → Goes story story
 goes_nowhere story = record { phases = refl; moments = refl; phase = refl; number = refl; earlier = refl; opened = refl }
 
 -- a lane that has done nothing yet
-pub lane_starts : (lane : ℕ) (story : List Told) → IsWithin (state_of story) lane → GoesInLane lane story story false
-lane_starts lane story within =
-    record { goes = goes_nowhere story; others = λ k differs. refl; within = within; refusals = or_false (has_refusal story) }
+pub lane_starts : (lane : ℕ) (story : List Told) → IsWithin (state_of story) lane → GoesInLane lane story story
+lane_starts lane story within = record { goes = goes_nowhere story; others = λ k differs. refl; within = within }
 
--- the command that a lane acts on waits
-acts_on : (found : Option Command) (tag : Tag) → next_by found tag ≡ nexts.Act → (command : Command) × (found ≡ Some command)
-acts_on None tag e = absurd (cc)
-acts_on (Some command) tag e = (command, refl)
+pub goes_further : (old now new : List Told) → Goes old now → Goes now new → Goes old new
+goes_further old now new one two = record {
+  phases = two.phases ∙ one.phases;
+  moments = two.moments ∙ one.moments;
+  phase = two.phase ∙ one.phase;
+  number = two.number ∙ one.number;
+  earlier = two.earlier ∙ one.earlier;
+  opened = two.opened ∙ one.opened;
+}
+
+some_waits : (s : State) (lane : ℕ) (found : Option Command) → found ≡ waiting s lane → IsSome found → done_of s.done lane < count_of (lane_at s.phase lane)
+some_waits s lane None e h = absurd (cc)
+some_waits s lane (Some command) e h = waits_below s lane command (sym e)
 
 -- a lane with one more command
-pub lane_goes_on : (lane : ℕ) (old now new : List Told) (refused : Bool) (done : Done) → GoesInLane lane old now refused → AreCarriedOut (state_of now).phase → next_of (state_of now) lane ≡ nexts.Act → is_opened now ≡ true → Acts now new lane done → GoesInLane lane old new (refused || is_refused done)
-lane_goes_on lane old now new refused done so_far carried acts opened by_act =
-    let s = state_of now in
-    let x = step_of s (next_tag s lane) (decided s (next_tag s lane)) in
-    let step = lane_step s (next_tag s lane) (decided s (next_tag s lane)) (decided_finishes s lane carried) in
-    let state : state_of new ≡ after s x = ap state_of by_act.step ∙ state_more start now x in
-    let waits = acts_on (waiting s lane) (next_tag s lane) acts in
-    let below = waits_below s lane waits.0 waits.1 in
-    let dones : (state_of new).done ≡ with_done s.done lane = ap (λ t. t.done) state ∙ step.done in
-    let phase : (state_of new).phase ≡ s.phase = ap (λ t. t.phase) state ∙ step.phase in
-    record {
-      goes = record {
-        phases = ap phases_begun by_act.step ∙ phases_more now x ∙ ap (λ more. phases_begun now ++ more) step.no_phase ∙ append-nil (phases_begun now) ∙ so_far.goes.phases;
-        moments = ap moments_begun by_act.step ∙ moments_more now x ∙ ap (λ more. moments_begun now ++ more) step.no_moment ∙ append-nil (moments_begun now) ∙ so_far.goes.moments;
-        phase = phase ∙ so_far.goes.phase;
-        number = ap (λ t. t.number) state ∙ step.number ∙ so_far.goes.number;
-        earlier = ap (λ story. earlier_text story) by_act.step ∙ closed_more start no_replies now x ∙ ap (λ more. earlier_text now ++ more) (step.closes (replies_of now)) ∙ append-nil (earlier_text now) ∙ so_far.goes.earlier;
-        opened = ap is_opened by_act.step ∙ opened_more now x ∙ sym opened ∙ so_far.goes.opened;
-      };
-      others = λ k differs. ap (λ d. done_of d k) dones ∙ done_other s.done lane k differs ∙ so_far.others k differs;
-      within =
-          let here : done_of (state_of new).done lane ≡ done_of s.done lane + 1 = ap (λ d. done_of d lane) dones ∙ done_same s.done lane in
-          let count : count_of (lane_at (state_of new).phase lane) ≡ count_of (lane_at s.phase lane) = ap (λ p. count_of (lane_at p lane)) phase in
-          omega (arith, here, count, below);
-      refusals =
-          ap has_refusal by_act.step ∙ refusals_more now x
-          ∙ ap (λ b. b || is_refusal x) so_far.refusals
-          ∙ ap (λ b. (has_refusal old || refused) || b) (step.refusal ∙ ap is_refused (sym by_act.kind))
-          ∙ or_assoc (has_refusal old) refused (is_refused done);
-    }
+pub lane_goes_on : (lane : ℕ) (old now new : List Told) → GoesInLane lane old now → is_opened now ≡ true → IsSome (waiting (state_of now) lane) → Finishes now new lane → GoesInLane lane old new
+lane_goes_on lane old now new so_far opened waits by_turn = record {
+  goes = goes_further old now new so_far.goes (goes_on now new by_turn.steps by_turn.grows by_turn.phase opened);
+  others = λ k differs. by_turn.others k differs ∙ so_far.others k differs;
+  within =
+      let below = some_waits (state_of now) lane (waiting (state_of now) lane) refl waits in
+      let count : count_of (lane_at (state_of new).phase lane) ≡ count_of (lane_at (state_of now).phase lane) = ap (λ p. count_of (lane_at p lane)) by_turn.phase.phase in
+      omega (arith, by_turn.done, count, below);
+}
 
--- a lane that has acted has fewer commands left
-pub lane_shrinks : (lane : ℕ) (now new : List Told) (done : Done) → AreCarriedOut (state_of now).phase → next_of (state_of now) lane ≡ nexts.Act → Acts now new lane done → count_of (lane_at (state_of new).phase lane) - done_of (state_of new).done lane < count_of (lane_at (state_of now).phase lane) - done_of (state_of now).done lane
-lane_shrinks lane now new done carried acts by_act =
-    let s = state_of now in
-    let x = step_of s (next_tag s lane) (decided s (next_tag s lane)) in
-    let step = lane_step s (next_tag s lane) (decided s (next_tag s lane)) (decided_finishes s lane carried) in
-    let state : state_of new ≡ after s x = ap state_of by_act.step ∙ state_more start now x in
-    let waits = acts_on (waiting s lane) (next_tag s lane) acts in
-    let below = waits_below s lane waits.0 waits.1 in
-    let here : done_of (state_of new).done lane ≡ done_of s.done lane + 1 = ap (λ t. done_of t.done lane) state ∙ ap (λ d. done_of d lane) step.done ∙ done_same s.done lane in
-    let count : count_of (lane_at (state_of new).phase lane) ≡ count_of (lane_at s.phase lane) = ap (λ t. count_of (lane_at t.phase lane)) state ∙ ap (λ p. count_of (lane_at p lane)) step.phase in
-    omega (arith, here, count, below)
+-- a lane in which memory ran out
+pub lane_leaves : (lane : ℕ) (old now new : List Told) → GoesInLane lane old now → is_opened now ≡ true → GoesOn now new lane → GoesInLane lane old new
+lane_leaves lane old now new so_far opened left = record {
+  goes = goes_further old now new so_far.goes (goes_on now new left.steps left.grows left.phase opened);
+  others = λ k differs. ap (λ d. done_of d k) left.done ∙ so_far.others k differs;
+  within =
+      let here : done_of (state_of new).done lane ≡ done_of (state_of now).done lane = ap (λ d. done_of d lane) left.done in
+      let count : count_of (lane_at (state_of new).phase lane) ≡ count_of (lane_at (state_of now).phase lane) = ap (λ p. count_of (lane_at p lane)) left.phase.phase in
+      omega (arith, here, count, so_far.within);
+}
 
--- a lane that does not act has no command left
-nothing_waits : (found : Option Command) (tag : Tag) → IfSome found (λ command. is_carried_out command ≡ true) → (next_by found tag ≡ nexts.Act → ⊥) → found ≡ None
-nothing_waits None tag carried rests = refl
-nothing_waits (Some (commands.Mkview v)) tag carried rests = absurd (rests refl)
-nothing_waits (Some (commands.Save v path text)) tag carried rests = absurd (rests refl)
-nothing_waits (Some command) tag carried rests = absurd (cc)
+-- a lane that has finished a command has fewer left
+pub lane_shrinks : (lane : ℕ) (now new : List Told) → IsSome (waiting (state_of now) lane) → Finishes now new lane → count_of (lane_at (state_of new).phase lane) - done_of (state_of new).done lane < count_of (lane_at (state_of now).phase lane) - done_of (state_of now).done lane
+lane_shrinks lane now new waits by_turn =
+    let below = some_waits (state_of now) lane (waiting (state_of now) lane) refl waits in
+    let count : count_of (lane_at (state_of new).phase lane) ≡ count_of (lane_at (state_of now).phase lane) = ap (λ p. count_of (lane_at p lane)) by_turn.phase.phase in
+    omega (arith, by_turn.done, count, below)
 
-pub lane_ends : (story : List Told) (lane : ℕ) (next : Next) → AreCarriedOut (state_of story).phase → IsWithin (state_of story) lane → next ≡ next_of (state_of story) lane → (next ≡ nexts.Act → ⊥) → IsFinished (state_of story) lane
-lane_ends story lane next carried within is rests =
-    finished_where (state_of story) lane within (nothing_waits (waiting (state_of story) lane) (next_tag (state_of story) lane) (waiting_carried (state_of story) lane carried) (λ e. rests (is ∙ e)))
+-- a lane without a command that waits is finished
+pub lane_ends : (lane : ℕ) (story : List Told) → IsWithin (state_of story) lane → waiting (state_of story) lane ≡ None → IsFinished (state_of story) lane
+lane_ends lane story within rests = finished_where (state_of story) lane within rests

@@ -1,3 +1,4 @@
+pub mod FromNothing
 pub mod LaneSteps
 pub mod MoreSteps
 pub mod PhaseSteps

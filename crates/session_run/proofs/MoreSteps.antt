@@ -1,48 +1,104 @@
--- What a story says with one more step.
-use Rattle.std.proofs.Common.{◌≡◌, ℕ, Bool, true, List, [], ◌∷◌, ◌++◌, refl, ap, sym, ◌∙◌, append_assoc}
-use Rattle.std.specs.Prelude.{◌||◌, false}
+-- What a story says with more steps behind it.
+use Rattle.std.proofs.Common.{◌≡◌, ℕ, suc, ◌+◌, Bool, true, List, [], ◌∷◌, ◌++◌, length, refl, ap, sym, ◌∙◌, append_assoc, arith}
 use Rattle.std.proofs.lemmas.List.{append-nil}
-use Rattle.std.proofs.lemmas.List.Folds.{list_any-append}
-use Rattle.cc_names.specs.declared.replies.Reply.{Reply}
+use Rattle.cc_names.specs.declared.commands.Phase.{Phase}
+use Rattle.cc_names.specs.declared.steps.Step.{Step}
+use Rattle.cc_names.specs.declared.steps.Step.TheVariants as steps
 use Rattle.cc_names.specs.declared.steps.Told.{Told}
 use Rattle.cc_names.specs.declared.steps.Told.TheVariants as told
-use Rattle.legal_history.specs.States.{State}
-use Rattle.legal_history.specs.Steps.{after, state_from}
-use Rattle.base_core.specs.Replying.{replies_after, replies_from}
-use Rattle.session_run.specs.Headline.{phases_begun, moments_begun, is_opened, is_refusal, has_refusal}
-use Rattle.session_run.specs.Rendered.{closed_by, closed_from}
+use Rattle.legal_history.specs.States.{State, start}
+use Rattle.legal_history.specs.Steps.{after, after_step, state_from, state_of}
+use Rattle.base_core.specs.Going.{SamePhase}
+use Rattle.base_core.specs.Replying.{no_replies, replies_after}
+use Rattle.session_run.specs.Headline.{phases_begun, moments_begun, is_opened}
+use Rattle.session_run.specs.Rendered.{Replies, closed_by, closed_over, replies_over}
+use Rattle.session_run.specs.Runs.{Goes, given_earlier}
 
-pub state_more : (s : State) (story : List Told) (x : Told) → state_from s (story ++ x ∷ []) ≡ after (state_from s story) x
-state_more s [] x = refl
-state_more s (y ∷ story) x = state_more (after s y) story x
+pub state_more : (s : State) (story more : List Told) → state_from s (story ++ more) ≡ state_from (state_from s story) more
+state_more s [] more = refl
+state_more s (x ∷ story) more = state_more (after s x) story more
 
-pub replies_more : (s : State) (replies : ℕ → List Reply) (story : List Told) (x : Told) → replies_from s replies (story ++ x ∷ []) ≡ replies_after (state_from s story) x (replies_from s replies story)
-replies_more s replies [] x = refl
-replies_more s replies (y ∷ story) x = replies_more (after s y) (replies_after s y replies) story x
+pub phases_more : (story more : List Told) → phases_begun (story ++ more) ≡ phases_begun story ++ phases_begun more
+phases_more [] more = refl
+phases_more (told.Plan phase moment ∷ story) more = ap (λ phases. phase ∷ phases) (phases_more story more)
+phases_more (x ∷ story) more = phases_more story more
 
-pub phases_more : (story : List Told) (x : Told) → phases_begun (story ++ x ∷ []) ≡ phases_begun story ++ phases_begun (x ∷ [])
-phases_more [] x = refl
-phases_more (told.Plan phase moment ∷ story) x = ap (λ phases. phase ∷ phases) (phases_more story x)
-phases_more (y ∷ story) x = phases_more story x
+pub moments_more : (story more : List Told) → moments_begun (story ++ more) ≡ moments_begun story ++ moments_begun more
+moments_more [] more = refl
+moments_more (told.Plan phase moment ∷ story) more = ap (λ moments. moment ∷ moments) (moments_more story more)
+moments_more (x ∷ story) more = moments_more story more
 
-pub moments_more : (story : List Told) (x : Told) → moments_begun (story ++ x ∷ []) ≡ moments_begun story ++ moments_begun (x ∷ [])
-moments_more [] x = refl
-moments_more (told.Plan phase moment ∷ story) x = ap (λ moments. moment ∷ moments) (moments_more story x)
-moments_more (y ∷ story) x = moments_more story x
+pub closed_more : (leave : State → Told → Replies → Replies) (s : State) (replies : Replies) (story more : List Told) → closed_over leave s replies (story ++ more) ≡ closed_over leave s replies story ++ closed_over leave (state_from s story) (replies_over leave s replies story) more
+closed_more leave s replies [] more = refl
+closed_more leave s replies (x ∷ story) more =
+    ap (λ phases. closed_by s replies x ++ phases) (closed_more leave (after s x) (leave s x replies) story more)
+    ∙ sym (append_assoc (closed_by s replies x) (closed_over leave (after s x) (leave s x replies) story) (closed_over leave (state_from (after s x) story) (replies_over leave (after s x) (leave s x replies) story) more))
 
-pub closed_more : (s : State) (replies : ℕ → List Reply) (story : List Told) (x : Told) → closed_from s replies (story ++ x ∷ []) ≡ closed_from s replies story ++ closed_by (state_from s story) (replies_from s replies story) x
-closed_more s replies [] x = append-nil (closed_by s replies x)
-closed_more s replies (y ∷ story) x =
-    ap (λ text. closed_by s replies y ++ text) (closed_more (after s y) (replies_after s y replies) story x)
-    ∙ sym (append_assoc (closed_by s replies y) (closed_from (after s y) (replies_after s y replies) story) (closed_by (state_from (after s y) story) (replies_from (after s y) (replies_after s y replies) story) x))
+pub opened_more : (story more : List Told) → is_opened story ≡ true → is_opened (story ++ more) ≡ is_opened story
+opened_more [] more e = absurd (cc)
+opened_more (x ∷ story) more e = refl
 
-or_false : (b : Bool) → (b || false) ≡ b
-or_false true = refl
-or_false false = refl
+-- no step but a plan raises the number of the last phase
+number_step : (s : State) (step : Step) → (after_step s step).number ≡ s.number
+number_step s (steps.Refused tag refusal) = refl
+number_step s step = refl
 
-pub refusals_more : (story : List Told) (x : Told) → has_refusal (story ++ x ∷ []) ≡ (has_refusal story || is_refusal x)
-refusals_more story x = list_any-append is_refusal story (x ∷ []) ∙ ap (λ b. has_refusal story || b) (or_false (is_refusal x))
+number_from : (s : State) (story : List Told) → (state_from s story).number ≡ s.number + length (phases_begun story)
+number_from s [] = omega arith
+number_from s (told.Plan phase moment ∷ story) =
+    let h = number_from (after s (told.Plan phase moment)) story in
+    omega (arith, h)
+number_from s (told.Opened rows counts tells ∷ story) = number_from (after s (told.Opened rows counts tells)) story
+number_from s (told.Commit row tick ∷ story) = number_from (after s (told.Commit row tick)) story
+number_from s (told.Other step ∷ story) =
+    number_from (after s (told.Other step)) story ∙ ap (λ n. n + length (phases_begun story)) (number_step s step)
 
-pub opened_more : (story : List Told) (x : Told) → is_opened (story ++ x ∷ []) ≡ true
-opened_more [] x = refl
-opened_more (y ∷ story) x = refl
+none_long : {A : Type 0} (xs : List A) → length xs ≡ 0 → xs ≡ []
+none_long [] e = refl
+none_long (x ∷ xs) e = absurd (omega (arith, e))
+
+-- steps that leave the number of the last phase begin none
+pub no_phases : (s : State) (more : List Told) → (state_from s more).number ≡ s.number → phases_begun more ≡ []
+no_phases s more same = none_long (phases_begun more) (omega (arith, number_from s more, same))
+
+no_moments : (more : List Told) → phases_begun more ≡ [] → moments_begun more ≡ []
+no_moments [] e = refl
+no_moments (told.Plan phase moment ∷ more) e = absurd (cc)
+no_moments (told.Opened rows counts tells ∷ more) e = no_moments more e
+no_moments (told.Commit row tick ∷ more) e = no_moments more e
+no_moments (told.Other step ∷ more) e = no_moments more e
+
+rest_none : (x : Told) (more : List Told) → phases_begun (x ∷ more) ≡ [] → phases_begun more ≡ []
+rest_none (told.Plan phase moment) more e = absurd (cc)
+rest_none (told.Opened rows counts tells) more e = e
+rest_none (told.Commit row tick) more e = e
+rest_none (told.Other step) more e = e
+
+closes_no_phase : (s : State) (replies : Replies) (x : Told) (more : List Told) → phases_begun (x ∷ more) ≡ [] → closed_by s replies x ≡ []
+closes_no_phase s replies (told.Plan phase moment) more e = absurd (cc)
+closes_no_phase s replies (told.Opened rows counts tells) more e = refl
+closes_no_phase s replies (told.Commit row tick) more e = refl
+closes_no_phase s replies (told.Other step) more e = refl
+
+closes_none : (leave : State → Told → Replies → Replies) (s : State) (replies : Replies) (more : List Told) → phases_begun more ≡ [] → closed_over leave s replies more ≡ []
+closes_none leave s replies [] e = refl
+closes_none leave s replies (x ∷ more) e =
+    ap (λ phases. phases ++ closed_over leave (after s x) (leave s x replies) more) (closes_no_phase s replies x more e)
+    ∙ closes_none leave (after s x) (leave s x replies) more (rest_none x more e)
+
+-- a story that goes on by steps that leave the last phase
+pub goes_on : (old new more : List Told) → new ≡ old ++ more → SamePhase (state_of old) (state_of new) → is_opened old ≡ true → Goes old new
+goes_on old new more grows same opened =
+    let state : state_of new ≡ state_from (state_of old) more = ap state_of grows ∙ state_more start old more in
+    let none = no_phases (state_of old) more (ap (λ s. s.number) (sym state) ∙ same.number) in
+    record {
+      phases = ap phases_begun grows ∙ phases_more old more ∙ ap (λ ps. phases_begun old ++ ps) none ∙ append-nil (phases_begun old);
+      moments = ap moments_begun grows ∙ moments_more old more ∙ ap (λ ms. moments_begun old ++ ms) (no_moments more none) ∙ append-nil (moments_begun old);
+      phase = same.phase;
+      number = same.number;
+      earlier =
+          ap (λ story. given_earlier story) grows ∙ closed_more replies_after start no_replies old more
+          ∙ ap (λ ps. given_earlier old ++ ps) (closes_none replies_after (state_of old) (replies_over replies_after start no_replies old) more none)
+          ∙ append-nil (given_earlier old);
+      opened = ap is_opened grows ∙ opened_more old more opened;
+    }

@@ -1,6 +1,7 @@
 -- The promises of the headline, from what a run or a stop left.
-use Rattle.std.proofs.Common.{◌≡◌, ℕ, inl, inr, Bool, true, false, Option, Some, None, Result, Ok, Err, List, [], ◌++◌, length, refl, ap, sym, subst, ◌∙◌, arith}
-use Rattle.std.specs.Prelude.{IfSome}
+use Rattle.std.proofs.Common.{◌≡◌, ℕ, inl, inr, Bool, true, false, Option, Some, None, Result, Ok, Err, List, [], ◌∷◌, ◌++◌, length, refl, ap, sym, subst, ◌∙◌, arith}
+use Rattle.std.specs.Prelude.{IfSome, IfOk, IfErr}
+use Rattle.std.specs.List.{list_any}
 use Rattle.std.specs.Io.KnownBytes.{Appends}
 use Rattle.std.proofs.lemmas.List.{append-nil}
 use Rattle.cc_names.specs.declared.commands.Phase.{Phase}
@@ -8,21 +9,24 @@ use Rattle.cc_names.specs.declared.memory.Or.{Or}
 use Rattle.cc_names.specs.declared.memory.Or.TheVariants.{NoMemory, Is}
 use Rattle.cc_names.specs.declared.refusals.SessionError.{SessionError}
 use Rattle.cc_names.specs.declared.refusals.SessionCause.TheVariants as causes
+use Rattle.cc_names.specs.declared.steps.Step.TheVariants as steps
 use Rattle.cc_names.specs.declared.steps.Told.{Told}
+use Rattle.cc_names.specs.declared.steps.Told.TheVariants as told
 use Rattle.cc_outside.specs.Counts.{Rose}
 use Rattle.cc_outside.specs.Feeds.{AppendsFront}
 use Rattle.cc_outside.specs.declared.sinks.WriteFault.{WriteFault}
 use Rattle.session_text.specs.Sessions.{session_of}
 use Rattle.legal_history.specs.Stories.{Legal}
-use Rattle.session_run.specs.Headline.{IsFront, IsSession, IsOneHistory, ArePrinted, Change, Intake, IsWhole, HasCause, is_opened, is_session, is_read, phases_begun, phases_spelled, moments_begun, clock_moments}
-use Rattle.session_run.specs.Rendered.{rendered}
-use Rattle.session_run.specs.Runs.{Outside, HasRun, HasRunSo, IsGivenUp, RunsSession, OnWriteFault, run_status}
+use Rattle.session_run.specs.Headline.{IsFront, IsSession, IsOneHistory, IsCutAtLast, AreFromNothing, ArePrinted, Change, Intake, IsWhole, HasCause, is_opened, is_session, is_read, phases_begun, phases_spelled, moments_begun, clock_moments}
+use Rattle.session_run.specs.Rendered.{rendered, earlier_text, transcripts, has_failure, phase_fails}
+use Rattle.session_run.specs.Runs.{Outside, GivenAsTold, given, given_earlier, HasRun, HasRunSo, IsGivenUp, RunsSession, OnWriteFault, run_status}
 use Rattle.session_run.specs.Statuses.{is_through, is_cut, status_line}
 use Rattle.session_run.specs.Stops.{GivesPhases, HasStop, WritesStop, stop_status, stop_line}
 use Rattle.session_run.specs.declared.sessions.Stop.{Stop}
 use Rattle.session_run.specs.declared.sessions.Stop.TheVariants as stops
 use Rattle.session_run.specs.declared.statuses.Status.{Status}
 use Rattle.session_run.specs.declared.statuses.Status.TheVariants as statuses
+use Rattle.session_run.proofs.FromNothing.{Laws, given_as_told, are_from_nothing}
 use Rattle.session_run.proofs.Running.{clock_length}
 
 -- what is told of bytes
@@ -38,8 +42,8 @@ not_false : (b : Bool) {A : Type 0} → b ≡ true → b ≡ false → A
 not_false b one two = absurd (cc)
 
 -- The session, where the phases were run
-session_run : (status : Status) (story : List Told) (phases : List Phase) (intake : Intake) (outside : Outside) (refused : Bool) → GivesPhases intake phases → HasRun phases story outside refused → IsSession status story intake.text.before outside.moments outside.first
-session_run status story phases intake outside refused gives ran = record {
+session_run : (status : Status) (story : List Told) (phases : List Phase) (intake : Intake) (outside : Outside) (failed : Bool) → GivesPhases intake phases → HasRun phases story outside failed → IsSession status story intake.text.before outside.moments outside.first
+session_run status story phases intake outside failed gives ran = record {
   begun = told_so intake.text.before _ (λ bytes. IsFront (phases_begun story) (phases_spelled bytes)) gives.spelled (λ bytes e. ([], e ∙ sym ran.phases_are ∙ sym (append-nil (phases_begun story))));
   all = λ through. told_so intake.text.before _ (λ bytes. phases_begun story ≡ phases_spelled bytes) gives.spelled (λ bytes e. ran.phases_are ∙ sym e);
   none = told_so intake.text.before _ (λ bytes. is_session bytes ≡ false → story ≡ []) gives.session (λ bytes e f. not_false (is_session bytes) e f);
@@ -71,17 +75,30 @@ run_session (Err NoMemory) story phases intake outside gives left = session_cut 
 run_session (Err (Is fault)) story phases intake outside gives left = session_cut _ (Is fault) story phases intake outside refl gives left
 
 -- One legal history
-pub run_history : (result : Result Bool (Or WriteFault)) (story : List Told) (phases : List Phase) (outside : Outside) → Legal story → HasRunSo result phases story outside → IsOneHistory (run_status result) story outside.held outside.holds
-run_history (Ok true) story phases outside legal ran = record { legal = legal; complete = λ through. ran.finished; cut = λ opened e. absurd (cc) }
-run_history (Ok false) story phases outside legal ran = record { legal = legal; complete = λ through. ran.finished; cut = λ opened e. absurd (cc) }
-run_history (Err NoMemory) story phases outside legal left = record { legal = legal; complete = λ through. absurd (cc); cut = λ opened e. absurd (cc) }
-run_history (Err (Is fault)) story phases outside legal left = record { legal = legal; complete = λ through. absurd (cc); cut = λ opened e. left.cut_at }
+cut_told : (story : List Told) (old new : Option (List ℕ)) → GivenAsTold story → IsCutAtLast story (transcripts (given_earlier story)) old new → IsCutAtLast story (earlier_text story) old new
+cut_told story old new same cut = subst (λ text. IsCutAtLast story text old new) (ap transcripts same.earlier) cut
+
+pub run_history : (result : Result Bool (Or WriteFault)) (story : List Told) (phases : List Phase) (outside : Outside) → Legal story → GivenAsTold story → HasRunSo result phases story outside → IsOneHistory (run_status result) story outside.held outside.holds
+run_history (Ok true) story phases outside legal same ran = record { legal = legal; complete = λ through. ran.finished; cut = λ opened e. absurd (cc) }
+run_history (Ok false) story phases outside legal same ran = record { legal = legal; complete = λ through. ran.finished; cut = λ opened e. absurd (cc) }
+run_history (Err NoMemory) story phases outside legal same left = record { legal = legal; complete = λ through. absurd (cc); cut = λ opened e. absurd (cc) }
+run_history (Err (Is fault)) story phases outside legal same left = record { legal = legal; complete = λ through. absurd (cc); cut = λ opened e. cut_told story outside.held outside.holds same left.cut_at }
 
 history_none : (status : Status) (story : List Told) (old new : Option (List ℕ)) → is_through status ≡ false → story ≡ [] → IsOneHistory status story old new
 history_none status story old new not empty = record {
   legal = subst Legal (sym empty) tt;
   complete = λ through. not_false (is_through status) through not;
   cut = λ opened e. not_false (is_opened story) opened (ap is_opened empty);
+}
+
+-- Builds as from nothing
+empty_nowhere : {A : Type 0} (front rest : List A) (x : A) → [] ≡ front ++ x ∷ rest → ⊥
+empty_nowhere [] rest x e = cc
+empty_nowhere (y ∷ front) rest x e = cc
+
+pub built_none : (story : List Told) → story ≡ [] → AreFromNothing story
+built_none story empty = record {
+  each = λ front rest tag build grows is sound. absurd (empty_nowhere front rest (told.Other (steps.End tag)) (sym empty ∙ grows));
 }
 
 -- Printed replies
@@ -101,22 +118,28 @@ printed_front status story text old new opened cut written = record {
   line_front = λ o c. not_false (is_opened story) opened o;
 }
 
-pub run_printed : (result : Result Bool (Or WriteFault)) (story : List Told) (phases : List Phase) (text : Option (List ℕ)) (outside : Outside) → HasRunSo result phases story outside → ArePrinted (run_status result) story text outside.held outside.holds
-run_printed (Ok true) story phases text outside ran = printed_whole _ story text outside.held outside.holds ran.opened refl ran.written
-run_printed (Ok false) story phases text outside ran = printed_whole _ story text outside.held outside.holds ran.opened refl ran.written
-run_printed (Err NoMemory) story phases text outside left = printed_front _ story text outside.held outside.holds left.opened refl left.written
-run_printed (Err (Is fault)) story phases text outside left = printed_front _ story text outside.held outside.holds left.opened refl left.written
+given_text : (story : List Told) → GivenAsTold story → transcripts (given story) ≡ rendered story
+given_text story same = ap transcripts same.ended
+
+pub run_printed : (result : Result Bool (Or WriteFault)) (story : List Told) (phases : List Phase) (text : Option (List ℕ)) (outside : Outside) → GivenAsTold story → HasRunSo result phases story outside → ArePrinted (run_status result) story text outside.held outside.holds
+run_printed (Ok true) story phases text outside same ran = printed_whole _ story text outside.held outside.holds ran.opened refl (subst (Appends outside.held outside.holds) (given_text story same) ran.written)
+run_printed (Ok false) story phases text outside same ran = printed_whole _ story text outside.held outside.holds ran.opened refl (subst (Appends outside.held outside.holds) (given_text story same) ran.written)
+run_printed (Err NoMemory) story phases text outside same left = printed_front _ story text outside.held outside.holds left.opened refl (subst (AppendsFront outside.held outside.holds) (given_text story same) left.written)
+run_printed (Err (Is fault)) story phases text outside same left = printed_front _ story text outside.held outside.holds left.opened refl (subst (AppendsFront outside.held outside.holds) (given_text story same) left.written)
 
 -- The cause
-whole : (intake : Intake) (story : List Told) (phases : List Phase) (outside : Outside) (refused : Bool) → GivesPhases intake phases → HasRun phases story outside refused → IsWhole intake story
-whole intake story phases outside refused gives ran =
+whole : (intake : Intake) (story : List Told) (phases : List Phase) (outside : Outside) (failed : Bool) → GivesPhases intake phases → HasRun phases story outside failed → IsWhole intake story
+whole intake story phases outside failed gives ran =
     record { read = gives.read; session = gives.session; opened = ran.opened; finished = ran.finished }
 
-pub run_cause : (result : Result Bool (Or WriteFault)) (story : List Told) (phases : List Phase) (intake : Intake) (outside : Outside) (faults : Change ℕ) → GivesPhases intake phases → HasRunSo result phases story outside → OnWriteFault result (Rose faults.before faults.after) → HasCause (run_status result) intake faults story
-run_cause (Ok true) story phases intake outside faults gives ran rose = (whole intake story phases outside true gives ran, ran.refusals)
-run_cause (Ok false) story phases intake outside faults gives ran rose = (whole intake story phases outside false gives ran, ran.refusals)
-run_cause (Err NoMemory) story phases intake outside faults gives left rose = tt
-run_cause (Err (Is fault)) story phases intake outside faults gives left rose = rose
+told_failures : (story : List Told) (failed : Bool) → GivenAsTold story → list_any phase_fails (given story) ≡ failed → has_failure story ≡ failed
+told_failures story failed same e = ap (list_any phase_fails) (sym same.ended) ∙ e
+
+pub run_cause : (result : Result Bool (Or WriteFault)) (story : List Told) (phases : List Phase) (intake : Intake) (outside : Outside) (faults : Change ℕ) → GivesPhases intake phases → GivenAsTold story → HasRunSo result phases story outside → OnWriteFault result (Rose faults.before faults.after) → HasCause (run_status result) intake faults story
+run_cause (Ok true) story phases intake outside faults gives same ran rose = (whole intake story phases outside true gives ran, told_failures story true same ran.failures)
+run_cause (Ok false) story phases intake outside faults gives same ran rose = (whole intake story phases outside false gives ran, told_failures story false same ran.failures)
+run_cause (Err NoMemory) story phases intake outside faults gives same left rose = tt
+run_cause (Err (Is fault)) story phases intake outside faults gives same left rose = rose
 
 -- Where no base was opened
 no_error : SessionError
@@ -135,10 +158,29 @@ closed_printed status story text old new is empty same = record {
   line_front = λ o c. record { status = statuses.NoMemory; error = no_error; written = nothing_front old new [] same };
 }
 
+-- a base was opened, and this is what became of it
+pub runs_session : (laws : Laws) (result : Result Bool (Or WriteFault)) (phases : List Phase) (status : Status) (story history : List Told) (outside : Outside) (faults : Change ℕ) → history ≡ story → status ≡ run_status result → Legal story → IfOk result (HasRun phases story outside) → IfErr result (λ cut. IsGivenUp cut phases story outside.held outside.holds outside.moments outside.first) → OnWriteFault result (Rose faults.before faults.after) → RunsSession phases status history outside faults
+runs_session laws result phases status story history outside faults same is legal ran left rose =
+    subst (λ s. RunsSession phases status s outside faults) (sym same)
+    (inl (record {
+      result = result;
+      status_is = is;
+      legal = legal;
+      told = given_as_told laws story legal;
+      built = are_from_nothing laws story legal;
+      ran = ran_so result ran left;
+      fault = rose;
+    }))
+  where
+  ran_so : (r : Result Bool (Or WriteFault)) → IfOk r (HasRun phases story outside) → IfErr r (λ cut. IsGivenUp cut phases story outside.held outside.holds outside.moments outside.first) → HasRunSo r phases story outside
+  ran_so (Ok failed) one two = one
+  ran_so (Err cut) one two = two
+
 -- the promises of one call
 pub record Promised (status : Status) (story : List Told) (intake : Intake) (outside : Outside) (faults : Change ℕ) : Type 0 where
   pub session : IsSession status story intake.text.before outside.moments outside.first
   pub history : IsOneHistory status story outside.held outside.holds
+  pub built : AreFromNothing story
   pub printed : ArePrinted status story intake.text.before outside.held outside.holds
   pub cause : HasCause status intake faults story
 
@@ -147,15 +189,17 @@ promised_run phases status story intake outside faults gives (inl run) =
     subst (λ s. Promised s story intake outside faults) (sym run.status_is)
     (record {
       session = run_session run.result story phases intake outside gives run.ran;
-      history = run_history run.result story phases outside run.legal run.ran;
-      printed = run_printed run.result story phases intake.text.before outside run.ran;
-      cause = run_cause run.result story phases intake outside faults gives run.ran run.fault;
+      history = run_history run.result story phases outside run.legal run.told run.ran;
+      built = run.built;
+      printed = run_printed run.result story phases intake.text.before outside run.told run.ran;
+      cause = run_cause run.result story phases intake outside faults gives run.told run.ran run.fault;
     })
 promised_run phases status story intake outside faults gives (inr closed) =
     let not : is_through status ≡ false = ap is_through closed.status_is in
     record {
       session = session_none status story intake.text.before outside.moments outside.first not closed.empty;
       history = history_none status story outside.held outside.holds not closed.empty;
+      built = built_none story closed.empty;
       printed = closed_printed status story intake.text.before outside.held outside.holds closed.status_is closed.empty closed.written;
       cause = subst (λ s. HasCause s intake faults story) (sym closed.status_is) tt;
     }
@@ -235,6 +279,7 @@ promised_stop stop status intake outside faults h wrote =
     record {
       session = session_none status [] intake.text.before outside.moments outside.first not refl;
       history = history_none status [] outside.held outside.holds not refl;
+      built = built_none [] refl;
       printed = stop_printed stop status intake outside.held outside.holds faults h wrote;
       cause = has_cause stop status intake faults (is_cut status) refl h wrote.answer wrote.fault;
     }

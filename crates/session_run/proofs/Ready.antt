@@ -1,6 +1,6 @@
 -- The phases of a session that was read can be run.
 use Rattle.std.proofs.Common.{◌≡◌, ℕ, ◌+◌, ◌≤◌, Bool, true, false, Option, Some, None, Ok, List, [], ◌∷◌, ◌++◌, length, refl, sym, subst, ap, ◌∙◌, arith, cond}
-use Rattle.std.specs.Prelude.{IfSome, is_none, not}
+use Rattle.std.specs.Prelude.{IfSome}
 use Rattle.std.specs.Io.KnownBytes.{Consumes, IsAtEnd}
 use Rattle.std.proofs.lemmas.List.{append-nil}
 use Rattle.cc_outside.specs.Counts.{raised}
@@ -22,11 +22,11 @@ use Rattle.session_text.specs.declared.kinds.Kind.{Kind}
 use Rattle.session_text.specs.declared.kinds.Kind.TheVariants.{Skipped, Body, Says}
 use Rattle.session_text.specs.Cuts.{lines_of}
 use Rattle.session_text.specs.Kinds.{kind_of}
-use Rattle.session_text.specs.Commands.{one_name, command_of, save, mkview, is_later}
+use Rattle.session_text.specs.Commands.{one_name, command_of, save, mkview, clearmake}
 use Rattle.session_text.specs.Causes.{Above, first_cause, where_so, cause_of, command_causes, is_empty, is_unknown, above_next, first_error, error_or, nothing}
 use Rattle.session_text.specs.Sessions.{ends_lane, body_of, before_commands, commands_before, commands_of, before_lanes, lanes_before, lanes_of, phases_before, phases_of, session_of, unless_wrong}
 use Rattle.session_text.specs.Formed.{IsCommand, IsMacro, IsLane, IsPhase, IsSession}
-use Rattle.checkout_desk.specs.Deciding.{is_carried_out, IsLaneCarriedOut, AreCarriedOut}
+use Rattle.base_core.specs.Carried.{is_carried_out, IsLaneCarriedOut, AreCarriedOut}
 use Rattle.session_run.specs.Headline.{text_limit, phases_spelled, is_session, phases_read, is_read}
 use Rattle.session_run.specs.Runs.{IsReady, IsRunnable}
 
@@ -62,15 +62,10 @@ carried_save None path text = tt
 carried_save (Some view) None text = tt
 carried_save (Some view) (Some path) text = refl
 
-fourth : (a b c d e : Bool) → first_cause (where_so a causes.NoPhase ∷ where_so b causes.NoLane ∷ where_so c causes.UnknownCommand ∷ where_so d causes.NotBuilt ∷ where_so e causes.BadWord ∷ []) ≡ None → d ≡ false
-fourth true b c d e h = absurd (cc)
-fourth false true c d e h = absurd (cc)
-fourth false false true d e h = absurd (cc)
-fourth false false false true e h = absurd (cc)
-fourth false false false false e h = refl
-
-not_later : (above : Above) (verb : Verb) (words : List (List ℕ)) → first_cause (command_causes above verb words) ≡ None → is_later verb words ≡ false
-not_later above verb words e = fourth (not above.in_phase) (is_empty above.lanes) (is_unknown verb) (is_later verb words) (is_none (command_of verb words [])) e
+carried_clearmake : (view goal : Option (List ℕ)) → IfSome (clearmake view goal) (λ command. is_carried_out command ≡ true)
+carried_clearmake None goal = tt
+carried_clearmake (Some view) None = tt
+carried_clearmake (Some view) (Some goal) = refl
 
 carried_by : (above : Above) (verb : Verb) (words : List (List ℕ)) (text : List ℕ) → cause_of above (Says verb words) ≡ None → ends_lane verb ≡ false → IfSome (command_of verb words text) (λ command. is_carried_out command ≡ true)
 carried_by above verbs.Phase words text e l = tt
@@ -82,7 +77,10 @@ carried_by above verbs.Save [] text e l = tt
 carried_by above verbs.Save (view ∷ []) text e l = tt
 carried_by above verbs.Save (view ∷ path ∷ []) text e l = carried_save _ _ text
 carried_by above verbs.Save (view ∷ path ∷ w ∷ words) text e l = tt
-carried_by above verbs.Clearmake words text e l = let later = not_later above verbs.Clearmake words e in absurd (cc)
+carried_by above verbs.Clearmake [] text e l = tt
+carried_by above verbs.Clearmake (view ∷ []) text e l = tt
+carried_by above verbs.Clearmake (view ∷ goal ∷ []) text e l = carried_clearmake _ _
+carried_by above verbs.Clearmake (view ∷ goal ∷ w ∷ words) text e l = tt
 carried_by above verbs.Later words text e l = tt
 carried_by above verbs.Unknown words text e l = tt
 

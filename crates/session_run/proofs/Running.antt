@@ -1,8 +1,11 @@
 -- The run of a session's phases, one after the other.
 use Rattle.std.proofs.Common.{◌≡◌, ℕ, zero, suc, ◌+◌, inl, inr, Bool, true, false, Option, Some, None, List, [], ◌∷◌, ◌++◌, length, take, refl, ap, ap₂, sym, subst, ◌∙◌, arith, length-append, append_assoc}
+use Rattle.std.specs.List.{list_any}
 use Rattle.std.specs.Prelude.{◌||◌, ◌&&◌, nat_lt, min, IfSome}
 use Rattle.std.specs.Io.KnownBytes.{Appends}
 use Rattle.std.proofs.lemmas.List.{append-nil}
+use Rattle.std.proofs.lemmas.List.Folds.{list_any-append}
+use Rattle.std.proofs.lemmas.Grind.{flat_map-append}
 use Rattle.std.proofs.lemmas.Bool.Decides.{nat_tests}
 use Rattle.cc_names.specs.declared.commands.Phase.{Phase}
 use Rattle.cc_names.specs.declared.memory.Or.{Or}
@@ -13,14 +16,14 @@ use Rattle.cc_outside.specs.Counts.{raised}
 use Rattle.cc_outside.specs.Feeds.{AppendsFront}
 use Rattle.cc_outside.specs.Moments.{moment_at}
 use Rattle.cc_outside.specs.declared.sinks.WriteFault.{WriteFault}
-use Rattle.legal_history.specs.States.{State, all_done}
-use Rattle.legal_history.specs.Steps.{state_of}
+use Rattle.legal_history.specs.States.{State, all_done, start}
+use Rattle.legal_history.specs.Steps.{after, state_of}
 use Rattle.legal_history.specs.Stories.{last_moment}
-use Rattle.base_core.specs.Replying.{replies_of}
+use Rattle.base_core.specs.Replying.{replies_after, replies_from, replies_of, no_replies}
 use Rattle.base_core.specs.Telling.{no_counts}
-use Rattle.session_run.specs.Headline.{IsCutAtLast, phases_begun, moments_begun, clock_moments, is_opened, has_refusal}
-use Rattle.session_run.specs.Rendered.{rendered, last_text, text_where, is_ended, transcript}
-use Rattle.session_run.specs.Runs.{GoesInPhase, RunsPhase, LeavesPhase, Outside, HasRun, IsCutBy, IsGivenUp}
+use Rattle.session_run.specs.Headline.{IsCutAtLast, phases_begun, moments_begun, clock_moments, is_opened}
+use Rattle.session_run.specs.Rendered.{EndedPhase, Replies, replies_over, last_phase, phase_where, is_ended, transcript, transcript_of, transcripts, lanes_fail, phase_fails}
+use Rattle.session_run.specs.Runs.{given, given_earlier, GoesInPhase, RunsPhase, LeavesPhase, Outside, HasRun, IsCutBy, IsGivenUp}
 
 -- what a clock may tell
 if_told : (clock : Option (List ℕ)) (P : List ℕ → Type 0) → ((told : List ℕ) → P told) → IfSome clock P
@@ -86,11 +89,50 @@ ended s n e done =
     let began : nat_lt 0 s.number ≡ true = grind (arith, nat_tests) in
     ap₂ ◌&&◌ began done
 
-pub rendered_more : (old new : List Told) (phase : Phase) (moment number : ℕ) → GoesInPhase phase moment old new → all_done (state_of new) ≡ true → number ≡ (state_of old).number + 1 → rendered new ≡ rendered old ++ transcript number (state_of new).phase (replies_of new)
-rendered_more old new phase moment number goes done e =
+-- the replies that the core gives are those that its steps leave
+replies_same : (s : State) (replies : Replies) (story : List Told) → replies_over replies_after s replies story ≡ replies_from s replies story
+replies_same s replies [] = refl
+replies_same s replies (x ∷ story) = replies_same (after s x) (replies_after s x replies) story
+
+-- the phase that ended, as it is printed
+ended_as : List Told → ℕ → EndedPhase
+ended_as story number = record { number = number; phase = (state_of story).phase; replies = replies_of story }
+
+last_is : (s : State) (number : ℕ) (is : Bool) (one two : Replies) → is ≡ true → s.number ≡ number → one ≡ two → phase_where is (record { number = s.number; phase = s.phase; replies = one }) ≡ record { number = number; phase = s.phase; replies = two } ∷ []
+last_is s number is one two e at same =
+    ap (λ b. phase_where b (record { number = s.number; phase = s.phase; replies = one })) e
+    ∙ ap₂ (λ n r. let p : EndedPhase = record { number = n; phase = s.phase; replies = r } in p ∷ []) at same
+
+given_more : (old new : List Told) (phase : Phase) (moment number : ℕ) → GoesInPhase phase moment old new → all_done (state_of new) ≡ true → number ≡ (state_of old).number + 1 → given new ≡ given old ++ ended_as new number ∷ []
+unfolding ended_as
+given_more old new phase moment number goes done e =
     ap₂ (λ front last. front ++ last) goes.earlier
-    (ap (λ is. text_where is (transcript (state_of new).number (state_of new).phase (replies_of new))) (ended (state_of new) (state_of old).number goes.number done)
-    ∙ ap (λ n. transcript n (state_of new).phase (replies_of new)) (goes.number ∙ sym e))
+    (last_is (state_of new) number (is_ended (state_of new)) (replies_over replies_after start no_replies new) (replies_of new)
+    (ended (state_of new) (state_of old).number goes.number done) (goes.number ∙ sym e) (replies_same start no_replies new))
+
+one_text : (ended : EndedPhase) → transcripts (ended ∷ []) ≡ transcript_of ended
+one_text ended = append-nil (transcript_of ended)
+
+one_fails : (ended : EndedPhase) → list_any phase_fails (ended ∷ []) ≡ phase_fails ended
+one_fails ended = or_false (phase_fails ended)
+  where
+    or_false : (b : Bool) → (b || false) ≡ b
+    or_false true = refl
+    or_false false = refl
+
+rendered_more : (old new : List Told) (phase : Phase) (moment number : ℕ) → GoesInPhase phase moment old new → all_done (state_of new) ≡ true → number ≡ (state_of old).number + 1 → transcripts (given new) ≡ transcripts (given old) ++ transcript number (state_of new).phase (replies_of new)
+unfolding ended_as
+rendered_more old new phase moment number goes done e =
+    ap transcripts (given_more old new phase moment number goes done e)
+    ∙ flat_map-append transcript_of (given old) (ended_as new number ∷ [])
+    ∙ ap (λ text. transcripts (given old) ++ text) (one_text (ended_as new number))
+
+failures_more : (old new : List Told) (phase : Phase) (moment number : ℕ) (before now : Bool) → GoesInPhase phase moment old new → all_done (state_of new) ≡ true → number ≡ (state_of old).number + 1 → list_any phase_fails (given old) ≡ before → now ≡ lanes_fail 1 (state_of new).phase.lanes (replies_of new) → list_any phase_fails (given new) ≡ (before || now)
+unfolding ended_as
+failures_more old new phase moment number before now goes done e was is =
+    ap (list_any phase_fails) (given_more old new phase moment number goes done e)
+    ∙ list_any-append phase_fails (given old) (ended_as new number ∷ [])
+    ∙ ap₂ (λ a b. a || b) was (one_fails (ended_as new number) ∙ sym is)
 
 -- nothing has been run
 pub run_starts : (story : List Told) (held clock : Option (List ℕ)) (first : ℕ) → story ≡ told.Opened [] no_counts false ∷ [] → HasRun [] story (record { held = held; holds = held; moments = clock; first = first; reading = first }) false
@@ -101,8 +143,8 @@ run_starts story held clock first is = record {
   finished = ap (λ s. all_done (state_of s)) is;
   moments_are = if_told clock (λ told. moments_begun story ≡ clock_moments told first 0) (λ told. ap moments_begun is);
   reading_is = sym (raised_none first);
-  refusals = ap has_refusal is;
-  written = subst (Appends held held) (sym (ap (λ s. rendered s) is)) (nothing_more held);
+  failures = ap (λ s. list_any phase_fails (given s)) is;
+  written = subst (Appends held held) (sym (ap (λ s. transcripts (given s)) is)) (nothing_more held);
 }
 
 one_more : (phases : List Phase) (phase : Phase) → length (phases ++ phase ∷ []) ≡ suc (length phases)
@@ -114,8 +156,8 @@ moments_on told old new first reading count moment is before at now =
     is ∙ ap₂ (λ ms m. ms ++ m ∷ []) before (now ∙ ap (λ r. min (moment_at told r) last_moment) at) ∙ sym (clock_more told first count)
 
 -- one phase more has been run
-pub run_goes_on : (phases : List Phase) (phase : Phase) (old new : List Told) (outside : Outside) (holds : Option (List ℕ)) (reading moment number : ℕ) (refused more : Bool) → HasRun phases old outside refused → RunsPhase phase moment old new more → IfSome outside.moments (λ told. moment ≡ min (moment_at told outside.reading) last_moment) → reading ≡ raised outside.reading 1 → number ≡ length phases + 1 → Appends outside.holds holds (transcript number (state_of new).phase (replies_of new)) → HasRun (phases ++ phase ∷ []) new (record { held = outside.held; holds = holds; moments = outside.moments; first = outside.first; reading = reading }) (refused || more)
-run_goes_on phases phase old new outside holds reading moment number refused more so_far runs told reads count wrote = record {
+pub run_goes_on : (phases : List Phase) (phase : Phase) (old new : List Told) (outside : Outside) (holds : Option (List ℕ)) (reading moment number : ℕ) (failed more : Bool) → HasRun phases old outside failed → RunsPhase phase moment old new → more ≡ lanes_fail 1 (state_of new).phase.lanes (replies_of new) → IfSome outside.moments (λ told. moment ≡ min (moment_at told outside.reading) last_moment) → reading ≡ raised outside.reading 1 → number ≡ length phases + 1 → Appends outside.holds holds (transcript number (state_of new).phase (replies_of new)) → HasRun (phases ++ phase ∷ []) new (record { held = outside.held; holds = holds; moments = outside.moments; first = outside.first; reading = reading }) (failed || more)
+run_goes_on phases phase old new outside holds reading moment number failed more so_far runs fails told reads count wrote = record {
   opened = runs.goes.opened;
   phases_are = runs.goes.phases ∙ ap (λ ps. ps ++ phase ∷ []) so_far.phases_are;
   number = omega (arith, runs.goes.number, so_far.number, one_more phases phase);
@@ -124,47 +166,52 @@ run_goes_on phases phase old new outside holds reading moment number refused mor
       both_told outside.moments _ _ (λ told. moments_begun new ≡ clock_moments told outside.first (length (phases ++ phase ∷ []))) so_far.moments_are told
       (λ told before now. moments_on told old new outside.first outside.reading (length phases) moment runs.goes.moments before so_far.reading_is now ∙ ap (clock_moments told outside.first) (sym (one_more phases phase)));
   reading_is = reads ∙ ap (λ r. raised r 1) so_far.reading_is ∙ raised_last outside.first (length phases) ∙ ap (raised outside.first) (sym (one_more phases phase));
-  refusals = runs.refusals ∙ ap (λ b. b || more) so_far.refusals;
+  failures = failures_more old new phase moment number failed more runs.goes runs.finished (omega (arith, count, so_far.number)) so_far.failures fails;
   written =
       subst (Appends outside.held holds) (sym (rendered_more old new phase moment number runs.goes runs.finished (omega (arith, count, so_far.number))))
-      (appends_more outside.held outside.holds holds (rendered old) (transcript number (state_of new).phase (replies_of new)) so_far.written wrote);
+      (appends_more outside.held outside.holds holds (transcripts (given old)) (transcript number (state_of new).phase (replies_of new)) so_far.written wrote);
 }
 
 moments_kept : (told : List ℕ) (story : List Told) (first count : ℕ) → moments_begun story ≡ clock_moments told first count → moments_begun story ≡ clock_moments told first (length (moments_begun story))
 moments_kept told story first count is = is ∙ ap (clock_moments told first) (sym (clock_length told first count) ∙ sym (ap length is))
 
+-- the last phase, as it is printed where its commands are all finished
+abbrev last_given : List Told → List EndedPhase
+last_given story = last_phase (state_of story) (replies_over replies_after start no_replies story)
+
 -- the run was given up for want of memory
-pub run_leaves : (phases rest all : List Phase) (phase : Phase) (old new : List Told) (outside : Outside) (moment : ℕ) (refused : Bool) → HasRun phases old outside refused → LeavesPhase phase moment old new → IfSome outside.moments (λ told. moment ≡ min (moment_at told outside.reading) last_moment) → phases ++ phase ∷ rest ≡ all → IsGivenUp NoMemory all new outside.held outside.holds outside.moments outside.first
-run_leaves phases rest all phase old new outside moment refused so_far (inl is) told whole = record {
+pub run_leaves : (phases rest all : List Phase) (phase : Phase) (old new : List Told) (outside : Outside) (moment : ℕ) (failed : Bool) → HasRun phases old outside failed → LeavesPhase phase moment old new → IfSome outside.moments (λ told. moment ≡ min (moment_at told outside.reading) last_moment) → phases ++ phase ∷ rest ≡ all → IsGivenUp NoMemory all new outside.held outside.holds outside.moments outside.first
+run_leaves phases rest all phase old new outside moment failed so_far (inl is) told whole = record {
   opened = ap is_opened is ∙ so_far.opened;
   begun = (phase ∷ rest, sym whole ∙ ap (λ ps. ps ++ phase ∷ rest) (sym (ap phases_begun is ∙ so_far.phases_are)));
   moments_are =
       both_told outside.moments _ _ (λ told. moments_begun new ≡ clock_moments told outside.first (length (moments_begun new))) so_far.moments_are told
       (λ told before now. moments_kept told new outside.first (length phases) (ap moments_begun is ∙ before));
   written =
-      subst (AppendsFront outside.held outside.holds) (append-nil (rendered old) ∙ sym (ap (λ s. rendered s) is))
-      (is_front outside.held outside.holds (rendered old) [] so_far.written);
+      subst (AppendsFront outside.held outside.holds) (append-nil (transcripts (given old)) ∙ sym (ap (λ s. transcripts (given s)) is))
+      (is_front outside.held outside.holds (transcripts (given old)) [] so_far.written);
   cut_at = tt;
 }
-run_leaves phases rest all phase old new outside moment refused so_far (inr goes) told whole = record {
+run_leaves phases rest all phase old new outside moment failed so_far (inr goes) told whole = record {
   opened = goes.opened;
   begun = (rest, sym whole ∙ sym (append_assoc phases (phase ∷ []) rest) ∙ ap (λ ps. ps ++ rest) (sym (goes.phases ∙ ap (λ ps. ps ++ phase ∷ []) so_far.phases_are)));
   moments_are =
       both_told outside.moments _ _ (λ told. moments_begun new ≡ clock_moments told outside.first (length (moments_begun new))) so_far.moments_are told
       (λ told before now. moments_kept told new outside.first (suc (length phases)) (moments_on told old new outside.first outside.reading (length phases) moment goes.moments before so_far.reading_is now));
   written =
-      subst (λ front. AppendsFront outside.held outside.holds (front ++ last_text (state_of new) (replies_of new))) (sym goes.earlier)
-      (is_front outside.held outside.holds (rendered old) (last_text (state_of new) (replies_of new)) so_far.written);
+      subst (AppendsFront outside.held outside.holds)
+      (ap (λ front. front ++ transcripts (last_given new)) (ap transcripts (sym goes.earlier)) ∙ sym (flat_map-append transcript_of (given_earlier new) (last_given new)))
+      (is_front outside.held outside.holds (transcripts (given old)) (transcripts (last_given new)) so_far.written);
   cut_at = tt;
 }
 
-cut_in : (cut : Or WriteFault) (story : List Told) (old new : Option (List ℕ)) → IsCutAtLast story old new → IsCutBy cut story old new
+cut_in : (cut : Or WriteFault) (story : List Told) (old new : Option (List ℕ)) → IsCutAtLast story (transcripts (given_earlier story)) old new → IsCutBy cut story old new
 cut_in NoMemory story old new h = tt
 cut_in (Is fault) story old new h = h
 
 -- the run was given up in a transcript
-pub run_is_cut : (cut : Or WriteFault) (phases rest all : List Phase) (phase : Phase) (old new : List Told) (outside : Outside) (holds : Option (List ℕ)) (moment number : ℕ) (refused more : Bool) → HasRun phases old outside refused → RunsPhase phase moment old new more → IfSome outside.moments (λ told. moment ≡ min (moment_at told outside.reading) last_moment) → number ≡ length phases + 1 → phases ++ phase ∷ rest ≡ all → AppendsFront outside.holds holds (transcript number (state_of new).phase (replies_of new)) → IsGivenUp cut all new outside.held holds outside.moments outside.first
-run_is_cut cut phases rest all phase old new outside holds moment number refused more so_far runs told count whole wrote =
+pub run_is_cut : (cut : Or WriteFault) (phases rest all : List Phase) (phase : Phase) (old new : List Told) (outside : Outside) (holds : Option (List ℕ)) (moment number : ℕ) (failed : Bool) → HasRun phases old outside failed → RunsPhase phase moment old new → IfSome outside.moments (λ told. moment ≡ min (moment_at told outside.reading) last_moment) → number ≡ length phases + 1 → phases ++ phase ∷ rest ≡ all → AppendsFront outside.holds holds (transcript number (state_of new).phase (replies_of new)) → IsGivenUp cut all new outside.held holds outside.moments outside.first
+run_is_cut cut phases rest all phase old new outside holds moment number failed so_far runs told count whole wrote =
     let begun : phases_begun new ≡ phases ++ phase ∷ [] = runs.goes.phases ∙ ap (λ ps. ps ++ phase ∷ []) so_far.phases_are in
     record {
       opened = runs.goes.opened;
@@ -174,14 +221,14 @@ run_is_cut cut phases rest all phase old new outside holds moment number refused
           (λ told before now. moments_kept told new outside.first (suc (length phases)) (moments_on told old new outside.first outside.reading (length phases) moment runs.goes.moments before so_far.reading_is now));
       written =
           subst (AppendsFront outside.held holds) (sym (rendered_more old new phase moment number runs.goes runs.finished (omega (arith, count, so_far.number))))
-          (front_more outside.held outside.holds holds (rendered old) (transcript number (state_of new).phase (replies_of new)) so_far.written wrote);
+          (front_more outside.held outside.holds holds (transcripts (given old)) (transcript number (state_of new).phase (replies_of new)) so_far.written wrote);
       cut_at = cut_in cut new outside.held holds (record {
         begun = omega (arith, ap length begun, one_more phases phase);
         finished = runs.finished;
         written = (
           take wrote.0 (transcript number (state_of new).phase (replies_of new)),
-          subst (λ front. Appends outside.held holds (front ++ take wrote.0 (transcript number (state_of new).phase (replies_of new)))) (sym runs.goes.earlier)
-              (appends_more outside.held outside.holds holds (rendered old) (take wrote.0 (transcript number (state_of new).phase (replies_of new))) so_far.written wrote.2),
+          subst (λ front. Appends outside.held holds (front ++ take wrote.0 (transcript number (state_of new).phase (replies_of new)))) (sym (ap transcripts runs.goes.earlier))
+              (appends_more outside.held outside.holds holds (transcripts (given old)) (take wrote.0 (transcript number (state_of new).phase (replies_of new))) so_far.written wrote.2),
         );
       });
     }

@@ -1,18 +1,19 @@
 -- The headline of the product:
 --
--- For every session, the printed replies are those of one legal history that holds each command once in its lane's order.
+-- For every session, the printed replies are those of one legal history that holds each command once in its lane's order,
+-- and every clearmake reply is that of building from nothing on the versions its view selects at the reference row.
 --
 -- A call of the program is seen as plain values: its words, what the source had left and gave, what the sink holds, what the
 -- clock tells, its status, and the story of the base that it opened, which is empty where it opened none. Each record is one
 -- promise of the sentence. What it says of bytes and moments holds where the source, the sink and the clock tell them.
-use Rattle.std.specs.Prelude.{◌≡◌, ℕ, zero, suc, ◌<◌, ◌≤◌, min, Bool, true, false, Option, IfSome, Result, Ok, Err, List, [], ◌∷◌, ◌++◌, length}
-use Rattle.std.specs.List.{list_any}
+use Rattle.std.specs.Prelude.{◌≡◌, ℕ, zero, suc, ◌<◌, ◌≤◌, min, Bool, true, false, Option, Some, IfSome, Result, Ok, Err, List, [], ◌∷◌, ◌++◌, length}
 use Rattle.std.specs.Str.{bytes_eq}
 use Rattle.std.specs.Prelude.{codes}
 use Rattle.std.specs.Io.KnownBytes.{Appends, IsAtEnd}
 use Rattle.cc_names.specs.declared.commands.Phase.{Phase}
 use Rattle.cc_names.specs.declared.commands.Session.{Session}
 use Rattle.cc_names.specs.declared.refusals.SessionError.{SessionError}
+use Rattle.cc_names.specs.declared.rows.Tag.{Tag}
 use Rattle.cc_names.specs.declared.steps.Step.TheVariants as steps
 use Rattle.cc_names.specs.declared.steps.Told.{Told}
 use Rattle.cc_names.specs.declared.steps.Told.TheVariants as told
@@ -20,10 +21,13 @@ use Rattle.cc_outside.specs.Counts.{raised, Rose, RoseAbove}
 use Rattle.cc_outside.specs.Feeds.{AppendsFront}
 use Rattle.cc_outside.specs.Moments.{moment_at}
 use Rattle.session_text.specs.Sessions.{session_of}
-use Rattle.legal_history.specs.States.{all_done}
+use Rattle.fresh_builds.specs.Commanded.{IsOfCommand}
+use Rattle.fresh_builds.specs.Replied.{reply_of, reply_from_nothing}
+use Rattle.legal_history.specs.Builds.{Build}
+use Rattle.legal_history.specs.States.{State, all_done, build_by}
 use Rattle.legal_history.specs.Steps.{state_of}
 use Rattle.legal_history.specs.Stories.{Legal, last_moment}
-use Rattle.session_run.specs.Rendered.{rendered, earlier_text}
+use Rattle.session_run.specs.Rendered.{rendered, earlier_text, has_failure}
 use Rattle.session_run.specs.Statuses.{is_through, is_cut, status_line}
 use Rattle.session_run.specs.declared.statuses.Status.{Status}
 use Rattle.session_run.specs.declared.statuses.Status.TheVariants as statuses
@@ -78,14 +82,6 @@ abbrev pub clock_moments : List ℕ → ℕ → ℕ → List ℕ
 clock_moments told reading zero = []
 clock_moments told reading (suc n) = min (moment_at told reading) last_moment ∷ clock_moments told (raised reading 1) n
 
--- whether a command was refused
-abbrev pub is_refusal : Told → Bool
-is_refusal (told.Other (steps.Refused tag refusal)) = true
-is_refusal x = false
-
-abbrev pub has_refusal : List Told → Bool
-has_refusal story = list_any is_refusal story
-
 -- *The session*: the phases of the history are the first of the session that the source's bytes spell, and all of them
 -- where it was run through; where the bytes spell none the history is empty. Their moments are the clock's, in order.
 pub record IsSession (status : Status) (story : List Told) (text clock : Option (List ℕ)) (reading : ℕ) : Type 0 where
@@ -95,17 +91,27 @@ pub record IsSession (status : Status) (story : List Told) (text clock : Option 
   pub moments : IfSome clock (λ told. moments_begun story ≡ clock_moments told reading (length (moments_begun story)))
 
 -- a sink that failed took the transcripts of all phases but the last, and each command of these phases is finished
-pub record IsCutAtLast (story : List Told) (old new : Option (List ℕ)) : Type 0 where
+pub record IsCutAtLast (story : List Told) (earlier : List ℕ) (old new : Option (List ℕ)) : Type 0 where
   pub begun : 0 < length (phases_begun story)
   pub finished : all_done (state_of story) ≡ true
-  pub written : (more : List ℕ) × Appends old new (earlier_text story ++ more)
+  pub written : (more : List ℕ) × Appends old new (earlier ++ more)
 
 -- *One legal history*: the story is legal, so a phase begins where each command of the one before is finished. Each command
 -- of the last phase is finished too where the session was run through, and where the sink failed.
 pub record IsOneHistory (status : Status) (story : List Told) (old new : Option (List ℕ)) : Type 0 where
   pub legal : Legal story
   pub complete : is_through status ≡ true → all_done (state_of story) ≡ true
-  pub cut : is_opened story ≡ true → status ≡ statuses.WriteFault → IsCutAtLast story old new
+  pub cut : is_opened story ≡ true → status ≡ statuses.WriteFault → IsCutAtLast story (earlier_text story) old new
+
+-- A build that ends: it is the one of its lane's clearmake, whose build from nothing at the reference rows, on the versions
+-- that the view selects there, has the same units; and what its units have come to is replied as that build says.
+pub record IsFromNothing (s : State) (lane : ℕ) (build : Build) : Type 0 where
+  pub of_command : IsOfCommand s lane build
+  pub reply : reply_of s.base build ≡ reply_from_nothing s.base build
+
+-- *Builds as from nothing*: each build of the history that ends, and under which no disk failed.
+pub record AreFromNothing (story : List Told) : Type 0 where
+  pub each : (front rest : List Told) (tag : Tag) (build : Build) → story ≡ front ++ told.Other (steps.End tag) ∷ rest → build_by (state_of front) tag ≡ Some build → build.faulted ≡ false → IsFromNothing (state_of front) tag.lane build
 
 -- the status's line was written; the line of a bad session names the first line that stands wrong
 pub record PrintsLine (status : Status) (text old new : Option (List ℕ)) : Type 0 where
@@ -173,8 +179,8 @@ pub record GaveTooMuch (intake : Intake) : Type 0 where
 -- *The cause of each status*. Memory may run out anywhere. The other causes exclude one another, a failed source and a failed
 -- sink aside, so each status but those comes exactly where its cause does, unless the sink fails or memory runs out.
 abbrev pub HasCause : Status → Intake → Change ℕ → List Told → Type 0
-HasCause statuses.Good intake sink_faults story = IsWhole intake story × (has_refusal story ≡ false)
-HasCause statuses.SomeRefused intake sink_faults story = IsWhole intake story × (has_refusal story ≡ true)
+HasCause statuses.Good intake sink_faults story = IsWhole intake story × (has_failure story ≡ false)
+HasCause statuses.SomeFailed intake sink_faults story = IsWhole intake story × (has_failure story ≡ true)
 HasCause statuses.BadWords intake sink_faults story = (is_run intake.words ≡ false) × (story ≡ [])
 HasCause statuses.BadSession intake sink_faults story = IsRead intake × SpellsNone intake × (story ≡ [])
 HasCause statuses.ReadFault intake sink_faults story = SourceFailed intake × (story ≡ [])

@@ -1,18 +1,88 @@
 -- The text of a story: the transcripts of its phases whose commands are all finished.
-use Rattle.std.specs.Prelude.{ℕ, ◌+◌, Bool, true, false, ◌&&◌, nat_lt, List, [], ◌∷◌, ◌++◌, codes}
+--
+-- Each clearmake is told here from the build from nothing at its reference rows, so what is printed of it is what that
+-- build says.
+use Rattle.std.specs.Prelude.{ℕ, ◌+◌, Bool, true, false, ◌&&◌, ◌||◌, not, nat_lt, Option, Some, None, List, [], ◌∷◌, ◌++◌, codes, if◌then◌else◌}
 use Rattle.std.specs.Fmt.{decimal}
+use Rattle.std.specs.List.{flat_map, list_any, list_all}
 use Rattle.cc_names.specs.declared.commands.Lane.{Lane}
 use Rattle.cc_names.specs.declared.commands.Phase.{Phase}
 use Rattle.cc_names.specs.declared.replies.Reply.{Reply}
+use Rattle.cc_names.specs.declared.replies.Reply.TheVariants as replies
+use Rattle.cc_names.specs.declared.steps.Step.TheVariants as steps
 use Rattle.cc_names.specs.declared.steps.Told.{Told}
 use Rattle.cc_names.specs.declared.steps.Told.TheVariants as told
-use Rattle.reply_text.specs.Replies.{render}
-use Rattle.legal_history.specs.States.{State, all_done, start}
+use Rattle.fresh_builds.specs.Replied.{reply_from_nothing}
+use Rattle.reply_text.specs.Replies.{render, is_made_line}
+use Rattle.legal_history.specs.Base.{Base}
+use Rattle.legal_history.specs.Builds.{Build}
+use Rattle.legal_history.specs.States.{State, all_done, build_by, start}
 use Rattle.legal_history.specs.Steps.{after, state_of}
-use Rattle.base_core.specs.Replying.{replies_after, replies_of, no_replies}
+use Rattle.base_core.specs.Replying.{replies_by, in_lane, no_replies}
+
+-- the replies to the commands of each lane
+abbrev pub Replies : Type 0
+Replies = ℕ → List Reply
+
+-- the reply to a command that built, by the build from nothing, or that the disk failed under it
+abbrev pub end_from_nothing : Base → Option Build → Option Reply
+end_from_nothing b None = None
+end_from_nothing b (Some build) = Some (if build.faulted then replies.DiskFault else reply_from_nothing b build)
+
+-- the replies to the commands of a lane that a step finishes, those of builds from nothing
+abbrev pub told_by : State → ℕ → Told → List Reply
+told_by s lane (told.Other (steps.End tag)) = in_lane lane tag (end_from_nothing s.base (build_by s tag))
+told_by s lane step = replies_by s lane step
+
+-- a lane's replies after a step; a new phase has none yet
+abbrev pub told_after : State → Told → Replies → Replies
+told_after s (told.Plan phase moment) replies lane = []
+told_after s step replies lane = replies lane ++ told_by s lane step
+
+-- a phase whose commands are all finished, with its number and the replies to them
+pub record EndedPhase : Type 0 where
+  pub number : ℕ
+  pub phase : Phase
+  pub replies : Replies
+
+-- whether a phase began and all its commands are finished
+abbrev pub is_ended : State → Bool
+is_ended s = nat_lt 0 s.number && all_done s
+
+-- a phase where this is so, else none
+abbrev pub phase_where : Bool → EndedPhase → List EndedPhase
+phase_where true ended = ended ∷ []
+phase_where false ended = []
+
+-- the last phase, where all its commands are finished
+abbrev pub last_phase : State → Replies → List EndedPhase
+last_phase s replies = phase_where (is_ended s) (record { number = s.number; phase = s.phase; replies = replies })
+
+-- the phase that a step closes: a phase that begins closes the one before it
+abbrev pub closed_by : State → Replies → Told → List EndedPhase
+closed_by s replies (told.Plan phase moment) = last_phase s replies
+closed_by s replies step = []
+
+-- the replies after the steps of a story, where each step leaves them so
+abbrev pub replies_over : (State → Told → Replies → Replies) → State → Replies → List Told → Replies
+replies_over leave s replies [] = replies
+replies_over leave s replies (x ∷ story) = replies_over leave (after s x) (leave s x replies) story
+
+-- the phases that the steps of a story close
+abbrev pub closed_over : (State → Told → Replies → Replies) → State → Replies → List Told → List EndedPhase
+closed_over leave s replies [] = []
+closed_over leave s replies (x ∷ story) = closed_by s replies x ++ closed_over leave (after s x) (leave s x replies) story
+
+-- all phases of a story but the last
+abbrev pub earlier_phases : (State → Told → Replies → Replies) → List Told → List EndedPhase
+earlier_phases leave story = closed_over leave start no_replies story
+
+-- the phases of a story in order, the last one where all its commands are finished
+abbrev pub ended_phases : (State → Told → Replies → Replies) → List Told → List EndedPhase
+ended_phases leave story = earlier_phases leave story ++ last_phase (state_of story) (replies_over leave start no_replies story)
 
 -- the lines of lanes that are numbered from n on
-abbrev pub lanes_text : Phase → ℕ → List Lane → (ℕ → List Reply) → List ℕ
+abbrev pub lanes_text : Phase → ℕ → List Lane → Replies → List ℕ
 lanes_text phase n [] replies = []
 lanes_text phase n (lane ∷ lanes) replies = render phase n (replies n) ++ lanes_text phase (n + 1) lanes replies
 
@@ -21,36 +91,38 @@ abbrev pub phase_line : ℕ → List ℕ
 phase_line number = codes "phase " ++ decimal number ++ 10 ∷ []
 
 -- the transcript of a phase of this number: its line, and then each lane's lines with the replies to its commands
-abbrev pub transcript : ℕ → Phase → (ℕ → List Reply) → List ℕ
+abbrev pub transcript : ℕ → Phase → Replies → List ℕ
 transcript number phase replies = phase_line number ++ lanes_text phase 1 phase.lanes replies
 
--- whether a phase began and all its commands are finished
-abbrev pub is_ended : State → Bool
-is_ended s = nat_lt 0 s.number && all_done s
+abbrev pub transcript_of : EndedPhase → List ℕ
+transcript_of ended = transcript ended.number ended.phase ended.replies
 
--- a text where this is so, else nothing
-abbrev pub text_where : Bool → List ℕ → List ℕ
-text_where true text = text
-text_where false text = []
-
--- the transcript of the last phase, where all its commands are finished
-abbrev pub last_text : State → (ℕ → List Reply) → List ℕ
-last_text s replies = text_where (is_ended s) (transcript s.number s.phase replies)
-
--- the transcript that a step closes: a phase that begins closes the one before it
-abbrev pub closed_by : State → (ℕ → List Reply) → Told → List ℕ
-closed_by s replies (told.Plan phase moment) = last_text s replies
-closed_by s replies step = []
-
--- the transcripts that the steps of a story close, from a state with these replies on
-abbrev pub closed_from : State → (ℕ → List Reply) → List Told → List ℕ
-closed_from s replies [] = []
-closed_from s replies (x ∷ story) = closed_by s replies x ++ closed_from (after s x) (replies_after s x replies) story
+-- the transcripts of phases
+abbrev pub transcripts : List EndedPhase → List ℕ
+transcripts phases = flat_map transcript_of phases
 
 -- the transcripts of all phases of a story but the last
 abbrev pub earlier_text : List Told → List ℕ
-earlier_text story = closed_from start no_replies story
+earlier_text story = transcripts (earlier_phases told_after story)
 
 -- The text of a story: the transcripts of its phases in order, the last one where all its commands are finished.
 abbrev pub rendered : List Told → List ℕ
-rendered story = earlier_text story ++ last_text (state_of story) (replies_of story)
+rendered story = transcripts (ended_phases told_after story)
+
+-- whether a command failed, by its reply: it was refused, or it built and a unit is not made
+abbrev pub is_failure : Reply → Bool
+is_failure (replies.Refused refusal) = true
+is_failure (replies.Built lines) = not (list_all is_made_line lines)
+is_failure reply = false
+
+-- whether a command of lanes that are numbered from n on failed
+abbrev pub lanes_fail : ℕ → List Lane → Replies → Bool
+lanes_fail n [] replies = false
+lanes_fail n (lane ∷ lanes) replies = list_any is_failure (replies n) || lanes_fail (n + 1) lanes replies
+
+abbrev pub phase_fails : EndedPhase → Bool
+phase_fails ended = lanes_fail 1 ended.phase.lanes ended.replies
+
+-- Whether a command of a story failed.
+abbrev pub has_failure : List Told → Bool
+has_failure story = list_any phase_fails (ended_phases told_after story)

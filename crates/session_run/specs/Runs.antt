@@ -1,11 +1,10 @@
 -- What running lanes and phases does to the story, to the sink and to the clock.
-use Rattle.std.specs.Prelude.{◌≡◌, ◌≢◌, ℕ, ◌+◌, ◌≤◌, ◌||◌, Bool, true, false, ◌⊎◌, Option, Some, None, IfSome, Result, Ok, Err, List, [], ◌∷◌, ◌++◌, length}
-use Rattle.std.specs.List.{AllByRecursion}
+use Rattle.std.specs.Prelude.{◌≡◌, ◌≢◌, ℕ, ◌+◌, ◌≤◌, Bool, true, false, ◌⊎◌, Option, Some, None, IfSome, IsSome, Result, Ok, Err, List, [], ◌∷◌, ◌++◌, length}
+use Rattle.std.specs.List.{AllByRecursion, list_any}
 use Rattle.std.specs.Io.KnownBytes.{Appends}
 use Rattle.cc_names.specs.declared.commands.Lane.{Lane}
 use Rattle.cc_names.specs.declared.commands.Phase.{Phase}
-use Rattle.cc_names.specs.declared.desks.Done.{Done}
-use Rattle.cc_names.specs.declared.desks.Done.TheVariants.{Refused}
+use Rattle.cc_names.specs.declared.memory.NoMemory as memory
 use Rattle.cc_names.specs.declared.memory.Or.{Or}
 use Rattle.cc_names.specs.declared.memory.Or.TheVariants.{NoMemory, Is}
 use Rattle.cc_names.specs.declared.steps.Told.{Told}
@@ -13,12 +12,15 @@ use Rattle.cc_outside.specs.Counts.{raised, Rose}
 use Rattle.cc_outside.specs.Feeds.{AppendsFront}
 use Rattle.cc_outside.specs.declared.sinks.WriteFault.{WriteFault}
 use Rattle.session_text.specs.Formed.{IsPhase}
-use Rattle.checkout_desk.specs.Deciding.{AreCarriedOut}
+use Rattle.base_core.specs.Carried.{AreCarriedOut}
+use Rattle.base_core.specs.Going.{Finishes, GoesOn}
+use Rattle.base_core.specs.Nexts.{waiting}
+use Rattle.base_core.specs.Replying.{replies_after}
 use Rattle.legal_history.specs.States.{State, all_done, done_of, lane_at}
 use Rattle.legal_history.specs.Steps.{state_of}
 use Rattle.legal_history.specs.Stories.{Legal}
-use Rattle.session_run.specs.Headline.{Change, IsFront, IsCutAtLast, text_limit, phases_begun, moments_begun, clock_moments, is_opened, has_refusal}
-use Rattle.session_run.specs.Rendered.{rendered, earlier_text}
+use Rattle.session_run.specs.Headline.{Change, IsFront, IsCutAtLast, AreFromNothing, text_limit, phases_begun, moments_begun, clock_moments, is_opened}
+use Rattle.session_run.specs.Rendered.{EndedPhase, told_after, earlier_phases, ended_phases, transcripts, phase_fails}
 use Rattle.session_run.specs.declared.statuses.Status.{Status}
 use Rattle.session_run.specs.declared.statuses.Status.TheVariants as statuses
 
@@ -44,33 +46,39 @@ IsWithin s lane = done_of s.done lane ≤ count_of (lane_at s.phase lane)
 abbrev pub IsFinished : State → ℕ → Type 0
 IsFinished s lane = done_of s.done lane ≡ count_of (lane_at s.phase lane)
 
+-- the phases of a story but the last, and those whose commands are all finished, with the replies that the core gave
+abbrev pub given_earlier : List Told → List EndedPhase
+given_earlier story = earlier_phases replies_after story
+
+abbrev pub given : List Told → List EndedPhase
+given story = ended_phases replies_after story
+
+-- what one turn of a lane did: its next command is finished; none was left; or memory ran out
+abbrev pub TakesTurn : Result Bool memory.NoMemory → List Told → List Told → ℕ → Type 0
+TakesTurn (Ok true) old new lane = IsSome (waiting (state_of old) lane) × Finishes old new lane
+TakesTurn (Ok false) old new lane = (waiting (state_of old) lane ≡ None) × (new ≡ old)
+TakesTurn (Err error) old new lane = GoesOn old new lane
+
 -- a story that goes on within its last phase
 pub record Goes (old new : List Told) : Type 0 where
   pub phases : phases_begun new ≡ phases_begun old
   pub moments : moments_begun new ≡ moments_begun old
   pub phase : (state_of new).phase ≡ (state_of old).phase
   pub number : (state_of new).number ≡ (state_of old).number
-  pub earlier : earlier_text new ≡ earlier_text old
+  pub earlier : given_earlier new ≡ given_earlier old
   pub opened : is_opened new ≡ is_opened old
 
--- whether a command was refused, by what became of it
-abbrev pub is_refused : Done → Bool
-is_refused Refused = true
-is_refused done = false
-
--- a story went on by commands of one lane, and whether one of them was refused
-pub record GoesInLane (lane : ℕ) (old new : List Told) (refused : Bool) : Type 0 where
+-- a story went on by commands of one lane
+pub record GoesInLane (lane : ℕ) (old new : List Told) : Type 0 where
   pub goes : Goes old new
   pub others : (k : ℕ) → k ≢ lane → done_of (state_of new).done k ≡ done_of (state_of old).done k
   pub within : IsWithin (state_of new) lane
-  pub refusals : has_refusal new ≡ (has_refusal old || refused)
 
 -- a story went on until the first lanes had finished their commands
-pub record GoesInLanes (lanes : ℕ) (old new : List Told) (refused : Bool) : Type 0 where
+pub record GoesInLanes (lanes : ℕ) (old new : List Told) : Type 0 where
   pub goes : Goes old new
   pub within : (k : ℕ) → IsWithin (state_of new) k
   pub finished : (k : ℕ) → 1 ≤ k → k ≤ lanes → IsFinished (state_of new) k
-  pub refusals : has_refusal new ≡ (has_refusal old || refused)
 
 -- a phase began at a moment, and the story went on within it
 pub record GoesInPhase (phase : Phase) (moment : ℕ) (old new : List Told) : Type 0 where
@@ -79,13 +87,12 @@ pub record GoesInPhase (phase : Phase) (moment : ℕ) (old new : List Told) : Ty
   pub is_last : (state_of new).phase ≡ phase
   pub number : (state_of new).number ≡ (state_of old).number + 1
   pub opened : is_opened new ≡ true
-  pub earlier : earlier_text new ≡ rendered old
+  pub earlier : given_earlier new ≡ given old
 
 -- a phase began, and all its commands are finished
-pub record RunsPhase (phase : Phase) (moment : ℕ) (old new : List Told) (refused : Bool) : Type 0 where
+pub record RunsPhase (phase : Phase) (moment : ℕ) (old new : List Told) : Type 0 where
   pub goes : GoesInPhase phase moment old new
   pub finished : all_done (state_of new) ≡ true
-  pub refusals : has_refusal new ≡ (has_refusal old || refused)
 
 -- memory ran out before a phase began, or in it
 abbrev pub LeavesPhase : Phase → ℕ → List Told → List Told → Type 0
@@ -100,27 +107,27 @@ pub record Outside : Type 0 where
   pub reading : ℕ
 
 -- these phases have been run, and their transcripts written
-pub record HasRun (phases : List Phase) (story : List Told) (outside : Outside) (refused : Bool) : Type 0 where
+pub record HasRun (phases : List Phase) (story : List Told) (outside : Outside) (failed : Bool) : Type 0 where
   pub opened : is_opened story ≡ true
   pub phases_are : phases_begun story ≡ phases
   pub number : (state_of story).number ≡ length phases
   pub finished : all_done (state_of story) ≡ true
   pub moments_are : IfSome outside.moments (λ told. moments_begun story ≡ clock_moments told outside.first (length phases))
   pub reading_is : outside.reading ≡ raised outside.first (length phases)
-  pub refusals : has_refusal story ≡ refused
-  pub written : Appends outside.held outside.holds (rendered story)
+  pub failures : list_any phase_fails (given story) ≡ failed
+  pub written : Appends outside.held outside.holds (transcripts (given story))
 
 -- where the sink failed, its last transcript is cut
 abbrev pub IsCutBy : Or WriteFault → List Told → Option (List ℕ) → Option (List ℕ) → Type 0
 IsCutBy NoMemory story old new = Unit {0}
-IsCutBy (Is fault) story old new = IsCutAtLast story old new
+IsCutBy (Is fault) story old new = IsCutAtLast story (transcripts (given_earlier story)) old new
 
 -- the run of these phases was given up
 pub record IsGivenUp (cut : Or WriteFault) (phases : List Phase) (story : List Told) (old new clock : Option (List ℕ)) (first : ℕ) : Type 0 where
   pub opened : is_opened story ≡ true
   pub begun : IsFront (phases_begun story) phases
   pub moments_are : IfSome clock (λ told. moments_begun story ≡ clock_moments told first (length (moments_begun story)))
-  pub written : AppendsFront old new (rendered story)
+  pub written : AppendsFront old new (transcripts (given story))
   pub cut_at : IsCutBy cut story old new
 
 -- the sink's faults rose where it failed
@@ -132,20 +139,27 @@ OnWriteFault (Err (Is fault)) P = P
 -- the status of a run
 abbrev pub run_status : Result Bool (Or WriteFault) → Status
 run_status (Ok false) = statuses.Good
-run_status (Ok true) = statuses.SomeRefused
+run_status (Ok true) = statuses.SomeFailed
 run_status (Err NoMemory) = statuses.NoMemory
 run_status (Err (Is fault)) = statuses.WriteFault
 
 -- the phases were run, or their run was given up
 abbrev pub HasRunSo : Result Bool (Or WriteFault) → List Phase → List Told → Outside → Type 0
-HasRunSo (Ok refused) phases story outside = HasRun phases story outside refused
+HasRunSo (Ok failed) phases story outside = HasRun phases story outside failed
 HasRunSo (Err cut) phases story outside = IsGivenUp cut phases story outside.held outside.holds outside.moments outside.first
+
+-- the replies that the core gave are those of builds from nothing
+pub record GivenAsTold (story : List Told) : Type 0 where
+  pub earlier : given_earlier story ≡ earlier_phases told_after story
+  pub ended : given story ≡ ended_phases told_after story
 
 -- a base was opened and the phases were run, or memory ran out before
 pub record RunsOpened (phases : List Phase) (status : Status) (story : List Told) (outside : Outside) (faults : Change ℕ) : Type 0 where
   pub result : Result Bool (Or WriteFault)
   pub status_is : status ≡ run_status result
   pub legal : Legal story
+  pub told : GivenAsTold story
+  pub built : AreFromNothing story
   pub ran : HasRunSo result phases story outside
   pub fault : OnWriteFault result (Rose faults.before faults.after)
 

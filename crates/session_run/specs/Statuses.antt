@@ -10,7 +10,7 @@ use Rattle.session_run.specs.declared.statuses.Status.TheVariants as statuses
 -- the number of a status, with which the program ends
 abbrev pub number_of : Status → ℕ
 number_of statuses.Good = 0
-number_of statuses.SomeRefused = 1
+number_of statuses.SomeFailed = 1
 number_of statuses.BadWords = 2
 number_of statuses.BadSession = 3
 number_of statuses.ReadFault = 5
@@ -21,7 +21,7 @@ number_of statuses.TooLong = 9
 -- whether the session was run through
 abbrev pub is_through : Status → Bool
 is_through statuses.Good = true
-is_through statuses.SomeRefused = true
+is_through statuses.SomeFailed = true
 is_through status = false
 
 -- whether the text may be cut short: the sink failed, or memory ran out

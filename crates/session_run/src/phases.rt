@@ -16,6 +16,7 @@ ghost use Rattle.session_run.specs.Headline.{is_opened};
 ghost use Rattle.session_run.specs.Rendered.{transcript};
 ghost use Rattle.session_run.specs.Runs.{IsReady, IsRunnable, RunsPhase, LeavesPhase, HasRun, IsGivenUp, OnWriteFault};
 
+use crate::failures::any_failed;
 use crate::lanes::run_lanes;
 use crate::transcripts::transcript;
 use base_core::Core;
@@ -37,14 +38,14 @@ fn moment_of<C: Clock>(clock: &mut C) -> u64
     clock.now().min(LAST_MOMENT)
 }
 
-/// Begins a phase and carries out its commands, and answers whether one of them was refused.
-fn run_commands(alloc: Global, core: &mut Core, phase: Phase, moment: u64) -> Result<bool, NoMemory>
+/// Begins a phase and carries out its commands.
+fn run_commands(alloc: Global, core: &mut Core, phase: Phase, moment: u64) -> Result<(), NoMemory>
     requires finished { all_done (state_of core.old.story) ≡ true }
     requires opened { is_opened core.old.story ≡ true }
     requires ready { IsReady phase }
     requires few { (state_of core.old.story).number + 1 < 2 ^ 32 }
     requires in_time { moment ≤ last_moment }
-    ensures ok { IfOk result (RunsPhase phase moment core.old.story core.new.story) }
+    ensures ok { OnOk result (RunsPhase phase moment core.old.story core.new.story) }
     ensures err { OnErr result (LeavesPhase phase moment core.old.story core.new.story) }
 {
     core.begin_phase(alloc, phase, moment)?;
@@ -72,7 +73,7 @@ fn write_transcript<K: Sink>(
     }
 }
 
-/// Runs the phases of a session and writes the transcript of each, and answers whether a command was refused.
+/// Runs the phases of a session and writes the transcript of each, and answers whether a command failed.
 pub(crate) fn run_phases<K: Sink, C: Clock>(
     alloc: Global,
     core: &mut Core,
@@ -86,13 +87,14 @@ pub(crate) fn run_phases<K: Sink, C: Clock>(
     ensures err { IfErr result (λ cut. IsGivenUp cut phases.items core.new.story (K.held sink.old) (K.held sink.new) (C.told clock.old) (C.readings clock.old)) }
     ensures fault { OnWriteFault result (Rose (K.faults sink.old) (K.faults sink.new)) }
 {
-    let mut refused = false;
+    let mut failed = false;
     let mut number = 0u32;
     for phase in phases {
         number += 1;
         let moment = moment_of(clock);
-        refused |= run_commands(alloc, core, phase, moment)?;
+        run_commands(alloc, core, phase, moment)?;
+        failed |= any_failed(core);
         write_transcript(alloc, core, number, sink)?;
     }
-    Ok(refused)
+    Ok(failed)
 }

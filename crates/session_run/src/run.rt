@@ -1,7 +1,7 @@
 // The top call.
 
 ghost use Rattle.std.specs.Prelude.{◌≡◌};
-ghost use Rattle.session_run.specs.Headline.{IsSession, IsOneHistory, ArePrinted, HasCause};
+ghost use Rattle.session_run.specs.Headline.{IsSession, IsOneHistory, AreFromNothing, ArePrinted, HasCause};
 ghost use Rattle.session_run.specs.Runs.{IsRunnable, RunsSession, run_status};
 
 use crate::lines::refuse;
@@ -13,6 +13,7 @@ use cc_names::commands::Phase;
 use cc_names::memory::Or;
 use cc_names::texts::Text;
 use cc_outside::{Clock, Sink, Source, WriteFault};
+use fresh_builds::laws::{a_build_is_as_from_nothing, a_build_is_of_its_command};
 use std::alloc::Global;
 
 /// How a call ended, and the history of the base that it opened, which is empty where it opened none.
@@ -28,7 +29,7 @@ fn status_of(run: Result<bool, Or<WriteFault>>) -> Status
 {
     match run {
         Ok(false) => Status::Good,
-        Ok(true) => Status::SomeRefused,
+        Ok(true) => Status::SomeFailed,
         Err(Or::Is(WriteFault)) => Status::WriteFault,
         Err(Or::NoMemory) => Status::NoMemory,
     }
@@ -50,6 +51,8 @@ fn run_session<K: Sink, C: Clock>(
         };
     };
     let status = status_of(run_phases(alloc, &mut core, phases, sink, clock));
+    a_build_is_as_from_nothing();
+    a_build_is_of_its_command();
     Ended {
         status,
         history: core.into_history(),
@@ -67,6 +70,7 @@ pub fn run_words<S: Source, K: Sink, C: Clock>(
 ) -> Ended
     ensures session { IsSession result.status result.history (S.left source.old) (C.told clock.old) (C.readings clock.old) }
     ensures history { IsOneHistory result.status result.history (K.held sink.old) (K.held sink.new) }
+    ensures built { AreFromNothing result.history }
     ensures printed { ArePrinted result.status result.history (S.left source.old) (K.held sink.old) (K.held sink.new) }
     ensures cause { HasCause result.status (record { words = words.now; text = record { before = S.left source.old; after = S.left source.new }; given = record { before = S.given source.old; after = S.given source.new }; faults = record { before = S.faults source.old; after = S.faults source.new } }) (record { before = K.faults sink.old; after = K.faults sink.new }) result.history }
 {

@@ -6,10 +6,10 @@ ghost use Rattle.session_run.specs.Statuses.{number_of};
 /// How a call of the program ends.
 #[derive(Clone, Copy, Debug, PartialEq, Eq)]
 pub enum Status {
-    /// Each command was carried out.
+    /// Each command was carried out, and each unit of each build is made.
     Good,
-    /// A command was refused.
-    SomeRefused,
+    /// A command was refused, or a unit of a build is not made.
+    SomeFailed,
     /// The words have none of the forms.
     BadWords,
     /// The source's bytes spell no session.
@@ -31,7 +31,7 @@ impl Status {
     {
         match self {
             Status::Good => 0,
-            Status::SomeRefused => 1,
+            Status::SomeFailed => 1,
             Status::BadWords => 2,
             Status::BadSession => 3,
             Status::ReadFault => 5,

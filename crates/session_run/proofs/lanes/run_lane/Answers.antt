@@ -1,25 +1,30 @@
-use Rattle.std.proofs.Common.{subst, sym, ◌∙◌, ◌||◌}
-use Rattle.checkout_desk.specs.Deciding.{AreCarriedOut}
-use Rattle.session_run.specs.Runs.{GoesInLane}
-use Rattle.session_run.proofs.LaneSteps.{lane_goes_on, lane_shrinks, lane_ends}
+use Rattle.std.proofs.Common.{subst, sym, ◌∙◌}
+use Rattle.base_core.specs.Carried.{AreCarriedOut}
+use Rattle.legal_history.specs.Steps.{state_of}
+use Rattle.session_run.specs.Runs.{IsFinished}
+use Rattle.session_run.proofs.LaneSteps.{has_turned, has_rested, lane_goes_on, lane_leaves, lane_shrinks, lane_ends}
 use Rattle.session_run.proofs.lanes.run_lane.Goals as goal
 
-pub loop-core-smaller : goal.loop-core-smaller
-loop-core-smaller c =
-    lane_shrinks c.args.lane c.loop-core.core.story c.act.new.self.story c.in_ok-done.done c.loop-core.invariant.carried_out (sym c.in-Act.ensures) c.in_ok-done.ensures.ok
+pub returns-in_err-take_turn-clause-goes : goal.returns-in_err-take_turn-clause-goes
+returns-in_err-take_turn-clause-goes c =
+    lane_leaves c.args.lane c.args.core.now.story c.loop.core.story c.take_turn.new.core.story c.loop.invariant.goes c.loop.invariant.opened c.in_err-take_turn.ensures
 
-pub loop-core-preserved : goal.loop-core-preserved
-loop-core-preserved c =
-    let more = lane_goes_on c.args.lane c.args.core.now.story c.loop-core.core.story c.act.new.self.story c.loop-core.refused c.in_ok-done.done c.loop-core.invariant.goes c.loop-core.invariant.carried_out (sym c.in-Act.ensures) c.loop-core.invariant.opened c.in_ok-done.ensures.ok in
+pub loop-smaller : goal.loop-smaller
+loop-smaller c =
+    let turn = has_turned c.in_ok-take_turn.field-0 c.loop.core.story c.take_turn.new.core.story c.args.lane c.if-branch.true c.in_ok-take_turn.ensures in
+    lane_shrinks c.args.lane c.loop.core.story c.take_turn.new.core.story turn.0 turn.1
+
+pub loop-preserved : goal.loop-preserved
+loop-preserved c =
+    let turn = has_turned c.in_ok-take_turn.field-0 c.loop.core.story c.take_turn.new.core.story c.args.lane c.if-branch.true c.in_ok-take_turn.ensures in
+    let more = lane_goes_on c.args.lane c.args.core.now.story c.loop.core.story c.take_turn.new.core.story c.loop.invariant.goes c.loop.invariant.opened turn.0 turn.1 in
     record {
-      goes = subst (λ r. GoesInLane c.args.lane c.args.core.now.story c.act.new.self.story (c.loop-core.refused || r)) (sym c.is_refused-refused.ensures) more;
-      carried_out = subst AreCarriedOut (c.loop-core.invariant.goes.goes.phase ∙ sym more.goes.phase) c.loop-core.invariant.carried_out;
+      goes = more;
+      carried_out = subst AreCarriedOut (sym turn.1.phase.phase) c.loop.invariant.carried_out;
       opened = more.goes.opened ∙ c.requires.opened;
     }
 
-pub returns : goal.returns
-returns c = record {
-  goes = (c.loop-core.refused, c.loop-core.invariant.goes);
-  refused = c.loop-core.invariant.goes;
-  finished = lane_ends c.loop-core.core.story c.args.lane c.next.result c.loop-core.invariant.carried_out c.loop-core.invariant.goes.within c.next.ensures c.in_default.not-Act;
-}
+pub returns-clause-finished : goal.returns-clause-finished
+returns-clause-finished c =
+    let rest = has_rested c.in_ok-take_turn.field-0 c.loop.core.story c.take_turn.new.core.story c.args.lane c.if-branch.false c.in_ok-take_turn.ensures in
+    subst (λ story. IsFinished (state_of story) c.args.lane) (sym rest.1) (lane_ends c.args.lane c.loop.core.story c.loop.invariant.goes.within rest.0)

@@ -1,5 +1,5 @@
 use Rattle.std.proofs.Common.{ap, sym, subst, arith, length}
-use Rattle.checkout_desk.specs.Deciding.{AreCarriedOut}
+use Rattle.base_core.specs.Carried.{AreCarriedOut}
 use Rattle.session_run.proofs.PhaseSteps.{phase_begins, begins_within, runs_by, leaves_by}
 use Rattle.session_run.proofs.phases.run_commands.Goals as goal
 
@@ -24,7 +24,7 @@ run_lanes-requires-clause-within c =
 
 pub returns-clause-ok : goal.returns-clause-ok
 returns-clause-ok c =
-    runs_by c.run_lanes.result c.args.core.now.story c.begin_phase.new.self.story c.run_lanes.new.core.story c.args.phase c.args.moment c.in_ok-begin_phase.ensures.ok c.run_lanes.ensures.refused c.run_lanes.ensures.finished
+    runs_by c.run_lanes.result c.args.core.now.story c.begin_phase.new.self.story c.run_lanes.new.core.story c.args.phase c.args.moment c.in_ok-begin_phase.ensures.ok c.run_lanes.ensures.goes c.run_lanes.ensures.finished
 
 pub returns-clause-err : goal.returns-clause-err
 returns-clause-err c =

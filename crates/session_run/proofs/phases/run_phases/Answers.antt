@@ -13,14 +13,14 @@ use Rattle.session_run.proofs.phases.run_phases.Goals as goal
 told_still : (now first : Option (List ℕ)) (moment reading : ℕ) → now ≡ first → IfSome now (λ told. moment ≡ min (moment_at told reading) last_moment) → IfSome first (λ told. moment ≡ min (moment_at told reading) last_moment)
 told_still now first moment reading e h = subst (λ clock. IfSome clock (λ told. moment ≡ min (moment_at told reading) last_moment)) e h
 
-pub returns-in_err-refused-clause-err : goal.returns-in_err-refused-clause-err
-returns-in_err-refused-clause-err g c =
+pub returns-in_err-run_commands-clause-err : goal.returns-in_err-run_commands-clause-err
+returns-in_err-run_commands-clause-err g c =
     let at = c.loop-phase in
     let p = err_from_is_err_and c.from_residual.result c.from_residual.ensures.1 in
     rw (p.1, p.2)
     (run_leaves at.yielded (into_iter_items c.next.new.self) c.args.phases.items c.in-Some.phase at.core.story c.run_commands.new.core.story
     (record { held = g.K.Sink.held c.args.sink.now; holds = g.K.Sink.held at.sink; moments = g.C.Clock.told c.args.clock.now; first = g.C.Clock.readings c.args.clock.now; reading = g.C.Clock.readings at.clock })
-    c.moment_of-moment.result at.refused at.invariant.run c.in_err-refused.ensures.err
+    c.moment_of-moment.result at.failed at.invariant.run c.in_err-run_commands.ensures.err
     (told_still (g.C.Clock.told at.clock) (g.C.Clock.told c.args.clock.now) c.moment_of-moment.result (g.C.Clock.readings at.clock) at.invariant.clock c.moment_of-moment.ensures.moment)
     (in_hand at.yielded (into_iter_items at.phase-iterator) (into_iter_items c.next.new.self) _ c.args.phases.items c.in-Some.phase at.invariant.rest c.in-Some.ensures.steps.0 c.into_iter-phase-iterator.ensures.into_iter_gives.0))
 
@@ -32,8 +32,8 @@ loop-phase-preserved g c =
       run =
           run_goes_on at.yielded c.in-Some.phase at.core.story c.run_commands.new.core.story
           (record { held = g.K.Sink.held c.args.sink.now; holds = g.K.Sink.held at.sink; moments = g.C.Clock.told c.args.clock.now; first = g.C.Clock.readings c.args.clock.now; reading = g.C.Clock.readings at.clock })
-          (g.K.Sink.held c.write_transcript.new.sink) (g.C.Clock.readings c.moment_of-moment.new.clock) c.moment_of-moment.result (at.number + 1) at.refused c.in_ok-refused.field-0
-          at.invariant.run c.in_ok-refused.ensures.ok
+          (g.K.Sink.held c.write_transcript.new.sink) (g.C.Clock.readings c.moment_of-moment.new.clock) c.moment_of-moment.result (at.number + 1) at.failed c.any_failed-failed.result
+          at.invariant.run c.in_ok-run_commands.ensures.ok c.any_failed-failed.ensures
           (told_still (g.C.Clock.told at.clock) (g.C.Clock.told c.args.clock.now) c.moment_of-moment.result (g.C.Clock.readings at.clock) at.invariant.clock c.moment_of-moment.ensures.moment)
           c.moment_of-moment.ensures.counted (ap (λ n. n + 1) at.invariant.number) c.in_ok-write_transcript.ensures.ok;
       rest = append_assoc at.yielded (c.in-Some.phase ∷ []) (into_iter_items c.next.new.self) ∙ in_hand at.yielded (into_iter_items at.phase-iterator) (into_iter_items c.next.new.self) _ _ c.in-Some.phase at.invariant.rest c.in-Some.ensures.steps.0 refl;
@@ -51,8 +51,8 @@ returns-in_err-write_transcript-clause-err g c =
     rw (p.1, p.2)
     (run_is_cut _ at.yielded (into_iter_items c.next.new.self) c.args.phases.items c.in-Some.phase at.core.story c.run_commands.new.core.story
     (record { held = g.K.Sink.held c.args.sink.now; holds = g.K.Sink.held at.sink; moments = g.C.Clock.told c.args.clock.now; first = g.C.Clock.readings c.args.clock.now; reading = g.C.Clock.readings at.clock })
-    (g.K.Sink.held c.write_transcript.new.sink) c.moment_of-moment.result (at.number + 1) at.refused c.in_ok-refused.field-0
-    at.invariant.run c.in_ok-refused.ensures.ok
+    (g.K.Sink.held c.write_transcript.new.sink) c.moment_of-moment.result (at.number + 1) at.failed
+    at.invariant.run c.in_ok-run_commands.ensures.ok
     (told_still (g.C.Clock.told at.clock) (g.C.Clock.told c.args.clock.now) c.moment_of-moment.result (g.C.Clock.readings at.clock) at.invariant.clock c.moment_of-moment.ensures.moment)
     (ap (λ n. n + 1) at.invariant.number)
     (in_hand at.yielded (into_iter_items at.phase-iterator) (into_iter_items c.next.new.self) _ c.args.phases.items c.in-Some.phase at.invariant.rest c.in-Some.ensures.steps.0 c.into_iter-phase-iterator.ensures.into_iter_gives.0)

@@ -7,7 +7,7 @@ use Rattle.session_run.proofs.phases.run_phases.Given as goal
 
 abbrev pub invariant-loop-phase : goal.invariant-loop-phase
 invariant-loop-phase g l = record {
-  run : HasRun l.yielded l.core.story (record { held = g.K.Sink.held l.initial.sink; holds = g.K.Sink.held l.sink; moments = g.C.Clock.told l.initial.clock; first = g.C.Clock.readings l.initial.clock; reading = g.C.Clock.readings l.clock }) l.refused;
+  run : HasRun l.yielded l.core.story (record { held = g.K.Sink.held l.initial.sink; holds = g.K.Sink.held l.sink; moments = g.C.Clock.told l.initial.clock; first = g.C.Clock.readings l.initial.clock; reading = g.C.Clock.readings l.clock }) l.failed;
   rest : l.yielded ++ into_iter_items l.phase-iterator ≡ into_iter_items l.initial.phase-iterator;
   ready : AllByRecursion IsReady (into_iter_items l.phase-iterator);
   few : length (into_iter_items l.initial.phase-iterator) ≤ text_limit;

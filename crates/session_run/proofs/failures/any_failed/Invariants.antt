@@ -1,0 +1,15 @@
+use Rattle.std.proofs.Common.{◌≡◌, ◌+◌, ◌≤◌, length}
+use Rattle.legal_history.specs.Steps.{state_of}
+use Rattle.base_core.specs.Replying.{replies_of}
+use Rattle.session_run.specs.Rendered.{lanes_fail}
+use Rattle.session_run.proofs.failures.any_failed.Given as goal
+
+abbrev pub invariant-loop-behind : goal.invariant-loop-behind
+invariant-loop-behind l = record {
+  fails : lanes_fail 1 (state_of l.core.story).phase.lanes (replies_of l.core.story) ≡ lanes_fail l.lane l.rest (replies_of l.core.story);
+  from : 1 ≤ l.lane;
+  within : l.lane + length l.rest ≡ length (state_of l.core.story).phase.lanes + 1;
+}
+
+abbrev pub decreases-loop-behind : goal.decreases-loop-behind
+decreases-loop-behind l = length l.rest

@@ -1,0 +1,58 @@
+// Whether a command of a phase failed.
+
+ghost use Rattle.std.specs.Prelude.{◌≡◌, ◌≤◌, ◌<◌, length};
+ghost use Rattle.std.specs.List.{list_any, list_all};
+ghost use Rattle.legal_history.specs.Steps.{state_of};
+ghost use Rattle.base_core.specs.Replying.{replies_of};
+ghost use Rattle.reply_text.specs.Replies.{is_made_line};
+ghost use Rattle.session_run.specs.Rendered.{is_failure, lanes_fail};
+
+use base_core::Core;
+use cc_names::replies::{Reply, UnitLine, UnitWord};
+
+fn is_made(line: &UnitLine) -> bool
+    ensures { result ≡ is_made_line line.now }
+{
+    !matches!(line.word, UnitWord::Failed(_) | UnitWord::Blocked(_))
+}
+
+fn are_made(lines: &[UnitLine]) -> bool
+    ensures { result ≡ list_all is_made_line lines.now }
+{
+    lines.iter().all(is_made)
+}
+
+fn is_failure(reply: &Reply) -> bool
+    ensures { result ≡ is_failure reply.now }
+{
+    match reply {
+        Reply::Refused(_) => true,
+        Reply::Built(lines) => !are_made(lines.as_slice()),
+        _ => false,
+    }
+}
+
+fn has_failure(replies: &[Reply]) -> bool
+    ensures { result ≡ list_any is_failure replies.now }
+{
+    replies.iter().any(is_failure)
+}
+
+/// Whether a command of the last phase failed: it was refused, or a unit of its build is not made. Takes time linear in the
+/// replies.
+pub(crate) fn any_failed(core: &Core) -> bool
+    requires begun { 0 < (state_of core.now.story).number }
+    requires few { length (state_of core.now.story).phase.lanes ≤ 64 }
+    ensures { result ≡ lanes_fail 1 (state_of core.now.story).phase.lanes (replies_of core.now.story) }
+{
+    let mut lane = 1u32;
+    let mut rest = core.phase().lanes.as_slice();
+    while let Some((_, behind)) = rest.split_first() {
+        if has_failure(core.replies(lane)) {
+            return true;
+        }
+        lane += 1;
+        rest = behind;
+    }
+    false
+}
