@@ -59,7 +59,7 @@ same_end laws front (told.Other (steps.End tag)) legal ends =
     let s = state_of front in
     let build = ends.build in
     let complete : build.faulted ≡ false → reply_of s.base build ≡ reply_from_nothing s.base build =
-        λ sound. laws.complete front tag.lane build legal (is_active s tag build ends.active) (over_complete (is_complete build) build.faulted ends.over sound) in
+    λ sound. laws.complete front tag.lane build legal (is_active s tag build ends.active) (over_complete (is_complete build) build.faulted ends.over sound) in
     ap (reply_to_end s.base) ends.active
     ∙ ap Some (chosen_same build.faulted replies.DiskFault (reply_of s.base build) (reply_from_nothing s.base build) complete)
     ∙ ap (end_from_nothing s.base) (sym ends.active)
@@ -78,10 +78,11 @@ all_same : Laws → (front rest : List Told) → Legal front → LegalFrom (stat
 unfolding AllSame
 all_same laws front [] legal lawful = tt
 all_same laws front (x ∷ rest) legal lawful =
-    let more : state_of (front ++ x ∷ []) ≡ after (state_of front) x = state_from-more start front x in
-    (same_end laws front x legal lawful.0,
-     subst (λ s. AllSame s rest) more
-     (all_same laws (front ++ x ∷ []) rest (legal_more start front x legal lawful.0) (subst (λ s. LegalFrom s rest) (sym more) lawful.1)))
+    let more : state_of (front ++ x ∷ []) ≡ after (state_of front) x = state_from-more start front x in (
+      same_end laws front x legal lawful.0,
+      subst (λ s. AllSame s rest) more
+          (all_same laws (front ++ x ∷ []) rest (legal_more start front x legal lawful.0) (subst (λ s. LegalFrom s rest) (sym more) lawful.1)),
+    )
 
 closed_same : (s : State) (replies : Replies) (story : List Told) → AllSame s story → closed_over replies_after s replies story ≡ closed_over told_after s replies story
 unfolding AllSame

@@ -172,9 +172,9 @@ runs_session laws result phases status story history outside faults same is lega
       fault = rose;
     }))
   where
-  ran_so : (r : Result Bool (Or WriteFault)) → IfOk r (HasRun phases story outside) → IfErr r (λ cut. IsGivenUp cut phases story outside.held outside.holds outside.moments outside.first) → HasRunSo r phases story outside
-  ran_so (Ok failed) one two = one
-  ran_so (Err cut) one two = two
+    ran_so : (r : Result Bool (Or WriteFault)) → IfOk r (HasRun phases story outside) → IfErr r (λ cut. IsGivenUp cut phases story outside.held outside.holds outside.moments outside.first) → HasRunSo r phases story outside
+    ran_so (Ok failed) one two = one
+    ran_so (Err cut) one two = two
 
 -- the promises of one call
 pub record Promised (status : Status) (story : List Told) (intake : Intake) (outside : Outside) (faults : Change ℕ) : Type 0 where

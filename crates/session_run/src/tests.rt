@@ -4,6 +4,7 @@ use crate::{Status, run_words};
 use cc_names::texts::Text;
 use cc_outside::{ListClock, MemorySink, MemorySource};
 use std::alloc::Global;
+use std::process::Abort;
 use std::test::Fail;
 
 // The status of a session and what it writes.
@@ -14,26 +15,20 @@ fn run(alloc: Global, session: &[u8]) -> Result<(Status, Text), Fail> {
     let mut source = MemorySource::new(alloc, session, &[])?;
     let mut sink = MemorySink::new(alloc, &[])?;
     let mut clock = ListClock::new(alloc, &[1_700_000_000])?;
-    let ended = run_words(
-        alloc,
-        words.as_slice(),
-        &mut source,
-        &mut sink,
-        &mut clock,
-    );
+    let ended = run_words(alloc, words.as_slice(), &mut source, &mut sink, &mut clock);
     Ok((ended.status, Text::from_bytes(alloc, sink.bytes())?))
 }
 
 // A session with one view and some saves, and then a build of `out`.
 fn assert_build(
-    rt: &HostRuntime,
+    rt: &impl Abort,
+    alloc: Global,
     saves: &str,
     saved: &str,
     command: &str,
     reply: &str,
     status: Status,
 ) -> Result<(), Fail> {
-    let alloc = rt.alloc();
     let session = format!(in alloc; "phase\nlane a\nmkview v\n{saves}{command}\n")?;
     let written = format!(in alloc; "phase 1\nlane a\n1 mkview ok\n{saved}{reply}")?;
     let (ended, text) = run(alloc, session.as_bytes())?;
@@ -43,7 +38,9 @@ fn assert_build(
 }
 
 const MAKEFILE: &str = "save v Makefile\n|out: in\n|\tcat in > out\nsave v in\n|hi\n";
+
 const SAVED: &str = "2 save ok\n3 save ok\n";
+
 const BUILT: &str =
     "  out built 3 98ea6e4f216f2fb4b69fff9b3a44842c38686ca685f3f55dc48c5d3fb1107be4\n";
 
@@ -51,26 +48,78 @@ const BUILT: &str =
 fn a_first_build_is_built(rt: HostRuntime) -> Result<(), Fail> {
     let alloc = rt.alloc();
     let reply = format!(in alloc; "4 clearmake ok\n{BUILT}")?;
-    assert_build(&rt, MAKEFILE, SAVED, "clearmake v out", reply.as_str(), Status::Good)?;
+    assert_build(
+        &rt,
+        rt.alloc(),
+        MAKEFILE,
+        SAVED,
+        "clearmake v out",
+        reply.as_str(),
+        Status::Good,
+    )?;
     let twice = format!(in alloc; "{reply}5 clearmake ok\n{BUILT}")?;
-    assert_build(&rt, MAKEFILE, SAVED, "clearmake v out\nclearmake v out", twice.as_str(), Status::Good)?;
-    let derived = format!(in alloc; "{reply}5 save refused C19 IsDerived\n")?;
-    assert_build(&rt, MAKEFILE, SAVED, "clearmake v out\nsave v out\n|x", derived.as_str(), Status::SomeFailed)
+    assert_build(
+        &rt,
+        rt.alloc(),
+        MAKEFILE,
+        SAVED,
+        "clearmake v out\nclearmake v out",
+        twice.as_str(),
+        Status::Good,
+    )?;
+    let derived = format!(in alloc; "{reply}5 save refused C19 IsDerived out\n")?;
+    assert_build(
+        &rt,
+        rt.alloc(),
+        MAKEFILE,
+        SAVED,
+        "clearmake v out\nsave v out\n|x",
+        derived.as_str(),
+        Status::SomeFailed,
+    )
 }
 
 #[test]
 fn a_clearmake_is_refused(rt: HostRuntime) -> Result<(), Fail> {
     for (makefile, command, refusal) in [
         ("out: in\n|\tcat in > out", "clearmake w out", "C1 NoView"),
-        ("a: b: c", "clearmake v out", "M1 MakeError Makefile 1 NotBuilt"),
-        ("out: in\n|\tcat in > out", "clearmake v other", "G1 NoGoal other"),
-        ("Makefile:\n|\techo hi > Makefile", "clearmake v Makefile", "G3 TargetIsSource Makefile"),
+        (
+            "a: b: c",
+            "clearmake v out",
+            "M1 MakeError Makefile 1 NotBuilt",
+        ),
+        (
+            "out: in\n|\tcat in > out",
+            "clearmake v other",
+            "G1 NoGoal other",
+        ),
+        (
+            "Makefile:\n|\techo hi > Makefile",
+            "clearmake v Makefile",
+            "G3 TargetIsSource Makefile",
+        ),
     ] {
         let saves = format!(in rt.alloc(); "save v Makefile\n|{makefile}\n")?;
         let reply = format!(in rt.alloc(); "3 clearmake refused {refusal}\n")?;
-        assert_build(&rt, saves.as_str(), "2 save ok\n", command, reply.as_str(), Status::SomeFailed)?;
+        assert_build(
+            &rt,
+            rt.alloc(),
+            saves.as_str(),
+            "2 save ok\n",
+            command,
+            reply.as_str(),
+            Status::SomeFailed,
+        )?;
     }
-    assert_build(&rt, "", "", "clearmake v out", "2 clearmake refused B1 NoMakefile Makefile\n", Status::SomeFailed)
+    assert_build(
+        &rt,
+        rt.alloc(),
+        "",
+        "",
+        "clearmake v out",
+        "2 clearmake refused B1 NoMakefile Makefile\n",
+        Status::SomeFailed,
+    )
 }
 
 #[test]
@@ -88,6 +137,7 @@ fn a_unit_fails(rt: HostRuntime) -> Result<(), Fail> {
         let reply = format!(in rt.alloc(); "3 clearmake failed\n  {target} failed {fault}\n")?;
         assert_build(
             &rt,
+            rt.alloc(),
             saves.as_str(),
             "2 save ok\n",
             command.as_str(),
@@ -108,6 +158,7 @@ fn a_target_is_too_big(rt: HostRuntime) -> Result<(), Fail> {
     let reply = "4 clearmake failed\n  out failed X3 TooBig out\n";
     assert_build(
         &rt,
+        rt.alloc(),
         saves.as_str(),
         SAVED,
         "clearmake v out",

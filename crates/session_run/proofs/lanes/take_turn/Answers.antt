@@ -10,6 +10,7 @@ returns-in_err-act-in-Act c =
 
 pub returns-in_ok-act-in-Act : goal.returns-in_ok-act-in-Act
 returns-in_ok-act-in-Act c =
-    let acts = sym c.in-Act.ensures in
-    (act_waits c.args.core.now.story c.args.lane acts,
-     act_finishes c.args.core.now.story c.act.new.self.story c.args.lane c.in_ok-act-in-Act.field-0 c.requires.carried_out acts c.in_ok-act-in-Act.ensures.ok)
+    let acts = sym c.in-Act.ensures in (
+      act_waits c.args.core.now.story c.args.lane acts,
+      act_finishes c.args.core.now.story c.act.new.self.story c.args.lane c.in_ok-act-in-Act.field-0 c.requires.carried_out acts c.in_ok-act-in-Act.ensures.ok,
+    )
