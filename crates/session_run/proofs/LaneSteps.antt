@@ -25,7 +25,7 @@ use Rattle.legal_history.specs.Lines.{decision}
 use Rattle.legal_history.specs.States.{State, start, scene, done_of, with_done, is_next, next_tag, decided, lane_at}
 use Rattle.legal_history.specs.Steps.{after, done_after, state_of}
 use Rattle.session_run.specs.Headline.{is_opened}
-use Rattle.session_run.specs.Runs.{Goes, GoesInLane, TakesTurn, IsWithin, IsFinished, count_of}
+use Rattle.session_run.specs.Lanes.{Goes, GoesInLane, TakesTurn, IsWithin, IsFinished, count_of}
 use Rattle.session_run.proofs.MoreSteps.{state_more, goes_on}
 use Rattle.session_run.proofs.Within.{done_same, done_other, waits_below, waiting_carried, finished_where}
 

@@ -12,7 +12,7 @@ use Rattle.base_core.specs.Going.{SamePhase}
 use Rattle.base_core.specs.Replying.{no_replies, replies_after}
 use Rattle.session_run.specs.Headline.{phases_begun, moments_begun, is_opened}
 use Rattle.session_run.specs.Rendered.{Replies, closed_by, closed_over, replies_over}
-use Rattle.session_run.specs.Runs.{Goes, given_earlier}
+use Rattle.session_run.specs.Lanes.{Goes, given_earlier}
 
 pub state_more : (s : State) (story more : List Told) → state_from s (story ++ more) ≡ state_from (state_from s story) more
 state_more s [] more = refl

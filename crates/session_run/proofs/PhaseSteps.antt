@@ -10,7 +10,7 @@ use Rattle.legal_history.specs.Steps.{after, state_of}
 use Rattle.base_core.specs.Replying.{no_replies, replies_after}
 use Rattle.session_run.specs.Headline.{phases_begun, moments_begun, is_opened}
 use Rattle.session_run.specs.Rendered.{last_phase, replies_over}
-use Rattle.session_run.specs.Runs.{given_earlier, Goes, GoesInLane, GoesInLanes, GoesInPhase, RunsPhase, LeavesPhase, IsWithin, IsFinished, count_of}
+use Rattle.session_run.specs.Lanes.{given_earlier, Goes, GoesInLane, GoesInLanes, GoesInPhase, RunsPhase, LeavesPhase, IsWithin, IsFinished, count_of}
 use Rattle.session_run.proofs.LaneSteps.{goes_nowhere, goes_further}
 use Rattle.session_run.proofs.MoreSteps.{state_more, phases_more, moments_more, closed_more}
 use Rattle.session_run.proofs.Within.{one_or_two, all_finished}

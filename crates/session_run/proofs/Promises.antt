@@ -19,7 +19,8 @@ use Rattle.session_text.specs.Sessions.{session_of}
 use Rattle.legal_history.specs.Stories.{Legal}
 use Rattle.session_run.specs.Headline.{IsFront, IsSession, IsOneHistory, IsCutAtLast, AreFromNothing, ArePrinted, Change, Intake, IsWhole, HasCause, is_opened, is_session, is_read, phases_begun, phases_spelled, moments_begun, clock_moments}
 use Rattle.session_run.specs.Rendered.{rendered, earlier_text, transcripts, has_failure, phase_fails}
-use Rattle.session_run.specs.Runs.{Outside, GivenAsTold, given, given_earlier, HasRun, HasRunSo, IsGivenUp, RunsSession, OnWriteFault, run_status}
+use Rattle.session_run.specs.Lanes.{given, given_earlier}
+use Rattle.session_run.specs.Runs.{Outside, GivenAsTold, HasRun, HasRunSo, IsGivenUp, RunsSession, OnWriteFault, run_status}
 use Rattle.session_run.specs.Statuses.{is_through, is_cut, status_line}
 use Rattle.session_run.specs.Stops.{GivesPhases, HasStop, WritesStop, stop_status, stop_line}
 use Rattle.session_run.specs.declared.sessions.Stop.{Stop}

@@ -23,7 +23,8 @@ use Rattle.base_core.specs.Replying.{replies_after, replies_from, replies_of, no
 use Rattle.base_core.specs.Telling.{no_counts}
 use Rattle.session_run.specs.Headline.{IsCutAtLast, phases_begun, moments_begun, clock_moments, is_opened}
 use Rattle.session_run.specs.Rendered.{EndedPhase, Replies, replies_over, last_phase, phase_where, is_ended, transcript, transcript_of, transcripts, lanes_fail, phase_fails}
-use Rattle.session_run.specs.Runs.{given, given_earlier, GoesInPhase, RunsPhase, LeavesPhase, Outside, HasRun, IsCutBy, IsGivenUp}
+use Rattle.session_run.specs.Lanes.{given, given_earlier, GoesInPhase, RunsPhase, LeavesPhase}
+use Rattle.session_run.specs.Runs.{Outside, HasRun, IsCutBy, IsGivenUp}
 
 -- what a clock may tell
 if_told : (clock : Option (List ℕ)) (P : List ℕ → Type 0) → ((told : List ℕ) → P told) → IfSome clock P

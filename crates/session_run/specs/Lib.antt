@@ -1,4 +1,5 @@
 pub mod Headline
+pub mod Lanes
 pub mod Rendered
 pub mod Runs
 pub mod Statuses

@@ -1,10 +1,8 @@
--- What running lanes and phases does to the story, to the sink and to the clock.
-use Rattle.std.specs.Prelude.{◌≡◌, ◌≢◌, ℕ, ◌+◌, ◌≤◌, Bool, true, false, ◌⊎◌, Option, Some, None, IfSome, IsSome, Result, Ok, Err, List, [], ◌∷◌, ◌++◌, length}
+-- What running the phases of a session does to the story, to the sink and to the clock.
+use Rattle.std.specs.Prelude.{◌≡◌, ℕ, ◌≤◌, Bool, true, false, ◌⊎◌, Option, IfSome, Result, Ok, Err, List, [], length}
 use Rattle.std.specs.List.{AllByRecursion, list_any}
 use Rattle.std.specs.Io.KnownBytes.{Appends}
-use Rattle.cc_names.specs.declared.commands.Lane.{Lane}
 use Rattle.cc_names.specs.declared.commands.Phase.{Phase}
-use Rattle.cc_names.specs.declared.memory.NoMemory as memory
 use Rattle.cc_names.specs.declared.memory.Or.{Or}
 use Rattle.cc_names.specs.declared.memory.Or.TheVariants.{NoMemory, Is}
 use Rattle.cc_names.specs.declared.steps.Told.{Told}
@@ -13,14 +11,12 @@ use Rattle.cc_outside.specs.Feeds.{AppendsFront}
 use Rattle.cc_outside.specs.declared.sinks.WriteFault.{WriteFault}
 use Rattle.session_text.specs.Formed.{IsPhase}
 use Rattle.base_core.specs.Carried.{AreCarriedOut}
-use Rattle.base_core.specs.Going.{Finishes, GoesOn}
-use Rattle.base_core.specs.Nexts.{waiting}
-use Rattle.base_core.specs.Replying.{replies_after}
-use Rattle.legal_history.specs.States.{State, all_done, done_of, lane_at}
+use Rattle.legal_history.specs.States.{all_done}
 use Rattle.legal_history.specs.Steps.{state_of}
 use Rattle.legal_history.specs.Stories.{Legal}
 use Rattle.session_run.specs.Headline.{Change, IsFront, IsCutAtLast, AreFromNothing, text_limit, phases_begun, moments_begun, clock_moments, is_opened}
-use Rattle.session_run.specs.Rendered.{EndedPhase, told_after, earlier_phases, ended_phases, transcripts, phase_fails}
+use Rattle.session_run.specs.Lanes.{given, given_earlier}
+use Rattle.session_run.specs.Rendered.{told_after, earlier_phases, ended_phases, transcripts, phase_fails}
 use Rattle.session_run.specs.declared.statuses.Status.{Status}
 use Rattle.session_run.specs.declared.statuses.Status.TheVariants as statuses
 
@@ -33,70 +29,6 @@ pub record IsReady (phase : Phase) : Type 0 where
 pub record IsRunnable (phases : List Phase) : Type 0 where
   pub few : length phases ≤ text_limit
   pub ready : AllByRecursion IsReady phases
-
--- how many commands a lane has
-abbrev pub count_of : Option Lane → ℕ
-count_of None = 0
-count_of (Some lane) = length lane.commands
-
--- a lane has not finished more commands than it has; it has finished all
-abbrev pub IsWithin : State → ℕ → Type 0
-IsWithin s lane = done_of s.done lane ≤ count_of (lane_at s.phase lane)
-
-abbrev pub IsFinished : State → ℕ → Type 0
-IsFinished s lane = done_of s.done lane ≡ count_of (lane_at s.phase lane)
-
--- the phases of a story but the last, and those whose commands are all finished, with the replies that the core gave
-abbrev pub given_earlier : List Told → List EndedPhase
-given_earlier story = earlier_phases replies_after story
-
-abbrev pub given : List Told → List EndedPhase
-given story = ended_phases replies_after story
-
--- what one turn of a lane did: its next command is finished; none was left; or memory ran out
-abbrev pub TakesTurn : Result Bool memory.NoMemory → List Told → List Told → ℕ → Type 0
-TakesTurn (Ok true) old new lane = IsSome (waiting (state_of old) lane) × Finishes old new lane
-TakesTurn (Ok false) old new lane = (waiting (state_of old) lane ≡ None) × (new ≡ old)
-TakesTurn (Err error) old new lane = GoesOn old new lane
-
--- a story that goes on within its last phase
-pub record Goes (old new : List Told) : Type 0 where
-  pub phases : phases_begun new ≡ phases_begun old
-  pub moments : moments_begun new ≡ moments_begun old
-  pub phase : (state_of new).phase ≡ (state_of old).phase
-  pub number : (state_of new).number ≡ (state_of old).number
-  pub earlier : given_earlier new ≡ given_earlier old
-  pub opened : is_opened new ≡ is_opened old
-
--- a story went on by commands of one lane
-pub record GoesInLane (lane : ℕ) (old new : List Told) : Type 0 where
-  pub goes : Goes old new
-  pub others : (k : ℕ) → k ≢ lane → done_of (state_of new).done k ≡ done_of (state_of old).done k
-  pub within : IsWithin (state_of new) lane
-
--- a story went on until the first lanes had finished their commands
-pub record GoesInLanes (lanes : ℕ) (old new : List Told) : Type 0 where
-  pub goes : Goes old new
-  pub within : (k : ℕ) → IsWithin (state_of new) k
-  pub finished : (k : ℕ) → 1 ≤ k → k ≤ lanes → IsFinished (state_of new) k
-
--- a phase began at a moment, and the story went on within it
-pub record GoesInPhase (phase : Phase) (moment : ℕ) (old new : List Told) : Type 0 where
-  pub phases : phases_begun new ≡ phases_begun old ++ phase ∷ []
-  pub moments : moments_begun new ≡ moments_begun old ++ moment ∷ []
-  pub is_last : (state_of new).phase ≡ phase
-  pub number : (state_of new).number ≡ (state_of old).number + 1
-  pub opened : is_opened new ≡ true
-  pub earlier : given_earlier new ≡ given old
-
--- a phase began, and all its commands are finished
-pub record RunsPhase (phase : Phase) (moment : ℕ) (old new : List Told) : Type 0 where
-  pub goes : GoesInPhase phase moment old new
-  pub finished : all_done (state_of new) ≡ true
-
--- memory ran out before a phase began, or in it
-abbrev pub LeavesPhase : Phase → ℕ → List Told → List Told → Type 0
-LeavesPhase phase moment old new = (new ≡ old) ⊎ GoesInPhase phase moment old new
 
 -- the outside of a run: what the sink held and holds, what the clock tells, and its reading then and now
 pub record Outside : Type 0 where

@@ -5,7 +5,7 @@ ghost use Rattle.base_core.specs.Carried.{AreCarriedOut};
 ghost use Rattle.legal_history.specs.States.{all_done};
 ghost use Rattle.legal_history.specs.Steps.{state_of};
 ghost use Rattle.session_run.specs.Headline.{is_opened};
-ghost use Rattle.session_run.specs.Runs.{TakesTurn, IsWithin, IsFinished, GoesInLane, GoesInLanes};
+ghost use Rattle.session_run.specs.Lanes.{TakesTurn, IsWithin, IsFinished, GoesInLane, GoesInLanes};
 
 use base_core::Core;
 use cc_names::desks::Next;

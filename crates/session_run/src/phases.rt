@@ -14,7 +14,8 @@ ghost use Rattle.cc_names.specs.declared.steps.Told.TheVariants as told;
 ghost use Rattle.std.specs.Prelude.{false, ◌∷◌, []};
 ghost use Rattle.session_run.specs.Headline.{is_opened};
 ghost use Rattle.session_run.specs.Rendered.{transcript};
-ghost use Rattle.session_run.specs.Runs.{IsReady, IsRunnable, RunsPhase, LeavesPhase, HasRun, IsGivenUp, OnWriteFault};
+ghost use Rattle.session_run.specs.Lanes.{RunsPhase, LeavesPhase};
+ghost use Rattle.session_run.specs.Runs.{IsReady, IsRunnable, HasRun, IsGivenUp, OnWriteFault};
 
 use crate::failures::any_failed;
 use crate::lanes::run_lanes;

@@ -166,3 +166,14 @@ fn a_target_is_too_big(rt: HostRuntime) -> Result<(), Fail> {
         Status::SomeFailed,
     )
 }
+
+#[test]
+fn a_session_that_builds_nothing_is_as_before(rt: HostRuntime) -> Result<(), Fail> {
+    let session = b"phase\nlane a\nmkview v\nsave v in\n|hi\nmkview v\nsave w in\n";
+    let written =
+        b"phase 1\nlane a\n1 mkview ok\n2 save ok\n3 mkview refused C2 ViewExists\n4 save refused C1 NoView\n";
+    let (status, text) = run(rt.alloc(), session)?;
+    assert_eq!(rt; text.as_bytes(), written.as_slice());
+    assert_eq!(rt; status, Status::SomeFailed);
+    Ok(())
+}

@@ -1,7 +1,7 @@
 use Rattle.std.proofs.Common.{subst, sym, ◌∙◌}
 use Rattle.base_core.specs.Carried.{AreCarriedOut}
 use Rattle.legal_history.specs.Steps.{state_of}
-use Rattle.session_run.specs.Runs.{IsFinished}
+use Rattle.session_run.specs.Lanes.{IsFinished}
 use Rattle.session_run.proofs.LaneSteps.{has_turned, has_rested, lane_goes_on, lane_leaves, lane_shrinks, lane_ends}
 use Rattle.session_run.proofs.lanes.run_lane.Goals as goal
 

@@ -3,7 +3,7 @@ use Rattle.base_core.specs.Carried.{AreCarriedOut}
 use Rattle.legal_history.specs.States.{done_of, lane_at}
 use Rattle.legal_history.specs.Steps.{state_of}
 use Rattle.session_run.specs.Headline.{is_opened}
-use Rattle.session_run.specs.Runs.{GoesInLane, count_of}
+use Rattle.session_run.specs.Lanes.{GoesInLane, count_of}
 use Rattle.session_run.proofs.lanes.run_lane.Given as goal
 
 abbrev pub invariant-loop : goal.invariant-loop

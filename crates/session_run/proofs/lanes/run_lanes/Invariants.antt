@@ -1,4 +1,4 @@
-use Rattle.session_run.specs.Runs.{GoesInLanes}
+use Rattle.session_run.specs.Lanes.{GoesInLanes}
 use Rattle.session_run.proofs.lanes.run_lanes.Given as goal
 
 abbrev pub invariant-loop-index : goal.invariant-loop-index
