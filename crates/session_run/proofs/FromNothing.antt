@@ -1,10 +1,9 @@
 -- The replies that the core gives are those of builds from nothing.
-use Rattle.std.proofs.Common.{◌≡◌, ℕ, Bool, true, false, Option, Some, None, List, [], ◌∷◌, ◌++◌, refl, ap, ap₂, sym, subst, ◌∙◌, append_assoc}
+use Rattle.std.proofs.Common.{◌≡◌, ℕ, Bool, true, false, Option, Some, None, List, [], ◌∷◌, ◌++◌, refl, ap, ap₂, sym, subst, ◌∙◌}
 use Rattle.std.specs.Prelude.{◌||◌, if◌then◌else◌, option_and_then}
 use Rattle.cc_names.specs.declared.replies.Reply.{Reply}
 use Rattle.cc_names.specs.declared.replies.Reply.TheVariants as replies
 use Rattle.cc_names.specs.declared.rows.Tag.{Tag}
-use Rattle.cc_names.specs.declared.steps.Step.{Step}
 use Rattle.cc_names.specs.declared.steps.Step.TheVariants as steps
 use Rattle.cc_names.specs.declared.steps.Told.{Told}
 use Rattle.cc_names.specs.declared.steps.Told.TheVariants as told
@@ -12,13 +11,13 @@ use Rattle.base_core.proofs.Growing.{state_from-more, legal_more}
 use Rattle.base_core.specs.Replying.{in_lane, reply_to_end, no_replies, replies_after}
 use Rattle.fresh_builds.specs.Commanded.{IsOfCommand}
 use Rattle.fresh_builds.specs.Replied.{reply_of, reply_from_nothing}
-use Rattle.legal_history.specs.Base.{Base, only_where}
+use Rattle.legal_history.specs.Base.{only_where}
 use Rattle.legal_history.specs.Builds.{Build, build_of}
 use Rattle.legal_history.specs.States.{State, start, same_tag, build_if, build_by}
 use Rattle.legal_history.specs.Steps.{after, state_from, state_of}
 use Rattle.legal_history.specs.Stories.{Lawful, LegalFrom, Legal, EndsBuild}
 use Rattle.legal_history.specs.Turns.{is_complete}
-use Rattle.session_run.specs.Headline.{IsFromNothing, AreFromNothing}
+use Rattle.session_run.specs.Headline.{AreFromNothing}
 use Rattle.session_run.specs.Rendered.{Replies, end_from_nothing, told_after, closed_by, closed_over, replies_over, last_phase}
 use Rattle.session_run.specs.Runs.{GivenAsTold}
 

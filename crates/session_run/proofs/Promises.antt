@@ -17,7 +17,8 @@ use Rattle.cc_outside.specs.Feeds.{AppendsFront}
 use Rattle.cc_outside.specs.declared.sinks.WriteFault.{WriteFault}
 use Rattle.session_text.specs.Sessions.{session_of}
 use Rattle.legal_history.specs.Stories.{Legal}
-use Rattle.session_run.specs.Headline.{IsFront, IsSession, IsOneHistory, IsCutAtLast, AreFromNothing, ArePrinted, Change, Intake, IsWhole, HasCause, is_opened, is_session, is_read, phases_begun, phases_spelled, moments_begun, clock_moments}
+use Rattle.session_run.specs.Causes.{Change, Intake, IsWhole, HasCause}
+use Rattle.session_run.specs.Headline.{IsFront, IsSession, IsOneHistory, IsCutAtLast, AreFromNothing, ArePrinted, is_opened, is_session, is_read, phases_begun, phases_spelled, moments_begun, clock_moments}
 use Rattle.session_run.specs.Rendered.{rendered, earlier_text, transcripts, has_failure, phase_fails}
 use Rattle.session_run.specs.Lanes.{given, given_earlier}
 use Rattle.session_run.specs.Runs.{Outside, GivenAsTold, HasRun, HasRunSo, IsGivenUp, RunsSession, OnWriteFault, run_status}

@@ -14,7 +14,6 @@ use Rattle.cc_names.specs.declared.commands.Lane.{Lane}
 use Rattle.cc_names.specs.declared.commands.Phase.{Phase}
 use Rattle.cc_names.specs.declared.commands.Session.{Session}
 use Rattle.cc_names.specs.declared.refusals.SessionCause.{SessionCause}
-use Rattle.cc_names.specs.declared.refusals.SessionCause.TheVariants as causes
 use Rattle.cc_names.specs.declared.refusals.SessionError.{SessionError}
 use Rattle.session_text.specs.declared.verbs.Verb.{Verb}
 use Rattle.session_text.specs.declared.verbs.Verb.TheVariants as verbs
@@ -23,7 +22,7 @@ use Rattle.session_text.specs.declared.kinds.Kind.TheVariants.{Skipped, Body, Sa
 use Rattle.session_text.specs.Cuts.{lines_of}
 use Rattle.session_text.specs.Kinds.{kind_of}
 use Rattle.session_text.specs.Commands.{one_name, command_of, save, mkview, clearmake}
-use Rattle.session_text.specs.Causes.{Above, first_cause, where_so, cause_of, command_causes, is_empty, is_unknown, above_next, first_error, error_or, nothing}
+use Rattle.session_text.specs.Causes.{Above, cause_of, above_next, first_error, error_or, nothing}
 use Rattle.session_text.specs.Sessions.{ends_lane, body_of, before_commands, commands_before, commands_of, before_lanes, lanes_before, lanes_of, phases_before, phases_of, session_of, unless_wrong}
 use Rattle.session_text.specs.Formed.{IsCommand, IsMacro, IsLane, IsPhase, IsSession}
 use Rattle.base_core.specs.Carried.{is_carried_out, IsLaneCarriedOut, AreCarriedOut}

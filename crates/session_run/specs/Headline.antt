@@ -5,11 +5,12 @@
 --
 -- A call of the program is seen as plain values: its words, what the source had left and gave, what the sink holds, what the
 -- clock tells, its status, and the story of the base that it opened, which is empty where it opened none. Each record is one
--- promise of the sentence. What it says of bytes and moments holds where the source, the sink and the clock tell them.
-use Rattle.std.specs.Prelude.{◌≡◌, ℕ, zero, suc, ◌<◌, ◌≤◌, min, Bool, true, false, Option, Some, IfSome, Result, Ok, Err, List, [], ◌∷◌, ◌++◌, length}
+-- promise of the sentence; `HasCause` adds when each status comes. What they say of bytes and moments holds where the
+-- source, the sink and the clock tell them.
+use Rattle.std.specs.Prelude.{◌≡◌, ℕ, zero, suc, ◌<◌, min, Bool, true, false, Option, Some, IfSome, Result, Ok, Err, List, [], ◌∷◌, ◌++◌, length}
 use Rattle.std.specs.Str.{bytes_eq}
 use Rattle.std.specs.Prelude.{codes}
-use Rattle.std.specs.Io.KnownBytes.{Appends, IsAtEnd}
+use Rattle.std.specs.Io.KnownBytes.{Appends}
 use Rattle.cc_names.specs.declared.commands.Phase.{Phase}
 use Rattle.cc_names.specs.declared.commands.Session.{Session}
 use Rattle.cc_names.specs.declared.refusals.SessionError.{SessionError}
@@ -17,7 +18,7 @@ use Rattle.cc_names.specs.declared.rows.Tag.{Tag}
 use Rattle.cc_names.specs.declared.steps.Step.TheVariants as steps
 use Rattle.cc_names.specs.declared.steps.Told.{Told}
 use Rattle.cc_names.specs.declared.steps.Told.TheVariants as told
-use Rattle.cc_outside.specs.Counts.{raised, Rose, RoseAbove}
+use Rattle.cc_outside.specs.Counts.{raised}
 use Rattle.cc_outside.specs.Feeds.{AppendsFront}
 use Rattle.cc_outside.specs.Moments.{moment_at}
 use Rattle.session_text.specs.Sessions.{session_of}
@@ -27,7 +28,7 @@ use Rattle.legal_history.specs.Builds.{Build}
 use Rattle.legal_history.specs.States.{State, all_done, build_by}
 use Rattle.legal_history.specs.Steps.{state_of}
 use Rattle.legal_history.specs.Stories.{Legal, last_moment}
-use Rattle.session_run.specs.Rendered.{rendered, earlier_text, has_failure}
+use Rattle.session_run.specs.Rendered.{rendered, earlier_text}
 use Rattle.session_run.specs.Statuses.{is_through, is_cut, status_line}
 use Rattle.session_run.specs.declared.statuses.Status.{Status}
 use Rattle.session_run.specs.declared.statuses.Status.TheVariants as statuses
@@ -132,58 +133,3 @@ pub record ArePrinted (status : Status) (story : List Told) (text old new : Opti
   pub front : is_opened story ≡ true → is_cut status ≡ true → AppendsFront old new (rendered story)
   pub line : is_opened story ≡ false → is_cut status ≡ false → PrintsLine status text old new
   pub line_front : is_opened story ≡ false → is_cut status ≡ true → PrintsFront old new
-
--- a count or a text as the call began and as it ended
-pub record Change (A : Type 0) : Type 0 where
-  pub before : A
-  pub after : A
-
--- what came in: the words, and of the source the bytes that are left and the counts of bytes given and of faults
-pub record Intake : Type 0 where
-  pub words : List (List ℕ)
-  pub text : Change (Option (List ℕ))
-  pub given : Change ℕ
-  pub faults : Change ℕ
-
--- the words have the form, and the source was read to its end, which came within the limit
-pub record IsRead (intake : Intake) : Type 0 where
-  pub words : is_run intake.words ≡ true
-  pub at_end : IsAtEnd intake.text.after
-  pub count : ℕ
-  pub within : count ≤ text_limit
-  pub given : intake.given.after ≡ raised intake.given.before count
-  pub bytes : IfSome intake.text.before (λ bytes. length bytes ≡ count)
-
--- a whole run: the source's bytes spell a session, a base was opened, and each command is finished
-pub record IsWhole (intake : Intake) (story : List Told) : Type 0 where
-  pub read : IsRead intake
-  pub session : IfSome intake.text.before (λ bytes. is_session bytes ≡ true)
-  pub opened : is_opened story ≡ true
-  pub finished : all_done (state_of story) ≡ true
-
--- the source's bytes spell no session
-abbrev pub SpellsNone : Intake → Type 0
-SpellsNone intake = IfSome intake.text.before (λ bytes. is_session bytes ≡ false)
-
--- the source failed
-pub record SourceFailed (intake : Intake) : Type 0 where
-  pub words : is_run intake.words ≡ true
-  pub rose : Rose intake.faults.before intake.faults.after
-
--- the source gave more bytes than the limit
-pub record GaveTooMuch (intake : Intake) : Type 0 where
-  pub words : is_run intake.words ≡ true
-  pub rose : RoseAbove text_limit intake.given.before intake.given.after
-  pub bytes : IfSome intake.text.before (λ bytes. text_limit < length bytes)
-
--- *The cause of each status*. Memory may run out anywhere. The other causes exclude one another, a failed source and a failed
--- sink aside, so each status but those comes exactly where its cause does, unless the sink fails or memory runs out.
-abbrev pub HasCause : Status → Intake → Change ℕ → List Told → Type 0
-HasCause statuses.Good intake sink_faults story = IsWhole intake story × (has_failure story ≡ false)
-HasCause statuses.SomeFailed intake sink_faults story = IsWhole intake story × (has_failure story ≡ true)
-HasCause statuses.BadWords intake sink_faults story = (is_run intake.words ≡ false) × (story ≡ [])
-HasCause statuses.BadSession intake sink_faults story = IsRead intake × SpellsNone intake × (story ≡ [])
-HasCause statuses.ReadFault intake sink_faults story = SourceFailed intake × (story ≡ [])
-HasCause statuses.WriteFault intake sink_faults story = Rose sink_faults.before sink_faults.after
-HasCause statuses.NoMemory intake sink_faults story = Unit {0}
-HasCause statuses.TooLong intake sink_faults story = GaveTooMuch intake × (story ≡ [])

@@ -14,7 +14,8 @@ use Rattle.base_core.specs.Carried.{AreCarriedOut}
 use Rattle.legal_history.specs.States.{all_done}
 use Rattle.legal_history.specs.Steps.{state_of}
 use Rattle.legal_history.specs.Stories.{Legal}
-use Rattle.session_run.specs.Headline.{Change, IsFront, IsCutAtLast, AreFromNothing, text_limit, phases_begun, moments_begun, clock_moments, is_opened}
+use Rattle.session_run.specs.Causes.{Change}
+use Rattle.session_run.specs.Headline.{IsFront, IsCutAtLast, AreFromNothing, text_limit, phases_begun, moments_begun, clock_moments, is_opened}
 use Rattle.session_run.specs.Lanes.{given, given_earlier}
 use Rattle.session_run.specs.Rendered.{told_after, earlier_phases, ended_phases, transcripts, phase_fails}
 use Rattle.session_run.specs.declared.statuses.Status.{Status}

@@ -11,7 +11,8 @@ use Rattle.cc_outside.specs.declared.sources.Unread.{Unread}
 use Rattle.cc_outside.specs.declared.sources.Unread.TheVariants.{Fault}
 use Rattle.cc_outside.specs.declared.sources.Unread.TheVariants as unreads
 use Rattle.session_text.specs.Sessions.{session_of}
-use Rattle.session_run.specs.Headline.{Change, Intake, IsRead, SourceFailed, GaveTooMuch, is_run, is_session, phases_spelled}
+use Rattle.session_run.specs.Causes.{Change, Intake, IsRead, SourceFailed, GaveTooMuch}
+use Rattle.session_run.specs.Headline.{is_run, is_session, phases_spelled}
 use Rattle.session_run.specs.Runs.{IsRunnable}
 use Rattle.session_run.specs.Statuses.{is_cut, error_words}
 use Rattle.session_run.specs.declared.sessions.Stop.{Stop}

@@ -2,9 +2,9 @@
 //
 // What it is for: `run_words` reads a session, opens a base, runs the session's phases and writes their transcripts.
 //
-// What it promises: the headline of the product, in `specs/Headline.antt`. The printed replies are those of one legal
-// history, which holds each command once in its lane's order, every clearmake is replied as building from nothing is, and
-// each status comes where its cause does.
+// What it promises: the headline of the product, in `specs/Headline.antt`, and when each status comes, in
+// `specs/Causes.antt`. The printed replies are those of one legal history, which holds each command once in its lane's
+// order, and every clearmake is replied as building from nothing is.
 //
 // What it stands on: `base_core` for the history, `fresh_builds` for the laws of builds, `session_text` and `reply_text` for
 // the texts, and `cc_outside` for the source, the sink and the clock.

@@ -1,7 +1,8 @@
 // The top call.
 
 ghost use Rattle.std.specs.Prelude.{◌≡◌};
-ghost use Rattle.session_run.specs.Headline.{IsSession, IsOneHistory, AreFromNothing, ArePrinted, HasCause};
+ghost use Rattle.session_run.specs.Causes.{HasCause};
+ghost use Rattle.session_run.specs.Headline.{IsSession, IsOneHistory, AreFromNothing, ArePrinted};
 ghost use Rattle.session_run.specs.Runs.{IsRunnable, RunsSession, run_status};
 
 use crate::lines::refuse;
