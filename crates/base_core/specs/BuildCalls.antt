@@ -1,14 +1,18 @@
 -- What the calls of a core on a lane's build ask and leave.
-use Rattle.std.specs.Prelude.{◌≡◌, ◌≢◌, ℕ, ◌<◌, ◌≤◌, ◌^◌, Bool, true, false, Option, Some, Result, Ok, Err, List, [], length}
+use Rattle.std.specs.Prelude.{◌≡◌, ◌≢◌, ℕ, ◌<◌, ◌≤◌, ◌^◌, Bool, true, false, Option, Some, None, Result, Ok, Err, List, [], length}
 use Rattle.std.specs.Ordering.{nat_cmp}
 use Rattle.std.specs.FinMap.Entries.{put}
 use Rattle.cc_names.specs.Formed.{Plain}
 use Rattle.cc_names.specs.declared.desks.Begun.{Begun}
 use Rattle.cc_names.specs.declared.desks.Begun.TheVariants as begins
+use Rattle.cc_names.specs.declared.refusals.ScriptFault.{ScriptFault}
 use Rattle.cc_names.specs.declared.steps.Step.{Step}
+use Rattle.cc_names.specs.declared.steps.UnitEnd.{UnitEnd}
 use Rattle.cc_names.specs.declared.steps.Told.{Told}
 use Rattle.cc_names.specs.declared.steps.Told.TheVariants as told
 use Rattle.cc_names.specs.declared.units.Unit.{Unit}
+use Rattle.build_core.specs.declared.steps.UnitStep.{UnitStep}
+use Rattle.build_core.specs.declared.steps.UnitStep.TheVariants as next
 use Rattle.build_script.specs.Lines.{script_of}
 use Rattle.build_script.specs.Run.{Ran}
 use Rattle.build_script.specs.declared.lines.Line.{Line}
@@ -18,8 +22,9 @@ use Rattle.legal_history.specs.Choices.{here, publish_of}
 use Rattle.legal_history.specs.Fresh.{script_text}
 use Rattle.legal_history.specs.States.{State, next_tag}
 use Rattle.legal_history.specs.Steps.{after, state_of, with_came}
-use Rattle.legal_history.specs.Stories.{LawfulStep}
-use Rattle.legal_history.specs.Turns.{is_complete}
+use Rattle.legal_history.specs.Stories.{IsOpen, LawfulStep, Settles}
+use Rattle.legal_history.specs.Turns.{is_complete, unreadable}
+use Rattle.base_core.specs.Building.{IsBuildKept}
 use Rattle.base_core.specs.Going.{GoesOn, HasOutcome, Finishes}
 use Rattle.base_core.specs.Replying.{replies_by}
 use Rattle.base_core.specs.Telling.{stands_alone}
@@ -38,12 +43,6 @@ abbrev pub Begins : List Told → List Told → ℕ → Begun → Type 0
 Begins old new lane (begins.Units count) = GoesOn old new lane × IsBuilding (state_of new) lane count
 Begins old new lane begins.Refused = Finishes old new lane
 
--- unit n of a lane's build
-pub record IsUnitOf (s : State) (lane n : ℕ) : Type 0 where
-  pub build : Build
-  pub active : build_of s.active lane ≡ Some build
-  pub within : n < length build.units
-
 -- unit n of a lane's build, all units before which have their outcomes
 pub record IsTurn (s : State) (lane n : ℕ) : Type 0 where
   pub build : Build
@@ -56,6 +55,7 @@ pub record Notes (s : State) (lane n : ℕ) (step : Step) (came : Came) : Type 0
   pub build : Build
   pub active : build_of s.active lane ≡ Some build
   pub within : n < length build.units
+  pub waits : is_outcome (came_to build n) ≡ false
   pub alone : stands_alone step ≡ true
   pub lawful : LawfulStep s step
   pub leaves : after s (told.Other step) ≡ record s { active = put nat_cmp lane (with_came build (Some n) came) s.active }
@@ -67,6 +67,42 @@ pub record Noted (old new : List Told) (lane n : ℕ) (came : Came) : Type 0 whe
   pub build : Build
   pub active : build_of (state_of new).active lane ≡ Some build
   pub came_to_it : came_to build n ≡ Some came
+
+-- unit n of a lane's build may settle so without a row
+pub record MaySettle (s : State) (lane n : ℕ) (end : UnitEnd) : Type 0 where
+  pub build : Build
+  pub active : build_of s.active lane ≡ Some build
+  pub within : n < length build.units
+  pub kept : IsBuildKept s lane build
+  pub waits : is_outcome (came_to build n) ≡ false
+  pub settles : Settles s (next_tag s lane) n end
+
+-- the script of unit n of a lane's build may be started; one that cannot be read has this fault
+pub record MayStart (s : State) (lane n : ℕ) (fault : Option ScriptFault) : Type 0 where
+  pub build : Build
+  pub active : build_of s.active lane ≡ Some build
+  pub within : n < length build.units
+  pub kept : IsBuildKept s lane build
+  pub unit : Unit
+  pub open_unit : IsOpen s (next_tag s lane) n build unit
+  pub fault_is : fault ≡ unreadable unit
+
+-- unit n of a lane's build has this script and these targets
+pub record HasScript (s : State) (lane n : ℕ) (script : List Line) (targets : List (List ℕ)) : Type 0 where
+  pub build : Build
+  pub active : build_of s.active lane ≡ Some build
+  pub unit : Unit
+  pub is_unit : unit_at build n ≡ Some unit
+  pub script_is : script_of (script_text unit.script) ≡ Ok script
+  pub targets_are : targets ≡ unit.targets
+
+-- what comes next for unit n of a lane's build whose turn it is
+abbrev pub StepsTo : State → ℕ → ℕ → UnitStep → Type 0
+StepsTo s lane n next.Settled = HasOutcome s lane n
+StepsTo s lane n (next.NotReady m) = ⊥
+StepsTo s lane n (next.Settle end) = MaySettle s lane n end
+StepsTo s lane n (next.Start script targets) = MayStart s lane n None × HasScript s lane n script targets
+StepsTo s lane n (next.Unreadable fault) = MayStart s lane n (Some fault)
 
 -- the row of what the run of unit n of a lane's build gave
 pub record IsObjectRow (s : State) (lane n : ℕ) (row : Plain) : Type 0 where
@@ -81,13 +117,8 @@ pub record IsObjectRow (s : State) (lane n : ℕ) (row : Plain) : Type 0 where
 
 -- unit n of a lane's build was started, with this script and these targets
 pub record IsStarted (s : State) (lane n : ℕ) (script : List Line) (targets : List (List ℕ)) : Type 0 where
-  pub build : Build
-  pub active : build_of s.active lane ≡ Some build
-  pub unit : Unit
-  pub is_unit : unit_at build n ≡ Some unit
-  pub started : came_to build n ≡ Some Started
-  pub script_is : script_of (script_text unit.script) ≡ Ok script
-  pub targets_are : targets ≡ unit.targets
+  pub has : HasScript s lane n script targets
+  pub started : came_to has.build n ≡ Some Started
 
 -- unit n of a lane's build was started, and this is the run of its script on what it sees
 pub record HasRun (s : State) (lane n : ℕ) (ran : Ran) : Type 0 where
@@ -96,6 +127,7 @@ pub record HasRun (s : State) (lane n : ℕ) (ran : Ran) : Type 0 where
   pub unit : Unit
   pub is_unit : unit_at build n ≡ Some unit
   pub started : came_to build n ≡ Some Started
+  pub kept : IsBuildKept s lane build
   pub run : ran ≡ here s.base build n unit
 
 -- the units of a lane's build all have their outcomes
