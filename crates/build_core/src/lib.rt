@@ -1,12 +1,16 @@
-// Builds: from a clearmake command to the units that it runs.
+// Builds: from a clearmake command to the units that it runs, and what comes next for each of them.
 //
-// What it is for: `graph` and `plan` say which units a build has, over the files of its view, or why it is refused.
+// What it is for: `graph` and `plan` say which units a build has, over the files of its view, or why it is refused. An
+// `ActiveBuild` keeps what its units have come to; `step` says what comes next for a unit, and `fetch` what its script
+// finds at a path.
 //
 // What it promises: the units, or the refusal in their place, are those of the definition of the units of a build, for
-// any files, makefile, macros and goals.
+// any files, makefile, macros and goals. An active build is the model's, each step is one that the model lets the unit
+// take, and what a script finds is what the model lets the unit see.
 //
 // What it stands on: `make_text` for makefiles and the definition of units, `make_graph` for the units of a makefile
-// that was read, `cc_names` for paths, units and refusals.
+// that was read, `view_lookup` for what a view sees, `build_script` for scripts, `legal_history` for the model of
+// builds, `cc_names` for paths, units and refusals.
 #![tactic(auto)]
 
 mod active;

@@ -251,12 +251,7 @@ fn start(
 }
 
 /// What comes next for a unit without an outcome, where these are the rows that its build sees.
-fn next(
-    alloc: Global,
-    rows: &[Row],
-    build: &ActiveBuild,
-    unit: &Unit,
-) -> Result<UnitStep, NoMemory>
+fn next(alloc: Global, rows: &[Row], build: &ActiveBuild, unit: &Unit) -> Result<UnitStep, NoMemory>
     requires room { length rows.now < 2 ^ 63 }
     requires unversioned { is_unversioned (reverse rows.now) ≡ true }
     requires few { length build.now.units < 2 ^ 32 }
