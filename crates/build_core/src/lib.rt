@@ -14,6 +14,7 @@
 #![tactic(auto)]
 
 mod active;
+mod ends;
 mod plans;
 mod sights;
 mod steps;
