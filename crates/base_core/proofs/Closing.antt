@@ -61,30 +61,40 @@ kept_end log lanes builds now lane build h low high is over = record {
   in_time = h.in_time;
 }
   where
-  story : List Told
-  story = log.story
-  s : State
-  s = state_of log.story
-  tag : Tag
-  tag = next_tag s lane
-  x : Told
-  x = told.Other (steps.End tag)
-  reply : Reply
-  reply = reply_of s.base build
-  kept : IsBuildKept s lane build
-  kept = h.building lane build is
-  by_tag : build_by s tag ≡ Some build
-  by_tag = build_is_by s lane build is kept.tag
-  replied : reply_to_end s.base (build_by s tag) ≡ Some reply
-  replied = ap (reply_to_end s.base) by_tag ∙ ap (λ f. Some (if f then replies.DiskFault else reply)) kept.sound
-  state : state_of (story ++ x ∷ []) ≡ record s { done = with_done s.done lane; active = without_build s.active lane }
-  state = state_from-more start story x
-  active : (state_of (story ++ x ∷ [])).active ≡ numbered 1 (set builds (lane - 1) None)
-  active = ap (λ t. t.active) state ∙ ap (λ a. without_build a lane) h.agrees.active ∙ without_numbered lane 1 (lane - 1) builds (omega arith)
-  by : (other : ℕ) (found : Build) → (other ≡ lane) ⊎ (other ≢ lane) → build_of (state_of (story ++ x ∷ [])).active other ≡ Some found → IsBuildKept (state_of (story ++ x ∷ [])) other found
-  by other found (inl e) at =
-      absurd (not_both (build_of (numbered 1 (set builds (lane - 1) None)) lane) found (found_set builds lane None low (omega (arith, h.count))) (ap (build_of (numbered 1 (set builds (lane - 1) None))) (sym e) ∙ ap (λ a. build_of a other) (sym active) ∙ at))
-  by other found (inr differs) at =
-      let was = h.building other found (ap (λ a. build_of a other) h.agrees.active ∙ sym (found_other builds lane other None low differs) ∙ ap (λ a. build_of a other) (sym active) ∙ at) in
-      subst (λ t. IsBuildKept t other found) (sym state)
-      (build_stays s (record s { done = with_done s.done lane; active = without_build s.active lane }) other found was refl refl (done_other s.done lane other differs) refl (omega arith))
+    story : List Told
+    story = log.story
+
+    s : State
+    s = state_of log.story
+
+    tag : Tag
+    tag = next_tag s lane
+
+    x : Told
+    x = told.Other (steps.End tag)
+
+    reply : Reply
+    reply = reply_of s.base build
+
+    kept : IsBuildKept s lane build
+    kept = h.building lane build is
+
+    by_tag : build_by s tag ≡ Some build
+    by_tag = build_is_by s lane build is kept.tag
+
+    replied : reply_to_end s.base (build_by s tag) ≡ Some reply
+    replied = ap (reply_to_end s.base) by_tag ∙ ap (λ f. Some (if f then replies.DiskFault else reply)) kept.sound
+
+    state : state_of (story ++ x ∷ []) ≡ record s { done = with_done s.done lane; active = without_build s.active lane }
+    state = state_from-more start story x
+
+    active : (state_of (story ++ x ∷ [])).active ≡ numbered 1 (set builds (lane - 1) None)
+    active = ap (λ t. t.active) state ∙ ap (λ a. without_build a lane) h.agrees.active ∙ without_numbered lane 1 (lane - 1) builds (omega arith)
+
+    by : (other : ℕ) (found : Build) → (other ≡ lane) ⊎ (other ≢ lane) → build_of (state_of (story ++ x ∷ [])).active other ≡ Some found → IsBuildKept (state_of (story ++ x ∷ [])) other found
+    by other found (inl e) at =
+        absurd (not_both (build_of (numbered 1 (set builds (lane - 1) None)) lane) found (found_set builds lane None low (omega (arith, h.count))) (ap (build_of (numbered 1 (set builds (lane - 1) None))) (sym e) ∙ ap (λ a. build_of a other) (sym active) ∙ at))
+    by other found (inr differs) at =
+        let was = h.building other found (ap (λ a. build_of a other) h.agrees.active ∙ sym (found_other builds lane other None low differs) ∙ ap (λ a. build_of a other) (sym active) ∙ at) in
+        subst (λ t. IsBuildKept t other found) (sym state)
+        (build_stays s (record s { done = with_done s.done lane; active = without_build s.active lane }) other found was refl refl (done_other s.done lane other differs) refl (omega arith))

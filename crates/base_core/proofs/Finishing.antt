@@ -57,16 +57,20 @@ others_kept log lanes builds now x tag h free active phase number done rows grow
     subst (λ t. IsBuildKept t lane build) (sym more)
     (build_stays s (after s x) lane build kept phase number (ap (λ d. done_of d lane) done ∙ done_other s.done tag.lane lane differs) (rows build.rows kept.rows) grows)
   where
-  s : State
-  s = state_of log.story
-  more : state_of (log.story ++ x ∷ []) ≡ after s x
-  more = state_from-more start log.story x
-  was : build_of s.active lane ≡ Some build
-  was = ap (λ a. build_of a lane) (sym active) ∙ ap (λ t. build_of t.active lane) (sym more) ∙ is
-  kept : IsBuildKept s lane build
-  kept = h.building lane build was
-  differs : lane ≢ tag.lane
-  differs = λ e. not_both (build_of s.active lane) build (ap (build_of s.active) e ∙ free) was
+    s : State
+    s = state_of log.story
+
+    more : state_of (log.story ++ x ∷ []) ≡ after s x
+    more = state_from-more start log.story x
+
+    was : build_of s.active lane ≡ Some build
+    was = ap (λ a. build_of a lane) (sym active) ∙ ap (λ t. build_of t.active lane) (sym more) ∙ is
+
+    kept : IsBuildKept s lane build
+    kept = h.building lane build was
+
+    differs : lane ≢ tag.lane
+    differs = λ e. not_both (build_of s.active lane) build (ap (build_of s.active) e ∙ free) was
 
 -- what is kept after a commit
 pub kept_commit : (log : Logged) (lanes : List (List Reply)) (builds : List (Option Build)) (now : ℕ) (row : Plain) → IsKept log lanes builds now → is_plain_deed row.deed ≡ true → row.moment ≡ now → decided (state_of log.story) row.tag ≡ Some (Ok (Makes row.deed)) → 1 ≤ row.tag.lane → row.tag.lane ≤ length lanes → length log.rows + 1 < row_limit → IsKept (with_row log row) (with_reply lanes row.tag.lane replies.Good) builds now

@@ -1,11 +1,13 @@
 -- How stories go on: not at all, by one step, and by one way after another.
-use Rattle.std.proofs.Common.{◌≡◌, ℕ, true, Some, List, [], ◌∷◌, ◌++◌, refl, ap, ap₂, sym, subst, ◌∙◌}
+use Rattle.std.proofs.Common.{◌≡◌, ℕ, ◌+◌, true, Some, Result, Ok, Err, List, [], ◌∷◌, ◌++◌, refl, ap, ap₂, sym, subst, ◌∙◌}
+use Rattle.std.specs.Prelude.{OnErr}
 use Rattle.std.proofs.lemmas.List.{append-nil}
 use Rattle.std.proofs.Common.{append_assoc}
 use Rattle.cc_names.specs.declared.steps.Told.{Told}
 use Rattle.legal_history.specs.Builds.{Build, build_of, came_to, is_outcome}
+use Rattle.legal_history.specs.States.{done_of}
 use Rattle.legal_history.specs.Steps.{state_of}
-use Rattle.base_core.specs.Going.{SamePhase, StillBuilds, GoesOn, HasOutcome}
+use Rattle.base_core.specs.Going.{SamePhase, StillBuilds, GoesOn, HasOutcome, Finishes}
 
 -- a story that does not go on
 pub goes_nowhere : (story : List Told) (lane : ℕ) → GoesOn story story lane
@@ -27,7 +29,22 @@ goes_further one two three lane h g = record {
   still = λ build is. after build (h.still build is);
 }
   where
-  after : (build : Build) → StillBuilds (state_of two) lane build → StillBuilds (state_of three) lane build
-  after build a =
-      let b = g.still a.build a.active in
-      record { build = b.build; active = b.active; units = b.units ∙ a.units; outcomes = λ n e. b.outcomes n (a.outcomes n e) }
+    after : (build : Build) → StillBuilds (state_of two) lane build → StillBuilds (state_of three) lane build
+    after build a =
+        let b = g.still a.build a.active in
+        record { build = b.build; active = b.active; units = b.units ∙ a.units; outcomes = λ n e. b.outcomes n (a.outcomes n e) }
+
+-- a command is finished after its lane's build went on
+pub finishes_further : (one two three : List Told) (lane : ℕ) → GoesOn one two lane → Finishes two three lane → Finishes one three lane
+finishes_further one two three lane h g = record {
+  steps = h.steps ++ g.steps;
+  grows = g.grows ∙ ap (λ s. s ++ g.steps) h.grows ∙ append_assoc one h.steps g.steps;
+  phase = record { phase = g.phase.phase ∙ h.phase.phase; number = g.phase.number ∙ h.phase.number; moment = g.phase.moment ∙ h.phase.moment };
+  done = g.done ∙ ap (λ d. done_of d lane + 1) h.done;
+  others = λ other differs. g.others other differs ∙ ap (λ d. done_of d other) h.done;
+}
+
+-- what holds anyway holds where a call fails
+pub on_err : {A E : Type 0} (r : Result A E) (P : Type 0) → P → OnErr r P
+on_err (Ok a) P p = tt
+on_err (Err e) P p = p

@@ -74,29 +74,30 @@ build_in_slot s builds i e = ap (λ active. build_of active (suc i)) e ∙ find_
 pub nobody_builds : (log : Logged) (lanes : List (List Reply)) (builds : List (Option Build)) (now : ℕ) → IsKept log lanes builds now → all_done (state_of log.story) ≡ true → (state_of log.story).active ≡ []
 nobody_builds log lanes builds now h finished = h.agrees.active ∙ none_numbered 1 builds (λ i. by i (held_in builds i) refl)
   where
-  by : (i : ℕ) (held : Option Build) → held_in builds i ≡ held → held ≡ None
-  by i None is = refl
-  by i (Some build) is =
-      let kept = h.building (suc i) build (build_in_slot (state_of log.story) builds i h.agrees.active ∙ is) in
-      let waits : next_of (state_of log.story) (suc i) ≡ nexts.Build (next_tag (state_of log.story) (suc i)) = kept.waits in
-      let done : next_of (state_of log.story) (suc i) ≡ nexts.Done = ap (λ command. next_by command (next_tag (state_of log.story) (suc i))) (none_waits (state_of log.story) (suc i) finished) in
-      absurd (cc)
+    by : (i : ℕ) (held : Option Build) → held_in builds i ≡ held → held ≡ None
+    by i None is = refl
+    by i (Some build) is =
+        let kept = h.building (suc i) build (build_in_slot (state_of log.story) builds i h.agrees.active ∙ is) in
+        let waits : next_of (state_of log.story) (suc i) ≡ nexts.Build (next_tag (state_of log.story) (suc i)) = kept.waits in
+        let done : next_of (state_of log.story) (suc i) ≡ nexts.Done = ap (λ command. next_by command (next_tag (state_of log.story) (suc i))) (none_waits (state_of log.story) (suc i) finished) in
+        absurd (cc)
 
 -- a lane that is to act does not build
 pub acting_is_free : (log : Logged) (lanes : List (List Reply)) (builds : List (Option Build)) (now lane : ℕ) → IsKept log lanes builds now → next_of (state_of log.story) lane ≡ nexts.Act → build_of (state_of log.story).active lane ≡ None
 acting_is_free log lanes builds now lane h act = by (build_of (state_of log.story).active lane) refl
   where
-  by : (found : Option Build) → build_of (state_of log.story).active lane ≡ found → found ≡ None
-  by None is = refl
-  by (Some build) is = let waits : next_of (state_of log.story) lane ≡ nexts.Build (next_tag (state_of log.story) lane) = (h.building lane build is).waits in absurd (cc)
+    by : (found : Option Build) → build_of (state_of log.story).active lane ≡ found → found ≡ None
+    by None is = refl
+    by (Some build) is = let waits : next_of (state_of log.story) lane ≡ nexts.Build (next_tag (state_of log.story) lane) = (h.building lane build is).waits in absurd (cc)
 
 -- nor does the lane of a command of which something is decided
 pub decided_is_free : (s : State) (tag : Tag) (result : Result Decision Refusal) → decided s tag ≡ Some result → build_of s.active tag.lane ≡ None
 decided_is_free s tag result e = by (same_tag tag (next_tag s tag.lane)) (build_of s.active tag.lane) refl refl e
   where
-  command : Option Command
-  command = option_and_then (command_behind (done_of s.done tag.lane)) (lane_at s.phase tag.lane)
-  by : (same : Bool) (found : Option Build) → same_tag tag (next_tag s tag.lane) ≡ same → build_of s.active tag.lane ≡ found → option_map (decision (scene s)) (only_where (same && is_none found) command) ≡ Some result → found ≡ None
-  by same None is none e = refl
-  by true (Some build) is some e = absurd (cc)
-  by false (Some build) is some e = absurd (cc)
+    command : Option Command
+    command = option_and_then (command_behind (done_of s.done tag.lane)) (lane_at s.phase tag.lane)
+
+    by : (same : Bool) (found : Option Build) → same_tag tag (next_tag s tag.lane) ≡ same → build_of s.active tag.lane ≡ found → option_map (decision (scene s)) (only_where (same && is_none found) command) ≡ Some result → found ≡ None
+    by same None is none e = refl
+    by true (Some build) is some e = absurd (cc)
+    by false (Some build) is some e = absurd (cc)

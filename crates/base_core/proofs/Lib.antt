@@ -1,9 +1,12 @@
 pub mod Beginning
 pub mod Closing
+pub mod EndSteps
 pub mod Finishing
+pub mod FoundBuilds
 pub mod Goings
 pub mod Growing
 pub mod Idle
+pub mod LaneSlots
 pub mod Lanes
 pub mod LogSteps
 pub mod NextCommands
@@ -16,3 +19,9 @@ pub mod Reserving
 pub mod SlotLists
 pub mod Staying
 pub mod Stories
+pub mod UnitNotes
+pub mod OpenSteps
+pub mod PlanSteps
+pub mod UnitCalls
+pub mod StepsSo
+pub mod ObjectSteps

@@ -58,8 +58,7 @@ pub decides_next : (s : State) (lane room now : ℕ) (command : Command) (result
 decides_next s lane room now command (Ok row) free moment e count decides plain space =
     let within = in_phase s.phase lane (done_of s.done lane) command e in
     let made : decided s (next_tag s lane) ≡ Some (decision (scene s) command) = ap (option_map (decision (scene s))) (next_is s lane command free e) in
-    let at_lane : row.tag.lane ≡ lane = ap (λ t. t.lane) decides.1 in
-    (
+    let at_lane : row.tag.lane ≡ lane = ap (λ t. t.lane) decides.1 in (
       record {
         of_next = record {
           next = decides.1 ∙ ap (next_tag s) (sym at_lane);

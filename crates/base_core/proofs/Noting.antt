@@ -81,23 +81,30 @@ kept_note log lanes builds now step lane n build came h low high is lawful leave
   in_time = h.in_time;
 }
   where
-  story : List Told
-  story = log.story
-  x : Told
-  x = told.Other step
-  s : State
-  s = state_of log.story
-  noted : Build
-  noted = with_came build (Some n) came
-  state : state_of (story ++ x ∷ []) ≡ record s { active = put nat_cmp lane noted s.active }
-  state = state_from-more start story x ∙ leaves
-  active : (state_of (story ++ x ∷ [])).active ≡ numbered 1 (set builds (lane - 1) (Some noted))
-  active = ap (λ t. t.active) state ∙ ap (put nat_cmp lane noted) h.agrees.active ∙ put_numbered lane 1 (lane - 1) noted builds (omega arith) (omega (arith, h.count))
-  stays : (other : ℕ) (found : Build) → IsBuildKept s other found → IsBuildKept (state_of (story ++ x ∷ [])) other found
-  stays other found kept = subst (λ t. IsBuildKept t other found) (sym state) (build_stays s (record s { active = put nat_cmp lane noted s.active }) other found kept refl refl refl refl (omega arith))
-  by : (other : ℕ) (found : Build) → (other ≡ lane) ⊎ (other ≢ lane) → build_of (state_of (story ++ x ∷ [])).active other ≡ Some found → IsBuildKept (state_of (story ++ x ∷ [])) other found
-  by other found (inl e) at =
-      let one : Some noted ≡ Some found = sym (found_set builds lane (Some noted) low (omega (arith, h.count))) ∙ ap (build_of (numbered 1 (set builds (lane - 1) (Some noted)))) (sym e) ∙ ap (λ a. build_of a other) (sym active) ∙ at in
-      subst (λ b. IsBuildKept (state_of (story ++ x ∷ [])) other b) (some_same noted found one) (stays other noted (subst (λ l. IsBuildKept s l noted) (sym e) (noted_kept s lane build n came (h.building lane build is))))
-  by other found (inr differs) at =
-      stays other found (h.building other found (ap (λ a. build_of a other) h.agrees.active ∙ sym (found_other builds lane other (Some noted) low differs) ∙ ap (λ a. build_of a other) (sym active) ∙ at))
+    story : List Told
+    story = log.story
+
+    x : Told
+    x = told.Other step
+
+    s : State
+    s = state_of log.story
+
+    noted : Build
+    noted = with_came build (Some n) came
+
+    state : state_of (story ++ x ∷ []) ≡ record s { active = put nat_cmp lane noted s.active }
+    state = state_from-more start story x ∙ leaves
+
+    active : (state_of (story ++ x ∷ [])).active ≡ numbered 1 (set builds (lane - 1) (Some noted))
+    active = ap (λ t. t.active) state ∙ ap (put nat_cmp lane noted) h.agrees.active ∙ put_numbered lane 1 (lane - 1) noted builds (omega arith) (omega (arith, h.count))
+
+    stays : (other : ℕ) (found : Build) → IsBuildKept s other found → IsBuildKept (state_of (story ++ x ∷ [])) other found
+    stays other found kept = subst (λ t. IsBuildKept t other found) (sym state) (build_stays s (record s { active = put nat_cmp lane noted s.active }) other found kept refl refl refl refl (omega arith))
+
+    by : (other : ℕ) (found : Build) → (other ≡ lane) ⊎ (other ≢ lane) → build_of (state_of (story ++ x ∷ [])).active other ≡ Some found → IsBuildKept (state_of (story ++ x ∷ [])) other found
+    by other found (inl e) at =
+        let one : Some noted ≡ Some found = sym (found_set builds lane (Some noted) low (omega (arith, h.count))) ∙ ap (build_of (numbered 1 (set builds (lane - 1) (Some noted)))) (sym e) ∙ ap (λ a. build_of a other) (sym active) ∙ at in
+        subst (λ b. IsBuildKept (state_of (story ++ x ∷ [])) other b) (some_same noted found one) (stays other noted (subst (λ l. IsBuildKept s l noted) (sym e) (noted_kept s lane build n came (h.building lane build is))))
+    by other found (inr differs) at =
+        stays other found (h.building other found (ap (λ a. build_of a other) h.agrees.active ∙ sym (found_other builds lane other (Some noted) low differs) ∙ ap (λ a. build_of a other) (sym active) ∙ at))

@@ -53,27 +53,35 @@ kept_begin log lanes builds now tag build h low high made begins kept room = rec
   in_time = h.in_time;
 }
   where
-  lane : ℕ
-  lane = tag.lane
-  story : List Told
-  story = log.story
-  s : State
-  s = state_of log.story
-  x : Told
-  x = told.Other (steps.Begin tag (size s.base) (length build.units))
-  state : state_of (story ++ x ∷ []) ≡ record s { active = put nat_cmp lane build s.active }
-  state = state_from-more start story x ∙ ap (λ o. record s { active = with_build s.active lane o }) begins
-  active : (state_of (story ++ x ∷ [])).active ≡ numbered 1 (set builds (lane - 1) (Some build))
-  active = ap (λ t. t.active) state ∙ ap (put nat_cmp lane build) h.agrees.active ∙ put_numbered lane 1 (lane - 1) build builds (omega arith) (omega (arith, h.count))
-  empty : held_in builds (lane - 1) ≡ None
-  empty =
-      let here : lane ≡ suc (lane - 1) = omega arith in
-      sym (build_in_slot s builds (lane - 1) h.agrees.active) ∙ ap (build_of s.active) (sym here) ∙ decided_is_free s tag (Ok (Begins build.units)) made
-  stays : (other : ℕ) (found : Build) → IsBuildKept s other found → IsBuildKept (state_of (story ++ x ∷ [])) other found
-  stays other found was = subst (λ t. IsBuildKept t other found) (sym state) (build_stays s (record s { active = put nat_cmp lane build s.active }) other found was refl refl refl refl (omega arith))
-  by : (other : ℕ) (found : Build) → (other ≡ lane) ⊎ (other ≢ lane) → build_of (state_of (story ++ x ∷ [])).active other ≡ Some found → IsBuildKept (state_of (story ++ x ∷ [])) other found
-  by other found (inl e) at =
-      let one : Some build ≡ Some found = sym (found_set builds lane (Some build) low (omega (arith, h.count))) ∙ ap (build_of (numbered 1 (set builds (lane - 1) (Some build)))) (sym e) ∙ ap (λ a. build_of a other) (sym active) ∙ at in
-      subst (λ b. IsBuildKept (state_of (story ++ x ∷ [])) other b) (some_same build found one) (stays other build (subst (λ l. IsBuildKept s l build) (sym e) kept))
-  by other found (inr differs) at =
-      stays other found (h.building other found (ap (λ a. build_of a other) h.agrees.active ∙ sym (found_other builds lane other (Some build) low differs) ∙ ap (λ a. build_of a other) (sym active) ∙ at))
+    lane : ℕ
+    lane = tag.lane
+
+    story : List Told
+    story = log.story
+
+    s : State
+    s = state_of log.story
+
+    x : Told
+    x = told.Other (steps.Begin tag (size s.base) (length build.units))
+
+    state : state_of (story ++ x ∷ []) ≡ record s { active = put nat_cmp lane build s.active }
+    state = state_from-more start story x ∙ ap (λ o. record s { active = with_build s.active lane o }) begins
+
+    active : (state_of (story ++ x ∷ [])).active ≡ numbered 1 (set builds (lane - 1) (Some build))
+    active = ap (λ t. t.active) state ∙ ap (put nat_cmp lane build) h.agrees.active ∙ put_numbered lane 1 (lane - 1) build builds (omega arith) (omega (arith, h.count))
+
+    empty : held_in builds (lane - 1) ≡ None
+    empty =
+        let here : lane ≡ suc (lane - 1) = omega arith in
+        sym (build_in_slot s builds (lane - 1) h.agrees.active) ∙ ap (build_of s.active) (sym here) ∙ decided_is_free s tag (Ok (Begins build.units)) made
+
+    stays : (other : ℕ) (found : Build) → IsBuildKept s other found → IsBuildKept (state_of (story ++ x ∷ [])) other found
+    stays other found was = subst (λ t. IsBuildKept t other found) (sym state) (build_stays s (record s { active = put nat_cmp lane build s.active }) other found was refl refl refl refl (omega arith))
+
+    by : (other : ℕ) (found : Build) → (other ≡ lane) ⊎ (other ≢ lane) → build_of (state_of (story ++ x ∷ [])).active other ≡ Some found → IsBuildKept (state_of (story ++ x ∷ [])) other found
+    by other found (inl e) at =
+        let one : Some build ≡ Some found = sym (found_set builds lane (Some build) low (omega (arith, h.count))) ∙ ap (build_of (numbered 1 (set builds (lane - 1) (Some build)))) (sym e) ∙ ap (λ a. build_of a other) (sym active) ∙ at in
+        subst (λ b. IsBuildKept (state_of (story ++ x ∷ [])) other b) (some_same build found one) (stays other build (subst (λ l. IsBuildKept s l build) (sym e) kept))
+    by other found (inr differs) at =
+        stays other found (h.building other found (ap (λ a. build_of a other) h.agrees.active ∙ sym (found_other builds lane other (Some build) low differs) ∙ ap (λ a. build_of a other) (sym active) ∙ at))

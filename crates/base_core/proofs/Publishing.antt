@@ -1,6 +1,7 @@
 -- What a core keeps after the row of an object that a unit of a build made.
-use Rattle.std.proofs.Common.{◌≡◌, ◌≢◌, ℕ, suc, ◌+◌, ◌-◌, ◌<◌, ◌≤◌, ◌⊎◌, inl, inr, true, false, ◌&&◌, Option, Some, None, List, [], ◌∷◌, ◌++◌, length, length-append, reverse, set, refl, ap, ap₂, sym, subst, ◌∙◌, arith}
+use Rattle.std.proofs.Common.{◌≡◌, ◌≢◌, ℕ, suc, ◌+◌, ◌-◌, ◌<◌, ◌≤◌, nat_lt, ◌⊎◌, inl, inr, true, false, ◌&&◌, Option, Some, None, List, [], ◌∷◌, ◌++◌, length, length-append, reverse, set, refl, ap, ap₂, sym, subst, ◌∙◌, arith}
 use Rattle.std.proofs.lemmas.List.{append-nil, length-set, reverse-append, length-reverse}
+use Rattle.std.proofs.lemmas.Bool.Decides.{nat_tests}
 use Rattle.std.specs.Ordering.{nat_cmp}
 use Rattle.std.specs.Prelude.{is_some}
 use Rattle.std.specs.FinMap.Entries.{put}
@@ -14,12 +15,13 @@ use Rattle.cc_names.specs.declared.steps.Told.TheVariants as told
 use Rattle.cc_names.specs.declared.units.Unit.{Unit}
 use Rattle.build_core.specs.Slots.{numbered, held_in}
 use Rattle.build_core.specs.SlotLaws.{put_numbered}
-use Rattle.legal_history.specs.Base.{size}
+use Rattle.legal_history.specs.Base.{Base, size}
 use Rattle.legal_history.specs.Builds.{Build, Started, Given, build_of, came_to, is_outcome, reserved, unit_at, unit_with_first}
 use Rattle.legal_history.specs.Choices.{publish_of}
-use Rattle.legal_history.specs.Fits.{row_limit}
+use Rattle.legal_history.specs.Fits.{row_limit, fits, deed_fits, is_base}
 use Rattle.legal_history.specs.States.{State, start, next_tag, ticks_of}
 use Rattle.legal_history.specs.Steps.{after, state_of, noted_in, with_came}
+use Rattle.legal_history.specs.Stories.{Legal}
 use Rattle.view_lookup.specs.Unversioned.{is_unversioned}
 use Rattle.base_core.specs.Building.{IsBuildKept}
 use Rattle.base_core.specs.Kept.{last_phase, IsKept}
@@ -27,7 +29,7 @@ use Rattle.base_core.specs.Logs.{Logged, with_row}
 use Rattle.base_core.specs.Replying.{replies_of}
 use Rattle.base_core.proofs.Closing.{build_is_by}
 use Rattle.base_core.proofs.Growing.{state_from-more, legal_more}
-use Rattle.base_core.proofs.Idle.{some_same}
+use Rattle.base_core.proofs.Idle.{both, some_same}
 use Rattle.base_core.proofs.Lanes.{one_or_two}
 use Rattle.base_core.proofs.Noting.{noted_kept, same_replies, slot_of}
 use Rattle.base_core.proofs.PlainRows.{one_more_rises}
@@ -38,27 +40,16 @@ use Rattle.base_core.proofs.Staying.{first_stay, build_stays}
 abbrev pub published : Tag → ℕ → List ℕ → List (List ℕ) → List ℕ → List ReadOf → List (List ℕ) → Plain
 published tag moment view targets script entries outputs = record { tag = tag; moment = moment; deed = deeds.Publish view targets script entries outputs }
 
+-- a row that fits leaves its base within the limit
+below_limit : (row : Plain) (b : Base) → is_base (row ∷ b) ≡ true → size b < row_limit
+below_limit row b h =
+    let less : nat_lt (size b) row_limit ≡ true = (both (nat_lt (size b) row_limit) (deed_fits b row.deed) (both (fits b row.deed) (is_base b) h).0).0 in
+    grind (arith, nat_tests)
+
 -- what is kept after the row of what a unit's run gave
-pub kept_publish : (log : Logged) (lanes : List (List Reply)) (builds : List (Option Build)) (now lane n : ℕ) (build : Build) (unit : Unit) (view : List ℕ) (targets : List (List ℕ)) (script : List ℕ) (entries : List ReadOf) (outputs : List (List ℕ)) → IsKept log lanes builds now → 1 ≤ lane → lane ≤ length lanes → build_of (state_of log.story).active lane ≡ Some build → unit_at build n ≡ Some unit → came_to build n ≡ Some Started → unit_with_first build targets ≡ Some n → publish_of (state_of log.story).base build n unit ≡ Some (deeds.Publish view targets script entries outputs) → length log.rows + 1 < row_limit → IsKept (with_row log (published (next_tag (state_of log.story) lane) now view targets script entries outputs)) lanes (set builds (lane - 1) (Some (with_came build (Some n) (Given (size (state_of log.story).base))))) now
-kept_publish log lanes builds now lane n build unit view targets script entries outputs h low high is unit_is started place made room = record {
-  legal = legal_more start story x h.legal (record {
-    may = record {
-      moment = sym h.agrees.moment;
-      made = record {
-        n = n;
-        build = build;
-        unit = unit;
-        place = place;
-        running = record {
-          waits = record { active = build_is_by s lane build is (h.building lane build is).tag; is_unit = unit_is; waits = ap is_outcome started };
-          started = started;
-        };
-        nothing = refl;
-        made = made;
-      };
-    };
-    ticked = one_more_rises _ (suc (length log.rows)) (omega (arith, h.agrees.ticks));
-  });
+pub kept_publish : (log : Logged) (lanes : List (List Reply)) (builds : List (Option Build)) (now lane n : ℕ) (build : Build) (unit : Unit) (view : List ℕ) (targets : List (List ℕ)) (script : List ℕ) (entries : List ReadOf) (outputs : List (List ℕ)) → IsKept log lanes builds now → 1 ≤ lane → lane ≤ length lanes → build_of (state_of log.story).active lane ≡ Some build → unit_at build n ≡ Some unit → came_to build n ≡ Some Started → unit_with_first build targets ≡ Some n → publish_of (state_of log.story).base build n unit ≡ Some (deeds.Publish view targets script entries outputs) → ((told : List Told) → Legal told → is_base (state_of told).base ≡ true) → IsKept (with_row log (published (next_tag (state_of log.story) lane) now view targets script entries outputs)) lanes (set builds (lane - 1) (Some (with_came build (Some n) (Given (size (state_of log.story).base))))) now
+kept_publish log lanes builds now lane n build unit view targets script entries outputs h low high is unit_is started place made based = record {
+  legal = legal;
   agrees = record {
     opened = ap (λ t. is_some t.opened) state ∙ h.agrees.opened;
     base = ap (λ t. t.base) state ∙ ap (λ b. row ∷ b) h.agrees.base ∙ sym (reverse-append log.rows (row ∷ []));
@@ -75,34 +66,66 @@ kept_publish log lanes builds now lane n build unit view targets script entries 
   formed = h.formed;
   carried_out = h.carried_out;
   unversioned = ap is_unversioned (reverse-append log.rows (row ∷ [])) ∙ h.unversioned;
-  room = omega (arith, room, length-append log.rows (row ∷ []));
+  room = omega (arith, within_limit, length-append log.rows (row ∷ []), ap length h.agrees.base, length-reverse log.rows);
   few = h.few;
   in_time = h.in_time;
 }
   where
-  story : List Told
-  story = log.story
-  s : State
-  s = state_of log.story
-  row : Plain
-  row = published (next_tag s lane) now view targets script entries outputs
-  x : Told
-  x = told.Commit row (suc (length log.rows))
-  noted : Build
-  noted = with_came build (Some n) (Given (size s.base))
-  grown : State
-  grown = record (after s x) { active = put nat_cmp lane noted s.active }
-  state : state_of (story ++ x ∷ []) ≡ grown
-  state = state_from-more start story x
-      ∙ ap (λ o. record (after s x) { active = noted_in s.active lane o (λ b. unit_with_first b targets) (Given (size s.base)) }) is
-      ∙ ap (λ o. record (after s x) { active = put nat_cmp lane (with_came build o (Given (size s.base))) s.active }) place
-  active : (state_of (story ++ x ∷ [])).active ≡ numbered 1 (set builds (lane - 1) (Some noted))
-  active = ap (λ t. t.active) state ∙ ap (put nat_cmp lane noted) h.agrees.active ∙ put_numbered lane 1 (lane - 1) noted builds (omega arith) (omega (arith, h.count))
-  stays : (other : ℕ) (found : Build) → IsBuildKept s other found → IsBuildKept (state_of (story ++ x ∷ [])) other found
-  stays other found kept = subst (λ t. IsBuildKept t other found) (sym state) (build_stays s grown other found kept refl refl refl (first_stay row s.base found.rows kept.rows) (omega arith))
-  by : (other : ℕ) (found : Build) → (other ≡ lane) ⊎ (other ≢ lane) → build_of (state_of (story ++ x ∷ [])).active other ≡ Some found → IsBuildKept (state_of (story ++ x ∷ [])) other found
-  by other found (inl e) at =
-      let one : Some noted ≡ Some found = sym (found_set builds lane (Some noted) low (omega (arith, h.count))) ∙ ap (build_of (numbered 1 (set builds (lane - 1) (Some noted)))) (sym e) ∙ ap (λ a. build_of a other) (sym active) ∙ at in
-      subst (λ b. IsBuildKept (state_of (story ++ x ∷ [])) other b) (some_same noted found one) (stays other noted (subst (λ l. IsBuildKept s l noted) (sym e) (noted_kept s lane build n (Given (size s.base)) (h.building lane build is))))
-  by other found (inr differs) at =
-      stays other found (h.building other found (ap (λ a. build_of a other) h.agrees.active ∙ sym (found_other builds lane other (Some noted) low differs) ∙ ap (λ a. build_of a other) (sym active) ∙ at))
+    story : List Told
+    story = log.story
+
+    s : State
+    s = state_of log.story
+
+    row : Plain
+    row = published (next_tag s lane) now view targets script entries outputs
+
+    x : Told
+    x = told.Commit row (suc (length log.rows))
+
+    noted : Build
+    noted = with_came build (Some n) (Given (size s.base))
+
+    grown : State
+    grown = record (after s x) { active = put nat_cmp lane noted s.active }
+
+    state : state_of (story ++ x ∷ []) ≡ grown
+    state = state_from-more start story x
+        ∙ ap (λ o. record (after s x) { active = noted_in s.active lane o (λ b. unit_with_first b targets) (Given (size s.base)) }) is
+        ∙ ap (λ o. record (after s x) { active = put nat_cmp lane (with_came build o (Given (size s.base))) s.active }) place
+
+    legal : Legal (story ++ x ∷ [])
+    legal = legal_more start story x h.legal (record {
+      may = record {
+        moment = sym h.agrees.moment;
+        made = record {
+          n = n;
+          build = build;
+          unit = unit;
+          place = place;
+          running = record {
+            waits = record { active = build_is_by s lane build is (h.building lane build is).tag; is_unit = unit_is; waits = ap is_outcome started };
+            started = started;
+          };
+          nothing = refl;
+          made = made;
+        };
+      };
+      ticked = one_more_rises _ (suc (length log.rows)) (omega (arith, h.agrees.ticks));
+    })
+
+    within_limit : size s.base < row_limit
+    within_limit = below_limit row s.base (ap is_base (sym (ap (λ t. t.base) state)) ∙ based (story ++ x ∷ []) legal)
+
+    active : (state_of (story ++ x ∷ [])).active ≡ numbered 1 (set builds (lane - 1) (Some noted))
+    active = ap (λ t. t.active) state ∙ ap (put nat_cmp lane noted) h.agrees.active ∙ put_numbered lane 1 (lane - 1) noted builds (omega arith) (omega (arith, h.count))
+
+    stays : (other : ℕ) (found : Build) → IsBuildKept s other found → IsBuildKept (state_of (story ++ x ∷ [])) other found
+    stays other found kept = subst (λ t. IsBuildKept t other found) (sym state) (build_stays s grown other found kept refl refl refl (first_stay row s.base found.rows kept.rows) (omega arith))
+
+    by : (other : ℕ) (found : Build) → (other ≡ lane) ⊎ (other ≢ lane) → build_of (state_of (story ++ x ∷ [])).active other ≡ Some found → IsBuildKept (state_of (story ++ x ∷ [])) other found
+    by other found (inl e) at =
+        let one : Some noted ≡ Some found = sym (found_set builds lane (Some noted) low (omega (arith, h.count))) ∙ ap (build_of (numbered 1 (set builds (lane - 1) (Some noted)))) (sym e) ∙ ap (λ a. build_of a other) (sym active) ∙ at in
+        subst (λ b. IsBuildKept (state_of (story ++ x ∷ [])) other b) (some_same noted found one) (stays other noted (subst (λ l. IsBuildKept s l noted) (sym e) (noted_kept s lane build n (Given (size s.base)) (h.building lane build is))))
+    by other found (inr differs) at =
+        stays other found (h.building other found (ap (λ a. build_of a other) h.agrees.active ∙ sym (found_other builds lane other (Some noted) low differs) ∙ ap (λ a. build_of a other) (sym active) ∙ at))

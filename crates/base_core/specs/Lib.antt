@@ -1,4 +1,5 @@
 pub mod Acting
+pub mod BuildCalls
 pub mod Building
 pub mod Carried
 pub mod Going

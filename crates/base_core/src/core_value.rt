@@ -1,22 +1,46 @@
 // The value behind the lock.
 
-use crate::commands::{building_view, last_phase, next_by, next_command};
+ghost use Rattle.std.specs.Prelude.{◌≡◌};
+ghost use Rattle.build_core.specs.Comes.{came_of};
+ghost use Rattle.legal_history.specs.Turns.{came_by_start};
+
+use crate::commands::{building_view, clearmake_view, last_phase, next_by, next_command};
 use crate::history::History;
-use crate::lane_builds::{building, no_builds, reserved};
+use crate::lane_builds::{build_of, building, no_builds, note, reserved};
 use crate::lane_replies::{LaneReplies, add_reply, fresh, take_reply_back};
 use crate::logs::Log;
-use build_core::ActiveBuild;
+use crate::tried::Tried;
+use build_core::{
+    ActiveBuild, Came, UnitStep, a_unit_may_publish, plan_build, publish_row, reply_of, run_unit,
+    step,
+};
+use build_script::outcomes::{Ended, Outcome};
+use build_script::scripts::Script;
 use cc_names::commands::Phase;
 use cc_names::copies::Copied;
-use cc_names::desks::{Done, Next};
+use cc_names::desks::{Begun, Done, Next};
+use cc_names::lists::List;
 use cc_names::memory::{NoMemory, Or};
-use cc_names::refusals::Refusal;
+use cc_names::paths::Path;
+use cc_names::refusals::{Refusal, ScriptFault, UnitFault};
 use cc_names::replies::Reply;
 use cc_names::rows::{Row, Tag};
-use cc_names::steps::Step;
+use cc_names::steps::{Step, UnitEnd};
+use cc_names::texts::Text;
 use checkout_desk::{ROW_LIMIT, Stamp, decide};
+use fresh_builds::laws::{a_base_fits, a_build_agrees};
 use std::alloc::Global;
 use std::marker::Model;
+
+/// What a unit comes to by its start: where its script cannot be read, with this fault, that is its outcome.
+fn came_by_start(fault: Option<ScriptFault>) -> Came
+    ensures { came_of result ≡ came_by_start fault }
+{
+    match fault {
+        None => Came::Started,
+        Some(fault) => Came::Ended(UnitEnd::Failed(UnitFault::Script(fault))),
+    }
+}
 
 /// A base with its story. Contracts see it as the story.
 #[derive(Drop)]
@@ -58,6 +82,7 @@ impl Core {
     ghost use Rattle.build_core.specs.Comes.{came_of};
     ghost use Rattle.legal_history.specs.Builds.{build_of};
     ghost use Rattle.base_core.specs.Building.{IsNextBuild, PlansNext};
+    ghost use Rattle.base_core.specs.BuildCalls.{Begins, IsBuilding, IsTurn, StepsTo, Notes, Noted, MaySettle, MayStart, IsStarted, HasRun, IsObjectRow, IsOver, Settled, Tries};
     ghost use Rattle.base_core.specs.Going.{GoesOn, Finishes};
     ghost use Rattle.std.specs.Prelude.{Ok};
     ghost use Rattle.build_script.specs.Ended.{ran_of};
@@ -194,6 +219,274 @@ impl Core {
         }
     }
 
+    /// What is decided of a lane's next command, which builds: the build to begin, or the first refusal.
+    fn plan(&self, alloc: Global, lane: u32) -> Result<ActiveBuild, Or<Refusal>>
+        requires builds { next_of (state_of self.now.story) lane ≡ nexts.Build (next_tag (state_of self.now.story) lane) }
+        requires free { build_of (state_of self.now.story).active lane ≡ None }
+        ensures { PlansNext (state_of self.now.story) (next_tag (state_of self.now.story) lane) result }
+    {
+        let Some(command) = next_command(self.log.phases(), self.replies.as_slice(), lane) else {
+            unreachable!()
+        };
+        let busy = building(self.builds.as_slice(), clearmake_view(command));
+        let taken = self.log.rows().len() as u64 + 1 + reserved(self.builds.as_slice());
+        plan_build(alloc, self.log.rows(), command, self.tag(lane), busy, taken)
+    }
+
+    /// Begins the build that was decided for the next command of its lane. An `Err` changes nothing.
+    fn open_build(&mut self, build: ActiveBuild) -> Result<(), NoMemory>
+        requires { IsNextBuild (state_of self.old.story) build }
+        ensures ok { OnOk result (Begins self.old.story self.new.story build.tag.lane (begins.Units (length build.units))) }
+        ensures err { OnErr result (self.new ≡ self.old) }
+    {
+        let tag = build.tag();
+        self.log.tell(Step::Begin {
+            tag,
+            rows: build.rows(),
+            units: build.units().len() as u32,
+        })?;
+        self.builds[tag.lane as usize - 1] = Some(build);
+        Ok(())
+    }
+
+    /// Begins the build of a lane's next command, or refuses the command. A build that is active goes on. An `Err` changes
+    /// nothing. Takes time linear in the rows and in the makefile.
+    fn begin(&mut self, alloc: Global, lane: u32) -> Result<Begun, NoMemory>
+        requires { next_of (state_of self.old.story) lane ≡ nexts.Build (next_tag (state_of self.old.story) lane) }
+        ensures ok { IfOk result (λ begun. Begins self.old.story self.new.story lane begun) }
+        ensures err { OnErr result (self.new ≡ self.old) }
+    {
+        if let Some(build) = build_of(self.builds.as_slice(), lane) {
+            return Ok(Begun::Units(build.units().len() as u32));
+        }
+        let tag = self.tag(lane);
+        match self.plan(alloc, lane) {
+            Ok(build) => {
+                let count = build.units().len() as u32;
+                self.open_build(build)?;
+                Ok(Begun::Units(count))
+            }
+            Err(Or::Is(refusal)) => {
+                self.refuse(alloc, tag, refusal)?;
+                Ok(Begun::Refused)
+            }
+            Err(Or::NoMemory) => Err(NoMemory),
+        }
+    }
+
+    /// Tells a step by which a unit of a lane's build comes to something without a row. An `Err` changes nothing.
+    fn note_step(&mut self, lane: u32, unit: u32, step: Step, came: Came) -> Result<(), NoMemory>
+        requires { Notes (state_of self.old.story) lane unit step (came_of came) }
+        ensures ok { OnOk result (Noted self.old.story self.new.story lane unit (came_of came)) }
+        ensures err { OnErr result (self.new ≡ self.old) }
+    {
+        self.log.tell(step)?;
+        note(&mut self.builds, lane, unit, came);
+        Ok(())
+    }
+
+    /// Settles a unit of a lane's build without a row. An `Err` changes nothing.
+    fn settle(&mut self, alloc: Global, lane: u32, unit: u32, end: UnitEnd) -> Result<(), NoMemory>
+        requires { MaySettle (state_of self.old.story) lane unit end }
+        ensures ok { OnOk result (Settled self.old.story self.new.story lane unit) }
+        ensures err { OnErr result (self.new ≡ self.old) }
+    {
+        let tag = self.tag(lane);
+        let outcome = end.copy(alloc)?;
+        self.note_step(
+            lane,
+            unit,
+            Step::Settled { tag, unit, outcome },
+            Came::Ended(end),
+        )?;
+        Ok(())
+    }
+
+    /// Starts the script of a unit of a lane's build; one that cannot be read has this fault, and is the unit's outcome. An
+    /// `Err` changes nothing.
+    fn start(&mut self, lane: u32, unit: u32, fault: Option<ScriptFault>) -> Result<(), NoMemory>
+        requires { MayStart (state_of self.old.story) lane unit fault }
+        ensures ok { OnOk result (Noted self.old.story self.new.story lane unit (came_by_start fault)) }
+        ensures err { OnErr result (self.new ≡ self.old) }
+    {
+        let tag = self.tag(lane);
+        self.note_step(lane, unit, Step::Start { tag, unit }, came_by_start(fault))?;
+        Ok(())
+    }
+
+    /// What comes next for a unit of a lane's build whose turn it is.
+    fn step(&self, alloc: Global, lane: u32, unit: u32) -> Result<UnitStep, NoMemory>
+        requires { IsTurn (state_of self.now.story) lane unit }
+        ensures { IfOk result (λ next. StepsTo (state_of self.now.story) lane unit next) }
+    {
+        a_build_agrees();
+        let Some(build) = build_of(self.builds.as_slice(), lane) else {
+            unreachable!()
+        };
+        step(alloc, self.log.rows(), build, unit)
+    }
+
+    /// Tries a unit of a lane's build whose turn it is: it ends without a run, or its script is started. An `Err` changes
+    /// nothing.
+    fn try_unit(&mut self, alloc: Global, lane: u32, unit: u32) -> Result<Tried, NoMemory>
+        requires { IsTurn (state_of self.old.story) lane unit }
+        ensures ok { IfOk result (λ tried. Tries self.old.story self.new.story lane unit tried) }
+        ensures err { OnErr result (self.new ≡ self.old) }
+    {
+        match self.step(alloc, lane, unit)? {
+            UnitStep::Settled => Ok(Tried::Settled),
+            UnitStep::NotReady(_) => unreachable!(),
+            UnitStep::Settle(end) => {
+                self.settle(alloc, lane, unit, end)?;
+                Ok(Tried::Settled)
+            }
+            UnitStep::Start(script, targets) => {
+                self.start(lane, unit, None)?;
+                Ok(Tried::Run(script, targets))
+            }
+            UnitStep::Unreadable(fault) => {
+                self.start(lane, unit, Some(fault))?;
+                Ok(Tried::Settled)
+            }
+        }
+    }
+
+    /// Runs the script of a unit of a lane's build that was started, on what the unit sees.
+    fn run(
+        &self,
+        alloc: Global,
+        lane: u32,
+        unit: u32,
+        script: &Script,
+        targets: &[Path],
+    ) -> Result<Ended, NoMemory>
+        requires { IsStarted (state_of self.now.story) lane unit script.now targets.now }
+        ensures { IfOk result (λ ended. HasRun (state_of self.now.story) lane unit (ran_of ended)) }
+    {
+        let Some(build) = build_of(self.builds.as_slice(), lane) else {
+            unreachable!()
+        };
+        run_unit(alloc, self.log.rows(), build, unit, script, targets)
+    }
+
+    /// The row of what the run of a unit of a lane's build gave.
+    fn object_row(
+        &self,
+        alloc: Global,
+        lane: u32,
+        unit: u32,
+        outputs: List<Text>,
+        reads: &[Path],
+    ) -> Result<Row, NoMemory>
+        requires { HasRun (state_of self.now.story) lane unit (record { result = Ok outputs; reads = reads.now }) }
+        ensures { IfOk result (λ row. IsObjectRow (state_of self.now.story) lane unit row) }
+    {
+        a_base_fits();
+        a_build_agrees();
+        a_unit_may_publish();
+        let Some(build) = build_of(self.builds.as_slice(), lane) else {
+            unreachable!()
+        };
+        publish_row(
+            alloc,
+            self.log.rows(),
+            build,
+            unit,
+            self.moment,
+            outputs,
+            reads,
+        )
+    }
+
+    /// Commits the row of what the run of a unit of a lane's build gave. An `Err` changes nothing.
+    fn commit_object(&mut self, lane: u32, unit: u32, row: Row) -> Result<(), NoMemory>
+        requires { IsObjectRow (state_of self.old.story) lane unit row }
+        ensures ok { OnOk result (Settled self.old.story self.new.story lane unit) }
+        ensures err { OnErr result (self.new ≡ self.old) }
+    {
+        a_base_fits();
+        a_build_agrees();
+        let number = self.log.rows().len() as u64 + 1;
+        self.log.commit(row)?;
+        note(&mut self.builds, lane, unit, Came::Given(number));
+        Ok(())
+    }
+
+    /// Finishes a unit of a lane's build whose script was run: its object is committed, or it fails with the script's fault.
+    /// An `Err` changes nothing.
+    fn finish_unit(
+        &mut self,
+        alloc: Global,
+        lane: u32,
+        unit: u32,
+        ended: Ended,
+    ) -> Result<(), NoMemory>
+        requires { HasRun (state_of self.old.story) lane unit (ran_of ended) }
+        ensures ok { OnOk result (Settled self.old.story self.new.story lane unit) }
+        ensures err { OnErr result (self.new ≡ self.old) }
+    {
+        let Ended { result, reads } = ended;
+        match result {
+            Ok(outcome) => {
+                let Outcome { outputs } = outcome;
+                let row = self.object_row(alloc, lane, unit, outputs, reads.as_slice())?;
+                self.commit_object(lane, unit, row)?;
+            }
+            Err(fault) => {
+                self.settle(alloc, lane, unit, UnitEnd::Failed(UnitFault::Script(fault)))?;
+            }
+        }
+        Ok(())
+    }
+
+    /// Carries out a unit of a lane's build whose turn it is, to its outcome. After an `Err` the story may have gone on.
+    fn carry_out(&mut self, alloc: Global, lane: u32, unit: u32) -> Result<(), NoMemory>
+        requires { IsTurn (state_of self.old.story) lane unit }
+        ensures ok { OnOk result (Settled self.old.story self.new.story lane unit) }
+        ensures err { OnErr result (GoesOn self.old.story self.new.story lane) }
+    {
+        match self.try_unit(alloc, lane, unit)? {
+            Tried::Settled => Ok(()),
+            Tried::Run(script, targets) => {
+                let ended = self.run(alloc, lane, unit, &script, targets.as_slice())?;
+                self.finish_unit(alloc, lane, unit, ended)?;
+                Ok(())
+            }
+        }
+    }
+
+    /// Carries out the units of a lane's build, one after the other. After an `Err` the story may have gone on.
+    fn carry_out_all(&mut self, alloc: Global, lane: u32, count: u32) -> Result<(), NoMemory>
+        requires { IsBuilding (state_of self.old.story) lane count }
+        ensures ok { OnOk result (GoesOn self.old.story self.new.story lane × IsOver (state_of self.new.story) lane) }
+        ensures err { OnErr result (GoesOn self.old.story self.new.story lane) }
+    {
+        for unit in 0..count {
+            self.carry_out(alloc, lane, unit)?;
+        }
+        Ok(())
+    }
+
+    /// Ends a lane's build, whose units all have their outcomes. An `Err` changes nothing.
+    fn end(&mut self, alloc: Global, lane: u32) -> Result<(), NoMemory>
+        requires { IsOver (state_of self.old.story) lane }
+        ensures ok { OnOk result (Finishes self.old.story self.new.story lane) }
+        ensures err { OnErr result (self.new ≡ self.old) }
+    {
+        let tag = self.tag(lane);
+        let Some(build) = build_of(self.builds.as_slice(), lane) else {
+            unreachable!()
+        };
+        let reply = reply_of(alloc, self.log.rows(), build)?;
+        add_reply(&mut self.replies, lane, reply)?;
+        if self.log.tell(Step::End { tag }).is_err() {
+            take_reply_back(&mut self.replies, lane);
+            return Err(NoMemory);
+        }
+        self.builds[lane as usize - 1] = None;
+        Ok(())
+    }
+
     /// Carries out a lane's next command, which builds: it is refused, or its units are carried out one after the other and
     /// the build ends. After an `Err` the story may have gone on by steps of this build, which is then active. Takes time
     /// linear in the makefile, and for each read of a script in the rows.
@@ -202,8 +495,14 @@ impl Core {
         ensures ok { OnOk result (Finishes self.old.story self.new.story lane) }
         ensures err { OnErr result (GoesOn self.old.story self.new.story lane) }
     {
-        let _ = (alloc, lane);
-        Err(NoMemory)
+        match self.begin(alloc, lane)? {
+            Begun::Refused => Ok(()),
+            Begun::Units(count) => {
+                self.carry_out_all(alloc, lane, count)?;
+                self.end(alloc, lane)?;
+                Ok(())
+            }
+        }
     }
 
     /// The replies to the finished commands of a lane of the last phase, in order.

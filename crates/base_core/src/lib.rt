@@ -15,6 +15,7 @@ mod history;
 mod lane_builds;
 mod lane_replies;
 mod logs;
+mod tried;
 
 pub use core_value::Core;
 pub use history::History;

@@ -1,5 +1,5 @@
 -- What a unit comes to without a run, test by test.
-use Rattle.std.proofs.Common.{◌≡◌, ℕ, true, Option, Some, None, IsSome, List, [], ◌∷◌, refl, ap, sym, ◌∙◌}
+use Rattle.std.proofs.Common.{◌≡◌, ℕ, true, Option, Some, None, IsSome, List, [], ◌∷◌, refl, ap, ◌∙◌}
 use Rattle.std.specs.Prelude.{find, option_map}
 use Rattle.cc_names.specs.Paths.{is_root}
 use Rattle.cc_names.specs.declared.refusals.UnitFault.TheVariants.{NoRule}

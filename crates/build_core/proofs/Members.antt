@@ -1,5 +1,5 @@
 -- The walk back over the units that a unit needs.
-use Rattle.std.proofs.Common.{◌≡◌, ℕ, zero, suc, ◌+◌, ◌<◌, ◌≤◌, Bool, true, false, Option, Some, None, List, [], ◌∷◌, ◌++◌, length, take, get_or, refl, ap, sym, ◌∙◌, arith, add-one}
+use Rattle.std.proofs.Common.{◌≡◌, ℕ, suc, ◌+◌, ◌<◌, Bool, true, false, Option, Some, None, List, [], ◌∷◌, ◌++◌, length, take, get_or, ap, sym, ◌∙◌, arith, add-one}
 use Rattle.std.proofs.Math.Seq.{take-suc}
 use Rattle.std.proofs.lemmas.List.{length-take-le}
 use Rattle.std.specs.List.{list_any}
@@ -7,7 +7,7 @@ use Rattle.std.specs.Option.{option_or}
 use Rattle.cc_names.specs.declared.units.Unit.{Unit}
 use Rattle.legal_history.specs.Base.{only_where}
 use Rattle.legal_history.specs.Builds.{Build, came_to, object_of}
-use Rattle.legal_history.specs.Choices.{Member, unit_of_member, members_from, members_before, object_at, object_among}
+use Rattle.legal_history.specs.Choices.{Member, unit_of_member, members_from, members_before, object_among}
 use Rattle.legal_history.specs.Closures.{is_among}
 use Rattle.legal_history.specs.Serials.{needed, makes}
 

@@ -1,5 +1,5 @@
 -- What comes next for a unit of an active build.
-use Rattle.std.specs.Prelude.{◌≡◌, ℕ, ◌<◌, Bool, true, false, Option, Some, None, Result, Ok, Err, List, [], ◌∷◌, length}
+use Rattle.std.specs.Prelude.{◌≡◌, ℕ, ◌<◌, Bool, true, false, Option, Some, None, Ok, Err, List, [], ◌∷◌, length}
 use Rattle.std.specs.Option.{option_or}
 use Rattle.cc_names.specs.declared.refusals.ScriptFault.{ScriptFault}
 use Rattle.cc_names.specs.declared.steps.UnitEnd.{UnitEnd}

@@ -36,6 +36,7 @@ fn rows_read(
     ensures { (it : units.Unit) → unit_at build.now unit ≡ Some it → IfOk result (λ found. found.entries ≡ in_order (visible (reverse rows.now) build.now unit it) reads.now) }
 {
     let mut found = BTreeMap::new(alloc);
+    // From the last read to the first, as the record of reads is defined.
     for index in (0..reads.len()).rev() {
         let path = &reads[index];
         let row = visible(alloc, rows, build, unit, path)?.unwrap_or(0);

@@ -13,7 +13,7 @@ ghost use Rattle.view_lookup.specs.Unversioned.{is_unversioned};
 ghost use Rattle.build_core.specs.Sights.{standing_of, stands, IsFetched};
 
 use crate::active::ActiveBuild;
-use crate::steps::makes;
+use crate::ends::makes;
 use build_script::files::Got;
 use cc_names::memory::NoMemory;
 use cc_names::paths::Path;

@@ -1,7 +1,6 @@
 -- Each turn takes the last of the units that are left.
 use Rattle.std.proofs.Common.{◌≡◌, ◌+◌, ◌-◌, ◌<◌, ◌++◌, true, false, length, get_or, ap, sym, ◌∙◌, arith}
 use Rattle.std.specs.List.{list_any}
-use Rattle.cc_names.specs.declared.units.Unit.{Unit}
 use Rattle.legal_history.specs.Closures.{is_among}
 use Rattle.build_core.proofs.Members.{object_before, Turn, pass_over, give, need}
 use Rattle.build_core.proofs.sights.object_below.Goals as goal
@@ -32,9 +31,9 @@ loop-number-preserved-in-Continue-branch-2 c =
     record {
       within = omega (arith, c.loop-number.invariant.within);
       rest = ap (λ wanted. object_before c.args.build.now wanted (c.loop-number.number - 1) c.args.path.now)
-        (c.in_ok-push_paths-2.ensures ∙ ap (λ more. c.loop-number.wanted.items ++ more) c.as_slice-then-makes_any.ensures)
-      ∙ need c.args.build.now c.loop-number.wanted.items c.loop-number.number (c.loop-number.number - 1) c.args.path.now unit turn (sym c.object_at.ensures ∙ c.in_default.is)
-      ∙ c.loop-number.invariant.rest;
+          (c.in_ok-push_paths-2.ensures ∙ ap (λ more. c.loop-number.wanted.items ++ more) c.as_slice-then-makes_any.ensures)
+          ∙ need c.args.build.now c.loop-number.wanted.items c.loop-number.number (c.loop-number.number - 1) c.args.path.now unit turn (sym c.object_at.ensures ∙ c.in_default.is)
+          ∙ c.loop-number.invariant.rest;
     }
 
 pub loop-number-preserved : goal.loop-number-preserved
@@ -49,5 +48,5 @@ loop-number-preserved c =
     record {
       within = omega (arith, c.loop-number.invariant.within);
       rest = pass_over c.args.build.now c.loop-number.wanted.items c.loop-number.number (c.loop-number.number - 1) c.args.path.now unit turn
-      ∙ c.loop-number.invariant.rest;
+          ∙ c.loop-number.invariant.rest;
     }

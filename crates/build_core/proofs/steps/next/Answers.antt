@@ -1,6 +1,5 @@
 -- A unit that waits for none is ready.
-use Rattle.std.proofs.Common.{◌≡◌, true, None, ap, sym, ◌∙◌}
-use Rattle.legal_history.specs.Turns.{is_ready}
+use Rattle.std.proofs.Common.{◌≡◌, None, ap, sym, ◌∙◌}
 use Rattle.build_core.specs.UnitSteps.{first_awaited}
 use Rattle.build_core.proofs.Waiting.{awaits_none}
 use Rattle.build_core.proofs.steps.next.Goals as goal

@@ -16,10 +16,10 @@ one_more n = omega arith
 pub returns : goal.returns
 returns c =
     let waits : option_and_then (command_behind (length (replies_at c.self.inside.replies.items c.args.lane))) (lane_at (last_phase c.self.inside.log.phases) c.args.lane) ≡ Some c.in-Some.command.now =
-        sym (c.in-Some.ensures ∙ ap₂ (λ lanes phases. option_and_then (command_behind (length (replies_at lanes c.args.lane))) (lane_at (last_phase phases) c.args.lane)) c.as_slice.ensures.value c.phases.ensures) in
+    sym (c.in-Some.ensures ∙ ap₂ (λ lanes phases. option_and_then (command_behind (length (replies_at lanes c.args.lane))) (lane_at (last_phase phases) c.args.lane)) c.as_slice.ensures.value c.phases.ensures) in
     let taken : c.saturating_sub-room.result ≡ row_limit - (suc (length c.self.inside.log.rows) + reserved (numbered 1 c.self.inside.builds.items)) =
-        c.saturating_sub-room.ensures ∙ ap₂ (λ rows held. row_limit - (length rows + 1 + held)) c.rows.ensures (c.reserved.ensures ∙ ap (λ bs. reserved (numbered 1 bs)) c.as_slice-3.ensures.value) ∙ ap (λ n. row_limit - (n + reserved (numbered 1 c.self.inside.builds.items))) (one_more (length c.self.inside.log.rows)) in
+    c.saturating_sub-room.ensures ∙ ap₂ (λ rows held. row_limit - (length rows + 1 + held)) c.rows.ensures (c.reserved.ensures ∙ ap (λ bs. reserved (numbered 1 bs)) c.as_slice-3.ensures.value) ∙ ap (λ n. row_limit - (n + reserved (numbered 1 c.self.inside.builds.items))) (one_more (length c.self.inside.log.rows)) in
     decided_so c.self.inside.log c.self.inside.replies.items c.self.inside.builds.items c.self.inside.moment c.args.lane c.saturating_sub-room.result c.args.self.now.story c.tag.result c.in-Some.command.now c.building-busy.result c.decide.result
-      (ap (λ v. v.story) c.self.view_is) c.self.invariant c.requires waits c.tag.ensures
-      (c.building-busy.ensures ∙ ap₂ (λ bs v. building (numbered 1 bs) v) c.as_slice-2.ensures.value c.building_view.ensures) taken
-      (λ scene moment sees. c.decide.ensures.decided scene moment (subst (λ rows. Sees scene (reverse rows) moment (view_of c.in-Some.command.now) c.building-busy.result c.saturating_sub-room.result) (sym c.rows-2.ensures) sees)) c.decide.ensures.plain c.decide.ensures.room
+    (ap (λ v. v.story) c.self.view_is) c.self.invariant c.requires waits c.tag.ensures
+    (c.building-busy.ensures ∙ ap₂ (λ bs v. building (numbered 1 bs) v) c.as_slice-2.ensures.value c.building_view.ensures) taken
+    (λ scene moment sees. c.decide.ensures.decided scene moment (subst (λ rows. Sees scene (reverse rows) moment (view_of c.in-Some.command.now) c.building-busy.result c.saturating_sub-room.result) (sym c.rows-2.ensures) sees)) c.decide.ensures.plain c.decide.ensures.room

@@ -6,7 +6,7 @@ use Rattle.legal_history.specs.Fresh.{sees_file}
 use Rattle.legal_history.specs.Serials.{is_missing, is_bad, no_directory, standing_or_file}
 use Rattle.legal_history.specs.Turns.{standing_of_unit}
 use Rattle.build_core.proofs.Early.{by_directory, by_missing, by_bad, by_script}
-use Rattle.build_core.proofs.steps.early.Goals as goal
+use Rattle.build_core.proofs.ends.early.Goals as goal
 
 pub returns-in-Some : goal.returns-in-Some
 returns-in-Some c =

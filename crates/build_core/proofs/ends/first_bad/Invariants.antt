@@ -3,7 +3,7 @@ use Rattle.std.specs.Prelude.{find}
 use Rattle.legal_history.specs.Fresh.{sees_file}
 use Rattle.legal_history.specs.Serials.{is_bad, standing_or_file}
 use Rattle.legal_history.specs.Turns.{standing_of_unit}
-use Rattle.build_core.proofs.steps.first_bad.Given as goal
+use Rattle.build_core.proofs.ends.first_bad.Given as goal
 
 abbrev pub invariant-loop-path : goal.invariant-loop-path
 invariant-loop-path l =

@@ -1,0 +1,55 @@
+-- What is kept, and how the story went on, after the end of a build.
+use Rattle.std.proofs.Common.{◌≡◌, ◌≢◌, ℕ, ◌-◌, ◌<◌, ◌≤◌, true, Option, Some, None, List, [], ◌∷◌, ◌++◌, length, reverse, set, refl, ap, sym, subst, ◌∙◌, arith}
+use Rattle.cc_names.specs.Formed.{Plain}
+use Rattle.cc_names.specs.declared.replies.Reply.{Reply}
+use Rattle.cc_names.specs.declared.rows.Tag.{Tag}
+use Rattle.cc_names.specs.declared.steps.Step.TheVariants as steps
+use Rattle.cc_names.specs.declared.steps.Told.{Told}
+use Rattle.cc_names.specs.declared.steps.Told.TheVariants as told
+use Rattle.fresh_builds.specs.Replied.{reply_of}
+use Rattle.legal_history.specs.Builds.{Build, build_of}
+use Rattle.legal_history.specs.States.{State, start, done_of, with_done, next_tag}
+use Rattle.legal_history.specs.Steps.{after, state_of, without_build}
+use Rattle.legal_history.specs.Turns.{is_complete}
+use Rattle.base_core.specs.BuildCalls.{IsOver}
+use Rattle.base_core.specs.Going.{SamePhase, Finishes}
+use Rattle.base_core.specs.Kept.{with_reply, IsKept}
+use Rattle.base_core.specs.Logs.{Logged, with_step}
+use Rattle.base_core.proofs.Closing.{kept_end}
+use Rattle.base_core.proofs.FoundBuilds.{IsFound}
+use Rattle.base_core.proofs.Growing.{state_from-more}
+use Rattle.base_core.proofs.Idle.{some_same}
+use Rattle.base_core.proofs.Lanes.{done_same, done_other}
+use Rattle.base_core.proofs.LaneSlots.{IsSlot, lane_slot}
+
+-- what is kept
+pub kept_ended : (log : Logged) (lanes : List (List Reply)) (builds : List (Option Build)) (now lane : ℕ) (story : List Told) (rows : List Plain) (tag : Tag) (build : Build) (reply : Reply) → log.story ≡ story → IsKept log lanes builds now → IsOver (state_of story) lane → IsFound story lane build → (state_of story).base ≡ reverse rows → tag ≡ next_tag (state_of story) lane → reply ≡ reply_of (reverse rows) build → IsKept (with_step log (steps.End tag)) (with_reply lanes lane reply) (set builds (lane - 1) None) now
+kept_ended log lanes builds now lane story rows tag build reply same h over f base tagged replied =
+    let active : build_of (state_of log.story).active lane ≡ Some build = ap (λ t. build_of (state_of t).active lane) same ∙ f.active in
+    let slot = lane_slot log lanes builds now lane build h active in
+    let tag_is : next_tag (state_of log.story) lane ≡ tag = ap (λ t. next_tag (state_of t) lane) same ∙ sym tagged in
+    let reply_is : reply_of (state_of log.story).base build ≡ reply = ap (λ t. reply_of (state_of t).base build) same ∙ ap (λ b. reply_of b build) base ∙ sym replied in
+    let complete : is_complete build ≡ true = ap is_complete (sym (some_same over.build build (sym over.active ∙ f.active))) ∙ over.complete in
+    subst (λ r. IsKept (with_step log (steps.End tag)) (with_reply lanes lane r) (set builds (lane - 1) None) now) reply_is
+    (subst (λ t. IsKept (with_step log (steps.End t)) (with_reply lanes lane (reply_of (state_of log.story).base build)) (set builds (lane - 1) None) now) tag_is
+    (kept_end log lanes builds now lane build h slot.from (omega (arith, slot.upto, h.count)) active complete))
+
+-- how the story went on
+pub ended_finishes : (log : Logged) (story : List Told) (lane : ℕ) (tag : Tag) → log.story ≡ story → tag ≡ next_tag (state_of story) lane → Finishes story (with_step log (steps.End tag)).story lane
+ended_finishes log story lane tag same tagged = record {
+  steps = x ∷ [];
+  grows = ap (λ t. t ++ x ∷ []) same;
+  phase = record { phase = ap (λ t. t.phase) state; number = ap (λ t. t.number) state; moment = ap (λ t. t.moment) state };
+  done = ap (λ t. done_of t.done lane) state ∙ done_same s.done lane;
+  others = λ other differs. ap (λ t. done_of t.done other) state ∙ done_other s.done lane other differs;
+}
+  where
+    s : State
+    s = state_of story
+
+    x : Told
+    x = told.Other (steps.End tag)
+
+    state : state_of (log.story ++ x ∷ []) ≡ record s { done = with_done s.done lane; active = without_build s.active lane }
+    state = ap (λ t. state_of (t ++ x ∷ [])) same ∙ state_from-more start story x
+        ∙ ap (λ t. record s { done = with_done s.done t.lane; active = without_build s.active t.lane }) tagged

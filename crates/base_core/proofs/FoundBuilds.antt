@@ -1,0 +1,155 @@
+-- The build that is found in a lane's slot: what is kept of it, and how a unit of it goes on.
+use Rattle.std.proofs.Common.{◌≡◌, ◌≢◌, ℕ, zero, suc, ◌+◌, ◌<◌, ◌≤◌, ◌^◌, ◌&&◌, ◌⊎◌, inl, inr, Bool, true, Option, Some, None, Result, Ok, Err, List, [], ◌∷◌, ◌++◌, length, reverse, refl, ap, sym, subst, ◌∙◌, arith}
+use Rattle.std.specs.Prelude.{IfOk, IsSome, slice_get}
+use Rattle.std.proofs.lemmas.Option.{slice_get_within}
+use Rattle.cc_names.specs.Formed.{Plain}
+use Rattle.cc_names.specs.declared.refusals.ScriptFault.{ScriptFault}
+use Rattle.cc_names.specs.declared.refusals.UnitFault.TheVariants as faults
+use Rattle.cc_names.specs.declared.replies.Reply.{Reply}
+use Rattle.cc_names.specs.declared.steps.Told.{Told}
+use Rattle.cc_names.specs.declared.steps.UnitEnd.TheVariants as ends
+use Rattle.cc_names.specs.declared.units.Unit.{Unit}
+use Rattle.build_core.specs.Slots.{numbered}
+use Rattle.build_core.specs.UnitSteps.{IsStep}
+use Rattle.build_core.specs.declared.steps.UnitStep.{UnitStep}
+use Rattle.build_script.specs.Run.{Ran}
+use Rattle.build_script.specs.declared.lines.Line.{Line}
+use Rattle.legal_history.specs.Base.{Base, first_rows}
+use Rattle.legal_history.specs.Builds.{Build, Came, Started, build_of, came_to, is_outcome, unit_at}
+use Rattle.legal_history.specs.Freshness.{AgreesSoFar}
+use Rattle.legal_history.specs.States.{State}
+use Rattle.legal_history.specs.Steps.{state_of}
+use Rattle.legal_history.specs.Stories.{Legal}
+use Rattle.legal_history.specs.Turns.{is_complete, all_over}
+use Rattle.legal_history.specs.Views.{view_row}
+use Rattle.base_core.specs.BuildCalls.{IsBuilding, IsTurn, StepsTo, MaySettle, HasScript, IsStarted, HasRun, IsOver, Noted}
+use Rattle.base_core.specs.Building.{IsBuildKept}
+use Rattle.base_core.specs.Going.{StillBuilds, GoesOn, HasOutcome}
+use Rattle.base_core.specs.Kept.{IsKept}
+use Rattle.base_core.specs.Logs.{Logged}
+use Rattle.base_core.proofs.Closing.{build_is_by}
+use Rattle.base_core.proofs.Goings.{goes_nowhere, goes_further}
+use Rattle.base_core.proofs.Idle.{some_same}
+use Rattle.base_core.proofs.Lanes.{one_or_two}
+use Rattle.base_core.proofs.StepsSo.{steps_so}
+
+-- what holds of a value that was answered
+pub if_ok : {A E : Type 0} (r : Result A E) (P Q : A → Type 0) → ((a : A) → P a → Q a) → IfOk r P → IfOk r Q
+if_ok (Ok a) P Q f h = f a h
+if_ok (Err e) P Q f h = h
+
+-- a build that is found in a lane's slot is the lane's, and it is kept
+pub record IsFound (story : List Told) (lane : ℕ) (build : Build) : Type 0 where
+  pub active : build_of (state_of story).active lane ≡ Some build
+  pub kept : IsBuildKept (state_of story) lane build
+  pub legal : Legal story
+
+pub is_found : (log : Logged) (lanes : List (List Reply)) (builds : List (Option Build)) (now : ℕ) (story : List Told) (lane : ℕ) (build : Build) → log.story ≡ story → IsKept log lanes builds now → build_of (state_of story).active lane ≡ Some build → IsFound story lane build
+is_found log lanes builds now story lane build same h is = record {
+  active = is;
+  kept = subst (λ t. IsBuildKept (state_of t) lane build) same (h.building lane build (ap (λ t. build_of (state_of t).active lane) same ∙ is));
+  legal = subst Legal same h.legal;
+}
+
+pub found : (log : Logged) (lanes : List (List Reply)) (builds slots : List (Option Build)) (now : ℕ) (story : List Told) (lane : ℕ) (build : Build) → log.story ≡ story → IsKept log lanes builds now → slots ≡ builds → Some build ≡ build_of (numbered 1 slots) lane → IsFound story lane build
+found log lanes builds slots now story lane build same h e is =
+    is_found log lanes builds now story lane build same h
+    (ap (λ t. build_of (state_of t).active lane) (sym same) ∙ ap (λ a. build_of a lane) h.agrees.active ∙ ap (λ bs. build_of (numbered 1 bs) lane) (sym e) ∙ sym is)
+
+-- the base is that of the rows that are kept
+pub base_of_rows : (log : Logged) (lanes : List (List Reply)) (builds : List (Option Build)) (now : ℕ) (story : List Told) (rows : List Plain) → log.story ≡ story → IsKept log lanes builds now → rows ≡ log.rows → (state_of story).base ≡ reverse rows
+base_of_rows log lanes builds now story rows same h e = ap (λ t. (state_of t).base) (sym same) ∙ h.agrees.base ∙ ap reverse (sym e)
+
+-- a build's view was there in its reference rows
+pub view_there : (story : List Told) (lane : ℕ) (build : Build) (b : Base) → IsFound story lane build → (state_of story).base ≡ b → IsSome (view_row (first_rows build.rows b) build.view)
+view_there story lane build b h e = subst (λ b. IsSome (view_row (first_rows build.rows b) build.view)) e h.kept.view
+
+-- what comes next for a unit whose turn it is
+pub turn_steps : (story : List Told) (b : Base) (lane n : ℕ) (build : Build) (step : UnitStep) → IsTurn (state_of story) lane n → IsFound story lane build → AgreesSoFar (state_of story).base build → (state_of story).base ≡ b → IsStep b build n step → StepsTo (state_of story) lane n step
+turn_steps story b lane n build step turn h agrees same so =
+    let is : turn.build ≡ build = some_same turn.build build (sym turn.active ∙ h.active) in
+    steps_so (state_of story) b lane n build step h.kept h.active (subst (λ t. n < length t.units) is turn.within) (subst (λ t. (k : ℕ) → k < n → is_outcome (came_to t k) ≡ true) is turn.earlier) agrees same so
+
+-- a unit that came to an end has its outcome
+pub ended_has : (old new : List Told) (lane n : ℕ) (came : Came) → is_outcome (Some came) ≡ true → Noted old new lane n came → GoesOn old new lane × HasOutcome (state_of new) lane n
+ended_has old new lane n came over noted = (noted.goes, record { build = noted.build; active = noted.active; outcome = ap is_outcome noted.came_to_it ∙ over })
+
+-- a unit whose script was started has it still
+pub started_has : (old new : List Told) (lane n : ℕ) (script : List Line) (targets : List (List ℕ)) → HasScript (state_of old) lane n script targets → Noted old new lane n Started → GoesOn old new lane × IsStarted (state_of new) lane n script targets
+started_has old new lane n script targets has noted =
+    let still : StillBuilds (state_of new) lane has.build = noted.goes.still has.build has.active in
+    let units : noted.build.units ≡ has.build.units = ap (λ b. b.units) (some_same noted.build still.build (sym noted.active ∙ still.active)) ∙ still.units in (
+      noted.goes,
+      record {
+        has = record { build = noted.build; active = noted.active; unit = has.unit; is_unit = ap (λ us. slice_get us n) units ∙ has.is_unit; script_is = has.script_is; targets_are = has.targets_are };
+        started = noted.came_to_it;
+      },
+    )
+
+-- a unit whose run failed may settle so
+pub fails_so : (s : State) (lane n : ℕ) (ran : Ran) (fault : ScriptFault) → HasRun s lane n ran → ran.result ≡ Err fault → MaySettle s lane n (ends.Failed (faults.Script fault))
+fails_so s lane n ran fault h failed = record {
+  build = h.build;
+  active = h.active;
+  within = slice_get_within h.build.units n h.unit h.is_unit;
+  kept = h.kept;
+  waits = ap is_outcome h.started;
+  settles = record {
+    build = h.build;
+    unit = h.unit;
+    running = record { waits = record { active = build_is_by s lane h.build h.active h.kept.tag; is_unit = h.is_unit; waits = ap is_outcome h.started }; started = h.started };
+    fails = ap (λ r. r.result) (sym h.run) ∙ failed;
+  };
+}
+
+-- The first n units of a lane's build, which has so many, were carried out.
+pub record AreCarried (old new : List Told) (lane n count : ℕ) : Type 0 where
+  pub goes : GoesOn old new lane
+  pub build : Build
+  pub active : build_of (state_of new).active lane ≡ Some build
+  pub of_units : length build.units ≡ count
+  pub earlier : (m : ℕ) → m < n → is_outcome (came_to build m) ≡ true
+
+-- at first none
+pub none_carried : (story : List Told) (lane count : ℕ) → IsBuilding (state_of story) lane count → AreCarried story story lane 0 count
+none_carried story lane count h = record {
+  goes = goes_nowhere story lane;
+  build = h.build;
+  active = h.active;
+  of_units = h.of_units;
+  earlier = λ m less. absurd (omega (arith, less));
+}
+
+-- then it is the turn of the next one
+pub next_turn : (old new : List Told) (lane n count : ℕ) → n < count → AreCarried old new lane n count → IsTurn (state_of new) lane n
+next_turn old new lane n count less h = record { build = h.build; active = h.active; within = omega (arith, less, h.of_units); earlier = h.earlier }
+
+-- and then one more was carried out
+pub one_carried : (old mid new : List Told) (lane n count : ℕ) → AreCarried old mid lane n count → GoesOn mid new lane → HasOutcome (state_of new) lane n → AreCarried old new lane (n + 1) count
+one_carried old mid new lane n count h goes over = record {
+  goes = goes_further old mid new lane h.goes goes;
+  build = still.build;
+  active = still.active;
+  of_units = ap length still.units ∙ h.of_units;
+  earlier = λ m less. by m less (one_or_two m n);
+}
+  where
+    still : StillBuilds (state_of new) lane h.build
+    still = goes.still h.build h.active
+
+    by : (m : ℕ) → m < n + 1 → (m ≡ n) ⊎ (m ≢ n) → is_outcome (came_to still.build m) ≡ true
+    by m less (inl e) = ap (λ k. is_outcome (came_to still.build k)) e ∙ ap (λ b. is_outcome (came_to b n)) (some_same still.build over.build (sym still.active ∙ over.active)) ∙ over.outcome
+    by m less (inr differs) = still.outcomes m (h.earlier m (omega (arith, less, differs)))
+
+-- each unit from one on has its outcome
+all_carried : (build : Build) (n : ℕ) (units : List Unit) → ((m : ℕ) → m < n + length units → is_outcome (came_to build m) ≡ true) → all_over build n units ≡ true
+all_carried build n [] h = refl
+all_carried build n (unit ∷ units) h =
+    ap (λ b. b && all_over build (n + 1) units) (h n (omega arith)) ∙ all_carried build (n + 1) units (λ m less. h m (omega (arith, less)))
+
+-- at last the build is over
+pub carried_over : (old new : List Told) (lane n count : ℕ) → count ≤ n → AreCarried old new lane n count → GoesOn old new lane × IsOver (state_of new) lane
+carried_over old new lane n count past h = (
+  h.goes,
+  record { build = h.build; active = h.active; complete = all_carried h.build 0 h.build.units (λ m less. h.earlier m (omega (arith, less, h.of_units, past))) },
+)

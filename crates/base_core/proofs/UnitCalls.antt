@@ -1,0 +1,163 @@
+-- What the calls on a unit of a lane's build rest on.
+use Rattle.std.proofs.Common.{◌≡◌, ◌≢◌, ℕ, zero, suc, ◌+◌, ◌-◌, ◌<◌, ◌≤◌, ◌||◌, Bool, true, false, Option, Some, None, Result, Ok, Err, List, [], ◌∷◌, ◌++◌, length, reverse, refl, ap, ap₂, sym, subst, ◌∙◌, arith}
+use Rattle.std.specs.Bool.{⊤}
+use Rattle.std.specs.Ordering.{nat_cmp}
+use Rattle.std.specs.FinMap.Entries.{put}
+use Rattle.std.specs.Option.{option_or}
+use Rattle.std.specs.Prelude.{IsSome, bytes_eq, find, option_map, option_and_then}
+use Rattle.std.proofs.lemmas.Slice.Eq.{bytes_eq-Decides}
+use Rattle.cc_names.specs.declared.commands.Command.{Command}
+use Rattle.cc_names.specs.declared.commands.Command.TheVariants as commands
+use Rattle.cc_names.specs.declared.desks.Next.{Next}
+use Rattle.cc_names.specs.declared.desks.Next.TheVariants as nexts
+use Rattle.cc_names.specs.declared.refusals.ScriptFault.{ScriptFault}
+use Rattle.cc_names.specs.declared.refusals.UnitFault.TheVariants as faults
+use Rattle.cc_names.specs.declared.rows.Tag.{Tag}
+use Rattle.cc_names.specs.declared.steps.Step.{Step}
+use Rattle.cc_names.specs.declared.steps.Step.TheVariants as steps
+use Rattle.cc_names.specs.declared.steps.Told.TheVariants as told
+use Rattle.cc_names.specs.declared.steps.UnitEnd.{UnitEnd}
+use Rattle.cc_names.specs.declared.steps.UnitEnd.TheVariants as ends
+use Rattle.cc_names.specs.declared.units.Unit.{Unit}
+use Rattle.cc_names.specs.declared.units.UnitScript.{UnitScript}
+use Rattle.cc_names.specs.declared.units.UnitScript.TheVariants as scripts
+use Rattle.build_core.specs.UnitSteps as unit_steps
+use Rattle.build_core.specs.UnitSteps.{Awaits, awaited, first_awaited, unless_over, IsNext, IsStep}
+use Rattle.build_core.specs.declared.steps.UnitStep.{UnitStep}
+use Rattle.build_core.specs.declared.steps.UnitStep.TheVariants as next
+use Rattle.legal_history.specs.Base.{Base, first_rows, only_where}
+use Rattle.legal_history.specs.Builds.{Build, Came, Started, Ended, build_of, came_to, is_outcome, number_from, unit_at, unit_with}
+use Rattle.legal_history.specs.Closures.{is_among}
+use Rattle.legal_history.specs.Freshness.{AgreesSoFar}
+use Rattle.legal_history.specs.Serials.{Standing, early_end, first_end, no_directory, no_script, outside, is_missing, is_bad}
+use Rattle.legal_history.specs.States.{State, build_by, next_tag}
+use Rattle.legal_history.specs.Steps.{after, came_of_unit, came_by_starting, noted_in, with_came}
+use Rattle.legal_history.specs.Stories.{IsOpen, Settles, EndsEarly, Waits}
+use Rattle.legal_history.specs.Turns.{came_by_start, early, early_in, fault_of, is_ready, unreadable}
+use Rattle.base_core.specs.BuildCalls.{IsTurn, MaySettle, MayStart, HasScript, Notes, StepsTo}
+use Rattle.base_core.specs.Building.{IsBuildKept}
+use Rattle.base_core.specs.Going.{HasOutcome}
+use Rattle.base_core.specs.Nexts.{next_of, next_by, waiting}
+use Rattle.base_core.proofs.Closing.{build_is_by}
+use Rattle.base_core.proofs.Idle.{some_same}
+
+-- a lane that is to build waits with a command
+pub builds_waits : (s : State) (lane : ℕ) (tag : Tag) → next_of s lane ≡ nexts.Build tag → IsSome (waiting s lane)
+builds_waits s lane tag e = by (waiting s lane) refl e
+  where
+    by : (found : Option Command) → waiting s lane ≡ found → next_by found (next_tag s lane) ≡ nexts.Build tag → IsSome (waiting s lane)
+    by None is e = absurd (cc)
+    by (Some command) is e = subst IsSome (sym is) refl
+
+-- the step of a settled unit notes its end
+pub settle_notes : (s : State) (lane n : ℕ) (tag : Tag) (end outcome : UnitEnd) → MaySettle s lane n end → tag ≡ next_tag s lane → outcome ≡ end → Notes s lane n (steps.Settled tag n outcome) (Ended end)
+settle_notes s lane n tag end outcome may tagged same =
+    subst (λ t. Notes s lane n (steps.Settled t n outcome) (Ended end)) (sym tagged)
+    (subst (λ o. Notes s lane n (steps.Settled (next_tag s lane) n o) (Ended end)) (sym same)
+    (record {
+      build = may.build;
+      active = may.active;
+      within = may.within;
+      waits = may.waits;
+      alone = refl;
+      lawful = may.settles;
+      leaves = ap (λ o. record s { active = noted_in s.active lane o (λ b. Some n) (Ended end) }) may.active;
+      silent = λ other. refl;
+    }))
+
+-- the step of a started unit notes what it comes to by its start
+pub start_notes : (s : State) (lane n : ℕ) (tag : Tag) (fault : Option ScriptFault) → MayStart s lane n fault → tag ≡ next_tag s lane → Notes s lane n (steps.Start tag n) (came_by_start fault)
+start_notes s lane n tag fault may tagged =
+    subst (λ t. Notes s lane n (steps.Start t n) (came_by_start fault)) (sym tagged)
+    (record {
+      build = may.build;
+      active = may.active;
+      within = may.within;
+      waits = may.open_unit.waits.waits;
+      alone = refl;
+      lawful = record { build = may.build; unit = may.unit; open_unit = may.open_unit; nothing = refl };
+      leaves = ap (λ o. record s { active = noted_in s.active lane o (λ b. Some n) (came_by_starting o n) }) may.active
+          ∙ ap (λ c. record s { active = put nat_cmp lane (with_came may.build (Some n) c) s.active }) came;
+      silent = λ other. refl;
+    })
+  where
+    came : came_of_unit (unit_at may.build n) ≡ came_by_start fault
+    came = ap came_of_unit may.open_unit.waits.is_unit ∙ ap came_by_start (sym may.fault_is)
+
+-- an end without a run is that of no object and of no script
+abbrev IsEarly : UnitEnd → Type 0
+IsEarly (ends.Kept id) = ⊥
+IsEarly (ends.Failed (faults.Script fault)) = ⊥
+IsEarly end = ⊤
+
+early_none : (end : UnitEnd) → None ≡ Some end → IsEarly end
+early_none end e = absurd (cc)
+
+-- of two ends in order, each of which is early, the first is early
+one_or_rest : (found : Option UnitEnd) (rest : List (Option UnitEnd)) (end : UnitEnd) → ((e : UnitEnd) → found ≡ Some e → IsEarly e) → ((e : UnitEnd) → first_end rest ≡ Some e → IsEarly e) → first_end (found ∷ rest) ≡ Some end → IsEarly end
+one_or_rest None rest end one more e = more end e
+one_or_rest (Some other) rest end one more e = one end e
+
+mapped_early : {A : Type 0} (f : A → UnitEnd) (found : Option A) (end : UnitEnd) → ((a : A) → IsEarly (f a)) → option_map f found ≡ Some end → IsEarly end
+mapped_early f None end all e = absurd (cc)
+mapped_early f (Some a) end all e = subst IsEarly (some_same (f a) end e) (all a)
+
+no_directory_early : (is_directory : List ℕ → Bool) (targets : List (List ℕ)) (script : UnitScript) (end : UnitEnd) → no_directory is_directory targets script ≡ Some end → IsEarly end
+no_directory_early is_directory targets scripts.Bare end e = absurd (cc)
+no_directory_early is_directory targets scripts.TooLong end e = mapped_early (λ path. ends.Failed (faults.NoDirectory path)) (outside is_directory targets) end (λ path. tt) e
+no_directory_early is_directory targets (scripts.Lines text) end e = mapped_early (λ path. ends.Failed (faults.NoDirectory path)) (outside is_directory targets) end (λ path. tt) e
+
+no_script_early : (targets : List (List ℕ)) (script : UnitScript) (end : UnitEnd) → no_script targets script ≡ Some end → IsEarly end
+no_script_early targets scripts.Bare end e = subst IsEarly (some_same ends.Bare end e) tt
+no_script_early targets scripts.TooLong end e = subst IsEarly (some_same _ end e) tt
+no_script_early targets (scripts.Lines text) end e = absurd (cc)
+
+pub early_is : (is_directory : List ℕ → Bool) (standing : List ℕ → Standing) (unit : Unit) (end : UnitEnd) → early_end is_directory standing unit ≡ Some end → IsEarly end
+early_is is_directory standing unit end e =
+    one_or_rest (no_directory is_directory unit.targets unit.script) _ end (no_directory_early is_directory unit.targets unit.script)
+    (λ e1 h1. one_or_rest (option_map (λ path. ends.Failed (faults.NoRule path)) (find (λ path. is_missing (standing path)) unit.prerequisites)) _ e1 (λ o. mapped_early (λ path. ends.Failed (faults.NoRule path)) _ o (λ path. tt))
+    (λ e2 h2. one_or_rest (option_map ends.Blocked (find (λ path. is_bad (standing path)) unit.prerequisites)) _ e2 (λ o. mapped_early ends.Blocked _ o (λ path. tt))
+    (λ e3 h3. one_or_rest (no_script unit.targets unit.script) [] e3 (no_script_early unit.targets unit.script) (λ e4 h4. absurd (cc)) h3) h2) h1) e
+
+-- a unit that ends early may settle so
+pub early_settles : (s : State) (tag : Tag) (n : ℕ) (end : UnitEnd) → IsEarly end → EndsEarly s tag n end → Settles s tag n end
+early_settles s tag n (ends.Kept id) early h = absurd early
+early_settles s tag n (ends.Failed (faults.Script fault)) early h = absurd early
+early_settles s tag n end early h = h
+
+-- one of some paths, which a unit makes
+abbrev IsMade : Build → List (List ℕ) → ℕ → Type 0
+IsMade build paths m = (path : List ℕ) × (is_among path paths ≡ true) × (unit_with build path ≡ Some m)
+
+made_first : (build : Build) (path : List ℕ) (paths : List (List ℕ)) (m : ℕ) → unit_with build path ≡ Some m → IsMade build (path ∷ paths) m
+made_first build path paths m is = (path, ap (λ b. b || is_among path paths) ((bytes_eq-Decides path path).1 refl), is)
+
+made_later : (build : Build) (path : List ℕ) (paths : List (List ℕ)) (m : ℕ) → IsMade build paths m → IsMade build (path ∷ paths) m
+made_later build path paths m (other, among, is) = (other, by_test (bytes_eq other path), is)
+  where
+    by_test : (b : Bool) → (b || is_among other paths) ≡ true
+    by_test true = refl
+    by_test false = among
+
+awaited_or : (build : Build) (path : List ℕ) (paths : List (List ℕ)) (m : ℕ) (found : Option ℕ) → unit_with build path ≡ found → (first_awaited build paths ≡ Some m → IsMade build paths m) → option_or (awaited build found) (first_awaited build paths) ≡ Some m → IsMade build (path ∷ paths) m
+awaited_or build path paths m None is rest e = made_later build path paths m (rest e)
+awaited_or build path paths m (Some k) is rest e = by_over (is_outcome (came_to build k)) e
+  where
+    by_over : (over : Bool) → option_or (unless_over over k) (first_awaited build paths) ≡ Some m → IsMade build (path ∷ paths) m
+    by_over true e = made_later build path paths m (rest e)
+    by_over false e = made_first build path paths m (is ∙ e)
+
+-- a unit that is waited for makes a prerequisite
+awaited_is : (build : Build) (paths : List (List ℕ)) (m : ℕ) → first_awaited build paths ≡ Some m → IsMade build paths m
+awaited_is build [] m e = absurd (cc)
+awaited_is build (path ∷ paths) m e = awaited_or build path paths m (unit_with build path) refl (awaited_is build paths m) e
+
+-- where the units before it have their outcomes, a unit waits for none
+pub waits_for_none : (b : Base) (build : Build) (n m : ℕ) (unit : Unit) → AgreesSoFar b build → unit_at build n ≡ Some unit → ((k : ℕ) → k < n → is_outcome (came_to build k) ≡ true) → Awaits build unit m → ⊥
+waits_for_none b build n m unit agrees is earlier awaits =
+    let r = awaited_is build unit.prerequisites m awaits.first in
+    let over : is_outcome (came_to build m) ≡ true = earlier m (agrees.in_order.earlier n m unit r.0 is r.1 r.2) in
+    true_and_false (is_outcome (came_to build m)) over awaits.waits
+  where
+    true_and_false : (b : Bool) → b ≡ true → b ≡ false → ⊥
+    true_and_false b t f = cc

@@ -1,0 +1,34 @@
+-- a unit comes to something without a row
+use Rattle.std.proofs.Common.{◌≡◌, ◌<◌, Some, length, ap, sym, subst, ◌∙◌}
+use Rattle.build_core.specs.Comes.{came_of}
+use Rattle.legal_history.specs.Builds.{build_of}
+use Rattle.legal_history.specs.Steps.{state_of}
+use Rattle.base_core.specs.BuildCalls.{Noted}
+use Rattle.base_core.specs.Kept.{IsKept}
+use Rattle.base_core.proofs.Idle.{some_same}
+use Rattle.base_core.proofs.LaneSlots.{lane_slot, slot_there}
+use Rattle.base_core.proofs.UnitNotes.{kept_noted, noted_so}
+use Rattle.base_core.proofs.core_value.Core.note_step.Goals as goal
+
+pub note-requires-clause-from : goal.note-requires-clause-from
+note-requires-clause-from c = (lane_slot c.self.inside.log c.self.inside.replies.items c.self.inside.builds.items c.self.inside.moment c.args.lane c.requires.build c.self.invariant (ap (λ v. build_of (state_of v.story).active c.args.lane) c.self.view_is ∙ c.requires.active)).from
+
+pub note-requires-clause-upto : goal.note-requires-clause-upto
+note-requires-clause-upto c = (lane_slot c.self.inside.log c.self.inside.replies.items c.self.inside.builds.items c.self.inside.moment c.args.lane c.requires.build c.self.invariant (ap (λ v. build_of (state_of v.story).active c.args.lane) c.self.view_is ∙ c.requires.active)).upto
+
+pub note-requires-clause-build : goal.note-requires-clause-build
+note-requires-clause-build c = slot_there c.self.inside.builds.items c.args.lane c.requires.build (lane_slot c.self.inside.log c.self.inside.replies.items c.self.inside.builds.items c.self.inside.moment c.args.lane c.requires.build c.self.invariant (ap (λ v. build_of (state_of v.story).active c.args.lane) c.self.view_is ∙ c.requires.active))
+
+pub note-requires-clause-unit : goal.note-requires-clause-unit
+note-requires-clause-unit c = λ build e. subst (λ b. c.args.unit < length b.units) (some_same c.requires.build build (sym (lane_slot c.self.inside.log c.self.inside.replies.items c.self.inside.builds.items c.self.inside.moment c.args.lane c.requires.build c.self.invariant (ap (λ v. build_of (state_of v.story).active c.args.lane) c.self.view_is ∙ c.requires.active)).held ∙ e)) c.requires.within
+
+pub invariant_of-self-2 : goal.invariant_of-self-2
+invariant_of-self-2 c =
+    subst (λ log. IsKept log c.self.inside.replies.items c.note.new.builds.items c.self.inside.moment) (sym c.in_ok-tell.ensures.ok)
+    (kept_noted c.self.inside.log c.self.inside.replies.items c.self.inside.builds.items c.note.new.builds.items c.self.inside.moment c.args.self.now.story c.args.lane c.args.unit c.args.step (came_of c.args.came)
+    (ap (λ v. v.story) c.self.view_is) c.self.invariant c.requires (λ build e. c.note.ensures build e))
+
+pub returns-clause-ok : goal.returns-clause-ok
+returns-clause-ok c =
+    subst (λ log. Noted c.args.self.now.story log.story c.args.lane c.args.unit (came_of c.args.came)) (sym c.in_ok-tell.ensures.ok)
+    (noted_so c.self.inside.log c.args.self.now.story c.args.lane c.args.unit c.args.step (came_of c.args.came) (ap (λ v. v.story) c.self.view_is) c.requires)

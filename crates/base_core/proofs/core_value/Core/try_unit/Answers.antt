@@ -1,0 +1,12 @@
+-- a unit is tried
+use Rattle.std.proofs.Common.{subst}
+use Rattle.legal_history.specs.Steps.{state_of}
+use Rattle.base_core.specs.BuildCalls.{StepsTo}
+use Rattle.base_core.proofs.FoundBuilds.{started_has}
+use Rattle.base_core.proofs.core_value.Core.try_unit.Goals as goal
+
+pub returns-in_ok-start-in-Start-clause-ok : goal.returns-in_ok-start-in-Start-clause-ok
+returns-in_ok-start-in-Start-clause-ok c =
+    started_has c.args.self.now.story c.start.new.self.story c.args.lane c.args.unit c.in-Start.script c.in-Start.targets
+    (subst (StepsTo (state_of c.args.self.now.story) c.args.lane c.args.unit) c.in-Start.is c.in_ok-step.ensures).1
+    c.in_ok-start-in-Start.ensures.ok

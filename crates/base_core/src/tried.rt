@@ -1,0 +1,14 @@
+// What became of a unit that was tried.
+
+use build_script::scripts::Script;
+use cc_names::lists::List;
+use cc_names::paths::Path;
+
+/// What became of a unit whose turn it is.
+#[derive(Debug, Drop)]
+pub enum Tried {
+    /// It has its outcome.
+    Settled,
+    /// Its script was started: the script, and the targets that a run is to write.
+    Run(Script, List<Path>),
+}

@@ -1,0 +1,172 @@
+// What a unit of a build comes to without a run.
+
+ghost use Rattle.std.specs.Prelude.{◌≡◌, ◌<◌, ◌^◌, Bool, true, length, reverse, find, option_copied, IfOk, IfSome, IsSome};
+ghost use Rattle.cc_names.specs.Paths.{is_root};
+ghost use Rattle.legal_history.specs.Builds.{number_from};
+ghost use Rattle.legal_history.specs.Closures.{is_among};
+ghost use Rattle.legal_history.specs.FileLines.{parent};
+ghost use Rattle.legal_history.specs.Fresh.{sees_file};
+ghost use Rattle.legal_history.specs.Serials.{is_missing, is_bad, standing_or_file, first_target, no_directory, no_script, outside};
+ghost use Rattle.legal_history.specs.Turns.{standing_of_unit, early_in};
+ghost use Rattle.legal_history.specs.Views.{view_row};
+ghost use Rattle.view_lookup.specs.Unversioned.{is_unversioned};
+
+use crate::active::{ActiveBuild, Came};
+use cc_names::memory::NoMemory;
+use cc_names::paths::Path;
+use cc_names::refusals::UnitFault;
+use cc_names::rows::Row;
+use cc_names::steps::UnitEnd;
+use cc_names::units::{Unit, UnitScript};
+use std::alloc::Global;
+use view_lookup::file_at;
+
+/// Whether a unit makes the path.
+pub(crate) fn makes(unit: &Unit, path: &Path) -> bool
+    ensures { result ≡ is_among path.now unit.now.targets }
+{
+    unit.targets.as_slice().contains(path)
+}
+
+/// The place of the first unit that makes the path.
+pub(crate) fn number_of(units: &[Unit], path: &Path) -> Option<usize>
+    ensures number { result ≡ number_from 0 path.now units.now }
+    ensures within { IfSome result (λ n. n < length units.now) }
+{
+    for (index, unit) in units.iter().enumerate() {
+        if makes(unit, path) {
+            return Some(index);
+        }
+    }
+    None
+}
+
+/// Whether a path is neither a unit's nor a file.
+fn is_missing(rows: &[Row], build: &ActiveBuild, path: &Path) -> bool
+    requires room { length rows.now < 2 ^ 63 }
+    requires unversioned { is_unversioned (reverse rows.now) ≡ true }
+    requires view { IsSome (view_row (reverse rows.now) build.now.view) }
+    ensures { result ≡ is_missing (standing_or_file (sees_file (reverse rows.now) build.now.view path.now) (standing_of_unit build.now path.now)) }
+{
+    number_of(build.units(), path).is_none() && file_at(rows, build.view(), path).is_none()
+}
+
+/// Whether a path is that of a unit that failed or was blocked.
+fn is_bad(build: &ActiveBuild, path: &Path) -> bool
+    ensures { (is_file : Bool) → result ≡ is_bad (standing_or_file is_file (standing_of_unit build.now path.now)) }
+{
+    let Some(number) = number_of(build.units(), path) else {
+        return false;
+    };
+    matches!(
+        build.came_at(number),
+        Some(Came::Ended(UnitEnd::Failed(_) | UnitEnd::Blocked(_)))
+    )
+}
+
+fn first_missing<'a>(rows: &[Row], build: &ActiveBuild, paths: &'a [Path]) -> Option<&'a Path>
+    requires room { length rows.now < 2 ^ 63 }
+    requires unversioned { is_unversioned (reverse rows.now) ≡ true }
+    requires view { IsSome (view_row (reverse rows.now) build.now.view) }
+    ensures { option_copied result ≡ find (λ path. is_missing (standing_or_file (sees_file (reverse rows.now) build.now.view path) (standing_of_unit build.now path))) paths.now }
+{
+    for path in paths {
+        if is_missing(rows, build, path) {
+            return Some(path);
+        }
+    }
+    None
+}
+
+fn first_bad<'a>(rows: &[Row], build: &ActiveBuild, paths: &'a [Path]) -> Option<&'a Path>
+    ensures { option_copied result ≡ find (λ path. is_bad (standing_or_file (sees_file (reverse rows.now) build.now.view path) (standing_of_unit build.now path))) paths.now }
+{
+    for path in paths {
+        if is_bad(build, path) {
+            return Some(path);
+        }
+    }
+    None
+}
+
+/// The directory in which a path lies.
+fn parent(alloc: Global, path: &Path) -> Result<Path, NoMemory>
+    ensures { IfOk result (λ directory. directory ≡ parent path.now) }
+{
+    match path.parent(alloc)? {
+        Some(directory) => Ok(directory),
+        None => Ok(Path::root()),
+    }
+}
+
+/// The first parent of a path that is no directory: in a base without elements the root is the only one.
+fn outside(alloc: Global, paths: &[Path]) -> Result<Option<Path>, NoMemory>
+    ensures { IfOk result (λ found. found ≡ outside is_root paths.now) }
+{
+    for path in paths {
+        let directory = parent(alloc, path)?;
+        if !directory.is_root() {
+            return Ok(Some(directory));
+        }
+    }
+    Ok(None)
+}
+
+fn no_directory(alloc: Global, unit: &Unit) -> Result<Option<UnitEnd>, NoMemory>
+    ensures { IfOk result (λ end. end ≡ no_directory is_root unit.now.targets unit.now.script) }
+{
+    if let UnitScript::Bare = unit.script {
+        return Ok(None);
+    }
+    match outside(alloc, unit.targets.as_slice())? {
+        Some(path) => Ok(Some(UnitEnd::Failed(UnitFault::NoDirectory(path)))),
+        None => Ok(None),
+    }
+}
+
+fn first_target(alloc: Global, targets: &[Path]) -> Result<Path, NoMemory>
+    ensures { IfOk result (λ target. target ≡ first_target targets.now) }
+{
+    match targets {
+        [first, ..] => first.copy(alloc),
+        [] => Ok(Path::root()),
+    }
+}
+
+fn no_script(alloc: Global, unit: &Unit) -> Result<Option<UnitEnd>, NoMemory>
+    ensures { IfOk result (λ end. end ≡ no_script unit.now.targets unit.now.script) }
+{
+    match &unit.script {
+        UnitScript::Bare => Ok(Some(UnitEnd::Bare)),
+        UnitScript::TooLong => {
+            let target = first_target(alloc, unit.targets.as_slice())?;
+            Ok(Some(UnitEnd::Failed(UnitFault::ScriptTooLong(target))))
+        }
+        UnitScript::Lines(_) => Ok(None),
+    }
+}
+
+/// What the unit comes to without a run, where these are the rows that its build sees.
+pub(crate) fn early(
+    alloc: Global,
+    rows: &[Row],
+    build: &ActiveBuild,
+    unit: &Unit,
+) -> Result<Option<UnitEnd>, NoMemory>
+    requires room { length rows.now < 2 ^ 63 }
+    requires unversioned { is_unversioned (reverse rows.now) ≡ true }
+    requires view { IsSome (view_row (reverse rows.now) build.now.view) }
+    ensures { IfOk result (λ end. end ≡ early_in (reverse rows.now) build.now unit.now) }
+{
+    if let Some(end) = no_directory(alloc, unit)? {
+        return Ok(Some(end));
+    }
+    if let Some(path) = first_missing(rows, build, unit.prerequisites.as_slice()) {
+        let path = path.copy(alloc)?;
+        return Ok(Some(UnitEnd::Failed(UnitFault::NoRule(path))));
+    }
+    if let Some(path) = first_bad(rows, build, unit.prerequisites.as_slice()) {
+        return Ok(Some(UnitEnd::Blocked(path.copy(alloc)?)));
+    }
+    no_script(alloc, unit)
+}
