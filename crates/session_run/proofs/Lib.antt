@@ -1,3 +1,4 @@
+pub mod Exactly
 pub mod LaneSteps
 pub mod MoreSteps
 pub mod PhaseSteps
@@ -5,3 +6,4 @@ pub mod Promises
 pub mod Ready
 pub mod Running
 pub mod Within
+mod Worked

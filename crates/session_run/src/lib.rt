@@ -15,6 +15,8 @@ mod phases;
 mod run;
 mod sessions;
 mod statuses;
+#[cfg(test)]
+mod tests;
 mod transcripts;
 mod words;
 
