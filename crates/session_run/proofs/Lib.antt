@@ -1,3 +1,4 @@
+pub mod Exactly
 pub mod FromNothing
 pub mod LaneSteps
 pub mod MoreSteps
@@ -6,3 +7,4 @@ pub mod Promises
 pub mod Ready
 pub mod Running
 pub mod Within
+mod Worked

@@ -1,179 +1,47 @@
-// Whole sessions, by their bytes.
+// Sessions from bytes to bytes, with the doubles of the outside.
 
-use crate::{Status, run_words};
+use crate::{Ended, Status, run_words};
+use cc_names::memory::NoMemory;
 use cc_names::texts::Text;
 use cc_outside::{ListClock, MemorySink, MemorySource};
 use std::alloc::Global;
-use std::process::Abort;
-use std::test::Fail;
 
-// The status of a session and what it writes.
-fn run(alloc: Global, session: &[u8]) -> Result<(Status, Text), Fail> {
-    let mut words = Vec::new(alloc);
-    words.push(Text::from_bytes(alloc, b"f")?)?;
-    words.push(Text::from_bytes(alloc, b"run")?)?;
-    let mut source = MemorySource::new(alloc, session, &[])?;
-    let mut sink = MemorySink::new(alloc, &[])?;
-    let mut clock = ListClock::new(alloc, &[1_700_000_000])?;
-    let ended = run_words(alloc, words.as_slice(), &mut source, &mut sink, &mut clock);
-    Ok((ended.status, Text::from_bytes(alloc, sink.bytes())?))
-}
+mod builds;
+mod sessions;
 
-// A session with one view and some saves, and then a build of `out`.
-fn assert_build(
-    rt: &impl Abort,
-    alloc: Global,
-    saves: &str,
-    saved: &str,
-    command: &str,
-    reply: &str,
+// What a call answers, writes and keeps.
+#[derive(Drop)]
+struct Outcome {
     status: Status,
-) -> Result<(), Fail> {
-    let session = format!(in alloc; "phase\nlane a\nmkview v\n{saves}{command}\n")?;
-    let written = format!(in alloc; "phase 1\nlane a\n1 mkview ok\n{saved}{reply}")?;
-    let (ended, text) = run(alloc, session.as_bytes())?;
-    assert_eq!(rt; text.as_bytes(), written.as_bytes());
-    assert_eq!(rt; ended, status);
-    Ok(())
+    written: Text,
+    rows: usize,
 }
 
-const MAKEFILE: &str = "save v Makefile\n|out: in\n|\tcat in > out\nsave v in\n|hi\n";
-
-const SAVED: &str = "2 save ok\n3 save ok\n";
-
-const BUILT: &str =
-    "  out built 3 98ea6e4f216f2fb4b69fff9b3a44842c38686ca685f3f55dc48c5d3fb1107be4\n";
-
-#[test]
-fn a_first_build_is_built(rt: HostRuntime) -> Result<(), Fail> {
-    let alloc = rt.alloc();
-    let reply = format!(in alloc; "4 clearmake ok\n{BUILT}")?;
-    assert_build(
-        &rt,
-        rt.alloc(),
-        MAKEFILE,
-        SAVED,
-        "clearmake v out",
-        reply.as_str(),
-        Status::Good,
-    )?;
-    let twice = format!(in alloc; "{reply}5 clearmake ok\n{BUILT}")?;
-    assert_build(
-        &rt,
-        rt.alloc(),
-        MAKEFILE,
-        SAVED,
-        "clearmake v out\nclearmake v out",
-        twice.as_str(),
-        Status::Good,
-    )?;
-    let derived = format!(in alloc; "{reply}5 save refused C19 IsDerived out\n")?;
-    assert_build(
-        &rt,
-        rt.alloc(),
-        MAKEFILE,
-        SAVED,
-        "clearmake v out\nsave v out\n|x",
-        derived.as_str(),
-        Status::SomeFailed,
-    )
-}
-
-#[test]
-fn a_clearmake_is_refused(rt: HostRuntime) -> Result<(), Fail> {
-    for (makefile, command, refusal) in [
-        ("out: in\n|\tcat in > out", "clearmake w out", "C1 NoView"),
-        (
-            "a: b: c",
-            "clearmake v out",
-            "M1 MakeError Makefile 1 NotBuilt",
-        ),
-        (
-            "out: in\n|\tcat in > out",
-            "clearmake v other",
-            "G1 NoGoal other",
-        ),
-        (
-            "Makefile:\n|\techo hi > Makefile",
-            "clearmake v Makefile",
-            "G3 TargetIsSource Makefile",
-        ),
-    ] {
-        let saves = format!(in rt.alloc(); "save v Makefile\n|{makefile}\n")?;
-        let reply = format!(in rt.alloc(); "3 clearmake refused {refusal}\n")?;
-        assert_build(
-            &rt,
-            rt.alloc(),
-            saves.as_str(),
-            "2 save ok\n",
-            command,
-            reply.as_str(),
-            Status::SomeFailed,
-        )?;
+// The outcome of words and a text, where these reads and these writes fail.
+fn outcome_of(
+    alloc: Global,
+    words: &str,
+    text: &str,
+    reads: &[u64],
+    writes: &[u64],
+) -> Result<Outcome, NoMemory> {
+    let mut all = Vec::new(alloc);
+    for word in words.split(' ') {
+        all.push(Text::from_bytes(alloc, word.as_bytes())?)?;
     }
-    assert_build(
-        &rt,
-        rt.alloc(),
-        "",
-        "",
-        "clearmake v out",
-        "2 clearmake refused B1 NoMakefile Makefile\n",
-        Status::SomeFailed,
-    )
-}
-
-#[test]
-fn a_unit_fails(rt: HostRuntime) -> Result<(), Fail> {
-    for (target, makefile, fault) in [
-        ("out", "out: none\n|\techo hi > out", "U1 NoRule none"),
-        ("d/out", "d/out:\n|\techo hi > d/out", "U2 NoDirectory d"),
-        ("out", "out:\n|\tcat none > out", "X1 Absent none"),
-        ("out", "out:\n|\tfail", "X2 BadLine 1"),
-        ("out", "out:\n|\techo hi > other", "X6 StrayWrite other"),
-        ("out", "out:\n|\t@", "X7 NotWritten out"),
-    ] {
-        let saves = format!(in rt.alloc(); "save v Makefile\n|{makefile}\n")?;
-        let command = format!(in rt.alloc(); "clearmake v {target}")?;
-        let reply = format!(in rt.alloc(); "3 clearmake failed\n  {target} failed {fault}\n")?;
-        assert_build(
-            &rt,
-            rt.alloc(),
-            saves.as_str(),
-            "2 save ok\n",
-            command.as_str(),
-            reply.as_str(),
-            Status::SomeFailed,
-        )?;
-    }
-    Ok(())
-}
-
-#[test]
-fn a_target_is_too_big(rt: HostRuntime) -> Result<(), Fail> {
-    let mut saves = String::new(rt.alloc());
-    saves.push_str("save v Makefile\n|out: in\n|\tcat in > out\nsave v in\n")?;
-    for _ in 0..524_289 {
-        saves.push_str("|a\n")?;
-    }
-    let reply = "4 clearmake failed\n  out failed X3 TooBig out\n";
-    assert_build(
-        &rt,
-        rt.alloc(),
-        saves.as_str(),
-        SAVED,
-        "clearmake v out",
-        reply,
-        Status::SomeFailed,
-    )
-}
-
-#[test]
-fn a_session_that_builds_nothing_is_as_before(rt: HostRuntime) -> Result<(), Fail> {
-    let session = b"phase\nlane a\nmkview v\nsave v in\n|hi\nmkview v\nsave w in\n";
-    let written =
-        b"phase 1\nlane a\n1 mkview ok\n2 save ok\n3 mkview refused C2 ViewExists\n4 save refused C1 NoView\n";
-    let (status, text) = run(rt.alloc(), session)?;
-    assert_eq!(rt; text.as_bytes(), written.as_slice());
-    assert_eq!(rt; status, Status::SomeFailed);
-    Ok(())
+    let mut source = MemorySource::new(alloc, text.as_bytes(), reads)?;
+    let mut sink = MemorySink::new(alloc, writes)?;
+    let mut clock = ListClock::new(alloc, &[1_700_000_000])?;
+    let Ended { status, history } = run_words(
+        alloc,
+        all.as_slice(),
+        &mut source,
+        &mut sink,
+        &mut clock,
+    );
+    Ok(Outcome {
+        status,
+        written: Text::from_bytes(alloc, sink.bytes())?,
+        rows: history.rows().len(),
+    })
 }

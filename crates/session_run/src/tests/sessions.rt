@@ -1,0 +1,71 @@
+// Sessions that save, and what the source and the sink do.
+
+use super::outcome_of;
+use std::test::Fail;
+
+const SAVES: &str = "phase\nlane a\nmkview v\nsave v in\n|hi\n";
+
+#[test]
+fn each_session_is_answered(rt: HostRuntime) -> Result<(), Fail> {
+    for (words, text, code, written, rows) in [
+        ("f run", "", 0, "", 0),
+        ("f run", "phase\n", 0, "phase 1\n", 0),
+        (
+            "f run",
+            "phase\nlane a\nfrob v\n",
+            3,
+            "bad session 3 UnknownCommand\n",
+            0,
+        ),
+        (
+            "f run",
+            "phase\nlane a\nsave v a//b\n",
+            3,
+            "bad session 3 BadWord\n",
+            0,
+        ),
+        ("f", SAVES, 2, "bad words\n", 0),
+        ("f big 1 0", SAVES, 2, "bad words\n", 0),
+        (
+            "f run",
+            SAVES,
+            0,
+            "phase 1\nlane a\n1 mkview ok\n2 save ok\n",
+            2,
+        ),
+        (
+            "f run",
+            "phase\nlane a\nsave v in\nmkview v\nmkview v\nsave v a/b\nsave v in\nsave v in/b\n",
+            1,
+            "phase 1\nlane a\n1 save refused C1 NoView\n2 mkview ok\n3 mkview refused C2 ViewExists\n4 save refused C3 NoPath a\n5 save ok\n6 save refused C4 NotDirectory in\n",
+            2,
+        ),
+    ] {
+        let outcome = outcome_of(rt.alloc(), words, text, &[], &[])?;
+        assert_eq!(rt; outcome.status.code(), code, "at {text:?}");
+        assert_eq!(rt;
+            outcome.written.as_bytes(),
+            written.as_bytes(),
+            "at {text:?}"
+        );
+        assert_eq!(rt; outcome.rows, rows, "at {text:?}");
+    }
+    Ok(())
+}
+
+#[test]
+fn a_source_and_a_sink_that_fail_are_told(rt: HostRuntime) -> Result<(), Fail> {
+    for (words, reads, writes, code, written, rows) in [
+        ("f run", 1, 0, 5, "read fault\n", 0),
+        ("f run", 2, 0, 5, "read fault\n", 0),
+        ("f run", 0, 1, 6, "", 2),
+        ("f run", 1, 1, 6, "", 0),
+        ("f", 0, 1, 6, "", 0),
+    ] {
+        let outcome = outcome_of(rt.alloc(), words, SAVES, &[reads], &[writes])?;
+        assert_eq!(rt; outcome.status.code(), code);
+        assert_eq!(rt; outcome.written.as_bytes(), written.as_bytes());
+        assert_eq!(rt; outcome.rows, rows);
+    }
+    Ok(())
+}
