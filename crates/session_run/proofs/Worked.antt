@@ -11,8 +11,8 @@ use Rattle.cc_names.specs.declared.steps.Step.TheVariants as steps
 use Rattle.cc_names.specs.declared.steps.Told.{Told}
 use Rattle.cc_names.specs.declared.steps.Told.TheVariants as told
 use Rattle.base_core.specs.Telling.{no_counts}
-use Rattle.session_run.specs.Headline.{clock_moments, has_refusal, is_run, phases_begun}
-use Rattle.session_run.specs.Rendered.{earlier_text, rendered}
+use Rattle.session_run.specs.Headline.{clock_moments, is_run, phases_begun}
+use Rattle.session_run.specs.Rendered.{earlier_text, has_failure, rendered}
 
 -- a view and a private file, and then the view once more
 saves : Phase
@@ -60,8 +60,8 @@ begun = refl
 clock : clock_moments (5 ∷ 300000000000 ∷ []) 0 3 ≡ 5 ∷ 253402300799 ∷ 253402300799 ∷ []
 clock = refl
 
-refused : has_refusal two_phases ≡ true
-unfolding two_phases first_phase first_command
+refused : has_failure two_phases ≡ true
+unfolding two_phases first_phase first_command saves tag again
 refused = refl
 
 -- the words
