@@ -1,5 +1,5 @@
 -- What a core keeps after the end of a build.
-use Rattle.std.proofs.Common.{◌≡◌, ◌≢◌, ℕ, suc, ◌+◌, ◌-◌, ◌<◌, ◌≤◌, ◌==◌, ◌⊎◌, inl, inr, true, false, ◌||◌, Option, Some, None, List, [], ◌∷◌, ◌++◌, length, set, refl, ap, sym, subst, ◌∙◌, arith}
+use Rattle.std.proofs.Common.{◌≡◌, ◌≢◌, ℕ, ◌-◌, ◌≤◌, ◌⊎◌, inl, inr, true, ◌||◌, Option, Some, None, List, [], ◌∷◌, ◌++◌, length, set, refl, ap, sym, subst, ◌∙◌, arith}
 use Rattle.std.proofs.lemmas.List.{length-set}
 use Rattle.std.specs.Prelude.{is_some, if◌then◌else◌}
 use Rattle.cc_names.specs.declared.replies.Reply.{Reply}
@@ -8,14 +8,13 @@ use Rattle.cc_names.specs.declared.rows.Tag.{Tag}
 use Rattle.cc_names.specs.declared.steps.Step.TheVariants as steps
 use Rattle.cc_names.specs.declared.steps.Told.{Told}
 use Rattle.cc_names.specs.declared.steps.Told.TheVariants as told
-use Rattle.build_core.specs.Slots.{numbered, held_in}
+use Rattle.build_core.specs.Slots.{numbered}
 use Rattle.build_core.specs.SlotLaws.{without_numbered}
 use Rattle.fresh_builds.specs.Replied.{reply_of}
 use Rattle.legal_history.specs.Base.{only_where}
 use Rattle.legal_history.specs.Builds.{Build, build_of, reserved}
-use Rattle.legal_history.specs.Fits.{row_limit}
-use Rattle.legal_history.specs.States.{State, start, done_of, with_done, same_tag, next_tag, build_by, ticks_of}
-use Rattle.legal_history.specs.Steps.{after, state_of, without_build}
+use Rattle.legal_history.specs.States.{State, start, with_done, same_tag, next_tag, build_by, ticks_of}
+use Rattle.legal_history.specs.Steps.{state_of, without_build}
 use Rattle.legal_history.specs.Turns.{is_complete}
 use Rattle.base_core.specs.Building.{IsBuildKept}
 use Rattle.base_core.specs.Kept.{last_phase, replies_at, with_reply, IsKept}
@@ -26,7 +25,7 @@ use Rattle.base_core.proofs.Growing.{state_from-more, legal_more}
 use Rattle.base_core.proofs.Idle.{not_both}
 use Rattle.base_core.proofs.Lanes.{one_or_two, done_other}
 use Rattle.base_core.proofs.NextCommands.{same_as_itself}
-use Rattle.base_core.proofs.Reserving.{found_set, found_other, reserved_set, rows_for}
+use Rattle.base_core.proofs.Reserving.{found_set, found_other, reserved_set}
 use Rattle.base_core.proofs.Staying.{build_stays}
 
 -- a lane's build is that of its command

@@ -1,5 +1,5 @@
 -- What is kept, and how the story went on, after the end of a build.
-use Rattle.std.proofs.Common.{◌≡◌, ◌≢◌, ℕ, ◌-◌, ◌<◌, ◌≤◌, true, Option, Some, None, List, [], ◌∷◌, ◌++◌, length, reverse, set, refl, ap, sym, subst, ◌∙◌, arith}
+use Rattle.std.proofs.Common.{◌≡◌, ℕ, ◌-◌, true, Option, Some, None, List, [], ◌∷◌, ◌++◌, reverse, set, ap, sym, subst, ◌∙◌, arith}
 use Rattle.cc_names.specs.Formed.{Plain}
 use Rattle.cc_names.specs.declared.replies.Reply.{Reply}
 use Rattle.cc_names.specs.declared.rows.Tag.{Tag}
@@ -9,10 +9,10 @@ use Rattle.cc_names.specs.declared.steps.Told.TheVariants as told
 use Rattle.fresh_builds.specs.Replied.{reply_of}
 use Rattle.legal_history.specs.Builds.{Build, build_of}
 use Rattle.legal_history.specs.States.{State, start, done_of, with_done, next_tag}
-use Rattle.legal_history.specs.Steps.{after, state_of, without_build}
+use Rattle.legal_history.specs.Steps.{state_of, without_build}
 use Rattle.legal_history.specs.Turns.{is_complete}
 use Rattle.base_core.specs.BuildCalls.{IsOver}
-use Rattle.base_core.specs.Going.{SamePhase, Finishes}
+use Rattle.base_core.specs.Going.{Finishes}
 use Rattle.base_core.specs.Kept.{with_reply, IsKept}
 use Rattle.base_core.specs.Logs.{Logged, with_step}
 use Rattle.base_core.proofs.Closing.{kept_end}
@@ -20,7 +20,7 @@ use Rattle.base_core.proofs.FoundBuilds.{IsFound}
 use Rattle.base_core.proofs.Growing.{state_from-more}
 use Rattle.base_core.proofs.Idle.{some_same}
 use Rattle.base_core.proofs.Lanes.{done_same, done_other}
-use Rattle.base_core.proofs.LaneSlots.{IsSlot, lane_slot}
+use Rattle.base_core.proofs.LaneSlots.{lane_slot}
 
 -- what is kept
 pub kept_ended : (log : Logged) (lanes : List (List Reply)) (builds : List (Option Build)) (now lane : ℕ) (story : List Told) (rows : List Plain) (tag : Tag) (build : Build) (reply : Reply) → log.story ≡ story → IsKept log lanes builds now → IsOver (state_of story) lane → IsFound story lane build → (state_of story).base ≡ reverse rows → tag ≡ next_tag (state_of story) lane → reply ≡ reply_of (reverse rows) build → IsKept (with_step log (steps.End tag)) (with_reply lanes lane reply) (set builds (lane - 1) None) now

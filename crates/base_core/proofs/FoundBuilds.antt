@@ -1,5 +1,5 @@
 -- The build that is found in a lane's slot: what is kept of it, and how a unit of it goes on.
-use Rattle.std.proofs.Common.{◌≡◌, ◌≢◌, ℕ, zero, suc, ◌+◌, ◌<◌, ◌≤◌, ◌^◌, ◌&&◌, ◌⊎◌, inl, inr, Bool, true, Option, Some, None, Result, Ok, Err, List, [], ◌∷◌, ◌++◌, length, reverse, refl, ap, sym, subst, ◌∙◌, arith}
+use Rattle.std.proofs.Common.{◌≡◌, ◌≢◌, ℕ, ◌+◌, ◌<◌, ◌≤◌, ◌&&◌, ◌⊎◌, inl, inr, true, Option, Some, Result, Ok, Err, List, [], ◌∷◌, length, reverse, refl, ap, sym, subst, ◌∙◌, arith}
 use Rattle.std.specs.Prelude.{IfOk, IsSome, slice_get}
 use Rattle.std.proofs.lemmas.Option.{slice_get_within}
 use Rattle.cc_names.specs.Formed.{Plain}
@@ -15,12 +15,12 @@ use Rattle.build_core.specs.declared.steps.UnitStep.{UnitStep}
 use Rattle.build_script.specs.Run.{Ran}
 use Rattle.build_script.specs.declared.lines.Line.{Line}
 use Rattle.legal_history.specs.Base.{Base, first_rows}
-use Rattle.legal_history.specs.Builds.{Build, Came, Started, build_of, came_to, is_outcome, unit_at}
+use Rattle.legal_history.specs.Builds.{Build, Came, Started, build_of, came_to, is_outcome}
 use Rattle.legal_history.specs.Freshness.{AgreesSoFar}
 use Rattle.legal_history.specs.States.{State}
 use Rattle.legal_history.specs.Steps.{state_of}
 use Rattle.legal_history.specs.Stories.{Legal}
-use Rattle.legal_history.specs.Turns.{is_complete, all_over}
+use Rattle.legal_history.specs.Turns.{all_over}
 use Rattle.legal_history.specs.Views.{view_row}
 use Rattle.base_core.specs.BuildCalls.{IsBuilding, IsTurn, StepsTo, MaySettle, HasScript, IsStarted, HasRun, IsOver, Noted}
 use Rattle.base_core.specs.Building.{IsBuildKept}

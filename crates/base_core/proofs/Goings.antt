@@ -1,13 +1,13 @@
 -- How stories go on: not at all, by one step, and by one way after another.
-use Rattle.std.proofs.Common.{◌≡◌, ℕ, ◌+◌, true, Some, Result, Ok, Err, List, [], ◌∷◌, ◌++◌, refl, ap, ap₂, sym, subst, ◌∙◌}
+use Rattle.std.proofs.Common.{ℕ, ◌+◌, Result, Ok, Err, List, [], ◌++◌, refl, ap, sym, ◌∙◌}
 use Rattle.std.specs.Prelude.{OnErr}
 use Rattle.std.proofs.lemmas.List.{append-nil}
 use Rattle.std.proofs.Common.{append_assoc}
 use Rattle.cc_names.specs.declared.steps.Told.{Told}
-use Rattle.legal_history.specs.Builds.{Build, build_of, came_to, is_outcome}
+use Rattle.legal_history.specs.Builds.{Build}
 use Rattle.legal_history.specs.States.{done_of}
 use Rattle.legal_history.specs.Steps.{state_of}
-use Rattle.base_core.specs.Going.{SamePhase, StillBuilds, GoesOn, HasOutcome, Finishes}
+use Rattle.base_core.specs.Going.{StillBuilds, GoesOn, Finishes}
 
 -- a story that does not go on
 pub goes_nowhere : (story : List Told) (lane : ℕ) → GoesOn story story lane

@@ -1,12 +1,10 @@
 -- Where nobody builds, and where a lane does not.
-use Rattle.std.proofs.Common.{◌≡◌, ℕ, zero, suc, ◌+◌, ◌-◌, ◌<◌, ◌≤◌, ◌==◌, Bool, true, false, ◌&&◌, Option, Some, None, Result, List, [], ◌∷◌, length, refl, ap, ap₂, sym, subst, ◌∙◌, arith}
+use Rattle.std.proofs.Common.{◌≡◌, ℕ, zero, suc, ◌+◌, ◌==◌, Bool, true, false, ◌&&◌, Option, Some, None, Result, List, [], ◌∷◌, length, refl, ap, ◌∙◌, arith}
 use Rattle.std.specs.Prelude.{IsSome, option_and_then, option_map, is_none, slice_get}
 use Rattle.std.proofs.lemmas.Bool.{eqb-true}
 use Rattle.std.proofs.lemmas.Option.{slice_get_past}
 use Rattle.cc_names.specs.declared.commands.Command.{Command}
 use Rattle.cc_names.specs.declared.commands.Lane.{Lane}
-use Rattle.cc_names.specs.declared.commands.Phase.{Phase}
-use Rattle.cc_names.specs.declared.desks.Next.{Next}
 use Rattle.cc_names.specs.declared.desks.Next.TheVariants as nexts
 use Rattle.cc_names.specs.declared.refusals.Refusal.{Refusal}
 use Rattle.cc_names.specs.declared.replies.Reply.{Reply}
@@ -14,10 +12,10 @@ use Rattle.cc_names.specs.declared.rows.Tag.{Tag}
 use Rattle.build_core.specs.Slots.{numbered, held_in}
 use Rattle.build_core.specs.SlotLaws.{find_numbered}
 use Rattle.legal_history.specs.Base.{only_where}
-use Rattle.legal_history.specs.Builds.{Build, Active, build_of}
+use Rattle.legal_history.specs.Builds.{Build, build_of}
 use Rattle.legal_history.specs.Decisions.{Decision}
 use Rattle.legal_history.specs.Lines.{decision}
-use Rattle.legal_history.specs.States.{State, scene, done_of, lane_at, command_behind, lanes_done, all_done, same_tag, next_tag, is_next, next_command, decided}
+use Rattle.legal_history.specs.States.{State, scene, done_of, lane_at, command_behind, lanes_done, all_done, same_tag, next_tag, decided}
 use Rattle.legal_history.specs.Steps.{state_of}
 use Rattle.base_core.specs.Kept.{IsKept}
 use Rattle.base_core.specs.Logs.{Logged}

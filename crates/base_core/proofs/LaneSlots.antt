@@ -1,5 +1,5 @@
 -- The slot of a lane that builds, and tables with one more entry.
-use Rattle.std.proofs.Common.{◌≡◌, ◌≢◌, ℕ, zero, suc, ◌+◌, ◌-◌, ◌<◌, ◌≤◌, nat_lt, Bool, true, false, cond, Option, Some, None, List, length, refl, ap, sym, subst, ◌∙◌, arith}
+use Rattle.std.proofs.Common.{◌≡◌, ◌≢◌, ℕ, zero, suc, ◌-◌, ◌<◌, ◌≤◌, nat_lt, Bool, true, false, cond, Option, Some, List, length, refl, ap, sym, subst, ◌∙◌, arith}
 use Rattle.std.specs.Ordering.{nat_cmp, eq_by_cmp}
 use Rattle.std.specs.FinMap.Entries.{find, put, find-put}
 use Rattle.std.specs.Prelude.{IsSome}
@@ -7,8 +7,8 @@ use Rattle.std.proofs.lemmas.Cmp.{nat_cmp_total}
 use Rattle.std.proofs.lemmas.Bool.Decides.{nat_tests}
 use Rattle.cc_names.specs.declared.replies.Reply.{Reply}
 use Rattle.build_core.specs.Slots.{numbered, held_in}
-use Rattle.legal_history.specs.Builds.{Build, Active, Came, build_of, came_to}
-use Rattle.legal_history.specs.Steps.{state_of, with_came}
+use Rattle.legal_history.specs.Builds.{Build, build_of}
+use Rattle.legal_history.specs.Steps.{state_of}
 use Rattle.base_core.specs.Kept.{IsKept}
 use Rattle.base_core.specs.Logs.{Logged}
 use Rattle.base_core.proofs.Idle.{not_both}

@@ -1,26 +1,23 @@
 -- What a core keeps after a step of a build that names no row.
-use Rattle.std.proofs.Common.{◌≡◌, ◌≢◌, ℕ, suc, ◌+◌, ◌-◌, ◌<◌, ◌≤◌, ◌⊎◌, inl, inr, Bool, true, false, Option, Some, None, List, [], ◌∷◌, ◌++◌, length, set, refl, ap, sym, subst, ◌∙◌, arith}
-use Rattle.std.proofs.lemmas.List.{append-nil, length-set}
+use Rattle.std.proofs.Common.{◌≡◌, ◌≢◌, ℕ, suc, ◌-◌, ◌≤◌, ◌⊎◌, inl, inr, Option, Some, List, [], ◌∷◌, ◌++◌, length, set, refl, ap, sym, subst, ◌∙◌, arith}
+use Rattle.std.proofs.lemmas.List.{length-set}
 use Rattle.std.specs.Ordering.{nat_cmp}
 use Rattle.std.specs.Prelude.{is_some}
 use Rattle.std.specs.FinMap.Entries.{put}
 use Rattle.cc_names.specs.declared.replies.Reply.{Reply}
-use Rattle.cc_names.specs.declared.rows.Tag.{Tag}
 use Rattle.cc_names.specs.declared.steps.Step.{Step}
 use Rattle.cc_names.specs.declared.steps.Told.{Told}
 use Rattle.cc_names.specs.declared.steps.Told.TheVariants as told
 use Rattle.build_core.specs.Slots.{numbered, held_in}
 use Rattle.build_core.specs.SlotLaws.{put_numbered}
-use Rattle.legal_history.specs.Base.{size, first_rows}
-use Rattle.legal_history.specs.Builds.{Build, Active, Came, build_of, reserved}
-use Rattle.legal_history.specs.Fits.{row_limit}
+use Rattle.legal_history.specs.Builds.{Build, Came, build_of, reserved}
 use Rattle.legal_history.specs.States.{State, start, done_of, ticks_of}
 use Rattle.legal_history.specs.Steps.{after, state_of, with_came}
 use Rattle.legal_history.specs.Stories.{Lawful}
 use Rattle.base_core.specs.Building.{IsBuildKept}
-use Rattle.base_core.specs.Kept.{last_phase, Agrees, AreReplies, IsKept}
+use Rattle.base_core.specs.Kept.{last_phase, AreReplies, IsKept}
 use Rattle.base_core.specs.Logs.{Logged, with_step}
-use Rattle.base_core.specs.Replying.{in_lane, replies_after, replies_by, replies_of, no_replies}
+use Rattle.base_core.specs.Replying.{replies_after, replies_of, no_replies}
 use Rattle.base_core.proofs.Growing.{state_from-more, legal_more, replies_from-more}
 use Rattle.base_core.proofs.Idle.{build_in_slot, some_same}
 use Rattle.base_core.proofs.Lanes.{one_or_two}

@@ -1,13 +1,12 @@
 -- What is kept, and how the story went on, after the row of what a unit's run gave.
-use Rattle.std.proofs.Common.{◌≡◌, ◌≢◌, ℕ, zero, suc, ◌+◌, ◌-◌, ◌<◌, ◌≤◌, ◌||◌, true, false, Option, Some, None, Result, Ok, Err, List, [], ◌∷◌, ◌++◌, length, set, refl, ap, ap₂, sym, subst, ◌∙◌, arith}
+use Rattle.std.proofs.Common.{◌≡◌, ◌≢◌, ℕ, zero, suc, ◌-◌, ◌||◌, true, Option, Some, Result, Ok, Err, List, [], ◌∷◌, ◌++◌, length, set, refl, ap, sym, subst, ◌∙◌, arith}
 use Rattle.std.proofs.lemmas.List.{length-reverse}
-use Rattle.std.proofs.lemmas.Option.{slice_get_within}
 use Rattle.std.proofs.lemmas.Slice.Eq.{bytes_eq-Decides}
 use Rattle.std.specs.List.{AllByRecursion}
 use Rattle.std.specs.Ordering.{nat_cmp}
 use Rattle.std.specs.FinMap.Entries.{put}
 use Rattle.std.specs.Prelude.{slice_get}
-use Rattle.cc_names.specs.Formed.{Plain, AreTargets}
+use Rattle.cc_names.specs.Formed.{Plain}
 use Rattle.cc_names.specs.declared.refusals.ScriptFault.{ScriptFault}
 use Rattle.cc_names.specs.declared.replies.Reply.{Reply}
 use Rattle.cc_names.specs.declared.rows.Deed.{Deed}
@@ -19,14 +18,14 @@ use Rattle.cc_names.specs.declared.units.Unit.{Unit}
 use Rattle.build_core.specs.BuildForms.{IsUnitFormed}
 use Rattle.build_core.specs.Slots.{held_in}
 use Rattle.legal_history.specs.Base.{Base, size}
-use Rattle.legal_history.specs.Builds.{Build, Came, Started, Given, build_of, came_to, is_outcome, number_from, unit_at, unit_with_first}
-use Rattle.legal_history.specs.Choices.{entries, here, publish_by, publish_of, visible}
+use Rattle.legal_history.specs.Builds.{Build, Given, build_of, is_outcome, unit_at, unit_with_first}
+use Rattle.legal_history.specs.Choices.{entries, here, publish_by, visible}
 use Rattle.legal_history.specs.Closures.{is_among}
 use Rattle.legal_history.specs.Fits.{is_base}
 use Rattle.legal_history.specs.Freshness.{AgreesSoFar}
 use Rattle.legal_history.specs.Fresh.{script_text}
 use Rattle.legal_history.specs.States.{State, Committed, start, next_tag}
-use Rattle.legal_history.specs.Steps.{active_after, after, done_after, noted_in, state_of, with_came}
+use Rattle.legal_history.specs.Steps.{active_after, done_after, noted_in, state_of, with_came}
 use Rattle.legal_history.specs.Stories.{Legal}
 use Rattle.base_core.specs.BuildCalls.{IsObjectRow}
 use Rattle.base_core.specs.Going.{GoesOn, HasOutcome, StillBuilds}
@@ -34,7 +33,7 @@ use Rattle.base_core.specs.Kept.{IsKept}
 use Rattle.base_core.specs.Logs.{Logged, with_row}
 use Rattle.base_core.proofs.Growing.{state_from-more}
 use Rattle.base_core.proofs.Idle.{some_same}
-use Rattle.base_core.proofs.LaneSlots.{IsSlot, lane_slot, found_put}
+use Rattle.base_core.proofs.LaneSlots.{lane_slot, found_put}
 use Rattle.base_core.proofs.Publishing.{published, kept_publish}
 use Rattle.base_core.proofs.UnitNotes.{outcome_noted}
 

@@ -1,8 +1,7 @@
 -- What is kept, and how the story went on, where a build begins, and where a command is refused.
-use Rattle.std.proofs.Common.{◌≡◌, ◌≢◌, ℕ, suc, ◌+◌, ◌-◌, ◌<◌, ◌≤◌, ◌^◌, true, Option, Some, None, Result, Ok, Err, List, [], ◌∷◌, ◌++◌, length, set, refl, ap, ap₂, sym, subst, ◌∙◌, arith}
+use Rattle.std.proofs.Common.{◌≡◌, ℕ, ◌-◌, Option, Some, None, Result, Ok, Err, List, [], ◌∷◌, ◌++◌, length, set, refl, ap, sym, subst, ◌∙◌, arith}
 use Rattle.std.specs.Ordering.{nat_cmp}
 use Rattle.std.specs.FinMap.Entries.{put}
-use Rattle.cc_names.specs.declared.desks.Done.{Done}
 use Rattle.cc_names.specs.declared.desks.Done.TheVariants as dones
 use Rattle.cc_names.specs.declared.refusals.Refusal.{Refusal}
 use Rattle.cc_names.specs.declared.replies.Reply.{Reply}
@@ -10,16 +9,15 @@ use Rattle.cc_names.specs.declared.rows.Tag.{Tag}
 use Rattle.cc_names.specs.declared.steps.Step.TheVariants as steps
 use Rattle.cc_names.specs.declared.steps.Told.{Told}
 use Rattle.cc_names.specs.declared.steps.Told.TheVariants as told
-use Rattle.build_core.specs.Slots.{numbered}
 use Rattle.legal_history.specs.Base.{size}
 use Rattle.legal_history.specs.Builds.{Build, build_of}
 use Rattle.legal_history.specs.Decisions.{Decision, Makes, Answers, Begins}
 use Rattle.legal_history.specs.States.{State, start, done_of, with_done, next_tag, decided}
-use Rattle.legal_history.specs.Steps.{after, begun, state_of, with_build}
+use Rattle.legal_history.specs.Steps.{begun, state_of, with_build}
 use Rattle.base_core.specs.Acting.{Acts, step_of, kind_of}
 use Rattle.base_core.specs.BuildCalls.{IsBuilding}
 use Rattle.base_core.specs.Building.{IsNextBuild}
-use Rattle.base_core.specs.Going.{SamePhase, GoesOn, Finishes}
+use Rattle.base_core.specs.Going.{GoesOn, Finishes}
 use Rattle.base_core.specs.Kept.{IsKept}
 use Rattle.base_core.specs.Logs.{Logged, with_step}
 use Rattle.base_core.proofs.Growing.{state_from-more}

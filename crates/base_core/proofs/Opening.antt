@@ -1,5 +1,5 @@
 -- What a core keeps after the begin of a build.
-use Rattle.std.proofs.Common.{◌≡◌, ◌≢◌, ℕ, suc, ◌+◌, ◌-◌, ◌<◌, ◌≤◌, ◌⊎◌, inl, inr, true, Option, Some, None, Ok, List, [], ◌∷◌, ◌++◌, length, set, refl, ap, sym, subst, ◌∙◌, arith}
+use Rattle.std.proofs.Common.{◌≡◌, ◌≢◌, ℕ, suc, ◌+◌, ◌-◌, ◌≤◌, ◌⊎◌, inl, inr, Option, Some, None, Ok, List, [], ◌∷◌, ◌++◌, length, set, refl, ap, sym, subst, ◌∙◌, arith}
 use Rattle.std.proofs.lemmas.List.{append-nil, length-set}
 use Rattle.std.specs.Ordering.{nat_cmp}
 use Rattle.std.specs.Prelude.{is_some}
@@ -16,9 +16,9 @@ use Rattle.legal_history.specs.Builds.{Build, build_of, reserved}
 use Rattle.legal_history.specs.Decisions.{Begins}
 use Rattle.legal_history.specs.Fits.{row_limit}
 use Rattle.legal_history.specs.States.{State, start, decided, ticks_of}
-use Rattle.legal_history.specs.Steps.{after, begun, state_of, with_build}
+use Rattle.legal_history.specs.Steps.{begun, state_of, with_build}
 use Rattle.base_core.specs.Building.{IsBuildKept}
-use Rattle.base_core.specs.Kept.{last_phase, IsKept}
+use Rattle.base_core.specs.Kept.{IsKept}
 use Rattle.base_core.specs.Logs.{Logged, with_step}
 use Rattle.base_core.specs.Replying.{replies_of}
 use Rattle.base_core.proofs.Growing.{state_from-more, legal_more}

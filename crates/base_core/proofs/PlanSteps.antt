@@ -1,5 +1,5 @@
 -- What is planned for a lane's next command, which builds, and how the story goes on where the build begins.
-use Rattle.std.proofs.Common.{◌≡◌, ◌≢◌, ℕ, suc, ◌+◌, ◌-◌, ◌<◌, ◌≤◌, ◌^◌, nat_lt, true, false, Option, Some, None, Result, Ok, Err, List, [], ◌∷◌, ◌++◌, length, reverse, refl, ap, ap₂, sym, subst, ◌∙◌, arith}
+use Rattle.std.proofs.Common.{◌≡◌, ℕ, suc, ◌+◌, ◌≤◌, nat_lt, true, false, Option, Some, None, Result, Ok, Err, List, [], ◌∷◌, length, reverse, refl, ap, ap₂, sym, subst, ◌∙◌, arith}
 use Rattle.std.specs.Prelude.{IfOk, IsSome, option_and_then, option_map}
 use Rattle.std.proofs.lemmas.List.{length-reverse}
 use Rattle.std.proofs.lemmas.Bool.Decides.{nat_tests}
@@ -24,8 +24,7 @@ use Rattle.legal_history.specs.Lines.{decision}
 use Rattle.legal_history.specs.States.{State, scene, done_of, lane_at, command_behind, next_tag, next_command, decided}
 use Rattle.legal_history.specs.Steps.{begun, new_build, state_of, units_begun}
 use Rattle.legal_history.specs.Views.{view_row}
-use Rattle.base_core.specs.Acting.{IsNextTag, RefusalWas}
-use Rattle.base_core.specs.Building.{IsBuildKept, IsNextBuild, PlansNext}
+use Rattle.base_core.specs.Building.{IsBuildKept, PlansNext}
 use Rattle.base_core.specs.Kept.{last_phase, replies_at, IsKept}
 use Rattle.base_core.specs.Logs.{Logged}
 use Rattle.base_core.specs.Nexts.{next_of}

@@ -1,5 +1,5 @@
 -- What a core keeps after the row of an object that a unit of a build made.
-use Rattle.std.proofs.Common.{◌≡◌, ◌≢◌, ℕ, suc, ◌+◌, ◌-◌, ◌<◌, ◌≤◌, nat_lt, ◌⊎◌, inl, inr, true, false, ◌&&◌, Option, Some, None, List, [], ◌∷◌, ◌++◌, length, length-append, reverse, set, refl, ap, ap₂, sym, subst, ◌∙◌, arith}
+use Rattle.std.proofs.Common.{◌≡◌, ◌≢◌, ℕ, suc, ◌-◌, ◌<◌, ◌≤◌, nat_lt, ◌⊎◌, inl, inr, true, Option, Some, List, [], ◌∷◌, ◌++◌, length, length-append, set, refl, ap, sym, subst, ◌∙◌, arith}
 use Rattle.std.proofs.lemmas.List.{append-nil, length-set, reverse-append, length-reverse}
 use Rattle.std.proofs.lemmas.Bool.Decides.{nat_tests}
 use Rattle.std.specs.Ordering.{nat_cmp}
@@ -13,7 +13,7 @@ use Rattle.cc_names.specs.declared.rows.Tag.{Tag}
 use Rattle.cc_names.specs.declared.steps.Told.{Told}
 use Rattle.cc_names.specs.declared.steps.Told.TheVariants as told
 use Rattle.cc_names.specs.declared.units.Unit.{Unit}
-use Rattle.build_core.specs.Slots.{numbered, held_in}
+use Rattle.build_core.specs.Slots.{numbered}
 use Rattle.build_core.specs.SlotLaws.{put_numbered}
 use Rattle.legal_history.specs.Base.{Base, size}
 use Rattle.legal_history.specs.Builds.{Build, Started, Given, build_of, came_to, is_outcome, reserved, unit_at, unit_with_first}
@@ -24,7 +24,7 @@ use Rattle.legal_history.specs.Steps.{after, state_of, noted_in, with_came}
 use Rattle.legal_history.specs.Stories.{Legal}
 use Rattle.view_lookup.specs.Unversioned.{is_unversioned}
 use Rattle.base_core.specs.Building.{IsBuildKept}
-use Rattle.base_core.specs.Kept.{last_phase, IsKept}
+use Rattle.base_core.specs.Kept.{IsKept}
 use Rattle.base_core.specs.Logs.{Logged, with_row}
 use Rattle.base_core.specs.Replying.{replies_of}
 use Rattle.base_core.proofs.Closing.{build_is_by}

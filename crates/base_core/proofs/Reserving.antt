@@ -1,10 +1,8 @@
 -- The builds in the slots of the lanes, after one slot is set: who is found, and what is reserved.
-use Rattle.std.proofs.Common.{◌≡◌, ◌≢◌, ℕ, zero, suc, ◌+◌, ◌-◌, ◌<◌, ◌≤◌, Option, Some, None, List, [], ◌∷◌, length, set, refl, ap, sym, ◌∙◌, arith}
-use Rattle.std.proofs.lemmas.List.{length-set}
+use Rattle.std.proofs.Common.{◌≡◌, ◌≢◌, ℕ, zero, suc, ◌+◌, ◌-◌, ◌<◌, ◌≤◌, Option, Some, None, List, [], ◌∷◌, length, set, refl, sym, ◌∙◌, arith}
 use Rattle.build_core.specs.Slots.{numbered, held_in}
 use Rattle.build_core.specs.SlotLaws.{find_numbered, find_below}
-use Rattle.legal_history.specs.Builds.{Build, Active, build_of, reserved}
-use Rattle.base_core.proofs.Lanes.{one_or_two}
+use Rattle.legal_history.specs.Builds.{Build, build_of, reserved}
 
 -- what a slot holds that was set, and another
 held_set : {A : Type 0} (slots : List (Option A)) (i : ℕ) (a : Option A) → i < length slots → held_in (set slots i a) i ≡ a

@@ -1,7 +1,6 @@
 -- What comes next for a unit of a lane's build, by what is kept of the build.
-use Rattle.std.proofs.Common.{◌≡◌, ℕ, ◌<◌, true, false, Option, Some, None, Ok, Err, length, refl, ap, sym, subst, ◌∙◌}
+use Rattle.std.proofs.Common.{◌≡◌, ℕ, ◌<◌, true, false, Option, Some, None, length, ap, sym, subst}
 use Rattle.cc_names.specs.declared.refusals.ScriptFault.{ScriptFault}
-use Rattle.cc_names.specs.declared.steps.UnitEnd.{UnitEnd}
 use Rattle.cc_names.specs.declared.units.Unit.{Unit}
 use Rattle.build_core.specs.UnitSteps as unit_steps
 use Rattle.build_core.specs.UnitSteps.{IsStep}
@@ -13,10 +12,10 @@ use Rattle.legal_history.specs.Builds.{Build, build_of, came_to, is_outcome, uni
 use Rattle.legal_history.specs.Fresh.{script_text, sees_file, sees_directory}
 use Rattle.legal_history.specs.Freshness.{AgreesSoFar}
 use Rattle.legal_history.specs.Serials.{standing_or_file}
-use Rattle.legal_history.specs.States.{State, build_by, next_tag}
-use Rattle.legal_history.specs.Stories.{IsOpen, Waits}
+use Rattle.legal_history.specs.States.{State, next_tag}
+use Rattle.legal_history.specs.Stories.{Waits}
 use Rattle.legal_history.specs.Turns.{fault_of, standing_of_unit}
-use Rattle.base_core.specs.BuildCalls.{MaySettle, MayStart, HasScript, StepsTo}
+use Rattle.base_core.specs.BuildCalls.{MayStart, StepsTo}
 use Rattle.base_core.specs.Building.{IsBuildKept}
 use Rattle.base_core.proofs.Closing.{build_is_by}
 use Rattle.base_core.proofs.UnitCalls.{early_is, early_settles, waits_for_none}

@@ -1,44 +1,34 @@
 -- What the calls on a unit of a lane's build rest on.
-use Rattle.std.proofs.Common.{◌≡◌, ◌≢◌, ℕ, zero, suc, ◌+◌, ◌-◌, ◌<◌, ◌≤◌, ◌||◌, Bool, true, false, Option, Some, None, Result, Ok, Err, List, [], ◌∷◌, ◌++◌, length, reverse, refl, ap, ap₂, sym, subst, ◌∙◌, arith}
+use Rattle.std.proofs.Common.{◌≡◌, ℕ, ◌<◌, ◌||◌, Bool, true, false, Option, Some, None, List, [], ◌∷◌, refl, ap, sym, subst, ◌∙◌}
 use Rattle.std.specs.Bool.{⊤}
 use Rattle.std.specs.Ordering.{nat_cmp}
 use Rattle.std.specs.FinMap.Entries.{put}
 use Rattle.std.specs.Option.{option_or}
-use Rattle.std.specs.Prelude.{IsSome, bytes_eq, find, option_map, option_and_then}
+use Rattle.std.specs.Prelude.{IsSome, bytes_eq, find, option_map}
 use Rattle.std.proofs.lemmas.Slice.Eq.{bytes_eq-Decides}
 use Rattle.cc_names.specs.declared.commands.Command.{Command}
-use Rattle.cc_names.specs.declared.commands.Command.TheVariants as commands
-use Rattle.cc_names.specs.declared.desks.Next.{Next}
 use Rattle.cc_names.specs.declared.desks.Next.TheVariants as nexts
 use Rattle.cc_names.specs.declared.refusals.ScriptFault.{ScriptFault}
 use Rattle.cc_names.specs.declared.refusals.UnitFault.TheVariants as faults
 use Rattle.cc_names.specs.declared.rows.Tag.{Tag}
-use Rattle.cc_names.specs.declared.steps.Step.{Step}
 use Rattle.cc_names.specs.declared.steps.Step.TheVariants as steps
-use Rattle.cc_names.specs.declared.steps.Told.TheVariants as told
 use Rattle.cc_names.specs.declared.steps.UnitEnd.{UnitEnd}
 use Rattle.cc_names.specs.declared.steps.UnitEnd.TheVariants as ends
 use Rattle.cc_names.specs.declared.units.Unit.{Unit}
 use Rattle.cc_names.specs.declared.units.UnitScript.{UnitScript}
 use Rattle.cc_names.specs.declared.units.UnitScript.TheVariants as scripts
-use Rattle.build_core.specs.UnitSteps as unit_steps
-use Rattle.build_core.specs.UnitSteps.{Awaits, awaited, first_awaited, unless_over, IsNext, IsStep}
-use Rattle.build_core.specs.declared.steps.UnitStep.{UnitStep}
-use Rattle.build_core.specs.declared.steps.UnitStep.TheVariants as next
-use Rattle.legal_history.specs.Base.{Base, first_rows, only_where}
-use Rattle.legal_history.specs.Builds.{Build, Came, Started, Ended, build_of, came_to, is_outcome, number_from, unit_at, unit_with}
+use Rattle.build_core.specs.UnitSteps.{Awaits, awaited, first_awaited, unless_over}
+use Rattle.legal_history.specs.Base.{Base}
+use Rattle.legal_history.specs.Builds.{Build, Ended, came_to, is_outcome, unit_at, unit_with}
 use Rattle.legal_history.specs.Closures.{is_among}
 use Rattle.legal_history.specs.Freshness.{AgreesSoFar}
 use Rattle.legal_history.specs.Serials.{Standing, early_end, first_end, no_directory, no_script, outside, is_missing, is_bad}
-use Rattle.legal_history.specs.States.{State, build_by, next_tag}
-use Rattle.legal_history.specs.Steps.{after, came_of_unit, came_by_starting, noted_in, with_came}
-use Rattle.legal_history.specs.Stories.{IsOpen, Settles, EndsEarly, Waits}
-use Rattle.legal_history.specs.Turns.{came_by_start, early, early_in, fault_of, is_ready, unreadable}
-use Rattle.base_core.specs.BuildCalls.{IsTurn, MaySettle, MayStart, HasScript, Notes, StepsTo}
-use Rattle.base_core.specs.Building.{IsBuildKept}
-use Rattle.base_core.specs.Going.{HasOutcome}
+use Rattle.legal_history.specs.States.{State, next_tag}
+use Rattle.legal_history.specs.Steps.{came_of_unit, came_by_starting, noted_in, with_came}
+use Rattle.legal_history.specs.Stories.{Settles, EndsEarly}
+use Rattle.legal_history.specs.Turns.{came_by_start, early}
+use Rattle.base_core.specs.BuildCalls.{MaySettle, MayStart, Notes}
 use Rattle.base_core.specs.Nexts.{next_of, next_by, waiting}
-use Rattle.base_core.proofs.Closing.{build_is_by}
 use Rattle.base_core.proofs.Idle.{some_same}
 
 -- a lane that is to build waits with a command

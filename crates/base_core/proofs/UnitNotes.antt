@@ -1,27 +1,26 @@
 -- What is kept, and how the story went on, after a step by which a unit comes to something without a row.
-use Rattle.std.proofs.Common.{◌≡◌, ◌≢◌, ℕ, ◌+◌, ◌-◌, ◌<◌, ◌≤◌, ◌⊎◌, inl, inr, Bool, true, false, Option, Some, None, List, [], ◌∷◌, ◌++◌, length, set, refl, ap, sym, subst, ◌∙◌, arith}
+use Rattle.std.proofs.Common.{◌≡◌, ◌≢◌, ℕ, ◌-◌, ◌⊎◌, inl, inr, Bool, true, false, Option, Some, List, [], ◌∷◌, ◌++◌, set, refl, ap, sym, subst, ◌∙◌, arith}
 use Rattle.std.proofs.lemmas.List.{append-nil}
 use Rattle.std.specs.Ordering.{nat_cmp}
 use Rattle.std.specs.FinMap.Entries.{put}
 use Rattle.cc_names.specs.declared.replies.Reply.{Reply}
 use Rattle.cc_names.specs.declared.steps.Step.{Step}
-use Rattle.cc_names.specs.declared.steps.Step.TheVariants as steps
 use Rattle.cc_names.specs.declared.steps.Told.{Told}
 use Rattle.cc_names.specs.declared.steps.Told.TheVariants as told
 use Rattle.build_core.specs.Slots.{held_in}
 use Rattle.legal_history.specs.Builds.{Build, Came, build_of, came_to, is_outcome}
 use Rattle.legal_history.specs.States.{State, start}
-use Rattle.legal_history.specs.Steps.{after, state_of, with_came}
+use Rattle.legal_history.specs.Steps.{state_of, with_came}
 use Rattle.base_core.specs.BuildCalls.{Notes, Noted}
-use Rattle.base_core.specs.Going.{GoesOn, StillBuilds}
+use Rattle.base_core.specs.Going.{StillBuilds}
 use Rattle.base_core.specs.Kept.{IsKept}
 use Rattle.base_core.specs.Logs.{Logged, with_step}
 use Rattle.base_core.specs.Replying.{replies_after, replies_by, replies_of}
 use Rattle.base_core.specs.Telling.{stands_alone}
 use Rattle.base_core.proofs.Growing.{state_from-more}
-use Rattle.base_core.proofs.Idle.{not_both, some_same}
+use Rattle.base_core.proofs.Idle.{some_same}
 use Rattle.base_core.proofs.Lanes.{one_or_two}
-use Rattle.base_core.proofs.LaneSlots.{IsSlot, lane_slot, found_put, found_else}
+use Rattle.base_core.proofs.LaneSlots.{lane_slot, found_put, found_else}
 use Rattle.base_core.proofs.Noting.{kept_note}
 
 -- the replies after a step that names no phase

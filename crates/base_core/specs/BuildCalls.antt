@@ -1,5 +1,5 @@
 -- What the calls of a core on a lane's build ask and leave.
-use Rattle.std.specs.Prelude.{◌≡◌, ◌≢◌, ℕ, ◌<◌, ◌≤◌, ◌^◌, Bool, true, false, Option, Some, None, Result, Ok, Err, List, [], length}
+use Rattle.std.specs.Prelude.{◌≡◌, ℕ, ◌<◌, ◌^◌, true, false, Option, Some, None, Ok, List, [], length}
 use Rattle.std.specs.Ordering.{nat_cmp}
 use Rattle.std.specs.FinMap.Entries.{put}
 use Rattle.cc_names.specs.Formed.{Plain}
@@ -16,8 +16,7 @@ use Rattle.build_core.specs.declared.steps.UnitStep.TheVariants as next
 use Rattle.build_script.specs.Lines.{script_of}
 use Rattle.build_script.specs.Run.{Ran}
 use Rattle.build_script.specs.declared.lines.Line.{Line}
-use Rattle.legal_history.specs.Base.{size}
-use Rattle.legal_history.specs.Builds.{Build, Came, Started, Given, build_of, came_to, is_outcome, unit_at, unit_with_first}
+use Rattle.legal_history.specs.Builds.{Build, Came, Started, build_of, came_to, is_outcome, unit_at}
 use Rattle.legal_history.specs.Choices.{here, publish_of}
 use Rattle.legal_history.specs.Fresh.{script_text}
 use Rattle.legal_history.specs.States.{State, next_tag}

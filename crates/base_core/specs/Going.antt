@@ -1,5 +1,5 @@
 -- How a story goes on while a lane builds.
-use Rattle.std.specs.Prelude.{◌≡◌, ℕ, ◌+◌, Bool, true, Some, None, List, ◌++◌, ◌≢◌}
+use Rattle.std.specs.Prelude.{◌≡◌, ℕ, ◌+◌, true, Some, List, ◌++◌, ◌≢◌}
 use Rattle.cc_names.specs.declared.steps.Told.{Told}
 use Rattle.legal_history.specs.Builds.{Build, build_of, came_to, is_outcome}
 use Rattle.legal_history.specs.States.{State, done_of}

@@ -1,12 +1,14 @@
-// The value behind the lock: a base with its story, to which each call adds at most one lawful step.
+// The value behind the lock: a base with its story, which grows by lawful steps alone.
 //
-// What it is for: the top call begins phases, lets each lane act on its next command, and reads the replies. A `Core`
-// keeps the rows, the story and the replies, and takes all memory for a step before it changes anything.
+// What it is for: the top call begins phases, lets each lane carry out its next command, and reads the replies. A `Core`
+// keeps the rows, the story, the replies and the active builds, and takes all memory for a step before it changes anything.
 //
-// What it promises: the story of a `Core` is legal at every moment, each call adds the one step that it names, and
-// `replies` gives the replies of the story.
+// What it promises: the story of a `Core` is legal at every moment. `act` adds the one step that is decided for a lane's next
+// command; `build` finishes a lane's clearmake by the steps of its build. After want of memory the story is what it was, or
+// has gone on by steps of that build alone. `replies` gives the replies of the story.
 //
-// What it stands on: `checkout_desk` for the decisions, and the definitions of `legal_history`.
+// What it stands on: `checkout_desk` for the decisions on rows, `build_core` for builds, `fresh_builds` for the laws of
+// builds in legal stories, and the definitions of `legal_history`.
 #![tactic(auto)]
 
 mod commands;

@@ -1,5 +1,5 @@
 -- The units that a makefile gives are formed: so far there is one at most, with one target below the root.
-use Rattle.std.proofs.Common.{◌≡◌, refl, ap, sym, subst, ◌∙◌, ℕ, ◌+◌, ◌<◌, ◌≤◌, ◌^◌, Bool, true, false, cond, ◌||◌, Option, Some, None, Result, Ok, Err, List, [], ◌∷◌, length, IfSome, arith}
+use Rattle.std.proofs.Common.{◌≡◌, refl, ℕ, ◌+◌, Bool, true, false, cond, ◌||◌, Option, Some, None, Result, Ok, Err, List, [], ◌∷◌, length, IfSome, arith}
 use Rattle.std.proofs.lemmas.Bool.Decides.{nat_tests}
 use Rattle.std.specs.Bool.{⊤}
 use Rattle.std.specs.Prelude.{bytes_eq, find, map, flat_map, is_some, nat_lt, IfOk, if◌then◌else◌}
@@ -7,16 +7,15 @@ use Rattle.std.specs.List.{list_any, before_first, after_first, AllByRecursion, 
 use Rattle.std.specs.Result.{result_ok}
 use Rattle.cc_names.specs.Formed.{AreTargets, IsBelowRoot}
 use Rattle.cc_names.specs.Names.{unless_fault}
-use Rattle.cc_names.specs.Paths.{path_fault, path_of, is_root}
+use Rattle.cc_names.specs.Paths.{path_fault, is_root}
 use Rattle.cc_names.specs.declared.commands.Macro.{Macro}
 use Rattle.cc_names.specs.declared.names.NameFault.{NameFault}
-use Rattle.cc_names.specs.declared.refusals.Refusal.{Refusal}
 use Rattle.cc_names.specs.declared.units.Unit.{Unit}
 use Rattle.make_text.specs.Lines.{is_script_line, is_blank_line, lines_of, words}
 use Rattle.make_text.specs.Makefiles.{is_colon, may_be_target, each_once, rule_from, rule_of, may_be_rule, is_beyond, has_script, below_rule, with_script, rules_from, contents_of, unless_root, path_in, path_before, paths_of}
-use Rattle.make_text.specs.Units.{Files, unit_of, wanted, goals_of, missing_goal, unless_source, unless_missing, graph_of, made_by, unless_refused, units_of, units_at, units, main_file, expanded, expansion, script_of_unit}
+use Rattle.make_text.specs.Units.{Files, unit_of, wanted, goals_of, missing_goal, unless_source, unless_missing, made_by, unless_refused, units_of, units_at, units, main_file, expanded, expansion, script_of_unit}
 use Rattle.make_text.specs.declared.rules.MakeRule.{MakeRule}
-use Rattle.build_core.specs.BuildForms.{IsShort, IsUnitFormed, script_limit}
+use Rattle.build_core.specs.BuildForms.{IsShort, script_limit}
 use Rattle.build_core.specs.Plans.{AreUnits}
 
 -- a word that is read as a path below the root is one

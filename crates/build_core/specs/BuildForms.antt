@@ -1,6 +1,6 @@
 -- The form of a build: its view is a name, and each of its units is one that may be run and published.
 use Rattle.std.specs.Bool.{⊤}
-use Rattle.std.specs.Prelude.{ℕ, ◌<◌, ◌≤◌, ◌^◌, List, length}
+use Rattle.std.specs.Prelude.{ℕ, ◌<◌, ◌≤◌, ◌^◌, length}
 use Rattle.std.specs.List.{AllByRecursion}
 use Rattle.cc_names.specs.Formed.{AreTargets}
 use Rattle.cc_names.specs.Names.{IsName}

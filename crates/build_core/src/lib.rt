@@ -1,17 +1,18 @@
 // Builds: from a clearmake command to the units that it runs, and what comes next for each of them.
 //
-// What it is for: `graph` and `plan` say which units a build has, over the files of its view, or why it is refused. An
-// `ActiveBuild` keeps what its units have come to; `step` says what comes next for a unit, and `fetch` what its script
-// finds at a path. `run_unit` runs the script, and `publish_row` makes the row of what the run gave.
+// What it is for: `plan_build` decides a clearmake: `graph` and `plan` say which units its build has, over the files of its
+// view, or why it is refused. An `ActiveBuild` keeps what its units have come to; `step` says what comes next for a unit,
+// and `fetch` what its script finds at a path. `run_unit` runs the script, `publish_row` makes the row of what the run gave,
+// and `reply_of` says what a build that has ended is replied.
 //
-// What it promises: the units, or the refusal in their place, are those of the definition of the units of a build, for
-// any files, makefile, macros and goals. An active build is the model's, each step is one that the model lets the unit
-// take, and what a script finds is what the model lets the unit see. A run and its row are those that the model has for
-// the unit.
+// What it promises: a clearmake is decided as the model decides it, and what it begins is formed. The units, or the refusal
+// in their place, are those of the definition of the units of a build, for any files, makefile, macros and goals. An active
+// build is the model's, each step is one that the model lets the unit take, what a script finds is what the model lets the
+// unit see, and a run and its row are those that the model has for the unit. A reply is the model's.
 //
-// What it stands on: `make_text` for makefiles and the definition of units, `make_graph` for the units of a makefile
-// that was read, `view_lookup` for what a view sees, `build_script` for scripts, `legal_history` for the model of
-// builds, `cc_names` for paths, units and refusals.
+// What it stands on: `make_text` for makefiles and the definition of units, `make_graph` for the units of a makefile that
+// was read, `view_lookup` for what a view sees, `build_script` for scripts, `reply_text` for digests, `legal_history` and
+// `fresh_builds` for the model of builds and of their replies, `cc_names` for paths, units and refusals.
 #![tactic(auto)]
 
 mod active;

@@ -1,2 +1,4 @@
+pub mod NeedLemmas
 pub mod Parts
+pub mod StandingLaws
 mod Worked

@@ -3,6 +3,7 @@
 ghost use Rattle.std.specs.Prelude.{◌≡◌, ◌<◌, ◌^◌, ◌||◌, [], ◌∷◌, ◌≤◌, ◌++◌, not, find, length, take, reverse, IfOk, OnOk};
 ghost use Rattle.cc_names.specs.Answers.{Gives};
 ghost use Rattle.make_text.specs.Units.{graph_of, missing_goal, unless_missing, wanted};
+ghost use Rattle.make_graph.specs.Standing.{ClosureStands};
 ghost use Rattle.make_graph.specs.Waits.{makes_any, needed, closure_of, are_done, is_ready};
 
 use crate::goals::{Exists, default_goal, first_source, missing, wanted};
@@ -108,6 +109,11 @@ fn are_done(paths: &[Path], units: &[Unit], done: &[bool]) -> bool
     }
     true
 }
+
+/// The closure of a unit has the units that it stands on, and no others.
+pub fn closure_stands()
+    ensures { ClosureStands }
+{}
 
 impl Graph {
     /// The units of a build of these goals, or the fault in their place: the first goal that is neither a unit nor a file

@@ -4,7 +4,8 @@
 // `ready` say what a unit stands on.
 //
 // What it promises: the units, or the fault in their place, are those of the definition of the units of a build;
-// `closure` gives the units that a unit stands on, and `ready` says whether those of its prerequisites are done.
+// `closure` gives the units that a unit stands on, by law all of them and no others, and `ready` says whether those of
+// its prerequisites are done.
 //
 // What it stands on: `make_text` for makefiles and the definition of units, `cc_names` for paths, units and faults.
 #![tactic(auto)]

@@ -1,5 +1,5 @@
 -- the lane's slot, or no slot
-use Rattle.std.proofs.Common.{sym, ap, ◌∙◌, arith, subst, None, ◌≡◌}
+use Rattle.std.proofs.Common.{sym, ap, ◌∙◌, arith}
 use Rattle.build_core.specs.Slots.{numbered}
 use Rattle.legal_history.specs.Builds.{build_of}
 use Rattle.base_core.proofs.SlotLists.{build_there, build_nowhere, build_zero}

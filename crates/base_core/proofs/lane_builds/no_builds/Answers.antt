@@ -1,5 +1,5 @@
 -- one more slot that holds nothing has no number
-use Rattle.std.proofs.Common.{◌≡◌, ◌+◌, ◌∷◌, [], ◌++◌, None, length, length-append, ap, ◌∙◌, arith}
+use Rattle.std.proofs.Common.{◌∷◌, [], None, length, length-append, ap, ◌∙◌, arith}
 use Rattle.build_core.specs.Slots.{numbered}
 use Rattle.base_core.proofs.SlotLists.{numbered-none}
 use Rattle.base_core.proofs.lane_builds.no_builds.Goals as goal

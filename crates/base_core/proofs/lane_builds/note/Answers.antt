@@ -1,5 +1,5 @@
 -- the build in the lane's slot
-use Rattle.std.proofs.Common.{◌≡◌, ◌-◌, Some, None, sym, ap, ◌∙◌, arith, set}
+use Rattle.std.proofs.Common.{◌≡◌, ◌-◌, Some, sym, ap, ◌∙◌, arith, set}
 use Rattle.std.specs.Prelude.{IsSome}
 use Rattle.build_core.specs.Slots.{held_in}
 use Rattle.build_core.specs.Comes.{came_of}

@@ -1,5 +1,5 @@
 -- the row of what a unit's run gave is committed
-use Rattle.std.proofs.Common.{◌≡◌, ◌+◌, ◌<◌, Some, length, ap, sym, subst, ◌∙◌, arith}
+use Rattle.std.proofs.Common.{◌+◌, ◌<◌, length, ap, sym, subst, ◌∙◌, arith}
 use Rattle.std.proofs.lemmas.Option.{slice_get_within}
 use Rattle.legal_history.specs.Builds.{build_of}
 use Rattle.legal_history.specs.Steps.{state_of}

@@ -6,7 +6,7 @@ use Rattle.legal_history.specs.Builds.{build_of}
 use Rattle.legal_history.specs.States.{next_tag}
 use Rattle.legal_history.specs.Steps.{state_of}
 use Rattle.base_core.specs.Going.{Finishes}
-use Rattle.base_core.specs.Kept.{replies_at, with_reply, IsKept}
+use Rattle.base_core.specs.Kept.{replies_at, IsKept}
 use Rattle.base_core.specs.Logs.{with_step}
 use Rattle.base_core.proofs.EndSteps.{kept_ended, ended_finishes}
 use Rattle.base_core.proofs.Finishing.{done_well}

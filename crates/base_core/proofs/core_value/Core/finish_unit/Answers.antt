@@ -1,5 +1,5 @@
 -- a unit whose script was run is finished
-use Rattle.std.proofs.Common.{sym, subst, ap, ◌∙◌}
+use Rattle.std.proofs.Common.{sym, subst, ap}
 use Rattle.build_script.specs.Ended.{ran_of, outputs_in}
 use Rattle.legal_history.specs.Steps.{state_of}
 use Rattle.base_core.specs.BuildCalls.{Settled}

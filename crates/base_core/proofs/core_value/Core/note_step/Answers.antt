@@ -1,5 +1,5 @@
 -- a unit comes to something without a row
-use Rattle.std.proofs.Common.{◌≡◌, ◌<◌, Some, length, ap, sym, subst, ◌∙◌}
+use Rattle.std.proofs.Common.{◌<◌, length, ap, sym, subst, ◌∙◌}
 use Rattle.build_core.specs.Comes.{came_of}
 use Rattle.legal_history.specs.Builds.{build_of}
 use Rattle.legal_history.specs.Steps.{state_of}

@@ -1,5 +1,5 @@
 -- what is planned is what is decided of the lane's next command
-use Rattle.std.proofs.Common.{◌≡◌, ◌+◌, ◌∙◌, suc, length, reverse, ap, ap₂, sym, subst, arith, Some}
+use Rattle.std.proofs.Common.{◌≡◌, ◌+◌, ◌∙◌, length, reverse, ap, ap₂, sym, subst, arith, Some}
 use Rattle.std.specs.Prelude.{option_and_then, IfOk, IsSome}
 use Rattle.build_core.specs.Plans.{view_of, Meets}
 use Rattle.build_core.specs.Slots.{numbered}
