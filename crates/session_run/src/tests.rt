@@ -7,6 +7,7 @@ use cc_outside::{ListClock, MemorySink, MemorySource};
 use std::alloc::Global;
 
 mod builds;
+mod names;
 mod sessions;
 
 // What a call answers, writes and keeps.

@@ -153,3 +153,22 @@ fn a_target_is_too_big(rt: HostRuntime) -> Result<(), Fail> {
         Status::SomeFailed,
     )
 }
+
+#[test]
+fn a_script_is_too_long(rt: HostRuntime) -> Result<(), Fail> {
+    let mut saves = String::new(rt.alloc());
+    saves.push_str("save v Makefile\n|out:\n")?;
+    for _ in 0..9_363 {
+        saves.push_str("|\techo a\n")?;
+    }
+    let reply = "3 clearmake failed\n  out failed U3 ScriptTooLong out\n";
+    assert_build(
+        &rt,
+        rt.alloc(),
+        saves.as_str(),
+        "2 save ok\n",
+        "clearmake v out",
+        reply,
+        Status::SomeFailed,
+    )
+}

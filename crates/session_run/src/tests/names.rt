@@ -1,0 +1,66 @@
+// Which words are names and paths, and where a faulty one is wrong.
+
+use cc_names::memory::{NoMemory, Or};
+use cc_names::names::{Name, NameFault};
+use cc_names::paths::Path;
+use std::test::Fail;
+
+// The fault of what was read, if it has one.
+fn fault_of<X: Drop>(read: Result<X, Or<NameFault>>) -> Result<Option<NameFault>, NoMemory> {
+    match read {
+        Ok(_) => Ok(None),
+        Err(Or::Is(fault)) => Ok(Some(fault)),
+        Err(Or::NoMemory) => Err(NoMemory),
+    }
+}
+
+#[test]
+fn names_are_read(rt: HostRuntime) -> Result<(), Fail> {
+    let longest = [b'a'; 255];
+    let too_long = [b'a'; 256];
+    let cases: [(&[u8], Option<NameFault>); 10] = [
+        (b"Makefile.in_2+x-y", None),
+        (b"..a", None),
+        (&longest, None),
+        (b"", Some(NameFault::Empty)),
+        (b"-a", Some(NameFault::BadByte(0))),
+        (b"..", Some(NameFault::BadByte(0))),
+        (b"a b", Some(NameFault::BadByte(1))),
+        (b"a/b", Some(NameFault::BadByte(1))),
+        (b"ab\xc3\xa9", Some(NameFault::BadByte(2))),
+        (&too_long, Some(NameFault::TooLong(256))),
+    ];
+    for (bytes, want) in cases {
+        assert_eq!(rt; fault_of(Name::read(rt.alloc(), bytes))?, want);
+    }
+    Ok(())
+}
+
+#[test]
+fn paths_are_read(rt: HostRuntime) -> Result<(), Fail> {
+    let mut longest = [b'a'; 1024];
+    for place in [200, 400, 600, 800, 1000] {
+        longest[place] = b'/';
+    }
+    let too_long = [b'a'; 1025];
+    let long_name = [b'a'; 256];
+    let cases: [(&[u8], Option<NameFault>); 13] = [
+        (b".", None),
+        (b"src/lib/a.c", None),
+        (&longest, None),
+        (b"", Some(NameFault::Empty)),
+        (b"/a", Some(NameFault::BadByte(0))),
+        (b"a//b", Some(NameFault::BadByte(2))),
+        (b"a/", Some(NameFault::BadByte(2))),
+        (b"a/-b", Some(NameFault::BadByte(2))),
+        (b"a/../b", Some(NameFault::BadByte(2))),
+        (b"a/./b", Some(NameFault::BadByte(2))),
+        (b"a/b c/-", Some(NameFault::BadByte(3))),
+        (&long_name, Some(NameFault::TooLong(256))),
+        (&too_long, Some(NameFault::TooLong(1025))),
+    ];
+    for (bytes, want) in cases {
+        assert_eq!(rt; fault_of(Path::read(rt.alloc(), bytes))?, want);
+    }
+    Ok(())
+}
