@@ -17,6 +17,7 @@ use Rattle.base_core.specs.Replying.{no_replies}
 use Rattle.base_core.proofs.Growing.{state_from-more, legal_more, replies_from-more}
 use Rattle.base_core.proofs.Idle.{nobody_builds}
 use Rattle.base_core.proofs.Phases.{last_phase-more}
+use Rattle.base_core.proofs.MemorySteps.{memory_more}
 
 -- lanes that have no replies yet
 none_at : (fresh : List (List Reply)) (lane : ℕ) → 1 ≤ lane → lane ≤ length fresh → All (λ one. one ≡ []) fresh → replies_at fresh lane ≡ []
@@ -56,4 +57,5 @@ kept_plan log lanes fresh builds none now moment phase h finished formed carried
       room = h.room;
       few = omega (arith, few, length-append log.phases (phase ∷ []));
       in_time = in_time;
+      memory = memory_more story x h.memory refl;
     }

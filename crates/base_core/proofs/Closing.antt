@@ -27,6 +27,7 @@ use Rattle.base_core.proofs.Lanes.{one_or_two, done_other}
 use Rattle.base_core.proofs.NextCommands.{same_as_itself}
 use Rattle.base_core.proofs.Reserving.{found_set, found_other, reserved_set}
 use Rattle.base_core.proofs.Staying.{build_stays}
+use Rattle.base_core.proofs.MemorySteps.{memory_more}
 
 -- a lane's build is that of its command
 pub build_is_by : (s : State) (lane : ℕ) (build : Build) → build_of s.active lane ≡ Some build → build.tag ≡ next_tag s lane → build_by s (next_tag s lane) ≡ Some build
@@ -58,6 +59,7 @@ kept_end log lanes builds now lane build h low high is over = record {
   room = h.room;
   few = h.few;
   in_time = h.in_time;
+  memory = memory_more story x h.memory refl;
 }
   where
     story : List Told

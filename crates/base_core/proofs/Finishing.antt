@@ -30,6 +30,7 @@ use Rattle.base_core.proofs.Staying.{first_stay, build_stays}
 use Rattle.base_core.proofs.Growing.{state_from-more, legal_more, replies_from-more}
 use Rattle.base_core.proofs.Lanes.{done_same, done_other, in_same, in_other, one_or_two, replies_same, replies_other}
 use Rattle.base_core.proofs.PlainRows.{good_reply, finishes, builds_nothing, makes_row, plain_unversioned, newest_too, one_more_rises}
+use Rattle.base_core.proofs.MemorySteps.{memory_more}
 
 -- the replies after a step with which one lane finishes a command
 pub finished : (story : List Told) (x : Told) (lanes : List (List Reply)) (phase : Phase) (tag : Tag) (reply : Reply) → AreReplies story lanes phase → 1 ≤ tag.lane → tag.lane ≤ length lanes → ((l : ℕ) → replies_after (state_of story) x (replies_of story) l ≡ replies_of story l ++ in_lane l tag (Some reply)) → (after (state_of story) x).done ≡ with_done (state_of story).done tag.lane → AreReplies (story ++ x ∷ []) (with_reply lanes tag.lane reply) phase
@@ -107,6 +108,7 @@ kept_commit log lanes builds now row h plain in_time made low high room =
       room = omega (arith, room, length-append log.rows (row ∷ []));
       few = h.few;
       in_time = h.in_time;
+      memory = memory_more story x h.memory refl;
     }
 
 -- what is kept after a refusal
@@ -136,6 +138,7 @@ kept_refusal log lanes builds now tag refusal h made low high =
       room = h.room;
       few = h.few;
       in_time = h.in_time;
+      memory = memory_more story x h.memory refl;
     }
 
 -- what a call that answered no error has done

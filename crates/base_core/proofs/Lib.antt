@@ -9,6 +9,7 @@ pub mod Idle
 pub mod LaneSlots
 pub mod Lanes
 pub mod LogSteps
+pub mod MemorySteps
 pub mod NextCommands
 pub mod Noting
 pub mod Opening

@@ -1,5 +1,5 @@
 -- What a core keeps after a step of a build that names no row.
-use Rattle.std.proofs.Common.{◌≡◌, ◌≢◌, ℕ, suc, ◌-◌, ◌≤◌, ◌⊎◌, inl, inr, Option, Some, List, [], ◌∷◌, ◌++◌, length, set, refl, ap, sym, subst, ◌∙◌, arith}
+use Rattle.std.proofs.Common.{false, ◌≡◌, ◌≢◌, ℕ, suc, ◌-◌, ◌≤◌, ◌⊎◌, inl, inr, Option, Some, List, [], ◌∷◌, ◌++◌, length, set, refl, ap, sym, subst, ◌∙◌, arith}
 use Rattle.std.proofs.lemmas.List.{length-set}
 use Rattle.std.specs.Ordering.{nat_cmp}
 use Rattle.std.specs.Prelude.{is_some}
@@ -15,6 +15,7 @@ use Rattle.legal_history.specs.States.{State, start, done_of, ticks_of}
 use Rattle.legal_history.specs.Steps.{after, state_of, with_came}
 use Rattle.legal_history.specs.Stories.{Lawful}
 use Rattle.base_core.specs.Building.{IsBuildKept}
+use Rattle.base_core.specs.InMemory.{is_fault}
 use Rattle.base_core.specs.Kept.{last_phase, AreReplies, IsKept}
 use Rattle.base_core.specs.Logs.{Logged, with_step}
 use Rattle.base_core.specs.Replying.{replies_after, replies_of, no_replies}
@@ -23,6 +24,7 @@ use Rattle.base_core.proofs.Idle.{build_in_slot, some_same}
 use Rattle.base_core.proofs.Lanes.{one_or_two}
 use Rattle.base_core.proofs.Reserving.{found_set, found_other, reserved_set, rows_for}
 use Rattle.base_core.proofs.Staying.{build_stays}
+use Rattle.base_core.proofs.MemorySteps.{memory_more}
 
 -- a build with what one of its units has come to is kept as it was
 pub noted_kept : (s : State) (lane : ℕ) (build : Build) (n : ℕ) (came : Came) → IsBuildKept s lane build → IsBuildKept s lane (with_came build (Some n) came)
@@ -54,8 +56,8 @@ same_replies story x lanes log h said done =
     }
 
 -- what is kept after a step by which a unit of a lane's build comes to something, without a row
-pub kept_note : (log : Logged) (lanes : List (List Reply)) (builds : List (Option Build)) (now : ℕ) (step : Step) (lane n : ℕ) (build : Build) (came : Came) → IsKept log lanes builds now → 1 ≤ lane → lane ≤ length lanes → build_of (state_of log.story).active lane ≡ Some build → Lawful (state_of log.story) (told.Other step) → after (state_of log.story) (told.Other step) ≡ record (state_of log.story) { active = put nat_cmp lane (with_came build (Some n) came) (state_of log.story).active } → ((l : ℕ) → replies_after (state_of log.story) (told.Other step) (replies_of log.story) l ≡ replies_of log.story l) → IsKept (with_step log step) lanes (set builds (lane - 1) (Some (with_came build (Some n) came))) now
-kept_note log lanes builds now step lane n build came h low high is lawful leaves said = record {
+pub kept_note : (log : Logged) (lanes : List (List Reply)) (builds : List (Option Build)) (now : ℕ) (step : Step) (lane n : ℕ) (build : Build) (came : Came) → IsKept log lanes builds now → 1 ≤ lane → lane ≤ length lanes → build_of (state_of log.story).active lane ≡ Some build → Lawful (state_of log.story) (told.Other step) → after (state_of log.story) (told.Other step) ≡ record (state_of log.story) { active = put nat_cmp lane (with_came build (Some n) came) (state_of log.story).active } → ((l : ℕ) → replies_after (state_of log.story) (told.Other step) (replies_of log.story) l ≡ replies_of log.story l) → is_fault (told.Other step) ≡ false → IsKept (with_step log step) lanes (set builds (lane - 1) (Some (with_came build (Some n) came))) now
+kept_note log lanes builds now step lane n build came h low high is lawful leaves said sound = record {
   legal = legal_more start story x h.legal lawful;
   agrees = record {
     opened = ap (λ t. is_some t.opened) state ∙ h.agrees.opened;
@@ -76,6 +78,7 @@ kept_note log lanes builds now step lane n build came h low high is lawful leave
   room = h.room;
   few = h.few;
   in_time = h.in_time;
+  memory = memory_more story x h.memory sound;
 }
   where
     story : List Told

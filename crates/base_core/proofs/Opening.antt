@@ -27,6 +27,7 @@ use Rattle.base_core.proofs.Lanes.{one_or_two}
 use Rattle.base_core.proofs.Noting.{same_replies}
 use Rattle.base_core.proofs.Reserving.{found_set, found_other, reserved_set, rows_for}
 use Rattle.base_core.proofs.Staying.{build_stays}
+use Rattle.base_core.proofs.MemorySteps.{memory_more}
 
 -- what is kept after the begin of a build that was decided
 pub kept_begin : (log : Logged) (lanes : List (List Reply)) (builds : List (Option Build)) (now : ℕ) (tag : Tag) (build : Build) → IsKept log lanes builds now → 1 ≤ tag.lane → tag.lane ≤ length lanes → decided (state_of log.story) tag ≡ Some (Ok (Begins build.units)) → begun (state_of log.story) tag ≡ Some build → IsBuildKept (state_of log.story) tag.lane build → reserved (state_of log.story).active + length build.units ≤ row_limit → IsKept (with_step log (steps.Begin tag (size (state_of log.story).base) (length build.units))) lanes (set builds (tag.lane - 1) (Some build)) now
@@ -51,6 +52,7 @@ kept_begin log lanes builds now tag build h low high made begins kept room = rec
   room = h.room;
   few = h.few;
   in_time = h.in_time;
+  memory = memory_more story x h.memory refl;
 }
   where
     lane : ℕ

@@ -35,6 +35,7 @@ use Rattle.base_core.proofs.Noting.{noted_kept, same_replies, slot_of}
 use Rattle.base_core.proofs.PlainRows.{one_more_rises}
 use Rattle.base_core.proofs.Reserving.{found_set, found_other, reserved_set, rows_for}
 use Rattle.base_core.proofs.Staying.{first_stay, build_stays}
+use Rattle.base_core.proofs.MemorySteps.{memory_more}
 
 -- the row of an object that a build's unit made
 abbrev pub published : Tag → ℕ → List ℕ → List (List ℕ) → List ℕ → List ReadOf → List (List ℕ) → Plain
@@ -69,6 +70,7 @@ kept_publish log lanes builds now lane n build unit view targets script entries 
   room = omega (arith, within_limit, length-append log.rows (row ∷ []), ap length h.agrees.base, length-reverse log.rows);
   few = h.few;
   in_time = h.in_time;
+  memory = memory_more story x h.memory refl;
 }
   where
     story : List Told

@@ -50,6 +50,7 @@ settle_notes s lane n tag end outcome may tagged same =
       within = may.within;
       waits = may.waits;
       alone = refl;
+      sound = refl;
       lawful = may.settles;
       leaves = ap (λ o. record s { active = noted_in s.active lane o (λ b. Some n) (Ended end) }) may.active;
       silent = λ other. refl;
@@ -65,6 +66,7 @@ start_notes s lane n tag fault may tagged =
       within = may.within;
       waits = may.open_unit.waits.waits;
       alone = refl;
+      sound = refl;
       lawful = record { build = may.build; unit = may.unit; open_unit = may.open_unit; nothing = refl };
       leaves = ap (λ o. record s { active = noted_in s.active lane o (λ b. Some n) (came_by_starting o n) }) may.active
           ∙ ap (λ c. record s { active = put nat_cmp lane (with_came may.build (Some n) c) s.active }) came;

@@ -38,7 +38,7 @@ kept_noted log lanes builds more now story lane n step came same h notes set_so 
     let slot = lane_slot log lanes builds now lane here.build h here.active in
     subst (λ bs. IsKept (with_step log step) lanes bs now) (sym (set_so here.build slot.held))
     (kept_note log lanes builds now step lane n here.build came h slot.from (omega (arith, slot.upto, h.count)) here.active here.lawful here.leaves
-    (λ l. replies_alone (state_of log.story) step (replies_of log.story) l here.alone ∙ ap (λ more. replies_of log.story l ++ more) (here.silent l) ∙ append-nil (replies_of log.story l)))
+    (λ l. replies_alone (state_of log.story) step (replies_of log.story) l here.alone ∙ ap (λ more. replies_of log.story l ++ more) (here.silent l) ∙ append-nil (replies_of log.story l)) here.sound)
 
 -- a unit's outcomes after it was noted
 pub outcome_noted : (build : Build) (n m : ℕ) (came : Came) → is_outcome (came_to build n) ≡ false → is_outcome (came_to build m) ≡ true → is_outcome (came_to (with_came build (Some n) came) m) ≡ true

@@ -25,6 +25,7 @@ use Rattle.legal_history.specs.Stories.{IsOpen, LawfulStep, Settles}
 use Rattle.legal_history.specs.Turns.{is_complete, unreadable}
 use Rattle.base_core.specs.Building.{IsBuildKept}
 use Rattle.base_core.specs.Going.{GoesOn, HasOutcome, Finishes}
+use Rattle.base_core.specs.InMemory.{is_fault}
 use Rattle.base_core.specs.Replying.{replies_by}
 use Rattle.base_core.specs.Telling.{stands_alone}
 use Rattle.base_core.specs.declared.tried.Tried.{Tried}
@@ -56,6 +57,7 @@ pub record Notes (s : State) (lane n : ℕ) (step : Step) (came : Came) : Type 0
   pub within : n < length build.units
   pub waits : is_outcome (came_to build n) ≡ false
   pub alone : stands_alone step ≡ true
+  pub sound : is_fault (told.Other step) ≡ false
   pub lawful : LawfulStep s step
   pub leaves : after s (told.Other step) ≡ record s { active = put nat_cmp lane (with_came build (Some n) came) s.active }
   pub silent : (other : ℕ) → replies_by s other (told.Other step) ≡ []

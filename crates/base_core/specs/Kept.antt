@@ -14,6 +14,7 @@ use Rattle.legal_history.specs.Stories.{Legal, last_moment}
 use Rattle.base_core.specs.Carried.{AreCarriedOut}
 use Rattle.view_lookup.specs.Unversioned.{is_unversioned}
 use Rattle.base_core.specs.Building.{IsBuildKept}
+use Rattle.base_core.specs.InMemory.{IsInMemory}
 use Rattle.base_core.specs.Logs.{Logged}
 use Rattle.base_core.specs.Replying.{replies_of}
 
@@ -66,3 +67,4 @@ pub record IsKept (log : Logged) (lanes : List (List Reply)) (builds : List (Opt
   pub room : length log.rows < row_limit
   pub few : length log.phases < 2 ^ 32
   pub in_time : now ≤ last_moment
+  pub memory : IsInMemory log.story

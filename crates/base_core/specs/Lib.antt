@@ -3,6 +3,7 @@ pub mod BuildCalls
 pub mod Building
 pub mod Carried
 pub mod Going
+pub mod InMemory
 pub mod Kept
 pub mod Logs
 pub mod Nexts

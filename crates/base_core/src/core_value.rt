@@ -73,6 +73,7 @@ impl Core {
     ghost use Rattle.legal_history.specs.Steps.{state_of};
     ghost use Rattle.legal_history.specs.Stories.{last_moment, Legal};
     ghost use Rattle.base_core.specs.Acting.{Acts, DecidesNext, IsNextRow, IsNextRefusal};
+    ghost use Rattle.base_core.specs.InMemory.{IsInMemory};
     ghost use Rattle.base_core.specs.Kept.{command_limit};
     ghost use Rattle.base_core.specs.Nexts.{next_of, waiting};
     ghost use Rattle.base_core.specs.Replying.{replies_of};
@@ -518,6 +519,7 @@ impl Core {
     pub fn into_history(self) -> History
         ensures history { result ≡ self.story }
         ensures legal { Legal self.story }
+        ensures memory { IsInMemory self.story }
     {
         let Core {
             log,

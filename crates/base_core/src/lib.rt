@@ -8,7 +8,8 @@
 // has gone on by steps of that build alone. `replies` gives the replies of the story.
 //
 // What it stands on: `checkout_desk` for the decisions on rows, `build_core` for builds, `fresh_builds` for the laws of
-// builds in legal stories, and the definitions of `legal_history`.
+// builds in legal stories, the definitions of `legal_history`, `view_lookup` and `session_text`, `build_script` and `make_text`
+// for scripts and units, and `cc_names` for plain data.
 #![tactic(auto)]
 
 mod commands;

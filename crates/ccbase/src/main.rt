@@ -2,6 +2,8 @@
 //
 // What it promises: it adds nothing to `session_run::run_words` but the streams of the process, its clock, and the two
 // words `--help` and `--version`.
+//
+// What it stands on: `session_run`, `cc_outside` for the streams and the clock, and `cc_names` for words.
 #![tactic(auto)]
 
 use cc_names::texts::Text;

@@ -16,6 +16,7 @@ use Rattle.cc_outside.specs.Counts.{Rose}
 use Rattle.cc_outside.specs.Feeds.{AppendsFront}
 use Rattle.cc_outside.specs.declared.sinks.WriteFault.{WriteFault}
 use Rattle.session_text.specs.Sessions.{session_of}
+use Rattle.base_core.specs.InMemory.{IsInMemory}
 use Rattle.legal_history.specs.Stories.{Legal}
 use Rattle.session_run.specs.Causes.{Change, Intake, IsWhole, HasCause}
 use Rattle.session_run.specs.Headline.{IsFront, IsSession, IsOneHistory, IsCutAtLast, AreFromNothing, ArePrinted, is_opened, is_session, is_read, phases_begun, phases_spelled, moments_begun, clock_moments}
@@ -80,15 +81,16 @@ run_session (Err (Is fault)) story phases intake outside gives left = session_cu
 cut_told : (story : List Told) (old new : Option (List ℕ)) → GivenAsTold story → IsCutAtLast story (transcripts (given_earlier story)) old new → IsCutAtLast story (earlier_text story) old new
 cut_told story old new same cut = subst (λ text. IsCutAtLast story text old new) (ap transcripts same.earlier) cut
 
-pub run_history : (result : Result Bool (Or WriteFault)) (story : List Told) (phases : List Phase) (outside : Outside) → Legal story → GivenAsTold story → HasRunSo result phases story outside → IsOneHistory (run_status result) story outside.held outside.holds
-run_history (Ok true) story phases outside legal same ran = record { legal = legal; complete = λ through. ran.finished; cut = λ opened e. absurd (cc) }
-run_history (Ok false) story phases outside legal same ran = record { legal = legal; complete = λ through. ran.finished; cut = λ opened e. absurd (cc) }
-run_history (Err NoMemory) story phases outside legal same left = record { legal = legal; complete = λ through. absurd (cc); cut = λ opened e. absurd (cc) }
-run_history (Err (Is fault)) story phases outside legal same left = record { legal = legal; complete = λ through. absurd (cc); cut = λ opened e. cut_told story outside.held outside.holds same left.cut_at }
+pub run_history : (result : Result Bool (Or WriteFault)) (story : List Told) (phases : List Phase) (outside : Outside) → Legal story → IsInMemory story → GivenAsTold story → HasRunSo result phases story outside → IsOneHistory (run_status result) story outside.held outside.holds
+run_history (Ok true) story phases outside legal memory same ran = record { legal = legal; memory = λ opened. memory; complete = λ through. ran.finished; cut = λ opened e. absurd (cc) }
+run_history (Ok false) story phases outside legal memory same ran = record { legal = legal; memory = λ opened. memory; complete = λ through. ran.finished; cut = λ opened e. absurd (cc) }
+run_history (Err NoMemory) story phases outside legal memory same left = record { legal = legal; memory = λ opened. memory; complete = λ through. absurd (cc); cut = λ opened e. absurd (cc) }
+run_history (Err (Is fault)) story phases outside legal memory same left = record { legal = legal; memory = λ opened. memory; complete = λ through. absurd (cc); cut = λ opened e. cut_told story outside.held outside.holds same left.cut_at }
 
 history_none : (status : Status) (story : List Told) (old new : Option (List ℕ)) → is_through status ≡ false → story ≡ [] → IsOneHistory status story old new
 history_none status story old new not empty = record {
   legal = subst Legal (sym empty) tt;
+  memory = λ opened. not_false (is_opened story) opened (ap is_opened empty);
   complete = λ through. not_false (is_through status) through not;
   cut = λ opened e. not_false (is_opened story) opened (ap is_opened empty);
 }
@@ -161,13 +163,14 @@ closed_printed status story text old new is empty same = record {
 }
 
 -- a base was opened, and this is what became of it
-pub runs_session : (laws : Laws) (result : Result Bool (Or WriteFault)) (phases : List Phase) (status : Status) (story history : List Told) (outside : Outside) (faults : Change ℕ) → history ≡ story → status ≡ run_status result → Legal story → IfOk result (HasRun phases story outside) → IfErr result (λ cut. IsGivenUp cut phases story outside.held outside.holds outside.moments outside.first) → OnWriteFault result (Rose faults.before faults.after) → RunsSession phases status history outside faults
-runs_session laws result phases status story history outside faults same is legal ran left rose =
+pub runs_session : (laws : Laws) (result : Result Bool (Or WriteFault)) (phases : List Phase) (status : Status) (story history : List Told) (outside : Outside) (faults : Change ℕ) → history ≡ story → status ≡ run_status result → Legal story → IsInMemory story → IfOk result (HasRun phases story outside) → IfErr result (λ cut. IsGivenUp cut phases story outside.held outside.holds outside.moments outside.first) → OnWriteFault result (Rose faults.before faults.after) → RunsSession phases status history outside faults
+runs_session laws result phases status story history outside faults same is legal memory ran left rose =
     subst (λ s. RunsSession phases status s outside faults) (sym same)
     (inl (record {
       result = result;
       status_is = is;
       legal = legal;
+      memory = memory;
       told = given_as_told laws story legal;
       built = are_from_nothing laws story legal;
       ran = ran_so result ran left;
@@ -191,7 +194,7 @@ promised_run phases status story intake outside faults gives (inl run) =
     subst (λ s. Promised s story intake outside faults) (sym run.status_is)
     (record {
       session = run_session run.result story phases intake outside gives run.ran;
-      history = run_history run.result story phases outside run.legal run.told run.ran;
+      history = run_history run.result story phases outside run.legal run.memory run.told run.ran;
       built = run.built;
       printed = run_printed run.result story phases intake.text.before outside run.told run.ran;
       cause = run_cause run.result story phases intake outside faults gives run.told run.ran run.fault;

@@ -21,6 +21,7 @@ use Rattle.cc_names.specs.declared.steps.Told.TheVariants as told
 use Rattle.cc_outside.specs.Counts.{raised}
 use Rattle.cc_outside.specs.Feeds.{AppendsFront}
 use Rattle.cc_outside.specs.Moments.{moment_at}
+use Rattle.base_core.specs.InMemory.{IsInMemory}
 use Rattle.session_text.specs.Sessions.{session_of}
 use Rattle.fresh_builds.specs.Commanded.{IsOfCommand}
 use Rattle.fresh_builds.specs.Replied.{reply_of, reply_from_nothing}
@@ -97,10 +98,11 @@ pub record IsCutAtLast (story : List Told) (earlier : List ℕ) (old new : Optio
   pub finished : all_done (state_of story) ≡ true
   pub written : (more : List ℕ) × Appends old new (earlier ++ more)
 
--- *One legal history*: the story is legal, so a phase begins where each command of the one before is finished. Each command
+-- *One legal history*: the story is legal, of a base that was opened without rows and under which no disk failed, so a phase begins where each command of the one before is finished. Each command
 -- of the last phase is finished too where the session was run through, and where the sink failed.
 pub record IsOneHistory (status : Status) (story : List Told) (old new : Option (List ℕ)) : Type 0 where
   pub legal : Legal story
+  pub memory : is_opened story ≡ true → IsInMemory story
   pub complete : is_through status ≡ true → all_done (state_of story) ≡ true
   pub cut : is_opened story ≡ true → status ≡ statuses.WriteFault → IsCutAtLast story (earlier_text story) old new
 

@@ -11,6 +11,7 @@ use Rattle.cc_outside.specs.Feeds.{AppendsFront}
 use Rattle.cc_outside.specs.declared.sinks.WriteFault.{WriteFault}
 use Rattle.session_text.specs.Formed.{IsPhase}
 use Rattle.base_core.specs.Carried.{AreCarriedOut}
+use Rattle.base_core.specs.InMemory.{IsInMemory}
 use Rattle.legal_history.specs.States.{all_done}
 use Rattle.legal_history.specs.Steps.{state_of}
 use Rattle.legal_history.specs.Stories.{Legal}
@@ -91,6 +92,7 @@ pub record RunsOpened (phases : List Phase) (status : Status) (story : List Told
   pub result : Result Bool (Or WriteFault)
   pub status_is : status ≡ run_status result
   pub legal : Legal story
+  pub memory : IsInMemory story
   pub told : GivenAsTold story
   pub built : AreFromNothing story
   pub ran : HasRunSo result phases story outside

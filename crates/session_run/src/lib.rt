@@ -6,8 +6,9 @@
 // `specs/Causes.antt`. The printed replies are those of one legal history, which holds each command once in its lane's
 // order, and every clearmake is replied as building from nothing is.
 //
-// What it stands on: `base_core` for the history, `fresh_builds` for the laws of builds, `session_text` and `reply_text` for
-// the texts, and `cc_outside` for the source, the sink and the clock.
+// What it stands on: `base_core` for the history, `build_core`, `fresh_builds` and `legal_history` for what it means,
+// `checkout_desk` for decisions, `session_text` and `reply_text` for the texts, `cc_outside` for the source, the sink and the
+// clock, and `cc_names` for plain data.
 #![tactic(auto)]
 
 mod failures;
