@@ -55,14 +55,19 @@ module _ (all : List Held) (heads : ℕ → Option ℕ) (step : InStep all heads
   falls_more move held d more above =
       rw (more, reverse-append (get_or all p d).moves.items (move ∷ [])) (above_at move.row d above, step.fall p d place.within)
 
+  -- a change of the pair is about what is at its place
+  pub about_at : (row : ℕ) (version : Option ℕ) (k : List ℕ) (n : ℕ) (d : Held) → is_about k n (change_by l e row version) ≡ is_pair k n (get_or all p d)
+  about_at row version k n d =
+      let (labels, elements) = pair_is l e (get_or all p d) (place.is d) in
+      about_by k n l e row version ∙ ap (λ x. bytes_eq k x && eqb n e) labels ∙ ap (λ x. bytes_eq k (get_or all p d).label && eqb n x) elements
+
   -- the change is added for the pair, and for no other
   pub added : (move : Move) (held : Held) → ((d : Held) → SameHead held (get_or all p d)) → ((d : Held) → held.moves.items ≡ (get_or all p d).moves.items ++ move ∷ [])
       → (k : List ℕ) (n : ℕ) → of_pair k n (all_changes (set all p held)) ≡ of_pair k n (change_by l e move.row move.version ∷ all_changes all)
   added move held same more k n =
       let old = get_or all p held in
       let (labels, elements) = pair_is l e old (place.is held) in
-      let about : is_about k n (change_by l e move.row move.version) ≡ is_pair k n old =
-      about_by k n l e move.row move.version ∙ ap (λ x. bytes_eq k x && eqb n e) labels ∙ ap (λ x. bytes_eq k old.label && eqb n x) elements in
+      let about : is_about k n (change_by l e move.row move.version) ≡ is_pair k n old = about_at move.row move.version k n held in
       let at : (d : Held) → get_or all p d ≡ old = λ d. get_or_default all p d held place.within in
       elim (bool_cases (is_pair k n old)) [
         | inl is ↦

@@ -1,5 +1,5 @@
 -- The changes of one label on one element among all.
-use Rattle.std.proofs.Common.{◌≡◌, ◌≢◌, ℕ, zero, suc, ◌<◌, Bool, true, false, cond, ◌&&◌, eqb, ltb, List, [], ◌∷◌, ◌++◌, length, get_or, set, map, reverse, Option, Some, None, refl, ap, ◌∙◌, arith}
+use Rattle.std.proofs.Common.{◌≡◌, ◌≢◌, ℕ, zero, suc, ◌<◌, Bool, true, false, cond, ◌&&◌, eqb, ltb, List, [], ◌∷◌, ◌++◌, length, get_or, set, map, reverse, Option, Some, None, refl, sym, ap, ◌∙◌, arith}
 use Rattle.std.specs.Str.{bytes_eq}
 use Rattle.std.proofs.lemmas.List.{append-nil}
 use Rattle.std.proofs.lemmas.List.Elements.{filter-append}
@@ -31,6 +31,12 @@ holder_of_pair (change ∷ older) rows l e =
     at false true early about rest = rw early rest
     at true false early about rest = effect_other change (holder (labels_of_first_rows rows older) l e) about ∙ rest
     at false false early about rest = rest
+
+-- where two lists have the same changes of a pair, it has the same holder
+pub same_holder : (one two : List LabelChange) (rows : ℕ) (l : List ℕ) (e : ℕ) → of_pair l e one ≡ of_pair l e two
+    → holder (labels_of_first_rows rows one) l e ≡ holder (labels_of_first_rows rows two) l e
+same_holder one two rows l e same =
+    holder_of_pair one rows l e ∙ ap (λ cs. holder (labels_of_first_rows rows cs) l e) same ∙ sym (holder_of_pair two rows l e)
 
 -- whether a move is about a pair
 pub about_by : (l : List ℕ) (e : ℕ) (label : List ℕ) (element row : ℕ) (version : Option ℕ) → is_about l e (change_by label element row version) ≡ (bytes_eq l label && eqb e element)

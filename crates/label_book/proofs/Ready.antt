@@ -25,6 +25,14 @@ none_put : (q : Pair → Bool) (t : Bool) (x : Pair) (xs : List Pair) → q x �
 none_put q true x xs fails none = rw fails none
 none_put q false x xs fails none = none
 
+any_more : (q : Pair → Bool) (t : Bool) (x : Pair) (xs ys : List Pair) → (list_any q xs ≡ true → list_any q ys ≡ true) → list_any q (put_if t x xs) ≡ true → list_any q (put_if t x ys) ≡ true
+any_more q true x xs ys more any = or_keeps (q x) (list_any q xs) more any
+  where
+    or_keeps : (a b : Bool) {c : Bool} → (b ≡ true → c ≡ true) → (a || b) ≡ true → (a || c) ≡ true
+    or_keeps true b f is = refl
+    or_keeps false b f is = f is
+any_more q false x xs ys more any = more any
+
 any_behind : (q : Pair → Bool) (t : Bool) (x : Pair) (xs : List Pair) → q x ≡ false → list_any q (put_if t x xs) ≡ true → list_any q xs ≡ true
 any_behind q true x xs fails any = rw fails at any
 any_behind q false x xs fails any = any
@@ -69,26 +77,19 @@ module _ (l : List ℕ) (e : ℕ) where
       at true false grows is any = cc (grows refl)
       at false true grows is any = rw any (or-true (is_that l e (pair_of held)))
       at false false grows is any = any
-  set_keeps (h ∷ all) (suc p) held lt same more any = at (has_room h) (set_keeps all p held (omega arith) same more) any
-    where
-      at : (t : Bool) → (list_any (is_that l e) (ready_pairs all) ≡ true → list_any (is_that l e) (ready_pairs (set all p held)) ≡ true)
-          → list_any (is_that l e) (put_if t (pair_of h) (ready_pairs all)) ≡ true → list_any (is_that l e) (put_if t (pair_of h) (ready_pairs (set all p held))) ≡ true
-      at true rest any = or_keeps (is_that l e (pair_of h)) (list_any (is_that l e) (ready_pairs all)) rest any
-        where
-          or_keeps : (a b : Bool) {c : Bool} → (b ≡ true → c ≡ true) → (a || b) ≡ true → (a || c) ≡ true
-          or_keeps true b f any = refl
-          or_keeps false b f any = f any
-      at false rest any = rest any
+  set_keeps (h ∷ all) (suc p) held lt same more any =
+      any_more (is_that l e) (has_room h) (pair_of h) (ready_pairs all) (ready_pairs (set all p held)) (set_keeps all p held (omega arith) same more) any
+
+  -- and what is ready elsewhere
+  pub others_keep : (all : List Held) (p : ℕ) (held : Held) → p < length all → ((d : Held) → is_pair l e (get_or all p d) ≡ false)
+      → list_any (is_that l e) (ready_pairs all) ≡ true → list_any (is_that l e) (ready_pairs (set all p held)) ≡ true
+  others_keep [] p held lt other any = absurd (omega arith)
+  others_keep (h ∷ all) zero held lt other any =
+      any_put (is_that l e) (has_room held) (pair_of held) (ready_pairs all) (any_behind (is_that l e) (has_room h) (pair_of h) (ready_pairs all) (other h) any)
+  others_keep (h ∷ all) (suc p) held lt other any =
+      any_more (is_that l e) (has_room h) (pair_of h) (ready_pairs all) (ready_pairs (set all p held)) (others_keep all p held (omega arith) other) any
 
   pub push_keeps : (all : List Held) (held : Held) → list_any (is_that l e) (ready_pairs all) ≡ true → list_any (is_that l e) (ready_pairs (all ++ held ∷ [])) ≡ true
   push_keeps [] held any = cc
-  push_keeps (h ∷ all) held any = at (has_room h) (push_keeps all held) any
-    where
-      at : (t : Bool) → (list_any (is_that l e) (ready_pairs all) ≡ true → list_any (is_that l e) (ready_pairs (all ++ held ∷ [])) ≡ true)
-          → list_any (is_that l e) (put_if t (pair_of h) (ready_pairs all)) ≡ true → list_any (is_that l e) (put_if t (pair_of h) (ready_pairs (all ++ held ∷ []))) ≡ true
-      at true rest any = or_keeps (is_that l e (pair_of h)) (list_any (is_that l e) (ready_pairs all)) rest any
-        where
-          or_keeps : (a b : Bool) {c : Bool} → (b ≡ true → c ≡ true) → (a || b) ≡ true → (a || c) ≡ true
-          or_keeps true b f any = refl
-          or_keeps false b f any = f any
-      at false rest any = rest any
+  push_keeps (h ∷ all) held any =
+      any_more (is_that l e) (has_room h) (pair_of h) (ready_pairs all) (ready_pairs (all ++ held ∷ [])) (push_keeps all held) any

@@ -1,5 +1,5 @@
 -- What contracts see of a `Book`: the changes of labels, of which the order counts only for one label on one element.
-use Rattle.std.specs.Prelude.{◌≡◌, ℕ, ◌==◌, ◌&&◌, Bool, IsTrue, List, ◌∷◌, map, filter}
+use Rattle.std.specs.Prelude.{◌≡◌, ℕ, ◌==◌, ◌&&◌, Bool, false, IsTrue, List, ◌∷◌, map, filter}
 use Rattle.std.specs.Str.{bytes_eq}
 use Rattle.std.specs.List.{list_any}
 use Rattle.cc_names.specs.Labels.{row_of_label_change}
@@ -36,9 +36,10 @@ is_that l e pair = bytes_eq l pair.label && (e == pair.element)
 abbrev pub is_ready : Marks → List ℕ → ℕ → Bool
 is_ready marks l e = list_any (is_that l e) marks.ready
 
--- one change more, the newest of its label on its element
+-- one change more, the newest of its label on its element; all others keep their room
 pub record AddsChange (old new : Marks) (change : LabelChange) : Type 0 where
   pub pairs : (l : List ℕ) (e : ℕ) → of_pair l e new.changes ≡ of_pair l e (change ∷ old.changes)
+  pub ready : (l : List ℕ) (e : ℕ) → is_about l e change ≡ false → IsTrue (is_ready old l e) → IsTrue (is_ready new l e)
 
 -- nothing is changed but room, of which there is no less
 pub record KeepsAll (old new : Marks) : Type 0 where

@@ -16,6 +16,7 @@ ghost use Rattle.cc_names.specs.declared.changes.LabelChange.TheVariants as chan
 ghost use Rattle.label_book.specs.Marks.{rows_of_pair, is_ready, AddsChange, KeepsAll};
 
 mod held;
+pub mod laws;
 #[cfg(test)]
 mod tests;
 
@@ -50,7 +51,7 @@ impl Model for Book {
 impl Book {
     ghost use Rattle.label_book.specs.Holding.{change_by};
 
-    /// A book without labels.
+    /// A book without labels. Takes constant time.
     pub fn new(alloc: Global) -> Result<Book, NoMemory>
         ensures { IfOk result (λ book. book.changes ≡ []) }
     {
@@ -61,7 +62,8 @@ impl Book {
         })
     }
 
-    /// Makes room for one change of a label on each of these elements. Takes time linear in the elements.
+    /// Makes room for one change of a label on each of these elements. Takes time linear in the elements and in the label's
+    /// name; a list that is full is doubled, in time linear in it.
     pub fn reserve(&mut self, alloc: Global, label: &Name, elements: &[u64]) -> Result<(), NoMemory>
         ensures kept { KeepsAll self.old self.new }
         ensures ready { OnOk result ((k : ℕ) → k < length elements.now → IsTrue (is_ready self.new label.now (slice_index elements.now k))) }
@@ -105,7 +107,8 @@ impl Book {
         Ok(())
     }
 
-    /// Puts a label on a version of an element. The row is above all rows so far of this label on this element.
+    /// Puts a label on a version of an element. The row is above all rows so far of this label on this element. Takes time
+    /// linear in the label's name.
     pub fn attach(&mut self, row: u64, label: &Name, element: u64, version: u64)
         requires above { IsAbove row (rows_of_pair label.now element self.old.changes) }
         requires ready { IsTrue (is_ready self.old label.now element) }
@@ -121,7 +124,8 @@ impl Book {
         );
     }
 
-    /// Takes a label off an element. The row is above all rows so far of this label on this element.
+    /// Takes a label off an element. The row is above all rows so far of this label on this element. Takes time linear in
+    /// the label's name.
     pub fn detach(&mut self, row: u64, label: &Name, element: u64)
         requires above { IsAbove row (rows_of_pair label.now element self.old.changes) }
         requires ready { IsTrue (is_ready self.old label.now element) }

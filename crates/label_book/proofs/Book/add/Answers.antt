@@ -1,4 +1,4 @@
-use Rattle.std.proofs.Common.{◌≡◌, ◌≤◌, true, [], ◌∷◌, ◌++◌, get_or, vec_len, vec_capacity, refl, ◌∙◌, arith, rules}
+use Rattle.std.proofs.Common.{◌≡◌, ◌≤◌, true, [], ◌∷◌, ◌++◌, get_or, vec_len, vec_capacity, refl, sym, ◌∙◌, arith, rules}
 use Rattle.std.specs.List.{list_any}
 use Rattle.std.proofs.lemmas.List.{get_or_default}
 use Rattle.std.proofs.lemmas.Bool.Decides.{nat_tests}
@@ -6,9 +6,9 @@ use Rattle.cc_names.specs.Falling.{IsAbove}
 use Rattle.label_book.specs.Marks.{is_that, rows_of_pair}
 use Rattle.label_book.specs.Holding.{all_changes, ready_pairs, IsPlaceOf, HasNoPlace}
 use Rattle.label_book.specs.declared.held.Held.{Held}
-use Rattle.label_book.proofs.Added.{added, falls_more}
+use Rattle.label_book.proofs.Added.{about_at, added, falls_more}
 use Rattle.label_book.proofs.InBook.{SameHead, moves_set, others_fail}
-use Rattle.label_book.proofs.Ready.{has_room, none_ready, ready_room}
+use Rattle.label_book.proofs.Ready.{has_room, none_ready, ready_room, others_keep}
 use Rattle.label_book.proofs.Book.add.Goals as goal
 
 -- the label has one change more on the element
@@ -65,4 +65,8 @@ returns c =
     let same : (d : Held) → SameHead held (get_or all p d) = λ d. rw (at d) (record { label = refl; element = refl; namesake = refl }) in
     let items : c.push.new.self.items ≡ on.moves.items ++ c.args.change ∷ [] = c.in-Ok.ensures.items in
     let more : (d : Held) → held.moves.items ≡ (get_or all p d).moves.items ++ c.args.change ∷ [] = λ d. rw (at d) items in
-    rw (← c.self.view_is) (record { pairs = added all _ c.self.invariant c.args.label.now c.args.element p place c.args.change held same more })
+    rw (← c.self.view_is) (record {
+      pairs = added all _ c.self.invariant c.args.label.now c.args.element p place c.args.change held same more;
+      ready = λ l e other is. others_keep l e all p held place.within
+          (λ d. sym (about_at all _ c.self.invariant c.args.label.now c.args.element p place c.args.change.row c.args.change.version l e d) ∙ other) is;
+    })

@@ -11,5 +11,5 @@ above_le row higher (r ∷ rows) le above = (omega (arith, above.0), above_le ro
 -- the row is at least the next one
 pub mark-requires : goal.mark-requires
 mark-requires c =
-    let le : c.loop-row.next ≤ c.in_ok-row.row = grind (arith, common_steps, c.rising.ensures, c.in_ok-row.was, c.ok_or.ensures.value) in
-    λ l e. above_le c.loop-row.next c.in_ok-row.row (rows_of_pair l e c.loop-row.book.changes) le (c.loop-row.invariant l e)
+    let le : c.loop-line.next ≤ c.in_ok-row.row = grind (arith, common_steps, c.rising.ensures, c.in_ok-row.was, c.ok_or.ensures.value) in
+    λ l e. above_le c.loop-line.next c.in_ok-row.row (rows_of_pair l e c.loop-line.book.changes) le (c.loop-line.invariant l e)
