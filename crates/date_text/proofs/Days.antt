@@ -1,5 +1,5 @@
 -- Day numbers from 1970 on are not negative.
-use Rattle.std.proofs.Common.{◌≡◌, ℕ, ◌+◌, ◌-◌, ◌*◌, ◌<◌, ◌≤◌, refl, arith, ℤ, pos, negsuc, to_z, of_z, to_z-of_z, w32, w64, Fits, ◌<ℤ◌, ◌≤ℤ◌, unsigned_abs}
+use Rattle.std.proofs.Common.{◌≡◌, ℕ, ◌≤◌, refl, arith, ℤ, pos, negsuc, to_z, of_z, to_z-of_z, w32, w64, Fits, ◌≤ℤ◌, unsigned_abs}
 use Rattle.std.proofs.lemmas.Int.{by_lt_z}
 use Rattle.std.specs.Int.Signed.{non_neg, yes_non_neg}
 use lib.Dec.{T}

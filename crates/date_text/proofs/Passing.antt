@@ -1,12 +1,12 @@
 -- Where a day lies, once whole years and months have passed.
-use Rattle.std.proofs.Common.{◌≡◌, ℕ, zero, suc, ◌+◌, ◌-◌, ◌/◌, ◌%◌, ◌<◌, ◌≤◌, true, false, nat_lt, inl, inr, refl, ap, sym, ◌∙◌, arith, rules, ℤ, pos, negsuc, ◌<ℤ◌, ◌≤ℤ◌, ◌+ℤ◌, unsigned_abs}
+use Rattle.std.proofs.Common.{◌≡◌, ℕ, zero, suc, ◌+◌, ◌-◌, ◌/◌, ◌%◌, ◌<◌, ◌≤◌, inl, inr, refl, ap, arith, ℤ, pos, negsuc, ◌≤ℤ◌, unsigned_abs}
 use Rattle.std.proofs.lemmas.Bool.{cases_order, lt-ltb, le-ltb}
 use Rattle.std.proofs.lemmas.Int.{by_lt_z}
-use Rattle.jiff_core.specs.Calendar.{days_in_year, days_in_month, day_count, day_of_year, days_from_civil, IsCivilDate}
+use Rattle.jiff_core.specs.Calendar.{day_count, day_of_year, days_from_civil, IsCivilDate}
 use Rattle.jiff_core.specs.Date.{epoch_day}
 use Rattle.jiff_core.specs.declared.civil.date.Date.{Date}
 use Rattle.jiff_core.proofs.SignedLemmas.{signed_arith}
-use Rattle.jiff_core.proofs.CalendarLemmas.{day_count-epoch, days_from_civil-day_count, day_count-day_of_year, day_count-later_year, day_count-next_year, day_count-next_month, day_count-day, day_count-lt_year, day_of_year_bound, days_in_year_bounds}
+use Rattle.jiff_core.proofs.CalendarLemmas.{day_count-epoch, days_from_civil-day_count, day_count-day_of_year, day_count-next_year, day_count-next_month, day_count-day, day_count-lt_year, day_of_year_bound, days_in_year_bounds}
 use Rattle.jiff_core.proofs.DateLemmas.{civil}
 use Rattle.date_text.specs.Civil.{within, length_of_year, length_of_month, parts_of}
 

@@ -90,10 +90,11 @@ fn text(civil: Civil) -> DateText
 }
 
 /// The date of a moment, which is the seconds since the beginning of 1970: a day without a leading 0, and all else as
-/// `read` takes it. Takes no memory.
+/// `read` takes it, which gives the moment back. Takes no memory.
 pub fn print(moment: u64) -> DateText
     requires { moment ≤ 253402300799 }
     ensures text { result ≡ text_of moment }
+    ensures read_back { date_of result ≡ Ok moment }
 {
     text(Civil::of(moment))
 }

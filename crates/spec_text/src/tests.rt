@@ -6,6 +6,8 @@ use std::alloc::{AllocError, Global};
 use std::process::Abort;
 use std::test::Fail;
 
+mod patterns;
+
 /// A pattern spelled again.
 fn push_pattern(out: &mut String, pattern: &Pattern) -> Result<(), AllocError> {
     let mut first = !pattern.anchored;

@@ -1,6 +1,5 @@
-use Rattle.std.proofs.Common.{◌≡◌, ◌+ℤ◌, arith, w64, to_z, pos, ◌∙◌, sym, rules}
+use Rattle.std.proofs.Common.{◌≡◌, ◌+ℤ◌, arith, w64, to_z, pos, ◌∙◌}
 use Rattle.std.proofs.lemmas.Int.{to_z_pos}
-use Rattle.std.proofs.lemmas.Result.{IfOk-weaker}
 use Rattle.jiff_core.specs.Calendar.{IsEpochDay}
 use Rattle.jiff_core.specs.Date.{epoch_day}
 use Rattle.jiff.proofs.SpanFacts.{signed_arith, date_add-days, can_add-days}

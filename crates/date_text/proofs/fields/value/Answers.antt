@@ -1,5 +1,4 @@
-use Rattle.std.proofs.Common.{◌<◌, length, take, rules, arith}
-use Rattle.std.specs.Str.Parse.{digits_value}
+use Rattle.std.proofs.Common.{arith}
 use Rattle.date_text.proofs.Digits.{few_value}
 use Rattle.date_text.proofs.fields.value.Goals as goal
 

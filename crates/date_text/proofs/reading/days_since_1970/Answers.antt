@@ -1,4 +1,4 @@
-use Rattle.std.proofs.Common.{◌≡◌, ap, ◌∙◌}
+use Rattle.std.proofs.Common.{ap, ◌∙◌}
 use Rattle.jiff_core.specs.Date.{epoch_day}
 use Rattle.date_text.proofs.Days.{cast_days, cast_value}
 use Rattle.date_text.proofs.reading.days_since_1970.Goals as goal

@@ -1,4 +1,4 @@
-use Rattle.std.proofs.Common.{◌≡◌, ℤ, ◌/◌, ◌%◌, sym, ◌∙◌, arith, w8, w16, to_z, of_z, to_z-of_z}
+use Rattle.std.proofs.Common.{◌≡◌, ◌/◌, ◌%◌, sym, arith, w8, w16, to_z, of_z, to_z-of_z}
 use Rattle.jiff_core.proofs.SignedLemmas.{signed_arith, fits_between}
 use Rattle.jiff_core.proofs.CalendarLemmas.{days_in_month_bounds}
 use Rattle.date_text.proofs.Passing.{civil_is}
