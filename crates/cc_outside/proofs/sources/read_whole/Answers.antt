@@ -34,3 +34,10 @@ pub returns-clause-told : goal.returns-clause-told
 returns-clause-told g c =
     Consumes-length _ (g.S.Source.left c.loop-bytes.source) c.loop-bytes.bytes.items c.args.limit
     c.loop-bytes.invariant.bytes (omega (arith, c.loop-bytes.bytes.ok))
+
+pub returns-clause-too_long : goal.returns-clause-too_long
+returns-clause-too_long g c = λ h. omega (arith, c.loop-bytes.invariant.counted)
+
+pub returns-in_err-extend_from_slice-clause-taken : goal.returns-in_err-extend_from_slice-clause-taken
+returns-in_err-extend_from_slice-clause-taken g c =
+    omega (arith, c.in-Ok.ensures.counted, c.in-Ok.ensures.within, c.read.auto.into, c.min-room.ensures, c.len-in-loop-bytes.ensures, c.loop-bytes.invariant.short, c.loop-bytes.invariant.counted, length-take {A = ℕ})
