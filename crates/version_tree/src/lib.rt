@@ -103,7 +103,7 @@ fn branch_of(change: &TreeChange) -> u64
 impl Tree {
     ghost use Rattle.version_tree.specs.Branches.{row_of_later, versions_by};
 
-    /// The trees of a base with the root alone, a directory that row 0 made.
+    /// The trees of a base with the root alone, a directory that row 0 made. Takes constant time.
     pub fn new(alloc: Global) -> Result<Tree, NoMemory>
         ensures root { IfOk result (λ tree. tree.changes ≡ changes.ElementMade 0 0 Kind.Directory ∷ []) }
         ensures empty { IfOk result (λ tree. (v : ℕ) → contents_of tree v ≡ None) }
@@ -133,9 +133,10 @@ impl Tree {
     }
 
     /// Makes room for one element or one branch, for what one version holds and, where a branch that is there is named, for
-    /// one version on it.
+    /// one version on it. Takes time logarithmic in the branches; a list that is full is doubled, in time linear in it.
     pub fn reserve(&mut self, _alloc: Global, branch: Option<u64>) -> Result<(), NoMemory>
         ensures kept { KeepsAll self.old self.new }
+        ensures stay { (b : ℕ) → IsTrue (is_ready self.old b) → IsTrue (is_ready self.new b) }
         ensures room { OnOk result (0 < self.new.room) }
         ensures content_room { OnOk result (0 < self.new.content_room) }
         ensures ready { OnOk result (IfSome branch (λ b. IsSome (latest self.old.changes b None) → IsTrue (is_ready self.new b))) }
@@ -150,6 +151,7 @@ impl Tree {
     // Makes room for one change and for what one version holds.
     fn reserve_change(&mut self) -> Result<(), NoMemory>
         ensures kept { KeepsAll self.old self.new }
+        ensures stay { (b : ℕ) → IsTrue (is_ready self.old b) → IsTrue (is_ready self.new b) }
         ensures room { OnOk result (0 < self.new.room) }
         ensures content_room { OnOk result (0 < self.new.content_room) }
     {
@@ -163,6 +165,7 @@ impl Tree {
     // Makes room for one version on a branch, where it is there.
     fn reserve_version(&mut self, branch: u64) -> Result<(), NoMemory>
         ensures kept { KeepsAll self.old self.new }
+        ensures stay { (b : ℕ) → IsTrue (is_ready self.old b) → IsTrue (is_ready self.new b) }
         ensures ready { OnOk result (IsSome (latest self.old.changes branch None) → IsTrue (is_ready self.new branch)) }
     {
         if let Some(place) = place_of(&self.branches, branch) {
@@ -362,7 +365,7 @@ impl Tree {
         }
     }
 
-    /// Sets the catalog of a directory's version.
+    /// Sets the catalog of a directory's version. Takes constant time.
     pub fn set_catalog(&mut self, version: u64, entries: Vec<Entry>)
         requires room { 0 < self.old.content_room }
         requires in_order { AreInOrder entries.items }
@@ -375,7 +378,7 @@ impl Tree {
         );
     }
 
-    /// Sets the row whose own bytes are the text of a file's version.
+    /// Sets the row whose own bytes are the text of a file's version. Takes constant time.
     pub fn set_text(&mut self, version: u64, row: u64)
         requires { 0 < self.old.content_room }
         ensures { SetsContents self.old self.new version (contents.Text row) }
