@@ -1,0 +1,9 @@
+pub mod CatalogsInOrder
+pub mod Deeds
+pub mod FirstRowsStay
+pub mod HeldObjects
+pub mod HeldPaths
+pub mod NamedOnce
+pub mod NewVersions
+pub mod Values
+pub mod Walks
