@@ -1,0 +1,75 @@
+// The laws of reuse, each the contract of a function with an empty body.
+
+ghost use Rattle.std.specs.Prelude.{◌≡◌, ℕ, List, [], ◌∷◌, ◌++◌, Some, None, true, false};
+ghost use Rattle.cc_names.specs.Formed.{Plain};
+ghost use Rattle.cc_names.specs.References.{held_at};
+ghost use Rattle.cc_names.specs.declared.steps.Told.{Told};
+ghost use Rattle.cc_names.specs.declared.units.Unit.{Unit};
+ghost use Rattle.legal_history.specs.Base.{Base, size};
+ghost use Rattle.legal_history.specs.Builds.{Build, build_of, came_to, is_outcome, unit_at};
+ghost use Rattle.legal_history.specs.Changes.{held};
+ghost use Rattle.legal_history.specs.Choices.{here, publish_of, visible};
+ghost use Rattle.legal_history.specs.Fits.{is_base};
+ghost use Rattle.legal_history.specs.RecordTexts.{uncovered};
+ghost use Rattle.legal_history.specs.Reuse.{matches, reusable};
+ghost use Rattle.legal_history.specs.Serials.{makes};
+ghost use Rattle.legal_history.specs.States.{Opening};
+ghost use Rattle.legal_history.specs.Steps.{after, state_of};
+ghost use Rattle.legal_history.specs.Stories.{Lawful, Legal};
+ghost use Rattle.legal_history.specs.Values.{again, is_true, IsSound};
+ghost use Rattle.reuse_laws.specs.Given.{HoldsGiven};
+ghost use Rattle.reuse_laws.specs.Objects.{GivesLive, IsTheRun, outputs_of};
+
+/// A true object whose record matches a unit has stored what a run of the unit's script gives on what the unit sees, where
+/// the base is sound and each object that the build has given so far is live.
+pub fn a_match_is_the_run()
+    ensures { (b : Base) (build : Build) (n : ℕ) (unit : Unit) (id : ℕ) → is_base b ≡ true → IsSound b → GivesLive b build → is_true b id ≡ true → matches b build n unit id ≡ true → IsTheRun b build n unit id }
+{}
+
+/// The object that a unit may reuse, kept or winked in, has stored what a run of the unit's script gives on what the unit
+/// sees: to reuse it is to build it.
+pub fn a_reusable_object_is_the_run()
+    ensures { (b : Base) (build : Build) (n : ℕ) (unit : Unit) (id : ℕ) → is_base b ≡ true → IsSound b → GivesLive b build → reusable b build n unit ≡ Some id → IsTheRun b build n unit id }
+{}
+
+/// An object that a unit's run publishes is true: its record, run again, gives its outputs and asks for nothing else.
+pub fn a_published_object_is_true()
+    ensures { (row : Plain) (b : Base) (build : Build) (n : ℕ) (unit : Unit) → is_base b ≡ true → IsSound b → GivesLive b build → publish_of b build n unit ≡ Some row.deed → is_true (row ∷ b) (size b) ≡ true }
+{}
+
+/// Along a legal story each object that an active build has given to a unit is live, and the build's view holds it at every
+/// target of the unit, whatever rows other lanes have committed since.
+pub fn a_given_object_is_held()
+    ensures { (story : List Told) (lane : ℕ) (build : Build) → Legal story → build_of (state_of story).active lane ≡ Some build → HoldsGiven (state_of story).base build }
+{}
+
+/// Along a legal story a base that was sound as it was opened stays sound; so one that was opened without rows is sound.
+pub fn a_base_stays_sound()
+    ensures stays { (story : List Told) (opening : Opening) → Legal story → (state_of story).opened ≡ Some opening → IsSound opening.base → IsSound (state_of story).base }
+    ensures from_nothing { (story : List Told) (opening : Opening) → Legal story → (state_of story).opened ≡ Some opening → opening.base ≡ [] → IsSound (state_of story).base }
+{}
+
+/// What a build's view holds at a target of a unit is the same before and after each lawful step, until the unit has its
+/// outcome: no other lane changes it under the unit.
+pub fn the_place_of_a_unit_stays()
+    ensures { (story : List Told) (x : Told) (lane : ℕ) (old new : Build) (n : ℕ) (unit : Unit) (path : List ℕ) → Legal story → Lawful (state_of story) x → build_of (state_of story).active lane ≡ Some old → build_of (after (state_of story) x).active lane ≡ Some new → unit_at old n ≡ Some unit → is_outcome (came_to new n) ≡ false → makes path unit ≡ true → held_at (held (after (state_of story) x).base) old.view path ≡ held_at (held (state_of story).base) old.view path }
+{}
+
+/// What a unit of an active build of a legal story sees at a path, and what its run gives on that, never changes when rows
+/// are added.
+pub fn what_a_unit_sees_stays()
+    ensures seen { (story : List Told) (lane : ℕ) (build : Build) (more : Base) (n : ℕ) (unit : Unit) (path : List ℕ) → Legal story → build_of (state_of story).active lane ≡ Some build → visible (more ++ (state_of story).base) build n unit path ≡ visible (state_of story).base build n unit path }
+    ensures run { (story : List Told) (lane : ℕ) (build : Build) (more : Base) (n : ℕ) (unit : Unit) → Legal story → build_of (state_of story).active lane ≡ Some build → here (more ++ (state_of story).base) build n unit ≡ here (state_of story).base build n unit }
+{}
+
+/// At each moment of a legal story over a base that was sound as it was opened, the object that a unit of an active build
+/// may reuse has stored what a run of the unit's script gives on what the unit sees.
+pub fn reuse_is_a_rebuild()
+    ensures { (story : List Told) (opening : Opening) (lane : ℕ) (build : Build) (n : ℕ) (unit : Unit) (id : ℕ) → Legal story → (state_of story).opened ≡ Some opening → IsSound opening.base → build_of (state_of story).active lane ≡ Some build → reusable (state_of story).base build n unit ≡ Some id → IsTheRun (state_of story).base build n unit id }
+{}
+
+/// Where what a view sees covers the record of a true object, the record gives the stored outputs when it is run again in
+/// that view.
+pub fn a_covered_record_runs_again()
+    ensures { (b : Base) (v : List ℕ) (id : ℕ) → is_base b ≡ true → is_true b id ≡ true → uncovered b v id ≡ None → again b v id ≡ outputs_of b id }
+{}
