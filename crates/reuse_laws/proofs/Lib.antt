@@ -2,6 +2,7 @@ pub mod Covered
 pub mod CoveredRuns
 pub mod DecidedIdle
 pub mod EntriesBelow
+pub mod FromNothing
 pub mod GivenRows
 pub mod GivenSteps
 pub mod Matched

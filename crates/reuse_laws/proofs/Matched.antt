@@ -4,14 +4,16 @@ use Rattle.std.proofs.lemmas.Slice.Eq.{bytes_eq-Decides}
 use Rattle.std.specs.List.{AllByRecursion, list_all}
 use Rattle.std.specs.Prelude.{is_some, bytes_eq, find, option_and_then, option_map}
 use Rattle.cc_names.specs.declared.refusals.ScriptFault.{ScriptFault}
+use Rattle.cc_names.specs.declared.rows.Deed.{Deed}
 use Rattle.cc_names.specs.declared.rows.Deed.TheVariants as deeds
 use Rattle.cc_names.specs.declared.rows.ReadOf.{ReadOf}
 use Rattle.cc_names.specs.declared.units.Unit.{Unit}
 use Rattle.build_script.specs.Frame.{Agree}
 use Rattle.build_script.specs.Run.{Ran, run}
 use Rattle.build_script.proofs.FrameLemmas.{run_framed}
-use Rattle.legal_history.specs.Base.{Base, first_rows}
+use Rattle.legal_history.specs.Base.{Base, first_rows, deed_at}
 use Rattle.legal_history.specs.Builds.{Build}
+use Rattle.legal_history.specs.Changes.{targets_of, targets_of_deed}
 use Rattle.legal_history.specs.Choices.{text_of_row, visible}
 use Rattle.legal_history.specs.Fits.{is_base}
 use Rattle.legal_history.specs.Fresh.{script_text}
@@ -98,7 +100,20 @@ match_is_run b build n unit id base rows sound gives true_one match =
     let ran = run_on_seen b id (visible b build n unit) o base (unit_sees_true b build n unit rows sound gives) m.agree in
     record {
       outputs = o.outputs;
+      targets = ap targets_of_deed o.is ∙ m.same_targets;
       stored = ap outputs_of_deed o.is;
       runs = ap (λ script. (run script unit.targets (λ path. text_of_row b path (visible b build n unit path))).result) (sym m.same_script)
           ∙ ap (λ targets. (run o.script targets (λ path. text_of_row b path (visible b build n unit path))).result) (sym m.same_targets) ∙ ran;
     }
+
+-- an object whose record matches a unit has the unit's targets
+pub match_targets : (b : Base) (build : Build) (n : ℕ) (unit : Unit) (id : ℕ) → matches b build n unit id ≡ true → targets_of b id ≡ unit.targets
+match_targets b build n unit id match = by (deed_at b id) match
+  where
+    by_deed : (deed : Deed) → record_matches unit.targets (script_text unit.script) (visible b build n unit) (Some deed) ≡ true → targets_of_deed (Some deed) ≡ unit.targets
+    by_deed (deeds.Publish v made words entries outputs) h = (matching unit.targets (script_text unit.script) (visible b build n unit) v made words entries outputs h).same_targets
+    by_deed deed h = absurd (cc)
+
+    by : (o : Option Deed) → record_matches unit.targets (script_text unit.script) (visible b build n unit) o ≡ true → targets_of_deed o ≡ unit.targets
+    by None h = absurd (cc)
+    by (Some deed) h = by_deed deed h

@@ -1,2 +1,3 @@
+pub mod FromNothing
 pub mod Given
 pub mod Objects

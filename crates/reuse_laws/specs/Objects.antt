@@ -5,7 +5,7 @@ use Rattle.cc_names.specs.declared.rows.Deed.TheVariants as deeds
 use Rattle.cc_names.specs.declared.units.Unit.{Unit}
 use Rattle.legal_history.specs.Base.{Base, deed_at}
 use Rattle.legal_history.specs.Builds.{Build, came_to, object_of}
-use Rattle.legal_history.specs.Changes.{live}
+use Rattle.legal_history.specs.Changes.{live, targets_of}
 use Rattle.legal_history.specs.Choices.{here}
 
 -- the outputs that a publish stores
@@ -21,8 +21,10 @@ outputs_of b id = outputs_of_deed (deed_at b id)
 pub record GivesLive (b : Base) (build : Build) : Type 0 where
   pub lives : (n id : ℕ) → object_of (came_to build n) ≡ Some id → is_some (live b id) ≡ true
 
--- What an object has stored is what a run of the unit's script gives, now, on what the unit sees.
+-- An object has the unit's targets, and what it has stored is what a run of the unit's script gives, now, on what the unit
+-- sees.
 pub record IsTheRun (b : Base) (build : Build) (n : ℕ) (unit : Unit) (id : ℕ) : Type 0 where
   pub outputs : List (List ℕ)
+  pub targets : targets_of b id ≡ unit.targets
   pub stored : outputs_of b id ≡ Some outputs
   pub runs : (here b build n unit).result ≡ Ok outputs

@@ -3,12 +3,14 @@
 ghost use Rattle.std.specs.Prelude.{◌≡◌, ℕ, List, [], ◌∷◌, ◌++◌, Some, None, true, false};
 ghost use Rattle.cc_names.specs.Formed.{Plain};
 ghost use Rattle.cc_names.specs.References.{held_at};
+ghost use Rattle.cc_names.specs.declared.rows.Tag.{Tag};
 ghost use Rattle.cc_names.specs.declared.steps.Told.{Told};
 ghost use Rattle.cc_names.specs.declared.units.Unit.{Unit};
 ghost use Rattle.legal_history.specs.Base.{Base, size};
 ghost use Rattle.legal_history.specs.Builds.{Build, build_of, came_to, is_outcome, unit_at};
 ghost use Rattle.legal_history.specs.Changes.{held};
 ghost use Rattle.legal_history.specs.Choices.{here, publish_of, visible};
+ghost use Rattle.legal_history.specs.Closures.{is_publish_deed};
 ghost use Rattle.legal_history.specs.Fits.{is_base};
 ghost use Rattle.legal_history.specs.RecordTexts.{uncovered};
 ghost use Rattle.legal_history.specs.Reuse.{matches, reusable};
@@ -17,6 +19,7 @@ ghost use Rattle.legal_history.specs.States.{Opening};
 ghost use Rattle.legal_history.specs.Steps.{after, state_of};
 ghost use Rattle.legal_history.specs.Stories.{Lawful, Legal};
 ghost use Rattle.legal_history.specs.Values.{again, is_true, IsSound};
+ghost use Rattle.reuse_laws.specs.FromNothing.{IsAsFromNothing, MayTake};
 ghost use Rattle.reuse_laws.specs.Given.{HoldsGiven};
 ghost use Rattle.reuse_laws.specs.Objects.{GivesLive, IsTheRun, outputs_of};
 
@@ -35,6 +38,11 @@ pub fn a_reusable_object_is_the_run()
 /// An object that a unit's run publishes is true: its record, run again, gives its outputs and asks for nothing else.
 pub fn a_published_object_is_true()
     ensures { (row : Plain) (b : Base) (build : Build) (n : ℕ) (unit : Unit) → is_base b ≡ true → IsSound b → GivesLive b build → publish_of b build n unit ≡ Some row.deed → is_true (row ∷ b) (size b) ≡ true }
+{}
+
+/// A row leaves a sound base sound, whatever it is, where an object that it publishes is true.
+pub fn a_row_leaves_a_base_sound()
+    ensures { (row : Plain) (b : Base) → IsSound b → (is_publish_deed (Some row.deed) ≡ true → is_true (row ∷ b) (size b) ≡ true) → IsSound (row ∷ b) }
 {}
 
 /// Along a legal story each object that an active build has given to a unit is live, and the build's view holds it at every
@@ -63,9 +71,11 @@ pub fn what_a_unit_sees_stays()
 {}
 
 /// At each moment of a legal story over a base that was sound as it was opened, the object that a unit of an active build
-/// may reuse has stored what a run of the unit's script gives on what the unit sees.
+/// may reuse has stored what a run of the unit's script gives on what the unit sees; and where the unit may take one, that is
+/// what the unit comes to in the build from nothing at the build's reference rows, whatever came between.
 pub fn reuse_is_a_rebuild()
-    ensures { (story : List Told) (opening : Opening) (lane : ℕ) (build : Build) (n : ℕ) (unit : Unit) (id : ℕ) → Legal story → (state_of story).opened ≡ Some opening → IsSound opening.base → build_of (state_of story).active lane ≡ Some build → reusable (state_of story).base build n unit ≡ Some id → IsTheRun (state_of story).base build n unit id }
+    ensures run { (story : List Told) (opening : Opening) (lane : ℕ) (build : Build) (n : ℕ) (unit : Unit) (id : ℕ) → Legal story → (state_of story).opened ≡ Some opening → IsSound opening.base → build_of (state_of story).active lane ≡ Some build → reusable (state_of story).base build n unit ≡ Some id → IsTheRun (state_of story).base build n unit id }
+    ensures from_nothing { (story : List Told) (opening : Opening) (tag : Tag) (n : ℕ) (build : Build) (unit : Unit) (id : ℕ) → Legal story → (state_of story).opened ≡ Some opening → IsSound opening.base → MayTake (state_of story) tag n build unit → reusable (state_of story).base build n unit ≡ Some id → IsAsFromNothing (state_of story).base build n unit id }
 {}
 
 /// Where what a view sees covers the record of a true object, the record gives the stored outputs when it is run again in

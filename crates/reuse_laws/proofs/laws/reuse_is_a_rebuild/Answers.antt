@@ -1,15 +1,8 @@
-use Rattle.legal_history.specs.Steps.{state_of}
-use Rattle.fresh_builds.proofs.SoundStories.{base_fits}
 use Rattle.reuse_laws.proofs.laws.reuse_is_a_rebuild.Goals as goal
-use Rattle.reuse_laws.proofs.Matched.{match_is_run}
-use Rattle.reuse_laws.proofs.Reusables.{first_are_base, reusable_matches}
-use Rattle.reuse_laws.proofs.SoundBases.{gives_live, story_holds, story_stays_sound}
-use Rattle.reuse_laws.proofs.TrueObjects.{live_is_true}
+use Rattle.reuse_laws.proofs.FromNothing.{story_reuse, story_reuse_from_nothing}
 
-pub returns : goal.returns
-returns c = λ story opening lane build n unit id legal opened sound is chosen.
-    let b = (state_of story).base in
-    let base = base_fits story legal in
-    let whole = story_stays_sound story opening legal opened sound in
-    let m = reusable_matches b build n unit id base chosen in
-    match_is_run b build n unit id base (first_are_base b build.rows base) whole (gives_live b build (story_holds story lane build legal is)) (live_is_true b id whole m.lives) m.matches_unit
+pub returns-clause-run : goal.returns-clause-run
+returns-clause-run c = story_reuse
+
+pub returns-clause-from_nothing : goal.returns-clause-from_nothing
+returns-clause-from_nothing c = story_reuse_from_nothing
