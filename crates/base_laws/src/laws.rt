@@ -14,6 +14,7 @@ ghost use Rattle.legal_history.specs.Changes.{held, live};
 ghost use Rattle.legal_history.specs.Closures.{is_version_of};
 ghost use Rattle.legal_history.specs.Fits.{is_base};
 ghost use Rattle.legal_history.specs.Merges.{Reaches, reaches};
+ghost use Rattle.legal_history.specs.Views.{Checkout, out};
 ghost use Rattle.base_laws.specs.Directories.{directory_of};
 ghost use Rattle.base_laws.specs.FirstRows.{SayTheSame};
 
@@ -51,6 +52,11 @@ pub fn catalogs_are_in_order()
 pub fn an_element_has_one_directory()
     ensures versions { (b : Base) (d r : ℕ) (name : List ℕ) (e : ℕ) → is_base b ≡ true → is_version_of b d r ≡ true → named name (catalog_of b r) ≡ Some e → directory_of b e ≡ Some d }
     ensures checkouts { (b : Base) (v : List ℕ) (d : ℕ) (name : List ℕ) (e : ℕ) → is_base b ≡ true → named name (own_of b v d) ≡ Some e → directory_of b e ≡ Some d }
+{}
+
+/// A checkout of an element is made from one of the element's versions.
+pub fn a_checkout_is_made_from_a_version()
+    ensures { (b : Base) (v : List ℕ) (e : ℕ) (checkout : Checkout) → is_base b ≡ true → out b v e ≡ Some checkout → is_version_of b e checkout.origin ≡ true }
 {}
 
 /// A version that is found to be reached from another is reached by a walk along successors, branches and arrows.

@@ -1,5 +1,5 @@
 -- An object that a unit may reuse is what the unit comes to in the build from nothing.
-use Rattle.std.proofs.Common.{◌≡◌, refl, ap, sym, ◌∙◌, inl, inr, ℕ, ◌<◌, Option, Some, None, Ok, List}
+use Rattle.std.proofs.Common.{◌≡◌, refl, ap, sym, ◌∙◌, inl, inr, ℕ, ◌<◌, Option, Some, None, List}
 use Rattle.std.specs.Prelude.{is_some}
 use Rattle.cc_names.specs.declared.rows.Deed.{Deed}
 use Rattle.cc_names.specs.declared.rows.Deed.TheVariants as deeds
@@ -9,11 +9,11 @@ use Rattle.cc_names.specs.declared.units.Unit.{Unit}
 use Rattle.legal_history.specs.Base.{Base, size, first_rows, deed_at}
 use Rattle.legal_history.specs.Builds.{Build, build_of}
 use Rattle.legal_history.specs.Changes.{targets_of, targets_of_deed}
-use Rattle.legal_history.specs.Choices.{here, text_of_row, visible}
+use Rattle.legal_history.specs.Choices.{text_of_row, visible}
 use Rattle.legal_history.specs.Fresh.{outcome_of_run, script_text}
-use Rattle.legal_history.specs.Freshness.{AgreesSoFar, HasOutputs, IsReady, early_from_nothing}
+use Rattle.legal_history.specs.Freshness.{AgreesSoFar, IsReady, early_from_nothing}
 use Rattle.legal_history.specs.Reuse.{reusable}
-use Rattle.legal_history.specs.States.{Opening, State}
+use Rattle.legal_history.specs.States.{Opening}
 use Rattle.legal_history.specs.Steps.{state_of}
 use Rattle.legal_history.specs.Stories.{Legal}
 use Rattle.legal_history.specs.Texts.{output_at, text}

@@ -13,7 +13,7 @@ use Rattle.cc_names.specs.declared.rows.Tag.{Tag}
 use Rattle.cc_names.specs.declared.units.Unit.{Unit}
 use Rattle.legal_history.specs.Base.{Base, size}
 use Rattle.legal_history.specs.Builds.{Active, Build, Came, Started, Ended, Given, build_of, building, came_to, is_outcome, object_of, unit_at, unit_with_first}
-use Rattle.legal_history.specs.Changes.{held, live}
+use Rattle.legal_history.specs.Changes.{held, live, targets_of}
 use Rattle.legal_history.specs.Closures.{is_among}
 use Rattle.legal_history.specs.Fits.{deed_fits}
 use Rattle.legal_history.specs.Serials.{makes}
@@ -116,5 +116,22 @@ publish_held tag moment view targets script entries outputs b build n unit same_
       holds = λ path made.
           held_after_won build.view path view (size b) targets (held b)
           ∙ ap₂ (λ s t. cond (s && t) (Some (size b)) (held_at (held b) build.view path))
+          ((bytes_eq-Decides build.view view).1 same_view) (ap (is_among path) (sym same_targets) ∙ made);
+    }
+
+-- the object that a unit winks in is held at each target of the unit
+pub wink_held : (tag : Tag) (moment : ℕ) (view : List ℕ) (id : ℕ) (b : Base) (build : Build) (n : ℕ) (unit : Unit) → build.view ≡ view → unit.targets ≡ targets_of b id → is_some (live b id) ≡ true → unit_at build n ≡ Some unit →
+    unit_with_first build (targets_of b id) ≡ Some n → IsHeld (record { tag = tag; moment = moment; deed = deeds.Wink view id } ∷ b) build n id
+wink_held tag moment view id b build n unit same_view same_targets lives is place =
+    let first = target_there build (targets_of b id) n place in
+    record {
+      unit = unit;
+      is_unit = is;
+      lives = lives;
+      target = first.0;
+      is_target = ap (is_among first.0) same_targets ∙ first.1;
+      holds = λ path made.
+          held_after_won build.view path view id (targets_of b id) (held b)
+          ∙ ap₂ (λ s t. cond (s && t) (Some id) (held_at (held b) build.view path))
           ((bytes_eq-Decides build.view view).1 same_view) (ap (is_among path) (sym same_targets) ∙ made);
     }

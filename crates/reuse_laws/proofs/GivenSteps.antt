@@ -1,5 +1,5 @@
 -- Each lawful step keeps each object that an active build has given live and held by the build's view.
-use Rattle.std.proofs.Common.{◌≡◌, refl, ap, sym, subst, ◌∙◌, ℕ, Bool, true, false, ◌&&◌, Option, Some, None, Ok, List, [], ◌∷◌}
+use Rattle.std.proofs.Common.{◌≡◌, refl, ap, sym, subst, ◌∙◌, inl, inr, ℕ, Bool, true, false, ◌&&◌, ◌⊎◌, Option, Some, None, Ok, List, [], ◌∷◌}
 use Rattle.std.proofs.lemmas.Slice.Eq.{bytes_eq-Decides}
 use Rattle.std.specs.Prelude.{bytes_eq}
 use Rattle.cc_names.specs.Formed.{Plain}
@@ -19,22 +19,27 @@ use Rattle.legal_history.specs.Base.{Base, size}
 use Rattle.legal_history.specs.Builds.{Build, Came, Ended, Given, build_of, came_to, is_outcome, object_of, number_from, unit_at, unit_with_first}
 use Rattle.legal_history.specs.Closures.{is_among}
 use Rattle.legal_history.specs.Decisions.{Makes, Begins}
-use Rattle.legal_history.specs.Fits.{deed_fits}
+use Rattle.legal_history.specs.Changes.{targets_of}
+use Rattle.legal_history.specs.Fits.{deed_fits, is_base}
+use Rattle.legal_history.specs.Reuse.{choice}
 use Rattle.legal_history.specs.Serials.{makes}
 use Rattle.legal_history.specs.States.{State, scene, decided, build_by}
 use Rattle.legal_history.specs.Steps.{after, after_step, noted, came_by_starting, came_of_unit, active_after, begun, with_came}
-use Rattle.legal_history.specs.Stories.{Lawful, LawfulStep, MakesRow, Settles, Publishes}
+use Rattle.legal_history.specs.Stories.{Lawful, LawfulStep, MakesRow, Settles, Keeps, Winks, Publishes, IsOpen, IsRunning}
 use Rattle.legal_history.specs.Turns.{came_by_start, unreadable}
 use Rattle.legal_history.proofs.Goes.{of_lane}
 use Rattle.legal_history.proofs.Owned.{row_fits}
 use Rattle.fresh_builds.proofs.AllBuilds.{Each, each_noted, each_without, each_begun, each_faulted}
-use Rattle.fresh_builds.proofs.DecidedSteps.{decided_of, says_of, none_chosen, begun_by, begun_is}
+use Rattle.fresh_builds.proofs.DecidedSteps.{decided_of, says_of, begun_by, begun_is}
 use Rattle.fresh_builds.proofs.FineBuilds.{some_same}
 use Rattle.fresh_builds.proofs.Published.{IsPublish, is_publish}
 use Rattle.fresh_builds.proofs.SoundStories.{IsSound, sound_step}
 use Rattle.reuse_laws.specs.Given.{IsHeld, HoldsGiven}
 use Rattle.reuse_laws.proofs.DecidedIdle.{decided_idle}
-use Rattle.reuse_laws.proofs.GivenRows.{IsOfCommand, given_stays, given_by_command, came_given, came_without, object_is_outcome, publish_held}
+use Rattle.reuse_laws.proofs.GivenRows.{IsOfCommand, given_stays, given_by_command, came_given, came_without, object_is_outcome, publish_held, wink_held}
+use Rattle.reuse_laws.proofs.KeptObjects.{chosen_is_reusable, kept_held}
+use Rattle.reuse_laws.proofs.Matched.{match_targets}
+use Rattle.reuse_laws.proofs.Reusables.{reusable_matches}
 use Rattle.reuse_laws.proofs.ViewsApart.{ViewsApart, apart_noted, apart_without, apart_faulted, apart_begun, begun_idle}
 
 -- each active build's objects are held, and no two active builds are of one view
@@ -55,15 +60,32 @@ starting_without : (o : Option Build) (n : ℕ) → object_of (Some (came_by_sta
 starting_without None n = start_without None
 starting_without (Some build) n = unit_without (unit_at build n)
 
-settled_without : (s : State) (tag : Tag) (n : ℕ) (end : UnitEnd) → Settles s tag n end → object_of (Some (Ended end)) ≡ None
-settled_without s tag n (ends.Kept id) e = absurd (none_chosen id e.chosen)
-settled_without s tag n (ends.Failed fault) e = refl
-settled_without s tag n (ends.Blocked path) e = refl
-settled_without s tag n ends.Bare e = refl
-
 without_object : (s : State) (lane : ℕ) (number : Build → Option ℕ) (came : Came) → object_of (Some came) ≡ None → AllHeld s → Each (λ lane. HoldsGiven s.base) (noted s.active lane number came)
 without_object s lane number came none h =
     each_noted (λ lane. HoldsGiven s.base) s.active lane number came h.given (λ build is. came_without s.base build (number build) came none (h.given.holds lane build is))
+
+-- a unit keeps what the view holds at every target
+kept_given : (s : State) (tag : Tag) (n id : ℕ) → is_base s.base ≡ true → AllHeld s → Keeps s tag n id → Each (λ lane. HoldsGiven s.base) (noted s.active tag.lane (λ b. Some n) (Ended (ends.Kept id)))
+kept_given s tag n id base h e =
+    each_noted (λ lane. HoldsGiven s.base) s.active tag.lane (λ b. Some n) (Ended (ends.Kept id)) h.given own
+  where
+    there : build_of s.active tag.lane ≡ Some e.build
+    there = of_lane s tag e.build e.open_unit.waits.active
+
+    own : (build : Build) → build_of s.active tag.lane ≡ Some build → HoldsGiven s.base (with_came build (Some n) (Ended (ends.Kept id)))
+    own build is =
+        let same : e.build ≡ build = some_same (sym there ∙ is) in
+        subst (λ x. HoldsGiven s.base (with_came x (Some n) (Ended (ends.Kept id)))) same
+        (came_given s.base e.build n (Ended (ends.Kept id))
+        (λ other object. let number : id ≡ other = some_same object in
+        subst (IsHeld s.base e.build n) number (kept_held s.base e.build n e.unit id base e.open_unit.waits.is_unit e.holds))
+        (h.given.holds tag.lane e.build there))
+
+settled_given : (s : State) (tag : Tag) (n : ℕ) (end : UnitEnd) → is_base s.base ≡ true → AllHeld s → Settles s tag n end → Each (λ lane. HoldsGiven s.base) (noted s.active tag.lane (λ b. Some n) (Ended end))
+settled_given s tag n (ends.Kept id) base h e = kept_given s tag n id base h e
+settled_given s tag n (ends.Failed fault) base h e = without_object s tag.lane (λ b. Some n) (Ended (ends.Failed fault)) refl h
+settled_given s tag n (ends.Blocked path) base h e = without_object s tag.lane (λ b. Some n) (Ended (ends.Blocked path)) refl h
+settled_given s tag n ends.Bare base h e = without_object s tag.lane (λ b. Some n) (Ended ends.Bare) refl h
 
 begun_given : (s : State) (tag : Tag) (us : List Unit) → decided s tag ≡ Some (Ok (Begins us)) → (build : Build) → begun s tag ≡ Some build → HoldsGiven s.base build
 begun_given s tag us h build is =
@@ -71,20 +93,20 @@ begun_given s tag us h build is =
     let made : begun_by s tag us says.view says.own_only says.rebuild ≡ build = some_same (sym (begun_is s tag us h) ∙ is) in
     subst (HoldsGiven s.base) made (record { given = λ n id own. absurd (cc) })
 
-told_given : (s : State) (step : Step) → AllHeld s → LawfulStep s step → Each (λ lane. HoldsGiven (after_step s step).base) (after_step s step).active
-told_given s (steps.Refused tag refusal) h e = h.given
-told_given s (steps.Answer tag text) h e = h.given
-told_given s (steps.Begin tag rows count) h e = each_begun (λ lane. HoldsGiven s.base) s.active tag.lane (begun s tag) h.given (begun_given s tag e.units e.chosen)
-told_given s (steps.Start tag n) h e = without_object s tag.lane (λ b. Some n) (came_by_starting (build_of s.active tag.lane) n) (starting_without (build_of s.active tag.lane) n) h
-told_given s (steps.Settled tag n end) h e = without_object s tag.lane (λ b. Some n) (Ended end) (settled_without s tag n end e) h
-told_given s (steps.End tag) h e = each_without (λ lane. HoldsGiven s.base) (λ lane. HoldsGiven s.base) s.active tag.lane h.given (λ lane build apart given. given)
-told_given s (steps.Fault tag left before faults tick) h e = each_faulted (λ lane. HoldsGiven s.base) s.active tag.lane (build_by s tag) h.given (λ build is.
+told_given : (s : State) (step : Step) → is_base s.base ≡ true → AllHeld s → LawfulStep s step → Each (λ lane. HoldsGiven (after_step s step).base) (after_step s step).active
+told_given s (steps.Refused tag refusal) base h e = h.given
+told_given s (steps.Answer tag text) base h e = h.given
+told_given s (steps.Begin tag rows count) base h e = each_begun (λ lane. HoldsGiven s.base) s.active tag.lane (begun s tag) h.given (begun_given s tag e.units e.chosen)
+told_given s (steps.Start tag n) base h e = without_object s tag.lane (λ b. Some n) (came_by_starting (build_of s.active tag.lane) n) (starting_without (build_of s.active tag.lane) n) h
+told_given s (steps.Settled tag n end) base h e = settled_given s tag n end base h e
+told_given s (steps.End tag) base h e = each_without (λ lane. HoldsGiven s.base) (λ lane. HoldsGiven s.base) s.active tag.lane h.given (λ lane build apart given. given)
+told_given s (steps.Fault tag left before faults tick) base h e = each_faulted (λ lane. HoldsGiven s.base) s.active tag.lane (build_by s tag) h.given (λ build is.
     record {
       given = λ n id own.
           let held = (h.given.holds tag.lane build (of_lane s tag build is)).given n id own in
           record { unit = held.unit; is_unit = held.is_unit; lives = held.lives; target = held.target; is_target = held.is_target; holds = held.holds };
     })
-told_given s step h e = absurd e
+told_given s step base h e = absurd e
 
 told_apart : (s : State) (step : Step) → AllHeld s → LawfulStep s step → ViewsApart (after_step s step).active
 told_apart s (steps.Refused tag refusal) h e = h.apart
@@ -179,6 +201,57 @@ published_given s tag moment view targets script entries outputs sound h fit e =
         (publish_held tag moment view targets script entries outputs s.base e.build e.n e.unit p.same_view p.same_targets e.running.waits.is_unit e.place))
         (before.holds tag.lane e.build there)))
 
+-- the unit that winks an object in has no outcome yet
+pub record WinksFor (s : State) (tag : Tag) (n : ℕ) (build : Build) (unit : Unit) : Type 0 where
+  pub there : build_of s.active tag.lane ≡ Some build
+  pub is_unit : unit_at build n ≡ Some unit
+  pub waits : is_outcome (came_to build n) ≡ false
+
+pub winks_for : (s : State) (tag : Tag) (n : ℕ) (build : Build) (unit : Unit) → IsOpen s tag n build unit ⊎ IsRunning s tag n build unit → WinksFor s tag n build unit
+winks_for s tag n build unit (inl o) = record { there = of_lane s tag build o.waits.active; is_unit = o.waits.is_unit; waits = o.waits.waits }
+winks_for s tag n build unit (inr r) = record { there = of_lane s tag build r.waits.active; is_unit = r.waits.is_unit; waits = r.waits.waits }
+
+-- the object that is chosen is live and has the unit's targets
+pub wink_is : (b : Base) (build : Build) (n : ℕ) (unit : Unit) (view : List ℕ) (id : ℕ) → is_base b ≡ true → build.view ≡ view → choice b build n unit ≡ Some id → PublishIs build unit view (targets_of b id)
+wink_is b build n unit view id base of_view chosen =
+    let m = reusable_matches b build n unit id base (chosen_is_reusable b build n unit id chosen) in
+    record { same_view = of_view; same_targets = sym (match_targets b build n unit id m.matches_unit) }
+
+winked_given : (s : State) (tag : Tag) (moment : ℕ) (view : List ℕ) (id : ℕ) → IsSound s → AllHeld s → deed_fits s.base (deeds.Wink view id) ≡ true → Winks s (record { tag = tag; moment = moment; deed = deeds.Wink view id }) view id →
+    Each (λ lane. HoldsGiven (record { tag = tag; moment = moment; deed = deeds.Wink view id } ∷ s.base)) (noted s.active tag.lane (λ build. unit_with_first build (targets_of s.base id)) (Given id))
+winked_given s tag moment view id sound h fit e = each_noted (λ lane. HoldsGiven (row ∷ s.base)) s.active tag.lane (λ build. unit_with_first build (targets_of s.base id)) (Given id) before own
+  where
+    row : Plain
+    row = record { tag = tag; moment = moment; deed = deeds.Wink view id }
+
+    w : WinksFor s tag e.n e.build e.unit
+    w = winks_for s tag e.n e.build e.unit e.may
+
+    p : PublishIs e.build e.unit view (targets_of s.base id)
+    p = wink_is s.base e.build e.n e.unit view id sound.base e.of_view e.chosen
+
+    before : Each (λ lane. HoldsGiven (row ∷ s.base)) s.active
+    before = record {
+      holds = λ lane build is. record {
+        given = λ m other own.
+            given_stays row s.base build m other fit
+            (λ unit path is_m made. leaves_given s tag view (targets_of s.base id) e.build build lane e.n m other e.unit unit path sound h w.there w.is_unit w.waits p is is_m own made)
+            ((h.given.holds lane build is).given m other own);
+      };
+    }
+
+    own : (build : Build) → build_of s.active tag.lane ≡ Some build → HoldsGiven (row ∷ s.base) (with_came build (unit_with_first build (targets_of s.base id)) (Given id))
+    own build is =
+        let same : e.build ≡ build = some_same (sym w.there ∙ is) in
+        subst (λ x. HoldsGiven (row ∷ s.base) (with_came x (unit_with_first x (targets_of s.base id)) (Given id))) same
+        (subst (λ o. HoldsGiven (row ∷ s.base) (with_came e.build o (Given id))) (sym e.place)
+        (came_given (row ∷ s.base) e.build e.n (Given id)
+        (λ other object. let number : id ≡ other = some_same object in
+        subst (IsHeld (row ∷ s.base) e.build e.n) number
+        (wink_held tag moment view id s.base e.build e.n e.unit p.same_view p.same_targets
+        (reusable_matches s.base e.build e.n e.unit id sound.base (chosen_is_reusable s.base e.build e.n e.unit id e.chosen)).lives w.is_unit e.place))
+        (before.holds tag.lane e.build w.there)))
+
 commanded_given : (s : State) (tag : Tag) (moment : ℕ) (deed : Deed) → AllHeld s → deed_fits s.base deed ≡ true → IsOfCommand deed → decided s tag ≡ Some (Ok (Makes deed)) →
     Each (λ lane. HoldsGiven (record { tag = tag; moment = moment; deed = deed } ∷ s.base)) s.active
 commanded_given s tag moment deed h fit plain e =
@@ -191,7 +264,7 @@ commanded_given s tag moment deed h fit plain e =
 committed_given : (s : State) (tag : Tag) (moment : ℕ) (deed : Deed) → IsSound s → AllHeld s → deed_fits s.base deed ≡ true → MakesRow s (record { tag = tag; moment = moment; deed = deed }) deed →
     Each (λ lane. HoldsGiven (record { tag = tag; moment = moment; deed = deed } ∷ s.base)) (active_after s.base s.active tag.lane deed)
 committed_given s tag moment (deeds.Publish view targets script entries outputs) sound h fit e = published_given s tag moment view targets script entries outputs sound h fit e
-committed_given s tag moment (deeds.Wink view id) sound h fit e = absurd (none_chosen id e.chosen)
+committed_given s tag moment (deeds.Wink view id) sound h fit e = winked_given s tag moment view id sound h fit e
 committed_given s tag moment deed sound h fit e = commanded_given s tag moment deed h fit tt e
 
 committed_apart : (s : State) (lane : ℕ) (deed : Deed) → AllHeld s → ViewsApart (active_after s.base s.active lane deed)
@@ -205,4 +278,4 @@ held_step s (told.Plan phase moment) sound h e = record { given = h.given; apart
 held_step s (told.Commit row tick) sound h e =
     let fit = row_fits row s.base (sound_step s (told.Commit row tick) sound e).base in
     record { given = committed_given s row.tag row.moment row.deed sound h fit e.may.made; apart = committed_apart s row.tag.lane row.deed h }
-held_step s (told.Other step) sound h e = record { given = told_given s step h e; apart = told_apart s step h e }
+held_step s (told.Other step) sound h e = record { given = told_given s step sound.base h e; apart = told_apart s step h e }

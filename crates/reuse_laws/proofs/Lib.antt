@@ -5,6 +5,7 @@ pub mod EntriesBelow
 pub mod FromNothing
 pub mod GivenRows
 pub mod GivenSteps
+pub mod KeptObjects
 pub mod Matched
 pub mod Members
 pub mod PlaceStays
@@ -17,3 +18,4 @@ pub mod SoundBases
 pub mod SoundRows
 pub mod TrueObjects
 pub mod ViewsApart
+pub mod WinkedObjects

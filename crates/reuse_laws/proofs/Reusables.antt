@@ -16,11 +16,11 @@ pub record LiveMatch (b : Base) (build : Build) (n : ℕ) (unit : Unit) (id : �
   pub lives : is_some (live b id) ≡ true
   pub matches_unit : matches b build n unit id ≡ true
 
-only_one : (t : Bool) (k id : ℕ) → only_where t (Some k) ≡ Some id → (t ≡ true) × (k ≡ id)
+pub only_one : (t : Bool) (k id : ℕ) → only_where t (Some k) ≡ Some id → (t ≡ true) × (k ≡ id)
 only_one true k id h = (refl, cc)
 only_one false k id h = absurd (cc)
 
-held_lives : (b : Base) (v : List ℕ) (targets : List (List ℕ)) (id : ℕ) → is_base b ≡ true → held_at_all b v targets ≡ Some id → is_some (live b id) ≡ true
+pub held_lives : (b : Base) (v : List ℕ) (targets : List (List ℕ)) (id : ℕ) → is_base b ≡ true → held_at_all b v targets ≡ Some id → is_some (live b id) ≡ true
 held_lives b v [] id base h = absurd (cc)
 held_lives b v (target ∷ targets) id base h = by (held_at (held b) v target) refl h
   where

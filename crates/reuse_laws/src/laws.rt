@@ -3,24 +3,25 @@
 ghost use Rattle.std.specs.Prelude.{◌≡◌, ℕ, List, [], ◌∷◌, ◌++◌, Some, None, true, false};
 ghost use Rattle.cc_names.specs.Formed.{Plain};
 ghost use Rattle.cc_names.specs.References.{held_at};
+ghost use Rattle.cc_names.specs.declared.rows.Deed.TheVariants as deeds;
 ghost use Rattle.cc_names.specs.declared.rows.Tag.{Tag};
 ghost use Rattle.cc_names.specs.declared.steps.Told.{Told};
 ghost use Rattle.cc_names.specs.declared.units.Unit.{Unit};
 ghost use Rattle.legal_history.specs.Base.{Base, size};
-ghost use Rattle.legal_history.specs.Builds.{Build, build_of, came_to, is_outcome, unit_at};
-ghost use Rattle.legal_history.specs.Changes.{held};
+ghost use Rattle.legal_history.specs.Builds.{Build, build_of, came_to, is_outcome, unit_at, unit_with_first};
+ghost use Rattle.legal_history.specs.Changes.{held, targets_of};
 ghost use Rattle.legal_history.specs.Choices.{here, publish_of, visible};
 ghost use Rattle.legal_history.specs.Closures.{is_publish_deed};
 ghost use Rattle.legal_history.specs.Fits.{is_base};
 ghost use Rattle.legal_history.specs.RecordTexts.{uncovered};
-ghost use Rattle.legal_history.specs.Reuse.{matches, reusable};
+ghost use Rattle.legal_history.specs.Reuse.{held_at_all, matches, reusable};
 ghost use Rattle.legal_history.specs.Serials.{makes};
 ghost use Rattle.legal_history.specs.States.{Opening};
 ghost use Rattle.legal_history.specs.Steps.{after, state_of};
 ghost use Rattle.legal_history.specs.Stories.{Lawful, Legal};
 ghost use Rattle.legal_history.specs.Values.{again, is_true, IsSound};
 ghost use Rattle.reuse_laws.specs.FromNothing.{IsAsFromNothing, MayTake};
-ghost use Rattle.reuse_laws.specs.Given.{HoldsGiven};
+ghost use Rattle.reuse_laws.specs.Given.{HoldsGiven, IsHeld};
 ghost use Rattle.reuse_laws.specs.Objects.{GivesLive, IsTheRun, outputs_of};
 
 /// A true object whose record matches a unit has stored what a run of the unit's script gives on what the unit sees, where
@@ -43,6 +44,13 @@ pub fn a_published_object_is_true()
 /// A row leaves a sound base sound, whatever it is, where an object that it publishes is true.
 pub fn a_row_leaves_a_base_sound()
     ensures { (row : Plain) (b : Base) → IsSound b → (is_publish_deed (Some row.deed) ≡ true → is_true (row ∷ b) (size b) ≡ true) → IsSound (row ∷ b) }
+{}
+
+/// An object that a unit keeps, since its view holds it at every target, and one that it winks in, are live and held by the
+/// build's view at every target of the unit.
+pub fn what_is_reused_is_held()
+    ensures kept { (b : Base) (build : Build) (n : ℕ) (unit : Unit) (id : ℕ) → is_base b ≡ true → unit_at build n ≡ Some unit → held_at_all b build.view unit.targets ≡ Some id → IsHeld b build n id }
+    ensures winked { (row : Plain) (b : Base) (build : Build) (n : ℕ) (unit : Unit) (id : ℕ) → is_base b ≡ true → unit_at build n ≡ Some unit → unit_with_first build (targets_of b id) ≡ Some n → reusable b build n unit ≡ Some id → row.deed ≡ deeds.Wink build.view id → IsHeld (row ∷ b) build n id }
 {}
 
 /// Along a legal story each object that an active build has given to a unit is live, and the build's view holds it at every

@@ -1,6 +1,6 @@
 // The laws of stories, each the contract of a function with an empty body.
 
-ghost use Rattle.std.specs.Prelude.{◌≡◌, ℕ, ◌+◌, ◌≤◌, List, Some, None, is_some, true};
+ghost use Rattle.std.specs.Prelude.{◌≡◌, ℕ, ◌+◌, ◌≤◌, List, [], ◌∷◌, ◌++◌, Some, None, is_some, true};
 ghost use Rattle.cc_names.specs.declared.steps.Told.{Told};
 ghost use Rattle.cc_names.specs.declared.units.Unit.{Unit};
 ghost use Rattle.legal_history.specs.Base.{size};
@@ -12,6 +12,12 @@ ghost use Rattle.legal_history.specs.Steps.{after, state_of};
 ghost use Rattle.legal_history.specs.Stories.{Lawful, Legal};
 ghost use Rattle.story_laws.specs.Ends.{AreRising, IsLeft};
 ghost use Rattle.story_laws.specs.Unfinished.{all_unfinished};
+
+/// A legal story goes on by each step that is lawful in the state to which it has led, and by no other.
+pub fn a_story_goes_on_by_a_lawful_step()
+    ensures on { (story : List Told) (x : Told) → Legal story → Lawful (state_of story) x → Legal (story ++ x ∷ []) }
+    ensures last { (story : List Told) (x : Told) → Legal (story ++ x ∷ []) → Lawful (state_of story) x }
+{}
 
 /// Along a legal story the rows of the base, and one more for each unit of an active build that has no outcome, stay within
 /// the limit of rows.
