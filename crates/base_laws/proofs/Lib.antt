@@ -1,5 +1,7 @@
 pub mod CatalogsInOrder
+pub mod CountedViews
 pub mod Deeds
+pub mod DueObjects
 pub mod FirstRowsStay
 pub mod HeldObjects
 pub mod HeldPaths

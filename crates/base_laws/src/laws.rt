@@ -1,21 +1,26 @@
 // The laws of a base, each the contract of a function with an empty body.
 
-ghost use Rattle.std.specs.Prelude.{◌≡◌, ℕ, ◌≤◌, ◌==◌, List, ◌∷◌, ◌++◌, Some, is_some, true, false};
+ghost use Rattle.std.specs.Prelude.{◌≡◌, ℕ, ◌≤◌, ◌==◌, List, ◌∷◌, ◌++◌, length, Some, Ok, is_some, true, false};
 ghost use Rattle.std.specs.List.{list_any};
 ghost use Rattle.std.specs.Cmp.Lexicographic.{slice_cmp};
 ghost use Rattle.std.specs.FinMap.Entries.{is_sorted};
 ghost use Rattle.std.specs.Ordering.{nat_cmp};
 ghost use Rattle.cc_names.specs.Formed.{Plain};
-ghost use Rattle.cc_names.specs.References.{Held, place_cmp, held_at, is_held, count};
+ghost use Rattle.cc_names.specs.References.{Held, place_cmp, held_at, is_held, is_held_by, count};
+ghost use Rattle.cc_names.specs.declared.commands.Command.TheVariants as commands;
 ghost use Rattle.cc_names.specs.declared.rows.Deed.TheVariants as deeds;
 ghost use Rattle.legal_history.specs.Base.{Base, size};
 ghost use Rattle.legal_history.specs.Catalogs.{catalog_of, named, own_of};
 ghost use Rattle.legal_history.specs.Changes.{held, live};
-ghost use Rattle.legal_history.specs.Closures.{is_version_of};
+ghost use Rattle.legal_history.specs.Closures.{is_among, is_version_of};
+ghost use Rattle.legal_history.specs.Decisions.{Makes, Scene};
 ghost use Rattle.legal_history.specs.Fits.{is_base};
+ghost use Rattle.legal_history.specs.Lines.{decision};
 ghost use Rattle.legal_history.specs.Merges.{Reaches, reaches};
 ghost use Rattle.legal_history.specs.Views.{Checkout, out};
+ghost use Rattle.base_laws.specs.Counts.{AreOnce, holding_views};
 ghost use Rattle.base_laws.specs.Directories.{directory_of};
+ghost use Rattle.base_laws.specs.Dues.{is_due_object};
 ghost use Rattle.base_laws.specs.FirstRows.{SayTheSame};
 
 /// What a base says of its first rows never changes when rows are added: versions, labels with their holders, and what each
@@ -34,10 +39,19 @@ pub fn a_scrub_takes_no_held_object()
     ensures { (row : Plain) (b : Base) (objects : List ℕ) (id : ℕ) → is_base (row ∷ b) ≡ true → row.deed ≡ deeds.Scrub objects → list_any (λ object. object == id) objects ≡ true → is_held (held b) id ≡ false }
 {}
 
-/// The references of a base stand in the order of views and paths, each place once; and an object is counted zero times
-/// exactly where no view holds it.
-pub fn references_are_counted()
+/// The scrub that is decided at a moment lists exactly the objects that are due then: those that are live, that no view
+/// holds, and that were published at least the age ago, in seconds.
+pub fn a_scrub_lists_what_is_due()
+    ensures { (s : Scene) (age : ℕ) (objects : List ℕ) (id : ℕ) → decision s (commands.Scrub age) ≡ Ok (Makes (deeds.Scrub objects)) → list_any (λ object. object == id) objects ≡ is_due_object s.base s.moment age id }
+{}
+
+/// The references of a base stand in the order of views and paths, each place once; and an object is counted once for each view
+/// that holds it, at however many paths.
+pub fn references_are_counted_by_views()
     ensures order { (b : Base) → is_sorted place_cmp (held b) ≡ true }
+    ensures count { (held : Held) (id : ℕ) → count held id ≡ length (holding_views held id) }
+    ensures views { (held : Held) (v : List ℕ) (id : ℕ) → is_among v (holding_views held id) ≡ is_held_by held v id }
+    ensures once { (held : Held) (id : ℕ) → AreOnce (holding_views held id) }
     ensures none { (held : Held) (id : ℕ) → is_held held id ≡ false → count held id ≡ 0 }
     ensures some { (held : Held) (id : ℕ) → count held id ≡ 0 → is_held held id ≡ false }
 {}

@@ -8,6 +8,7 @@ pub mod GivenSteps
 pub mod KeptObjects
 pub mod Matched
 pub mod Members
+pub mod PassedOver
 pub mod PlaceStays
 pub mod PublishedTrue
 pub mod Reruns

@@ -59,3 +59,12 @@ sound_row row b sound new id = by (is_some (live (row ∷ b) id)) refl
     by : (t : Bool) → is_some (live (row ∷ b) id) ≡ t → (not t || is_true (row ∷ b) id) ≡ true
     by true h = by_number (size b == id) refl h
     by false h = refl
+
+-- row 0 is no object
+pub live_above : (b : Base) (id : ℕ) → is_some (live b id) ≡ true → 0 < id
+live_above [] id h = absurd (cc)
+live_above (row ∷ older) id h = by (size older == id) refl (live_above older id)
+  where
+    by : (t : Bool) → (size older == id) ≡ t → (is_some (live older id) ≡ true → 0 < id) → 0 < id
+    by true e rest = let number = same_number (size older) id e in omega arith
+    by false e rest = rest (lived_before (size older) id row.deed (live older id) e h)

@@ -1,6 +1,6 @@
 // The laws of reuse, each the contract of a function with an empty body.
 
-ghost use Rattle.std.specs.Prelude.{◌≡◌, ℕ, List, [], ◌∷◌, ◌++◌, Some, None, true, false};
+ghost use Rattle.std.specs.Prelude.{◌≡◌, ℕ, List, [], ◌∷◌, ◌++◌, Some, None, is_some, true, false};
 ghost use Rattle.cc_names.specs.Formed.{Plain};
 ghost use Rattle.cc_names.specs.References.{held_at};
 ghost use Rattle.cc_names.specs.declared.rows.Deed.TheVariants as deeds;
@@ -9,7 +9,7 @@ ghost use Rattle.cc_names.specs.declared.steps.Told.{Told};
 ghost use Rattle.cc_names.specs.declared.units.Unit.{Unit};
 ghost use Rattle.legal_history.specs.Base.{Base, size};
 ghost use Rattle.legal_history.specs.Builds.{Build, build_of, came_to, is_outcome, unit_at, unit_with_first};
-ghost use Rattle.legal_history.specs.Changes.{held, targets_of};
+ghost use Rattle.legal_history.specs.Changes.{held, live, targets_of};
 ghost use Rattle.legal_history.specs.Choices.{here, publish_of, visible};
 ghost use Rattle.legal_history.specs.Closures.{is_publish_deed};
 ghost use Rattle.legal_history.specs.Fits.{is_base};
@@ -34,6 +34,12 @@ pub fn a_match_is_the_run()
 /// sees: to reuse it is to build it.
 pub fn a_reusable_object_is_the_run()
     ensures { (b : Base) (build : Build) (n : ℕ) (unit : Unit) (id : ℕ) → is_base b ≡ true → IsSound b → GivesLive b build → reusable b build n unit ≡ Some id → IsTheRun b build n unit id }
+{}
+
+/// Where a unit of a build without `-V` and `-u` may reuse nothing, no live object's record matches it: no object that would do
+/// is passed over.
+pub fn no_match_is_passed_over()
+    ensures { (b : Base) (build : Build) (n : ℕ) (unit : Unit) (id : ℕ) → build.own_only ≡ false → build.rebuild ≡ false → reusable b build n unit ≡ None → is_some (live b id) ≡ true → matches b build n unit id ≡ false }
 {}
 
 /// An object that a unit's run publishes is true: its record, run again, gives its outputs and asks for nothing else.
