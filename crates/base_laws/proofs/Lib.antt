@@ -5,6 +5,7 @@ pub mod DueObjects
 pub mod FirstRowsStay
 pub mod HeldObjects
 pub mod HeldPaths
+pub mod NamedEdits
 pub mod NamedOnce
 pub mod NewVersions
 pub mod Values

@@ -3,6 +3,7 @@ pub mod CoveredRuns
 pub mod DecidedIdle
 pub mod EntriesBelow
 pub mod FromNothing
+pub mod GivenCommits
 pub mod GivenRows
 pub mod GivenSteps
 pub mod KeptObjects

@@ -28,7 +28,7 @@ use Rattle.fresh_builds.proofs.SoundStories.{IsSound, story_is_sound}
 use Rattle.base_laws.proofs.HeldPaths.{Leaves, path_stays}
 use Rattle.reuse_laws.proofs.DecidedIdle.{decided_idle}
 use Rattle.reuse_laws.proofs.GivenRows.{IsOfCommand, idle_leaves}
-use Rattle.reuse_laws.proofs.GivenSteps.{AllHeld, PublishIs, publish_is, wink_is, winks_for}
+use Rattle.reuse_laws.proofs.GivenCommits.{AllHeld, PublishIs, publish_is, wink_is, winks_for}
 use Rattle.reuse_laws.proofs.SoundBases.{story_all_held}
 
 -- a unit of a lane's build without an outcome after a step, at one of its targets

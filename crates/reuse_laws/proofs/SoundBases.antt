@@ -20,7 +20,8 @@ use Rattle.fresh_builds.proofs.Published.{is_publish}
 use Rattle.fresh_builds.proofs.SoundStories.{IsSound, sound_step, sound_first, none_active}
 use Rattle.reuse_laws.specs.Given.{HoldsGiven}
 use Rattle.reuse_laws.specs.Objects.{GivesLive}
-use Rattle.reuse_laws.proofs.GivenSteps.{AllHeld, held_step}
+use Rattle.reuse_laws.proofs.GivenCommits.{AllHeld}
+use Rattle.reuse_laws.proofs.GivenSteps.{held_step}
 use Rattle.reuse_laws.proofs.PublishedTrue.{published_is_true}
 use Rattle.reuse_laws.proofs.SoundRows.{sound_row}
 
