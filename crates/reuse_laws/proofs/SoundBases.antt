@@ -105,6 +105,10 @@ pub story_holds : (story : List Told) (lane : ℕ) (build : Build) → Legal sto
 story_holds [] lane build legal is = absurd (cc)
 story_holds (x ∷ story) lane build legal is = (story_all_held x story legal).given.holds lane build is
 
+pub one_build : (story : List Told) (lane other : ℕ) (one two : Build) → Legal story → build_of (state_of story).active lane ≡ Some one → build_of (state_of story).active other ≡ Some two → one.view ≡ two.view → lane ≡ other
+one_build [] lane other one two legal is_one is_two same = absurd (cc)
+one_build (x ∷ story) lane other one two legal is_one is_two same = (story_all_held x story legal).apart.one_lane lane other one two is_one is_two same
+
 pub story_stays_sound : (story : List Told) (o : Opening) → Legal story → (state_of story).opened ≡ Some o → values.IsSound o.base → values.IsSound (state_of story).base
 story_stays_sound [] o legal is true_base = absurd (cc)
 story_stays_sound (x ∷ story) o legal is true_base =

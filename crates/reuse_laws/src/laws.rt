@@ -65,6 +65,11 @@ pub fn a_given_object_is_held()
     ensures { (story : List Told) (lane : ℕ) (build : Build) → Legal story → build_of (state_of story).active lane ≡ Some build → HoldsGiven (state_of story).base build }
 {}
 
+/// Along a legal story no two active builds are of one view.
+pub fn a_view_has_one_build()
+    ensures { (story : List Told) (lane other : ℕ) (one two : Build) → Legal story → build_of (state_of story).active lane ≡ Some one → build_of (state_of story).active other ≡ Some two → one.view ≡ two.view → lane ≡ other }
+{}
+
 /// Along a legal story a base that was sound as it was opened stays sound; so one that was opened without rows is sound.
 pub fn a_base_stays_sound()
     ensures stays { (story : List Told) (opening : Opening) → Legal story → (state_of story).opened ≡ Some opening → IsSound opening.base → IsSound (state_of story).base }
