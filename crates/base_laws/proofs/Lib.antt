@@ -8,5 +8,6 @@ pub mod HeldPaths
 pub mod NamedEdits
 pub mod NamedOnce
 pub mod NewVersions
+pub mod RootRow
 pub mod Values
 pub mod Walks

@@ -38,7 +38,7 @@ some_same : {a b : ℕ} → Some a ≡ Some b → a ≡ b
 some_same h = cc
 
 -- a version is one of one element
-one_element : (b : Base) (d e r : ℕ) → is_version_of b d r ≡ true → is_version_of b e r ≡ true → d ≡ e
+pub one_element : (b : Base) (d e r : ℕ) → is_version_of b d r ≡ true → is_version_of b e r ≡ true → d ≡ e
 one_element b d e r h g =
     let p = of_element b d r h in
     let q = of_element b e r g in

@@ -9,6 +9,7 @@ pub mod GivenSteps
 pub mod KeptObjects
 pub mod Matched
 pub mod Members
+pub mod OwnRecords
 pub mod PassedOver
 pub mod PlaceStays
 pub mod PublishedTrue

@@ -1,13 +1,12 @@
 -- The text of an entry is the text that is seen at its path, where each object that is seen is true.
-use Rattle.std.proofs.Common.{◌≡◌, refl, ap, sym, subst, ◌∙◌, ℕ, zero, suc, Bool, true, false, ◌==◌, Option, Some, None, List, [], ◌∷◌, arith}
+use Rattle.std.proofs.Common.{◌≡◌, refl, ap, sym, subst, ◌∙◌, ℕ, zero, suc, Bool, true, false, Option, Some, None, List, [], ◌∷◌, arith}
 use Rattle.std.proofs.lemmas.Bool.Decides.{nat_tests}
 use Rattle.std.specs.Prelude.{is_none}
-use Rattle.cc_names.specs.Formed.{Plain}
 use Rattle.cc_names.specs.Versions.{is_number}
 use Rattle.cc_names.specs.declared.rows.Deed.{Deed}
 use Rattle.cc_names.specs.declared.rows.Deed.TheVariants as deeds
 use Rattle.cc_names.specs.declared.units.Unit.{Unit}
-use Rattle.legal_history.specs.Base.{Base, size, first_rows, row_at, deed_of, deed_at}
+use Rattle.legal_history.specs.Base.{Base, first_rows, deed_at}
 use Rattle.legal_history.specs.Builds.{Build}
 use Rattle.legal_history.specs.Changes.{targets_of, targets_of_deed}
 use Rattle.legal_history.specs.Choices.{entry_row, text_of_row, visible}
@@ -19,8 +18,8 @@ use Rattle.legal_history.specs.Seen.{file_at}
 use Rattle.legal_history.specs.Texts.{output_at, text}
 use Rattle.legal_history.specs.Values.{output_of_run, outputs_of_run, text_of_entry, is_true, rerun, IsSound}
 use Rattle.legal_history.proofs.FilesBelow.{beyond}
-use Rattle.legal_history.proofs.Goes.{same_number}
 use Rattle.fresh_builds.proofs.FileRows.{FileText, file_is_text, file_text_stays_all}
+use Rattle.base_laws.proofs.RootRow.{no_row}
 use Rattle.reuse_laws.specs.Objects.{GivesLive}
 use Rattle.reuse_laws.proofs.Members.{SeenBy, ByUnit, ByFile, seen_by}
 use Rattle.reuse_laws.proofs.TrueObjects.{true_object, live_is_true, object_text}
@@ -30,14 +29,6 @@ abbrev pub SeesTrue : Base → (List ℕ → Option ℕ) → Type 0
 SeesTrue b rows = (path : List ℕ) (id : ℕ) → rows path ≡ Some id → is_publish b id ≡ true → is_true b id ≡ true
 
 -- row 0 published nothing and made no text
-no_row : (b : Base) (deed : Deed) → deed_at b 0 ≡ Some deed → ⊥
-no_row [] deed is = cc
-no_row (row ∷ older) deed is = by (size older == 0) refl is (no_row older deed)
-  where
-    by : (t : Bool) → (size older == 0) ≡ t → deed_of (elim t as (λ x. Option Plain) [ true ↦ Some row | false ↦ row_at older 0 ]) ≡ Some deed → (deed_at older 0 ≡ Some deed → ⊥) → ⊥
-    by true e is rest = let number = same_number (size older) 0 e in absurd (omega arith)
-    by false e is rest = rest is
-
 no_deed : (b : Base) (o : Option Deed) → deed_at b 0 ≡ o → is_publish_deed o ≡ true → ⊥
 no_deed b None is h = cc
 no_deed b (Some deed) is h = no_row b deed is

@@ -7,12 +7,13 @@ ghost use Rattle.cc_names.specs.declared.rows.Deed.TheVariants as deeds;
 ghost use Rattle.cc_names.specs.declared.rows.Tag.{Tag};
 ghost use Rattle.cc_names.specs.declared.steps.Told.{Told};
 ghost use Rattle.cc_names.specs.declared.units.Unit.{Unit};
-ghost use Rattle.legal_history.specs.Base.{Base, size};
+ghost use Rattle.legal_history.specs.Base.{Base, deed_at, size};
 ghost use Rattle.legal_history.specs.Builds.{Build, build_of, came_to, is_outcome, unit_at, unit_with_first};
 ghost use Rattle.legal_history.specs.Changes.{held, live, targets_of};
-ghost use Rattle.legal_history.specs.Choices.{here, publish_of, visible};
+ghost use Rattle.legal_history.specs.Choices.{entries, here, publish_of, visible};
 ghost use Rattle.legal_history.specs.Closures.{is_publish_deed};
 ghost use Rattle.legal_history.specs.Fits.{is_base};
+ghost use Rattle.legal_history.specs.Fresh.{script_text};
 ghost use Rattle.legal_history.specs.RecordTexts.{uncovered};
 ghost use Rattle.legal_history.specs.Reuse.{held_at_all, matches, reusable};
 ghost use Rattle.legal_history.specs.Serials.{makes};
@@ -37,9 +38,10 @@ pub fn a_reusable_object_is_the_run()
 {}
 
 /// Where a unit of a build without `-V` and `-u` may reuse nothing, no live object's record matches it: no object that would do
-/// is passed over.
+/// is passed over. So no live object has the record that the unit would publish.
 pub fn no_match_is_passed_over()
-    ensures { (b : Base) (build : Build) (n : ℕ) (unit : Unit) (id : ℕ) → build.own_only ≡ false → build.rebuild ≡ false → reusable b build n unit ≡ None → is_some (live b id) ≡ true → matches b build n unit id ≡ false }
+    ensures live { (b : Base) (build : Build) (n : ℕ) (unit : Unit) (id : ℕ) → build.own_only ≡ false → build.rebuild ≡ false → reusable b build n unit ≡ None → is_some (live b id) ≡ true → matches b build n unit id ≡ false }
+    ensures record_is_new { (b : Base) (build : Build) (n : ℕ) (unit : Unit) (id : ℕ) (v : List ℕ) (outputs : List (List ℕ)) → is_base b ≡ true → GivesLive b build → build.own_only ≡ false → build.rebuild ≡ false → reusable b build n unit ≡ None → deed_at b id ≡ Some (deeds.Publish v unit.targets (script_text unit.script) (entries (visible b build n unit) (here b build n unit).reads) outputs) → is_some (live b id) ≡ false }
 {}
 
 /// An object that a unit's run publishes is true: its record, run again, gives its outputs and asks for nothing else.
