@@ -8,6 +8,7 @@ pub mod GivenRows
 pub mod GivenSteps
 pub mod KeptObjects
 pub mod Matched
+pub mod MatchedEntries
 pub mod Members
 pub mod OwnRecords
 pub mod PassedOver

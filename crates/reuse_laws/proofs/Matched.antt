@@ -27,7 +27,7 @@ use Rattle.reuse_laws.proofs.SeenTexts.{SeesTrue, unit_sees_true, entry_text}
 use Rattle.reuse_laws.proofs.TrueObjects.{TrueObject, true_object, same_texts}
 
 -- a row that an entry names agrees with what is seen at its path
-named_agrees : (rows : List ℕ → Option ℕ) (entries : List ReadOf) (path : List ℕ) (r : ℕ) → list_all (entry_agrees rows) entries ≡ true → row_in entries path ≡ Some r → agrees r (rows path) ≡ true
+pub named_agrees : (rows : List ℕ → Option ℕ) (entries : List ReadOf) (path : List ℕ) (r : ℕ) → list_all (entry_agrees rows) entries ≡ true → row_in entries path ≡ Some r → agrees r (rows path) ≡ true
 named_agrees rows [] path r h is = absurd (cc)
 named_agrees rows (entry ∷ entries) path r h is =
     by (bytes_eq entry.path path) refl is (named_agrees rows entries path r (and_second (entry_agrees rows entry) (list_all (entry_agrees rows) entries) h))
@@ -59,12 +59,12 @@ all_alike b rows entries (path ∷ reads) sees agree has = (
 )
 
 -- a record that matches, with what the object was published as
-record MatchingRecord (targets : List (List ℕ)) (script : List ℕ) (rows : List ℕ → Option ℕ) (made : List (List ℕ)) (words : List ℕ) (entries : List ReadOf) : Type 0 where
-  same_targets : made ≡ targets
-  same_script : words ≡ script
-  agree : list_all (entry_agrees rows) entries ≡ true
+pub record MatchingRecord (targets : List (List ℕ)) (script : List ℕ) (rows : List ℕ → Option ℕ) (made : List (List ℕ)) (words : List ℕ) (entries : List ReadOf) : Type 0 where
+  pub same_targets : made ≡ targets
+  pub same_script : words ≡ script
+  pub agree : list_all (entry_agrees rows) entries ≡ true
 
-matching : (targets : List (List ℕ)) (script : List ℕ) (rows : List ℕ → Option ℕ) (v : List ℕ) (made : List (List ℕ)) (words : List ℕ) (entries : List ReadOf) (outputs : List (List ℕ)) →
+pub matching : (targets : List (List ℕ)) (script : List ℕ) (rows : List ℕ → Option ℕ) (v : List ℕ) (made : List (List ℕ)) (words : List ℕ) (entries : List ReadOf) (outputs : List (List ℕ)) →
     record_matches targets script rows (Some (deeds.Publish v made words entries outputs)) ≡ true → MatchingRecord targets script rows made words entries
 matching targets script rows v made words entries outputs h =
     let front = and_first (are_same_paths made targets && bytes_eq words script) (list_all (entry_agrees rows) entries) h in

@@ -9,6 +9,7 @@ use Rattle.legal_history.specs.Builds.{Build, came_to, object_of}
 use Rattle.legal_history.specs.Choices.{Member, unit_of_member, members_from, members_before, object_among, visible}
 use Rattle.legal_history.specs.Seen.{file_at}
 use Rattle.legal_history.specs.Serials.{makes, needed}
+use Rattle.reuse_laws.specs.Given.{SeenBy, ByUnit, ByFile}
 
 -- each object that members were given is so
 abbrev pub AllGiven : (ℕ → Type 0) → List Member → Type 0
@@ -40,11 +41,6 @@ all_among P path id (member ∷ members) h is = by (makes path member.unit) (obj
     by true (Some other) own is rest = h.0 id (own ∙ is)
     by true None own is rest = rest is
     by false o own is rest = rest is
-
--- what a unit sees at a path is an object that its build gave to a unit, or the file of the view
-pub data SeenBy (b : Base) (build : Build) (path : List ℕ) (row : ℕ) : Type 0 where
-  ByUnit : (m : ℕ) → object_of (came_to build m) ≡ Some row → SeenBy b build path row
-  ByFile : file_at (first_rows build.rows b) build.view path ≡ Some row → SeenBy b build path row
 
 pub seen_by : (b : Base) (build : Build) (n : ℕ) (unit : Unit) (path : List ℕ) (row : ℕ) → visible b build n unit path ≡ Some row → SeenBy b build path row
 seen_by b build n unit path row is = by (object_among path (needed unit_of_member unit.prerequisites (members_before build n))) refl is

@@ -37,7 +37,8 @@ use Rattle.base_laws.proofs.NamedEdits.{one_element}
 use Rattle.base_laws.proofs.RootRow.{no_row, root_is_directory, root_version}
 use Rattle.fresh_builds.proofs.OwnRows.{making_text, private_put}
 use Rattle.reuse_laws.specs.Objects.{GivesLive}
-use Rattle.reuse_laws.proofs.Members.{SeenBy, ByUnit, ByFile, seen_by}
+use Rattle.reuse_laws.proofs.Members.{seen_by}
+use Rattle.reuse_laws.specs.Given.{SeenBy, ByUnit, ByFile}
 use Rattle.reuse_laws.proofs.PassedOver.{nothing_passed_over}
 use Rattle.reuse_laws.proofs.Reusables.{first_are_base}
 use Rattle.reuse_laws.proofs.SoundRows.{live_above}

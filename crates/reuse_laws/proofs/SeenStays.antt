@@ -14,7 +14,8 @@ use Rattle.legal_history.specs.Stories.{Legal}
 use Rattle.legal_history.proofs.FilesBelow.{beyond, file_is_below}
 use Rattle.legal_history.proofs.Stay.{first_rows_stay, text_stays}
 use Rattle.fresh_builds.proofs.SoundStories.{build_agrees}
-use Rattle.reuse_laws.proofs.Members.{SeenBy, ByUnit, ByFile, seen_by}
+use Rattle.reuse_laws.proofs.Members.{seen_by}
+use Rattle.reuse_laws.specs.Given.{SeenBy, ByUnit, ByFile}
 use Rattle.reuse_laws.proofs.SoundBases.{story_holds}
 use Rattle.reuse_laws.proofs.SoundRows.{live_below}
 

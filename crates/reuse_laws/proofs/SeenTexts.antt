@@ -21,7 +21,8 @@ use Rattle.legal_history.proofs.FilesBelow.{beyond}
 use Rattle.fresh_builds.proofs.FileRows.{FileText, file_is_text, file_text_stays_all}
 use Rattle.base_laws.proofs.RootRow.{no_row}
 use Rattle.reuse_laws.specs.Objects.{GivesLive}
-use Rattle.reuse_laws.proofs.Members.{SeenBy, ByUnit, ByFile, seen_by}
+use Rattle.reuse_laws.proofs.Members.{seen_by}
+use Rattle.reuse_laws.specs.Given.{SeenBy, ByUnit, ByFile}
 use Rattle.reuse_laws.proofs.TrueObjects.{true_object, live_is_true, object_text}
 
 -- each object that is seen is true
@@ -74,7 +75,7 @@ row_text b rows path r sees is = by (is_publish b (suc r)) refl
     by true publish = value_text b path (suc r) (sees path (suc r) is publish)
     by false other = refl
 
-none_is : (o : Option ℕ) → is_none o ≡ true → o ≡ None
+pub none_is : (o : Option ℕ) → is_none o ≡ true → o ≡ None
 none_is None h = refl
 none_is (Some n) h = absurd (cc)
 

@@ -1,6 +1,6 @@
 // The laws of reuse, each the contract of a function with an empty body.
 
-ghost use Rattle.std.specs.Prelude.{◌≡◌, ℕ, List, [], ◌∷◌, ◌++◌, Some, None, is_some, true, false};
+ghost use Rattle.std.specs.Prelude.{◌≡◌, ℕ, suc, List, [], ◌∷◌, ◌++◌, Some, None, is_some, true, false};
 ghost use Rattle.cc_names.specs.Formed.{Plain};
 ghost use Rattle.cc_names.specs.References.{held_at};
 ghost use Rattle.cc_names.specs.declared.rows.Deed.TheVariants as deeds;
@@ -14,7 +14,7 @@ ghost use Rattle.legal_history.specs.Choices.{entries, here, publish_of, visible
 ghost use Rattle.legal_history.specs.Closures.{is_publish_deed};
 ghost use Rattle.legal_history.specs.Fits.{is_base};
 ghost use Rattle.legal_history.specs.Fresh.{script_text};
-ghost use Rattle.legal_history.specs.RecordTexts.{uncovered};
+ghost use Rattle.legal_history.specs.RecordTexts.{record_of, row_in, uncovered};
 ghost use Rattle.legal_history.specs.Reuse.{held_at_all, matches, reusable};
 ghost use Rattle.legal_history.specs.Serials.{makes};
 ghost use Rattle.legal_history.specs.States.{Opening};
@@ -22,13 +22,20 @@ ghost use Rattle.legal_history.specs.Steps.{after, state_of};
 ghost use Rattle.legal_history.specs.Stories.{Lawful, Legal};
 ghost use Rattle.legal_history.specs.Values.{again, is_true, IsSound};
 ghost use Rattle.reuse_laws.specs.FromNothing.{IsAsFromNothing, MayTake};
-ghost use Rattle.reuse_laws.specs.Given.{HoldsGiven, IsHeld};
+ghost use Rattle.reuse_laws.specs.Given.{HoldsGiven, IsHeld, SeenBy};
 ghost use Rattle.reuse_laws.specs.Objects.{GivesLive, IsTheRun, outputs_of};
 
 /// A true object whose record matches a unit has stored what a run of the unit's script gives on what the unit sees, where
 /// the base is sound and each object that the build has given so far is live.
 pub fn a_match_is_the_run()
     ensures { (b : Base) (build : Build) (n : ℕ) (unit : Unit) (id : ℕ) → is_base b ≡ true → IsSound b → GivesLive b build → is_true b id ≡ true → matches b build n unit id ≡ true → IsTheRun b build n unit id }
+{}
+
+/// Each entry of a record that matches a unit names, at its path, an object that the unit's build gave to another unit or the
+/// file of the view at the build's reference rows; and where it says that nothing was there, the unit sees nothing.
+pub fn a_matching_entry_is_seen()
+    ensures row { (b : Base) (build : Build) (n : ℕ) (unit : Unit) (id : ℕ) (path : List ℕ) (r : ℕ) → matches b build n unit id ≡ true → row_in (record_of b id) path ≡ Some (suc r) → SeenBy b build path (suc r) }
+    ensures absent { (b : Base) (build : Build) (n : ℕ) (unit : Unit) (id : ℕ) (path : List ℕ) → matches b build n unit id ≡ true → row_in (record_of b id) path ≡ Some 0 → visible b build n unit path ≡ None }
 {}
 
 /// The object that a unit may reuse, kept or winked in, has stored what a run of the unit's script gives on what the unit
