@@ -75,11 +75,11 @@ ties Equal two = refl
 ties Greater two = refl
 
 -- sources that tie are one
-record OneSource (q s : Source) : Type 0 where
-  path : q.0 ≡ s.0
-  row : q.1 ≡ s.1
+pub record OneSource (q s : Source) : Type 0 where
+  pub path : q.0 ≡ s.0
+  pub row : q.1 ≡ s.1
 
-one_source : (q s : Source) → eq_by_cmp source_cmp q s ≡ true → OneSource q s
+pub one_source : (q s : Source) → eq_by_cmp source_cmp q s ≡ true → OneSource q s
 one_source q s h =
     let both = sym (ties (slice_cmp nat_cmp q.0 s.0) (nat_cmp q.1 s.1)) ∙ h in
     record {
@@ -88,7 +88,7 @@ one_source q s h =
     }
 
 -- each source is kept under its own row
-abbrev Keyed : Sources → Type 0
+abbrev pub Keyed : Sources → Type 0
 Keyed [] = ⊤
 Keyed (source ∷ sources) = (source.1 ≡ source.0.1) × Keyed sources
 
@@ -114,7 +114,7 @@ entries_keyed b of_object [] h = tt
 entries_keyed b of_object (entry ∷ entries) h =
     joined_keyed (sources_of_entry (is_publish b entry.row) of_object entry) (sources_of b of_object entries) (entry_keyed (is_publish b entry.row) of_object entry h) (entries_keyed b of_object entries h)
 
-closure_keyed : (b : Base) (id : ℕ) → Keyed (closure b id)
+pub closure_keyed : (b : Base) (id : ℕ) → Keyed (closure b id)
 closure_keyed [] id = tt
 closure_keyed (row ∷ older) id = by (size older == id) (closure_keyed older)
   where
@@ -145,3 +145,14 @@ closure_covered b v id h = none_uncovered b v (closure b id) (closure_keyed b id
 -- a source that stands alone is found
 pub own_source : (path : List ℕ) (row : ℕ) → is_some (find source_cmp (path, row) (((path, row), row) ∷ [])) ≡ true
 own_source path row = ap (λ o. is_some (cond (is_eq o) (Some row) None)) (tied_itself sources_total (path, row))
+
+-- the first source of a list is found, and so is each that is found behind it
+pub front_found : (source : Source × ℕ) (rest : Sources) → is_some (find source_cmp source.0 (source ∷ rest)) ≡ true
+front_found source rest = ap (λ o. is_some (cond (is_eq o) (Some source.1) (find source_cmp source.0 rest))) (tied_itself sources_total source.0)
+
+pub later_found : (q : Source) (source : Source × ℕ) (rest : Sources) → is_some (find source_cmp q rest) ≡ true → is_some (find source_cmp q (source ∷ rest)) ≡ true
+later_found q source rest h = by (eq_by_cmp source_cmp q source.0)
+  where
+    by : (t : Bool) → is_some (cond t (Some source.1) (find source_cmp q rest)) ≡ true
+    by true = refl
+    by false = h

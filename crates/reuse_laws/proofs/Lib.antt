@@ -18,8 +18,10 @@ pub mod Reruns
 pub mod Reusables
 pub mod SeenStays
 pub mod SeenTexts
+pub mod SelectedCovers
 pub mod SoundBases
 pub mod SoundRows
 pub mod TrueObjects
 pub mod ViewsApart
 pub mod WinkedObjects
+mod WorkedSelection

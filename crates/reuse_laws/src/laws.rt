@@ -1,6 +1,7 @@
 // The laws of reuse, each the contract of a function with an empty body.
 
 ghost use Rattle.std.specs.Prelude.{◌≡◌, ℕ, suc, List, [], ◌∷◌, ◌++◌, Some, None, is_some, true, false};
+ghost use Rattle.std.specs.FinMap.Entries.{find};
 ghost use Rattle.cc_names.specs.Formed.{Plain};
 ghost use Rattle.cc_names.specs.References.{held_at};
 ghost use Rattle.cc_names.specs.declared.rows.Deed.TheVariants as deeds;
@@ -11,7 +12,7 @@ ghost use Rattle.legal_history.specs.Base.{Base, deed_at, size};
 ghost use Rattle.legal_history.specs.Builds.{Build, build_of, came_to, is_outcome, unit_at, unit_with_first};
 ghost use Rattle.legal_history.specs.Changes.{held, live, targets_of};
 ghost use Rattle.legal_history.specs.Choices.{entries, here, publish_of, visible};
-ghost use Rattle.legal_history.specs.Closures.{is_publish_deed};
+ghost use Rattle.legal_history.specs.Closures.{closure, is_publish_deed, source_cmp};
 ghost use Rattle.legal_history.specs.Fits.{is_base};
 ghost use Rattle.legal_history.specs.Fresh.{script_text};
 ghost use Rattle.legal_history.specs.RecordTexts.{record_of, row_in, uncovered};
@@ -24,6 +25,7 @@ ghost use Rattle.legal_history.specs.Values.{again, is_true, IsSound};
 ghost use Rattle.reuse_laws.specs.FromNothing.{IsAsFromNothing, MayTake};
 ghost use Rattle.reuse_laws.specs.Given.{HoldsGiven, IsHeld, SeenBy};
 ghost use Rattle.reuse_laws.specs.Objects.{GivesLive, IsTheRun, outputs_of};
+ghost use Rattle.reuse_laws.specs.Selected.{IsSelected};
 
 /// A true object whose record matches a unit has stored what a run of the unit's script gives on what the unit sees, where
 /// the base is sound and each object that the build has given so far is live.
@@ -110,4 +112,10 @@ pub fn reuse_is_a_rebuild()
 /// that view.
 pub fn a_covered_record_runs_again()
     ensures { (b : Base) (v : List ℕ) (id : ℕ) → is_base b ≡ true → is_true b id ≡ true → uncovered b v id ≡ None → again b v id ≡ outputs_of b id }
+{}
+
+/// A view that selects by the record of an object covers the record: where each source of the object is either absent there as
+/// it was, or the one version of an element in the closure that the view sees there by the rule `-config` of the object.
+pub fn selection_by_a_record_covers()
+    ensures { (b : Base) (v target : List ℕ) (id : ℕ) → ((path : List ℕ) (row : ℕ) → is_some (find source_cmp (path, row) (closure b id)) ≡ true → IsSelected b v target id path row) → uncovered b v id ≡ None }
 {}
