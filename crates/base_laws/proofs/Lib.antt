@@ -1,0 +1,13 @@
+pub mod CatalogsInOrder
+pub mod CountedViews
+pub mod Deeds
+pub mod DueObjects
+pub mod FirstRowsStay
+pub mod HeldObjects
+pub mod HeldPaths
+pub mod NamedEdits
+pub mod NamedOnce
+pub mod NewVersions
+pub mod RootRow
+pub mod Values
+pub mod Walks

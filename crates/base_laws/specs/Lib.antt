@@ -1,0 +1,4 @@
+pub mod Counts
+pub mod Directories
+pub mod Dues
+pub mod FirstRows

@@ -1,0 +1,27 @@
+pub mod Covered
+pub mod CoveredRuns
+pub mod DecidedIdle
+pub mod EntriesBelow
+pub mod FromNothing
+pub mod GivenCommits
+pub mod GivenRows
+pub mod GivenSteps
+pub mod KeptObjects
+pub mod Matched
+pub mod MatchedEntries
+pub mod Members
+pub mod OwnRecords
+pub mod PassedOver
+pub mod PlaceStays
+pub mod PublishedTrue
+pub mod Reruns
+pub mod Reusables
+pub mod SeenStays
+pub mod SeenTexts
+pub mod SelectedCovers
+pub mod SoundBases
+pub mod SoundRows
+pub mod TrueObjects
+pub mod ViewsApart
+pub mod WinkedObjects
+mod WorkedSelection

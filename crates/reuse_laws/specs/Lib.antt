@@ -1,0 +1,4 @@
+pub mod FromNothing
+pub mod Given
+pub mod Objects
+pub mod Selected

@@ -1,0 +1,4 @@
+pub mod Leaving
+pub mod Rising
+pub mod Room
+pub mod Started
