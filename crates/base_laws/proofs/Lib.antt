@@ -3,6 +3,7 @@ pub mod CountedViews
 pub mod Deeds
 pub mod DueObjects
 pub mod FirstRowsStay
+pub mod FollowersBelow
 pub mod HeldObjects
 pub mod HeldPaths
 pub mod NamedEdits
@@ -11,3 +12,4 @@ pub mod NewVersions
 pub mod RootRow
 pub mod Values
 pub mod Walks
+pub mod WalksFound

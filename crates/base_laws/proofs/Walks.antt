@@ -4,7 +4,7 @@ use Rattle.std.specs.Bool.{⊤}
 use Rattle.std.specs.List.{list_any}
 use Rattle.cc_names.specs.Versions.{put_if}
 use Rattle.legal_history.specs.Base.{Base, size}
-use Rattle.legal_history.specs.Merges.{Reaches, Itself, Onward, follows, followers, is_in, reaches, within}
+use Rattle.legal_history.specs.Merges.{Reaches, Itself, Onward, follows, followers, with_follower, is_in, reaches, within}
 use Rattle.legal_history.proofs.Goes.{same_number}
 use Rattle.legal_history.proofs.Owned.{and_second}
 
@@ -31,15 +31,16 @@ follower_reached b from n (version ∷ versions) h e = by (follows b version n) 
     by true is e rest = goes_on b h.0 is
     by false is e rest = rest e
 
-followers_reached : (b : Base) (from : ℕ) (versions : List ℕ) (rows : Base) → AllReached b from versions → AllReached b from (followers b versions rows)
-followers_reached b from versions [] h = tt
-followers_reached b from versions (row ∷ older) h =
-    by (not (is_in (size older) versions) && list_any (λ version. follows b version (size older)) versions) refl (followers_reached b from versions older h)
+with_follower_reached : (b : Base) (from : ℕ) (versions : List ℕ) (n : ℕ) (found : List ℕ) → AllReached b from versions → AllReached b from found → AllReached b from (with_follower b versions n found)
+with_follower_reached b from versions n found h g = by (not (is_in n versions) && list_any (λ version. follows b version n) versions) refl
   where
-    by : (t : Bool) → (not (is_in (size older) versions) && list_any (λ version. follows b version (size older)) versions) ≡ t → AllReached b from (followers b versions older) →
-        AllReached b from (put_if t (size older) (followers b versions older))
-    by true e rest = (follower_reached b from (size older) versions h (and_second (not (is_in (size older) versions)) (list_any (λ version. follows b version (size older)) versions) e), rest)
-    by false e rest = rest
+    by : (t : Bool) → (not (is_in n versions) && list_any (λ version. follows b version n) versions) ≡ t → AllReached b from (put_if t n found)
+    by true e = (follower_reached b from n versions h (and_second (not (is_in n versions)) (list_any (λ version. follows b version n) versions) e), g)
+    by false e = g
+
+followers_reached : (b : Base) (from : ℕ) (versions : List ℕ) (rows : Base) → AllReached b from versions → AllReached b from (followers b versions rows)
+followers_reached b from versions [] h = with_follower_reached b from versions 0 [] h tt
+followers_reached b from versions (row ∷ older) h = with_follower_reached b from versions (size older) (followers b versions older) h (followers_reached b from versions older h)
 
 within_reached : (rounds : ℕ) (b : Base) (from : ℕ) (versions : List ℕ) → AllReached b from versions → AllReached b from (within rounds b versions)
 within_reached zero b from versions h = h

@@ -73,7 +73,8 @@ pub fn a_checkout_is_made_from_a_version()
     ensures { (b : Base) (v : List ℕ) (e : ℕ) (checkout : Checkout) → is_base b ≡ true → out b v e ≡ Some checkout → is_version_of b e checkout.origin ≡ true }
 {}
 
-/// A version that is found to be reached from another is reached by a walk along successors, branches and arrows.
-pub fn what_is_reached_has_a_walk()
-    ensures { (b : Base) (one two : ℕ) → reaches b one two ≡ true → Reaches b one two }
+/// A version is found to be reached from another exactly where a walk along successors, branches and arrows leads there.
+pub fn reaching_is_by_a_walk()
+    ensures walk { (b : Base) (one two : ℕ) → reaches b one two ≡ true → Reaches b one two }
+    ensures found { (b : Base) (one two : ℕ) → is_base b ≡ true → Reaches b one two → reaches b one two ≡ true }
 {}

@@ -52,11 +52,14 @@ pub data Reaches (b : Base) : ℕ → ℕ → Type 0 where
 abbrev pub is_in : ℕ → List ℕ → Bool
 is_in n ns = list_any (λ m. m == n) ns
 
--- those of some rows that are not among versions and follow one of them
+-- a number put before others, where it is not among versions and follows one of them
+abbrev pub with_follower : Base → List ℕ → ℕ → List ℕ → List ℕ
+with_follower b versions n found = put_if (not (is_in n versions) && list_any (λ version. follows b version n) versions) n found
+
+-- those of some rows, row 0 with them, that are not among versions and follow one of them
 abbrev pub followers : Base → List ℕ → Base → List ℕ
-followers b versions [] = []
-followers b versions (row ∷ older) =
-    put_if (not (is_in (size older) versions) && list_any (λ version. follows b version (size older)) versions) (size older) (followers b versions older)
+followers b versions [] = with_follower b versions 0 []
+followers b versions (row ∷ older) = with_follower b versions (size older) (followers b versions older)
 
 -- versions with all that they reach in at most so many rounds of taking in followers
 abbrev pub within : ℕ → Base → List ℕ → List ℕ
