@@ -9,7 +9,6 @@ pub mod Idle
 pub mod LaneSlots
 pub mod Lanes
 pub mod LogSteps
-pub mod MemorySteps
 pub mod NextCommands
 pub mod Noting
 pub mod Opening
@@ -26,3 +25,6 @@ pub mod PlanSteps
 pub mod UnitCalls
 pub mod StepsSo
 pub mod ObjectSteps
+pub mod Backing
+pub mod BrokenBuilds
+pub mod Faulting

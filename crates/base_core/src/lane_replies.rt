@@ -60,6 +60,15 @@ impl LaneReplies {
         let _ = self.replies.pop();
     }
 
+    /// Puts another reply in place of the newest one.
+    pub fn replace(&mut self, reply: Reply)
+        ensures { (before : List Reply) (newest : Reply) → self.old ≡ before ++ newest ∷ [] → self.new ≡ before ++ reply ∷ [] }
+    {
+        if let Some(newest) = self.replies.last_mut() {
+            *newest = reply;
+        }
+    }
+
     /// The replies, in order.
     pub fn as_slice(&self) -> &[Reply]
         ensures { result.now ≡ self.now }
@@ -100,4 +109,14 @@ pub fn take_reply_back(lanes: &mut Vec<LaneReplies>, lane: u32)
 {
     let lane = &mut lanes[lane as usize - 1];
     lane.pop();
+}
+
+/// Puts another reply in place of the newest one of a lane.
+pub fn replace_reply(lanes: &mut Vec<LaneReplies>, lane: u32, reply: Reply)
+    requires from { 1 ≤ lane }
+    requires upto { lane ≤ length lanes.old.items }
+    ensures { (before : List (List Reply)) (newest : Reply) → lanes.old.items ≡ with_reply before lane newest → lanes.new.items ≡ with_reply before lane reply }
+{
+    let lane = &mut lanes[lane as usize - 1];
+    lane.replace(reply);
 }
