@@ -28,3 +28,8 @@ pub mod ObjectSteps
 pub mod Backing
 pub mod BrokenBuilds
 pub mod Faulting
+pub mod Leavings
+pub mod Rising
+pub mod Logging
+pub mod Logged
+pub mod Freshly

@@ -4,9 +4,13 @@ use Rattle.cc_names.specs.Formed.{Plain}
 use Rattle.cc_names.specs.declared.steps.Step.{Step}
 use Rattle.cc_names.specs.declared.steps.Step.TheVariants as steps
 
--- the row that the newest commit or fault left behind the rows, among steps newest first
+-- the row that may be found behind the rows after some steps, oldest first, from what may be found before them
+abbrev pub left_by : Option Plain → List Step → Option Plain
+left_by left [] = left
+left_by left (steps.Commit tag number tick ∷ more) = left_by None more
+left_by left (steps.Fault tag found before faults tick ∷ more) = left_by found more
+left_by left (step ∷ more) = left_by left more
+
+-- the row that the newest commit or fault left behind the rows
 abbrev pub left_in : List Step → Option Plain
-left_in [] = None
-left_in (steps.Commit tag number tick ∷ earlier) = None
-left_in (steps.Fault tag left before faults tick ∷ earlier) = left
-left_in (step ∷ earlier) = left_in earlier
+left_in kept = left_by None kept

@@ -1,6 +1,6 @@
 // The story of a core, with the rows and the phases that it names, and the journal that keeps the rows.
 
-ghost use Rattle.std.specs.Prelude.{◌≡◌, ◌+◌, ◌<◌, ◌^◌, ◌++◌, ◌∷◌, [], length, reverse, true, false, IfOk, OnOk, OnErr, option_copied};
+ghost use Rattle.std.specs.Prelude.{◌≡◌, ◌+◌, ◌<◌, ◌^◌, ◌++◌, ◌∷◌, [], length, true, false, IfOk, OnOk, OnErr, option_copied};
 ghost use Rattle.row_form.specs.Spelled.{spelled};
 ghost use Rattle.base_core.specs.Leaving.{left_in};
 
@@ -66,7 +66,7 @@ fn frame_of(alloc: Global, row: &Row) -> Result<Frame, NoMemory>
 /// The row that may be found behind the rows: what the newest fault left, if no row was committed since. Looks at the steps
 /// since the newest commit or fault.
 fn left_behind(steps: &[Step]) -> Option<&Row>
-    ensures { option_copied result ≡ left_in (reverse steps.now) }
+    ensures { option_copied result ≡ left_in steps.now }
 {
     let mut rest = steps;
     while let Some((step, earlier)) = rest.split_last() {
@@ -81,7 +81,7 @@ fn left_behind(steps: &[Step]) -> Option<&Row>
 
 /// A copy of that row.
 fn copy_left(alloc: Global, steps: &[Step]) -> Result<Option<Row>, NoMemory>
-    ensures { IfOk result (λ left. left ≡ left_in (reverse steps.now)) }
+    ensures { IfOk result (λ left. left ≡ left_in steps.now) }
 {
     match left_behind(steps) {
         None => Ok(None),
