@@ -11,7 +11,7 @@ pub mod Lanes
 pub mod LogSteps
 pub mod NextCommands
 pub mod Noting
-pub mod Opening
+pub mod BuildBegins
 pub mod Phases
 pub mod PlainRows
 pub mod Publishing

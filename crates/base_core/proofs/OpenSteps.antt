@@ -23,7 +23,7 @@ use Rattle.base_core.proofs.Growing.{state_from-more}
 use Rattle.base_core.proofs.Idle.{decided_is_free, not_both}
 use Rattle.base_core.proofs.Lanes.{done_same, done_other}
 use Rattle.base_core.proofs.LaneSlots.{found_put}
-use Rattle.base_core.proofs.Opening.{kept_begin}
+use Rattle.base_core.proofs.BuildBegins.{kept_begin}
 
 -- what is kept where a build begins
 pub kept_opened : (log : Logged) (lanes : List (List Reply)) (builds : List (Option Build)) (now rows count : ℕ) (story : List Told) (tag : Tag) (build : Build) → log.story ≡ story → IsKept log lanes builds now → IsNextBuild (state_of story) build → tag ≡ build.tag → rows ≡ build.rows → count ≡ length build.units → IsKept (with_step log (steps.Begin tag rows count)) lanes (set builds (tag.lane - 1) (Some build)) now
