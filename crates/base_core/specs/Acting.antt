@@ -6,6 +6,7 @@ use Rattle.cc_names.specs.declared.desks.Done.TheVariants.{Committed, Refused, A
 use Rattle.cc_names.specs.declared.memory.Or.{Or}
 use Rattle.cc_names.specs.declared.memory.Or.TheVariants.{NoMemory, Is}
 use Rattle.cc_names.specs.declared.refusals.Refusal.{Refusal}
+use Rattle.cc_names.specs.declared.rows.Deed.{Deed}
 use Rattle.cc_names.specs.declared.rows.Tag.{Tag}
 use Rattle.cc_names.specs.declared.steps.Step.TheVariants as steps
 use Rattle.cc_names.specs.declared.steps.Told.{Told}
@@ -17,12 +18,12 @@ use Rattle.legal_history.specs.Steps.{state_of}
 use Rattle.view_lookup.specs.Unversioned.{is_plain_deed}
 
 -- A step by which a command of this tag is finished, by its kind: the row that was decided, committed at the moment of the
--- phase; the refusal or the answer that was decided; or the fault of the disk under it.
+-- phase; the refusal or the answer that was decided; or the fault of the disk under the row that was decided.
 abbrev pub IsStepOf : State → Tag → Done → Told → Type 0
 IsStepOf s tag Committed (told.Commit row tick) = (row.tag ≡ tag) × (row.moment ≡ s.moment) × (decided s tag ≡ Some (Ok (Makes row.deed)))
 IsStepOf s tag Refused (told.Other (steps.Refused finished refusal)) = (finished ≡ tag) × (decided s tag ≡ Some (Err refusal))
 IsStepOf s tag Answered (told.Other (steps.Answer finished text)) = (finished ≡ tag) × (decided s tag ≡ Some (Ok (Answers text)))
-IsStepOf s tag Faulted (told.Other (steps.Fault finished left before faults tick)) = finished ≡ tag
+IsStepOf s tag Faulted (told.Other (steps.Fault finished left before faults tick)) = (finished ≡ tag) × (deed : Deed) × (decided s tag ≡ Some (Ok (Makes deed)))
 IsStepOf s tag done step = ⊥
 
 -- A lane's next command was carried out: the story has one step more, which finishes the command.

@@ -71,9 +71,9 @@ impl<D: Disk> Core<D> {
     ghost use Rattle.cc_names.specs.declared.steps.Told.TheVariants as told;
     ghost use Rattle.session_text.specs.Formed.{IsPhase};
     ghost use Rattle.base_core.specs.Carried.{AreCarriedOut};
-    ghost use Rattle.legal_history.specs.States.{all_done, next_tag};
+    ghost use Rattle.legal_history.specs.States.{all_done, next_tag, faults_of};
     ghost use Rattle.legal_history.specs.Steps.{state_of};
-    ghost use Rattle.legal_history.specs.Stories.{last_moment, Legal};
+    ghost use Rattle.legal_history.specs.Stories.{last_moment, Legal, rises};
     ghost use Rattle.base_core.specs.Acting.{Acts, DecidesNext, IsNextRow, IsNextRefusal};
     ghost use Rattle.base_core.specs.Kept.{command_limit};
     ghost use Rattle.base_core.specs.Nexts.{next_of, waiting};
@@ -562,10 +562,11 @@ impl<D: Disk> Core<D> {
     }
 
     /// Settles the journal where a fault left its tail open; elsewhere it makes no device call. Afterwards no stop finds
-    /// more than the rows of the base.
+    /// more than the rows of the base; where it fails, the disk's count of faults has passed that of each fault of the story.
     pub fn finish(&mut self) -> Result<(), DiskFault>
         ensures same { self.new.story ≡ self.old.story }
         ensures ok { OnOk result (IsSettled (state_of self.new.story) self.new.sight) }
+        ensures err { OnErr result (rises (faults_of (state_of self.new.story).opened (state_of self.new.story).ends) self.new.sight.faults ≡ true) }
         ensures faults { MatchResult result (λ _. self.new.sight.faults ≡ self.old.sight.faults) (λ _. self.new.sight.faults ≡ raised self.old.sight.faults) }
     {
         self.log.settle()

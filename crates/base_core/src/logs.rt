@@ -102,7 +102,9 @@ impl<D: Disk> Log<D> {
     ghost use Rattle.cc_names.specs.declared.steps.Told.TheVariants as told;
     ghost use Rattle.disk_model.specs.Counting.{raised};
     ghost use Rattle.disk_model.specs.Told.{IfTold};
+    ghost use Rattle.legal_history.specs.States.{faults_of};
     ghost use Rattle.legal_history.specs.Steps.{state_of};
+    ghost use Rattle.legal_history.specs.Stories.{rises};
     ghost use Rattle.base_core.specs.Appending.{Appends, IsQuiet};
     ghost use Rattle.base_core.specs.Backed.{IsBacked, IsSettled, IsAccounted};
     ghost use Rattle.base_core.specs.Faults.{is_fault};
@@ -225,6 +227,7 @@ impl<D: Disk> Log<D> {
     pub(crate) fn settle(&mut self) -> Result<(), DiskFault>
         ensures same { self.new ≡ with_sight self.old self.new.sight }
         ensures ok { OnOk result (IsSettled (state_of self.new.story) self.new.sight) }
+        ensures err { OnErr result (rises (faults_of (state_of self.new.story).opened (state_of self.new.story).ends) self.new.sight.faults ≡ true) }
         ensures faults { MatchResult result (λ _. self.new.sight.faults ≡ self.old.sight.faults) (λ _. self.new.sight.faults ≡ raised self.old.sight.faults) }
     {
         match self.journal.left() {
