@@ -103,15 +103,17 @@ commit_covered opening ends row tick list loose list' loose' left left' (Some d)
     covered_end opening ends (Committed row tick) list loose list' loose' left left' d e h ticked moves at is (inl all) (inr all) (λ none. grown.1)
 
 -- what a failed append leaves, by what the journal says of it
-pub data LeftSo (earlier : Option Plain) (row : Plain) : Left → Option Plain → Type 0 where
-  nothing_so : LeftSo earlier row lefts.Nothing None
-  earlier_so : LeftSo earlier row lefts.Earlier earlier
-  in_flight_so : LeftSo earlier row lefts.InFlight (Some row)
+abbrev pub LeftSo : Option Plain → Plain → Left → Option Plain → Type 0
+LeftSo earlier row lefts.Nothing found = found ≡ None
+LeftSo earlier row lefts.Earlier found = found ≡ earlier
+LeftSo earlier row lefts.InFlight found = found ≡ Some row
 
 fault_stands : (opening : Opening) (ends : List End) (row : Plain) (list loose loose' : List (List ℕ)) (left' : Left) (found : Option Plain) → list ≡ payloads (base_by opening ends) → StandsFor (base_by opening ends) (hanging ends) (list ++ loose) → loose' ≡ loose_after left' loose (spelled row) → LeftSo (hanging ends) row left' found → StandsFor (base_by opening ends) found (list ++ loose')
-fault_stands opening ends row list loose loose' lefts.Nothing None is for e nothing_so = inl (ap (λ l. list ++ l) e ∙ append-nil list ∙ is)
-fault_stands opening ends row list loose loose' lefts.Earlier found is for e earlier_so = subst (StandsFor (base_by opening ends) (hanging ends)) (ap (λ l. list ++ l) (sym e)) for
-fault_stands opening ends row list loose loose' lefts.InFlight (Some row) is for e in_flight_so = inr (ap (λ l. list ++ l) e ∙ ap (λ l. l ++ spelled row ∷ []) is)
+fault_stands opening ends row list loose loose' lefts.Nothing found is for e so = inl (ap (λ l. list ++ l) e ∙ append-nil list ∙ is)
+fault_stands opening ends row list loose loose' lefts.Earlier found is for e so =
+    subst (λ o. StandsFor (base_by opening ends) o (list ++ loose')) (sym so) (subst (StandsFor (base_by opening ends) (hanging ends)) (ap (λ l. list ++ l) (sym e)) for)
+fault_stands opening ends row list loose loose' lefts.InFlight found is for e so =
+    subst (λ o. StandsFor (base_by opening ends) o (list ++ loose')) (sym so) (inr (ap (λ l. list ++ l) e ∙ ap (λ l. l ++ spelled row ∷ []) is))
 
 -- the disk failed
 pub fault_covered : (opening : Opening) (ends : List End) (row : Plain) (found : Option Plain) (faults tick : ℕ) (list loose list' loose' : List (List ℕ)) (left left' : Left) (one two : Option Device) → IfTold one (IsCovered opening ends list loose left) → IfTold one (λ d. ticks_of (Some opening) ends ≤ length d.calls) → Both (Moves list loose list' loose') one two → IfTold two (λ e. tick ≡ length e.calls) → IfTold one (λ _. (list' ≡ list) × (loose' ≡ loose_after left' loose (spelled row))) → LeftSo (hanging ends) row left' found → IfTold two (IsCovered opening (Faulted found faults tick ∷ ends) list' loose' left')

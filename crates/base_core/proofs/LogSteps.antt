@@ -7,7 +7,7 @@ use Rattle.cc_names.specs.declared.steps.Step.{Step}
 use Rattle.cc_names.specs.declared.steps.Step.TheVariants as steps
 use Rattle.cc_names.specs.declared.steps.Told.TheVariants as told
 use Rattle.disk_model.specs.Told.{Sight}
-use Rattle.base_core.specs.Logs.{Logged, with_phase, with_row, with_step_on}
+use Rattle.base_core.specs.Logs.{Logged, with_phase, with_row, with_step, with_step_on}
 use Rattle.base_core.specs.Telling.{story_of, AreTold, stands_alone}
 use Rattle.base_core.specs.declared.handed.Handed.{Handed}
 use Rattle.base_core.proofs.Stories.{story_of-plan, told_plan, story_of-commit, told_commit, story_of-step, told_step}
@@ -37,8 +37,12 @@ pub told_phase : (kept more : List Step) (rows : List Plain) (phases grown : Lis
 told_phase kept more rows phases grown number moment phase h e g n =
     subst (λ xs. IsTold xs rows grown) (sym e) (subst (λ ys. IsTold (kept ++ steps.Plan number moment ∷ []) rows ys) (sym g) (told_plan kept rows phases number moment phase h n))
 
-pub shown_step : (on : Handed) (kept more : List Step) (rows : List Plain) (phases : List Phase) (step : Step) (old new : Sight) → IsTold kept rows phases → stands_alone step ≡ true → more ≡ kept ++ step ∷ [] → shown on more rows phases new ≡ with_step_on (shown on kept rows phases old) step new
-shown_step on kept more rows phases step old new h alone e =
+pub shown_step : (on : Handed) (kept more : List Step) (rows : List Plain) (phases : List Phase) (step : Step) (sight : Sight) → IsTold kept rows phases → stands_alone step ≡ true → more ≡ kept ++ step ∷ [] → shown on more rows phases sight ≡ with_step (shown on kept rows phases sight) step
+shown_step on kept more rows phases step sight h alone e =
+    ap (λ xs. shown on xs rows phases sight) e ∙ ap (λ story. record { story = story; rows = rows; phases = phases; sight = sight }) (story_of-step on kept rows phases step h alone)
+
+pub shown_step_on : (on : Handed) (kept more : List Step) (rows : List Plain) (phases : List Phase) (step : Step) (old new : Sight) → IsTold kept rows phases → stands_alone step ≡ true → more ≡ kept ++ step ∷ [] → shown on more rows phases new ≡ with_step_on (shown on kept rows phases old) step new
+shown_step_on on kept more rows phases step old new h alone e =
     ap (λ xs. shown on xs rows phases new) e ∙ ap (λ story. record { story = story; rows = rows; phases = phases; sight = new }) (story_of-step on kept rows phases step h alone)
 
 pub is_told_step : (kept more : List Step) (rows : List Plain) (phases : List Phase) (step : Step) → IsTold kept rows phases → stands_alone step ≡ true → more ≡ kept ++ step ∷ [] → IsTold more rows phases

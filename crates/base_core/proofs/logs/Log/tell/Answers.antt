@@ -10,5 +10,5 @@ invariant_of-self-2 g c = logged_step c.self.inside.handed c.self.inside.steps.i
 
 pub returns-clause-ok : goal.returns-clause-ok
 returns-clause-ok g c =
-    shown_step c.self.inside.handed c.self.inside.steps.items _ c.self.inside.rows.items c.self.inside.phases.items c.args.step _ _ c.self.invariant.told c.requires.alone c.in_ok-push_step.ensures.ok
+    shown_step c.self.inside.handed c.self.inside.steps.items _ c.self.inside.rows.items c.self.inside.phases.items c.args.step _ c.self.invariant.told c.requires.alone c.in_ok-push_step.ensures.ok
     ∙ ap (λ log. with_step log c.args.step) c.self.view_is
