@@ -9,6 +9,7 @@
 #![tactic(auto)]
 
 mod cursor;
+mod lists;
 mod reading;
 mod writing;
 

@@ -4,11 +4,12 @@ use Rattle.std.specs.Int.{w32, w64, from_le_bytes}
 use Rattle.std.proofs.lemmas.List.{append_assoc, take_at, drop_at}
 use Rattle.std.proofs.lemmas.Nat.{from_le_bytes-to_le_bytes_4, from_le_bytes-to_le_bytes_8}
 use Rattle.std.proofs.lemmas.Grind.{common_steps}
-use Rattle.cc_names.specs.Formed.{IsWord, IsLong, IsText, IsBelowRoot}
+use Rattle.cc_names.specs.Formed.{IsWord, IsLong, IsText, IsBelowRoot, IsEntry}
+use Rattle.cc_names.specs.declared.rows.ReadOf.{ReadOf}
 use Rattle.cc_names.specs.Names.{IsName, name_of, unless_fault}
 use Rattle.cc_names.specs.Paths.{IsPath, path_of}
 use Rattle.cc_names.specs.declared.names.NameFault.{NameFault}
-use Rattle.row_form.specs.Fields.{byte, word, long, text}
+use Rattle.row_form.specs.Fields.{byte, word, long, text, entry}
 use Rattle.row_form.specs.Reading.{NoneAt}
 
 -- two fronts of one length that are followed by something are the same
@@ -76,3 +77,18 @@ no_path bytes old new fault short read is = λ path rest h e.
     let peeled = peel_text bytes path new rest short (path_short path h.0) (sym read ∙ e) in
     let clash : Err fault ≡ Ok path = sym is ∙ ap path_of peeled.0 ∙ path_is path h.0 in
     cc
+
+pub peel_path : (a b x y : List ℕ) → IsBelowRoot a → IsBelowRoot b → text a ++ x ≡ text b ++ y → (a ≡ b) × (x ≡ y)
+peel_path a b x y ha hb e = peel_text a b x y (path_short a ha.0) (path_short b hb.0) e
+
+pub peel_name : (a b x y : List ℕ) → IsName a → IsName b → text a ++ x ≡ text b ++ y → (a ≡ b) × (x ≡ y)
+peel_name a b x y ha hb e = peel_text a b x y (name_short a ha) (name_short b hb) e
+
+abbrev entry_of : List ℕ → ℕ → ReadOf
+entry_of path row = record { path = path; row = row }
+
+pub peel_entry : (a b : ReadOf) (x y : List ℕ) → IsEntry a → IsEntry b → entry a ++ x ≡ entry b ++ y → (a ≡ b) × (x ≡ y)
+peel_entry a b x y ha hb e =
+    let p = peel_path a.path b.path (long a.row ++ x) (long b.row ++ y) ha.0 hb.0 (sym (append_assoc (text a.path) (long a.row) x) ∙ e ∙ append_assoc (text b.path) (long b.row) y) in
+    let r = peel_long a.row b.row x y ha.1 hb.1 p.1 in
+    (ap (λ q. entry_of q a.row) p.0 ∙ ap (entry_of b.path) r.0, r.1)
