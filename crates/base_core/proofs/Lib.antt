@@ -33,3 +33,5 @@ pub mod Rising
 pub mod Logging
 pub mod Logged
 pub mod Freshly
+pub mod Settled
+pub mod FoundBases

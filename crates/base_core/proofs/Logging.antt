@@ -35,18 +35,18 @@ if_told None P Q f h = tt
 if_told (Some d) P Q f h = f d h
 
 -- the ticks at the newest end are at most the calls so far
-ticks_told : (opening : Opening) (s : State) (sight : Sight) → s.opened ≡ Some opening → ticks_of s.opened s.ends ≤ sight.ticks → IsCounted sight → IfTold sight.told (λ d. ticks_of (Some opening) s.ends ≤ length d.calls)
+pub ticks_told : (opening : Opening) (s : State) (sight : Sight) → s.opened ≡ Some opening → ticks_of s.opened s.ends ≤ sight.ticks → IsCounted sight → IfTold sight.told (λ d. ticks_of (Some opening) s.ends ≤ length d.calls)
 ticks_told opening s sight opened ticks counted =
     if_told sight.told (λ d. sight.ticks ≡ length d.calls) (λ d. ticks_of (Some opening) s.ends ≤ length d.calls)
     (λ d e. omega (arith, ticks, e, ap (λ o. ticks_of o s.ends) opened)) counted.told
 
 -- the same of the state after a step that is neither a commit nor a fault
-backed_same : (s t : State) (sight : Sight) (list loose : List (List ℕ)) (ended : Bool) (left : Left) → t.opened ≡ s.opened → t.base ≡ s.base → t.ends ≡ s.ends → IsBacked s sight list loose ended left → IsBacked t sight list loose ended left
+pub backed_same : (s t : State) (sight : Sight) (list loose : List (List ℕ)) (ended : Bool) (left : Left) → t.opened ≡ s.opened → t.base ≡ s.base → t.ends ≡ s.ends → IsBacked s sight list loose ended left → IsBacked t sight list loose ended left
 backed_same s t sight list loose ended left opened base ends h = record {
   opening = h.opening;
   opened = opened ∙ h.opened;
   tells = h.tells;
-  ended = h.ended;
+  at_end = h.at_end;
   base = base ∙ h.base ∙ ap (base_by h.opening) (sym ends);
   ticks = omega (arith, h.ticks, ap (λ o. ticks_of o t.ends) opened, ap (ticks_of s.opened) ends);
   faults = omega (arith, h.faults, ap (λ o. faults_of o t.ends) opened, ap (faults_of s.opened) ends);
@@ -59,7 +59,7 @@ backed_commit s row tick old new list loose list' loose' ended ended' left left'
   opening = h.opening;
   opened = h.opened;
   tells = h.tells ∙ sym (still_told (Moves list loose list' loose') old.told new.told moves);
-  ended = end;
+  at_end = end;
   base = ap (λ b. row ∷ b) h.base;
   ticks = omega (arith, at);
   faults = omega (arith, h.faults, same);
@@ -73,7 +73,7 @@ backed_fault s tag row found before faults tick old new list loose list' loose' 
   opening = h.opening;
   opened = opened ∙ h.opened;
   tells = h.tells ∙ sym (still_told (Moves list loose list' loose') old.told new.told moves);
-  ended = end;
+  at_end = end;
   base = base ∙ h.base ∙ ap (base_by h.opening) (sym ends);
   ticks = omega (arith, at, ap (ticks_of t.opened) ends, ap (λ o. ticks_of o (Faulted found faults tick ∷ s.ends)) (opened ∙ h.opened));
   faults = omega (arith, counts, ap (faults_of t.opened) ends, ap (λ o. faults_of o (Faulted found faults tick ∷ s.ends)) (opened ∙ h.opened));

@@ -23,7 +23,7 @@ pub record IsBacked (s : State) (sight : Sight) (list loose : List (List ℕ)) (
   pub opening : Opening
   pub opened : s.opened ≡ Some opening
   pub tells : opening.tells ≡ is_some sight.told
-  pub ended : ended ≡ true
+  pub at_end : ended ≡ true
   pub base : s.base ≡ base_by opening s.ends
   pub ticks : ticks_of s.opened s.ends ≤ sight.ticks
   pub faults : faults_of s.opened s.ends ≤ sight.faults

@@ -5,6 +5,7 @@ pub mod BuildCalls
 pub mod Building
 pub mod Carried
 pub mod Faults
+pub mod Founds
 pub mod Going
 pub mod Kept
 pub mod Leaving

@@ -18,6 +18,7 @@ mod handed;
 mod history;
 mod lane_builds;
 mod lane_replies;
+pub mod laws;
 mod logs;
 mod opening;
 mod tried;

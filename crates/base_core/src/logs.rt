@@ -181,9 +181,7 @@ impl<D: Disk> Log<D> {
         let before = self.journal.counts().faults;
         match self.journal.append(&frame) {
             Ok(tick) => {
-                self.steps
-                    .push(Step::Commit { tag, number, tick })
-                    .unwrap();
+                self.steps.push(Step::Commit { tag, number, tick }).unwrap();
                 self.rows.push(row).unwrap();
                 Ok(Appended::Committed)
             }
