@@ -1,5 +1,5 @@
 -- Lists as they are spelled, member by member, and the rules of a publish's lists.
-use Rattle.std.proofs.Common.{◌≡◌, ◌≢◌, ◌<◌, ◌≤◌, ◌+◌, ◌^◌, ℕ, Bool, true, false, not, ◌&&◌, ◌||◌, Result, Ok, Err, List, [], ◌∷◌, ◌++◌, length, map, refl, sym, ◌∙◌, ap, subst, arith}
+use Rattle.std.proofs.Common.{◌≡◌, ◌<◌, ℕ, Bool, true, false, not, ◌&&◌, ◌||◌, Err, List, [], ◌∷◌, ◌++◌, length, map, refl, sym, ◌∙◌, ap, subst, arith}
 use Rattle.std.specs.List.{flat_map, list_any, AllByRecursion, IsDistinct}
 use Rattle.std.specs.List.Sorted.{IsStrictlySortedBy}
 use Rattle.std.specs.Str.{bytes_eq}
@@ -65,12 +65,6 @@ module _ (A : Type 0) (spell : A → List ℕ) (Good : A → Type 0)
       → (Rule read → ⊥) → NoneAt (listed spell) Rule old
   none_of_rule Rule read old new good hr is broken = λ ms rest h e.
       let same = peel_list read ms new rest hr (good ms h) (sym is ∙ e) in broken (subst Rule (sym same.0) h)
-
-  -- a rule that implies the form of the list keeps a fault of reading the list
-  pub weaker_list : {E : Type 0} (fault : Or E) (Rule : List A → Type 0) (old left : List ℕ) → ((ms : List A) → Rule ms → IsListOf Good ms)
-      → ReadsOr {A = List A} (listed spell) (IsListOf Good) (Err fault) old left → ReadsOr {A = List A} (listed spell) Rule (Err fault) old left
-  weaker_list NoMemory Rule old left good none = tt
-  weaker_list (Is fault) Rule old left good none = λ ms rest h e. none ms rest (good ms h) e
 
 -- the tests and the rules
 or_false : (a b : Bool) → (a || b) ≡ false → (a ≡ false) × (b ≡ false)

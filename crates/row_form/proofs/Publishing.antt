@@ -1,7 +1,7 @@
 -- A publish: where one of its fields is none, it is none.
-use Rattle.std.proofs.Common.{◌≡◌, ◌<◌, ◌≤◌, ◌^◌, ℕ, Result, Ok, Err, List, [], ◌∷◌, ◌++◌, length, refl, sym, ◌∙◌, ap, subst, arith}
+use Rattle.std.proofs.Common.{◌≡◌, ℕ, Err, List, ◌++◌, length, sym, ◌∙◌, ap, arith}
 use Rattle.std.proofs.lemmas.List.{append_assoc}
-use Rattle.cc_names.specs.Formed.{IsText, IsBelowRoot, IsEntry, IsListOf, AreTargets, AreEntries, IsDeedFormed}
+use Rattle.cc_names.specs.Formed.{IsText, IsBelowRoot, IsEntry, IsListOf, AreEntries, IsDeedFormed}
 use Rattle.cc_names.specs.Names.{IsName}
 use Rattle.cc_names.specs.declared.memory.Or.{Or}
 use Rattle.cc_names.specs.declared.memory.Or.TheVariants.{NoMemory, Is}

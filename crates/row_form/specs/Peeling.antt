@@ -37,21 +37,6 @@ peel_text a b x y ha hb e =
     let w = peel_word (length a) (length b) (a ++ x) (b ++ y) ha hb (sym (append_assoc (word (length a)) a x) ∙ e ∙ append_assoc (word (length b)) b y) in
     fronts a b x y w.0 w.1
 
--- where its first field is none, a thing of two fields is none
-pub none_first : (A B C : Type 0) (one : A → List ℕ) (two : B → List ℕ) (GoodA : A → Type 0) (GoodC : C → Type 0) (f : C → A) (g : C → B) (whole : C → List ℕ)
-    → ((c : C) → whole c ≡ one (f c) ++ two (g c)) → ((c : C) → GoodC c → GoodA (f c)) → (old : List ℕ) → NoneAt one GoodA old → NoneAt whole GoodC old
-none_first A B C one two GoodA GoodC f g whole splits good old none = λ c rest h e.
-    none (f c) (two (g c) ++ rest) (good c h) (e ∙ ap (λ s. s ++ rest) (splits c) ∙ append_assoc (one (f c)) (two (g c)) rest)
-
--- where its first field is read and its second is none, it is none
-pub none_second : (A B C : Type 0) (one : A → List ℕ) (two : B → List ℕ) (GoodA : A → Type 0) (GoodB : B → Type 0) (GoodC : C → Type 0) (f : C → A) (g : C → B) (whole : C → List ℕ)
-    → ((c : C) → whole c ≡ one (f c) ++ two (g c)) → ((c : C) → GoodC c → GoodA (f c)) → ((c : C) → GoodC c → GoodB (g c))
-    → ((a b : A) (x y : List ℕ) → GoodA a → GoodA b → one a ++ x ≡ one b ++ y → (a ≡ b) × (x ≡ y))
-    → (old new : List ℕ) (a : A) → GoodA a → old ≡ one a ++ new → NoneAt two GoodB new → NoneAt whole GoodC old
-none_second A B C one two GoodA GoodB GoodC f g whole splits goodA goodB peel old new a ha read none = λ c rest h e.
-    let e' : one a ++ new ≡ one (f c) ++ (two (g c) ++ rest) = sym read ∙ e ∙ ap (λ s. s ++ rest) (splits c) ∙ append_assoc (one (f c)) (two (g c)) rest in
-    none (g c) rest (goodB c h) (peel a (f c) new (two (g c) ++ rest) ha (goodA c h) e').1
-
 -- a name and a path are short
 pub name_short : (bytes : List ℕ) → IsName bytes → IsText bytes
 name_short bytes h = grind (arith, common_steps)

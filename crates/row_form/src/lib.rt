@@ -11,6 +11,8 @@
 mod cursor;
 mod lists;
 mod reading;
+#[cfg(test)]
+mod tests;
 mod writing;
 
 pub use cc_names::rows::{Deed, Extent, Kind, Out, Placed, ReadOf, Row, Stored, Tag, TypeKind};

@@ -1,5 +1,5 @@
 -- The reads are in order exactly where the test says so.
-use Rattle.std.proofs.Common.{◌≡◌, true, sym, ◌∙◌, ap, subst}
+use Rattle.std.proofs.Common.{◌≡◌, true, sym, ◌∙◌, ap}
 use Rattle.cc_names.specs.Formed.{IsEntry, AreEntries}
 use Rattle.cc_names.specs.declared.rows.ReadOf.{ReadOf}
 use Rattle.row_form.specs.Fields.{entry}
