@@ -101,7 +101,7 @@ stops_first sight first (causes.Damaged n) opened read new h = (
       (told_back (Moves opened.list [] opened.list []) (λ _. IsDamaged opened.list n) (λ _. IsDamaged opened.list n) first.told (sight opened.disk).told (λ d e moves damaged. damaged) new.keeps h.1) new.list,
 )
 stops_first sight first causes.DiskFault opened read new h = subst (λ f. rises f (sight read.disk).faults ≡ true) new.counts.1 h
-stops_first sight first causes.NoMemory opened read new h = tt
+stops_first sight first causes.NoMemory opened read new h = h ∙ new.counts.1
 
 -- no base was opened
 unchanged_told : (first : Sight) (now : Option Device) → IfTold first.told (λ d. first.ticks ≡ length d.calls) → Both Keeps first.told now

@@ -61,7 +61,7 @@ pub record IsDamaged (list : List (List ℕ)) (n : ℕ) : Type 0 where
 abbrev pub StopsBy : Option Device → (Device → List (List ℕ)) → OpenCause → ℕ → ℕ → Type 0
 StopsBy told list (causes.Damaged n) old new = (new ≡ old) × IfTold told (λ d. IsDamaged (list d) n)
 StopsBy told list causes.DiskFault old new = rises old new ≡ true
-StopsBy told list causes.NoMemory old new = Unit {0}
+StopsBy told list causes.NoMemory old new = new ≡ old
 
 -- No base was opened, and nothing was written: each stop since finds the frames that were there.
 pub record FailsToOpen (old : Sight) (cause : OpenCause) (new : Sight) : Type 0 where

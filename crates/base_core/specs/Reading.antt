@@ -40,7 +40,7 @@ pub record NextIs {D : Type 0} (sight : D → Sight) (found : Option (List ℕ))
 abbrev pub IsMissed : OpenCause → ℕ → ℕ → Type 0
 IsMissed (causes.Damaged n) old new = ⊥
 IsMissed causes.DiskFault old new = rises old new ≡ true
-IsMissed causes.NoMemory old new = Unit {0}
+IsMissed causes.NoMemory old new = new ≡ old
 
 -- a payload spells this row, which fits a base
 pub record IsNextRow (b : Base) (payload : List ℕ) (row : Plain) : Type 0 where

@@ -52,4 +52,4 @@ returns-in-Err-open-clause-err g c =
     let begins = c.in-Ok.ensures.begins in
     let new = new_on sight first opened c.in-Ok.ensures.list begins.4 begins.1 c.in-Ok.ensures.moves c.in-Ok.ensures.counts in
     subst (λ disk. FailsToOpen first causes.NoMemory (sight disk)) (sym (c.into_disk-in-Err-open.ensures ∙ ap (λ journal. journal.disk) c.in-Err-open.ensures.err))
-    (fails_to_open first (sight read.disk) causes.NoMemory (g.met.D.Disk.counted c.args.disk) (keeps_first sight first opened read new c.in-Ok-read_rows.ensures.reads) tt)
+    (fails_to_open first (sight read.disk) causes.NoMemory (g.met.D.Disk.counted c.args.disk) (keeps_first sight first opened read new c.in-Ok-read_rows.ensures.reads) (c.in-Ok-read_rows.ensures.sound ∙ new.counts.1))
