@@ -35,3 +35,6 @@ pub mod Logged
 pub mod Freshly
 pub mod Settled
 pub mod FoundBases
+pub mod ReadRows
+pub mod SameDeeds
+pub mod OpenedBases

@@ -1,5 +1,5 @@
 -- What opening a base answers.
-use Rattle.std.specs.Prelude.{◌≡◌, ◌<◌, ◌⊎◌, ℕ, true, is_some, List, [], ◌∷◌, ◌++◌, reverse}
+use Rattle.std.specs.Prelude.{◌≡◌, ◌<◌, ℕ, true, is_some, Option, List, [], ◌∷◌, ◌++◌, reverse}
 use Rattle.cc_names.specs.Formed.{Plain, IsFormed}
 use Rattle.cc_names.specs.declared.steps.Told.{Told}
 use Rattle.cc_names.specs.declared.steps.Told.TheVariants as told
@@ -43,6 +43,10 @@ pub record Opens (old : Sight) (story : List Told) (new : Sight) : Type 0 where
   pub story_is : story ≡ told.Opened rows handed.counts handed.tells ∷ []
   pub sound : new.faults ≡ old.faults
 
+-- no row that is read and that fits the base has this spelling
+abbrev pub IsUnfit : Base → List ℕ → Type 0
+IsUnfit b payload = (row : Plain) → IsFormed row → IsKnown row.deed → payload ≡ spelled row → fits b row.deed ≡ true → ⊥
+
 -- frame n of a journal is the first that spells no row that is read, or whose row does not fit those before it
 pub record IsDamaged (list : List (List ℕ)) (n : ℕ) : Type 0 where
   pub base : Base
@@ -51,16 +55,16 @@ pub record IsDamaged (list : List (List ℕ)) (n : ℕ) : Type 0 where
   pub list_is : list ≡ payloads base ++ payload ∷ rest
   pub number : n ≡ size base
   pub good : is_base base ≡ true
-  pub unfit : (row : Plain) → IsFormed row → IsKnown row.deed → payload ≡ spelled row → fits base row.deed ≡ true → ⊥
+  pub unfit : IsUnfit base payload
 
--- why a base was not opened, with the disk's counts of faults before and after
-abbrev pub IsCause : Sight → OpenCause → Sight → Type 0
-IsCause old (causes.Damaged n) new = (new.faults ≡ old.faults) × IfTold old.told (λ d. IsDamaged (frames (bytes_of 0 d)) n)
-IsCause old causes.DiskFault new = rises old.faults new.faults ≡ true
-IsCause old causes.NoMemory new = Unit {0}
+-- why a journal with this list was not read through, with the disk's counts of faults before and after
+abbrev pub StopsBy : Option Device → (Device → List (List ℕ)) → OpenCause → ℕ → ℕ → Type 0
+StopsBy told list (causes.Damaged n) old new = (new ≡ old) × IfTold told (λ d. IsDamaged (list d) n)
+StopsBy told list causes.DiskFault old new = rises old new ≡ true
+StopsBy told list causes.NoMemory old new = new ≡ old
 
 -- No base was opened, and nothing was written: each stop since finds the frames that were there.
 pub record FailsToOpen (old : Sight) (cause : OpenCause) (new : Sight) : Type 0 where
-  pub because : IsCause old cause new
+  pub because : StopsBy old.told (λ d. frames (bytes_of 0 d)) cause old.faults new.faults
   pub tells : is_some new.told ≡ is_some old.told
   pub unchanged : IfTold old.told (λ d. IfTold new.told (λ e. (k : ℕ) (image : List ℕ) → old.ticks < k → MayLeave 0 e k image → frames image ≡ frames (bytes_of 0 d)))

@@ -1,3 +1,4 @@
 pub mod Joins
-pub mod Peeling
+pub mod Listing
+pub mod Publishing
 pub mod Rows

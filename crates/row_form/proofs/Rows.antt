@@ -1,5 +1,5 @@
 -- Rows and their parts: where a part is none, the row is none.
-use Rattle.std.proofs.Common.{◌≡◌, ◌≢◌, ℕ, Result, Err, List, [], ◌++◌, get_or, refl, sym, ◌∙◌, ap, subst, inl, arith}
+use Rattle.std.proofs.Common.{◌≡◌, ◌≢◌, ℕ, Result, Err, List, [], ◌∷◌, ◌++◌, get_or, refl, sym, ◌∙◌, ap, subst, inl, inr, arith}
 use Rattle.std.proofs.lemmas.List.{append_assoc, append-nil}
 use Rattle.cc_names.specs.Answers.{Gives}
 use Rattle.cc_names.specs.Formed.{Plain, IsFormed, IsTag, IsText, IsWord, IsBelowRoot}
@@ -11,9 +11,10 @@ use Rattle.cc_names.specs.declared.rows.Deed.TheVariants as deeds
 use Rattle.row_form.specs.Fields.{byte, word, long, text}
 use Rattle.row_form.specs.Heads.{tag_bytes, head_bytes, IsHead, head_of, IsDeedOf}
 use Rattle.row_form.specs.Reading.{NoneAt, ReadsOr, IsKnown, IsReadAs, IsForm, IsByte}
-use Rattle.row_form.specs.Spelled.{fields_of, code_of, first_byte, spelled}
+use Rattle.row_form.specs.Spelled.{fields_of, code_of, first_byte, form_of, spelled}
 use Rattle.row_form.specs.declared.reading.Head.{Head}
-use Rattle.row_form.proofs.Peeling.{fronts, peel_byte, peel_word, peel_text, name_short, path_short}
+use Rattle.row_form.proofs.Publishing.{same_publish_rest}
+use Rattle.row_form.specs.Peeling.{fronts, peel_byte, peel_word, peel_text, name_short, path_short}
 
 pub gives_fault : {X E : Type 0} (r : Result X (Or E)) (o : Or E) (fault : E) (read : Result X E) → r ≡ Err o → o ≡ Is fault → Gives r read → read ≡ Err fault
 gives_fault {X} {E} r o fault read is_err is_fault gives =
@@ -38,6 +39,7 @@ no_tag form old new first none = λ head rest h e.
 is_put : (deed : Deed) → IsKnown deed → code_of deed ≡ 12 → (view path bytes : List ℕ) × (deed ≡ deeds.Put view path bytes)
 is_put (deeds.Put view path bytes) known code = (view, path, bytes, refl)
 is_put (deeds.Mkview view) known code = absurd (omega (arith, code))
+is_put (deeds.Publish view targets script entries outputs) known code = absurd (omega (arith, code))
 is_put _ known code = absurd known
 
 no_put_path : (view : List ℕ) (old new : List ℕ) → IsName view → old ≡ text view ++ new → NoneAt text IsBelowRoot new → (deed : Deed) (rest : List ℕ) → IsDeedOf 1 12 deed
@@ -46,6 +48,7 @@ no_put_path view old new hv first none (deeds.Put v p b) rest h e =
     let peeled = peel_text view v new ((text p ++ text b) ++ rest) (name_short view hv) (name_short v h.0.0) (sym first ∙ e ∙ append_assoc (text v) (text p ++ text b) rest) in
     none p (text b ++ rest) h.0.1 (peeled.1 ∙ append_assoc (text p) (text b) rest)
 no_put_path view old new hv first none (deeds.Mkview v) rest h e = absurd (omega (arith, h.3))
+no_put_path view old new hv first none (deeds.Publish v ts s es os) rest h e = absurd (omega (arith, h.3))
 no_put_path view old new hv first none _ rest h e = absurd h.1
 
 pub put_without_path : {E : Type 0} (fault : Or E) (view : List ℕ) (old new left : List ℕ) → IsName view → old ≡ text view ++ new
@@ -60,6 +63,7 @@ no_put_text view path old one two hv first hp second none (deeds.Put v p b) rest
     let more = peel_text path p two (text b ++ rest) (path_short path hp.0) (path_short p h.0.1.0) (sym second ∙ peeled.1 ∙ append_assoc (text p) (text b) rest) in
     none b rest h.0.2 more.1
 no_put_text view path old one two hv first hp second none (deeds.Mkview v) rest h e = absurd (omega (arith, h.3))
+no_put_text view path old one two hv first hp second none (deeds.Publish v ts s es os) rest h e = absurd (omega (arith, h.3))
 no_put_text view path old one two hv first hp second none _ rest h e = absurd h.1
 
 pub put_without_text : {E : Type 0} (fault : Or E) (view path : List ℕ) (old one two left : List ℕ) → IsName view → old ≡ text view ++ one → IsBelowRoot path → one ≡ text path ++ two
@@ -71,6 +75,7 @@ put_without_text (Is fault) view path old one two left hv first hp second none =
 pub same_rest : (form code : ℕ) (d e : Deed) (x y : List ℕ) → IsDeedOf form code d → IsDeedOf form code e → fields_of d ++ x ≡ fields_of e ++ y → x ≡ y
 same_rest form code (deeds.Mkview v) (deeds.Mkview w) x y hd he is = (peel_text v w x y (name_short v hd.0) (name_short w he.0) is).1
 same_rest form code (deeds.Mkview v) (deeds.Put w p b) x y hd he is = absurd (omega (arith, hd.3, he.3))
+same_rest form code (deeds.Mkview v) (deeds.Publish w ts s es os) x y hd he is = absurd (omega (arith, hd.3, he.3))
 same_rest form code (deeds.Mkview v) _ x y hd he is = absurd he.1
 same_rest form code (deeds.Put v p b) (deeds.Put w q c) x y hd he is =
     let one = peel_text v w ((text p ++ text b) ++ x) ((text q ++ text c) ++ y) (name_short v hd.0.0) (name_short w he.0.0)
@@ -79,13 +84,24 @@ same_rest form code (deeds.Put v p b) (deeds.Put w q c) x y hd he is =
     (sym (append_assoc (text p) (text b) x) ∙ one.1 ∙ append_assoc (text q) (text c) y) in
     (peel_text b c x y hd.0.2 he.0.2 two.1).1
 same_rest form code (deeds.Put v p b) (deeds.Mkview w) x y hd he is = absurd (omega (arith, hd.3, he.3))
+same_rest form code (deeds.Put v p b) (deeds.Publish w ts s es os) x y hd he is = absurd (omega (arith, hd.3, he.3))
 same_rest form code (deeds.Put v p b) _ x y hd he is = absurd he.1
+same_rest form code (deeds.Publish v ts s es os) (deeds.Publish w us t fs ps) x y hd he is = same_publish_rest v ts s es os w us t fs ps x y hd.0 he.0 is
+same_rest form code (deeds.Publish v ts s es os) (deeds.Mkview w) x y hd he is = absurd (omega (arith, hd.3, he.3))
+same_rest form code (deeds.Publish v ts s es os) (deeds.Put w p b) x y hd he is = absurd (omega (arith, hd.3, he.3))
+same_rest form code (deeds.Publish v ts s es os) _ x y hd he is = absurd he.1
 same_rest form code _ e x y hd he is = absurd hd.1
+
+form_known : (targets : List (List ℕ)) → IsForm (form_of targets)
+form_known [] = inl refl
+form_known (one ∷ []) = inl refl
+form_known (one ∷ two ∷ more) = inr refl
 
 -- what stands before the fields of a row that is read
 known_form : (deed : Deed) → IsKnown deed → IsForm (first_byte deed) × IsByte (code_of deed)
 known_form (deeds.Mkview view) known = (inl refl, omega arith)
 known_form (deeds.Put view path bytes) known = (inl refl, omega arith)
+known_form (deeds.Publish view targets script entries outputs) known = (form_known targets, omega arith)
 known_form _ known = absurd known
 
 pub row_head : (row : Plain) → IsFormed row → IsKnown row.deed → IsHead (head_of row)

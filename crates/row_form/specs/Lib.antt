@@ -1,4 +1,6 @@
 pub mod Fields
 pub mod Heads
+pub mod Peeling
 pub mod Reading
 pub mod Spelled
+pub mod Tested

@@ -44,6 +44,7 @@ ReadsOr spell Good (Err (Is fault)) old new = NoneAt spell Good old
 abbrev pub IsKnown : Deed → Type 0
 IsKnown (deeds.Mkview view) = Unit {0}
 IsKnown (deeds.Put view path bytes) = Unit {0}
+IsKnown (deeds.Publish view targets script entries outputs) = Unit {0}
 IsKnown _ = ⊥
 
 -- What reading bytes as a row answers: the row that they spell, which keeps its form; or a fault, exactly where they spell

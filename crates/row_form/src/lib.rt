@@ -9,7 +9,10 @@
 #![tactic(auto)]
 
 mod cursor;
+mod lists;
 mod reading;
+#[cfg(test)]
+mod tests;
 mod writing;
 
 pub use cc_names::rows::{Deed, Extent, Kind, Out, Placed, ReadOf, Row, Stored, Tag, TypeKind};

@@ -8,6 +8,7 @@ ghost use Rattle.row_form.specs.Heads.{tag_bytes, head_bytes, IsHead, IsDeedOf};
 ghost use Rattle.cc_names.specs.Formed.{IsTag};
 
 use crate::cursor::{Cursor, NotARow};
+use crate::lists::{read_entries, read_outputs, read_targets};
 use cc_names::memory::Or;
 use cc_names::rows::{Deed, Row, Tag};
 use std::alloc::Global;
@@ -136,6 +137,9 @@ fn read_deed(
     if form == 1 && code == 12 {
         return read_put(alloc, cursor);
     }
+    if code == 17 {
+        return read_publish(alloc, cursor, form);
+    }
     Err(Or::Is(NotARow(CODE_PLACE)))
 }
 
@@ -164,6 +168,37 @@ fn read_put(alloc: Global, cursor: &mut Cursor<'_>) -> Result<Deed, Or<NotARow>>
     };
     match cursor.text(alloc) {
         Ok(text) => Ok(Deed::Put { view, path, text }),
+        Err(fault) => Err(fault),
+    }
+}
+
+fn read_publish(alloc: Global, cursor: &mut Cursor<'_>, form: u8) -> Result<Deed, Or<NotARow>>
+    ensures { ReadsOr fields_of (IsDeedOf form 17) result cursor.old.rest.now cursor.new.rest.now }
+{
+    let view = match cursor.name(alloc) {
+        Ok(view) => view,
+        Err(fault) => return Err(fault),
+    };
+    let targets = match read_targets(alloc, cursor, form) {
+        Ok(targets) => targets,
+        Err(fault) => return Err(fault),
+    };
+    let script = match cursor.text(alloc) {
+        Ok(script) => script,
+        Err(fault) => return Err(fault),
+    };
+    let entries = match read_entries(alloc, cursor) {
+        Ok(entries) => entries,
+        Err(fault) => return Err(fault),
+    };
+    match read_outputs(alloc, cursor, targets.as_slice().len()) {
+        Ok(outputs) => Ok(Deed::Publish {
+            view,
+            targets,
+            script,
+            entries,
+            outputs,
+        }),
         Err(fault) => Err(fault),
     }
 }

@@ -31,7 +31,8 @@ pub fn spell(alloc: Global, row: &Row) -> Result<Text, NoMemory>
     Ok(Text::of(out))
 }
 
-fn form_of(targets: &[Path]) -> u8
+/// The first byte of a publish with these targets.
+pub(crate) fn form_of(targets: &[Path]) -> u8
     ensures { result ≡ form_of targets.now }
 {
     match targets {

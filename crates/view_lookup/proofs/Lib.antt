@@ -5,3 +5,4 @@ pub mod RowTexts
 pub mod Unversioned
 pub mod Standing
 pub mod Files
+pub mod RowsFit

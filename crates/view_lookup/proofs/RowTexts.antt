@@ -79,13 +79,6 @@ no_row [] = refl
 no_row (row ∷ older) =
     newest_or (size older == 0) row (row_at older 0) ∙ ap (λ same. cond same (Some row) (row_at older 0)) (not_zero (length older)) ∙ no_row older
 
--- the text of the row at a place
-pub text_numbered : (rows : Base) (n : ℕ) (path : List ℕ) → is_unversioned (reverse rows) ≡ true → text (reverse rows) (suc n) path ≡ option_and_then (text_made path) (deed_of (slice_get rows n))
-text_numbered rows n path h = text_by_deed (reverse rows) (suc n) path h ∙ ap (λ row. option_and_then (text_made path) (deed_of row)) (row_numbered rows n)
-
-pub no_text : (b : Base) (path : List ℕ) → is_unversioned b ≡ true → text b 0 path ≡ None
-no_text b path h = text_by_deed b 0 path h ∙ ap (λ row. option_and_then (text_made path) (deed_of row)) (no_row b)
-
 -- no output is at a place without a target
 output_nowhere : (path : List ℕ) (targets : List (List ℕ)) → output_at path targets [] ≡ None
 output_nowhere path [] = refl

@@ -8,6 +8,7 @@
 // What it stands on: the rows of `cc_names` and the definitions of `legal_history`.
 #![tactic(auto)]
 
+mod fitting;
 mod objects;
 mod seen;
 #[cfg(test)]
@@ -15,7 +16,8 @@ mod tests;
 mod texts;
 mod views;
 
+pub use fitting::fits;
 pub use objects::held;
 pub use seen::{at, file_at, is_directory};
-pub use texts::{first_rows, text_at, text_of};
+pub use texts::{first_rows, row_at, text_at, text_of};
 pub use views::{private, view_row};

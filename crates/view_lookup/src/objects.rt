@@ -11,7 +11,7 @@ use cc_names::names::Name;
 use cc_names::paths::Path;
 use cc_names::rows::{Deed, Row};
 
-fn is_target(path: &Path, targets: &[Path]) -> bool
+pub(crate) fn is_target(path: &Path, targets: &[Path]) -> bool
     ensures { result ≡ is_target path.now targets.now }
 {
     targets

@@ -2,7 +2,7 @@
 
 ghost use Rattle.std.specs.Prelude.{◌≡◌, ℕ, ◌<◌, ◌^◌, length, reverse, true, IsSome};
 ghost use Rattle.std.specs.Option.{option_copied};
-ghost use Rattle.legal_history.specs.Base.{first_rows};
+ghost use Rattle.legal_history.specs.Base.{first_rows, row_at};
 ghost use Rattle.legal_history.specs.Fresh.{texts};
 ghost use Rattle.legal_history.specs.Texts.{output_at, text};
 ghost use Rattle.legal_history.specs.Views.{view_row};
@@ -22,6 +22,14 @@ pub fn first_rows(rows: &[Row], count: u64) -> &[Row]
 {
     let behind_root = count.saturating_sub(1).min(rows.len() as u64);
     &rows[..behind_root as usize]
+}
+
+/// The row of this number. Takes no time.
+pub fn row_at(rows: &[Row], number: u64) -> Option<&Row>
+    ensures { option_copied result ≡ row_at (reverse rows.now) number }
+{
+    let index = number.checked_sub(1)?;
+    rows.get(index as usize)
 }
 
 /// The output at the place of the target with this path.
@@ -58,8 +66,7 @@ pub fn text_of<'a>(rows: &'a [Row], row: u64, path: &Path) -> Option<&'a [u8]>
     requires unversioned { is_unversioned (reverse rows.now) ≡ true }
     ensures { option_copied result ≡ text (reverse rows.now) row path.now }
 {
-    let index = row.checked_sub(1)?;
-    let row = rows.get(index as usize)?;
+    let row = row_at(rows, row)?;
     text_made(path, row.deed())
 }
 

@@ -1,4 +1,4 @@
-use Rattle.row_form.proofs.Peeling.{no_name}
+use Rattle.row_form.specs.Peeling.{no_name}
 use Rattle.row_form.proofs.Rows.{gives_fault}
 use Rattle.row_form.proofs.cursor.Cursor.name.Goals as goal
 

@@ -1,4 +1,4 @@
-use Rattle.row_form.proofs.Peeling.{no_path}
+use Rattle.row_form.specs.Peeling.{no_path}
 use Rattle.row_form.proofs.Rows.{gives_fault}
 use Rattle.row_form.proofs.cursor.Cursor.path.Goals as goal
 

@@ -4,11 +4,12 @@ use Rattle.std.specs.Int.{w32, w64, from_le_bytes}
 use Rattle.std.proofs.lemmas.List.{append_assoc, take_at, drop_at}
 use Rattle.std.proofs.lemmas.Nat.{from_le_bytes-to_le_bytes_4, from_le_bytes-to_le_bytes_8}
 use Rattle.std.proofs.lemmas.Grind.{common_steps}
-use Rattle.cc_names.specs.Formed.{IsWord, IsLong, IsText, IsBelowRoot}
+use Rattle.cc_names.specs.Formed.{IsWord, IsLong, IsText, IsBelowRoot, IsEntry}
+use Rattle.cc_names.specs.declared.rows.ReadOf.{ReadOf}
 use Rattle.cc_names.specs.Names.{IsName, name_of, unless_fault}
 use Rattle.cc_names.specs.Paths.{IsPath, path_of}
 use Rattle.cc_names.specs.declared.names.NameFault.{NameFault}
-use Rattle.row_form.specs.Fields.{byte, word, long, text}
+use Rattle.row_form.specs.Fields.{byte, word, long, text, entry}
 use Rattle.row_form.specs.Reading.{NoneAt}
 
 -- two fronts of one length that are followed by something are the same
@@ -36,21 +37,6 @@ peel_text a b x y ha hb e =
     let w = peel_word (length a) (length b) (a ++ x) (b ++ y) ha hb (sym (append_assoc (word (length a)) a x) ∙ e ∙ append_assoc (word (length b)) b y) in
     fronts a b x y w.0 w.1
 
--- where its first field is none, a thing of two fields is none
-pub none_first : (A B C : Type 0) (one : A → List ℕ) (two : B → List ℕ) (GoodA : A → Type 0) (GoodC : C → Type 0) (f : C → A) (g : C → B) (whole : C → List ℕ)
-    → ((c : C) → whole c ≡ one (f c) ++ two (g c)) → ((c : C) → GoodC c → GoodA (f c)) → (old : List ℕ) → NoneAt one GoodA old → NoneAt whole GoodC old
-none_first A B C one two GoodA GoodC f g whole splits good old none = λ c rest h e.
-    none (f c) (two (g c) ++ rest) (good c h) (e ∙ ap (λ s. s ++ rest) (splits c) ∙ append_assoc (one (f c)) (two (g c)) rest)
-
--- where its first field is read and its second is none, it is none
-pub none_second : (A B C : Type 0) (one : A → List ℕ) (two : B → List ℕ) (GoodA : A → Type 0) (GoodB : B → Type 0) (GoodC : C → Type 0) (f : C → A) (g : C → B) (whole : C → List ℕ)
-    → ((c : C) → whole c ≡ one (f c) ++ two (g c)) → ((c : C) → GoodC c → GoodA (f c)) → ((c : C) → GoodC c → GoodB (g c))
-    → ((a b : A) (x y : List ℕ) → GoodA a → GoodA b → one a ++ x ≡ one b ++ y → (a ≡ b) × (x ≡ y))
-    → (old new : List ℕ) (a : A) → GoodA a → old ≡ one a ++ new → NoneAt two GoodB new → NoneAt whole GoodC old
-none_second A B C one two GoodA GoodB GoodC f g whole splits goodA goodB peel old new a ha read none = λ c rest h e.
-    let e' : one a ++ new ≡ one (f c) ++ (two (g c) ++ rest) = sym read ∙ e ∙ ap (λ s. s ++ rest) (splits c) ∙ append_assoc (one (f c)) (two (g c)) rest in
-    none (g c) rest (goodB c h) (peel a (f c) new (two (g c) ++ rest) ha (goodA c h) e').1
-
 -- a name and a path are short
 pub name_short : (bytes : List ℕ) → IsName bytes → IsText bytes
 name_short bytes h = grind (arith, common_steps)
@@ -76,3 +62,18 @@ no_path bytes old new fault short read is = λ path rest h e.
     let peeled = peel_text bytes path new rest short (path_short path h.0) (sym read ∙ e) in
     let clash : Err fault ≡ Ok path = sym is ∙ ap path_of peeled.0 ∙ path_is path h.0 in
     cc
+
+pub peel_path : (a b x y : List ℕ) → IsBelowRoot a → IsBelowRoot b → text a ++ x ≡ text b ++ y → (a ≡ b) × (x ≡ y)
+peel_path a b x y ha hb e = peel_text a b x y (path_short a ha.0) (path_short b hb.0) e
+
+pub peel_name : (a b x y : List ℕ) → IsName a → IsName b → text a ++ x ≡ text b ++ y → (a ≡ b) × (x ≡ y)
+peel_name a b x y ha hb e = peel_text a b x y (name_short a ha) (name_short b hb) e
+
+abbrev entry_of : List ℕ → ℕ → ReadOf
+entry_of path row = record { path = path; row = row }
+
+pub peel_entry : (a b : ReadOf) (x y : List ℕ) → IsEntry a → IsEntry b → entry a ++ x ≡ entry b ++ y → (a ≡ b) × (x ≡ y)
+peel_entry a b x y ha hb e =
+    let p = peel_path a.path b.path (long a.row ++ x) (long b.row ++ y) ha.0 hb.0 (sym (append_assoc (text a.path) (long a.row) x) ∙ e ∙ append_assoc (text b.path) (long b.row) y) in
+    let r = peel_long a.row b.row x y ha.1 hb.1 p.1 in
+    (ap (λ q. entry_of q a.row) p.0 ∙ ap (entry_of b.path) r.0, r.1)
