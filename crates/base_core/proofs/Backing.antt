@@ -14,6 +14,7 @@ use Rattle.vob_journal.specs.Moves.{Moves, Stands, Between}
 use Rattle.vob_journal.specs.declared.left.Left.{Left}
 use Rattle.vob_journal.specs.declared.left.Left.TheVariants as lefts
 use Rattle.base_core.specs.Backed.{IsCovered}
+use Rattle.base_core.specs.Leaving.{LeftSo}
 use Rattle.base_core.specs.Standing.{payloads, with_left, base_by, tick_of, left_after, left_within, StandsFor, MayBeFound}
 
 -- a stop is at one of the calls
@@ -102,12 +103,7 @@ commit_covered opening ends row tick list loose list' loose' left left' (Some d)
     let all : list' ++ loose' ≡ payloads (row ∷ base_by opening ends) = ap (λ l. list' ++ l) grown.1 ∙ append-nil list' ∙ is in
     covered_end opening ends (Committed row tick) list loose list' loose' left left' d e h ticked moves at is (inl all) (inr all) (λ none. grown.1)
 
--- what a failed append leaves, by what the journal says of it
-abbrev pub LeftSo : Option Plain → Plain → Left → Option Plain → Type 0
-LeftSo earlier row lefts.Nothing found = found ≡ None
-LeftSo earlier row lefts.Earlier found = found ≡ earlier
-LeftSo earlier row lefts.InFlight found = found ≡ Some row
-
+-- what is loose behind the list after a fault
 fault_stands : (opening : Opening) (ends : List End) (row : Plain) (list loose loose' : List (List ℕ)) (left' : Left) (found : Option Plain) → list ≡ payloads (base_by opening ends) → StandsFor (base_by opening ends) (hanging ends) (list ++ loose) → loose' ≡ loose_after left' loose (spelled row) → LeftSo (hanging ends) row left' found → StandsFor (base_by opening ends) found (list ++ loose')
 fault_stands opening ends row list loose loose' lefts.Nothing found is for e so = inl (ap (λ l. list ++ l) e ∙ append-nil list ∙ is)
 fault_stands opening ends row list loose loose' lefts.Earlier found is for e so =

@@ -52,6 +52,15 @@ replies_same lanes lane more low high = get_or-set_same lanes (lane - 1) more []
 pub replies_other : (lanes : List (List Reply)) (lane other : ℕ) (more : List Reply) → 1 ≤ lane → 1 ≤ other → other ≢ lane → replies_at (set lanes (lane - 1) more) other ≡ replies_at lanes other
 replies_other lanes lane other more low low' differs = get_or-set_other lanes (lane - 1) (other - 1) more [] (λ e. differs (omega arith))
 
+-- with another reply in place of its newest one
+pub other_reply : (lanes before : List (List Reply)) (lane : ℕ) (newest reply : Reply) (kept d : List Reply) → 1 ≤ lane → lane ≤ length lanes → lanes ≡ with_reply before lane newest → ((one : List Reply) (last : Reply) → get_or lanes (lane - 1) d ≡ one ++ last ∷ [] → kept ≡ one ++ reply ∷ []) → set lanes (lane - 1) kept ≡ with_reply before lane reply
+other_reply lanes before lane newest reply kept d low high e replaced =
+    let within : lane - 1 < length before = omega (arith, low, high, ap length e, length-set before (lane - 1) (replies_at before lane ++ newest ∷ [])) in
+    let last : get_or lanes (lane - 1) d ≡ replies_at before lane ++ newest ∷ [] = ap (λ xs. get_or xs (lane - 1) d) e ∙ get_or-set_same before (lane - 1) (replies_at before lane ++ newest ∷ []) d within in
+    ap (λ xs. set xs (lane - 1) kept) e
+    ∙ set-set before (lane - 1) (replies_at before lane ++ newest ∷ []) kept
+    ∙ ap (set before (lane - 1)) (replaced (replies_at before lane) newest last)
+
 -- without its newest reply, a lane's list is as it was before it
 pub without_reply : (lanes before : List (List Reply)) (lane : ℕ) (reply : Reply) (kept d : List Reply) → 1 ≤ lane → lane ≤ length lanes → lanes ≡ with_reply before lane reply → ((one : List Reply) (last : Reply) → get_or lanes (lane - 1) d ≡ one ++ last ∷ [] → kept ≡ one) → set lanes (lane - 1) kept ≡ before
 without_reply lanes before lane reply kept d low high e popped =

@@ -2,6 +2,7 @@
 use Rattle.std.proofs.Common.{◌≡◌, ℕ, ◌+◌, ◌-◌, Option, None, List, [], ◌∷◌, ◌++◌, refl, drop}
 use Rattle.cc_names.specs.Formed.{Plain}
 use Rattle.cc_names.specs.declared.commands.Phase.{Phase}
+use Rattle.cc_names.specs.declared.rows.Tag.{Tag}
 use Rattle.cc_names.specs.declared.steps.Step.{Step}
 use Rattle.cc_names.specs.declared.steps.Step.TheVariants as steps
 use Rattle.cc_names.specs.declared.steps.Told.TheVariants as told
@@ -24,6 +25,12 @@ left_by-last left (steps.Start tag unit ∷ earlier) step = left_by-last left ea
 left_by-last left (steps.Settled tag unit outcome ∷ earlier) step = left_by-last left earlier step
 left_by-last left (steps.End tag ∷ earlier) step = left_by-last left earlier step
 left_by-last left (steps.Fault tag found before faults tick ∷ earlier) step = left_by-last found earlier step
+
+-- a step that is neither a commit nor a fault changes nothing
+pub left_by-other : (left : Option Plain) (step : Step) → ((tag : Tag) (number tick : ℕ) → step ≡ steps.Commit tag number tick → ⊥) → ((tag : Tag) (found : Option Plain) (before faults tick : ℕ) → step ≡ steps.Fault tag found before faults tick → ⊥) → left_by left (step ∷ []) ≡ left
+left_by-other left (steps.Commit tag number tick) no_commit no_fault = absurd (no_commit tag number tick refl)
+left_by-other left (steps.Fault tag found before faults tick) no_commit no_fault = absurd (no_fault tag found before faults tick refl)
+left_by-other left step no_commit no_fault = refl
 
 -- the state of the story knows it
 hanging_by : (on : Handed) (n p : ℕ) (kept : List Step) (rows : List Plain) (phases : List Phase) (s : State) → AreTold n p kept rows phases → hanging (state_from s (story_of on kept rows phases)).ends ≡ left_by (hanging s.ends) kept

@@ -38,3 +38,4 @@ pub mod FoundBases
 pub mod ReadRows
 pub mod SameDeeds
 pub mod OpenedBases
+pub mod Appended

@@ -17,11 +17,10 @@ use Rattle.vob_journal.specs.declared.left.Left.TheVariants as lefts
 use Rattle.base_core.specs.Appending.{IsQuiet}
 use Rattle.base_core.specs.Backed.{IsBacked}
 use Rattle.base_core.specs.Faults.{is_fault}
-use Rattle.base_core.specs.Leaving.{left_in}
+use Rattle.base_core.specs.Leaving.{left_in, LeftSo}
 use Rattle.base_core.specs.Logs.{IsLogged}
 use Rattle.base_core.specs.Telling.{story_of, AreTold, stands_alone}
 use Rattle.base_core.specs.declared.handed.Handed.{Handed}
-use Rattle.base_core.proofs.Backing.{LeftSo}
 use Rattle.base_core.proofs.Growing.{state_from-more}
 use Rattle.base_core.proofs.Leavings.{hanging_is}
 use Rattle.base_core.proofs.Logging.{backed_same, backed_commit, backed_fault}

@@ -20,11 +20,12 @@ use Rattle.vob_journal.specs.declared.left.Left.{Left}
 use Rattle.vob_journal.specs.declared.left.Left.TheVariants as lefts
 use Rattle.base_core.specs.Backed.{IsCovered, IsBacked}
 use Rattle.base_core.specs.Faults.{is_fault}
+use Rattle.base_core.specs.Leaving.{LeftSo}
 use Rattle.base_core.specs.Logs.{IsLogged}
 use Rattle.base_core.specs.Standing.{base_by}
 use Rattle.base_core.specs.Telling.{story_of, AreTold, stands_alone}
 use Rattle.base_core.specs.declared.handed.Handed.{Handed}
-use Rattle.base_core.proofs.Backing.{LeftSo, still_told, commit_covered, fault_covered, settle_covered}
+use Rattle.base_core.proofs.Backing.{still_told, commit_covered, fault_covered, settle_covered}
 use Rattle.base_core.proofs.Growing.{state_from-more}
 use Rattle.base_core.proofs.LogSteps.{told_row, told_phase, is_told_step}
 use Rattle.base_core.proofs.Stories.{story_of-commit, story_of-plan, story_of-step}

@@ -1,18 +1,20 @@
 -- What a log keeps after its tail was settled, and what it says of stops.
 use Rattle.std.proofs.Common.{◌≡◌, ℕ, ◌+◌, ◌-◌, ◌<◌, ◌≤◌, ◌^◌, ◌⊎◌, inl, inr, Bool, true, false, Option, Some, None, List, [], ◌∷◌, ◌++◌, length, take, drop, refl, ap, ap₂, sym, subst, ◌∙◌, arith}
 use Rattle.std.proofs.lemmas.List.{append-nil, take_all, drop_all}
-use Rattle.std.specs.Prelude.{is_some}
+use Rattle.std.specs.Prelude.{is_some, Result, Ok, Err, MatchResult}
 use Rattle.cc_names.specs.Formed.{Plain}
 use Rattle.cc_names.specs.declared.commands.Phase.{Phase}
 use Rattle.cc_names.specs.declared.steps.Step.{Step}
 use Rattle.cc_names.specs.declared.steps.Step.TheVariants as steps
 use Rattle.cc_names.specs.declared.steps.Told.TheVariants as told
+use Rattle.disk_model.specs.Counting.{raised}
 use Rattle.disk_model.specs.Devices.{Device, LeavesNow, MayLeave}
 use Rattle.disk_model.specs.Told.{Sight, IfTold, Both, IsCounted}
 use Rattle.legal_history.specs.States.{State, Opening, End, ticks_of, faults_of, hanging}
 use Rattle.legal_history.specs.Steps.{state_of}
 use Rattle.vob_journal.specs.Frames.{frames}
 use Rattle.vob_journal.specs.Moves.{Moves, Stands}
+use Rattle.vob_journal.specs.Phases.{Spends}
 use Rattle.vob_journal.specs.declared.left.Left.{Left}
 use Rattle.vob_journal.specs.declared.left.Left.TheVariants as lefts
 use Rattle.base_core.specs.Backed.{IsCovered, IsBacked, IsSettled, IsAccounted}
@@ -23,6 +25,10 @@ use Rattle.base_core.specs.declared.handed.Handed.{Handed}
 use Rattle.base_core.proofs.Backing.{after_all, left_within_calls, settle_covered, stands_so, still_told}
 use Rattle.base_core.proofs.Logging.{if_told, ticks_told}
 use Rattle.base_core.proofs.LogSteps.{shown}
+
+-- a count that was raised is no less
+no_less : (old new : ℕ) → raised old ≤ new → old < 2 ^ 64 → old ≤ new
+no_less old new rose small = omega (arith, rose, small)
 
 -- a base was opened
 pub shown_opened : (on : Handed) (kept : List Step) (rows : List Plain) (number : ℕ) (sight : Sight) → kept ≡ steps.Opened number ∷ [] → number ≡ length rows + 1 → shown on kept rows [] sight ≡ opened_log rows on sight
@@ -48,6 +54,17 @@ backed_settle s old new list loose list' loose' ended ended' left left' h moves 
   ticks = omega (arith, h.ticks, ticks);
   faults = omega (arith, h.faults, faults);
   covered = settle_covered h.opening s.ends list loose list' loose' left left' old.told new.told h.covered (ticks_told h.opening s old h.opened h.ticks counted) moves same less nothing;
+}
+
+-- what is kept by the log, whether the tail was settled or not
+pub logged_settled : {E : Type 0} → (on : Handed) (kept : List Step) (rows : List Plain) (phases : List Phase) (calls : ℕ) (old new : Sight) (list loose list' loose' : List (List ℕ)) (ended ended' : Bool) (left left' : Left) (r : Result (Unit {0}) E) → IsLogged on kept rows phases old list loose ended left → Both (Moves list loose list' loose') old.told new.told → list' ≡ list → MatchResult r (λ _. loose' ≡ []) (λ _. loose' ≡ loose) → MatchResult r (λ _. left' ≡ lefts.Nothing) (λ _. left' ≡ lefts.Earlier) → ended' ≡ true → Spends calls r old new → IsCounted old → IsLogged on kept rows phases new list' loose' ended' left'
+logged_settled on kept rows phases calls old new list loose list' loose' ended ended' left left' (Ok u) h moves same less went end cost counted = record {
+  told = h.told;
+  backed = backed_settle (state_of (story_of on kept rows phases)) old new list loose list' loose' ended ended' left left' h.backed moves same (inl less) (λ e. less) (omega (arith, cost.0)) (omega (arith, cost.1)) counted end;
+}
+logged_settled on kept rows phases calls old new list loose list' loose' ended ended' left left' (Err fault) h moves same less went end cost counted = record {
+  told = h.told;
+  backed = backed_settle (state_of (story_of on kept rows phases)) old new list loose list' loose' ended ended' left left' h.backed moves same (inr less) (λ e. absurd (cc)) (no_less old.ticks new.ticks cost.0 counted.ticks) (omega (arith, cost.2, no_less old.faults (raised old.faults) (omega arith) counted.faults)) counted end;
 }
 
 -- no stop finds more than the base where nothing is loose

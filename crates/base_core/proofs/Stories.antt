@@ -1,13 +1,13 @@
 -- One more step of a story.
-use Rattle.std.proofs.Common.{◌≡◌, ℕ, ◌+◌, ◌-◌, true, false, List, [], ◌∷◌, ◌++◌, refl, ap, ap₂, sym, subst, ◌∙◌, length, length-append, length-drop, arith, drop}
-use Rattle.std.proofs.lemmas.List.{append-nil, take-append-le, drop-append-le}
+use Rattle.std.proofs.Common.{◌≡◌, ℕ, ◌+◌, ◌-◌, true, false, List, [], ◌∷◌, ◌++◌, refl, ap, ap₂, sym, subst, ◌∙◌, length, length-append, length-drop, arith, drop, take}
+use Rattle.std.proofs.lemmas.List.{append-nil, take-append-drop, take-append-le, drop-append-le}
 use Rattle.cc_names.specs.Formed.{Plain}
 use Rattle.cc_names.specs.declared.commands.Phase.{Phase}
 use Rattle.cc_names.specs.declared.rows.Tag.{Tag}
 use Rattle.cc_names.specs.declared.steps.Step.{Step}
 use Rattle.cc_names.specs.declared.steps.Step.TheVariants as steps
 use Rattle.cc_names.specs.declared.steps.Told.TheVariants as told
-use Rattle.base_core.specs.Telling.{story_of, AreTold, stands_alone}
+use Rattle.base_core.specs.Telling.{story_of, AreTold, rows_told, stands_alone}
 use Rattle.base_core.specs.declared.handed.Handed.{Handed}
 
 -- steps that tell all rows and phases, and more steps with the rows and phases that these tell
@@ -45,6 +45,19 @@ AreTold-more n p (steps.Commit tag number tick ∷ one) two (row ∷ rows) more_
     let count : n + length (row ∷ rows) ≡ (n + 1) + length rows = omega arith in
     (h.0, h.1, AreTold-more (n + 1) p one two rows more_rows phases more_phases h.2 (subst (λ k. AreTold k (p + length phases) two more_rows more_phases) count more))
 AreTold-more n p (step ∷ one) two rows more_rows phases more_phases h more = AreTold-more n p one two rows more_rows phases more_phases h more
+
+-- the rows of the story are those that its steps tell
+pub rows_told_are : (on : Handed) (n p : ℕ) (kept : List Step) (rows : List Plain) (phases : List Phase) → AreTold n p kept rows phases → rows_told (story_of on kept rows phases) ≡ rows
+rows_told_are on n p [] [] [] h = refl
+rows_told_are on n p [] [] (phase ∷ phases) h = absurd h
+rows_told_are on n p [] (row ∷ rows) phases h = absurd h
+rows_told_are on n p (steps.Opened m ∷ more) rows phases h =
+    ap (λ behind. take (m - 1) rows ++ behind) (rows_told_are on (n + (m - 1)) p more (drop (m - 1) rows) phases h.2) ∙ take-append-drop (m - 1) rows
+rows_told_are on n p (steps.Plan number moment ∷ more) rows [] h = absurd h
+rows_told_are on n p (steps.Plan number moment ∷ more) rows (phase ∷ phases) h = rows_told_are on n (p + 1) more rows phases h.1
+rows_told_are on n p (steps.Commit tag number tick ∷ more) [] phases h = absurd h
+rows_told_are on n p (steps.Commit tag number tick ∷ more) (row ∷ rows) phases h = ap (λ behind. row ∷ behind) (rows_told_are on (n + 1) p more rows phases h.2)
+rows_told_are on n p (step ∷ more) rows phases h = rows_told_are on n p more rows phases h
 
 -- a phase that begins
 pub story_of-plan : (on : Handed) (kept : List Step) (rows : List Plain) (phases : List Phase) (number moment : ℕ) (phase : Phase) → AreTold 1 0 kept rows phases → story_of on (kept ++ steps.Plan number moment ∷ []) rows (phases ++ phase ∷ []) ≡ story_of on kept rows phases ++ told.Plan phase moment ∷ []

@@ -1,8 +1,10 @@
 // The story of a core, with the rows and the phases that it names, and the journal that keeps the rows.
 
-ghost use Rattle.std.specs.Prelude.{◌≡◌, ◌+◌, ◌<◌, ◌^◌, ◌++◌, ◌∷◌, [], length, true, false, IfOk, OnOk, OnErr, option_copied};
+ghost use Rattle.std.specs.Prelude.{◌≡◌, ◌+◌, ◌<◌, ◌≤◌, ◌^◌, ◌++◌, ◌∷◌, [], length, true, false, IfOk, OnOk, OnErr, option_copied};
 ghost use Rattle.row_form.specs.Spelled.{spelled};
-ghost use Rattle.base_core.specs.Leaving.{left_in};
+ghost use Rattle.base_core.specs.Leaving.{left_in, LeftSo};
+ghost use Rattle.std.specs.Vec.{vec_len, vec_capacity};
+ghost use Rattle.std.specs.Option.{option_to_list};
 
 use crate::handed::Handed;
 use crate::history::History;
@@ -86,6 +88,28 @@ fn copy_left(alloc: Global, steps: &[Step]) -> Result<Option<Row>, NoMemory>
     match left_behind(steps) {
         None => Ok(None),
         Some(row) => Ok(Some(row.copy(alloc)?)),
+    }
+}
+
+/// What a failed append left: nothing, what an earlier fault left, or the row that was in flight.
+fn row_left(left: Left, earlier: Option<Row>, row: Row) -> Option<Row>
+    ensures { LeftSo earlier row left result }
+{
+    match left {
+        Left::Nothing => None,
+        Left::Earlier => earlier,
+        Left::InFlight => Some(row),
+    }
+}
+
+/// A step and the one that it brings with it, for which there is room.
+fn push_both(steps: &mut Vec<Step>, step: Step, ending: Option<Step>)
+    requires { vec_len steps.old + 2 ≤ vec_capacity steps.old }
+    ensures { steps.new.items ≡ steps.old.items ++ step ∷ option_to_list ending }
+{
+    steps.push(step).unwrap();
+    if let Some(ending) = ending {
+        steps.push(ending).unwrap();
     }
 }
 
@@ -179,34 +203,22 @@ impl<D: Disk> Log<D> {
         let tag = row.tag();
         let number = self.rows.len() as u64 + 1;
         let before = self.journal.counts().faults;
-        match self.journal.append(&frame) {
-            Ok(tick) => {
-                self.steps.push(Step::Commit { tag, number, tick }).unwrap();
-                self.rows.push(row).unwrap();
-                Ok(Appended::Committed)
-            }
-            Err(_) => {
-                let counts = self.journal.counts();
-                let left = match self.journal.left() {
-                    Left::Nothing => None,
-                    Left::Earlier => earlier,
-                    Left::InFlight => Some(row),
-                };
-                self.steps
-                    .push(Step::Fault {
-                        tag,
-                        left,
-                        before,
-                        after: counts.faults,
-                        tick: counts.ticks,
-                    })
-                    .unwrap();
-                if let Some(step) = ending {
-                    self.steps.push(step).unwrap();
-                }
-                Ok(Appended::Faulted)
-            }
+        if let Ok(tick) = self.journal.append(&frame) {
+            self.steps.push(Step::Commit { tag, number, tick }).unwrap();
+            self.rows.push(row).unwrap();
+            return Ok(Appended::Committed);
         }
+        let counts = self.journal.counts();
+        let left = row_left(self.journal.left(), earlier, row);
+        let fault = Step::Fault {
+            tag,
+            left,
+            before,
+            after: counts.faults,
+            tick: counts.ticks,
+        };
+        push_both(&mut self.steps, fault, ending);
+        Ok(Appended::Faulted)
     }
 
     /// Tells a step that names no row and no phase, and is no fault of the disk. An `Err` changes nothing.
