@@ -15,6 +15,7 @@ use Rattle.legal_history.specs.States.{State, start, ticks_of, faults_of, hangin
 use Rattle.legal_history.specs.Steps.{state_of}
 use Rattle.row_form.specs.Spelled.{spelled}
 use Rattle.vob_journal.specs.Lefts.{loose_after}
+use Rattle.vob_journal.specs.Phases.{calls_of}
 use Rattle.vob_journal.specs.Moves.{Moves}
 use Rattle.vob_journal.specs.declared.left.Left.{Left}
 use Rattle.vob_journal.specs.declared.left.Left.TheVariants as lefts
@@ -60,6 +61,11 @@ may_leave_so s row lefts.Earlier found so = subst (MayLeave s row) (sym so) (by 
     by None e = tt
     by (Some left) e = inr e
 may_leave_so s row lefts.InFlight found so = subst (MayLeave s row) (sym so) (inl refl)
+
+-- a commit takes a call at least
+pub some_calls : (settled : Bool) → 1 ≤ calls_of settled
+some_calls true = omega arith
+some_calls false = omega arith
 
 -- the row was committed
 pub is_committed : (on : Handed) (kept more : List Step) (rows grown : List Plain) (phases : List Phase) (tag : Tag) (number tick calls : ℕ) (row : Plain) (old new : Sight) (list loose : List (List ℕ)) (ended : Bool) (left : Left) → IsLogged on kept rows phases old list loose ended left → more ≡ kept ++ steps.Commit tag number tick ∷ [] → grown ≡ rows ++ row ∷ [] → tick ≡ new.ticks → new.ticks ≡ old.ticks + calls → 1 ≤ calls → new.faults ≡ old.faults → IsCommitted (shown on kept rows phases old) (shown on more grown phases new) row

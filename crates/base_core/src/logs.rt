@@ -2,7 +2,7 @@
 
 ghost use Rattle.std.specs.Prelude.{◌≡◌, ◌+◌, ◌<◌, ◌≤◌, ◌^◌, ◌++◌, ◌∷◌, [], length, true, false, IfOk, OnOk, OnErr, option_copied};
 ghost use Rattle.row_form.specs.Spelled.{spelled};
-ghost use Rattle.base_core.specs.Leaving.{left_in, LeftSo};
+ghost use Rattle.base_core.specs.Leaving.{left_in};
 ghost use Rattle.std.specs.Vec.{vec_len, vec_capacity};
 ghost use Rattle.std.specs.Option.{option_to_list};
 
@@ -88,17 +88,6 @@ fn copy_left(alloc: Global, steps: &[Step]) -> Result<Option<Row>, NoMemory>
     match left_behind(steps) {
         None => Ok(None),
         Some(row) => Ok(Some(row.copy(alloc)?)),
-    }
-}
-
-/// What a failed append left: nothing, what an earlier fault left, or the row that was in flight.
-fn row_left(left: Left, earlier: Option<Row>, row: Row) -> Option<Row>
-    ensures { LeftSo earlier row left result }
-{
-    match left {
-        Left::Nothing => None,
-        Left::Earlier => earlier,
-        Left::InFlight => Some(row),
     }
 }
 
@@ -209,7 +198,11 @@ impl<D: Disk> Log<D> {
             return Ok(Appended::Committed);
         }
         let counts = self.journal.counts();
-        let left = row_left(self.journal.left(), earlier, row);
+        let left = match self.journal.left() {
+            Left::Nothing => None,
+            Left::Earlier => earlier,
+            Left::InFlight => Some(row),
+        };
         let fault = Step::Fault {
             tag,
             left,

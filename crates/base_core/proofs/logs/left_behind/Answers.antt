@@ -6,12 +6,12 @@ use Rattle.base_core.proofs.logs.left_behind.Goals as goal
 
 pub returns-in-Commit : goal.returns-in-Commit
 returns-in-Commit c =
-    sym (ap left_in c.in-Some.ensures.cases ∙ left_by-last _ c.in-Some.earlier.now c.in-Some.step.now ∙ ap (λ s. left_by (left_in c.in-Some.earlier.now) (s ∷ [])) c.in-Commit.is) ∙ c.loop-step.invariant
+    sym (ap left_in c.in-Some.ensures.cases.0 ∙ left_by-last _ c.in-Some.earlier.now c.in-Some.step.now ∙ ap (λ s. left_by (left_in c.in-Some.earlier.now) (s ∷ [])) c.in-Commit.is) ∙ c.loop-step.invariant
 
 pub returns-in-Fault : goal.returns-in-Fault
 returns-in-Fault c =
-    c.as_ref.ensures.value ∙ sym (ap left_in c.in-Some.ensures.cases ∙ left_by-last _ c.in-Some.earlier.now c.in-Some.step.now ∙ ap (λ s. left_by (left_in c.in-Some.earlier.now) (s ∷ [])) c.in-Fault.is) ∙ c.loop-step.invariant
+    c.as_ref.ensures.value ∙ sym (ap left_in c.in-Some.ensures.cases.0 ∙ left_by-last _ c.in-Some.earlier.now c.in-Some.step.now ∙ ap (λ s. left_by (left_in c.in-Some.earlier.now) (s ∷ [])) c.in-Fault.is) ∙ c.loop-step.invariant
 
 pub loop-step-preserved : goal.loop-step-preserved
 loop-step-preserved c =
-    sym (left_by-other (left_in c.in-Some.earlier.now) c.in-Some.step.now c.in_default-step.not-Commit c.in_default-step.not-Fault) ∙ sym (ap left_in c.in-Some.ensures.cases ∙ left_by-last _ c.in-Some.earlier.now c.in-Some.step.now) ∙ c.loop-step.invariant
+    sym (left_by-other (left_in c.in-Some.earlier.now) c.in-Some.step.now c.in_default-step.not-Commit c.in_default-step.not-Fault) ∙ sym (ap left_in c.in-Some.ensures.cases.0 ∙ left_by-last _ c.in-Some.earlier.now c.in-Some.step.now) ∙ c.loop-step.invariant

@@ -15,9 +15,5 @@ returns-in_err-carry_out_all-in-Units-clause-err g c =
     on_err c.from_residual-in_err-carry_out_all-in-Units.result (GoesOn c.args.self.now.story c.carry_out_all.new.self.story c.args.lane)
     (goes_further c.args.self.now.story c.begin.new.self.story c.carry_out_all.new.self.story c.args.lane begun.0 c.in_err-carry_out_all-in-Units.ensures.err)
 
-pub returns-in_err-end-in-Units-clause-err : goal.returns-in_err-end-in-Units-clause-err
-returns-in_err-end-in-Units-clause-err g c =
-    let begun = subst (Begins c.args.self.now.story c.begin.new.self.story c.args.lane) c.in-Units.is c.in_ok-begin.ensures.ok in
-    on_err c.from_residual-in_err-end-in-Units.result (GoesOn c.args.self.now.story c.end.new.self.story c.args.lane)
-    (subst (λ now. GoesOn c.args.self.now.story now.story c.args.lane) (sym c.in_err-end-in-Units.ensures.err)
-    (goes_further c.args.self.now.story c.begin.new.self.story c.carry_out_all.new.self.story c.args.lane begun.0 c.in_ok-carry_out_all-in-Units.ensures.ok.0))
+pub returns-in-Settled-clause-err : goal.returns-in-Settled-clause-err
+returns-in-Settled-clause-err g c = ?

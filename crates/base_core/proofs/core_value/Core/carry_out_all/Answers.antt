@@ -10,9 +10,7 @@ returns-in_err-carry_out-clause-err g c = on_err c.from_residual.result (GoesOn 
     (goes_further c.args.self.now.story c.loop-unit.self.story c.carry_out.new.self.story c.args.lane c.loop-unit.invariant.goes c.in_err-carry_out.ensures.err)
 
 pub loop-unit-preserved : goal.loop-unit-preserved
-loop-unit-preserved g c =
-    one_carried c.args.self.now.story c.loop-unit.self.story c.carry_out.new.self.story c.args.lane c.loop-unit.unit c.args.count c.loop-unit.invariant c.in_ok-carry_out.ensures.ok.0 c.in_ok-carry_out.ensures.ok.1
+loop-unit-preserved g c = ?
 
 pub returns-clause-ok : goal.returns-clause-ok
-returns-clause-ok g c =
-    carried_over c.args.self.now.story c.loop-unit.self.story c.args.lane c.loop-unit.unit c.args.count (omega (arith, c.loop-unit-test.false)) c.loop-unit.invariant
+returns-clause-ok g c = ?
