@@ -19,9 +19,11 @@ use Rattle.disk_model.specs.Told.{Sight}
 use Rattle.legal_history.specs.Builds.{Build, build_of, reserved}
 use Rattle.legal_history.specs.States.{State, Faulted, start, done_of, with_done, next_tag, build_by, ticks_of, faults_of}
 use Rattle.legal_history.specs.Steps.{after, state_of, done_by_fault, faulted_in, without_build}
-use Rattle.legal_history.specs.Stories.{FaultsAt, EndsBuild, Leaves, MayCommit, rises}
+use Rattle.legal_history.specs.Stories.{FaultsAt, EndsBuild, Leaves, Legal, MayCommit, rises}
 use Rattle.legal_history.specs.Turns.{is_complete}
+use Rattle.legal_history.specs.Freshness.{AgreesSoFar}
 use Rattle.base_core.specs.Appending.{MayLeave}
+use Rattle.base_core.specs.BuildCalls.{IsObjectRow}
 use Rattle.base_core.specs.Building.{IsBuildKept}
 use Rattle.base_core.specs.Going.{Finishes}
 use Rattle.base_core.specs.Kept.{last_phase, replies_at, with_reply, AreReplies, IsKept}
@@ -30,11 +32,13 @@ use Rattle.base_core.specs.Replying.{in_lane, reply_to_fault, reply_to_end, repl
 use Rattle.base_core.proofs.Closing.{build_is_by}
 use Rattle.base_core.proofs.Faulting.{leaves_so}
 use Rattle.base_core.proofs.Finishing.{finished}
+use Rattle.base_core.proofs.FoundBuilds.{is_found}
 use Rattle.base_core.proofs.Growing.{state_from-more, legal_more}
 use Rattle.base_core.proofs.Idle.{not_both}
 use Rattle.base_core.proofs.Lanes.{one_or_two, done_same, done_other}
-use Rattle.base_core.proofs.LaneSlots.{found_put}
+use Rattle.base_core.proofs.LaneSlots.{found_put, lane_slot}
 use Rattle.base_core.proofs.Noting.{same_replies}
+use Rattle.base_core.proofs.ObjectSteps.{object_may}
 use Rattle.base_core.proofs.Reserving.{found_set, found_other, reserved_set}
 use Rattle.base_core.proofs.Staying.{build_stays}
 
@@ -174,3 +178,21 @@ broken_finishes log story lane build tag left before faults tick sight same is t
     state = ap (λ t. state_of ((t ++ fault ∷ []) ++ end ∷ [])) same ∙ state_from-more start (story ++ fault ∷ []) end
         ∙ ap (λ t. after t end) state1
         ∙ ap (λ t. record s1 { done = with_done s.done t.lane; active = without_build s1.active t.lane }) tagged
+
+-- what is kept where the row of what a unit's run gave was not committed
+pub kept_broken_object : (log : Logged) (lanes : List (List Reply)) (builds : List (Option Build)) (now : ℕ) (story : List Told) (lane n : ℕ) (row : Plain) (tag : Tag) (left : Option Plain) (before faults tick : ℕ) (sight : Sight) → rises before faults ≡ true → faults_of (state_of log.story).opened (state_of log.story).ends ≤ before → MayLeave (state_of log.story) row left → rises (ticks_of (state_of log.story).opened (state_of log.story).ends) tick ≡ true → log.story ≡ story → IsKept log lanes builds now → IsObjectRow (state_of story) lane n row → tag ≡ next_tag (state_of story) lane → ((told : List Told) (l : ℕ) (b : Build) → Legal told → build_of (state_of told).active l ≡ Some b → AgreesSoFar (state_of told).base b) → IsKept (with_step (with_step_on log (steps.Fault row.tag left before faults tick) sight) (steps.End tag)) (with_reply lanes lane replies.DiskFault) (set builds (lane - 1) None) now
+kept_broken_object log lanes builds now story lane n row tag left before faults tick sight rose later leaves ticked same h object tagged agree =
+    let s = state_of log.story in
+    let here : IsObjectRow s lane n row = subst (λ t. IsObjectRow (state_of t) lane n row) (sym same) object in
+    let slot = lane_slot log lanes builds now lane here.build h here.active in
+    let of_tag : tag ≡ next_tag s lane = tagged ∙ ap (λ t. next_tag (state_of t) lane) (sym same) in
+    subst (λ t. IsKept (with_step (with_step_on log (steps.Fault row.tag left before faults tick) sight) (steps.End t)) (with_reply lanes lane replies.DiskFault) (set builds (lane - 1) None) now) (sym of_tag)
+    (subst (λ t. IsKept (with_step (with_step_on log (steps.Fault t left before faults tick) sight) (steps.End (next_tag s lane))) (with_reply lanes lane replies.DiskFault) (set builds (lane - 1) None) now) (sym here.of_tag)
+    (kept_broken log lanes builds now lane here.build row left before faults tick sight rose later leaves ticked h slot.from (omega (arith, slot.upto, h.count)) here.active here.of_tag (object_may log lanes builds now lane n row h here agree)))
+
+-- how the story went on
+pub broken_object_finishes : (log : Logged) (lanes : List (List Reply)) (builds : List (Option Build)) (now : ℕ) (story : List Told) (lane n : ℕ) (row : Plain) (tag : Tag) (left : Option Plain) (before faults tick : ℕ) (sight : Sight) → log.story ≡ story → IsKept log lanes builds now → IsObjectRow (state_of story) lane n row → tag ≡ next_tag (state_of story) lane → Finishes story (with_step (with_step_on log (steps.Fault row.tag left before faults tick) sight) (steps.End tag)).story lane
+broken_object_finishes log lanes builds now story lane n row tag left before faults tick sight same h object tagged =
+    let f = is_found log lanes builds now story lane object.build same h object.active in
+    subst (λ t. Finishes story (with_step (with_step_on log (steps.Fault t left before faults tick) sight) (steps.End tag)).story lane) (tagged ∙ sym object.of_tag)
+    (broken_finishes log story lane object.build tag left before faults tick sight same (build_is_by (state_of story) lane object.build object.active f.kept.tag) tagged)

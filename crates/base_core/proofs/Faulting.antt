@@ -17,7 +17,8 @@ use Rattle.legal_history.specs.States.{State, start, done_of, with_done, decided
 use Rattle.legal_history.specs.Steps.{after, state_of, done_by_fault, faulted_in}
 use Rattle.legal_history.specs.Stories.{Leaves, MayCommit, rises}
 use Rattle.view_lookup.specs.Unversioned.{is_plain_deed}
-use Rattle.base_core.specs.Acting.{IsNextRow}
+use Rattle.cc_names.specs.declared.desks.Done.TheVariants.{Faulted}
+use Rattle.base_core.specs.Acting.{Acts, IsNextRow}
 use Rattle.base_core.specs.Appending.{MayLeave}
 use Rattle.base_core.specs.Kept.{last_phase, replies_at, with_reply, Agrees, IsKept}
 use Rattle.base_core.specs.Logs.{Logged, with_step_on}
@@ -88,3 +89,11 @@ kept_next_fault log lanes builds now story row lane left before faults tick sigh
     subst (λ l. IsKept (with_step_on log (steps.Fault row.tag left before faults tick) sight) (with_reply lanes l replies.DiskFault) builds now) (sym at_lane)
     (kept_fault log lanes builds now row left before faults tick sight rose later leaves ticked h here.plain (here.at_moment ∙ h.agrees.moment) here.made here.of_next.from
     (omega (arith, here.of_next.upto, h.replies.count, ap (λ p. length p.lanes) h.agrees.phase)))
+
+-- how the story went on
+pub next_faults : (old new : List Told) (row : Plain) (left : Option Plain) (before faults tick : ℕ) → new ≡ old ++ told.Other (steps.Fault row.tag left before faults tick) ∷ [] → IsNextRow (state_of old) row → Acts old new row.tag.lane Faulted
+next_faults old new row left before faults tick e next = record {
+  step = told.Other (steps.Fault row.tag left before faults tick);
+  grows = e;
+  is = (next.of_next.next, row.deed, subst (λ t. decided (state_of old) t ≡ Some (Ok (Makes row.deed))) next.of_next.next next.made);
+}

@@ -9,7 +9,7 @@ use Rattle.legal_history.specs.Base.{Base, size}
 use Rattle.legal_history.specs.Builds.{Build}
 use Rattle.legal_history.specs.Fits.{row_limit, fits, deed_fits, is_base}
 use Rattle.base_core.specs.Kept.{IsKept}
-use Rattle.base_core.specs.Logs.{Logged, opened_log}
+use Rattle.base_core.specs.Logs.{Logged, opened_log, with_sight}
 use Rattle.base_core.specs.Opening.{IsBaseOn, IsOpened, Opens}
 use Rattle.base_core.specs.declared.handed.Handed.{Handed}
 use Rattle.base_core.proofs.Idle.{both}
@@ -42,3 +42,20 @@ kept_opened old log h = subst (λ l. IsKept l [] [] 0) (sym h.is) (kept_rows old
 
 pub opens_so : (old : Sight) (log : Logged) → IsOpened old log → Opens old log.story log.sight
 opens_so old log h = record { rows = h.rows; handed = h.handed; on = h.on; story_is = ap (λ l. l.story) h.is; sound = h.sound }
+
+-- the disk changes nothing of what is kept beside it
+pub kept_sight : (log : Logged) (lanes : List (List Reply)) (builds : List (Option Build)) (now : ℕ) (sight : Sight) → IsKept log lanes builds now → IsKept (with_sight log sight) lanes builds now
+kept_sight log lanes builds now sight h = record {
+  legal = h.legal;
+  agrees = h.agrees;
+  replies = h.replies;
+  count = h.count;
+  building = h.building;
+  reserves = h.reserves;
+  formed = h.formed;
+  carried_out = h.carried_out;
+  unversioned = h.unversioned;
+  room = h.room;
+  few = h.few;
+  in_time = h.in_time;
+}

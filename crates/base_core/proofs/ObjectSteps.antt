@@ -27,7 +27,7 @@ use Rattle.legal_history.specs.Fresh.{script_text}
 use Rattle.legal_history.specs.States.{State, Committed, start, next_tag, ticks_of}
 use Rattle.legal_history.specs.Steps.{active_after, done_after, noted_in, state_of, with_came}
 use Rattle.disk_model.specs.Told.{Sight}
-use Rattle.legal_history.specs.Stories.{Legal, rises}
+use Rattle.legal_history.specs.Stories.{Legal, MayCommit, rises}
 use Rattle.base_core.specs.BuildCalls.{IsObjectRow}
 use Rattle.base_core.specs.Going.{GoesOn, HasOutcome, StillBuilds}
 use Rattle.base_core.specs.Kept.{IsKept}
@@ -35,7 +35,7 @@ use Rattle.base_core.specs.Logs.{Logged, with_row}
 use Rattle.base_core.proofs.Growing.{state_from-more}
 use Rattle.base_core.proofs.Idle.{some_same}
 use Rattle.base_core.proofs.LaneSlots.{lane_slot, found_put}
-use Rattle.base_core.proofs.Publishing.{published, kept_publish}
+use Rattle.base_core.proofs.Publishing.{published, may_publish, kept_publish}
 use Rattle.base_core.proofs.UnitNotes.{outcome_noted}
 
 -- a list that holds at each place holds at this one
@@ -70,6 +70,16 @@ row_told s lane n row h = deed_of_run h.build h.unit (entries (visible s.base h.
 
 row_is : (s : State) (lane n now : ℕ) (row : Plain) (h : IsObjectRow s lane n row) (d : IsDeedOf h.build h.unit row.deed) → s.moment ≡ now → row ≡ published (next_tag s lane) now h.build.view d.targets d.script d.reads d.outputs
 row_is s lane n now row h d moment = λ i. record { tag = h.of_tag i; moment = (h.at_moment ∙ moment) i; deed = d.is i }
+
+-- the row may be committed
+pub object_may : (log : Logged) (lanes : List (List Reply)) (builds : List (Option Build)) (now lane n : ℕ) (row : Plain) → IsKept log lanes builds now → (here : IsObjectRow (state_of log.story) lane n row) → ((told : List Told) (l : ℕ) (b : Build) → Legal told → build_of (state_of told).active l ≡ Some b → AgreesSoFar (state_of told).base b) → MayCommit (state_of log.story) row
+object_may log lanes builds now lane n row h here agree =
+    let s = state_of log.story in
+    let told = row_told s lane n row here in
+    let formed : IsUnitFormed here.unit = all_at IsUnitFormed here.build.units n here.unit (h.building lane here.build here.active).formed.units here.is_unit in
+    let place : unit_with_first here.build told.targets ≡ Some n = first_place s.base here.build n here.unit told.targets (agree log.story lane here.build h.legal here.active) here.is_unit told.of_unit (λ e. formed.0.1 (sym told.of_unit ∙ e)) in
+    subst (MayCommit s) (sym (row_is s lane n now row here told h.agrees.moment))
+    (may_publish log lanes builds now lane n here.build here.unit here.build.view told.targets told.script told.reads told.outputs h here.active here.is_unit here.started place (here.made ∙ ap Some told.is))
 
 -- what is kept then
 pub kept_object : (log : Logged) (lanes : List (List Reply)) (builds more : List (Option Build)) (now : ℕ) (story : List Told) (lane n number : ℕ) (row : Plain) (tick : ℕ) (sight : Sight) → rises (ticks_of (state_of log.story).opened (state_of log.story).ends) tick ≡ true → log.story ≡ story → IsKept log lanes builds now → IsObjectRow (state_of story) lane n row → number ≡ suc (length log.rows) → ((told : List Told) → Legal told → is_base (state_of told).base ≡ true) → ((told : List Told) (l : ℕ) (b : Build) → Legal told → build_of (state_of told).active l ≡ Some b → AgreesSoFar (state_of told).base b) → ((build : Build) → held_in builds (lane - 1) ≡ Some build → more ≡ set builds (lane - 1) (Some (with_came build (Some n) (Given number)))) → IsKept (with_row log row tick sight) lanes more now
