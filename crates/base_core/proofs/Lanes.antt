@@ -1,5 +1,5 @@
 -- One more finished command of a lane.
-use Rattle.std.proofs.Common.{◌≡◌, ◌≢◌, ℕ, ◌+◌, ◌-◌, ◌<◌, ◌≤◌, ◌==◌, ◌⊎◌, inl, inr, Bool, true, false, cond, Some, List, [], ◌∷◌, ◌++◌, length, set, refl, ap, ◌∙◌, arith, get_or, get_or-set_same, get_or-set_other}
+use Rattle.std.proofs.Common.{◌≡◌, ◌≢◌, ℕ, ◌+◌, ◌-◌, ◌<◌, ◌≤◌, ◌==◌, ◌⊎◌, inl, inr, Bool, true, false, cond, Some, List, [], ◌∷◌, ◌++◌, length, length-append, set, refl, ap, ◌∙◌, arith, get_or, get_or-set_same, get_or-set_other}
 use Rattle.std.specs.Ordering.{nat_cmp}
 use Rattle.std.specs.FinMap.Entries.{find, find-put}
 use Rattle.std.specs.Prelude.{unwrap_or}
@@ -70,3 +70,13 @@ without_reply lanes before lane reply kept d low high e popped =
     ∙ set-set before (lane - 1) (replies_at before lane ++ reply ∷ []) kept
     ∙ ap (set before (lane - 1)) (popped (replies_at before lane) reply newest)
     ∙ set-get_or before (lane - 1) []
+
+-- a list with another last member
+set_last : (before : List Reply) (newest reply : Reply) → set (before ++ newest ∷ []) (length before) reply ≡ before ++ reply ∷ []
+set_last [] newest reply = refl
+set_last (one ∷ before) newest reply = ap (λ l. one ∷ l) (set_last before newest reply)
+
+pub replaced_last : (items before : List Reply) (newest reply : Reply) (n : ℕ) → items ≡ before ++ newest ∷ [] → n ≡ length items → set items (n - 1) reply ≡ before ++ reply ∷ []
+replaced_last items before newest reply n e counted =
+    let last : n - 1 ≡ length before = omega (arith, counted, ap length e, length-append before (newest ∷ [])) in
+    ap (λ l. set l (n - 1) reply) e ∙ ap (λ k. set (before ++ newest ∷ []) k reply) last ∙ set_last before newest reply

@@ -35,7 +35,7 @@ pub shown_opened : (on : Handed) (kept : List Step) (rows : List Plain) (number 
 shown_opened on kept rows number sight e n =
     ap (λ k. shown on k rows [] sight) e
     ∙ ap₂ (λ front behind. record { story = told.Opened front on.counts on.tells ∷ story_of on [] behind []; rows = rows; phases = []; sight = sight })
-        (take_all (number - 1) rows (omega (arith, n))) (drop_all (number - 1) rows (omega (arith, n)))
+    (take_all (number - 1) rows (omega (arith, n))) (drop_all (number - 1) rows (omega (arith, n)))
 
 pub logged_opened : (on : Handed) (kept : List Step) (rows : List Plain) (number : ℕ) (sight : Sight) (list loose : List (List ℕ)) (ended : Bool) (left : Left) → kept ≡ steps.Opened number ∷ [] → number ≡ length rows + 1 → IsBacked (state_of (told.Opened rows on.counts on.tells ∷ [])) sight list loose ended left → IsLogged on kept rows [] sight list loose ended left
 logged_opened on kept rows number sight list loose ended left e n h = record {

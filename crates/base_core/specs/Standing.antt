@@ -48,4 +48,4 @@ MayBeFound opening [] k found = found ≡ payloads opening.base
 MayBeFound opening (end ∷ earlier) k found =
     ((tick_of end < k) × StandsFor (base_by opening (end ∷ earlier)) (left_after end) found)
     ⊎ ((k ≤ tick_of end) × (MayBeFound opening earlier k found
-        ⊎ ((ticks_of (Some opening) earlier < k) × StandsFor (base_by opening earlier) (left_within end) found)))
+    ⊎ ((ticks_of (Some opening) earlier < k) × StandsFor (base_by opening earlier) (left_within end) found)))

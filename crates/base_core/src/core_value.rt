@@ -95,8 +95,8 @@ impl<D: Disk> Core<D> {
     ghost use Rattle.build_script.specs.Ended.{ran_of};
     ghost use Rattle.legal_history.specs.Turns.{came_by_start};
 
-    /// Opens the base that a disk stands for. Reads its journal once, in time linear in its bytes, and writes nothing. A
-    /// disk whose base cannot be opened comes back with the cause.
+    /// Opens the base that a disk stands for. Reads its journal once, in time linear in its bytes, and writes nothing; that a
+    /// row fits takes time linear in the rows before it. A disk whose base cannot be opened comes back with the cause.
     pub fn open(alloc: Global, disk: D) -> Result<Core<D>, OpenFault<D>>
         requires { IfTold (D.sight disk).told (λ d. file_of 0 d ≡ stable (bytes_of 0 d)) }
         ensures ok { IfOk result (λ core. Opens (D.sight disk) core.story core.sight) }

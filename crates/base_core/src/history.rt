@@ -3,7 +3,6 @@
 ghost use Rattle.std.specs.Prelude.{◌≡◌, []};
 
 use crate::handed::Handed;
-
 use cc_names::commands::Phase;
 use cc_names::rows::Row;
 use cc_names::steps::{Counts, Step};
