@@ -17,7 +17,6 @@ use Rattle.base_core.specs.Replying.{no_replies}
 use Rattle.base_core.proofs.Growing.{state_from-more, legal_more, replies_from-more}
 use Rattle.base_core.proofs.Idle.{nobody_builds}
 use Rattle.base_core.proofs.Phases.{last_phase-more}
-use Rattle.base_core.proofs.MemorySteps.{memory_more}
 
 -- lanes that have no replies yet
 none_at : (fresh : List (List Reply)) (lane : ℕ) → 1 ≤ lane → lane ≤ length fresh → All (λ one. one ≡ []) fresh → replies_at fresh lane ≡ []
@@ -41,7 +40,6 @@ kept_plan log lanes fresh builds none now moment phase h finished formed carried
             number = omega (arith, h.agrees.number, length-append log.phases (phase ∷ []));
             moment = refl;
             active = nobody ∙ sym idle;
-            ticks = h.agrees.ticks;
           });
       replies = record {
         count = count ∙ ap (λ p. length p.lanes) (sym last);
@@ -57,5 +55,4 @@ kept_plan log lanes fresh builds none now moment phase h finished formed carried
       room = h.room;
       few = omega (arith, few, length-append log.phases (phase ∷ []));
       in_time = in_time;
-      memory = memory_more story x h.memory refl;
     }

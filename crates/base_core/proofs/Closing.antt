@@ -13,7 +13,7 @@ use Rattle.build_core.specs.SlotLaws.{without_numbered}
 use Rattle.fresh_builds.specs.Replied.{reply_of}
 use Rattle.legal_history.specs.Base.{only_where}
 use Rattle.legal_history.specs.Builds.{Build, build_of, reserved}
-use Rattle.legal_history.specs.States.{State, start, with_done, same_tag, next_tag, build_by, ticks_of}
+use Rattle.legal_history.specs.States.{State, start, with_done, same_tag, next_tag, build_by}
 use Rattle.legal_history.specs.Steps.{state_of, without_build}
 use Rattle.legal_history.specs.Turns.{is_complete}
 use Rattle.base_core.specs.Building.{IsBuildKept}
@@ -27,7 +27,6 @@ use Rattle.base_core.proofs.Lanes.{one_or_two, done_other}
 use Rattle.base_core.proofs.NextCommands.{same_as_itself}
 use Rattle.base_core.proofs.Reserving.{found_set, found_other, reserved_set}
 use Rattle.base_core.proofs.Staying.{build_stays}
-use Rattle.base_core.proofs.MemorySteps.{memory_more}
 
 -- a lane's build is that of its command
 pub build_is_by : (s : State) (lane : ℕ) (build : Build) → build_of s.active lane ≡ Some build → build.tag ≡ next_tag s lane → build_by s (next_tag s lane) ≡ Some build
@@ -47,7 +46,6 @@ kept_end log lanes builds now lane build h low high is over = record {
     number = ap (λ t. t.number) state ∙ h.agrees.number;
     moment = ap (λ t. t.moment) state ∙ h.agrees.moment;
     active = active;
-    ticks = ap (λ t. ticks_of t.opened t.ends) state ∙ h.agrees.ticks;
   };
   replies = finished story x lanes (last_phase log.phases) tag reply h.replies low high (λ l. ap (λ r. replies_of story l ++ in_lane l tag r) replied) refl;
   count = length-set builds (lane - 1) None ∙ h.count ∙ sym (length-set lanes (lane - 1) (replies_at lanes lane ++ reply ∷ []));
@@ -59,7 +57,6 @@ kept_end log lanes builds now lane build h low high is over = record {
   room = h.room;
   few = h.few;
   in_time = h.in_time;
-  memory = memory_more story x h.memory refl;
 }
   where
     story : List Told

@@ -16,9 +16,10 @@ use Rattle.legal_history.specs.Decisions.{Makes}
 use Rattle.legal_history.specs.Base.{size, first_rows}
 use Rattle.legal_history.specs.Builds.{Build, build_of, reserved}
 use Rattle.legal_history.specs.Fits.{row_limit}
-use Rattle.legal_history.specs.States.{State, start, done_of, with_done, decided}
+use Rattle.legal_history.specs.States.{State, start, done_of, with_done, decided, ticks_of}
 use Rattle.legal_history.specs.Steps.{after, state_of}
-use Rattle.legal_history.specs.Stories.{Lawful}
+use Rattle.disk_model.specs.Told.{Sight}
+use Rattle.legal_history.specs.Stories.{Lawful, rises}
 use Rattle.view_lookup.specs.Unversioned.{is_plain_deed}
 use Rattle.base_core.specs.Building.{IsBuildKept}
 use Rattle.base_core.specs.Acting.{IsNextRow, IsNextRefusal}
@@ -29,8 +30,7 @@ use Rattle.base_core.proofs.Idle.{decided_is_free, not_both}
 use Rattle.base_core.proofs.Staying.{first_stay, build_stays}
 use Rattle.base_core.proofs.Growing.{state_from-more, legal_more, replies_from-more}
 use Rattle.base_core.proofs.Lanes.{done_same, done_other, in_same, in_other, one_or_two, replies_same, replies_other}
-use Rattle.base_core.proofs.PlainRows.{good_reply, finishes, builds_nothing, makes_row, plain_unversioned, newest_too, one_more_rises}
-use Rattle.base_core.proofs.MemorySteps.{memory_more}
+use Rattle.base_core.proofs.PlainRows.{good_reply, finishes, builds_nothing, makes_row, plain_unversioned, newest_too}
 
 -- the replies after a step with which one lane finishes a command
 pub finished : (story : List Told) (x : Told) (lanes : List (List Reply)) (phase : Phase) (tag : Tag) (reply : Reply) → AreReplies story lanes phase → 1 ≤ tag.lane → tag.lane ≤ length lanes → ((l : ℕ) → replies_after (state_of story) x (replies_of story) l ≡ replies_of story l ++ in_lane l tag (Some reply)) → (after (state_of story) x).done ≡ with_done (state_of story).done tag.lane → AreReplies (story ++ x ∷ []) (with_reply lanes tag.lane reply) phase
@@ -52,7 +52,7 @@ finished story x lanes phase tag reply h low high said done =
     }
 
 -- the builds of other lanes are kept after a step with which a lane without a build finishes a command
-others_kept : (log : Logged) (lanes : List (List Reply)) (builds : List (Option Build)) (now : ℕ) (x : Told) (tag : Tag) → IsKept log lanes builds now → build_of (state_of log.story).active tag.lane ≡ None → (after (state_of log.story) x).active ≡ (state_of log.story).active → (after (state_of log.story) x).phase ≡ (state_of log.story).phase → (after (state_of log.story) x).number ≡ (state_of log.story).number → (after (state_of log.story) x).done ≡ with_done (state_of log.story).done tag.lane → ((t : ℕ) → t ≤ size (state_of log.story).base → first_rows t (after (state_of log.story) x).base ≡ first_rows t (state_of log.story).base) → size (state_of log.story).base ≤ size (after (state_of log.story) x).base
+pub others_kept : (log : Logged) (lanes : List (List Reply)) (builds : List (Option Build)) (now : ℕ) (x : Told) (tag : Tag) → IsKept log lanes builds now → build_of (state_of log.story).active tag.lane ≡ None → (after (state_of log.story) x).active ≡ (state_of log.story).active → (after (state_of log.story) x).phase ≡ (state_of log.story).phase → (after (state_of log.story) x).number ≡ (state_of log.story).number → (after (state_of log.story) x).done ≡ with_done (state_of log.story).done tag.lane → ((t : ℕ) → t ≤ size (state_of log.story).base → first_rows t (after (state_of log.story) x).base ≡ first_rows t (state_of log.story).base) → size (state_of log.story).base ≤ size (after (state_of log.story) x).base
     → (lane : ℕ) (build : Build) → build_of (state_of (log.story ++ x ∷ [])).active lane ≡ Some build → IsBuildKept (state_of (log.story ++ x ∷ [])) lane build
 others_kept log lanes builds now x tag h free active phase number done rows grows lane build is =
     subst (λ t. IsBuildKept t lane build) (sym more)
@@ -74,15 +74,15 @@ others_kept log lanes builds now x tag h free active phase number done rows grow
     differs = λ e. not_both (build_of s.active lane) build (ap (build_of s.active) e ∙ free) was
 
 -- what is kept after a commit
-pub kept_commit : (log : Logged) (lanes : List (List Reply)) (builds : List (Option Build)) (now : ℕ) (row : Plain) → IsKept log lanes builds now → is_plain_deed row.deed ≡ true → row.moment ≡ now → decided (state_of log.story) row.tag ≡ Some (Ok (Makes row.deed)) → 1 ≤ row.tag.lane → row.tag.lane ≤ length lanes → length log.rows + 1 < row_limit → IsKept (with_row log row) (with_reply lanes row.tag.lane replies.Good) builds now
-kept_commit log lanes builds now row h plain in_time made low high room =
+pub kept_commit : (log : Logged) (lanes : List (List Reply)) (builds : List (Option Build)) (now : ℕ) (row : Plain) (tick : ℕ) (sight : Sight) → rises (ticks_of (state_of log.story).opened (state_of log.story).ends) tick ≡ true → IsKept log lanes builds now → is_plain_deed row.deed ≡ true → row.moment ≡ now → decided (state_of log.story) row.tag ≡ Some (Ok (Makes row.deed)) → 1 ≤ row.tag.lane → row.tag.lane ≤ length lanes → length log.rows + 1 < row_limit → IsKept (with_row log row tick sight) (with_reply lanes row.tag.lane replies.Good) builds now
+kept_commit log lanes builds now row tick sight ticked h plain in_time made low high room =
     let story = log.story in
-    let x = told.Commit row (suc (length log.rows)) in
+    let x = told.Commit row tick in
     let done : (after (state_of story) x).done ≡ with_done (state_of story).done row.tag.lane = finishes (state_of story).done row.tag.lane row.deed plain in
     let active : (after (state_of story) x).active ≡ (state_of story).active = builds_nothing (state_of story).base (state_of story).active row.tag.lane row.deed plain in
     let lawful : Lawful (state_of story) x = record {
       may = record { moment = in_time ∙ sym h.agrees.moment; made = makes_row (state_of story) row row.deed plain made };
-      ticked = one_more_rises _ (suc (length log.rows)) (omega (arith, h.agrees.ticks));
+      ticked = ticked;
     } in
     record {
       legal = legal_more start story x h.legal lawful;
@@ -94,7 +94,6 @@ kept_commit log lanes builds now row h plain in_time made low high room =
             number = h.agrees.number;
             moment = h.agrees.moment;
             active = active ∙ h.agrees.active;
-            ticks = omega (arith, length-append log.rows (row ∷ []));
           });
       replies = finished story x lanes (last_phase log.phases) row.tag replies.Good h.replies low high
           (λ l. ap (λ r. replies_of story l ++ in_lane l row.tag r) (good_reply (row ∷ (state_of story).base) row.deed plain)) done;
@@ -108,7 +107,6 @@ kept_commit log lanes builds now row h plain in_time made low high room =
       room = omega (arith, room, length-append log.rows (row ∷ []));
       few = h.few;
       in_time = h.in_time;
-      memory = memory_more story x h.memory refl;
     }
 
 -- what is kept after a refusal
@@ -126,7 +124,6 @@ kept_refusal log lanes builds now tag refusal h made low high =
             number = h.agrees.number;
             moment = h.agrees.moment;
             active = h.agrees.active;
-            ticks = h.agrees.ticks;
           });
       replies = finished story x lanes (last_phase log.phases) tag (replies.Refused refusal) h.replies low high (λ l. refl) refl;
       count = h.count ∙ sym (length-set lanes (tag.lane - 1) (replies_at lanes tag.lane ++ replies.Refused refusal ∷ []));
@@ -138,7 +135,6 @@ kept_refusal log lanes builds now tag refusal h made low high =
       room = h.room;
       few = h.few;
       in_time = h.in_time;
-      memory = memory_more story x h.memory refl;
     }
 
 -- what a call that answered no error has done
@@ -147,11 +143,11 @@ done_well (Ok u) e h = h
 done_well (Err error) e h = absurd (cc)
 
 -- what is kept after the row of a lane's next command
-pub kept_next_row : (log : Logged) (lanes : List (List Reply)) (builds : List (Option Build)) (now : ℕ) (story : List Told) (row : Plain) (lane : ℕ) → log.story ≡ story → lane ≡ row.tag.lane → IsKept log lanes builds now → IsNextRow (state_of story) row → IsKept (with_row log row) (with_reply lanes lane replies.Good) builds now
-kept_next_row log lanes builds now story row lane same at_lane h next =
+pub kept_next_row : (log : Logged) (lanes : List (List Reply)) (builds : List (Option Build)) (now : ℕ) (story : List Told) (row : Plain) (lane tick : ℕ) (sight : Sight) → rises (ticks_of (state_of log.story).opened (state_of log.story).ends) tick ≡ true → log.story ≡ story → lane ≡ row.tag.lane → IsKept log lanes builds now → IsNextRow (state_of story) row → IsKept (with_row log row tick sight) (with_reply lanes lane replies.Good) builds now
+kept_next_row log lanes builds now story row lane tick sight ticked same at_lane h next =
     let here : IsNextRow (state_of log.story) row = subst (λ t. IsNextRow (state_of t) row) (sym same) next in
-    subst (λ l. IsKept (with_row log row) (with_reply lanes l replies.Good) builds now) (sym at_lane)
-    (kept_commit log lanes builds now row h here.plain (here.at_moment ∙ h.agrees.moment) here.made here.of_next.from
+    subst (λ l. IsKept (with_row log row tick sight) (with_reply lanes l replies.Good) builds now) (sym at_lane)
+    (kept_commit log lanes builds now row tick sight ticked h here.plain (here.at_moment ∙ h.agrees.moment) here.made here.of_next.from
     (omega (arith, here.of_next.upto, h.replies.count, ap (λ p. length p.lanes) h.agrees.phase))
     (omega (arith, here.room, ap length h.agrees.base, length-reverse log.rows)))
 

@@ -22,13 +22,15 @@ use Rattle.legal_history.specs.Steps.{state_of}
 use Rattle.legal_history.specs.Stories.{Legal}
 use Rattle.legal_history.specs.Turns.{all_over}
 use Rattle.legal_history.specs.Views.{view_row}
-use Rattle.base_core.specs.BuildCalls.{IsBuilding, IsTurn, StepsTo, MaySettle, HasScript, IsStarted, HasRun, IsOver, Noted}
+use Rattle.base_core.specs.BuildCalls.{IsCarried, IsBuilding, IsTurn, StepsTo, MaySettle, HasScript, IsStarted, HasRun, IsOver, Noted}
 use Rattle.base_core.specs.Building.{IsBuildKept}
+use Rattle.base_core.specs.declared.tried.Carried.{Carried}
+use Rattle.base_core.specs.declared.tried.Carried.TheVariants as carries
 use Rattle.base_core.specs.Going.{StillBuilds, GoesOn, HasOutcome}
 use Rattle.base_core.specs.Kept.{IsKept}
 use Rattle.base_core.specs.Logs.{Logged}
 use Rattle.base_core.proofs.Closing.{build_is_by}
-use Rattle.base_core.proofs.Goings.{goes_nowhere, goes_further}
+use Rattle.base_core.proofs.Goings.{goes_nowhere, goes_further, finishes_further}
 use Rattle.base_core.proofs.Idle.{some_same}
 use Rattle.base_core.proofs.Lanes.{one_or_two}
 use Rattle.base_core.proofs.StepsSo.{steps_so}
@@ -153,3 +155,9 @@ carried_over old new lane n count past h = (
   h.goes,
   record { build = h.build; active = h.active; complete = all_carried h.build 0 h.build.units (λ m less. h.earlier m (omega (arith, less, h.of_units, past))) },
 )
+
+-- what became of a unit after the story went on
+pub carried_further : {E : Type 0} → (old mid new : List Told) (lane n : ℕ) → GoesOn old mid lane → (r : Result Carried E) → IfOk r (IsCarried mid new lane n) → IfOk r (IsCarried old new lane n)
+carried_further old mid new lane n goes (Err e) h = tt
+carried_further old mid new lane n goes (Ok carries.Settled) h = (goes_further old mid new lane goes h.0, h.1)
+carried_further old mid new lane n goes (Ok carries.Faulted) h = finishes_further old mid new lane goes h

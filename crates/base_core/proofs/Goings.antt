@@ -1,5 +1,5 @@
 -- How stories go on: not at all, by one step, and by one way after another.
-use Rattle.std.proofs.Common.{ℕ, ◌+◌, Result, Ok, Err, List, [], ◌++◌, refl, ap, sym, ◌∙◌}
+use Rattle.std.proofs.Common.{ℕ, ◌+◌, Result, Ok, Err, List, [], ◌++◌, refl, ap, sym, subst, ◌∙◌, ◌≡◌}
 use Rattle.std.specs.Prelude.{OnErr}
 use Rattle.std.proofs.lemmas.List.{append-nil}
 use Rattle.std.proofs.Common.{append_assoc}
@@ -8,6 +8,7 @@ use Rattle.legal_history.specs.Builds.{Build}
 use Rattle.legal_history.specs.States.{done_of}
 use Rattle.legal_history.specs.Steps.{state_of}
 use Rattle.base_core.specs.Going.{StillBuilds, GoesOn, Finishes}
+use Rattle.base_core.specs.Shown.{Shown}
 
 -- a story that does not go on
 pub goes_nowhere : (story : List Told) (lane : ℕ) → GoesOn story story lane
@@ -48,3 +49,8 @@ finishes_further one two three lane h g = record {
 pub on_err : {A E : Type 0} (r : Result A E) (P : Type 0) → P → OnErr r P
 on_err (Ok a) P p = tt
 on_err (Err e) P p = p
+
+-- a story that went on, and on which a call that failed changed nothing
+pub stays_on_err : {A E : Type 0} (story : List Told) (lane : ℕ) (old new : Shown) → GoesOn story old.story lane → (r : Result A E) → OnErr r (new ≡ old) → OnErr r (GoesOn story new.story lane)
+stays_on_err story lane old new goes (Ok a) h = tt
+stays_on_err story lane old new goes (Err e) h = subst (λ s. GoesOn story s.story lane) (sym h) goes

@@ -1,5 +1,5 @@
 -- One more finished command of a lane.
-use Rattle.std.proofs.Common.{◌≡◌, ◌≢◌, ℕ, ◌+◌, ◌-◌, ◌<◌, ◌≤◌, ◌==◌, ◌⊎◌, inl, inr, Bool, true, false, cond, Some, List, [], ◌∷◌, ◌++◌, length, set, refl, ap, ◌∙◌, arith, get_or, get_or-set_same, get_or-set_other}
+use Rattle.std.proofs.Common.{◌≡◌, ◌≢◌, ℕ, ◌+◌, ◌-◌, ◌<◌, ◌≤◌, ◌==◌, ◌⊎◌, inl, inr, Bool, true, false, cond, Some, List, [], ◌∷◌, ◌++◌, length, length-append, set, refl, ap, ◌∙◌, arith, get_or, get_or-set_same, get_or-set_other}
 use Rattle.std.specs.Ordering.{nat_cmp}
 use Rattle.std.specs.FinMap.Entries.{find, find-put}
 use Rattle.std.specs.Prelude.{unwrap_or}
@@ -52,6 +52,15 @@ replies_same lanes lane more low high = get_or-set_same lanes (lane - 1) more []
 pub replies_other : (lanes : List (List Reply)) (lane other : ℕ) (more : List Reply) → 1 ≤ lane → 1 ≤ other → other ≢ lane → replies_at (set lanes (lane - 1) more) other ≡ replies_at lanes other
 replies_other lanes lane other more low low' differs = get_or-set_other lanes (lane - 1) (other - 1) more [] (λ e. differs (omega arith))
 
+-- with another reply in place of its newest one
+pub other_reply : (lanes before : List (List Reply)) (lane : ℕ) (newest reply : Reply) (kept d : List Reply) → 1 ≤ lane → lane ≤ length lanes → lanes ≡ with_reply before lane newest → ((one : List Reply) (last : Reply) → get_or lanes (lane - 1) d ≡ one ++ last ∷ [] → kept ≡ one ++ reply ∷ []) → set lanes (lane - 1) kept ≡ with_reply before lane reply
+other_reply lanes before lane newest reply kept d low high e replaced =
+    let within : lane - 1 < length before = omega (arith, low, high, ap length e, length-set before (lane - 1) (replies_at before lane ++ newest ∷ [])) in
+    let last : get_or lanes (lane - 1) d ≡ replies_at before lane ++ newest ∷ [] = ap (λ xs. get_or xs (lane - 1) d) e ∙ get_or-set_same before (lane - 1) (replies_at before lane ++ newest ∷ []) d within in
+    ap (λ xs. set xs (lane - 1) kept) e
+    ∙ set-set before (lane - 1) (replies_at before lane ++ newest ∷ []) kept
+    ∙ ap (set before (lane - 1)) (replaced (replies_at before lane) newest last)
+
 -- without its newest reply, a lane's list is as it was before it
 pub without_reply : (lanes before : List (List Reply)) (lane : ℕ) (reply : Reply) (kept d : List Reply) → 1 ≤ lane → lane ≤ length lanes → lanes ≡ with_reply before lane reply → ((one : List Reply) (last : Reply) → get_or lanes (lane - 1) d ≡ one ++ last ∷ [] → kept ≡ one) → set lanes (lane - 1) kept ≡ before
 without_reply lanes before lane reply kept d low high e popped =
@@ -61,3 +70,13 @@ without_reply lanes before lane reply kept d low high e popped =
     ∙ set-set before (lane - 1) (replies_at before lane ++ reply ∷ []) kept
     ∙ ap (set before (lane - 1)) (popped (replies_at before lane) reply newest)
     ∙ set-get_or before (lane - 1) []
+
+-- a list with another last member
+set_last : (before : List Reply) (newest reply : Reply) → set (before ++ newest ∷ []) (length before) reply ≡ before ++ reply ∷ []
+set_last [] newest reply = refl
+set_last (one ∷ before) newest reply = ap (λ l. one ∷ l) (set_last before newest reply)
+
+pub replaced_last : (items before : List Reply) (newest reply : Reply) (n : ℕ) → items ≡ before ++ newest ∷ [] → n ≡ length items → set items (n - 1) reply ≡ before ++ reply ∷ []
+replaced_last items before newest reply n e counted =
+    let last : n - 1 ≡ length before = omega (arith, counted, ap length e, length-append before (newest ∷ [])) in
+    ap (λ l. set l (n - 1) reply) e ∙ ap (λ k. set (before ++ newest ∷ []) k reply) last ∙ set_last before newest reply

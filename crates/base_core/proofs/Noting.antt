@@ -11,11 +11,11 @@ use Rattle.cc_names.specs.declared.steps.Told.TheVariants as told
 use Rattle.build_core.specs.Slots.{numbered, held_in}
 use Rattle.build_core.specs.SlotLaws.{put_numbered}
 use Rattle.legal_history.specs.Builds.{Build, Came, build_of, reserved}
-use Rattle.legal_history.specs.States.{State, start, done_of, ticks_of}
+use Rattle.legal_history.specs.States.{State, start, done_of}
 use Rattle.legal_history.specs.Steps.{after, state_of, with_came}
 use Rattle.legal_history.specs.Stories.{Lawful}
 use Rattle.base_core.specs.Building.{IsBuildKept}
-use Rattle.base_core.specs.InMemory.{is_fault}
+use Rattle.base_core.specs.Faults.{is_fault}
 use Rattle.base_core.specs.Kept.{last_phase, AreReplies, IsKept}
 use Rattle.base_core.specs.Logs.{Logged, with_step}
 use Rattle.base_core.specs.Replying.{replies_after, replies_of, no_replies}
@@ -24,7 +24,6 @@ use Rattle.base_core.proofs.Idle.{build_in_slot, some_same}
 use Rattle.base_core.proofs.Lanes.{one_or_two}
 use Rattle.base_core.proofs.Reserving.{found_set, found_other, reserved_set, rows_for}
 use Rattle.base_core.proofs.Staying.{build_stays}
-use Rattle.base_core.proofs.MemorySteps.{memory_more}
 
 -- a build with what one of its units has come to is kept as it was
 pub noted_kept : (s : State) (lane : ℕ) (build : Build) (n : ℕ) (came : Came) → IsBuildKept s lane build → IsBuildKept s lane (with_came build (Some n) came)
@@ -66,7 +65,6 @@ kept_note log lanes builds now step lane n build came h low high is lawful leave
     number = ap (λ t. t.number) state ∙ h.agrees.number;
     moment = ap (λ t. t.moment) state ∙ h.agrees.moment;
     active = active;
-    ticks = ap (λ t. ticks_of t.opened t.ends) state ∙ h.agrees.ticks;
   };
   replies = same_replies story x lanes log h.replies said (ap (λ t. t.done) leaves);
   count = length-set builds (lane - 1) (Some noted) ∙ h.count;
@@ -78,7 +76,6 @@ kept_note log lanes builds now step lane n build came h low high is lawful leave
   room = h.room;
   few = h.few;
   in_time = h.in_time;
-  memory = memory_more story x h.memory sound;
 }
   where
     story : List Told

@@ -24,9 +24,10 @@ use Rattle.legal_history.specs.Closures.{is_among}
 use Rattle.legal_history.specs.Fits.{is_base}
 use Rattle.legal_history.specs.Freshness.{AgreesSoFar}
 use Rattle.legal_history.specs.Fresh.{script_text}
-use Rattle.legal_history.specs.States.{State, Committed, start, next_tag}
+use Rattle.legal_history.specs.States.{State, Committed, start, next_tag, ticks_of}
 use Rattle.legal_history.specs.Steps.{active_after, done_after, noted_in, state_of, with_came}
-use Rattle.legal_history.specs.Stories.{Legal}
+use Rattle.disk_model.specs.Told.{Sight}
+use Rattle.legal_history.specs.Stories.{Legal, MayCommit, rises}
 use Rattle.base_core.specs.BuildCalls.{IsObjectRow}
 use Rattle.base_core.specs.Going.{GoesOn, HasOutcome, StillBuilds}
 use Rattle.base_core.specs.Kept.{IsKept}
@@ -34,7 +35,7 @@ use Rattle.base_core.specs.Logs.{Logged, with_row}
 use Rattle.base_core.proofs.Growing.{state_from-more}
 use Rattle.base_core.proofs.Idle.{some_same}
 use Rattle.base_core.proofs.LaneSlots.{lane_slot, found_put}
-use Rattle.base_core.proofs.Publishing.{published, kept_publish}
+use Rattle.base_core.proofs.Publishing.{published, may_publish, kept_publish}
 use Rattle.base_core.proofs.UnitNotes.{outcome_noted}
 
 -- a list that holds at each place holds at this one
@@ -70,9 +71,19 @@ row_told s lane n row h = deed_of_run h.build h.unit (entries (visible s.base h.
 row_is : (s : State) (lane n now : ℕ) (row : Plain) (h : IsObjectRow s lane n row) (d : IsDeedOf h.build h.unit row.deed) → s.moment ≡ now → row ≡ published (next_tag s lane) now h.build.view d.targets d.script d.reads d.outputs
 row_is s lane n now row h d moment = λ i. record { tag = h.of_tag i; moment = (h.at_moment ∙ moment) i; deed = d.is i }
 
+-- the row may be committed
+pub object_may : (log : Logged) (lanes : List (List Reply)) (builds : List (Option Build)) (now lane n : ℕ) (row : Plain) → IsKept log lanes builds now → (here : IsObjectRow (state_of log.story) lane n row) → ((told : List Told) (l : ℕ) (b : Build) → Legal told → build_of (state_of told).active l ≡ Some b → AgreesSoFar (state_of told).base b) → MayCommit (state_of log.story) row
+object_may log lanes builds now lane n row h here agree =
+    let s = state_of log.story in
+    let told = row_told s lane n row here in
+    let formed : IsUnitFormed here.unit = all_at IsUnitFormed here.build.units n here.unit (h.building lane here.build here.active).formed.units here.is_unit in
+    let place : unit_with_first here.build told.targets ≡ Some n = first_place s.base here.build n here.unit told.targets (agree log.story lane here.build h.legal here.active) here.is_unit told.of_unit (λ e. formed.0.1 (sym told.of_unit ∙ e)) in
+    subst (MayCommit s) (sym (row_is s lane n now row here told h.agrees.moment))
+    (may_publish log lanes builds now lane n here.build here.unit here.build.view told.targets told.script told.reads told.outputs h here.active here.is_unit here.started place (here.made ∙ ap Some told.is))
+
 -- what is kept then
-pub kept_object : (log : Logged) (lanes : List (List Reply)) (builds more : List (Option Build)) (now : ℕ) (story : List Told) (lane n number : ℕ) (row : Plain) → log.story ≡ story → IsKept log lanes builds now → IsObjectRow (state_of story) lane n row → number ≡ suc (length log.rows) → ((told : List Told) → Legal told → is_base (state_of told).base ≡ true) → ((told : List Told) (l : ℕ) (b : Build) → Legal told → build_of (state_of told).active l ≡ Some b → AgreesSoFar (state_of told).base b) → ((build : Build) → held_in builds (lane - 1) ≡ Some build → more ≡ set builds (lane - 1) (Some (with_came build (Some n) (Given number)))) → IsKept (with_row log row) lanes more now
-kept_object log lanes builds more now story lane n number row same h object counted based agree set_so =
+pub kept_object : (log : Logged) (lanes : List (List Reply)) (builds more : List (Option Build)) (now : ℕ) (story : List Told) (lane n number : ℕ) (row : Plain) (tick : ℕ) (sight : Sight) → rises (ticks_of (state_of log.story).opened (state_of log.story).ends) tick ≡ true → log.story ≡ story → IsKept log lanes builds now → IsObjectRow (state_of story) lane n row → number ≡ suc (length log.rows) → ((told : List Told) → Legal told → is_base (state_of told).base ≡ true) → ((told : List Told) (l : ℕ) (b : Build) → Legal told → build_of (state_of told).active l ≡ Some b → AgreesSoFar (state_of told).base b) → ((build : Build) → held_in builds (lane - 1) ≡ Some build → more ≡ set builds (lane - 1) (Some (with_came build (Some n) (Given number)))) → IsKept (with_row log row tick sight) lanes more now
+kept_object log lanes builds more now story lane n number row tick sight ticked same h object counted based agree set_so =
     let s = state_of log.story in
     let here : IsObjectRow s lane n row = subst (λ t. IsObjectRow (state_of t) lane n row) (sym same) object in
     let slot = lane_slot log lanes builds now lane here.build h here.active in
@@ -80,14 +91,14 @@ kept_object log lanes builds more now story lane n number row same h object coun
     let formed : IsUnitFormed here.unit = all_at IsUnitFormed here.build.units n here.unit (h.building lane here.build here.active).formed.units here.is_unit in
     let place : unit_with_first here.build told.targets ≡ Some n = first_place s.base here.build n here.unit told.targets (agree log.story lane here.build h.legal here.active) here.is_unit told.of_unit (λ e. formed.0.1 (sym told.of_unit ∙ e)) in
     let newest : number ≡ size s.base = omega (arith, counted, ap length h.agrees.base, length-reverse log.rows) in
-    subst (λ bs. IsKept (with_row log row) lanes bs now) (sym (set_so here.build slot.held))
-    (subst (λ k. IsKept (with_row log row) lanes (set builds (lane - 1) (Some (with_came here.build (Some n) (Given k)))) now) (sym newest)
-    (subst (λ r. IsKept (with_row log r) lanes (set builds (lane - 1) (Some (with_came here.build (Some n) (Given (size s.base))))) now) (sym (row_is s lane n now row here told h.agrees.moment))
-    (kept_publish log lanes builds now lane n here.build here.unit here.build.view told.targets told.script told.reads told.outputs h slot.from (omega (arith, slot.upto, h.count)) here.active here.is_unit here.started place (here.made ∙ ap Some told.is) based)))
+    subst (λ bs. IsKept (with_row log row tick sight) lanes bs now) (sym (set_so here.build slot.held))
+    (subst (λ k. IsKept (with_row log row tick sight) lanes (set builds (lane - 1) (Some (with_came here.build (Some n) (Given k)))) now) (sym newest)
+    (subst (λ r. IsKept (with_row log r tick sight) lanes (set builds (lane - 1) (Some (with_came here.build (Some n) (Given (size s.base))))) now) (sym (row_is s lane n now row here told h.agrees.moment))
+    (kept_publish log lanes builds now lane n here.build here.unit here.build.view told.targets told.script told.reads told.outputs tick sight ticked h slot.from (omega (arith, slot.upto, h.count)) here.active here.is_unit here.started place (here.made ∙ ap Some told.is) based)))
 
 -- how the story went on
-pub object_so : (log : Logged) (lanes : List (List Reply)) (builds : List (Option Build)) (now : ℕ) (story : List Told) (lane n : ℕ) (row : Plain) → log.story ≡ story → IsKept log lanes builds now → IsObjectRow (state_of story) lane n row → ((told : List Told) (l : ℕ) (b : Build) → Legal told → build_of (state_of told).active l ≡ Some b → AgreesSoFar (state_of told).base b) → GoesOn story (with_row log row).story lane × HasOutcome (state_of (with_row log row).story) lane n
-object_so log lanes builds now story lane n row same h object agree = (
+pub object_so : (log : Logged) (lanes : List (List Reply)) (builds : List (Option Build)) (now : ℕ) (story : List Told) (lane n : ℕ) (row : Plain) (tick : ℕ) (sight : Sight) → log.story ≡ story → IsKept log lanes builds now → IsObjectRow (state_of story) lane n row → ((told : List Told) (l : ℕ) (b : Build) → Legal told → build_of (state_of told).active l ≡ Some b → AgreesSoFar (state_of told).base b) → GoesOn story (with_row log row tick sight).story lane × HasOutcome (state_of (with_row log row tick sight).story) lane n
+object_so log lanes builds now story lane n row tick sight same h object agree = (
   record {
     steps = x ∷ [];
     grows = ap (λ t. t ++ x ∷ []) same;
@@ -102,7 +113,7 @@ object_so log lanes builds now story lane n row same h object agree = (
     s = state_of story
 
     x : Told
-    x = told.Commit row (suc (length log.rows))
+    x = told.Commit row tick
 
     noted : Build
     noted = with_came object.build (Some n) (Given (size s.base))
@@ -117,14 +128,14 @@ object_so log lanes builds now story lane n row same h object agree = (
     place = first_place s.base object.build n object.unit deed.targets (subst (λ t. AgreesSoFar (state_of t).base object.build) same (agree log.story lane object.build h.legal (ap (λ t. build_of (state_of t).active lane) same ∙ object.active))) object.is_unit deed.of_unit (λ e. formed.0.1 (sym deed.of_unit ∙ e))
 
     grown : State
-    grown = record s { base = row ∷ s.base; active = put nat_cmp lane noted s.active; ends = Committed row (suc (length log.rows)) ∷ s.ends }
+    grown = record s { base = row ∷ s.base; active = put nat_cmp lane noted s.active; ends = Committed row tick ∷ s.ends }
 
     state : state_of (log.story ++ x ∷ []) ≡ grown
     state = ap (λ t. state_of (t ++ x ∷ [])) same ∙ state_from-more start story x
-        ∙ ap (λ d. record s { base = row ∷ s.base; done = done_after s.done row.tag.lane d; active = active_after s.base s.active row.tag.lane d; ends = Committed row (suc (length log.rows)) ∷ s.ends }) deed.is
-        ∙ ap (λ t. record s { base = row ∷ s.base; active = noted_in s.active t.lane (build_of s.active t.lane) (λ b. unit_with_first b deed.targets) (Given (size s.base)); ends = Committed row (suc (length log.rows)) ∷ s.ends }) object.of_tag
-        ∙ ap (λ o. record s { base = row ∷ s.base; active = noted_in s.active lane o (λ b. unit_with_first b deed.targets) (Given (size s.base)); ends = Committed row (suc (length log.rows)) ∷ s.ends }) object.active
-        ∙ ap (λ o. record s { base = row ∷ s.base; active = put nat_cmp lane (with_came object.build o (Given (size s.base))) s.active; ends = Committed row (suc (length log.rows)) ∷ s.ends }) place
+        ∙ ap (λ d. record s { base = row ∷ s.base; done = done_after s.done row.tag.lane d; active = active_after s.base s.active row.tag.lane d; ends = Committed row tick ∷ s.ends }) deed.is
+        ∙ ap (λ t. record s { base = row ∷ s.base; active = noted_in s.active t.lane (build_of s.active t.lane) (λ b. unit_with_first b deed.targets) (Given (size s.base)); ends = Committed row tick ∷ s.ends }) object.of_tag
+        ∙ ap (λ o. record s { base = row ∷ s.base; active = noted_in s.active lane o (λ b. unit_with_first b deed.targets) (Given (size s.base)); ends = Committed row tick ∷ s.ends }) object.active
+        ∙ ap (λ o. record s { base = row ∷ s.base; active = put nat_cmp lane (with_came object.build o (Given (size s.base))) s.active; ends = Committed row tick ∷ s.ends }) place
 
     active : build_of (state_of (log.story ++ x ∷ [])).active lane ≡ Some noted
     active = ap (λ t. build_of t.active lane) state ∙ found_put lane noted s.active

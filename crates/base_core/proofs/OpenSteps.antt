@@ -1,9 +1,8 @@
 -- What is kept, and how the story went on, where a build begins, and where a command is refused.
-use Rattle.std.proofs.Common.{◌≡◌, ℕ, ◌-◌, Option, Some, None, Result, Ok, Err, List, [], ◌∷◌, ◌++◌, length, set, refl, ap, sym, subst, ◌∙◌, arith}
+use Rattle.std.proofs.Common.{◌≡◌, ℕ, ◌-◌, Option, Some, Ok, List, [], ◌∷◌, ◌++◌, length, set, refl, ap, sym, subst, ◌∙◌, arith}
 use Rattle.std.specs.Ordering.{nat_cmp}
 use Rattle.std.specs.FinMap.Entries.{put}
 use Rattle.cc_names.specs.declared.desks.Done.TheVariants as dones
-use Rattle.cc_names.specs.declared.refusals.Refusal.{Refusal}
 use Rattle.cc_names.specs.declared.replies.Reply.{Reply}
 use Rattle.cc_names.specs.declared.rows.Tag.{Tag}
 use Rattle.cc_names.specs.declared.steps.Step.TheVariants as steps
@@ -11,10 +10,10 @@ use Rattle.cc_names.specs.declared.steps.Told.{Told}
 use Rattle.cc_names.specs.declared.steps.Told.TheVariants as told
 use Rattle.legal_history.specs.Base.{size}
 use Rattle.legal_history.specs.Builds.{Build, build_of}
-use Rattle.legal_history.specs.Decisions.{Decision, Makes, Answers, Begins}
-use Rattle.legal_history.specs.States.{State, start, done_of, with_done, next_tag, decided}
-use Rattle.legal_history.specs.Steps.{begun, state_of, with_build}
-use Rattle.base_core.specs.Acting.{Acts, step_of, kind_of}
+use Rattle.legal_history.specs.Decisions.{Begins}
+use Rattle.legal_history.specs.States.{State, start, done_of, with_done, next_tag}
+use Rattle.legal_history.specs.Steps.{after, begun, state_of, with_build}
+use Rattle.base_core.specs.Acting.{Acts, IsStepOf}
 use Rattle.base_core.specs.BuildCalls.{IsBuilding}
 use Rattle.base_core.specs.Building.{IsNextBuild}
 use Rattle.base_core.specs.Going.{GoesOn, Finishes}
@@ -24,7 +23,7 @@ use Rattle.base_core.proofs.Growing.{state_from-more}
 use Rattle.base_core.proofs.Idle.{decided_is_free, not_both}
 use Rattle.base_core.proofs.Lanes.{done_same, done_other}
 use Rattle.base_core.proofs.LaneSlots.{found_put}
-use Rattle.base_core.proofs.Opening.{kept_begin}
+use Rattle.base_core.proofs.BuildBegins.{kept_begin}
 
 -- what is kept where a build begins
 pub kept_opened : (log : Logged) (lanes : List (List Reply)) (builds : List (Option Build)) (now rows count : ℕ) (story : List Told) (tag : Tag) (build : Build) → log.story ≡ story → IsKept log lanes builds now → IsNextBuild (state_of story) build → tag ≡ build.tag → rows ≡ build.rows → count ≡ length build.units → IsKept (with_step log (steps.Begin tag rows count)) lanes (set builds (tag.lane - 1) (Some build)) now
@@ -60,30 +59,22 @@ opened_so log rows count story tag build same next tagged = (
         ∙ ap (λ t. record s { active = with_build s.active t.lane (begun s t) }) tagged
         ∙ ap (λ o. record s { active = with_build s.active build.tag.lane o }) next.begins
 
+-- a step that finishes a command of a lane, and leaves the last phase and its other lanes as they are
+step_finishes : (old new : List Told) (lane : ℕ) (step : Told) → new ≡ old ++ step ∷ [] → (after (state_of old) step).phase ≡ (state_of old).phase → (after (state_of old) step).number ≡ (state_of old).number → (after (state_of old) step).moment ≡ (state_of old).moment → (after (state_of old) step).done ≡ with_done (state_of old).done lane → Finishes old new lane
+step_finishes old new lane step e phase number moment done =
+    let state : state_of new ≡ after (state_of old) step = ap state_of e ∙ state_from-more start old step in
+    record {
+      steps = step ∷ [];
+      grows = e;
+      phase = record { phase = ap (λ t. t.phase) state ∙ phase; number = ap (λ t. t.number) state ∙ number; moment = ap (λ t. t.moment) state ∙ moment };
+      done = ap (λ t. done_of t.done lane) state ∙ ap (λ d. done_of d lane) done ∙ done_same (state_of old).done lane;
+      others = λ other differs. ap (λ t. done_of t.done other) state ∙ ap (λ d. done_of d other) done ∙ done_other (state_of old).done lane other differs;
+    }
+
 -- a lane's command that was refused is finished
 pub refused_finishes : (old new : List Told) (lane : ℕ) → Acts old new lane dones.Refused → Finishes old new lane
-refused_finishes old new lane acts = by (decided s (next_tag s lane)) refl
+refused_finishes old new lane acts = by acts.step acts.grows acts.is
   where
-    s : State
-    s = state_of old
-
-    finishes : (refusal : Refusal) → new ≡ old ++ told.Other (steps.Refused (next_tag s lane) refusal) ∷ [] → Finishes old new lane
-    finishes refusal e =
-        let state : state_of new ≡ record s { done = with_done s.done lane } = ap state_of e ∙ state_from-more start old (told.Other (steps.Refused (next_tag s lane) refusal)) in
-        record {
-          steps = told.Other (steps.Refused (next_tag s lane) refusal) ∷ [];
-          grows = e;
-          phase = record { phase = ap (λ t. t.phase) state; number = ap (λ t. t.number) state; moment = ap (λ t. t.moment) state };
-          done = ap (λ t. done_of t.done lane) state ∙ done_same s.done lane;
-          others = λ other differs. ap (λ t. done_of t.done other) state ∙ done_other s.done lane other differs;
-        }
-
-    by_kind : (d : Option (Result Decision Refusal)) → kind_of d ≡ dones.Refused → new ≡ old ++ step_of s (next_tag s lane) d ∷ [] → Finishes old new lane
-    by_kind (Some (Err refusal)) kind step = finishes refusal step
-    by_kind (Some (Ok (Makes deed))) kind step = absurd (cc)
-    by_kind (Some (Ok (Answers text))) kind step = absurd (cc)
-    by_kind (Some (Ok (Begins units))) kind step = absurd (cc)
-    by_kind None kind step = absurd (cc)
-
-    by : (d : Option (Result Decision Refusal)) → decided s (next_tag s lane) ≡ d → Finishes old new lane
-    by d is = by_kind d (ap kind_of (sym is) ∙ sym acts.kind) (acts.step ∙ ap (λ o. old ++ step_of s (next_tag s lane) o ∷ []) is)
+    by : (step : Told) → new ≡ old ++ step ∷ [] → IsStepOf (state_of old) (next_tag (state_of old) lane) dones.Refused step → Finishes old new lane
+    by (told.Other (steps.Refused tag refusal)) e is = step_finishes old new lane (told.Other (steps.Refused tag refusal)) e refl refl refl (ap (λ t. with_done (state_of old).done t.lane) is.0)
+    by step e is = absurd is

@@ -1,7 +1,6 @@
 -- The rows of commands that make a view or a private file.
-use Rattle.std.proofs.Common.{◌≡◌, ℕ, ◌+◌, ◌-◌, ◌^◌, ◌==◌, true, ◌&&◌, ◌||◌, nat_lt, Some, Ok, List, [], ◌∷◌, ◌++◌, reverse, refl, ap, ap₂, ◌∙◌, arith}
+use Rattle.std.proofs.Common.{◌≡◌, ℕ, true, ◌&&◌, Some, Ok, List, [], ◌∷◌, ◌++◌, reverse, refl, ap, ap₂, ◌∙◌}
 use Rattle.std.proofs.lemmas.List.{reverse-append}
-use Rattle.std.proofs.lemmas.Bool.Decides.{nat_tests}
 use Rattle.cc_names.specs.Formed.{Plain}
 use Rattle.cc_names.specs.declared.replies.Reply.TheVariants as replies
 use Rattle.cc_names.specs.declared.rows.Deed.{Deed}
@@ -11,7 +10,7 @@ use Rattle.legal_history.specs.Builds.{Active}
 use Rattle.legal_history.specs.Decisions.{Makes}
 use Rattle.legal_history.specs.States.{State, with_done, decided}
 use Rattle.legal_history.specs.Steps.{done_after, active_after}
-use Rattle.legal_history.specs.Stories.{MakesRow, rises}
+use Rattle.legal_history.specs.Stories.{MakesRow}
 use Rattle.view_lookup.specs.Unversioned.{is_plain_deed, is_unversioned_deed, is_unversioned}
 use Rattle.base_core.specs.Replying.{reply_to_row}
 
@@ -45,9 +44,3 @@ plain_unversioned deed h = cc
 -- the newest row is of the deeds that its base has
 pub newest_too : (row : Plain) (rows : List Plain) → is_unversioned_deed row.deed ≡ true → is_unversioned (reverse rows) ≡ true → is_unversioned (reverse (rows ++ row ∷ [])) ≡ true
 newest_too row rows one all = ap is_unversioned (reverse-append rows (row ∷ [])) ∙ ap₂ ◌&&◌ one all
-
--- a tick that is one more rises
-pub one_more_rises : (before now : ℕ) → before + 1 ≡ now → rises before now ≡ true
-one_more_rises before now e =
-    let less : nat_lt before now ≡ true = grind (arith, nat_tests) in
-    ap (λ b. b || ((before == 2 ^ 64 - 1) && (now == 2 ^ 64 - 1))) less

@@ -21,7 +21,8 @@ use Rattle.legal_history.specs.Choices.{publish_of}
 use Rattle.legal_history.specs.Fits.{row_limit, fits, deed_fits, is_base}
 use Rattle.legal_history.specs.States.{State, start, next_tag, ticks_of}
 use Rattle.legal_history.specs.Steps.{after, state_of, noted_in, with_came}
-use Rattle.legal_history.specs.Stories.{Legal}
+use Rattle.disk_model.specs.Told.{Sight}
+use Rattle.legal_history.specs.Stories.{Legal, MayCommit, rises}
 use Rattle.view_lookup.specs.Unversioned.{is_unversioned}
 use Rattle.base_core.specs.Building.{IsBuildKept}
 use Rattle.base_core.specs.Kept.{IsKept}
@@ -32,10 +33,8 @@ use Rattle.base_core.proofs.Growing.{state_from-more, legal_more}
 use Rattle.base_core.proofs.Idle.{both, some_same}
 use Rattle.base_core.proofs.Lanes.{one_or_two}
 use Rattle.base_core.proofs.Noting.{noted_kept, same_replies, slot_of}
-use Rattle.base_core.proofs.PlainRows.{one_more_rises}
 use Rattle.base_core.proofs.Reserving.{found_set, found_other, reserved_set, rows_for}
 use Rattle.base_core.proofs.Staying.{first_stay, build_stays}
-use Rattle.base_core.proofs.MemorySteps.{memory_more}
 
 -- the row of an object that a build's unit made
 abbrev pub published : Tag → ℕ → List ℕ → List (List ℕ) → List ℕ → List ReadOf → List (List ℕ) → Plain
@@ -47,9 +46,27 @@ below_limit row b h =
     let less : nat_lt (size b) row_limit ≡ true = (both (nat_lt (size b) row_limit) (deed_fits b row.deed) (both (fits b row.deed) (is_base b) h).0).0 in
     grind (arith, nat_tests)
 
+-- the row may be committed
+pub may_publish : (log : Logged) (lanes : List (List Reply)) (builds : List (Option Build)) (now lane n : ℕ) (build : Build) (unit : Unit) (view : List ℕ) (targets : List (List ℕ)) (script : List ℕ) (entries : List ReadOf) (outputs : List (List ℕ)) → IsKept log lanes builds now → build_of (state_of log.story).active lane ≡ Some build → unit_at build n ≡ Some unit → came_to build n ≡ Some Started → unit_with_first build targets ≡ Some n → publish_of (state_of log.story).base build n unit ≡ Some (deeds.Publish view targets script entries outputs) → MayCommit (state_of log.story) (published (next_tag (state_of log.story) lane) now view targets script entries outputs)
+may_publish log lanes builds now lane n build unit view targets script entries outputs h is unit_is started place made = record {
+  moment = sym h.agrees.moment;
+  made = record {
+    n = n;
+    build = build;
+    unit = unit;
+    place = place;
+    running = record {
+      waits = record { active = build_is_by (state_of log.story) lane build is (h.building lane build is).tag; is_unit = unit_is; waits = ap is_outcome started };
+      started = started;
+    };
+    nothing = refl;
+    made = made;
+  };
+}
+
 -- what is kept after the row of what a unit's run gave
-pub kept_publish : (log : Logged) (lanes : List (List Reply)) (builds : List (Option Build)) (now lane n : ℕ) (build : Build) (unit : Unit) (view : List ℕ) (targets : List (List ℕ)) (script : List ℕ) (entries : List ReadOf) (outputs : List (List ℕ)) → IsKept log lanes builds now → 1 ≤ lane → lane ≤ length lanes → build_of (state_of log.story).active lane ≡ Some build → unit_at build n ≡ Some unit → came_to build n ≡ Some Started → unit_with_first build targets ≡ Some n → publish_of (state_of log.story).base build n unit ≡ Some (deeds.Publish view targets script entries outputs) → ((told : List Told) → Legal told → is_base (state_of told).base ≡ true) → IsKept (with_row log (published (next_tag (state_of log.story) lane) now view targets script entries outputs)) lanes (set builds (lane - 1) (Some (with_came build (Some n) (Given (size (state_of log.story).base))))) now
-kept_publish log lanes builds now lane n build unit view targets script entries outputs h low high is unit_is started place made based = record {
+pub kept_publish : (log : Logged) (lanes : List (List Reply)) (builds : List (Option Build)) (now lane n : ℕ) (build : Build) (unit : Unit) (view : List ℕ) (targets : List (List ℕ)) (script : List ℕ) (entries : List ReadOf) (outputs : List (List ℕ)) (tick : ℕ) (sight : Sight) → rises (ticks_of (state_of log.story).opened (state_of log.story).ends) tick ≡ true → IsKept log lanes builds now → 1 ≤ lane → lane ≤ length lanes → build_of (state_of log.story).active lane ≡ Some build → unit_at build n ≡ Some unit → came_to build n ≡ Some Started → unit_with_first build targets ≡ Some n → publish_of (state_of log.story).base build n unit ≡ Some (deeds.Publish view targets script entries outputs) → ((told : List Told) → Legal told → is_base (state_of told).base ≡ true) → IsKept (with_row log (published (next_tag (state_of log.story) lane) now view targets script entries outputs) tick sight) lanes (set builds (lane - 1) (Some (with_came build (Some n) (Given (size (state_of log.story).base))))) now
+kept_publish log lanes builds now lane n build unit view targets script entries outputs tick sight ticked h low high is unit_is started place made based = record {
   legal = legal;
   agrees = record {
     opened = ap (λ t. is_some t.opened) state ∙ h.agrees.opened;
@@ -58,7 +75,6 @@ kept_publish log lanes builds now lane n build unit view targets script entries 
     number = ap (λ t. t.number) state ∙ h.agrees.number;
     moment = ap (λ t. t.moment) state ∙ h.agrees.moment;
     active = active;
-    ticks = ap (λ t. ticks_of t.opened t.ends) state ∙ omega (arith, length-append log.rows (row ∷ []));
   };
   replies = same_replies story x lanes log h.replies (λ l. append-nil (replies_of story l)) refl;
   count = length-set builds (lane - 1) (Some noted) ∙ h.count;
@@ -70,7 +86,6 @@ kept_publish log lanes builds now lane n build unit view targets script entries 
   room = omega (arith, within_limit, length-append log.rows (row ∷ []), ap length h.agrees.base, length-reverse log.rows);
   few = h.few;
   in_time = h.in_time;
-  memory = memory_more story x h.memory refl;
 }
   where
     story : List Told
@@ -83,7 +98,7 @@ kept_publish log lanes builds now lane n build unit view targets script entries 
     row = published (next_tag s lane) now view targets script entries outputs
 
     x : Told
-    x = told.Commit row (suc (length log.rows))
+    x = told.Commit row tick
 
     noted : Build
     noted = with_came build (Some n) (Given (size s.base))
@@ -98,22 +113,8 @@ kept_publish log lanes builds now lane n build unit view targets script entries 
 
     legal : Legal (story ++ x ∷ [])
     legal = legal_more start story x h.legal (record {
-      may = record {
-        moment = sym h.agrees.moment;
-        made = record {
-          n = n;
-          build = build;
-          unit = unit;
-          place = place;
-          running = record {
-            waits = record { active = build_is_by s lane build is (h.building lane build is).tag; is_unit = unit_is; waits = ap is_outcome started };
-            started = started;
-          };
-          nothing = refl;
-          made = made;
-        };
-      };
-      ticked = one_more_rises _ (suc (length log.rows)) (omega (arith, h.agrees.ticks));
+      may = may_publish log lanes builds now lane n build unit view targets script entries outputs h is unit_is started place made;
+      ticked = ticked;
     })
 
     within_limit : size s.base < row_limit

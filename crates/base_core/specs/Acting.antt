@@ -6,6 +6,7 @@ use Rattle.cc_names.specs.declared.desks.Done.TheVariants.{Committed, Refused, A
 use Rattle.cc_names.specs.declared.memory.Or.{Or}
 use Rattle.cc_names.specs.declared.memory.Or.TheVariants.{NoMemory, Is}
 use Rattle.cc_names.specs.declared.refusals.Refusal.{Refusal}
+use Rattle.cc_names.specs.declared.rows.Deed.{Deed}
 use Rattle.cc_names.specs.declared.rows.Tag.{Tag}
 use Rattle.cc_names.specs.declared.steps.Step.TheVariants as steps
 use Rattle.cc_names.specs.declared.steps.Told.{Told}
@@ -16,25 +17,20 @@ use Rattle.legal_history.specs.States.{State, decided, next_tag}
 use Rattle.legal_history.specs.Steps.{state_of}
 use Rattle.view_lookup.specs.Unversioned.{is_plain_deed}
 
--- The step of a command of this tag, by what was decided: its row at the moment of the phase, its refusal or its answer. A
--- row that no disk keeps is acknowledged at its own number.
-abbrev pub step_of : State → Tag → Option (Result Decision Refusal) → Told
-step_of s tag (Some (Ok (Makes deed))) = told.Commit (record { tag = tag; moment = s.moment; deed = deed }) (size s.base)
-step_of s tag (Some (Ok (Answers text))) = told.Other (steps.Answer tag text)
-step_of s tag (Some (Err refusal)) = told.Other (steps.Refused tag refusal)
-step_of s tag decided = told.Other (steps.End tag)
+-- A step by which a command of this tag is finished, by its kind: the row that was decided, committed at the moment of the
+-- phase; the refusal or the answer that was decided; or the fault of the disk under the row that was decided.
+abbrev pub IsStepOf : State → Tag → Done → Told → Type 0
+IsStepOf s tag Committed (told.Commit row tick) = (row.tag ≡ tag) × (row.moment ≡ s.moment) × (decided s tag ≡ Some (Ok (Makes row.deed)))
+IsStepOf s tag Refused (told.Other (steps.Refused finished refusal)) = (finished ≡ tag) × (decided s tag ≡ Some (Err refusal))
+IsStepOf s tag Answered (told.Other (steps.Answer finished text)) = (finished ≡ tag) × (decided s tag ≡ Some (Ok (Answers text)))
+IsStepOf s tag Faulted (told.Other (steps.Fault finished left before faults tick)) = (finished ≡ tag) × (deed : Deed) × (decided s tag ≡ Some (Ok (Makes deed)))
+IsStepOf s tag done step = ⊥
 
--- the kind of step that a decision makes
-abbrev pub kind_of : Option (Result Decision Refusal) → Done
-kind_of (Some (Ok (Makes deed))) = Committed
-kind_of (Some (Ok (Answers text))) = Answered
-kind_of (Some (Err refusal)) = Refused
-kind_of decided = Faulted
-
--- A lane's next command was carried out: the story has one step more, the one that was decided, and this is its kind.
+-- A lane's next command was carried out: the story has one step more, which finishes the command.
 pub record Acts (old new : List Told) (lane : ℕ) (done : Done) : Type 0 where
-  pub step : new ≡ old ++ step_of (state_of old) (next_tag (state_of old) lane) (decided (state_of old) (next_tag (state_of old) lane)) ∷ []
-  pub kind : done ≡ kind_of (decided (state_of old) (next_tag (state_of old) lane))
+  pub step : Told
+  pub grows : new ≡ old ++ step ∷ []
+  pub is : IsStepOf (state_of old) (next_tag (state_of old) lane) done step
 
 -- this is the tag of the next command of a lane of the last phase
 pub record IsNextTag (s : State) (tag : Tag) : Type 0 where

@@ -25,9 +25,11 @@ use Rattle.legal_history.specs.Stories.{IsOpen, LawfulStep, Settles}
 use Rattle.legal_history.specs.Turns.{is_complete, unreadable}
 use Rattle.base_core.specs.Building.{IsBuildKept}
 use Rattle.base_core.specs.Going.{GoesOn, HasOutcome, Finishes}
-use Rattle.base_core.specs.InMemory.{is_fault}
+use Rattle.base_core.specs.Faults.{is_fault}
 use Rattle.base_core.specs.Replying.{replies_by}
 use Rattle.base_core.specs.Telling.{stands_alone}
+use Rattle.base_core.specs.declared.tried.Carried.{Carried}
+use Rattle.base_core.specs.declared.tried.Carried.TheVariants as carries
 use Rattle.base_core.specs.declared.tried.Tried.{Tried}
 use Rattle.base_core.specs.declared.tried.Tried.TheVariants as tries
 
@@ -145,3 +147,13 @@ Tries old new lane n (tries.Run script targets) = GoesOn old new lane × IsStart
 -- a unit of a lane's build has its outcome, and the story went on
 abbrev pub Settled : List Told → List Told → ℕ → ℕ → Type 0
 Settled old new lane n = GoesOn old new lane × HasOutcome (state_of new) lane n
+
+-- what became of a unit that was carried out: it has its outcome, or the disk failed and its lane's command is finished
+abbrev pub IsCarried : List Told → List Told → ℕ → ℕ → Carried → Type 0
+IsCarried old new lane n carries.Settled = Settled old new lane n
+IsCarried old new lane n carries.Faulted = Finishes old new lane
+
+-- what became of the units of a lane's build
+abbrev pub AreAllCarried : List Told → List Told → ℕ → Carried → Type 0
+AreAllCarried old new lane carries.Settled = GoesOn old new lane × IsOver (state_of new) lane
+AreAllCarried old new lane carries.Faulted = Finishes old new lane

@@ -8,13 +8,12 @@ use Rattle.session_text.specs.Formed.{IsPhase}
 use Rattle.build_core.specs.Slots.{numbered}
 use Rattle.legal_history.specs.Builds.{Build, build_of, reserved}
 use Rattle.legal_history.specs.Fits.{row_limit}
-use Rattle.legal_history.specs.States.{State, done_of, ticks_of}
+use Rattle.legal_history.specs.States.{State, done_of}
 use Rattle.legal_history.specs.Steps.{state_of}
 use Rattle.legal_history.specs.Stories.{Legal, last_moment}
 use Rattle.base_core.specs.Carried.{AreCarriedOut}
 use Rattle.view_lookup.specs.Unversioned.{is_unversioned}
 use Rattle.base_core.specs.Building.{IsBuildKept}
-use Rattle.base_core.specs.InMemory.{IsInMemory}
 use Rattle.base_core.specs.Logs.{Logged}
 use Rattle.base_core.specs.Replying.{replies_of}
 
@@ -44,7 +43,6 @@ pub record Agrees (s : State) (rows : List Plain) (phases : List Phase) (builds 
   pub number : s.number ≡ length phases
   pub moment : s.moment ≡ now
   pub active : s.active ≡ numbered 1 builds
-  pub ticks : ticks_of s.opened s.ends ≡ length rows
 
 -- the replies kept for the lanes are those of the story, one for each finished command
 pub record AreReplies (story : List Told) (lanes : List (List Reply)) (phase : Phase) : Type 0 where
@@ -67,4 +65,3 @@ pub record IsKept (log : Logged) (lanes : List (List Reply)) (builds : List (Opt
   pub room : length log.rows < row_limit
   pub few : length log.phases < 2 ^ 32
   pub in_time : now ≤ last_moment
-  pub memory : IsInMemory log.story

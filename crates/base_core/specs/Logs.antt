@@ -1,32 +1,51 @@
--- A story with the rows and the phases that it names, and what each kind of step adds to it.
-use Rattle.std.specs.Prelude.{ℕ, suc, false, List, [], ◌∷◌, ◌++◌, length}
+-- A story with the rows and the phases that it names, on a disk, and what each kind of step adds to it.
+use Rattle.std.specs.Prelude.{ℕ, Bool, List, [], ◌∷◌, ◌++◌}
 use Rattle.cc_names.specs.Formed.{Plain}
 use Rattle.cc_names.specs.declared.commands.Phase.{Phase}
 use Rattle.cc_names.specs.declared.steps.Step.{Step}
 use Rattle.cc_names.specs.declared.steps.Told.{Told}
 use Rattle.cc_names.specs.declared.steps.Told.TheVariants as told
-use Rattle.base_core.specs.Telling.{no_counts}
+use Rattle.disk_model.specs.Told.{Sight}
+use Rattle.legal_history.specs.Steps.{state_of}
+use Rattle.vob_journal.specs.declared.left.Left.{Left}
+use Rattle.base_core.specs.Backed.{IsBacked}
+use Rattle.base_core.specs.Telling.{story_of, AreTold}
+use Rattle.base_core.specs.declared.handed.Handed.{Handed}
 
--- a story, oldest step first, with all rows from row 1 on and all phases, in their order
+-- a story, oldest step first, with all rows from row 1 on and all phases, in their order, and what contracts see of the disk
 pub record Logged : Type 0 where
   pub story : List Told
   pub rows : List Plain
   pub phases : List Phase
+  pub sight : Sight
 
--- a base without rows was opened
-abbrev pub opened_log : Logged
-opened_log = record { story = told.Opened [] no_counts false ∷ []; rows = []; phases = [] }
+-- the steps tell all rows and phases, and the journal is that of their story
+pub record IsLogged (handed : Handed) (steps : List Step) (rows : List Plain) (phases : List Phase) (sight : Sight) (list loose : List (List ℕ)) (ended : Bool) (left : Left) : Type 0 where
+  pub told : AreTold 1 0 steps rows phases
+  pub backed : IsBacked (state_of (story_of handed steps rows phases)) sight list loose ended left
+
+-- a base with these rows was opened
+abbrev pub opened_log : List Plain → Handed → Sight → Logged
+opened_log rows handed sight = record { story = told.Opened rows handed.counts handed.tells ∷ []; rows = rows; phases = []; sight = sight }
 
 -- with a phase that began
 abbrev pub with_phase : Logged → Phase → ℕ → Logged
 with_phase log phase moment =
-    record { story = log.story ++ told.Plan phase moment ∷ []; rows = log.rows; phases = log.phases ++ phase ∷ [] }
+    record { story = log.story ++ told.Plan phase moment ∷ []; rows = log.rows; phases = log.phases ++ phase ∷ []; sight = log.sight }
 
--- with a row that was committed; a row that no disk keeps is acknowledged at its own number
-abbrev pub with_row : Logged → Plain → Logged
-with_row log row =
-    record { story = log.story ++ told.Commit row (suc (length log.rows)) ∷ []; rows = log.rows ++ row ∷ []; phases = log.phases }
+-- with a row that was committed, acknowledged at this tick of the disk, which is then so
+abbrev pub with_row : Logged → Plain → ℕ → Sight → Logged
+with_row log row tick sight =
+    record { story = log.story ++ told.Commit row tick ∷ []; rows = log.rows ++ row ∷ []; phases = log.phases; sight = sight }
 
 -- with a step that is told as it stands
 abbrev pub with_step : Logged → Step → Logged
-with_step log step = record { story = log.story ++ told.Other step ∷ []; rows = log.rows; phases = log.phases }
+with_step log step = record { story = log.story ++ told.Other step ∷ []; rows = log.rows; phases = log.phases; sight = log.sight }
+
+-- with another state of the disk
+abbrev pub with_sight : Logged → Sight → Logged
+with_sight log sight = record { story = log.story; rows = log.rows; phases = log.phases; sight = sight }
+
+-- with such a step, while the disk changed
+abbrev pub with_step_on : Logged → Step → Sight → Logged
+with_step_on log step sight = record { story = log.story ++ told.Other step ∷ []; rows = log.rows; phases = log.phases; sight = sight }

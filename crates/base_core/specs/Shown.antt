@@ -1,7 +1,9 @@
 -- How contracts see the value behind the lock.
 use Rattle.std.specs.Prelude.{List}
 use Rattle.cc_names.specs.declared.steps.Told.{Told}
+use Rattle.disk_model.specs.Told.{Sight}
 
--- a core: its story, oldest step first
+-- a core: its story, oldest step first, and its disk's counts and device
 pub record Shown : Type 0 where
   pub story : List Told
+  pub sight : Sight

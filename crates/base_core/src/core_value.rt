@@ -7,9 +7,10 @@ ghost use Rattle.legal_history.specs.Turns.{came_by_start};
 use crate::commands::{building_view, clearmake_view, last_phase, next_by, next_command};
 use crate::history::History;
 use crate::lane_builds::{build_of, building, no_builds, note, reserved};
-use crate::lane_replies::{LaneReplies, add_reply, fresh, take_reply_back};
-use crate::logs::Log;
-use crate::tried::Tried;
+use crate::lane_replies::{LaneReplies, add_reply, fresh, replace_reply, take_reply_back};
+use crate::logs::{Appended, Log};
+use crate::opening::{OpenFault, open_log};
+use crate::tried::{Carried, Tried};
 use build_core::{
     ActiveBuild, Came, UnitStep, a_unit_may_publish, plan_build, publish_row, reply_of, run_unit,
     step,
@@ -25,9 +26,10 @@ use cc_names::paths::Path;
 use cc_names::refusals::{Refusal, ScriptFault, UnitFault};
 use cc_names::replies::Reply;
 use cc_names::rows::{Row, Tag};
-use cc_names::steps::{Step, UnitEnd};
+use cc_names::steps::{Counts, Step, UnitEnd};
 use cc_names::texts::Text;
 use checkout_desk::{ROW_LIMIT, Stamp, decide};
+use disk_model::{Disk, DiskFault};
 use fresh_builds::laws::{a_base_fits, a_build_agrees};
 use std::alloc::Global;
 use std::marker::Model;
@@ -42,63 +44,73 @@ fn came_by_start(fault: Option<ScriptFault>) -> Came
     }
 }
 
-/// A base with its story. Contracts see it as the story.
+/// A base with its story, on a disk. Contracts see it as the story, and the disk's counts and device.
 #[derive(Drop)]
-pub struct Core {
-    log: Log,
+pub struct Core<D: Disk> {
+    log: Log<D>,
     replies: Vec<LaneReplies>,
     builds: Vec<Option<ActiveBuild>>,
     moment: u64,
 }
 
-impl Model for Core {
+impl<D: Disk> Model for Core<D> {
     ghost use Rattle.base_core.specs.Shown.{Shown};
     ghost use Rattle.base_core.specs.Kept.{IsKept};
 
     ghost Value = { Shown };
 
-    ghost view = { λ c. record { story = c.log.story } };
+    ghost view = { λ c. record { story = c.log.story; sight = c.log.sight } };
 
     ghost invariant = { λ c. IsKept c.log c.replies.items c.builds.items c.moment };
 }
 
-impl Core {
-    ghost use Rattle.std.specs.Prelude.{◌≡◌, ◌≤◌, ◌<◌, ◌^◌, ◌+◌, ◌∷◌, [], ◌++◌, true, false, OnOk, OnErr, IfOk, IsSome, length};
+impl<D: Disk> Core<D> {
+    ghost use Rattle.std.specs.Prelude.{◌≡◌, ◌≤◌, ◌<◌, ◌^◌, ◌+◌, ◌∷◌, [], ◌++◌, true, false, OnOk, OnErr, IfOk, IfErr, MatchResult, IsSome, length};
     ghost use Rattle.cc_names.specs.declared.desks.Done.TheVariants as dones;
     ghost use Rattle.cc_names.specs.declared.desks.Next.TheVariants as nexts;
     ghost use Rattle.cc_names.specs.declared.steps.Told.TheVariants as told;
     ghost use Rattle.session_text.specs.Formed.{IsPhase};
     ghost use Rattle.base_core.specs.Carried.{AreCarriedOut};
-    ghost use Rattle.legal_history.specs.States.{all_done, next_tag};
+    ghost use Rattle.legal_history.specs.States.{all_done, next_tag, faults_of};
     ghost use Rattle.legal_history.specs.Steps.{state_of};
-    ghost use Rattle.legal_history.specs.Stories.{last_moment, Legal};
+    ghost use Rattle.legal_history.specs.Stories.{last_moment, Legal, rises};
     ghost use Rattle.base_core.specs.Acting.{Acts, DecidesNext, IsNextRow, IsNextRefusal};
-    ghost use Rattle.base_core.specs.InMemory.{IsInMemory};
     ghost use Rattle.base_core.specs.Kept.{command_limit};
     ghost use Rattle.base_core.specs.Nexts.{next_of, waiting};
     ghost use Rattle.base_core.specs.Replying.{replies_of};
-    ghost use Rattle.base_core.specs.Telling.{no_counts};
+    ghost use Rattle.base_core.specs.Backed.{IsSettled, IsAccounted};
+    ghost use Rattle.base_core.specs.Opening.{Opens, FailsToOpen};
+    ghost use Rattle.disk_model.specs.Counting.{raised};
+    ghost use Rattle.disk_model.specs.Devices.{file_of, bytes_of};
+    ghost use Rattle.disk_model.specs.Files.{stable};
+    ghost use Rattle.disk_model.specs.Told.{IfTold};
     ghost use Rattle.std.specs.Prelude.{None};
     ghost use Rattle.cc_names.specs.declared.desks.Begun.TheVariants as begins;
     ghost use Rattle.build_core.specs.Comes.{came_of};
     ghost use Rattle.legal_history.specs.Builds.{build_of};
     ghost use Rattle.base_core.specs.Building.{IsNextBuild, PlansNext};
-    ghost use Rattle.base_core.specs.BuildCalls.{Begins, IsBuilding, IsTurn, StepsTo, Notes, Noted, MaySettle, MayStart, IsStarted, HasRun, IsObjectRow, IsOver, Settled, Tries};
+    ghost use Rattle.base_core.specs.BuildCalls.{Begins, IsBuilding, IsTurn, StepsTo, Notes, Noted, MaySettle, MayStart, IsStarted, HasRun, IsObjectRow, IsOver, Settled, Tries, IsCarried, AreAllCarried};
     ghost use Rattle.base_core.specs.Going.{GoesOn, Finishes};
     ghost use Rattle.std.specs.Prelude.{Ok};
     ghost use Rattle.build_script.specs.Ended.{ran_of};
     ghost use Rattle.legal_history.specs.Turns.{came_by_start};
 
-    /// Opens a base that has no rows but row 0, in memory.
-    pub fn open(alloc: Global) -> Result<Core, NoMemory>
-        ensures { IfOk result (λ core. core.story ≡ told.Opened [] no_counts false ∷ []) }
+    /// Opens the base that a disk stands for. Reads its journal once, in time linear in its bytes, and writes nothing; that a
+    /// row fits takes time linear in the rows before it. A disk whose base cannot be opened comes back with the cause.
+    pub fn open(alloc: Global, disk: D) -> Result<Core<D>, OpenFault<D>>
+        requires { IfTold (D.sight disk).told (λ d. file_of 0 d ≡ stable (bytes_of 0 d)) }
+        ensures ok { IfOk result (λ core. Opens (D.sight disk) core.story core.sight) }
+        ensures err { IfErr result (λ fault. FailsToOpen (D.sight disk) fault.cause (D.sight fault.disk)) }
     {
-        Ok(Core {
-            log: Log::open(alloc)?,
-            replies: Vec::new(alloc),
-            builds: Vec::new(alloc),
-            moment: 0,
-        })
+        match open_log(alloc, disk) {
+            Ok(log) => Ok(Core {
+                log,
+                replies: Vec::new(alloc),
+                builds: Vec::new(alloc),
+                moment: 0,
+            }),
+            Err(fault) => Err(fault),
+        }
     }
 
     /// Begins a phase. An `Err` changes nothing. Takes time linear in the number of lanes.
@@ -169,19 +181,25 @@ impl Core {
         decide(alloc, self.log.rows(), command, stamp, busy, room)
     }
 
-    /// Commits the row of its lane's next command. An `Err` changes nothing.
-    fn commit(&mut self, row: Row) -> Result<(), NoMemory>
+    /// Commits the row of its lane's next command, or tells that the disk failed under it. An `Err` changes nothing.
+    fn commit(&mut self, alloc: Global, row: Row) -> Result<Done, NoMemory>
         requires { IsNextRow (state_of self.old.story) row }
-        ensures ok { OnOk result (Acts self.old.story self.new.story row.tag.lane dones.Committed) }
+        ensures ok { IfOk result (λ done. Acts self.old.story self.new.story row.tag.lane done) }
         ensures err { OnErr result (self.new ≡ self.old) }
     {
         let lane = row.tag().lane;
         add_reply(&mut self.replies, lane, Reply::Good)?;
-        if self.log.commit(row).is_err() {
-            take_reply_back(&mut self.replies, lane);
-            return Err(NoMemory);
+        match self.log.append(alloc, row, None) {
+            Ok(Appended::Committed) => Ok(Done::Committed),
+            Ok(Appended::Faulted) => {
+                replace_reply(&mut self.replies, lane, Reply::DiskFault);
+                Ok(Done::Faulted)
+            }
+            Err(_) => {
+                take_reply_back(&mut self.replies, lane);
+                Err(NoMemory)
+            }
         }
-        Ok(())
     }
 
     /// Refuses its lane's next command. An `Err` changes nothing.
@@ -199,8 +217,8 @@ impl Core {
         Ok(())
     }
 
-    /// Carries out a lane's next command, which builds nothing: its row is committed, or it is refused. An `Err` changes
-    /// nothing. Takes time linear in the rows.
+    /// Carries out a lane's next command, which builds nothing: its row is committed, it is refused, or the disk fails
+    /// under it. An `Err` changes nothing. Takes time linear in the rows.
     pub fn act(&mut self, alloc: Global, lane: u32) -> Result<Done, NoMemory>
         requires { next_of (state_of self.old.story) lane ≡ nexts.Act }
         ensures ok { IfOk result (λ done. Acts self.old.story self.new.story lane done) }
@@ -208,10 +226,7 @@ impl Core {
     {
         let tag = self.tag(lane);
         match self.decide(alloc, lane) {
-            Ok(row) => {
-                self.commit(row)?;
-                Ok(Done::Committed)
-            }
+            Ok(row) => self.commit(alloc, row),
             Err(Or::Is(refusal)) => {
                 self.refuse(alloc, tag, refusal)?;
                 Ok(Done::Refused)
@@ -399,31 +414,52 @@ impl Core {
         )
     }
 
-    /// Commits the row of what the run of a unit of a lane's build gave. An `Err` changes nothing.
-    fn commit_object(&mut self, lane: u32, unit: u32, row: Row) -> Result<(), NoMemory>
+    /// Commits the row of what the run of a unit of a lane's build gave. Where the disk fails under it the build ends. An
+    /// `Err` changes nothing.
+    fn commit_object(
+        &mut self,
+        alloc: Global,
+        lane: u32,
+        unit: u32,
+        row: Row,
+    ) -> Result<Carried, NoMemory>
         requires { IsObjectRow (state_of self.old.story) lane unit row }
-        ensures ok { OnOk result (Settled self.old.story self.new.story lane unit) }
+        ensures ok { IfOk result (λ carried. IsCarried self.old.story self.new.story lane unit carried) }
         ensures err { OnErr result (self.new ≡ self.old) }
     {
         a_base_fits();
         a_build_agrees();
+        let tag = self.tag(lane);
         let number = self.log.rows().len() as u64 + 1;
-        self.log.commit(row)?;
-        note(&mut self.builds, lane, unit, Came::Given(number));
-        Ok(())
+        add_reply(&mut self.replies, lane, Reply::DiskFault)?;
+        match self.log.append(alloc, row, Some(Step::End { tag })) {
+            Ok(Appended::Committed) => {
+                take_reply_back(&mut self.replies, lane);
+                note(&mut self.builds, lane, unit, Came::Given(number));
+                Ok(Carried::Settled)
+            }
+            Ok(Appended::Faulted) => {
+                self.builds[lane as usize - 1] = None;
+                Ok(Carried::Faulted)
+            }
+            Err(_) => {
+                take_reply_back(&mut self.replies, lane);
+                Err(NoMemory)
+            }
+        }
     }
 
     /// Finishes a unit of a lane's build whose script was run: its object is committed, or it fails with the script's fault.
-    /// An `Err` changes nothing.
+    /// Where the disk fails the build ends. An `Err` changes nothing.
     fn finish_unit(
         &mut self,
         alloc: Global,
         lane: u32,
         unit: u32,
         ended: Ended,
-    ) -> Result<(), NoMemory>
+    ) -> Result<Carried, NoMemory>
         requires { HasRun (state_of self.old.story) lane unit (ran_of ended) }
-        ensures ok { OnOk result (Settled self.old.story self.new.story lane unit) }
+        ensures ok { IfOk result (λ carried. IsCarried self.old.story self.new.story lane unit carried) }
         ensures err { OnErr result (self.new ≡ self.old) }
     {
         let Ended { result, reads } = ended;
@@ -431,41 +467,44 @@ impl Core {
             Ok(outcome) => {
                 let Outcome { outputs } = outcome;
                 let row = self.object_row(alloc, lane, unit, outputs, reads.as_slice())?;
-                self.commit_object(lane, unit, row)?;
+                self.commit_object(alloc, lane, unit, row)
             }
             Err(fault) => {
                 self.settle(alloc, lane, unit, UnitEnd::Failed(UnitFault::Script(fault)))?;
+                Ok(Carried::Settled)
             }
         }
-        Ok(())
     }
 
-    /// Carries out a unit of a lane's build whose turn it is, to its outcome. After an `Err` the story may have gone on.
-    fn carry_out(&mut self, alloc: Global, lane: u32, unit: u32) -> Result<(), NoMemory>
+    /// Carries out a unit of a lane's build whose turn it is, to its outcome or to the end of the build. After an `Err` the
+    /// story may have gone on.
+    fn carry_out(&mut self, alloc: Global, lane: u32, unit: u32) -> Result<Carried, NoMemory>
         requires { IsTurn (state_of self.old.story) lane unit }
-        ensures ok { OnOk result (Settled self.old.story self.new.story lane unit) }
+        ensures ok { IfOk result (λ carried. IsCarried self.old.story self.new.story lane unit carried) }
         ensures err { OnErr result (GoesOn self.old.story self.new.story lane) }
     {
         match self.try_unit(alloc, lane, unit)? {
-            Tried::Settled => Ok(()),
+            Tried::Settled => Ok(Carried::Settled),
             Tried::Run(script, targets) => {
                 let ended = self.run(alloc, lane, unit, &script, targets.as_slice())?;
-                self.finish_unit(alloc, lane, unit, ended)?;
-                Ok(())
+                self.finish_unit(alloc, lane, unit, ended)
             }
         }
     }
 
-    /// Carries out the units of a lane's build, one after the other. After an `Err` the story may have gone on.
-    fn carry_out_all(&mut self, alloc: Global, lane: u32, count: u32) -> Result<(), NoMemory>
+    /// Carries out the units of a lane's build, one after the other, up to the first under which the disk fails. After an
+    /// `Err` the story may have gone on.
+    fn carry_out_all(&mut self, alloc: Global, lane: u32, count: u32) -> Result<Carried, NoMemory>
         requires { IsBuilding (state_of self.old.story) lane count }
-        ensures ok { OnOk result (GoesOn self.old.story self.new.story lane × IsOver (state_of self.new.story) lane) }
+        ensures ok { IfOk result (λ carried. AreAllCarried self.old.story self.new.story lane carried) }
         ensures err { OnErr result (GoesOn self.old.story self.new.story lane) }
     {
         for unit in 0..count {
-            self.carry_out(alloc, lane, unit)?;
+            if let Carried::Faulted = self.carry_out(alloc, lane, unit)? {
+                return Ok(Carried::Faulted);
+            }
         }
-        Ok(())
+        Ok(Carried::Settled)
     }
 
     /// Ends a lane's build, whose units all have their outcomes. An `Err` changes nothing.
@@ -498,11 +537,10 @@ impl Core {
     {
         match self.begin(alloc, lane)? {
             Begun::Refused => Ok(()),
-            Begun::Units(count) => {
-                self.carry_out_all(alloc, lane, count)?;
-                self.end(alloc, lane)?;
-                Ok(())
-            }
+            Begun::Units(count) => match self.carry_out_all(alloc, lane, count)? {
+                Carried::Faulted => Ok(()),
+                Carried::Settled => self.end(alloc, lane),
+            },
         }
     }
 
@@ -515,11 +553,31 @@ impl Core {
         self.replies[lane as usize - 1].as_slice()
     }
 
-    /// The history of the story so far. Takes no memory.
-    pub fn into_history(self) -> History
-        ensures history { result ≡ self.story }
+    /// The disk's counts.
+    pub fn counts(&self) -> Counts
+        ensures ticks { result.ticks ≡ self.now.sight.ticks }
+        ensures faults { result.faults ≡ self.now.sight.faults }
+    {
+        self.log.counts()
+    }
+
+    /// Settles the journal where a fault left its tail open; elsewhere it makes no device call. Afterwards no stop finds
+    /// more than the rows of the base; where it fails, the disk's count of faults has passed that of each fault of the story.
+    pub fn finish(&mut self) -> Result<(), DiskFault>
+        ensures same { self.new.story ≡ self.old.story }
+        ensures ok { OnOk result (IsSettled (state_of self.new.story) self.new.sight) }
+        ensures err { OnErr result (rises (faults_of (state_of self.new.story).opened (state_of self.new.story).ends) self.new.sight.faults ≡ true) }
+        ensures faults { MatchResult result (λ _. self.new.sight.faults ≡ self.old.sight.faults) (λ _. self.new.sight.faults ≡ raised self.old.sight.faults) }
+    {
+        self.log.settle()
+    }
+
+    /// The disk, and the history of the story so far. Takes no memory.
+    pub fn into_parts(self) -> (D, History)
+        ensures disk { D.sight result.0 ≡ self.sight }
+        ensures history { result.1 ≡ self.story }
         ensures legal { Legal self.story }
-        ensures memory { IsInMemory self.story }
+        ensures stopped { IsAccounted (state_of self.story) self.sight }
     {
         let Core {
             log,
@@ -527,6 +585,6 @@ impl Core {
             builds: _,
             moment: _,
         } = self;
-        log.into_history()
+        log.into_parts()
     }
 }

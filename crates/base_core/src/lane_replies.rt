@@ -1,13 +1,14 @@
 // The replies to the finished commands of one lane.
 
-ghost use Rattle.std.specs.Prelude.{◌≡◌, ◌∷◌, ◌++◌, [], length, All, IfOk, OnOk, OnErr, ◌≤◌, List};
+ghost use Rattle.std.specs.Prelude.{◌≡◌, ◌∷◌, ◌++◌, [], length, All, IfOk, OnOk, OnErr, ◌≤◌, ◌<◌, List};
 ghost use Rattle.cc_names.specs.declared.replies.Reply.{Reply};
-ghost use Rattle.base_core.specs.Kept.{with_reply};
+ghost use Rattle.base_core.specs.Kept.{replies_at, with_reply};
 
 use cc_names::memory::NoMemory;
 use cc_names::replies::Reply;
 use std::alloc::Global;
 use std::marker::Model;
+use std::mem;
 
 /// The replies of a lane in their order. Contracts see them as a list.
 #[derive(Debug, Drop)]
@@ -25,7 +26,7 @@ impl Model for LaneReplies {
 }
 
 impl LaneReplies {
-    ghost use Rattle.std.specs.Prelude.{◌≡◌, ◌∷◌, ◌++◌, [], length, List, OnOk, OnErr};
+    ghost use Rattle.std.specs.Prelude.{◌≡◌, ◌∷◌, ◌++◌, [], length, ◌<◌, List, OnOk, OnErr};
     ghost use Rattle.cc_names.specs.declared.replies.Reply.{Reply};
 
     /// No replies yet.
@@ -58,6 +59,15 @@ impl LaneReplies {
         ensures { (before : List Reply) (reply : Reply) → self.old ≡ before ++ reply ∷ [] → self.new ≡ before }
     {
         let _ = self.replies.pop();
+    }
+
+    /// Puts another reply in place of the newest one.
+    pub fn replace(&mut self, reply: Reply)
+        requires { 0 < length self.old }
+        ensures { (before : List Reply) (newest : Reply) → self.old ≡ before ++ newest ∷ [] → self.new ≡ before ++ reply ∷ [] }
+    {
+        let newest = self.replies.len() - 1;
+        let _ = mem::replace(&mut self.replies[newest], reply);
     }
 
     /// The replies, in order.
@@ -100,4 +110,15 @@ pub fn take_reply_back(lanes: &mut Vec<LaneReplies>, lane: u32)
 {
     let lane = &mut lanes[lane as usize - 1];
     lane.pop();
+}
+
+/// Puts another reply in place of the newest one of a lane.
+pub fn replace_reply(lanes: &mut Vec<LaneReplies>, lane: u32, reply: Reply)
+    requires from { 1 ≤ lane }
+    requires upto { lane ≤ length lanes.old.items }
+    requires some { 0 < length (replies_at lanes.old.items lane) }
+    ensures { (before : List (List Reply)) (newest : Reply) → lanes.old.items ≡ with_reply before lane newest → lanes.new.items ≡ with_reply before lane reply }
+{
+    let lane = &mut lanes[lane as usize - 1];
+    lane.replace(reply);
 }

@@ -14,11 +14,16 @@
 
 mod commands;
 mod core_value;
+mod handed;
 mod history;
 mod lane_builds;
 mod lane_replies;
+pub mod laws;
 mod logs;
+mod opening;
 mod tried;
 
 pub use core_value::Core;
+pub use handed::Handed;
 pub use history::History;
+pub use opening::{OpenCause, OpenFault};

@@ -1,33 +1,105 @@
-// The story of a core, with the rows and the phases that it names.
+// The story of a core, with the rows and the phases that it names, and the journal that keeps the rows.
 
-ghost use Rattle.std.specs.Prelude.{◌≡◌, ◌+◌, ◌<◌, ◌^◌, ◌++◌, ◌∷◌, [], length, true, IfOk, OnOk, OnErr};
+ghost use Rattle.std.specs.Prelude.{◌≡◌, ◌+◌, ◌<◌, ◌≤◌, ◌^◌, ◌++◌, ◌∷◌, [], length, true, false, IfOk, OnOk, OnErr, option_copied};
+ghost use Rattle.row_form.specs.Spelled.{spelled};
+ghost use Rattle.base_core.specs.Leaving.{left_in};
+ghost use Rattle.std.specs.Vec.{vec_len, vec_capacity};
+ghost use Rattle.std.specs.Option.{option_to_list};
 
+use crate::handed::Handed;
 use crate::history::History;
 use cc_names::commands::Phase;
+use cc_names::copies::Copied;
 use cc_names::memory::NoMemory;
 use cc_names::rows::Row;
-use cc_names::steps::Step;
+use cc_names::steps::{Counts, Step};
+use disk_model::{Disk, DiskFault};
+use row_form::spell;
 use std::alloc::Global;
 use std::marker::Model;
+use vob_journal::{Frame, Journal, Left};
 
-/// Steps as they are kept, with the rows and the phases that they name by number. Contracts see it as the story that they
-/// tell, and these rows and phases.
+/// What became of a row that was to be committed.
+#[derive(Clone, Copy, Debug, PartialEq, Eq)]
+pub(crate) enum Appended {
+    Committed,
+    /// The disk failed.
+    Faulted,
+}
+
+/// Steps as they are kept, with the rows and the phases that they name by number, and the journal of the rows. Contracts see
+/// it as the story that the steps tell, these rows and phases, and the disk's counts and device.
 #[derive(Drop)]
-pub(crate) struct Log {
+pub(crate) struct Log<D: Disk> {
     rows: Vec<Row>,
     phases: Vec<Phase>,
     steps: Vec<Step>,
+    handed: Handed,
+    journal: Journal<D>,
 }
 
-impl Model for Log {
-    ghost use Rattle.base_core.specs.Logs.{Logged};
-    ghost use Rattle.base_core.specs.Telling.{story_of, AreTold};
+impl<D: Disk> Model for Log<D> {
+    ghost use Rattle.base_core.specs.Logs.{Logged, IsLogged};
+    ghost use Rattle.base_core.specs.Telling.{story_of};
 
     ghost Value = { Logged };
 
-    ghost view = { λ log. record { story = story_of log.steps.items log.rows.items log.phases.items; rows = log.rows.items; phases = log.phases.items } };
+    ghost view = { λ log. record {
+      story = story_of log.handed log.steps.items log.rows.items log.phases.items;
+      rows = log.rows.items;
+      phases = log.phases.items;
+      sight = D.sight log.journal.disk;
+    } };
 
-    ghost invariant = { λ log. AreTold 1 0 log.steps.items log.rows.items log.phases.items };
+    ghost invariant = { λ log. IsLogged log.handed log.steps.items log.rows.items log.phases.items (D.sight log.journal.disk) log.journal.list log.journal.loose log.journal.ended log.journal.left };
+}
+
+/// The frame of a row. A row that is spelled in 2^32 bytes or more counts as want of memory.
+fn frame_of(alloc: Global, row: &Row) -> Result<Frame, NoMemory>
+    ensures { IfOk result (λ frame. frame ≡ spelled row.now) }
+{
+    let payload = spell(alloc, row)?;
+    if payload.as_bytes().len() > u32::MAX as usize {
+        return Err(NoMemory);
+    }
+    Frame::of(alloc, payload.as_bytes())
+}
+
+/// The row that may be found behind the rows: what the newest fault left, if no row was committed since. Looks at the steps
+/// since the newest commit or fault.
+fn left_behind(steps: &[Step]) -> Option<&Row>
+    ensures { option_copied result ≡ left_in steps.now }
+{
+    let mut rest = steps;
+    while let Some((step, earlier)) = rest.split_last() {
+        match step {
+            Step::Commit { .. } => return None,
+            Step::Fault { left, .. } => return left.as_ref(),
+            _ => rest = earlier,
+        }
+    }
+    None
+}
+
+/// A copy of that row.
+fn copy_left(alloc: Global, steps: &[Step]) -> Result<Option<Row>, NoMemory>
+    ensures { IfOk result (λ left. left ≡ left_in steps.now) }
+{
+    match left_behind(steps) {
+        None => Ok(None),
+        Some(row) => Ok(Some(row.copy(alloc)?)),
+    }
+}
+
+/// A step and the one that it brings with it, for which there is room.
+fn push_both(steps: &mut Vec<Step>, step: Step, ending: Option<Step>)
+    requires { vec_len steps.old + 2 ≤ vec_capacity steps.old }
+    ensures { steps.new.items ≡ steps.old.items ++ step ∷ option_to_list ending }
+{
+    steps.push(step).unwrap();
+    if let Some(ending) = ending {
+        steps.push(ending).unwrap();
+    }
 }
 
 fn push_step(steps: &mut Vec<Step>, step: Step) -> Result<(), NoMemory>
@@ -38,21 +110,46 @@ fn push_step(steps: &mut Vec<Step>, step: Step) -> Result<(), NoMemory>
     Ok(())
 }
 
-impl Log {
-    ghost use Rattle.std.specs.Prelude.{◌≡◌, ◌+◌, ◌<◌, ◌^◌, ◌++◌, ◌∷◌, [], length, true, IfOk, OnOk, OnErr};
-    ghost use Rattle.base_core.specs.Logs.{opened_log, with_phase, with_row, with_step};
+impl<D: Disk> Log<D> {
+    ghost use Rattle.std.specs.Prelude.{◌≡◌, ◌+◌, ◌<◌, ◌^◌, ◌++◌, ◌∷◌, [], length, true, false, IfOk, IfErr, IfSome, OnOk, OnErr, MatchResult};
+    ghost use Rattle.cc_names.specs.declared.steps.Told.TheVariants as told;
+    ghost use Rattle.disk_model.specs.Counting.{raised};
+    ghost use Rattle.disk_model.specs.Told.{IfTold};
+    ghost use Rattle.legal_history.specs.States.{faults_of};
+    ghost use Rattle.legal_history.specs.Steps.{state_of};
+    ghost use Rattle.legal_history.specs.Stories.{rises};
+    ghost use Rattle.base_core.specs.Appending.{Appends, IsQuiet};
+    ghost use Rattle.base_core.specs.Backed.{IsBacked, IsSettled, IsAccounted};
+    ghost use Rattle.base_core.specs.Faults.{is_fault};
+    ghost use Rattle.base_core.specs.Logs.{opened_log, with_phase, with_step, with_sight};
     ghost use Rattle.base_core.specs.Telling.{stands_alone};
 
-    /// The story of a base that was opened without rows.
-    pub(crate) fn open(alloc: Global) -> Result<Log, NoMemory>
-        ensures { IfOk result (λ log. log ≡ opened_log) }
+    /// The story of a base that was opened with these rows, which are those of the journal. The journal comes back where
+    /// memory runs out.
+    pub(crate) fn open(
+        alloc: Global,
+        rows: Vec<Row>,
+        handed: Handed,
+        journal: Journal<D>,
+    ) -> Result<Log<D>, Journal<D>>
+        requires few { length rows.items + 1 < 2 ^ 63 }
+        requires backed { IsBacked (state_of (told.Opened rows.items handed.counts handed.tells ∷ [])) (D.sight journal.disk) journal.list journal.loose journal.ended journal.left }
+        ensures ok { IfOk result (λ log. log ≡ opened_log rows.items handed (D.sight journal.disk)) }
+        ensures err { IfErr result (λ back. back ≡ journal) }
     {
         let mut steps = Vec::new(alloc);
-        push_step(&mut steps, Step::Opened { rows: 1 })?;
+        let opened = Step::Opened {
+            rows: rows.len() as u64 + 1,
+        };
+        if push_step(&mut steps, opened).is_err() {
+            return Err(journal);
+        }
         Ok(Log {
-            rows: Vec::new(alloc),
+            rows,
             phases: Vec::new(alloc),
             steps,
+            handed,
+            journal,
         })
     }
 
@@ -75,34 +172,79 @@ impl Log {
         Ok(())
     }
 
-    /// Tells that a row was committed, acknowledged at its own number. An `Err` changes nothing.
-    pub(crate) fn commit(&mut self, row: Row) -> Result<(), NoMemory>
+    /// Commits a row: it is appended to the journal and then told, or the fault of the disk is told, and behind it the step
+    /// that it brings with it. Takes all memory first; an `Err` changes nothing. Takes time linear in the row.
+    pub(crate) fn append(
+        &mut self,
+        alloc: Global,
+        row: Row,
+        ending: Option<Step>,
+    ) -> Result<Appended, NoMemory>
         requires few { length self.old.rows + 1 < 2 ^ 63 }
-        ensures ok { OnOk result (self.new ≡ with_row self.old row) }
+        requires ending { IfSome ending IsQuiet }
+        ensures ok { IfOk result (λ done. Appends self.old self.new row ending done) }
         ensures err { OnErr result (self.new ≡ self.old) }
     {
+        let frame = frame_of(alloc, &row)?;
+        let earlier = copy_left(alloc, self.steps.as_slice())?;
         self.rows.reserve(1)?;
+        self.steps.reserve(2)?;
+        let tag = row.tag();
         let number = self.rows.len() as u64 + 1;
-        push_step(
-            &mut self.steps,
-            Step::Commit {
-                tag: row.tag(),
-                number,
-                tick: number,
-            },
-        )?;
-        self.rows.push(row).unwrap();
-        Ok(())
+        let before = self.journal.counts().faults;
+        if let Ok(tick) = self.journal.append(&frame) {
+            self.steps.push(Step::Commit { tag, number, tick }).unwrap();
+            self.rows.push(row).unwrap();
+            return Ok(Appended::Committed);
+        }
+        let counts = self.journal.counts();
+        let left = match self.journal.left() {
+            Left::Nothing => None,
+            Left::Earlier => earlier,
+            Left::InFlight => Some(row),
+        };
+        let fault = Step::Fault {
+            tag,
+            left,
+            before,
+            after: counts.faults,
+            tick: counts.ticks,
+        };
+        push_both(&mut self.steps, fault, ending);
+        Ok(Appended::Faulted)
     }
 
-    /// Tells a step that names no row and no phase. An `Err` changes nothing.
+    /// Tells a step that names no row and no phase, and is no fault of the disk. An `Err` changes nothing.
     pub(crate) fn tell(&mut self, step: Step) -> Result<(), NoMemory>
         requires alone { stands_alone step ≡ true }
+        requires sound { is_fault (told.Other step) ≡ false }
         ensures ok { OnOk result (self.new ≡ with_step self.old step) }
         ensures err { OnErr result (self.new ≡ self.old) }
     {
         push_step(&mut self.steps, step)?;
         Ok(())
+    }
+
+    /// Settles the journal's tail where a fault left it open; elsewhere it makes no device call. Afterwards no stop finds
+    /// more than the rows.
+    pub(crate) fn settle(&mut self) -> Result<(), DiskFault>
+        ensures same { self.new ≡ with_sight self.old self.new.sight }
+        ensures ok { OnOk result (IsSettled (state_of self.new.story) self.new.sight) }
+        ensures err { OnErr result (rises (faults_of (state_of self.new.story).opened (state_of self.new.story).ends) self.new.sight.faults ≡ true) }
+        ensures faults { MatchResult result (λ _. self.new.sight.faults ≡ self.old.sight.faults) (λ _. self.new.sight.faults ≡ raised self.old.sight.faults) }
+    {
+        match self.journal.left() {
+            Left::Nothing => Ok(()),
+            _ => self.journal.settle(),
+        }
+    }
+
+    /// The disk's counts.
+    pub(crate) fn counts(&self) -> Counts
+        ensures ticks { result.ticks ≡ self.now.sight.ticks }
+        ensures faults { result.faults ≡ self.now.sight.faults }
+    {
+        self.journal.counts()
     }
 
     /// The rows, from row 1 on.
@@ -119,15 +261,23 @@ impl Log {
         self.phases.as_slice()
     }
 
-    /// The history of the story. Takes no memory.
-    pub(crate) fn into_history(self) -> History
-        ensures { result ≡ self.story }
+    /// The disk, and the history of the story. Takes no memory.
+    pub(crate) fn into_parts(self) -> (D, History)
+        ensures disk { D.sight result.0 ≡ self.sight }
+        ensures history { result.1 ≡ self.story }
+        ensures backed { IsAccounted (state_of self.story) self.sight }
     {
         let Log {
             rows,
             phases,
             steps,
+            handed,
+            journal,
         } = self;
-        History::of(rows, phases, steps)
+        let _now = journal.counts();
+        (
+            journal.into_disk(),
+            History::of(rows, phases, steps, handed),
+        )
     }
 }

@@ -6,9 +6,18 @@ use cc_names::paths::Path;
 
 /// What became of a unit whose turn it is.
 #[derive(Debug, Drop)]
-pub enum Tried {
+pub(crate) enum Tried {
     /// It has its outcome.
     Settled,
     /// Its script was started: the script, and the targets that a run is to write.
     Run(Script, List<Path>),
+}
+
+/// What became of a unit that was carried out.
+#[derive(Clone, Copy, Debug, PartialEq, Eq)]
+pub(crate) enum Carried {
+    /// It has its outcome.
+    Settled,
+    /// The disk failed under its build, which is over.
+    Faulted,
 }

@@ -1,6 +1,6 @@
 // The trait of disks.
 
-ghost use Rattle.std.specs.Prelude.{◌≡◌, ◌≤◌, ◌+◌, ◌^◌, length, take, drop, IfOk, MatchResult};
+ghost use Rattle.std.specs.Prelude.{◌≡◌, ◌≤◌, ◌+◌, ◌^◌, length, take, drop, is_some, IfOk, MatchResult};
 ghost use Rattle.disk_model.specs.Devices.{bytes_of, Measures, Fetches, Writes, Syncs, Idles, Tears};
 ghost use Rattle.disk_model.specs.Told.{Sight, IfTold, Both, Counted, IsCounted};
 
@@ -64,6 +64,10 @@ pub trait Disk {
     fn counts(&self) -> Counts
         ensures ticks { result.ticks ≡ (sight self.now).ticks }
         ensures faults { result.faults ≡ (sight self.now).faults };
+
+    /// Whether the disk tells its device: one in memory does, real files do not. It is no device call.
+    fn tells(&self) -> bool
+        ensures { result ≡ is_some (sight self.now).told };
 
     /// The counts fit, and there is a tick for each call that is told.
     ghost counted: { (disk : Self) → IsCounted (sight disk) };

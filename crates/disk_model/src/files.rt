@@ -223,6 +223,10 @@ impl<R: Files> Disk for FileDisk<R> {
         Err(self.fault())
     }
 
+    fn tells(&self) -> bool {
+        false
+    }
+
     fn counts(&self) -> Counts {
         Counts {
             ticks: self.ticks,

@@ -247,6 +247,10 @@ impl Disk for MemoryDisk {
         self.make(Call::Sync { file })
     }
 
+    fn tells(&self) -> bool {
+        true
+    }
+
     fn counts(&self) -> Counts {
         Counts {
             ticks: self.ticks,

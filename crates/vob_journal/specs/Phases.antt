@@ -45,11 +45,11 @@ pub record MayOpen (tail : ℕ) (payload : List ℕ) (d e : Device) : Type 0 whe
   pub passes : Passes d e (Stands (list_at tail d) (payload ∷ []))
   pub ajar : IsAjar (list_at tail d) (payload ∷ []) tail (file_of 0 e)
 
--- Ok after exactly so many device calls; a fault after at most so many, the last of which failed
+-- Ok after exactly so many device calls; a fault after one call or more, at most so many, the last of which failed
 abbrev pub Spends : {T E : Type 0} → ℕ → Result T E → Sight → Sight → Type 0
 Spends calls result old new = MatchResult result
     (λ _. (new.ticks ≡ old.ticks + calls) × (new.faults ≡ old.faults))
-    (λ _. (old.ticks ≤ new.ticks) × (new.ticks ≤ old.ticks + calls) × (new.faults ≡ raised old.faults))
+    (λ _. (raised old.ticks ≤ new.ticks) × (new.ticks ≤ old.ticks + calls) × (new.faults ≡ raised old.faults))
 
 -- the device calls of a commit
 abbrev pub calls_of : Bool → ℕ

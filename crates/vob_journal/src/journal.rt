@@ -1,6 +1,6 @@
 // The journal.
 
-ghost use Rattle.std.specs.Prelude.{◌≡◌, ◌≤◌, ◌+◌, ◌^◌, ◌++◌, ◌∷◌, [], IfOk, IfErr, OnOk, OnErr, MatchResult, is_ok, if◌then◌else◌, true, false, List, ℕ, length};
+ghost use Rattle.std.specs.Prelude.{◌≡◌, ◌≤◌, ◌+◌, ◌^◌, ◌++◌, ◌∷◌, [], IfOk, IfErr, OnOk, OnErr, MatchResult, is_ok, is_some, if◌then◌else◌, true, false, List, ℕ, length};
 ghost use Rattle.disk_model.specs.Devices.{file_of, bytes_of, LeavesNow};
 ghost use Rattle.disk_model.specs.Files.{stable};
 ghost use Rattle.disk_model.specs.Told.{IfTold, Both};
@@ -67,7 +67,7 @@ impl<D: Disk> Journal<D> {
     pub fn open(disk: D) -> Result<Journal<D>, D>
         requires { IfTold (D.sight disk).told (λ d. file_of 0 d ≡ stable (bytes_of 0 d)) }
         ensures list { IfOk result (λ journal. IfTold (D.sight disk).told (λ d. journal.list ≡ frames (bytes_of 0 d))) }
-        ensures begins { IfOk result (λ journal. (journal.rest ≡ journal.list) × (journal.loose ≡ []) × (journal.tail ≡ 0) × (journal.ended ≡ false)) }
+        ensures begins { IfOk result (λ journal. (journal.rest ≡ journal.list) × (journal.loose ≡ []) × (journal.tail ≡ 0) × (journal.ended ≡ false) × (journal.left ≡ lefts.Nothing)) }
         ensures told { MatchResult result (λ journal. Both (Measures 0) (D.sight disk).told (D.sight journal.disk).told) (λ back. Both Idles (D.sight disk).told (D.sight back).told) }
         ensures moves { IfOk result (λ journal. Both (Moves journal.list [] journal.list journal.loose) (D.sight disk).told (D.sight journal.disk).told) }
         ensures counts { MatchResult result (λ journal. OneMore (D.sight disk) (D.sight journal.disk)) (λ back. OneFault (D.sight disk) (D.sight back)) }
@@ -193,6 +193,13 @@ impl<D: Disk> Journal<D> {
         ensures now { IfTold (D.sight self.now.disk).told (λ d. (image : List ℕ) → LeavesNow 0 d image → Stands self.now.list self.now.loose image) }
     {
         self.disk.counts()
+    }
+
+    /// Whether the disk tells its device.
+    pub fn tells(&self) -> bool
+        ensures { result ≡ is_some (D.sight self.now.disk).told }
+    {
+        self.disk.tells()
     }
 
     /// The disk.

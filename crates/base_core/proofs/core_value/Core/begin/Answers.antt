@@ -7,16 +7,16 @@ use Rattle.base_core.proofs.OpenSteps.{refused_finishes}
 use Rattle.base_core.proofs.core_value.Core.begin.Goals as goal
 
 pub overflow_cast-result : goal.overflow_cast-result
-overflow_cast-result c = let h = found c.self.inside.log c.self.inside.replies.items c.self.inside.builds.items c.as_slice.result.now c.self.inside.moment c.args.self.now.story c.args.lane c.in-Some.build.now (ap (λ v. v.story) c.self.view_is) c.self.invariant c.as_slice.ensures.value c.in-Some.ensures in omega (arith, h.kept.formed.few, ap length c.units.ensures)
+overflow_cast-result g c = let h = found c.self.inside.log c.self.inside.replies.items c.self.inside.builds.items c.as_slice.result.now c.self.inside.moment c.args.self.now.story c.args.lane c.in-Some.build.now (ap (λ v. v.story) c.self.view_is) c.self.invariant c.as_slice.ensures.value c.in-Some.ensures in omega (arith, h.kept.formed.few, ap length c.units.ensures)
 
 pub returns-in-Some-clause-ok : goal.returns-in-Some-clause-ok
-returns-in-Some-clause-ok c =
+returns-in-Some-clause-ok g c =
     let h = found c.self.inside.log c.self.inside.replies.items c.self.inside.builds.items c.as_slice.result.now c.self.inside.moment c.args.self.now.story c.args.lane c.in-Some.build.now (ap (λ v. v.story) c.self.view_is) c.self.invariant c.as_slice.ensures.value c.in-Some.ensures in (
       goes_nowhere c.args.self.now.story c.args.lane,
       record { build = c.in-Some.build.now; active = h.active; of_units = ap length (sym c.units.ensures); few = omega (arith, h.kept.formed.few, ap length c.units.ensures) },
     )
 
 pub returns-in_ok-refuse-in-Err-Is-clause-ok : goal.returns-in_ok-refuse-in-Err-Is-clause-ok
-returns-in_ok-refuse-in-Err-Is-clause-ok c =
+returns-in_ok-refuse-in-Err-Is-clause-ok g c =
     subst (λ l. Finishes c.args.self.now.story c.refuse.new.self.story l) (ap (λ t. t.lane) c.tag-tag.ensures)
     (refused_finishes c.args.self.now.story c.refuse.new.self.story c.tag-tag.result.lane c.in_ok-refuse-in-Err-Is.ensures.ok)

@@ -7,7 +7,7 @@ use Rattle.base_core.proofs.Beginning.{kept_plan}
 use Rattle.base_core.proofs.core_value.Core.begin_phase.Goals as goal
 
 pub invariant_of-self-2 : goal.invariant_of-self-2
-invariant_of-self-2 c =
+invariant_of-self-2 g c =
     let finished : all_done (state_of c.self.inside.log.story) ≡ true = ap (λ v. all_done (state_of v.story)) c.self.view_is ∙ c.requires.finished in
     let number : (state_of c.self.inside.log.story).number + 1 < 2 ^ 32 = subst (λ v. (state_of v.story).number + 1 < 2 ^ 32) (sym c.self.view_is) c.requires.few in
     subst (λ log. IsKept log c.in_ok-replies.replies.items c.in_ok-builds.builds.items c.args.moment) (sym c.in_ok-plan.ensures.ok)

@@ -1,10 +1,10 @@
 -- a unit is carried out
 use Rattle.std.proofs.Common.{subst}
 use Rattle.base_core.specs.BuildCalls.{Tries}
-use Rattle.base_core.proofs.Goings.{goes_further}
+use Rattle.base_core.proofs.FoundBuilds.{carried_further}
 use Rattle.base_core.proofs.core_value.Core.carry_out.Goals as goal
 
-pub returns-in_ok-finish_unit-in-Run-clause-ok : goal.returns-in_ok-finish_unit-in-Run-clause-ok
-returns-in_ok-finish_unit-in-Run-clause-ok c =
+pub returns-in_ok-ended-in-Run-clause-ok : goal.returns-in_ok-ended-in-Run-clause-ok
+returns-in_ok-ended-in-Run-clause-ok g c =
     let tried = subst (Tries c.args.self.now.story c.try_unit.new.self.story c.args.lane c.args.unit) c.in-Run.is c.in_ok-try_unit.ensures.ok in
-    (goes_further c.args.self.now.story c.try_unit.new.self.story c.finish_unit.new.self.story c.args.lane tried.0 c.in_ok-finish_unit-in-Run.ensures.ok.0, c.in_ok-finish_unit-in-Run.ensures.ok.1)
+    carried_further c.args.self.now.story c.try_unit.new.self.story c.finish_unit.new.self.story c.args.lane c.args.unit tried.0 c.finish_unit.result c.finish_unit.ensures.ok

@@ -1,12 +1,31 @@
--- a row is committed: what is kept then
-use Rattle.std.proofs.Common.{ap, sym, subst, ◌∙◌}
+-- a row is committed, or the disk fails: what is kept then, and how the story went on
+use Rattle.std.proofs.Common.{None, ◌++◌, ◌∷◌, [], ap, sym, subst, ◌∙◌}
+use Rattle.cc_names.specs.declared.replies.Reply.TheVariants as replies
+use Rattle.cc_names.specs.declared.steps.Step.TheVariants as steps
+use Rattle.cc_names.specs.declared.steps.Told.TheVariants as told
+use Rattle.base_core.specs.Appending.{IsCommitted, IsFaulted, Appends}
 use Rattle.base_core.specs.Kept.{IsKept}
-use Rattle.base_core.specs.Logs.{with_row}
-use Rattle.base_core.proofs.Finishing.{done_well, kept_next_row}
+use Rattle.base_core.specs.Logs.{with_row, with_step_on}
+use Rattle.base_core.proofs.Faulting.{kept_next_fault, next_faults}
+use Rattle.base_core.proofs.Finishing.{kept_next_row}
 use Rattle.base_core.proofs.core_value.Core.commit.Goals as goal
 
-pub invariant_of-self-else-is_err : goal.invariant_of-self-else-is_err
-invariant_of-self-else-is_err c =
-    subst (λ log. IsKept log c.add_reply.new.lanes.items c.self.inside.builds.items c.self.inside.moment) (sym (done_well c.commit.result (sym c.is_err.ensures.value ∙ c.if-is_err.false) c.commit.ensures.ok))
-    (subst (λ lanes. IsKept (with_row c.self.inside.log c.args.row) lanes c.self.inside.builds.items c.self.inside.moment) (sym c.in_ok-add_reply.ensures.ok)
-    (kept_next_row c.self.inside.log c.self.inside.replies.items c.self.inside.builds.items c.self.inside.moment c.args.self.now.story c.args.row c.tag-lane.result.lane (ap (λ v. v.story) c.self.view_is) (ap (λ t. t.lane) c.tag-lane.ensures) c.self.invariant c.requires))
+pub invariant_of-self-in-Ok-Committed : goal.invariant_of-self-in-Ok-Committed
+invariant_of-self-in-Ok-Committed g c =
+    let done : IsCommitted c.self.inside.log c.append.new.self c.args.row = subst (Appends c.self.inside.log c.append.new.self c.args.row None) c.in-Ok-Committed.field-0-is c.in-Ok-Committed.ensures.ok in
+    subst (λ log. IsKept log c.add_reply.new.lanes.items c.self.inside.builds.items c.self.inside.moment) (sym done.grows)
+    (subst (λ lanes. IsKept (with_row c.self.inside.log c.args.row done.tick done.sight) lanes c.self.inside.builds.items c.self.inside.moment) (sym c.in_ok-add_reply.ensures.ok)
+    (kept_next_row c.self.inside.log c.self.inside.replies.items c.self.inside.builds.items c.self.inside.moment c.args.self.now.story c.args.row c.tag-lane.result.lane done.tick done.sight done.ticked (ap (λ v. v.story) c.self.view_is) (ap (λ t. t.lane) c.tag-lane.ensures) c.self.invariant c.requires))
+
+pub invariant_of-self-in-Ok-Faulted : goal.invariant_of-self-in-Ok-Faulted
+invariant_of-self-in-Ok-Faulted g c =
+    let done : IsFaulted c.self.inside.log c.append.new.self c.args.row None = subst (Appends c.self.inside.log c.append.new.self c.args.row None) c.in-Ok-Faulted.field-0-is c.in-Ok-Faulted.ensures.ok in
+    subst (λ log. IsKept log c.replace_reply.new.lanes.items c.self.inside.builds.items c.self.inside.moment) (sym done.grows)
+    (subst (λ lanes. IsKept (with_step_on c.self.inside.log (steps.Fault c.args.row.tag done.left done.before done.faults done.tick) done.sight) lanes c.self.inside.builds.items c.self.inside.moment) (sym (c.replace_reply.ensures c.self.inside.replies.items replies.Good c.in_ok-add_reply.ensures.ok))
+    (kept_next_fault c.self.inside.log c.self.inside.replies.items c.self.inside.builds.items c.self.inside.moment c.args.self.now.story c.args.row c.tag-lane.result.lane done.left done.before done.faults done.tick done.sight done.rose done.later done.leaves done.ticked (ap (λ v. v.story) c.self.view_is) (ap (λ t. t.lane) c.tag-lane.ensures) c.self.invariant c.requires))
+
+pub returns-in-Ok-Faulted-clause-ok : goal.returns-in-Ok-Faulted-clause-ok
+returns-in-Ok-Faulted-clause-ok g c =
+    let done : IsFaulted c.self.inside.log c.append.new.self c.args.row None = subst (Appends c.self.inside.log c.append.new.self c.args.row None) c.in-Ok-Faulted.field-0-is c.in-Ok-Faulted.ensures.ok in
+    next_faults c.args.self.now.story c.append.new.self.story c.args.row done.left done.before done.faults done.tick
+    (ap (λ log. log.story) done.grows ∙ ap (λ v. v.story ++ told.Other (steps.Fault c.args.row.tag done.left done.before done.faults done.tick) ∷ []) c.self.view_is) c.requires

@@ -14,7 +14,7 @@ one_more : (n : ℕ) → n + 1 ≡ suc n
 one_more n = omega arith
 
 pub returns : goal.returns
-returns c =
+returns g c =
     let waits : option_and_then (command_behind (length (replies_at c.self.inside.replies.items c.args.lane))) (lane_at (last_phase c.self.inside.log.phases) c.args.lane) ≡ Some c.in-Some.command.now =
     sym (c.in-Some.ensures ∙ ap₂ (λ lanes phases. option_and_then (command_behind (length (replies_at lanes c.args.lane))) (lane_at (last_phase phases) c.args.lane)) c.as_slice.ensures.value c.phases.ensures) in
     let taken : c.saturating_sub-room.result ≡ row_limit - (suc (length c.self.inside.log.rows) + reserved (numbered 1 c.self.inside.builds.items)) =

@@ -12,7 +12,7 @@ use Rattle.base_core.proofs.Idle.{some_same}
 use Rattle.base_core.proofs.core_value.Core.object_row.Goals as goal
 
 pub publish_row-requires-clause-formed : goal.publish_row-requires-clause-formed
-publish_row-requires-clause-formed c =
+publish_row-requires-clause-formed g c =
     let h = found c.self.inside.log c.self.inside.replies.items c.self.inside.builds.items c.as_slice.result.now c.self.inside.moment c.args.self.now.story c.args.lane c.in-Some.build.now (ap (λ v. v.story) c.self.view_is) c.self.invariant c.as_slice.ensures.value c.in-Some.ensures in
     let base = base_of_rows c.self.inside.log c.self.inside.replies.items c.self.inside.builds.items c.self.inside.moment c.args.self.now.story c.rows.result.now (ap (λ v. v.story) c.self.view_is) c.self.invariant c.rows.ensures in
     λ it is. c.a_unit_may_publish.ensures (reverse c.rows.result.now) c.in-Some.build.now c.args.unit it h.kept.formed.named h.kept.formed.units
@@ -20,7 +20,7 @@ publish_row-requires-clause-formed c =
     (subst (λ b. AgreesSoFar b c.in-Some.build.now) base (c.a_build_agrees.ensures c.args.self.now.story c.args.lane c.in-Some.build.now h.legal h.active)) is
 
 pub returns : goal.returns
-returns c =
+returns g c =
     let h = found c.self.inside.log c.self.inside.replies.items c.self.inside.builds.items c.as_slice.result.now c.self.inside.moment c.args.self.now.story c.args.lane c.in-Some.build.now (ap (λ v. v.story) c.self.view_is) c.self.invariant c.as_slice.ensures.value c.in-Some.ensures in
     let is : c.requires.build ≡ c.in-Some.build.now = some_same c.requires.build c.in-Some.build.now (sym c.requires.active ∙ h.active) in
     let is_unit : unit_at c.in-Some.build.now c.args.unit ≡ Some c.requires.unit = ap (λ b. unit_at b c.args.unit) (sym is) ∙ c.requires.is_unit in

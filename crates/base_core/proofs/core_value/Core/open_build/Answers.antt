@@ -8,12 +8,12 @@ use Rattle.base_core.proofs.OpenSteps.{kept_opened, opened_so}
 use Rattle.base_core.proofs.core_value.Core.open_build.Goals as goal
 
 pub invariant_of-self-2 : goal.invariant_of-self-2
-invariant_of-self-2 c =
+invariant_of-self-2 g c =
     subst (λ log. IsKept log c.self.inside.replies.items (set c.self.inside.builds.items (c.tag-tag.result.lane - 1) (Some c.args.build)) c.self.inside.moment) (sym c.in_ok-tell.ensures.ok)
     (kept_opened c.self.inside.log c.self.inside.replies.items c.self.inside.builds.items c.self.inside.moment c.rows.result (length c.units.result.now) c.args.self.now.story c.tag-tag.result c.args.build
     (ap (λ v. v.story) c.self.view_is) c.self.invariant c.requires c.tag-tag.ensures c.rows.ensures (ap length c.units.ensures))
 
 pub returns-clause-ok : goal.returns-clause-ok
-returns-clause-ok c =
+returns-clause-ok g c =
     let so = opened_so c.self.inside.log c.rows.result (length c.units.result.now) c.args.self.now.story c.tag-tag.result c.args.build (ap (λ v. v.story) c.self.view_is) c.requires c.tag-tag.ensures in
     subst (λ log. GoesOn c.args.self.now.story log.story c.args.build.tag.lane × IsBuilding (state_of log.story) c.args.build.tag.lane (length c.args.build.units)) (sym c.in_ok-tell.ensures.ok) so

@@ -11,7 +11,7 @@ use Rattle.base_core.proofs.PlanSteps.{plans_so}
 use Rattle.base_core.proofs.core_value.Core.plan.Goals as goal
 
 pub returns : goal.returns
-returns c =
+returns g c =
     let waits : option_and_then (command_behind (length (replies_at c.self.inside.replies.items c.args.lane))) (lane_at (last_phase c.self.inside.log.phases) c.args.lane) ≡ Some c.in-Some.command.now =
     sym (c.in-Some.ensures ∙ ap₂ (λ lanes phases. option_and_then (command_behind (length (replies_at lanes c.args.lane))) (lane_at (last_phase phases) c.args.lane)) c.as_slice.ensures.value c.phases.ensures) in
     let held : c.reserved.result ≡ reserved (numbered 1 c.self.inside.builds.items) = c.reserved.ensures ∙ ap (λ bs. reserved (numbered 1 bs)) c.as_slice-3.ensures.value in

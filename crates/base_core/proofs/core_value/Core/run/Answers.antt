@@ -10,10 +10,10 @@ use Rattle.base_core.proofs.Idle.{some_same}
 use Rattle.base_core.proofs.core_value.Core.run.Goals as goal
 
 pub run_unit-requires-clause-view : goal.run_unit-requires-clause-view
-run_unit-requires-clause-view c = view_there c.args.self.now.story c.args.lane c.in-Some.build.now (reverse c.rows.result.now) (found c.self.inside.log c.self.inside.replies.items c.self.inside.builds.items c.as_slice.result.now c.self.inside.moment c.args.self.now.story c.args.lane c.in-Some.build.now (ap (λ v. v.story) c.self.view_is) c.self.invariant c.as_slice.ensures.value c.in-Some.ensures) (base_of_rows c.self.inside.log c.self.inside.replies.items c.self.inside.builds.items c.self.inside.moment c.args.self.now.story c.rows.result.now (ap (λ v. v.story) c.self.view_is) c.self.invariant c.rows.ensures)
+run_unit-requires-clause-view g c = view_there c.args.self.now.story c.args.lane c.in-Some.build.now (reverse c.rows.result.now) (found c.self.inside.log c.self.inside.replies.items c.self.inside.builds.items c.as_slice.result.now c.self.inside.moment c.args.self.now.story c.args.lane c.in-Some.build.now (ap (λ v. v.story) c.self.view_is) c.self.invariant c.as_slice.ensures.value c.in-Some.ensures) (base_of_rows c.self.inside.log c.self.inside.replies.items c.self.inside.builds.items c.self.inside.moment c.args.self.now.story c.rows.result.now (ap (λ v. v.story) c.self.view_is) c.self.invariant c.rows.ensures)
 
 pub returns : goal.returns
-returns c =
+returns g c =
     let h = found c.self.inside.log c.self.inside.replies.items c.self.inside.builds.items c.as_slice.result.now c.self.inside.moment c.args.self.now.story c.args.lane c.in-Some.build.now (ap (λ v. v.story) c.self.view_is) c.self.invariant c.as_slice.ensures.value c.in-Some.ensures in
     let is : c.requires.has.build ≡ c.in-Some.build.now = some_same c.requires.has.build c.in-Some.build.now (sym c.requires.has.active ∙ h.active) in
     let is_unit : unit_at c.in-Some.build.now c.args.unit ≡ Some c.requires.has.unit = ap (λ b. unit_at b c.args.unit) (sym is) ∙ c.requires.has.is_unit in

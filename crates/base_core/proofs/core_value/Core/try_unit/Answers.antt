@@ -6,7 +6,7 @@ use Rattle.base_core.proofs.FoundBuilds.{started_has}
 use Rattle.base_core.proofs.core_value.Core.try_unit.Goals as goal
 
 pub returns-in_ok-start-in-Start-clause-ok : goal.returns-in_ok-start-in-Start-clause-ok
-returns-in_ok-start-in-Start-clause-ok c =
+returns-in_ok-start-in-Start-clause-ok g c =
     started_has c.args.self.now.story c.start.new.self.story c.args.lane c.args.unit c.in-Start.script c.in-Start.targets
     (subst (StepsTo (state_of c.args.self.now.story) c.args.lane c.args.unit) c.in-Start.is c.in_ok-step.ensures).1
     c.in_ok-start-in-Start.ensures.ok

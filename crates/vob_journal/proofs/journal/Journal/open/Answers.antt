@@ -10,7 +10,7 @@ pub returns-in-Ok-clause-list : goal.returns-in-Ok-clause-list
 returns-in-Ok-clause-list g c = opened_list _ _ c.in-Ok.ensures.told
 
 pub returns-in-Ok-clause-begins : goal.returns-in-Ok-clause-begins
-returns-in-Ok-clause-begins g c = (opened_rest _, nothing_loose _ _ _, refl, refl)
+returns-in-Ok-clause-begins g c = (opened_rest _, nothing_loose _ _ _, refl, refl, refl)
 
 pub returns-in-Ok-clause-moves : goal.returns-in-Ok-clause-moves
 returns-in-Ok-clause-moves g c = opened_moves _ _ c.requires c.in-Ok.ensures.told

@@ -15,7 +15,7 @@ use Rattle.legal_history.specs.Base.{size}
 use Rattle.legal_history.specs.Builds.{Build, build_of, reserved}
 use Rattle.legal_history.specs.Decisions.{Begins}
 use Rattle.legal_history.specs.Fits.{row_limit}
-use Rattle.legal_history.specs.States.{State, start, decided, ticks_of}
+use Rattle.legal_history.specs.States.{State, start, decided}
 use Rattle.legal_history.specs.Steps.{begun, state_of, with_build}
 use Rattle.base_core.specs.Building.{IsBuildKept}
 use Rattle.base_core.specs.Kept.{IsKept}
@@ -27,7 +27,6 @@ use Rattle.base_core.proofs.Lanes.{one_or_two}
 use Rattle.base_core.proofs.Noting.{same_replies}
 use Rattle.base_core.proofs.Reserving.{found_set, found_other, reserved_set, rows_for}
 use Rattle.base_core.proofs.Staying.{build_stays}
-use Rattle.base_core.proofs.MemorySteps.{memory_more}
 
 -- what is kept after the begin of a build that was decided
 pub kept_begin : (log : Logged) (lanes : List (List Reply)) (builds : List (Option Build)) (now : ℕ) (tag : Tag) (build : Build) → IsKept log lanes builds now → 1 ≤ tag.lane → tag.lane ≤ length lanes → decided (state_of log.story) tag ≡ Some (Ok (Begins build.units)) → begun (state_of log.story) tag ≡ Some build → IsBuildKept (state_of log.story) tag.lane build → reserved (state_of log.story).active + length build.units ≤ row_limit → IsKept (with_step log (steps.Begin tag (size (state_of log.story).base) (length build.units))) lanes (set builds (tag.lane - 1) (Some build)) now
@@ -40,7 +39,6 @@ kept_begin log lanes builds now tag build h low high made begins kept room = rec
     number = ap (λ t. t.number) state ∙ h.agrees.number;
     moment = ap (λ t. t.moment) state ∙ h.agrees.moment;
     active = active;
-    ticks = ap (λ t. ticks_of t.opened t.ends) state ∙ h.agrees.ticks;
   };
   replies = same_replies story x lanes log h.replies (λ l. append-nil (replies_of story l)) refl;
   count = length-set builds (lane - 1) (Some build) ∙ h.count;
@@ -52,7 +50,6 @@ kept_begin log lanes builds now tag build h low high made begins kept room = rec
   room = h.room;
   few = h.few;
   in_time = h.in_time;
-  memory = memory_more story x h.memory refl;
 }
   where
     lane : ℕ

@@ -1,0 +1,84 @@
+-- What a log keeps after each kind of step.
+use Rattle.std.proofs.Common.{◌≡◌, ℕ, ◌+◌, ◌<◌, ◌≤◌, ◌^◌, ◌⊎◌, inl, inr, Bool, true, false, Option, Some, None, List, [], ◌∷◌, ◌++◌, length, refl, ap, sym, subst, ◌∙◌, arith}
+use Rattle.std.specs.Prelude.{is_some}
+use Rattle.cc_names.specs.Formed.{Plain}
+use Rattle.cc_names.specs.declared.commands.Phase.{Phase}
+use Rattle.cc_names.specs.declared.rows.Tag.{Tag}
+use Rattle.cc_names.specs.declared.steps.Step.{Step}
+use Rattle.cc_names.specs.declared.steps.Step.TheVariants as steps
+use Rattle.cc_names.specs.declared.steps.Told.{Told}
+use Rattle.cc_names.specs.declared.steps.Told.TheVariants as told
+use Rattle.disk_model.specs.Counting.{raised}
+use Rattle.disk_model.specs.Devices.{Device}
+use Rattle.disk_model.specs.Told.{Sight, IfTold, Both, IsCounted}
+use Rattle.legal_history.specs.States.{State, Opening, End, Committed, Faulted, start, ticks_of, faults_of, hanging}
+use Rattle.legal_history.specs.Steps.{after, state_of, state_from}
+use Rattle.row_form.specs.Spelled.{spelled}
+use Rattle.vob_journal.specs.Lefts.{loose_after}
+use Rattle.vob_journal.specs.Moves.{Moves}
+use Rattle.vob_journal.specs.declared.left.Left.{Left}
+use Rattle.vob_journal.specs.declared.left.Left.TheVariants as lefts
+use Rattle.base_core.specs.Backed.{IsCovered, IsBacked}
+use Rattle.base_core.specs.Faults.{is_fault}
+use Rattle.base_core.specs.Leaving.{LeftSo}
+use Rattle.base_core.specs.Logs.{IsLogged}
+use Rattle.base_core.specs.Standing.{base_by}
+use Rattle.base_core.specs.Telling.{story_of, AreTold, stands_alone}
+use Rattle.base_core.specs.declared.handed.Handed.{Handed}
+use Rattle.base_core.proofs.Backing.{still_told, commit_covered, fault_covered, settle_covered}
+use Rattle.base_core.proofs.Growing.{state_from-more}
+use Rattle.base_core.proofs.LogSteps.{told_row, told_phase, is_told_step}
+use Rattle.base_core.proofs.Stories.{story_of-commit, story_of-plan, story_of-step}
+
+-- what holds where a device is told
+pub if_told : (told : Option Device) (P Q : Device → Type 0) → ((d : Device) → P d → Q d) → IfTold told P → IfTold told Q
+if_told None P Q f h = tt
+if_told (Some d) P Q f h = f d h
+
+-- the ticks at the newest end are at most the calls so far
+pub ticks_told : (opening : Opening) (s : State) (sight : Sight) → s.opened ≡ Some opening → ticks_of s.opened s.ends ≤ sight.ticks → IsCounted sight → IfTold sight.told (λ d. ticks_of (Some opening) s.ends ≤ length d.calls)
+ticks_told opening s sight opened ticks counted =
+    if_told sight.told (λ d. sight.ticks ≡ length d.calls) (λ d. ticks_of (Some opening) s.ends ≤ length d.calls)
+    (λ d e. omega (arith, ticks, e, ap (λ o. ticks_of o s.ends) opened)) counted.told
+
+-- the same of the state after a step that is neither a commit nor a fault
+pub backed_same : (s t : State) (sight : Sight) (list loose : List (List ℕ)) (ended : Bool) (left : Left) → t.opened ≡ s.opened → t.base ≡ s.base → t.ends ≡ s.ends → IsBacked s sight list loose ended left → IsBacked t sight list loose ended left
+backed_same s t sight list loose ended left opened base ends h = record {
+  opening = h.opening;
+  opened = opened ∙ h.opened;
+  tells = h.tells;
+  at_end = h.at_end;
+  base = base ∙ h.base ∙ ap (base_by h.opening) (sym ends);
+  ticks = omega (arith, h.ticks, ap (λ o. ticks_of o t.ends) opened, ap (ticks_of s.opened) ends);
+  faults = omega (arith, h.faults, ap (λ o. faults_of o t.ends) opened, ap (faults_of s.opened) ends);
+  covered = subst (λ e. IfTold sight.told (IsCovered h.opening e list loose left)) (sym ends) h.covered;
+}
+
+-- a row was committed
+pub backed_commit : (s : State) (row : Plain) (tick : ℕ) (old new : Sight) (list loose list' loose' : List (List ℕ)) (ended ended' : Bool) (left left' : Left) → IsBacked s old list loose ended left → Both (Moves list loose list' loose') old.told new.told → IfTold old.told (λ _. (list' ≡ list ++ spelled row ∷ []) × (loose' ≡ [])) → tick ≡ new.ticks → new.faults ≡ old.faults → IsCounted old → IsCounted new → ended' ≡ true → IsBacked (after s (told.Commit row tick)) new list' loose' ended' left'
+backed_commit s row tick old new list loose list' loose' ended ended' left left' h moves grown at same was counted end = record {
+  opening = h.opening;
+  opened = h.opened;
+  tells = h.tells ∙ sym (still_told (Moves list loose list' loose') old.told new.told moves);
+  at_end = end;
+  base = ap (λ b. row ∷ b) h.base;
+  ticks = omega (arith, at);
+  faults = omega (arith, h.faults, same);
+  covered = commit_covered h.opening s.ends row tick list loose list' loose' left left' old.told new.told h.covered (ticks_told h.opening s old h.opened h.ticks was) moves
+      (if_told new.told (λ e. new.ticks ≡ length e.calls) (λ e. tick ≡ length e.calls) (λ e told. at ∙ told) counted.told) grown;
+}
+
+-- the disk failed
+pub backed_fault : (s : State) (tag : Tag) (row : Plain) (found : Option Plain) (before faults tick : ℕ) (old new : Sight) (list loose list' loose' : List (List ℕ)) (ended ended' : Bool) (left left' : Left) (t : State) → t.opened ≡ s.opened → t.base ≡ s.base → t.ends ≡ Faulted found faults tick ∷ s.ends → IsBacked s old list loose ended left → Both (Moves list loose list' loose') old.told new.told → IfTold old.told (λ _. (list' ≡ list) × (loose' ≡ loose_after left' loose (spelled row))) → LeftSo (hanging s.ends) row left' found → tick ≡ new.ticks → faults ≡ new.faults → IsCounted old → IsCounted new → ended' ≡ true → IsBacked t new list' loose' ended' left'
+backed_fault s tag row found before faults tick old new list loose list' loose' ended ended' left left' t opened base ends h moves stays so at counts was counted end = record {
+  opening = h.opening;
+  opened = opened ∙ h.opened;
+  tells = h.tells ∙ sym (still_told (Moves list loose list' loose') old.told new.told moves);
+  at_end = end;
+  base = base ∙ h.base ∙ ap (base_by h.opening) (sym ends);
+  ticks = omega (arith, at, ap (ticks_of t.opened) ends, ap (λ o. ticks_of o (Faulted found faults tick ∷ s.ends)) (opened ∙ h.opened));
+  faults = omega (arith, counts, ap (faults_of t.opened) ends, ap (λ o. faults_of o (Faulted found faults tick ∷ s.ends)) (opened ∙ h.opened));
+  covered = subst (λ e. IfTold new.told (IsCovered h.opening e list' loose' left')) (sym ends)
+      (fault_covered h.opening s.ends row found faults tick list loose list' loose' left left' old.told new.told h.covered (ticks_told h.opening s old h.opened h.ticks was) moves
+      (if_told new.told (λ e. new.ticks ≡ length e.calls) (λ e. tick ≡ length e.calls) (λ e told. at ∙ told) counted.told) stays so);
+}

@@ -1,0 +1,114 @@
+-- What a log keeps after its tail was settled, and what it says of stops.
+use Rattle.std.proofs.Common.{◌≡◌, ℕ, ◌+◌, ◌-◌, ◌<◌, ◌≤◌, ◌^◌, ◌⊎◌, inl, inr, Bool, true, false, Option, Some, None, List, [], ◌∷◌, ◌++◌, length, take, drop, refl, ap, ap₂, sym, subst, ◌∙◌, arith}
+use Rattle.std.proofs.lemmas.List.{append-nil, take_all, drop_all}
+use Rattle.std.specs.Prelude.{is_some, Result, Ok, Err, MatchResult}
+use Rattle.cc_names.specs.Formed.{Plain}
+use Rattle.cc_names.specs.declared.commands.Phase.{Phase}
+use Rattle.cc_names.specs.declared.steps.Step.{Step}
+use Rattle.cc_names.specs.declared.steps.Step.TheVariants as steps
+use Rattle.cc_names.specs.declared.steps.Told.TheVariants as told
+use Rattle.disk_model.specs.Counting.{raised}
+use Rattle.disk_model.specs.Devices.{Device, LeavesNow, MayLeave}
+use Rattle.disk_model.specs.Told.{Sight, IfTold, Both, IsCounted}
+use Rattle.legal_history.specs.States.{State, Opening, End, ticks_of, faults_of, hanging}
+use Rattle.legal_history.specs.Steps.{state_of}
+use Rattle.vob_journal.specs.Frames.{frames}
+use Rattle.vob_journal.specs.Moves.{Moves, Stands}
+use Rattle.vob_journal.specs.Phases.{Spends}
+use Rattle.vob_journal.specs.declared.left.Left.{Left}
+use Rattle.vob_journal.specs.declared.left.Left.TheVariants as lefts
+use Rattle.base_core.specs.Backed.{IsCovered, IsBacked, IsSettled, IsAccounted}
+use Rattle.base_core.specs.Logs.{IsLogged, opened_log}
+use Rattle.base_core.specs.Standing.{payloads, base_by, StandsFor, MayBeFound}
+use Rattle.base_core.specs.Telling.{story_of, AreTold}
+use Rattle.base_core.specs.declared.handed.Handed.{Handed}
+use Rattle.base_core.proofs.Backing.{after_all, left_within_calls, settle_covered, stands_so, still_told}
+use Rattle.base_core.proofs.Logging.{if_told, ticks_told}
+use Rattle.base_core.proofs.LogSteps.{shown}
+
+-- a count that was raised is no less
+no_less : (old new : ℕ) → raised old ≤ new → old < 2 ^ 64 → old ≤ new
+no_less old new rose small = omega (arith, rose, small)
+
+-- a base was opened
+pub shown_opened : (on : Handed) (kept : List Step) (rows : List Plain) (number : ℕ) (sight : Sight) → kept ≡ steps.Opened number ∷ [] → number ≡ length rows + 1 → shown on kept rows [] sight ≡ opened_log rows on sight
+shown_opened on kept rows number sight e n =
+    ap (λ k. shown on k rows [] sight) e
+    ∙ ap₂ (λ front behind. record { story = told.Opened front on.counts on.tells ∷ story_of on [] behind []; rows = rows; phases = []; sight = sight })
+    (take_all (number - 1) rows (omega (arith, n))) (drop_all (number - 1) rows (omega (arith, n)))
+
+pub logged_opened : (on : Handed) (kept : List Step) (rows : List Plain) (number : ℕ) (sight : Sight) (list loose : List (List ℕ)) (ended : Bool) (left : Left) → kept ≡ steps.Opened number ∷ [] → number ≡ length rows + 1 → IsBacked (state_of (told.Opened rows on.counts on.tells ∷ [])) sight list loose ended left → IsLogged on kept rows [] sight list loose ended left
+logged_opened on kept rows number sight list loose ended left e n h = record {
+  told = subst (λ k. AreTold 1 0 k rows []) (sym e) (omega (arith, n), omega (arith, n), subst (λ behind. AreTold (1 + (number - 1)) 0 [] behind []) (sym (drop_all (number - 1) rows (omega (arith, n)))) tt);
+  backed = subst (λ log. IsBacked (state_of log.story) sight list loose ended left) (sym (shown_opened on kept rows number sight e n)) h;
+}
+
+-- the tail was settled, or this failed
+pub backed_settle : (s : State) (old new : Sight) (list loose list' loose' : List (List ℕ)) (ended ended' : Bool) (left left' : Left) → IsBacked s old list loose ended left → Both (Moves list loose list' loose') old.told new.told → list' ≡ list → (loose' ≡ []) ⊎ (loose' ≡ loose) → (left' ≡ lefts.Nothing → loose' ≡ []) → old.ticks ≤ new.ticks → old.faults ≤ new.faults → IsCounted old → ended' ≡ true → IsBacked s new list' loose' ended' left'
+backed_settle s old new list loose list' loose' ended ended' left left' h moves same less nothing ticks faults counted end = record {
+  opening = h.opening;
+  opened = h.opened;
+  tells = h.tells ∙ sym (still_told (Moves list loose list' loose') old.told new.told moves);
+  at_end = end;
+  base = h.base;
+  ticks = omega (arith, h.ticks, ticks);
+  faults = omega (arith, h.faults, faults);
+  covered = settle_covered h.opening s.ends list loose list' loose' left left' old.told new.told h.covered (ticks_told h.opening s old h.opened h.ticks counted) moves same less nothing;
+}
+
+-- what is kept by the log, whether the tail was settled or not
+pub logged_settled : {E : Type 0} → (on : Handed) (kept : List Step) (rows : List Plain) (phases : List Phase) (calls : ℕ) (old new : Sight) (list loose list' loose' : List (List ℕ)) (ended ended' : Bool) (left left' : Left) (r : Result (Unit {0}) E) → IsLogged on kept rows phases old list loose ended left → Both (Moves list loose list' loose') old.told new.told → list' ≡ list → MatchResult r (λ _. loose' ≡ []) (λ _. loose' ≡ loose) → MatchResult r (λ _. left' ≡ lefts.Nothing) (λ _. left' ≡ lefts.Earlier) → ended' ≡ true → Spends calls r old new → IsCounted old → IsLogged on kept rows phases new list' loose' ended' left'
+logged_settled on kept rows phases calls old new list loose list' loose' ended ended' left left' (Ok u) h moves same less went end cost counted = record {
+  told = h.told;
+  backed = backed_settle (state_of (story_of on kept rows phases)) old new list loose list' loose' ended ended' left left' h.backed moves same (inl less) (λ e. less) (omega (arith, cost.0)) (omega (arith, cost.1)) counted end;
+}
+logged_settled on kept rows phases calls old new list loose list' loose' ended ended' left left' (Err fault) h moves same less went end cost counted = record {
+  told = h.told;
+  backed = backed_settle (state_of (story_of on kept rows phases)) old new list loose list' loose' ended ended' left left' h.backed moves same (inr less) (λ e. absurd (cc)) (no_less old.ticks new.ticks cost.0 counted.ticks) (omega (arith, cost.2, no_less old.faults (raised old.faults) (omega arith) counted.faults)) counted end;
+}
+
+-- no stop finds more than the base where nothing is loose
+settled_told : (s : State) (opening : Opening) (list loose : List (List ℕ)) (left : Left) (told : Option Device) → s.base ≡ base_by opening s.ends → IfTold told (IsCovered opening s.ends list loose left) → IfTold told (λ _. loose ≡ []) → IfTold told (λ d. (image : List ℕ) → LeavesNow 0 d image → frames image ≡ payloads s.base)
+settled_told s opening list loose left None base h none = tt
+settled_told s opening list loose left (Some d) base h none = λ image leaves. by image (h.now image leaves) ∙ h.list_is ∙ ap payloads (sym base)
+  where
+    by : (image : List ℕ) → Stands list loose image → frames image ≡ list
+    by image (inl e) = e
+    by image (inr e) = e ∙ ap (λ l. list ++ l) none ∙ append-nil list
+
+pub settled_so : (s : State) (sight : Sight) (list loose : List (List ℕ)) (ended : Bool) (left : Left) → IsBacked s sight list loose ended left → loose ≡ [] → IsSettled s sight
+settled_so s sight list loose ended left h none = settled_told s h.opening list loose left sight.told h.base h.covered (if_told sight.told (IsCovered h.opening s.ends list loose left) (λ _. loose ≡ []) (λ d c. none) h.covered)
+
+-- nothing is loose where no call failed
+pub nothing_left : (s : State) (sight : Sight) (list loose : List (List ℕ)) (ended : Bool) (left : Left) → IsBacked s sight list loose ended left → left ≡ lefts.Nothing → IsSettled s sight
+nothing_left s sight list loose ended left h e = settled_told s h.opening list loose left sight.told h.base h.covered (if_told sight.told (IsCovered h.opening s.ends list loose left) (λ _. loose ≡ []) (λ d c. c.nothing e) h.covered)
+
+-- each stop finds what the history says
+stops_so : (opening : Opening) (ends : List End) (list loose : List (List ℕ)) (left : Left) (d : Device) → IsCovered opening ends list loose left d → ticks_of (Some opening) ends ≤ length d.calls → (k : ℕ) (image : List ℕ) → opening.counts.ticks < k → MayLeave 0 d k image → MayBeFound opening ends k (frames image)
+stops_so opening ends list loose left d h ticked k image later (inl leaves) = h.stops k image later leaves
+stops_so opening ends list loose left d h ticked k image later (inr now) =
+    after_all opening ends k (frames image) (omega (arith, ticked, now.0)) (stands_so opening ends list loose left d image h (h.now image now.1))
+
+stops_told : (opening : Opening) (ends : List End) (list loose : List (List ℕ)) (left : Left) (told : Option Device) → IfTold told (IsCovered opening ends list loose left) → IfTold told (λ d. ticks_of (Some opening) ends ≤ length d.calls) → IfTold told (λ d. (k : ℕ) (image : List ℕ) → opening.counts.ticks < k → MayLeave 0 d k image → MayBeFound opening ends k (frames image))
+stops_told opening ends list loose left None h ticked = tt
+stops_told opening ends list loose left (Some d) h ticked = stops_so opening ends list loose left d h ticked
+
+-- where the newest end left nothing, a stop now finds the base
+at_rest : (s : State) (opening : Opening) (list loose : List (List ℕ)) (left : Left) (told : Option Device) → s.base ≡ base_by opening s.ends → hanging s.ends ≡ None → IfTold told (IsCovered opening s.ends list loose left) → IfTold told (λ d. (image : List ℕ) → LeavesNow 0 d image → frames image ≡ payloads s.base)
+at_rest s opening list loose left None base none h = tt
+at_rest s opening list loose left (Some d) base none h = λ image leaves. by image (subst (λ o. StandsFor (base_by opening s.ends) o (frames image)) none (stands_so opening s.ends list loose left d image h (h.now image leaves))) ∙ ap payloads (sym base)
+  where
+    by : (image : List ℕ) → StandsFor (base_by opening s.ends) None (frames image) → frames image ≡ payloads (base_by opening s.ends)
+    by image (inl e) = e
+    by image (inr e) = e
+
+pub accounted : (s : State) (sight : Sight) (list loose : List (List ℕ)) (ended : Bool) (left : Left) → IsBacked s sight list loose ended left → IsCounted sight → IsAccounted s sight
+accounted s sight list loose ended left h counted = record {
+  opening = h.opening;
+  opened = h.opened;
+  tells = h.tells;
+  ticks = h.ticks;
+  faults = h.faults;
+  stops = stops_told h.opening s.ends list loose left sight.told h.covered (ticks_told h.opening s sight h.opened h.ticks counted);
+  settled = λ none. at_rest s h.opening list loose left sight.told h.base none h.covered;
+}

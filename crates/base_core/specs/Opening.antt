@@ -1,0 +1,70 @@
+-- What opening a base answers.
+use Rattle.std.specs.Prelude.{◌≡◌, ◌<◌, ℕ, true, is_some, Option, List, [], ◌∷◌, ◌++◌, reverse}
+use Rattle.cc_names.specs.Formed.{Plain, IsFormed}
+use Rattle.cc_names.specs.declared.steps.Told.{Told}
+use Rattle.cc_names.specs.declared.steps.Told.TheVariants as told
+use Rattle.disk_model.specs.Devices.{Device, MayLeave, bytes_of}
+use Rattle.disk_model.specs.Told.{Sight, IfTold}
+use Rattle.legal_history.specs.Base.{Base, size}
+use Rattle.legal_history.specs.Fits.{fits, is_base}
+use Rattle.legal_history.specs.Stories.{rises}
+use Rattle.row_form.specs.Reading.{IsKnown}
+use Rattle.row_form.specs.Spelled.{spelled}
+use Rattle.view_lookup.specs.Unversioned.{is_unversioned}
+use Rattle.vob_journal.specs.Frames.{frames}
+use Rattle.base_core.specs.Logs.{Logged, opened_log}
+use Rattle.base_core.specs.Standing.{payloads}
+use Rattle.base_core.specs.declared.handed.Handed.{Handed}
+use Rattle.base_core.specs.declared.opening.OpenCause.{OpenCause}
+use Rattle.base_core.specs.declared.opening.OpenCause.TheVariants as causes
+
+-- The rows of a base that was opened on a disk: the disk's journal stands for them, and each fits those before it.
+pub record IsBaseOn (old : Sight) (rows : List Plain) (handed : Handed) : Type 0 where
+  pub ticks : handed.counts.ticks ≡ old.ticks
+  pub faults : handed.counts.faults ≡ old.faults
+  pub tells : handed.tells ≡ is_some old.told
+  pub found : IfTold old.told (λ d. frames (bytes_of 0 d) ≡ payloads (reverse rows))
+  pub fits : is_base (reverse rows) ≡ true
+  pub unversioned : is_unversioned (reverse rows) ≡ true
+
+-- a log of such a base, under which no disk failed
+pub record IsOpened (old : Sight) (log : Logged) : Type 0 where
+  pub rows : List Plain
+  pub handed : Handed
+  pub on : IsBaseOn old rows handed
+  pub is : log ≡ opened_log rows handed log.sight
+  pub sound : log.sight.faults ≡ old.faults
+
+-- a base was opened: the one that the disk stands for
+pub record Opens (old : Sight) (story : List Told) (new : Sight) : Type 0 where
+  pub rows : List Plain
+  pub handed : Handed
+  pub on : IsBaseOn old rows handed
+  pub story_is : story ≡ told.Opened rows handed.counts handed.tells ∷ []
+  pub sound : new.faults ≡ old.faults
+
+-- no row that is read and that fits the base has this spelling
+abbrev pub IsUnfit : Base → List ℕ → Type 0
+IsUnfit b payload = (row : Plain) → IsFormed row → IsKnown row.deed → payload ≡ spelled row → fits b row.deed ≡ true → ⊥
+
+-- frame n of a journal is the first that spells no row that is read, or whose row does not fit those before it
+pub record IsDamaged (list : List (List ℕ)) (n : ℕ) : Type 0 where
+  pub base : Base
+  pub payload : List ℕ
+  pub rest : List (List ℕ)
+  pub list_is : list ≡ payloads base ++ payload ∷ rest
+  pub number : n ≡ size base
+  pub good : is_base base ≡ true
+  pub unfit : IsUnfit base payload
+
+-- why a journal with this list was not read through, with the disk's counts of faults before and after
+abbrev pub StopsBy : Option Device → (Device → List (List ℕ)) → OpenCause → ℕ → ℕ → Type 0
+StopsBy told list (causes.Damaged n) old new = (new ≡ old) × IfTold told (λ d. IsDamaged (list d) n)
+StopsBy told list causes.DiskFault old new = rises old new ≡ true
+StopsBy told list causes.NoMemory old new = new ≡ old
+
+-- No base was opened, and nothing was written: each stop since finds the frames that were there.
+pub record FailsToOpen (old : Sight) (cause : OpenCause) (new : Sight) : Type 0 where
+  pub because : StopsBy old.told (λ d. frames (bytes_of 0 d)) cause old.faults new.faults
+  pub tells : is_some new.told ≡ is_some old.told
+  pub unchanged : IfTold old.told (λ d. IfTold new.told (λ e. (k : ℕ) (image : List ℕ) → old.ticks < k → MayLeave 0 e k image → frames image ≡ frames (bytes_of 0 d)))

@@ -1,0 +1,156 @@
+// How a base is opened: the rows of its journal are read one by one, and each has to fit those before it.
+
+ghost use Rattle.std.specs.Prelude.{◌≡◌, ◌<◌, [], length, reverse, true, IfOk, IfErr, OnOk};
+ghost use Rattle.disk_model.specs.Devices.{file_of, bytes_of};
+ghost use Rattle.disk_model.specs.Files.{stable};
+ghost use Rattle.disk_model.specs.Told.{IfTold};
+ghost use Rattle.legal_history.specs.Fits.{row_limit};
+ghost use Rattle.view_lookup.specs.Unversioned.{is_unversioned};
+ghost use Rattle.base_core.specs.Opening.{StopsBy, IsOpened, FailsToOpen};
+ghost use Rattle.base_core.specs.Reading.{OnlyReads, NextIs, IsMissed, IsNextRow, IsNoRow, IsReadSoFar, ReadsOn, IsReadThrough};
+
+use crate::handed::Handed;
+use crate::logs::Log;
+use cc_names::memory::Or;
+use cc_names::rows::Row;
+use cc_names::texts::Text;
+use disk_model::Disk;
+use row_form::read;
+use std::alloc::Global;
+use view_lookup::fits;
+use vob_journal::Journal;
+
+/// Why a base cannot be opened.
+#[derive(Clone, Copy, Debug, PartialEq, Eq)]
+pub enum OpenCause {
+    /// The frame of this number, counted from 1, is the first that spells no row, or whose row does not fit those before
+    /// it.
+    Damaged(u64),
+    DiskFault,
+    NoMemory,
+}
+
+/// A base that could not be opened, with its disk.
+#[derive(Drop)]
+pub struct OpenFault<D: Disk> {
+    pub cause: OpenCause,
+    pub disk: D,
+}
+
+/// The next payload of a journal with nothing loose, or None at its end.
+fn next_payload<D: Disk>(alloc: Global, journal: &mut Journal<D>) -> Result<Option<Text>, OpenCause>
+    requires { journal.old.loose ≡ [] }
+    ensures reads { OnlyReads D.sight journal.old journal.new }
+    ensures ok { IfOk result (λ found. NextIs D.sight found journal.old journal.new) }
+    ensures err { IfErr result (λ cause. IsMissed cause (D.sight journal.old.disk).faults (D.sight journal.new.disk).faults) }
+{
+    match journal.next(alloc) {
+        Ok(payload) => Ok(payload),
+        Err(Or::NoMemory) => Err(OpenCause::NoMemory),
+        Err(Or::Is(_)) => Err(OpenCause::DiskFault),
+    }
+}
+
+/// The row that the payload of the next frame spells, where it fits the rows before it.
+fn next_row(alloc: Global, rows: &[Row], payload: &[u8]) -> Result<Row, OpenCause>
+    requires unversioned { is_unversioned (reverse rows.now) ≡ true }
+    requires few { length rows.now < row_limit }
+    ensures ok { IfOk result (IsNextRow (reverse rows.now) payload.now) }
+    ensures err { IfErr result (IsNoRow (reverse rows.now) payload.now) }
+{
+    let number = rows.len() as u64 + 1;
+    match read(alloc, payload) {
+        Ok(row) => {
+            if fits(rows, &row) {
+                Ok(row)
+            } else {
+                Err(OpenCause::Damaged(number))
+            }
+        }
+        Err(Or::NoMemory) => Err(OpenCause::NoMemory),
+        Err(Or::Is(_)) => Err(OpenCause::Damaged(number)),
+    }
+}
+
+/// The next row of a journal behind those that were read, or None at its end.
+fn read_row<D: Disk>(
+    alloc: Global,
+    journal: &mut Journal<D>,
+    rows: &[Row],
+) -> Result<Option<Row>, OpenCause>
+    requires { IsReadSoFar D.sight rows.now journal.old }
+    ensures reads { OnlyReads D.sight journal.old journal.new }
+    ensures ok { IfOk result (λ found. ReadsOn D.sight rows.now found journal.new) }
+    ensures sound { OnOk result ((D.sight journal.new.disk).faults ≡ (D.sight journal.old.disk).faults) }
+    ensures err { IfErr result (λ cause. StopsBy (D.sight journal.old.disk).told (λ _. journal.old.list) cause (D.sight journal.old.disk).faults (D.sight journal.new.disk).faults) }
+{
+    let payload = match next_payload(alloc, journal) {
+        Ok(Some(payload)) => payload,
+        Ok(None) => return Ok(None),
+        Err(cause) => return Err(cause),
+    };
+    match next_row(alloc, rows, payload.as_bytes()) {
+        Ok(row) => Ok(Some(row)),
+        Err(cause) => Err(cause),
+    }
+}
+
+/// The rows of a journal, read to its end: each spells a row that fits those before it.
+fn read_rows<D: Disk>(alloc: Global, journal: &mut Journal<D>) -> Result<Vec<Row>, OpenCause>
+    requires { IsReadSoFar D.sight [] journal.old }
+    ensures reads { OnlyReads D.sight journal.old journal.new }
+    ensures ok { IfOk result (λ rows. IsReadThrough D.sight rows.items journal.new) }
+    ensures sound { OnOk result ((D.sight journal.new.disk).faults ≡ (D.sight journal.old.disk).faults) }
+    ensures err { IfErr result (λ cause. StopsBy (D.sight journal.old.disk).told (λ _. journal.old.list) cause (D.sight journal.old.disk).faults (D.sight journal.new.disk).faults) }
+{
+    let mut rows = Vec::new(alloc);
+    'frames: loop {
+        match read_row(alloc, journal, rows.as_slice()) {
+            Ok(Some(row)) => {
+                if rows.push(row).is_err() {
+                    return Err(OpenCause::NoMemory);
+                }
+            }
+            Ok(None) => return Ok(rows),
+            Err(cause) => return Err(cause),
+        }
+    }
+}
+
+/// Opens the log of the base that a disk stands for. Reads the journal once, and writes nothing. Takes time linear in the
+/// journal's bytes, and to see that a row fits, for each row in the rows before it.
+pub(crate) fn open_log<D: Disk>(alloc: Global, disk: D) -> Result<Log<D>, OpenFault<D>>
+    requires { IfTold (D.sight disk).told (λ d. file_of 0 d ≡ stable (bytes_of 0 d)) }
+    ensures ok { IfOk result (λ log. IsOpened (D.sight disk) log) }
+    ensures err { IfErr result (λ fault. FailsToOpen (D.sight disk) fault.cause (D.sight fault.disk)) }
+{
+    let handed = Handed {
+        counts: disk.counts(),
+        tells: disk.tells(),
+    };
+    let mut journal = match Journal::open(disk) {
+        Ok(journal) => journal,
+        Err(disk) => {
+            return Err(OpenFault {
+                cause: OpenCause::DiskFault,
+                disk,
+            });
+        }
+    };
+    let rows = match read_rows(alloc, &mut journal) {
+        Ok(rows) => rows,
+        Err(cause) => {
+            return Err(OpenFault {
+                cause,
+                disk: journal.into_disk(),
+            });
+        }
+    };
+    match Log::open(alloc, rows, handed, journal) {
+        Ok(log) => Ok(log),
+        Err(journal) => Err(OpenFault {
+            cause: OpenCause::NoMemory,
+            disk: journal.into_disk(),
+        }),
+    }
+}
