@@ -1,15 +1,18 @@
-// The value behind the lock: a base with its story, which grows by lawful steps alone.
+// The value behind the lock: a base with its story, kept on a disk, which grows by lawful steps alone.
 //
-// What it is for: the top call begins phases, lets each lane carry out its next command, and reads the replies. A `Core`
-// keeps the rows, the story, the replies and the active builds, and takes all memory for a step before it changes anything.
+// What it is for: the top call opens the base that a disk stands for, begins phases, lets each lane carry out its next
+// command, and reads the replies. A `Core` keeps the rows, the story, the replies and the active builds; it takes all memory
+// for a row before it appends it to the journal, and the row joins the base once the journal has acknowledged it.
 //
-// What it promises: the story of a `Core` is legal at every moment. `act` adds the one step that is decided for a lane's next
-// command; `build` finishes a lane's clearmake by the steps of its build. After want of memory the story is what it was, or
-// has gone on by steps of that build alone. `replies` gives the replies of the story.
+// What it promises: the story of a `Core` is legal at every moment. `act` adds the one step by which a lane's next command is
+// finished; `build` finishes a lane's clearmake by the steps of its build. After want of memory the story is what it was, or
+// has gone on by steps of that build alone. `replies` gives the replies of the story. A stop at any call of the disk since
+// the base was opened finds the rows committed before it, and besides at most the row that was under way or that a fault
+// left; `finish` leaves the rows and no more.
 //
-// What it stands on: `checkout_desk` for the decisions on rows, `build_core` for builds, `fresh_builds` for the laws of
-// builds in legal stories, the definitions of `legal_history`, `view_lookup` and `session_text`, `build_script` and `make_text`
-// for scripts and units, and `cc_names` for plain data.
+// What it stands on: `vob_journal`, `row_form` and `disk_model` for the disk, `checkout_desk` for the decisions on rows,
+// `build_core` for builds, `fresh_builds` for the laws of builds in legal stories, the definitions of `legal_history`,
+// `view_lookup` and `session_text`, `build_script` and `make_text` for scripts and units, and `cc_names` for plain data.
 #![tactic(auto)]
 
 mod commands;
