@@ -1,7 +1,7 @@
-// What two views see of a base of seven rows.
+// What two views see of a base of seven rows, and which rows fit it.
 
 ghost use Rattle.std.specs.Prelude.{◌≡◌, ◌<◌, ◌≤◌, ◌^◌, length, reverse, true, IfOk, IsSome};
-ghost use Rattle.cc_names.specs.Formed.{IsBelowRoot, IsText, IsListOf, AreTargets};
+ghost use Rattle.cc_names.specs.Formed.{IsBelowRoot, IsText, IsListOf, AreEntries, AreTargets};
 ghost use Rattle.legal_history.specs.Views.{view_row};
 ghost use Rattle.view_lookup.specs.Unversioned.{is_unversioned_deed, is_unversioned};
 
@@ -9,7 +9,7 @@ use super::*;
 use cc_names::lists::List;
 use cc_names::names::Name;
 use cc_names::paths::Path;
-use cc_names::rows::{Deed, Row, Tag};
+use cc_names::rows::{Deed, ReadOf, Row, Tag};
 use cc_names::selection::{Picked, Seen};
 use cc_names::texts::Text;
 use std::alloc::Global;
@@ -91,13 +91,30 @@ fn two_texts(alloc: Global, outputs: [&[u8]; 2]) -> Result<List<Text>, Fail>
     Ok(List::of(texts))
 }
 
-/// An object with two targets, each with an output.
-fn publish(
+fn no_reads(alloc: Global) -> List<ReadOf>
+    ensures { AreEntries result }
+{
+    List::empty(alloc)
+}
+
+fn one_read(alloc: Global, path: &[u8], row: u64) -> Result<List<ReadOf>, Fail>
+    ensures { IfOk result (λ entries. AreEntries entries) }
+{
+    let path = path_below(alloc, path)?;
+    let mut entries = Vec::new(alloc);
+    entries.push(ReadOf { path, row })?;
+    Ok(List::of(entries))
+}
+
+/// An object with two targets, each with an output, and with these reads.
+fn publish_of(
     alloc: Global,
     view: &[u8],
     targets: [&[u8]; 2],
+    entries: List<ReadOf>,
     outputs: [&[u8]; 2],
 ) -> Result<Row, Fail>
+    requires { AreEntries entries }
     ensures { IfOk result (λ row. is_unversioned_deed row.deed ≡ true) }
 {
     let view = name(alloc, view)?;
@@ -106,10 +123,21 @@ fn publish(
         view,
         targets: two_targets(alloc, targets)?,
         script: text(alloc, b"echo\n")?,
-        entries: List::empty(alloc),
+        entries,
         outputs: two_texts(alloc, outputs)?,
     };
     Ok(Row::of(TAG, 1_700_000_000, deed))
+}
+
+fn publish(
+    alloc: Global,
+    view: &[u8],
+    targets: [&[u8]; 2],
+    outputs: [&[u8]; 2],
+) -> Result<Row, Fail>
+    ensures { IfOk result (λ row. is_unversioned_deed row.deed ≡ true) }
+{
+    publish_of(alloc, view, targets, no_reads(alloc), outputs)
 }
 
 fn seven_rows(alloc: Global) -> Result<[Row; 7], Fail>
@@ -223,5 +251,72 @@ fn rows_have_texts(rt: HostRuntime) -> Result<(), Fail> {
 fn the_root_is_the_directory(rt: HostRuntime) -> Result<(), Fail> {
     assert!(rt; is_directory(&path(rt.alloc(), b".")?));
     assert!(rt; !is_directory(&path(rt.alloc(), b"a")?));
+    Ok(())
+}
+
+// How many rows with row 0, a view, and whether the row that makes it fits.
+const VIEWS_MADE: [(u64, &[u8], bool); 4] = [
+    (1, b"v", true),
+    (8, b"x", true),
+    (8, b"v", false),
+    (3, b"w", true),
+];
+
+// How many rows with row 0, a view and a path, and whether a private file there fits.
+const FILES_PUT: [(u64, &[u8], &[u8], bool); 5] = [
+    (1, b"v", b"a", false),
+    (2, b"v", b"a", true),
+    (8, b"v", b"a", true),
+    (8, b"w", b"a/b", true),
+    (8, b"x", b"a", false),
+];
+
+// How many rows with row 0, a view, a path that is read and the row that made it, and whether such an object fits.
+const OBJECTS_MADE: [(u64, &[u8], &[u8], u64, bool); 12] = [
+    (1, b"v", b"a", 0, false),
+    (2, b"v", b"a", 0, true),
+    (8, b"x", b"a", 0, false),
+    (8, b"v", b"a", 2, true),
+    (8, b"v", b"a", 1, false),
+    (3, b"v", b"a", 2, true),
+    (2, b"v", b"a", 2, false),
+    (8, b"w", b"out", 6, true),
+    (8, b"w", b"log", 6, true),
+    (8, b"w", b"log", 7, false),
+    (8, b"w", b"out", 8, false),
+    (8, b"w", b"out", u64::MAX, false),
+];
+
+#[test]
+fn a_view_fits_where_it_is_not(rt: HostRuntime) -> Result<(), Fail> {
+    let alloc = rt.alloc();
+    let rows = seven_rows(alloc)?;
+    for (count, view, fit) in VIEWS_MADE {
+        let row = mkview(alloc, view)?;
+        assert_eq!(rt; fits(first_rows(&rows, count), &row), fit, "over {count}");
+    }
+    Ok(())
+}
+
+#[test]
+fn a_private_file_fits_in_a_view(rt: HostRuntime) -> Result<(), Fail> {
+    let alloc = rt.alloc();
+    let rows = seven_rows(alloc)?;
+    for (count, view, path, fit) in FILES_PUT {
+        let row = put(alloc, view, path, b"text")?;
+        assert_eq!(rt; fits(first_rows(&rows, count), &row), fit, "over {count}");
+    }
+    Ok(())
+}
+
+#[test]
+fn an_object_fits_behind_what_it_read(rt: HostRuntime) -> Result<(), Fail> {
+    let alloc = rt.alloc();
+    let rows = seven_rows(alloc)?;
+    for (count, view, path, source, fit) in OBJECTS_MADE {
+        let read = one_read(alloc, path, source)?;
+        let row = publish_of(alloc, view, [b"x", b"y"], read, [b"", b""])?;
+        assert_eq!(rt; fits(first_rows(&rows, count), &row), fit, "over {count}");
+    }
     Ok(())
 }

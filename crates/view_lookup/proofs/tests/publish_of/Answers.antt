@@ -1,17 +1,12 @@
--- The row has the form of one: no entries are in order.
-use Rattle.std.proofs.Common.{◌≡◌, length, [], sym, subst, ◌∙◌, arith}
-use Rattle.std.specs.List.Sorted.{IsStrictlySortedBy}
+-- The row has the form of one.
+use Rattle.std.proofs.Common.{◌≡◌, length, sym, subst, ◌∙◌, arith}
 use Rattle.cc_names.specs.Formed.{AreEntries}
-use Rattle.view_lookup.proofs.tests.publish.Goals as goal
-
-no_entries : AreEntries []
-unfolding IsStrictlySortedBy
-no_entries = ((omega arith, tt), tt)
+use Rattle.view_lookup.proofs.tests.publish_of.Goals as goal
 
 pub of-requires : goal.of-requires
 of-requires c =
-    let entries = subst AreEntries (sym c.empty.ensures) no_entries in
     let same : length c.in_ok-two_texts.field-0 ≡ length c.in_ok-two_targets.field-0 = c.in_ok-two_texts.ensures.0 ∙ sym c.in_ok-two_targets.ensures.0 in
+    let entries = subst AreEntries (sym c.entries.view_is) c.requires in
     record {
       tag = (omega arith, omega arith, omega arith);
       moment = omega arith;
