@@ -1,3 +1,4 @@
 pub mod FirstRows
 pub mod Steps
 pub mod Growing
+pub mod Later

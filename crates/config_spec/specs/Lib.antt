@@ -1,3 +1,4 @@
 pub mod Children
+pub mod Laws
 pub mod Listing
 pub mod Sights
