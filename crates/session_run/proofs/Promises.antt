@@ -16,9 +16,11 @@ use Rattle.cc_outside.specs.Counts.{Rose}
 use Rattle.cc_outside.specs.Feeds.{AppendsFront}
 use Rattle.cc_outside.specs.declared.sinks.WriteFault.{WriteFault}
 use Rattle.session_text.specs.Sessions.{session_of}
+use Rattle.disk_model.specs.Devices.{bytes_of}
 use Rattle.disk_model.specs.Told.{Sight, IsCounted}
+use Rattle.vob_journal.specs.Frames.{frames}
 use Rattle.base_core.specs.Backed.{IsAccounted}
-use Rattle.base_core.specs.Opening.{FailsToOpen, IsCause, Opens}
+use Rattle.base_core.specs.Opening.{FailsToOpen, Opens, StopsBy}
 use Rattle.base_core.specs.declared.opening.OpenCause.{OpenCause}
 use Rattle.base_core.specs.declared.opening.OpenCause.TheVariants as opens
 use Rattle.legal_history.specs.Steps.{state_of}
@@ -313,7 +315,7 @@ open_first (opens.Damaged row) true intake e = absurd (cc)
 open_first (opens.Damaged row) false intake e = absurd (cc)
 open_first opens.DiskFault rose intake e = absurd (cc)
 
-open_cause : (because : OpenCause) (rose : Bool) (intake : Intake) (faults : Change ℕ) (disk : Change Sight) → disk_rose disk ≡ rose → IsAsked intake → IsCause disk.before because disk.after → HasCause (stop_status (open_stop because rose)) intake faults disk []
+open_cause : (because : OpenCause) (rose : Bool) (intake : Intake) (faults : Change ℕ) (disk : Change Sight) → disk_rose disk ≡ rose → IsAsked intake → StopsBy disk.before.told (λ d. frames (bytes_of 0 d)) because disk.before.faults disk.after.faults → HasCause (stop_status (open_stop because rose)) intake faults disk []
 open_cause opens.NoMemory rose intake faults disk by asked is = tt
 open_cause (opens.Damaged row) true intake faults disk by asked is = (asked, by, λ opened. absurd (cc))
 open_cause (opens.Damaged row) false intake faults disk by asked is = (asked, is.1, by, refl)

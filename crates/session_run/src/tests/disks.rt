@@ -20,6 +20,11 @@ const VIEWS: &str = "phase\nlane a\nmkview v\nmkview w\n";
 const BUILT: &str =
     "  out built 3 98ea6e4f216f2fb4b69fff9b3a44842c38686ca685f3f55dc48c5d3fb1107be4\n";
 
+const UNBUILT: &str =
+    "phase 1\nlane a\n1 mkview ok\n2 save ok\n3 save ok\n4 clearmake disk fault\n";
+
+const UNMADE: &str = "phase 1\nlane a\n1 mkview disk fault\n2 save refused C1 NoView\n3 save refused C1 NoView\n4 clearmake refused C1 NoView\n";
+
 fn letter_of(call: &Call) -> char {
     match call {
         Call::Length { .. } => 'L',
@@ -117,53 +122,47 @@ fn a_stopped_disk_holds_a_prefix(rt: HostRuntime) -> Result<(), Fail> {
     Ok(())
 }
 
+// What a session on an empty disk comes to whose calls of these numbers fail: what it writes, the calls and their number, and the
+// rows.
+fn assert_fault(
+    rt: &impl Abort,
+    alloc: Global,
+    session: &str,
+    fail: &[u64],
+    written: &str,
+    calls: &str,
+    ticks: u64,
+    rows: usize,
+) -> Result<(), Fail> {
+    let outcome = outcome_on(alloc, session, disk_with(alloc, &[], fail)?, &[], &[])?;
+    assert_eq!(rt; outcome.status.code(), 7);
+    assert_eq!(rt; outcome.written.as_bytes(), written.as_bytes());
+    assert_eq!(rt; calls_on(alloc, &outcome.disk)?.as_str(), calls);
+    assert_eq!(rt; outcome.disk.counts().ticks, ticks);
+    assert_eq!(rt; outcome.rows, rows);
+    Ok(())
+}
+
 #[test]
 fn a_disk_that_fails_is_told(rt: HostRuntime) -> Result<(), Fail> {
     let alloc = rt.alloc();
-    let saved = "phase 1\nlane a\n1 mkview ok\n2 save ok\n3 save ok\n4 clearmake disk fault\n";
-    let again = format!(in alloc; "{saved}5 clearmake ok\n{BUILT}")?;
-    let twice = format!(in alloc; "{saved}5 clearmake disk fault\n")?;
-    let unmade =
-        "phase 1\nlane a\n1 mkview disk fault\n2 save refused C1 NoView\n3 save refused C1 NoView\n4 clearmake refused C1 NoView\n";
-    let table: [(&str, &[u64], &str, &str, u64, usize); 6] = [
-        (FIRST, &[1], "disk fault\n", "", 1, 0),
-        (FIRST, &[7], unmade, "LWSWSW!WS", 9, 0),
-        (FIRST, &[19], saved, "LWSWSWSWSWSWSWSWSW!WS", 21, 3),
-        (FIRST, &[19, 21], saved, "LWSWSWSWSWSWSWSWSW!W", 21, 3),
-        (
-            SECOND,
-            &[19],
-            again.as_str(),
-            "LWSWSWSWSWSWSWSWSW!WSWSWS",
-            25,
-            4,
-        ),
-        (
-            SECOND,
-            &[19, 20],
-            twice.as_str(),
-            "LWSWSWSWSWSWSWSWSW!WWS",
-            22,
-            3,
-        ),
-    ];
-    for (session, fail, written, calls, ticks, rows) in table {
-        let outcome = outcome_on(alloc, session, disk_with(alloc, &[], fail)?, &[], &[])?;
-        assert_eq!(rt; outcome.status.code(), 7, "at {fail:?}");
-        assert_eq!(rt;
-            outcome.written.as_bytes(),
-            written.as_bytes(),
-            "at {fail:?}"
-        );
-        assert_eq!(rt;
-            calls_on(alloc, &outcome.disk)?.as_str(),
-            calls,
-            "at {fail:?}"
-        );
-        assert_eq!(rt; outcome.disk.counts().ticks, ticks, "at {fail:?}");
-        assert_eq!(rt; outcome.rows, rows, "at {fail:?}");
-    }
-    Ok(())
+    assert_fault(&rt, alloc, FIRST, &[1], "disk fault\n", "", 1, 0)?;
+    assert_fault(&rt, alloc, FIRST, &[7], UNMADE, "LWSWSW!WS", 9, 0)?;
+    let calls = "LWSWSWSWSWSWSWSWSW!WS";
+    assert_fault(&rt, alloc, FIRST, &[19], UNBUILT, calls, 21, 3)?;
+    let calls = "LWSWSWSWSWSWSWSWSW!W";
+    assert_fault(&rt, alloc, FIRST, &[19, 21], UNBUILT, calls, 21, 3)
+}
+
+#[test]
+fn the_next_command_goes_on(rt: HostRuntime) -> Result<(), Fail> {
+    let alloc = rt.alloc();
+    let again = format!(in alloc; "{UNBUILT}5 clearmake ok\n{BUILT}")?;
+    let calls = "LWSWSWSWSWSWSWSWSW!WSWSWS";
+    assert_fault(&rt, alloc, SECOND, &[19], again.as_str(), calls, 25, 4)?;
+    let never = format!(in alloc; "{UNBUILT}5 clearmake disk fault\n")?;
+    let calls = "LWSWSWSWSWSWSWSWSW!WWS";
+    assert_fault(&rt, alloc, SECOND, &[19, 20], never.as_str(), calls, 22, 3)
 }
 
 // A row whose last sync fails may be found until the tail is settled.
@@ -197,50 +196,56 @@ fn a_base_is_found_again(rt: HostRuntime) -> Result<(), Fail> {
     Ok(())
 }
 
+// What an empty session comes to on a disk that holds this journal, which stays as it is.
+fn assert_found(
+    rt: &impl Abort,
+    alloc: Global,
+    journal: &[u8],
+    written: &str,
+    code: u8,
+    rows: usize,
+) -> Result<(), Fail> {
+    let outcome = outcome_on(alloc, "", disk_with(alloc, journal, &[])?, &[], &[])?;
+    assert_eq!(rt; outcome.status.code(), code, "at {journal:?}");
+    assert_eq!(rt; outcome.written.as_bytes(), written.as_bytes());
+    assert_eq!(rt; outcome.rows, rows);
+    assert_eq!(rt; outcome.disk.bytes(0), journal);
+    Ok(())
+}
+
+// The journal of a session on an empty disk.
+fn journal_of(alloc: Global, session: &str) -> Result<Vec<u8>, Fail> {
+    let outcome = outcome_on(alloc, session, disk_with(alloc, &[], &[])?, &[], &[])?;
+    Ok(outcome.disk.bytes(0).to_vec(alloc)?)
+}
+
 // The journal of two views has two frames of 32 bytes and a gate that is shut.
+#[test]
+fn a_journal_is_read_to_its_end(rt: HostRuntime) -> Result<(), Fail> {
+    let alloc = rt.alloc();
+    let mut journal = journal_of(alloc, VIEWS)?;
+    assert_eq!(rt; journal.len(), 65);
+    assert_found(&rt, alloc, &journal, "", 0, 2)?;
+    assert_found(&rt, alloc, &journal[..40], "", 0, 1)?;
+    assert_found(&rt, alloc, b"\x01\xff\0\0\0", "", 0, 0)?;
+    journal[32] = 7;
+    assert_found(&rt, alloc, &journal, "", 0, 1)
+}
+
+// A frame that is no row, one with nothing in it, a row that is there already, and one behind rows that are missing.
 #[test]
 fn a_damaged_journal_is_told(rt: HostRuntime) -> Result<(), Fail> {
     let alloc = rt.alloc();
-    let views = outcome_on(alloc, VIEWS, disk_with(alloc, &[], &[])?, &[], &[])?;
-    let journal = views.disk.bytes(0);
-    assert_eq!(rt; journal.len(), 65);
+    assert_found(&rt, alloc, b"\x01\x01\0\0\0\x09\0", "damaged 1\n", 4, 0)?;
+    assert_found(&rt, alloc, b"\x01\0\0\0\0\0", "damaged 1\n", 4, 0)?;
+    let journal = journal_of(alloc, VIEWS)?;
+    assert!(rt; journal.len() > 64);
     let mut twice = journal[..64].to_vec(alloc)?;
     twice.extend_from_slice(&journal[..32])?;
-    let mut unread = journal[..32].to_vec(alloc)?;
-    unread.extend_from_slice(b"\x01\x01\0\0\0\x09\0")?;
-    let mut shut = journal.to_vec(alloc)?;
-    shut[32] = 7;
-    let saves = outcome_on(
-        alloc,
-        "phase\nlane a\nmkview v\nsave v in\n|hi\n",
-        disk_with(alloc, &[], &[])?,
-        &[],
-        &[],
-    )?;
-    let saved = saves.disk.bytes(0);
-    assert!(rt; saved.len() > 32);
-    let table: [(&[u8], &str, u8, usize); 8] = [
-        (b"\x01\xff\0\0\0", "", 0, 0),
-        (journal, "", 0, 2),
-        (&journal[..40], "", 0, 1),
-        (shut.as_slice(), "", 0, 1),
-        (twice.as_slice(), "damaged 3\n", 4, 0),
-        (unread.as_slice(), "damaged 2\n", 4, 0),
-        (&saved[32..], "damaged 1\n", 4, 0),
-        (b"\x01\0\0\0\0\0", "damaged 1\n", 4, 0),
-    ];
-    for (bytes, written, code, rows) in table {
-        let outcome = outcome_on(alloc, "", disk_with(alloc, bytes, &[])?, &[], &[])?;
-        assert_eq!(rt; outcome.status.code(), code, "at {bytes:?}");
-        assert_eq!(rt;
-            outcome.written.as_bytes(),
-            written.as_bytes(),
-            "at {bytes:?}"
-        );
-        assert_eq!(rt; outcome.rows, rows, "at {bytes:?}");
-        assert_eq!(rt; outcome.disk.bytes(0), bytes);
-    }
-    Ok(())
+    assert_found(&rt, alloc, &twice, "damaged 3\n", 4, 0)?;
+    let journal = journal_of(alloc, "phase\nlane a\nmkview v\nsave v in\n|hi\n")?;
+    assert!(rt; journal.len() > 32);
+    assert_found(&rt, alloc, &journal[32..], "damaged 1\n", 4, 0)
 }
 
 #[test]
