@@ -1,14 +1,19 @@
-// The program: `ccbase FILE run` reads a session from standard input and writes its replies to standard output.
+// The program: `ccbase FILE run` reads a session from standard input, runs it on the base that the files FILE and FILE.objects
+// keep, and writes its replies to standard output.
 //
-// What it promises: it adds nothing to `session_run::run_words` but the streams of the process, its clock, and the two
-// words `--help` and `--version`.
+// What it promises: it adds nothing to `session_run::run_words` but the streams of the process, its clock, its two files, and
+// the two words `--help` and `--version`.
 //
-// What it stands on: `session_run`, `cc_outside` for the streams and the clock, and `cc_names` for words.
+// What it stands on: `session_run`, `disk_model` for the files, `cc_outside` for the streams and the clock, and `cc_names` for
+// words.
 #![tactic(auto)]
 
+use cc_names::memory::NoMemory;
 use cc_names::texts::Text;
 use cc_outside::{StdSink, StdSource, SystemClock};
+use disk_model::FileDisk;
 use session_run::{Status, run_words};
+use std::alloc::Global;
 use std::process::ExitCode;
 use std::{env, io};
 
@@ -16,44 +21,77 @@ const VERSION: &str = "ccbase 0.1.0\n";
 
 const HELP: &str = "ccbase FILE run
 
-Reads a session from standard input and writes its replies to standard output.
-FILE is any word.
+Reads a session from standard input, runs it on the base that the files FILE and FILE.objects keep, and writes its
+replies to standard output. Files that are absent are made, and are an empty base.
 
 Ends with the status
   0  each command was carried out, and each unit of each build is made
   1  a command was refused, or a unit of a build failed or was blocked
   2  the words are none of the forms
   3  the text is no session
+  4  the journal is damaged: FILE has a frame that is no row, or whose row does not fit
   5  the input failed
   6  the output failed
+  7  the disk failed
   8  memory ran out
   9  the text has more than 16,777,216 bytes
 ";
 
 /// The words behind the name of the program.
-fn words_given(rt: &HostRuntime) -> io::Result<Vec<Text>> {
+fn words_given(rt: &HostRuntime) -> io::Result<Vec<String>> {
     let mut words = Vec::new(rt.alloc());
     for word in env::args(rt)?.skip(1) {
-        words.push(Text::of(word.into_bytes()))?;
+        words.push(word)?;
     }
     Ok(words)
 }
 
 /// What is answered without a run: the help or the version, where one of them is asked for alone.
-fn answer_to(words: &[Text]) -> Option<&'static str> {
+fn answer_to(words: &[String]) -> Option<&'static str> {
     match words {
-        [word] if word.as_bytes() == b"--help".as_slice() => Some(HELP),
-        [word] if word.as_bytes() == b"--version".as_slice() => Some(VERSION),
+        [word] if word.as_str() == "--help" => Some(HELP),
+        [word] if word.as_str() == "--version" => Some(VERSION),
         _ => None,
     }
 }
 
+/// The words as texts.
+fn texts_of(alloc: Global, words: &[String]) -> Result<Vec<Text>, NoMemory> {
+    let mut texts = Vec::new(alloc);
+    for word in words {
+        texts.push(Text::from_bytes(alloc, word.as_bytes())?)?;
+    }
+    Ok(texts)
+}
+
+/// The disk of the files that the words name. Words of no form name none, and then none is opened.
+fn disk_of(rt: HostRuntime, words: &[String]) -> Result<FileDisk<HostRuntime>, NoMemory> {
+    let file = match words {
+        [file, ..] => file.as_str(),
+        [] => "",
+    };
+    let journal = format!(in rt.alloc(); "{file}")?;
+    let objects = format!(in rt.alloc(); "{file}.objects")?;
+    Ok(FileDisk::new(rt, journal, objects))
+}
+
 /// Runs what the words ask for, and answers the status.
-fn run(rt: HostRuntime, words: &[Text]) -> Status {
+fn run(rt: HostRuntime, words: &[String]) -> Result<Status, NoMemory> {
+    let alloc = rt.alloc();
+    let texts = texts_of(alloc, words)?;
+    let disk = disk_of(rt.clone()?, words)?;
     let mut source = StdSource::new(rt.reader());
     let mut sink = StdSink::new(io::writer(&rt));
     let mut clock = SystemClock::new(rt);
-    run_words(rt.alloc(), words, &mut source, &mut sink, &mut clock).status
+    let ended = run_words(
+        alloc,
+        texts.as_slice(),
+        &mut source,
+        &mut sink,
+        disk,
+        &mut clock,
+    );
+    Ok(ended.status)
 }
 
 fn main(rt: HostRuntime) -> io::Result<ExitCode> {
@@ -66,6 +104,6 @@ fn main(rt: HostRuntime) -> io::Result<ExitCode> {
         print!(rt; "{answer}")?;
         return Ok(ExitCode::from(0));
     }
-    let status = run(rt, words.as_slice());
+    let status = run(rt, words.as_slice()).unwrap_or(Status::NoMemory);
     Ok(ExitCode::from(status.code()))
 }

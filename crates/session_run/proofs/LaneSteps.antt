@@ -1,9 +1,10 @@
 -- What the turns of a lane do to the story.
 use Rattle.std.proofs.Common.{◌≡◌, ℕ, ◌-◌, ◌<◌, Bool, true, false, Option, Some, None, Result, Ok, Err, List, [], ◌∷◌, refl, ap, sym, subst, ◌∙◌, arith}
-use Rattle.std.specs.Prelude.{IfSome, IsSome, option_map}
+use Rattle.std.specs.Prelude.{IfSome, IsSome, option_map, option_and_then}
 use Rattle.cc_names.specs.declared.commands.Command.{Command}
 use Rattle.cc_names.specs.declared.commands.Command.TheVariants as commands
 use Rattle.cc_names.specs.declared.desks.Done.{Done}
+use Rattle.cc_names.specs.declared.desks.Done.TheVariants.{Committed, Refused, Answered, Faulted}
 use Rattle.cc_names.specs.declared.desks.Next.TheVariants as nexts
 use Rattle.cc_names.specs.declared.refusals.Refusal.{Refusal}
 use Rattle.cc_names.specs.declared.rows.Tag.{Tag}
@@ -11,8 +12,11 @@ use Rattle.cc_names.specs.declared.rows.Deed.{Deed}
 use Rattle.cc_names.specs.declared.rows.Deed.TheVariants as deeds
 use Rattle.cc_names.specs.declared.selection.Seen.{Seen}
 use Rattle.cc_names.specs.declared.selection.Seen.TheVariants.{Element, Unselected}
+use Rattle.cc_names.specs.declared.steps.Step.TheVariants as steps
 use Rattle.cc_names.specs.declared.steps.Told.{Told}
-use Rattle.base_core.specs.Acting.{Acts, step_of}
+use Rattle.cc_names.specs.declared.steps.Told.TheVariants as told
+use Rattle.base_core.proofs.Idle.{decided_is_free}
+use Rattle.base_core.specs.Acting.{Acts, IsStepOf}
 use Rattle.base_core.specs.Carried.{is_carried_out, AreCarriedOut}
 use Rattle.base_core.specs.Going.{SamePhase, Finishes, GoesOn}
 use Rattle.base_core.specs.Nexts.{next_of, next_by, waiting}
@@ -22,8 +26,8 @@ use Rattle.legal_history.specs.Builds.{build_of}
 use Rattle.legal_history.specs.Decisions.{Scene, Decision, Makes, Answers, Begins, unless_refused}
 use Rattle.legal_history.specs.FileLines.{save_deed}
 use Rattle.legal_history.specs.Lines.{decision}
-use Rattle.legal_history.specs.States.{State, start, scene, done_of, with_done, is_next, next_tag, decided, lane_at}
-use Rattle.legal_history.specs.Steps.{after, done_after, state_of}
+use Rattle.legal_history.specs.States.{State, start, scene, done_of, with_done, is_next, next_tag, decided, lane_at, build_if, build_by}
+use Rattle.legal_history.specs.Steps.{after, done_after, done_by_fault, state_of}
 use Rattle.session_run.specs.Headline.{is_opened}
 use Rattle.session_run.specs.Lanes.{Goes, GoesInLane, TakesTurn, IsWithin, IsFinished, count_of}
 use Rattle.session_run.proofs.MoreSteps.{state_more, goes_on}
@@ -64,24 +68,41 @@ record IsLaneStep (s : State) (x : Told) (lane : ℕ) : Type 0 where
   phase : SamePhase s (after s x)
   done : (after s x).done ≡ with_done s.done lane
 
-lane_step : (s : State) (tag : Tag) (chosen : Option (Result Decision Refusal)) → EndsCommand chosen → IsLaneStep s (step_of s tag chosen) tag.lane
+-- a decision as it stands where a command makes a row
+row_ends : (deed : Deed) → EndsCommand (Some (Ok (Makes deed))) → (done : List (ℕ × ℕ)) (lane : ℕ) → done_after done lane deed ≡ with_done done lane
 unfolding EndsCommand
-lane_step s tag None h = record { phase = record { phase = refl; number = refl; moment = refl }; done = refl }
-lane_step s tag (Some (Ok (Makes deed))) h = record { phase = record { phase = refl; number = refl; moment = refl }; done = h s.done tag.lane }
-lane_step s tag (Some (Ok (Answers text))) h = record { phase = record { phase = refl; number = refl; moment = refl }; done = refl }
-lane_step s tag (Some (Ok (Begins units))) h = record { phase = record { phase = refl; number = refl; moment = refl }; done = refl }
-lane_step s tag (Some (Err refusal)) h = record { phase = record { phase = refl; number = refl; moment = refl }; done = refl }
+row_ends deed ends = ends
+
+makes_ends_by : (chosen : Option (Result Decision Refusal)) (deed : Deed) → EndsCommand chosen → chosen ≡ Some (Ok (Makes deed)) → (done : List (ℕ × ℕ)) (lane : ℕ) → done_after done lane deed ≡ with_done done lane
+makes_ends_by chosen deed ends is = row_ends deed (subst EndsCommand is ends)
+
+-- a command of which anything is decided builds nothing
+free_by : (s : State) (lane : ℕ) (chosen : Result Decision Refusal) → decided s (next_tag s lane) ≡ Some chosen → build_by s (next_tag s lane) ≡ None
+free_by s lane chosen is = ap (option_and_then (build_if (next_tag s lane))) (decided_is_free s (next_tag s lane) chosen is)
+
+lane_step : (s : State) (lane : ℕ) (done : Done) (x : Told) → EndsCommand (decided s (next_tag s lane)) → IsStepOf s (next_tag s lane) done x → IsLaneStep s x lane
+lane_step s lane Committed (told.Commit row tick) ends is =
+    let at : row.tag.lane ≡ lane = ap (λ t. t.lane) is.0 in
+    record { phase = record { phase = refl; number = refl; moment = refl }; done = ap (λ l. done_after s.done l row.deed) at ∙ makes_ends_by (decided s (next_tag s lane)) row.deed ends is.2 s.done lane }
+lane_step s lane Refused (told.Other (steps.Refused finished refusal)) ends is = record { phase = record { phase = refl; number = refl; moment = refl }; done = ap (λ t. with_done s.done t.lane) is.0 }
+lane_step s lane Answered (told.Other (steps.Answer finished text)) ends is = record { phase = record { phase = refl; number = refl; moment = refl }; done = ap (λ t. with_done s.done t.lane) is.0 }
+lane_step s lane Faulted (told.Other (steps.Fault finished left before faults tick)) ends is =
+    record {
+      phase = record { phase = refl; number = refl; moment = refl };
+      done = ap (λ t. done_by_fault s.done t.lane (build_by s t)) is.0 ∙ ap (done_by_fault s.done lane) (free_by s lane (Ok (Makes is.1)) is.2);
+    }
+lane_step s lane done x ends is = absurd is
 
 -- a lane that acts finishes its command
 pub act_finishes : (old new : List Told) (lane : ℕ) (done : Done) → AreCarriedOut (state_of old).phase → next_of (state_of old) lane ≡ nexts.Act → Acts old new lane done → Finishes old new lane
 act_finishes old new lane done carried acts by_act =
     let s = state_of old in
-    let x = step_of s (next_tag s lane) (decided s (next_tag s lane)) in
-    let step = lane_step s (next_tag s lane) (decided s (next_tag s lane)) (decided_ends s lane carried acts) in
-    let state : state_of new ≡ after s x = ap state_of by_act.step ∙ state_more start old (x ∷ []) in
+    let x = by_act.step in
+    let step = lane_step s lane done x (decided_ends s lane carried acts) by_act.is in
+    let state : state_of new ≡ after s x = ap state_of by_act.grows ∙ state_more start old (x ∷ []) in
     record {
       steps = x ∷ [];
-      grows = by_act.step;
+      grows = by_act.grows;
       phase = subst (SamePhase s) (sym state) step.phase;
       done = ap (λ t. done_of t.done lane) state ∙ ap (λ d. done_of d lane) step.done ∙ done_same s.done lane;
       others = λ other differs. ap (λ t. done_of t.done other) state ∙ ap (λ d. done_of d other) step.done ∙ done_other s.done lane other differs;
@@ -117,7 +138,7 @@ stays old new lane same = record {
 }
 
 pub goes_nowhere : (story : List Told) → Goes story story
-goes_nowhere story = record { phases = refl; moments = refl; phase = refl; number = refl; earlier = refl; opened = refl }
+goes_nowhere story = record { phases = refl; moments = refl; phase = refl; number = refl; earlier = refl; first = refl; opened = refl }
 
 -- a lane that has done nothing yet
 pub lane_starts : (lane : ℕ) (story : List Told) → IsWithin (state_of story) lane → GoesInLane lane story story
@@ -130,6 +151,7 @@ goes_further old now new one two = record {
   phase = two.phase ∙ one.phase;
   number = two.number ∙ one.number;
   earlier = two.earlier ∙ one.earlier;
+  first = two.first ∙ one.first;
   opened = two.opened ∙ one.opened;
 }
 

@@ -6,5 +6,6 @@ pub mod PhaseSteps
 pub mod Promises
 pub mod Ready
 pub mod Running
+pub mod Stopping
 pub mod Within
 mod Worked

@@ -9,7 +9,7 @@ use Rattle.legal_history.specs.States.{State, start}
 use Rattle.legal_history.specs.Steps.{after, after_step, state_from, state_of}
 use Rattle.base_core.specs.Going.{SamePhase}
 use Rattle.base_core.specs.Replying.{no_replies, replies_after}
-use Rattle.session_run.specs.Headline.{phases_begun, moments_begun, is_opened}
+use Rattle.session_run.specs.Headline.{phases_begun, moments_begun, first_step, is_opened}
 use Rattle.session_run.specs.Rendered.{Replies, closed_by, closed_over, replies_over}
 use Rattle.session_run.specs.Lanes.{Goes, given_earlier}
 
@@ -36,6 +36,10 @@ closed_more leave s replies (x ∷ story) more =
 pub opened_more : (story more : List Told) → is_opened story ≡ true → is_opened (story ++ more) ≡ is_opened story
 opened_more [] more e = absurd (cc)
 opened_more (x ∷ story) more e = refl
+
+pub first_more : (story more : List Told) → is_opened story ≡ true → first_step (story ++ more) ≡ first_step story
+first_more [] more e = absurd (cc)
+first_more (x ∷ story) more e = refl
 
 -- no step but a plan raises the number of the last phase
 number_step : (s : State) (step : Step) → (after_step s step).number ≡ s.number
@@ -99,5 +103,6 @@ goes_on old new more grows same opened =
           ap (λ story. given_earlier story) grows ∙ closed_more replies_after start no_replies old more
           ∙ ap (λ ps. given_earlier old ++ ps) (closes_none replies_after (state_of old) (replies_over replies_after start no_replies old) more none)
           ∙ append-nil (given_earlier old);
+      first = ap first_step grows ∙ first_more old more opened;
       opened = ap is_opened grows ∙ opened_more old more opened;
     }

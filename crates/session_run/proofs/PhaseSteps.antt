@@ -8,11 +8,11 @@ use Rattle.cc_names.specs.declared.steps.Told.TheVariants as told
 use Rattle.legal_history.specs.States.{start, done_of, lane_at, all_done}
 use Rattle.legal_history.specs.Steps.{after, state_of}
 use Rattle.base_core.specs.Replying.{no_replies, replies_after}
-use Rattle.session_run.specs.Headline.{phases_begun, moments_begun, is_opened}
+use Rattle.session_run.specs.Headline.{phases_begun, moments_begun, first_step, is_opened}
 use Rattle.session_run.specs.Rendered.{last_phase, replies_over}
 use Rattle.session_run.specs.Lanes.{given_earlier, Goes, GoesInLane, GoesInLanes, GoesInPhase, RunsPhase, LeavesPhase, IsWithin, IsFinished, count_of}
 use Rattle.session_run.proofs.LaneSteps.{goes_nowhere, goes_further}
-use Rattle.session_run.proofs.MoreSteps.{state_more, phases_more, moments_more, closed_more}
+use Rattle.session_run.proofs.MoreSteps.{state_more, phases_more, moments_more, closed_more, first_more}
 use Rattle.session_run.proofs.Within.{one_or_two, all_finished}
 
 -- before the first lane
@@ -72,6 +72,7 @@ phase_begins old new phase moment is =
       moments = ap moments_begun is ∙ moments_more old (x ∷ []);
       is_last = ap (λ s. s.phase) state;
       number = ap (λ s. s.number) state;
+      first = λ before. ap first_step is ∙ first_more old (x ∷ []) before;
       opened = ap is_opened is ∙ ends_opened old x;
       earlier = ap (λ story. given_earlier story) is ∙ closed_more replies_after start no_replies old (x ∷ []) ∙ ap (λ ps. given_earlier old ++ ps) (append-nil (last_phase (state_of old) (replies_over replies_after start no_replies old)));
     }
@@ -90,6 +91,7 @@ phase_goes_on old now new phase moment begun goes = record {
   moments = goes.moments ∙ begun.moments;
   is_last = goes.phase ∙ begun.is_last;
   number = goes.number ∙ begun.number;
+  first = λ before. goes.first ∙ begun.first before;
   opened = goes.opened ∙ begun.opened;
   earlier = goes.earlier ∙ begun.earlier;
 }

@@ -16,21 +16,32 @@ use Rattle.cc_outside.specs.Counts.{Rose}
 use Rattle.cc_outside.specs.Feeds.{AppendsFront}
 use Rattle.cc_outside.specs.declared.sinks.WriteFault.{WriteFault}
 use Rattle.session_text.specs.Sessions.{session_of}
-use Rattle.base_core.specs.InMemory.{IsInMemory}
-use Rattle.legal_history.specs.Stories.{Legal}
-use Rattle.session_run.specs.Causes.{Change, Intake, IsWhole, HasCause}
-use Rattle.session_run.specs.Headline.{IsFront, IsSession, IsOneHistory, IsCutAtLast, AreFromNothing, ArePrinted, is_opened, is_session, is_read, phases_begun, phases_spelled, moments_begun, clock_moments}
+use Rattle.disk_model.specs.Devices.{bytes_of}
+use Rattle.disk_model.specs.Told.{Sight, IsCounted}
+use Rattle.vob_journal.specs.Frames.{frames}
+use Rattle.base_core.specs.Backed.{IsAccounted}
+use Rattle.base_core.specs.Opening.{FailsToOpen, Opens, StopsBy}
+use Rattle.base_core.specs.declared.opening.OpenCause.{OpenCause}
+use Rattle.base_core.specs.declared.opening.OpenCause.TheVariants as opens
+use Rattle.legal_history.specs.Steps.{state_of}
+use Rattle.legal_history.specs.Stories.{Legal, rises}
+use Rattle.session_run.specs.Causes.{Change, Intake, IsAsked, IsUntouched, IsWhole, HasCause, disk_rose}
+use Rattle.session_run.specs.Asked.{is_session, is_read, phases_spelled}
+use Rattle.session_run.specs.Headline.{BeginsOn, IsFront, IsSession, IsOneHistory, IsCutAtLast, AreFromNothing, ArePrinted, first_step, is_opened, is_through, phases_begun, moments_begun, clock_moments}
 use Rattle.session_run.specs.Rendered.{rendered, earlier_text, transcripts, has_failure, phase_fails}
 use Rattle.session_run.specs.Lanes.{given, given_earlier}
-use Rattle.session_run.specs.Runs.{Outside, GivenAsTold, HasRun, HasRunSo, IsGivenUp, RunsSession, OnWriteFault, run_status}
-use Rattle.session_run.specs.Statuses.{is_through, is_cut, status_line}
-use Rattle.session_run.specs.Stops.{GivesPhases, HasStop, WritesStop, stop_status, stop_line}
+use Rattle.session_run.specs.Runs.{IsJustOpened, Outside, GivenAsTold, HasRun, HasRunSo, IsGivenUp, OnWriteFault, run_status}
+use Rattle.session_run.specs.Statuses.{is_cut, status_line}
+use Rattle.session_run.specs.Outcomes.{RunsOpened, RunsSession}
+use Rattle.session_run.specs.Stopped.{IsHandedIn, IsMended, IsStopped}
+use Rattle.session_run.specs.Stops.{GivesPhases, HasStop, WritesStop, open_stop, stop_status, stop_line}
 use Rattle.session_run.specs.declared.sessions.Stop.{Stop}
 use Rattle.session_run.specs.declared.sessions.Stop.TheVariants as stops
 use Rattle.session_run.specs.declared.statuses.Status.{Status}
 use Rattle.session_run.specs.declared.statuses.Status.TheVariants as statuses
 use Rattle.session_run.proofs.FromNothing.{Laws, given_as_told, are_from_nothing}
 use Rattle.session_run.proofs.Running.{clock_length}
+use Rattle.session_run.proofs.Stopping.{keeps_prefix, stays_closed, stays_untouched}
 
 -- what is told of bytes
 told_so : (text : Option (List ℕ)) (P Q : List ℕ → Type 0) → IfSome text P → ((bytes : List ℕ) → P bytes → Q bytes) → IfSome text Q
@@ -55,44 +66,48 @@ session_run status story phases intake outside failed gives ran = record {
       (λ told e. e ∙ ap (clock_moments told outside.first) (sym (clock_length told outside.first (length phases)) ∙ sym (ap length e)));
 }
 
-session_cut : (status : Status) (cut : Or WriteFault) (story : List Told) (phases : List Phase) (intake : Intake) (outside : Outside) → is_through status ≡ false → GivesPhases intake phases → IsGivenUp cut phases story outside.held outside.holds outside.moments outside.first → IsSession status story intake.text.before outside.moments outside.first
+session_cut : (status : Status) (cut : Or WriteFault) (story : List Told) (phases : List Phase) (intake : Intake) (outside : Outside) → is_through status story ≡ false → GivesPhases intake phases → IsGivenUp cut phases story outside.held outside.holds outside.moments outside.first → IsSession status story intake.text.before outside.moments outside.first
 session_cut status cut story phases intake outside not gives left = record {
   begun = told_so intake.text.before _ (λ bytes. IsFront (phases_begun story) (phases_spelled bytes)) gives.spelled (λ bytes e. (left.begun.0, e ∙ left.begun.1));
-  all = λ through. not_false (is_through status) through not;
+  all = λ through. not_false (is_through status story) through not;
   none = told_so intake.text.before _ (λ bytes. is_session bytes ≡ false → story ≡ []) gives.session (λ bytes e f. not_false (is_session bytes) e f);
   moments = left.moments_are;
 }
 
-session_none : (status : Status) (story : List Told) (text clock : Option (List ℕ)) (first : ℕ) → is_through status ≡ false → story ≡ [] → IsSession status story text clock first
-session_none status story text clock first not empty = record {
-  begun = always text (λ bytes. IsFront (phases_begun story) (phases_spelled bytes)) (λ bytes. (phases_spelled bytes, ap (λ ps. ps ++ phases_spelled bytes) (sym (ap phases_begun empty))));
-  all = λ through. not_false (is_through status) through not;
-  none = always text (λ bytes. is_session bytes ≡ false → story ≡ []) (λ bytes e. empty);
-  moments = always clock (λ told. moments_begun story ≡ clock_moments told first (length (moments_begun story))) (λ told. ap moments_begun empty ∙ ap (λ ms. clock_moments told first (length ms)) (sym (ap moments_begun empty)));
+session_none : (status : Status) (text clock : Option (List ℕ)) (first : ℕ) → is_through status [] ≡ false → IsSession status [] text clock first
+session_none status text clock first not = record {
+  begun = always text (λ bytes. IsFront [] (phases_spelled bytes)) (λ bytes. (phases_spelled bytes, refl));
+  all = λ through. not_false (is_through status []) through not;
+  none = always text (λ bytes. let none : List Told = [] in is_session bytes ≡ false → none ≡ []) (λ bytes e. refl);
+  moments = always clock (λ told. let none : List ℕ = [] in none ≡ clock_moments told first 0) (λ told. refl);
 }
 
-pub run_session : (result : Result Bool (Or WriteFault)) (story : List Told) (phases : List Phase) (intake : Intake) (outside : Outside) → GivesPhases intake phases → HasRunSo result phases story outside → IsSession (run_status result) story intake.text.before outside.moments outside.first
-run_session (Ok true) story phases intake outside gives ran = session_run _ story phases intake outside true gives ran
-run_session (Ok false) story phases intake outside gives ran = session_run _ story phases intake outside false gives ran
-run_session (Err NoMemory) story phases intake outside gives left = session_cut _ NoMemory story phases intake outside refl gives left
-run_session (Err (Is fault)) story phases intake outside gives left = session_cut _ (Is fault) story phases intake outside refl gives left
+run_session : (result : Result Bool (Or WriteFault)) (rose : Bool) (story : List Told) (phases : List Phase) (intake : Intake) (outside : Outside) → GivesPhases intake phases → HasRunSo result phases story outside → IsSession (run_status result rose) story intake.text.before outside.moments outside.first
+run_session (Ok failed) rose story phases intake outside gives ran = session_run _ story phases intake outside failed gives ran
+run_session (Err NoMemory) rose story phases intake outside gives left = session_cut _ NoMemory story phases intake outside refl gives left
+run_session (Err (Is fault)) rose story phases intake outside gives left = session_cut _ (Is fault) story phases intake outside refl gives left
 
 -- One legal history
 cut_told : (story : List Told) (old new : Option (List ℕ)) → GivenAsTold story → IsCutAtLast story (transcripts (given_earlier story)) old new → IsCutAtLast story (earlier_text story) old new
 cut_told story old new same cut = subst (λ text. IsCutAtLast story text old new) (ap transcripts same.earlier) cut
 
-pub run_history : (result : Result Bool (Or WriteFault)) (story : List Told) (phases : List Phase) (outside : Outside) → Legal story → IsInMemory story → GivenAsTold story → HasRunSo result phases story outside → IsOneHistory (run_status result) story outside.held outside.holds
-run_history (Ok true) story phases outside legal memory same ran = record { legal = legal; memory = λ opened. memory; complete = λ through. ran.finished; cut = λ opened e. absurd (cc) }
-run_history (Ok false) story phases outside legal memory same ran = record { legal = legal; memory = λ opened. memory; complete = λ through. ran.finished; cut = λ opened e. absurd (cc) }
-run_history (Err NoMemory) story phases outside legal memory same left = record { legal = legal; memory = λ opened. memory; complete = λ through. absurd (cc); cut = λ opened e. absurd (cc) }
-run_history (Err (Is fault)) story phases outside legal memory same left = record { legal = legal; memory = λ opened. memory; complete = λ through. absurd (cc); cut = λ opened e. cut_told story outside.held outside.holds same left.cut_at }
+not_cut : (failed rose : Bool) → run_status (Ok failed) rose ≡ statuses.WriteFault → ⊥
+not_cut true true e = cc
+not_cut false true e = cc
+not_cut true false e = cc
+not_cut false false e = cc
 
-history_none : (status : Status) (story : List Told) (old new : Option (List ℕ)) → is_through status ≡ false → story ≡ [] → IsOneHistory status story old new
-history_none status story old new not empty = record {
-  legal = subst Legal (sym empty) tt;
-  memory = λ opened. not_false (is_opened story) opened (ap is_opened empty);
-  complete = λ through. not_false (is_through status) through not;
-  cut = λ opened e. not_false (is_opened story) opened (ap is_opened empty);
+run_history : (result : Result Bool (Or WriteFault)) (rose : Bool) (story : List Told) (phases : List Phase) (disk : Sight) (outside : Outside) → Legal story → BeginsOn disk story → GivenAsTold story → HasRunSo result phases story outside → IsOneHistory (run_status result rose) story disk outside.held outside.holds
+run_history (Ok failed) rose story phases disk outside legal begins same ran = record { legal = legal; base = λ opened. begins; complete = λ through. ran.finished; cut = λ opened e. absurd (not_cut failed rose e) }
+run_history (Err NoMemory) rose story phases disk outside legal begins same left = record { legal = legal; base = λ opened. begins; complete = λ through. absurd (cc); cut = λ opened e. absurd (cc) }
+run_history (Err (Is fault)) rose story phases disk outside legal begins same left = record { legal = legal; base = λ opened. begins; complete = λ through. absurd (cc); cut = λ opened e. cut_told story outside.held outside.holds same left.cut_at }
+
+history_none : (status : Status) (disk : Sight) (old new : Option (List ℕ)) → is_through status [] ≡ false → IsOneHistory status [] disk old new
+history_none status disk old new not = record {
+  legal = tt;
+  base = λ opened. absurd (cc);
+  complete = λ through. not_false (is_through status []) through not;
+  cut = λ opened e. absurd (cc);
 }
 
 -- Builds as from nothing
@@ -125,56 +140,56 @@ printed_front status story text old new opened cut written = record {
 given_text : (story : List Told) → GivenAsTold story → transcripts (given story) ≡ rendered story
 given_text story same = ap transcripts same.ended
 
-pub run_printed : (result : Result Bool (Or WriteFault)) (story : List Told) (phases : List Phase) (text : Option (List ℕ)) (outside : Outside) → GivenAsTold story → HasRunSo result phases story outside → ArePrinted (run_status result) story text outside.held outside.holds
-run_printed (Ok true) story phases text outside same ran = printed_whole _ story text outside.held outside.holds ran.opened refl (subst (Appends outside.held outside.holds) (given_text story same) ran.written)
-run_printed (Ok false) story phases text outside same ran = printed_whole _ story text outside.held outside.holds ran.opened refl (subst (Appends outside.held outside.holds) (given_text story same) ran.written)
-run_printed (Err NoMemory) story phases text outside same left = printed_front _ story text outside.held outside.holds left.opened refl (subst (AppendsFront outside.held outside.holds) (given_text story same) left.written)
-run_printed (Err (Is fault)) story phases text outside same left = printed_front _ story text outside.held outside.holds left.opened refl (subst (AppendsFront outside.held outside.holds) (given_text story same) left.written)
+not_cut_short : (failed rose : Bool) → is_cut (run_status (Ok failed) rose) ≡ false
+not_cut_short true true = refl
+not_cut_short false true = refl
+not_cut_short true false = refl
+not_cut_short false false = refl
+
+run_printed : (result : Result Bool (Or WriteFault)) (rose : Bool) (story : List Told) (phases : List Phase) (text : Option (List ℕ)) (outside : Outside) → GivenAsTold story → HasRunSo result phases story outside → ArePrinted (run_status result rose) story text outside.held outside.holds
+run_printed (Ok failed) rose story phases text outside same ran = printed_whole _ story text outside.held outside.holds ran.opened (not_cut_short failed rose) (subst (Appends outside.held outside.holds) (given_text story same) ran.written)
+run_printed (Err NoMemory) rose story phases text outside same left = printed_front _ story text outside.held outside.holds left.opened refl (subst (AppendsFront outside.held outside.holds) (given_text story same) left.written)
+run_printed (Err (Is fault)) rose story phases text outside same left = printed_front _ story text outside.held outside.holds left.opened refl (subst (AppendsFront outside.held outside.holds) (given_text story same) left.written)
 
 -- The cause
 whole : (intake : Intake) (story : List Told) (phases : List Phase) (outside : Outside) (failed : Bool) → GivesPhases intake phases → HasRun phases story outside failed → IsWhole intake story
 whole intake story phases outside failed gives ran =
     record { read = gives.read; session = gives.session; opened = ran.opened; finished = ran.finished }
 
+asked : (intake : Intake) (phases : List Phase) → GivesPhases intake phases → IsAsked intake
+asked intake phases gives = record { read = gives.read; session = gives.session }
+
 told_failures : (story : List Told) (failed : Bool) → GivenAsTold story → list_any phase_fails (given story) ≡ failed → has_failure story ≡ failed
 told_failures story failed same e = ap (list_any phase_fails) (sym same.ended) ∙ e
 
-pub run_cause : (result : Result Bool (Or WriteFault)) (story : List Told) (phases : List Phase) (intake : Intake) (outside : Outside) (faults : Change ℕ) → GivesPhases intake phases → GivenAsTold story → HasRunSo result phases story outside → OnWriteFault result (Rose faults.before faults.after) → HasCause (run_status result) intake faults story
-run_cause (Ok true) story phases intake outside faults gives same ran rose = (whole intake story phases outside true gives ran, told_failures story true same ran.failures)
-run_cause (Ok false) story phases intake outside faults gives same ran rose = (whole intake story phases outside false gives ran, told_failures story false same ran.failures)
-run_cause (Err NoMemory) story phases intake outside faults gives same left rose = tt
-run_cause (Err (Is fault)) story phases intake outside faults gives same left rose = rose
+run_cause : (result : Result Bool (Or WriteFault)) (rose : Bool) (story : List Told) (phases : List Phase) (intake : Intake) (outside : Outside) (faults : Change ℕ) (disk : Change Sight) → disk_rose disk ≡ rose → GivesPhases intake phases → GivenAsTold story → HasRunSo result phases story outside → OnWriteFault result (Rose faults.before faults.after) → HasCause (run_status result rose) intake faults disk story
+run_cause (Ok true) true story phases intake outside faults disk by gives same ran wrote = (asked intake phases gives, by, λ opened. ran.finished)
+run_cause (Ok false) true story phases intake outside faults disk by gives same ran wrote = (asked intake phases gives, by, λ opened. ran.finished)
+run_cause (Ok true) false story phases intake outside faults disk by gives same ran wrote = (whole intake story phases outside true gives ran, told_failures story true same ran.failures, by)
+run_cause (Ok false) false story phases intake outside faults disk by gives same ran wrote = (whole intake story phases outside false gives ran, told_failures story false same ran.failures, by)
+run_cause (Err NoMemory) rose story phases intake outside faults disk by gives same left wrote = tt
+run_cause (Err (Is fault)) rose story phases intake outside faults disk by gives same left wrote = wrote
 
 -- Where no base was opened
 no_error : SessionError
 no_error = record { line = 0; cause = causes.NoPhase }
 
-nothing_front : (old new : Option (List ℕ)) (xs : List ℕ) → new ≡ old → AppendsFront old new xs
-nothing_front None new xs e = (0, omega arith, tt)
-nothing_front (Some a) None xs e = absurd (cc)
-nothing_front (Some a) (Some b) xs e = (0, omega arith, ap (λ o. elim o [ None ↦ a | Some c ↦ c ]) e ∙ sym (append-nil a))
-
-closed_printed : (status : Status) (story : List Told) (text old new : Option (List ℕ)) → status ≡ statuses.NoMemory → story ≡ [] → new ≡ old → ArePrinted status story text old new
-closed_printed status story text old new is empty same = record {
-  whole = λ o c. not_false (is_opened story) o (ap is_opened empty);
-  front = λ o c. not_false (is_opened story) o (ap is_opened empty);
-  line = λ o c. not_false (is_cut status) (ap is_cut is) c;
-  line_front = λ o c. record { status = statuses.NoMemory; error = no_error; written = nothing_front old new [] same };
-}
-
--- a base was opened, and this is what became of it
-pub runs_session : (laws : Laws) (result : Result Bool (Or WriteFault)) (phases : List Phase) (status : Status) (story history : List Told) (outside : Outside) (faults : Change ℕ) → history ≡ story → status ≡ run_status result → Legal story → IsInMemory story → IfOk result (HasRun phases story outside) → IfErr result (λ cut. IsGivenUp cut phases story outside.held outside.holds outside.moments outside.first) → OnWriteFault result (Rose faults.before faults.after) → RunsSession phases status history outside faults
-runs_session laws result phases status story history outside faults same is legal memory ran left rose =
-    subst (λ s. RunsSession phases status s outside faults) (sym same)
-    (inl (record {
+-- a base was opened, and this is what became of it: the story as it was when the journal was settled is the one that was run
+pub runs_opened : (laws : Laws) (result : Result Bool (Or WriteFault)) (phases : List Phase) (status : Status) (first : Option Told) (story settled history : List Told) (before : ℕ) (sight now : Sight) (outside : Outside) (faults : Change ℕ) → settled ≡ story → history ≡ settled → now ≡ sight → status ≡ run_status result (rises before sight.faults) → first_step story ≡ first → Legal settled → IfOk result (HasRun phases story outside) → IfErr result (λ cut. IsGivenUp cut phases story outside.held outside.holds outside.moments outside.first) → OnWriteFault result (Rose faults.before faults.after) → IsAccounted (state_of settled) sight → IsMended (state_of settled) sight → RunsOpened phases status first history before now outside faults
+runs_opened laws result phases status first story settled history before sight now outside faults kept same seen is begins legal ran left wrote accounted mended =
+    subst (λ s. RunsOpened phases status first s before now outside faults) (sym same)
+    (subst (λ d. RunsOpened phases status first settled before d outside faults) (sym seen)
+    (record {
       result = result;
       status_is = is;
+      first_is = ap first_step kept ∙ begins;
       legal = legal;
-      memory = memory;
-      told = given_as_told laws story legal;
-      built = are_from_nothing laws story legal;
-      ran = ran_so result ran left;
-      fault = rose;
+      told = given_as_told laws settled legal;
+      built = are_from_nothing laws settled legal;
+      ran = subst (λ s. HasRunSo result phases s outside) (sym kept) (ran_so result ran left);
+      fault = wrote;
+      accounted = accounted;
+      mended = mended;
     }))
   where
     ran_so : (r : Result Bool (Or WriteFault)) → IfOk r (HasRun phases story outside) → IfErr r (λ cut. IsGivenUp cut phases story outside.held outside.holds outside.moments outside.first) → HasRunSo r phases story outside
@@ -182,32 +197,13 @@ runs_session laws result phases status story history outside faults same is lega
     ran_so (Err cut) one two = two
 
 -- the promises of one call
-pub record Promised (status : Status) (story : List Told) (intake : Intake) (outside : Outside) (faults : Change ℕ) : Type 0 where
+pub record Promised (status : Status) (story : List Told) (intake : Intake) (outside : Outside) (faults : Change ℕ) (disk : Change Sight) : Type 0 where
   pub session : IsSession status story intake.text.before outside.moments outside.first
-  pub history : IsOneHistory status story outside.held outside.holds
+  pub history : IsOneHistory status story disk.before outside.held outside.holds
   pub built : AreFromNothing story
   pub printed : ArePrinted status story intake.text.before outside.held outside.holds
-  pub cause : HasCause status intake faults story
-
-pub promised_run : (phases : List Phase) (status : Status) (story : List Told) (intake : Intake) (outside : Outside) (faults : Change ℕ) → GivesPhases intake phases → RunsSession phases status story outside faults → Promised status story intake outside faults
-promised_run phases status story intake outside faults gives (inl run) =
-    subst (λ s. Promised s story intake outside faults) (sym run.status_is)
-    (record {
-      session = run_session run.result story phases intake outside gives run.ran;
-      history = run_history run.result story phases outside run.legal run.memory run.told run.ran;
-      built = run.built;
-      printed = run_printed run.result story phases intake.text.before outside run.told run.ran;
-      cause = run_cause run.result story phases intake outside faults gives run.told run.ran run.fault;
-    })
-promised_run phases status story intake outside faults gives (inr closed) =
-    let not : is_through status ≡ false = ap is_through closed.status_is in
-    record {
-      session = session_none status story intake.text.before outside.moments outside.first not closed.empty;
-      history = history_none status story outside.held outside.holds not closed.empty;
-      built = built_none story closed.empty;
-      printed = closed_printed status story intake.text.before outside.held outside.holds closed.status_is closed.empty closed.written;
-      cause = subst (λ s. HasCause s intake faults story) (sym closed.status_is) tt;
-    }
+  pub stopped : IsStopped disk.before disk.after story
+  pub cause : HasCause status intake faults disk story
 
 -- the line of a stop is that of its status
 stop_error : Stop → SessionError
@@ -220,71 +216,143 @@ line_is stops.BadWords = refl
 line_is stops.ReadFault = refl
 line_is stops.TooLong = refl
 line_is (stops.BadSession error) = refl
+line_is (stops.Damaged row) = refl
+line_is stops.DiskFault = refl
 line_is stops.NoMemory = refl
 
-first_is : (stop : Stop) (intake : Intake) → HasStop stop intake → stop_status stop ≡ statuses.BadSession → IfSome intake.text.before (λ bytes. session_of bytes ≡ Err (stop_error stop))
-unfolding stop_error
+-- where the session is what stops, this is its first error
+IsFirst : Stop → Intake → Type 0
+IsFirst stop intake = stop_status stop ≡ statuses.BadSession → IfSome intake.text.before (λ bytes. session_of bytes ≡ Err (stop_error stop))
+
+first_is : (stop : Stop) (intake : Intake) → HasStop stop intake → IsFirst stop intake
+unfolding stop_error IsFirst
 first_is stops.BadWords intake h e = absurd (cc)
 first_is stops.ReadFault intake h e = absurd (cc)
 first_is stops.TooLong intake h e = absurd (cc)
 first_is (stops.BadSession error) intake h e = h.1
+first_is (stops.Damaged row) intake h e = absurd h
+first_is stops.DiskFault intake h e = absurd h
 first_is stops.NoMemory intake h e = absurd (cc)
 
 none_read : (intake : Intake) (error : SessionError) → IfSome intake.text.before (λ bytes. session_of bytes ≡ Err error) → IfSome intake.text.before (λ bytes. is_session bytes ≡ false)
 none_read intake error h = told_so intake.text.before _ (λ bytes. is_session bytes ≡ false) h (λ bytes e. ap is_read e)
 
-stop_cause : (stop : Stop) (intake : Intake) (faults : Change ℕ) → HasStop stop intake → HasCause (stop_status stop) intake faults []
-stop_cause stops.BadWords intake faults h = (h, refl)
-stop_cause stops.ReadFault intake faults h = (h, refl)
-stop_cause stops.TooLong intake faults h = (h, refl)
-stop_cause (stops.BadSession error) intake faults h = (h.0, none_read intake error h.1, refl)
-stop_cause stops.NoMemory intake faults h = tt
+untouched : (disk : Sight) → IsUntouched (record { before = disk; after = disk }) []
+untouched disk = record { disk_is = refl; story_is = refl }
+
+stop_cause : (stop : Stop) (intake : Intake) (faults : Change ℕ) (disk : Sight) → HasStop stop intake → HasCause (stop_status stop) intake faults (record { before = disk; after = disk }) []
+stop_cause stops.BadWords intake faults disk h = (h, untouched disk)
+stop_cause stops.ReadFault intake faults disk h = (h, untouched disk)
+stop_cause stops.TooLong intake faults disk h = (h, untouched disk)
+stop_cause (stops.BadSession error) intake faults disk h = (h.0, none_read intake error h.1, untouched disk)
+stop_cause (stops.Damaged row) intake faults disk h = absurd h
+stop_cause stops.DiskFault intake faults disk h = absurd h
+stop_cause stops.NoMemory intake faults disk h = tt
 
 -- a status that is no stop's is that of a cut
-cut_cause : (status : Status) (intake : Intake) (faults : Change ℕ) → is_cut status ≡ true → (status ≡ statuses.WriteFault → Rose faults.before faults.after) → HasCause status intake faults []
-cut_cause statuses.WriteFault intake faults e rose = rose refl
-cut_cause statuses.NoMemory intake faults e rose = tt
-cut_cause status intake faults e rose = absurd (cc)
+cut_cause : (status : Status) (intake : Intake) (faults : Change ℕ) (disk : Change Sight) → is_cut status ≡ true → (status ≡ statuses.WriteFault → Rose faults.before faults.after) → HasCause status intake faults disk []
+cut_cause statuses.WriteFault intake faults disk e rose = rose refl
+cut_cause statuses.NoMemory intake faults disk e rose = tt
+cut_cause status intake faults disk e rose = absurd (cc)
 
-cut_not_through : (status : Status) → is_cut status ≡ true → is_through status ≡ false
+cut_not_through : (status : Status) → is_cut status ≡ true → is_through status [] ≡ false
 cut_not_through statuses.WriteFault e = refl
 cut_not_through statuses.NoMemory e = refl
 cut_not_through status e = absurd (cc)
 
-stop_not_through : (stop : Stop) → is_through (stop_status stop) ≡ false
+stop_not_through : (stop : Stop) → is_through (stop_status stop) [] ≡ false
 stop_not_through stops.BadWords = refl
 stop_not_through stops.ReadFault = refl
 stop_not_through stops.TooLong = refl
 stop_not_through (stops.BadSession error) = refl
+stop_not_through (stops.Damaged row) = refl
+stop_not_through stops.DiskFault = refl
 stop_not_through stops.NoMemory = refl
 
-not_through : (stop : Stop) (status : Status) (is : Bool) → is_cut status ≡ is → (is_cut status ≡ false → status ≡ stop_status stop) → is_through status ≡ false
+not_through : (stop : Stop) (status : Status) (is : Bool) → is_cut status ≡ is → (is_cut status ≡ false → status ≡ stop_status stop) → is_through status [] ≡ false
 not_through stop status true e h = cut_not_through status e
-not_through stop status false e h = ap is_through (h e) ∙ stop_not_through stop
+not_through stop status false e h = ap (λ s. is_through s []) (h e) ∙ stop_not_through stop
 
-has_cause : (stop : Stop) (status : Status) (intake : Intake) (faults : Change ℕ) (is : Bool) → is_cut status ≡ is → HasStop stop intake → (is_cut status ≡ false → status ≡ stop_status stop) → (status ≡ statuses.WriteFault → Rose faults.before faults.after) → HasCause status intake faults []
-has_cause stop status intake faults true e h is rose = cut_cause status intake faults e rose
-has_cause stop status intake faults false e h is rose = subst (λ s. HasCause s intake faults []) (sym (is e)) (stop_cause stop intake faults h)
+has_cause : (stop : Stop) (status : Status) (intake : Intake) (faults : Change ℕ) (disk : Change Sight) (is : Bool) → is_cut status ≡ is → HasCause (stop_status stop) intake faults disk [] → (is_cut status ≡ false → status ≡ stop_status stop) → (status ≡ statuses.WriteFault → Rose faults.before faults.after) → HasCause status intake faults disk []
+has_cause stop status intake faults disk true e h is rose = cut_cause status intake faults disk e rose
+has_cause stop status intake faults disk false e h is rose = subst (λ s. HasCause s intake faults disk []) (sym (is e)) h
 
-stop_printed : (stop : Stop) (status : Status) (intake : Intake) (old new : Option (List ℕ)) (faults : Change ℕ) → HasStop stop intake → WritesStop stop status old new faults → ArePrinted status [] intake.text.before old new
-stop_printed stop status intake old new faults h wrote = record {
+stop_printed : (stop : Stop) (status : Status) (intake : Intake) (old new : Option (List ℕ)) (faults : Change ℕ) → IsFirst stop intake → WritesStop stop status old new faults → ArePrinted status [] intake.text.before old new
+unfolding IsFirst
+stop_printed stop status intake old new faults first wrote = record {
   whole = λ o c. absurd (cc);
   front = λ o c. absurd (cc);
   line = λ o c. record {
     error = stop_error stop;
     written = subst (Appends old new) (line_is stop ∙ ap (λ s. status_line s (stop_error stop)) (sym (wrote.answer c))) (wrote.whole c);
-    first = λ e. first_is stop intake h (sym (wrote.answer c) ∙ e);
+    first = λ e. first (sym (wrote.answer c) ∙ e);
   };
   line_front = λ o c. record { status = stop_status stop; error = stop_error stop; written = subst (AppendsFront old new) (line_is stop) wrote.front };
 }
 
-pub promised_stop : (stop : Stop) (status : Status) (intake : Intake) (outside : Outside) (faults : Change ℕ) → HasStop stop intake → WritesStop stop status outside.held outside.holds faults → Promised status [] intake outside faults
-promised_stop stop status intake outside faults h wrote =
+stops_so : (stop : Stop) (status : Status) (intake : Intake) (outside : Outside) (faults : Change ℕ) (disk : Change Sight) → IsFirst stop intake → HasCause (stop_status stop) intake faults disk [] → WritesStop stop status outside.held outside.holds faults → IsStopped disk.before disk.after [] → Promised status [] intake outside faults disk
+stops_so stop status intake outside faults disk first cause wrote stopped =
     let not = not_through stop status (is_cut status) refl wrote.answer in
     record {
-      session = session_none status [] intake.text.before outside.moments outside.first not refl;
-      history = history_none status [] outside.held outside.holds not refl;
+      session = session_none status intake.text.before outside.moments outside.first not;
+      history = history_none status disk.before outside.held outside.holds not;
       built = built_none [] refl;
-      printed = stop_printed stop status intake outside.held outside.holds faults h wrote;
-      cause = has_cause stop status intake faults (is_cut status) refl h wrote.answer wrote.fault;
+      printed = stop_printed stop status intake outside.held outside.holds faults first wrote;
+      stopped = stopped;
+      cause = has_cause stop status intake faults disk (is_cut status) refl cause wrote.answer wrote.fault;
     }
+
+-- The promises where the source gave no session
+pub promised_stop : (stop : Stop) (status : Status) (intake : Intake) (outside : Outside) (faults : Change ℕ) (disk : Sight) → IsCounted disk → IsHandedIn disk → HasStop stop intake → WritesStop stop status outside.held outside.holds faults → Promised status [] intake outside faults (record { before = disk; after = disk })
+promised_stop stop status intake outside faults disk counted handed h wrote =
+    stops_so stop status intake outside faults _ (first_is stop intake h) (stop_cause stop intake faults disk h) wrote (stays_untouched disk counted handed)
+
+-- why a base is not opened is the cause of the status
+open_first : (because : OpenCause) (rose : Bool) (intake : Intake) → IsFirst (open_stop because rose) intake
+unfolding IsFirst
+open_first opens.NoMemory rose intake e = absurd (cc)
+open_first (opens.Damaged row) true intake e = absurd (cc)
+open_first (opens.Damaged row) false intake e = absurd (cc)
+open_first opens.DiskFault rose intake e = absurd (cc)
+
+open_cause : (because : OpenCause) (rose : Bool) (intake : Intake) (faults : Change ℕ) (disk : Change Sight) → disk_rose disk ≡ rose → IsAsked intake → StopsBy disk.before.told (λ d. frames (bytes_of 0 d)) because disk.before.faults disk.after.faults → HasCause (stop_status (open_stop because rose)) intake faults disk []
+open_cause opens.NoMemory rose intake faults disk by asked is = tt
+open_cause (opens.Damaged row) true intake faults disk by asked is = (asked, by, λ opened. absurd (cc))
+open_cause (opens.Damaged row) false intake faults disk by asked is = (asked, is.1, by, refl)
+open_cause opens.DiskFault rose intake faults disk by asked is = (asked, is, λ opened. absurd (cc))
+
+promised_closed : (because : OpenCause) (status : Status) (intake : Intake) (outside : Outside) (faults : Change ℕ) (disk : Change Sight) → IsAsked intake → FailsToOpen disk.before because disk.after → WritesStop (open_stop because (disk_rose disk)) status outside.held outside.holds faults → Promised status [] intake outside faults disk
+promised_closed because status intake outside faults disk asked fails wrote =
+    stops_so (open_stop because (disk_rose disk)) status intake outside faults disk (open_first because (disk_rose disk) intake)
+    (open_cause because (disk_rose disk) intake faults disk refl asked fails.because) wrote
+    (stays_closed disk.before disk.after [] refl fails.tells fails.unchanged)
+
+-- The promises where the source gave a session
+pub promised_run : (phases : List Phase) (status : Status) (story : List Told) (intake : Intake) (outside : Outside) (faults : Change ℕ) (disk : Change Sight) → GivesPhases intake phases → RunsSession phases status story outside faults disk → Promised status story intake outside faults disk
+promised_run phases status story intake outside faults disk gives (inl run) =
+    let ran = run.runs in
+    let rose = disk_rose disk in
+    subst (λ s. Promised s story intake outside faults disk) (sym ran.status_is)
+    (record {
+      session = run_session ran.result rose story phases intake outside gives ran.ran;
+      history = run_history ran.result rose story phases disk.before outside ran.legal run.begins ran.told ran.ran;
+      built = ran.built;
+      printed = run_printed ran.result rose story phases intake.text.before outside ran.told ran.ran;
+      stopped = keeps_prefix disk.before disk.after story run.begins ran.legal ran.accounted ran.mended;
+      cause = run_cause ran.result rose story phases intake outside faults disk refl gives ran.told ran.ran ran.fault;
+    })
+promised_run phases status story intake outside faults disk gives (inr closed) =
+    subst (λ s. Promised status s intake outside faults disk) (sym closed.empty)
+    (promised_closed closed.because status intake outside faults disk (asked intake phases gives) closed.fails closed.wrote)
+
+-- a base that was just opened, and its story since
+pub begins_on : (disk opened : Sight) (one story : List Told) (first : Option Told) → Opens disk one opened → first ≡ first_step one → first_step story ≡ first → BeginsOn disk story
+begins_on disk opened one story first opens is same = record {
+  rows = opens.rows;
+  handed = opens.handed;
+  on = opens.on;
+  first = same ∙ is ∙ ap first_step opens.story_is;
+}
+
+pub just_opened : (disk opened : Sight) (story : List Told) → Opens disk story opened → IsJustOpened story
+just_opened disk opened story opens = record { rows = opens.rows; counts = opens.handed.counts; tells = opens.handed.tells; is = opens.story_is }

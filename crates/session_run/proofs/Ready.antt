@@ -4,7 +4,7 @@ use Rattle.std.specs.Prelude.{IfSome}
 use Rattle.std.specs.Io.KnownBytes.{Consumes, IsAtEnd}
 use Rattle.std.proofs.lemmas.List.{append-nil}
 use Rattle.cc_outside.specs.Counts.{raised}
-use Rattle.session_run.specs.Headline.{is_run}
+use Rattle.session_run.specs.Asked.{is_run}
 use Rattle.session_run.specs.Stops.{GivesPhases}
 use Rattle.std.specs.List.{AllByRecursion}
 use Rattle.cc_names.specs.declared.commands.Command.{Command}
@@ -26,7 +26,7 @@ use Rattle.session_text.specs.Causes.{Above, cause_of, above_next, first_error, 
 use Rattle.session_text.specs.Sessions.{ends_lane, body_of, before_commands, commands_before, commands_of, before_lanes, lanes_before, lanes_of, phases_before, phases_of, session_of, unless_wrong}
 use Rattle.session_text.specs.Formed.{IsCommand, IsMacro, IsLane, IsPhase, IsSession}
 use Rattle.base_core.specs.Carried.{is_carried_out, IsLaneCarriedOut, AreCarriedOut}
-use Rattle.session_run.specs.Headline.{text_limit, phases_spelled, is_session, phases_read, is_read}
+use Rattle.session_run.specs.Asked.{text_limit, phases_spelled, is_session, phases_read, is_read}
 use Rattle.session_run.specs.Runs.{IsReady, IsRunnable}
 
 -- what has a form within a limit has it within a greater one

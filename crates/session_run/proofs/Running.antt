@@ -20,11 +20,10 @@ use Rattle.legal_history.specs.States.{State, all_done, start}
 use Rattle.legal_history.specs.Steps.{after, state_of}
 use Rattle.legal_history.specs.Stories.{last_moment}
 use Rattle.base_core.specs.Replying.{replies_after, replies_from, replies_of, no_replies}
-use Rattle.base_core.specs.Telling.{no_counts}
 use Rattle.session_run.specs.Headline.{IsCutAtLast, phases_begun, moments_begun, clock_moments, is_opened}
 use Rattle.session_run.specs.Rendered.{EndedPhase, Replies, replies_over, last_phase, phase_where, is_ended, transcript, transcript_of, transcripts, lanes_fail, phase_fails}
 use Rattle.session_run.specs.Lanes.{given, given_earlier, GoesInPhase, RunsPhase, LeavesPhase}
-use Rattle.session_run.specs.Runs.{Outside, HasRun, IsCutBy, IsGivenUp}
+use Rattle.session_run.specs.Runs.{IsJustOpened, Outside, HasRun, IsCutBy, IsGivenUp}
 
 -- what a clock may tell
 if_told : (clock : Option (List ℕ)) (P : List ℕ → Type 0) → ((told : List ℕ) → P told) → IfSome clock P
@@ -136,8 +135,8 @@ failures_more old new phase moment number before now goes done e was is =
     ∙ ap₂ (λ a b. a || b) was (one_fails (ended_as new number) ∙ sym is)
 
 -- nothing has been run
-pub run_starts : (story : List Told) (held clock : Option (List ℕ)) (first : ℕ) → story ≡ told.Opened [] no_counts false ∷ [] → HasRun [] story (record { held = held; holds = held; moments = clock; first = first; reading = first }) false
-run_starts story held clock first is = record {
+pub run_starts : (story : List Told) (held clock : Option (List ℕ)) (first : ℕ) → IsJustOpened story → HasRun [] story (record { held = held; holds = held; moments = clock; first = first; reading = first }) false
+run_starts story held clock first just = record {
   opened = ap is_opened is;
   phases_are = ap phases_begun is;
   number = ap (λ s. (state_of s).number) is;
@@ -147,6 +146,9 @@ run_starts story held clock first is = record {
   failures = ap (λ s. list_any phase_fails (given s)) is;
   written = subst (Appends held held) (sym (ap (λ s. transcripts (given s)) is)) (nothing_more held);
 }
+  where
+    is : story ≡ told.Opened just.rows just.counts just.tells ∷ []
+    is = just.is
 
 one_more : (phases : List Phase) (phase : Phase) → length (phases ++ phase ∷ []) ≡ suc (length phases)
 one_more phases phase = omega (arith, length-append phases (phase ∷ []))

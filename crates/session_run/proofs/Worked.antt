@@ -10,8 +10,9 @@ use Rattle.cc_names.specs.declared.rows.Tag.{Tag}
 use Rattle.cc_names.specs.declared.steps.Step.TheVariants as steps
 use Rattle.cc_names.specs.declared.steps.Told.{Told}
 use Rattle.cc_names.specs.declared.steps.Told.TheVariants as told
-use Rattle.base_core.specs.Telling.{no_counts}
-use Rattle.session_run.specs.Headline.{clock_moments, is_run, phases_begun}
+use Rattle.cc_names.specs.declared.steps.Counts.{Counts}
+use Rattle.session_run.specs.Asked.{is_run}
+use Rattle.session_run.specs.Headline.{clock_moments, phases_begun}
 use Rattle.session_run.specs.Rendered.{earlier_text, has_failure, rendered}
 
 -- a view and a private file, and then the view once more
@@ -24,9 +25,12 @@ again = record { lanes = record { name = codes "a"; commands = Mkview (codes "v"
 tag : ℕ → ℕ → Tag
 tag phase command = record { phase = phase; lane = 1; command = command }
 
+no_counts : Counts
+no_counts = record { ticks = 0; faults = 0 }
+
 first_command : List Told
 first_command =
-    told.Opened [] no_counts false ∷ told.Plan saves 5 ∷ told.Commit (record { tag = tag 1 1; moment = 5; deed = deeds.Mkview (codes "v") }) 1 ∷ []
+    told.Opened [] no_counts true ∷ told.Plan saves 5 ∷ told.Commit (record { tag = tag 1 1; moment = 5; deed = deeds.Mkview (codes "v") }) 1 ∷ []
 
 first_phase : List Told
 first_phase =

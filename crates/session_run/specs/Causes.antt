@@ -1,11 +1,17 @@
 -- The cause of each status of a call.
-use Rattle.std.specs.Prelude.{◌≡◌, ℕ, ◌<◌, ◌≤◌, true, false, Option, IfSome, List, [], length}
+use Rattle.std.specs.Prelude.{◌≡◌, ℕ, ◌<◌, ◌≤◌, Bool, true, false, Option, IfSome, List, [], length}
 use Rattle.std.specs.Io.KnownBytes.{IsAtEnd}
 use Rattle.cc_names.specs.declared.steps.Told.{Told}
 use Rattle.cc_outside.specs.Counts.{raised, Rose, RoseAbove}
+use Rattle.disk_model.specs.Devices.{bytes_of}
+use Rattle.disk_model.specs.Told.{Sight, IfTold}
+use Rattle.vob_journal.specs.Frames.{frames}
+use Rattle.base_core.specs.Opening.{IsDamaged}
 use Rattle.legal_history.specs.States.{all_done}
 use Rattle.legal_history.specs.Steps.{state_of}
-use Rattle.session_run.specs.Headline.{text_limit, is_run, is_opened, is_session}
+use Rattle.legal_history.specs.Stories.{rises}
+use Rattle.session_run.specs.Asked.{text_limit, is_run, is_session}
+use Rattle.session_run.specs.Headline.{is_opened}
 use Rattle.session_run.specs.Rendered.{has_failure}
 use Rattle.session_run.specs.declared.statuses.Status.{Status}
 use Rattle.session_run.specs.declared.statuses.Status.TheVariants as statuses
@@ -38,6 +44,11 @@ pub record IsWhole (intake : Intake) (story : List Told) : Type 0 where
   pub opened : is_opened story ≡ true
   pub finished : all_done (state_of story) ≡ true
 
+-- the source's bytes spell a session, so the base was to be opened
+pub record IsAsked (intake : Intake) : Type 0 where
+  pub read : IsRead intake
+  pub session : IfSome intake.text.before (λ bytes. is_session bytes ≡ true)
+
 -- the source's bytes spell no session
 abbrev pub SpellsNone : Intake → Type 0
 SpellsNone intake = IfSome intake.text.before (λ bytes. is_session bytes ≡ false)
@@ -53,14 +64,30 @@ pub record GaveTooMuch (intake : Intake) : Type 0 where
   pub rose : RoseAbove text_limit intake.given.before intake.given.after
   pub bytes : IfSome intake.text.before (λ bytes. text_limit < length bytes)
 
+-- whether the count of the disk's faults rose in the call
+abbrev pub disk_rose : Change Sight → Bool
+disk_rose disk = rises disk.before.faults disk.after.faults
+
+-- no base was opened, and no call was made on the disk
+pub record IsUntouched (disk : Change Sight) (story : List Told) : Type 0 where
+  pub disk_is : disk.after ≡ disk.before
+  pub story_is : story ≡ []
+
+-- the frame of this number is the first of the disk's journal that spells no row, or whose row does not fit those before it
+abbrev pub DiskDamaged : Change Sight → ℕ → Type 0
+DiskDamaged disk row = IfTold disk.before.told (λ d. IsDamaged (frames (bytes_of 0 d)) row)
+
 -- *The cause of each status*. Memory may run out anywhere. The other causes exclude one another, a failed source and a failed
--- sink aside, so each status but those comes exactly where its cause does, unless the sink fails or memory runs out.
-abbrev pub HasCause : Status → Intake → Change ℕ → List Told → Type 0
-HasCause statuses.Good intake sink_faults story = IsWhole intake story × (has_failure story ≡ false)
-HasCause statuses.SomeFailed intake sink_faults story = IsWhole intake story × (has_failure story ≡ true)
-HasCause statuses.BadWords intake sink_faults story = (is_run intake.words ≡ false) × (story ≡ [])
-HasCause statuses.BadSession intake sink_faults story = IsRead intake × SpellsNone intake × (story ≡ [])
-HasCause statuses.ReadFault intake sink_faults story = SourceFailed intake × (story ≡ [])
-HasCause statuses.WriteFault intake sink_faults story = Rose sink_faults.before sink_faults.after
-HasCause statuses.NoMemory intake sink_faults story = Unit {0}
-HasCause statuses.TooLong intake sink_faults story = GaveTooMuch intake × (story ≡ [])
+-- sink aside, so each status but those comes exactly where its cause does, unless the sink fails or memory runs out. Where the
+-- disk failed and a base was opened, each command is finished.
+abbrev pub HasCause : Status → Intake → Change ℕ → Change Sight → List Told → Type 0
+HasCause statuses.Good intake sink_faults disk story = IsWhole intake story × (has_failure story ≡ false) × (disk_rose disk ≡ false)
+HasCause statuses.SomeFailed intake sink_faults disk story = IsWhole intake story × (has_failure story ≡ true) × (disk_rose disk ≡ false)
+HasCause statuses.BadWords intake sink_faults disk story = (is_run intake.words ≡ false) × IsUntouched disk story
+HasCause statuses.BadSession intake sink_faults disk story = IsRead intake × SpellsNone intake × IsUntouched disk story
+HasCause (statuses.Damaged row) intake sink_faults disk story = IsAsked intake × DiskDamaged disk row × (disk_rose disk ≡ false) × (story ≡ [])
+HasCause statuses.ReadFault intake sink_faults disk story = SourceFailed intake × IsUntouched disk story
+HasCause statuses.WriteFault intake sink_faults disk story = Rose sink_faults.before sink_faults.after
+HasCause statuses.DiskFault intake sink_faults disk story = IsAsked intake × (disk_rose disk ≡ true) × (is_opened story ≡ true → all_done (state_of story) ≡ true)
+HasCause statuses.NoMemory intake sink_faults disk story = Unit {0}
+HasCause statuses.TooLong intake sink_faults disk story = GaveTooMuch intake × IsUntouched disk story

@@ -1,18 +1,18 @@
 -- The headline of the product:
 --
 -- For every session, the printed replies are those of one legal history that holds each command once in its lane's order,
--- and every clearmake reply is that of building from nothing on the versions its view selects at the reference row.
+-- and every clearmake reply is that of building from nothing on the versions its view selects at the reference row; stopped
+-- at any device call, the disk holds a prefix of the history's commits with every acknowledged one.
 --
 -- A call of the program is seen as plain values: its words, what the source had left and gave, what the sink holds, what the
--- clock tells, its status, and the story of the base that it opened, which is empty where it opened none. Each record is one
--- promise of the sentence; `HasCause` adds when each status comes. What they say of bytes and moments holds where the
--- source, the sink and the clock tell them.
-use Rattle.std.specs.Prelude.{◌≡◌, ℕ, zero, suc, ◌<◌, min, Bool, true, false, Option, Some, IfSome, Result, Ok, Err, List, [], ◌∷◌, ◌++◌, length}
-use Rattle.std.specs.Str.{bytes_eq}
-use Rattle.std.specs.Prelude.{codes}
+-- clock tells, what the disk tells as it was handed in and as it came back, its status, and the story of the base that it
+-- opened, which is empty where it opened none. Each record is one promise of the sentence, `IsStopped` in `Stopped` the last
+-- of them; `HasCause` adds when each status comes. What they say of bytes, moments and stops holds where the source, the sink,
+-- the clock and the disk tell them.
+use Rattle.std.specs.Prelude.{◌≡◌, ℕ, zero, suc, ◌<◌, min, Bool, true, false, Option, Some, None, IfSome, Err, List, [], ◌∷◌, ◌++◌, length}
 use Rattle.std.specs.Io.KnownBytes.{Appends}
+use Rattle.cc_names.specs.Formed.{Plain}
 use Rattle.cc_names.specs.declared.commands.Phase.{Phase}
-use Rattle.cc_names.specs.declared.commands.Session.{Session}
 use Rattle.cc_names.specs.declared.refusals.SessionError.{SessionError}
 use Rattle.cc_names.specs.declared.rows.Tag.{Tag}
 use Rattle.cc_names.specs.declared.steps.Step.TheVariants as steps
@@ -21,7 +21,9 @@ use Rattle.cc_names.specs.declared.steps.Told.TheVariants as told
 use Rattle.cc_outside.specs.Counts.{raised}
 use Rattle.cc_outside.specs.Feeds.{AppendsFront}
 use Rattle.cc_outside.specs.Moments.{moment_at}
-use Rattle.base_core.specs.InMemory.{IsInMemory}
+use Rattle.disk_model.specs.Told.{Sight}
+use Rattle.base_core.specs.Opening.{IsBaseOn}
+use Rattle.base_core.specs.declared.handed.Handed.{Handed}
 use Rattle.session_text.specs.Sessions.{session_of}
 use Rattle.fresh_builds.specs.Commanded.{IsOfCommand}
 use Rattle.fresh_builds.specs.Replied.{reply_of, reply_from_nothing}
@@ -29,24 +31,28 @@ use Rattle.legal_history.specs.Builds.{Build}
 use Rattle.legal_history.specs.States.{State, all_done, build_by}
 use Rattle.legal_history.specs.Steps.{state_of}
 use Rattle.legal_history.specs.Stories.{Legal, last_moment}
+use Rattle.session_run.specs.Asked.{phases_spelled, is_session}
 use Rattle.session_run.specs.Rendered.{rendered, earlier_text}
-use Rattle.session_run.specs.Statuses.{is_through, is_cut, status_line}
+use Rattle.session_run.specs.Statuses.{is_cut, status_line}
 use Rattle.session_run.specs.declared.statuses.Status.{Status}
 use Rattle.session_run.specs.declared.statuses.Status.TheVariants as statuses
 
--- the most bytes of a session's text
-abbrev pub text_limit : ℕ
-text_limit = 16777216
-
--- the one form of words: FILE `run`
-abbrev pub is_run : List (List ℕ) → Bool
-is_run (file ∷ word ∷ []) = bytes_eq word (codes "run")
-is_run words = false
+-- the first step of a story
+abbrev pub first_step : List Told → Option Told
+first_step [] = None
+first_step (x ∷ story) = Some x
 
 -- whether a base was opened
 abbrev pub is_opened : List Told → Bool
 is_opened [] = false
 is_opened (x ∷ story) = true
+
+-- whether the session was run through; where the disk failed it was so unless no base could be opened
+abbrev pub is_through : Status → List Told → Bool
+is_through statuses.Good story = true
+is_through statuses.SomeFailed story = true
+is_through statuses.DiskFault story = is_opened story
+is_through status story = false
 
 -- the phases that began, and their moments
 abbrev pub phases_begun : List Told → List Phase
@@ -58,22 +64,6 @@ abbrev pub moments_begun : List Told → List ℕ
 moments_begun [] = []
 moments_begun (told.Plan phase moment ∷ story) = moment ∷ moments_begun story
 moments_begun (x ∷ story) = moments_begun story
-
--- the phases of a text that spells a session; none where it spells none
-abbrev pub phases_read : Result Session SessionError → List Phase
-phases_read (Ok session) = session.phases
-phases_read (Err error) = []
-
-abbrev pub phases_spelled : List ℕ → List Phase
-phases_spelled text = phases_read (session_of text)
-
--- whether a text spells a session
-abbrev pub is_read : Result Session SessionError → Bool
-is_read (Ok session) = true
-is_read (Err error) = false
-
-abbrev pub is_session : List ℕ → Bool
-is_session text = is_read (session_of text)
 
 -- the first items of a list, from its front on
 abbrev pub IsFront : {A : Type 0} → List A → List A → Type 0
@@ -88,7 +78,7 @@ clock_moments told reading (suc n) = min (moment_at told reading) last_moment �
 -- where it was run through; where the bytes spell none the history is empty. Their moments are the clock's, in order.
 pub record IsSession (status : Status) (story : List Told) (text clock : Option (List ℕ)) (reading : ℕ) : Type 0 where
   pub begun : IfSome text (λ bytes. IsFront (phases_begun story) (phases_spelled bytes))
-  pub all : is_through status ≡ true → IfSome text (λ bytes. phases_begun story ≡ phases_spelled bytes)
+  pub all : is_through status story ≡ true → IfSome text (λ bytes. phases_begun story ≡ phases_spelled bytes)
   pub none : IfSome text (λ bytes. is_session bytes ≡ false → story ≡ [])
   pub moments : IfSome clock (λ told. moments_begun story ≡ clock_moments told reading (length (moments_begun story)))
 
@@ -98,12 +88,20 @@ pub record IsCutAtLast (story : List Told) (earlier : List ℕ) (old new : Optio
   pub finished : all_done (state_of story) ≡ true
   pub written : (more : List ℕ) × Appends old new (earlier ++ more)
 
--- *One legal history*: the story is legal, of a base that was opened without rows and under which no disk failed, so a phase begins where each command of the one before is finished. Each command
--- of the last phase is finished too where the session was run through, and where the sink failed.
-pub record IsOneHistory (status : Status) (story : List Told) (old new : Option (List ℕ)) : Type 0 where
+-- the story begins with the base that the disk stood for as it was handed in, and with the disk's counts then
+pub record BeginsOn (disk : Sight) (story : List Told) : Type 0 where
+  pub rows : List Plain
+  pub handed : Handed
+  pub on : IsBaseOn disk rows handed
+  pub first : first_step story ≡ Some (told.Opened rows handed.counts handed.tells)
+
+-- *One legal history*: the story is legal, of the base that the disk stood for, so a phase begins where each command of the
+-- one before is finished. Each command of the last phase is finished too where the session was run through, and where the
+-- sink failed.
+pub record IsOneHistory (status : Status) (story : List Told) (disk : Sight) (old new : Option (List ℕ)) : Type 0 where
   pub legal : Legal story
-  pub memory : is_opened story ≡ true → IsInMemory story
-  pub complete : is_through status ≡ true → all_done (state_of story) ≡ true
+  pub base : is_opened story ≡ true → BeginsOn disk story
+  pub complete : is_through status story ≡ true → all_done (state_of story) ≡ true
   pub cut : is_opened story ≡ true → status ≡ statuses.WriteFault → IsCutAtLast story (earlier_text story) old new
 
 -- A build that ends: it is the one of its lane's clearmake, whose build from nothing at the reference rows, on the versions

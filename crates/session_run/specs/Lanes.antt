@@ -9,7 +9,7 @@ use Rattle.base_core.specs.Nexts.{waiting}
 use Rattle.base_core.specs.Replying.{replies_after}
 use Rattle.legal_history.specs.States.{State, all_done, done_of, lane_at}
 use Rattle.legal_history.specs.Steps.{state_of}
-use Rattle.session_run.specs.Headline.{phases_begun, moments_begun, is_opened}
+use Rattle.session_run.specs.Headline.{phases_begun, moments_begun, first_step, is_opened}
 use Rattle.session_run.specs.Rendered.{EndedPhase, earlier_phases, ended_phases}
 
 -- how many commands a lane has
@@ -44,6 +44,7 @@ pub record Goes (old new : List Told) : Type 0 where
   pub phase : (state_of new).phase ≡ (state_of old).phase
   pub number : (state_of new).number ≡ (state_of old).number
   pub earlier : given_earlier new ≡ given_earlier old
+  pub first : first_step new ≡ first_step old
   pub opened : is_opened new ≡ is_opened old
 
 -- a story went on by commands of one lane
@@ -64,6 +65,7 @@ pub record GoesInPhase (phase : Phase) (moment : ℕ) (old new : List Told) : Ty
   pub moments : moments_begun new ≡ moments_begun old ++ moment ∷ []
   pub is_last : (state_of new).phase ≡ phase
   pub number : (state_of new).number ≡ (state_of old).number + 1
+  pub first : is_opened old ≡ true → first_step new ≡ first_step old
   pub opened : is_opened new ≡ true
   pub earlier : given_earlier new ≡ given old
 

@@ -1,7 +1,10 @@
+pub mod Asked
 pub mod Causes
 pub mod Headline
 pub mod Lanes
+pub mod Outcomes
 pub mod Rendered
 pub mod Runs
 pub mod Statuses
+pub mod Stopped
 pub mod Stops

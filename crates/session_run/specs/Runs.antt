@@ -1,26 +1,34 @@
 -- What running the phases of a session does to the story, to the sink and to the clock.
-use Rattle.std.specs.Prelude.{◌≡◌, ℕ, ◌≤◌, Bool, true, false, ◌⊎◌, Option, IfSome, Result, Ok, Err, List, [], length}
+use Rattle.std.specs.Prelude.{◌≡◌, ℕ, ◌≤◌, Bool, true, false, Option, IfSome, Result, Ok, Err, List, [], ◌∷◌, length}
 use Rattle.std.specs.List.{AllByRecursion, list_any}
 use Rattle.std.specs.Io.KnownBytes.{Appends}
+use Rattle.cc_names.specs.Formed.{Plain}
 use Rattle.cc_names.specs.declared.commands.Phase.{Phase}
 use Rattle.cc_names.specs.declared.memory.Or.{Or}
 use Rattle.cc_names.specs.declared.memory.Or.TheVariants.{NoMemory, Is}
+use Rattle.cc_names.specs.declared.steps.Counts.{Counts}
 use Rattle.cc_names.specs.declared.steps.Told.{Told}
-use Rattle.cc_outside.specs.Counts.{raised, Rose}
+use Rattle.cc_names.specs.declared.steps.Told.TheVariants as told
+use Rattle.cc_outside.specs.Counts.{raised}
 use Rattle.cc_outside.specs.Feeds.{AppendsFront}
 use Rattle.cc_outside.specs.declared.sinks.WriteFault.{WriteFault}
 use Rattle.session_text.specs.Formed.{IsPhase}
 use Rattle.base_core.specs.Carried.{AreCarriedOut}
-use Rattle.base_core.specs.InMemory.{IsInMemory}
 use Rattle.legal_history.specs.States.{all_done}
 use Rattle.legal_history.specs.Steps.{state_of}
-use Rattle.legal_history.specs.Stories.{Legal}
-use Rattle.session_run.specs.Causes.{Change}
-use Rattle.session_run.specs.Headline.{IsFront, IsCutAtLast, AreFromNothing, text_limit, phases_begun, moments_begun, clock_moments, is_opened}
+use Rattle.session_run.specs.Asked.{text_limit}
+use Rattle.session_run.specs.Headline.{IsFront, IsCutAtLast, phases_begun, moments_begun, clock_moments, is_opened}
 use Rattle.session_run.specs.Lanes.{given, given_earlier}
 use Rattle.session_run.specs.Rendered.{told_after, earlier_phases, ended_phases, transcripts, phase_fails}
 use Rattle.session_run.specs.declared.statuses.Status.{Status}
 use Rattle.session_run.specs.declared.statuses.Status.TheVariants as statuses
+
+-- a base was opened, and nothing was done since
+pub record IsJustOpened (story : List Told) : Type 0 where
+  pub rows : List Plain
+  pub counts : Counts
+  pub tells : Bool
+  pub is : story ≡ told.Opened rows counts tells ∷ []
 
 -- a phase that can be run: it has the form of one, and each of its commands is carried out
 pub record IsReady (phase : Phase) : Type 0 where
@@ -70,12 +78,13 @@ OnWriteFault (Ok x) P = Unit {0}
 OnWriteFault (Err NoMemory) P = Unit {0}
 OnWriteFault (Err (Is fault)) P = P
 
--- the status of a run
-abbrev pub run_status : Result Bool (Or WriteFault) → Status
-run_status (Ok false) = statuses.Good
-run_status (Ok true) = statuses.SomeFailed
-run_status (Err NoMemory) = statuses.NoMemory
-run_status (Err (Is fault)) = statuses.WriteFault
+-- the status of a run, by whether the disk's faults rose
+abbrev pub run_status : Result Bool (Or WriteFault) → Bool → Status
+run_status (Ok failed) true = statuses.DiskFault
+run_status (Ok false) false = statuses.Good
+run_status (Ok true) false = statuses.SomeFailed
+run_status (Err NoMemory) rose = statuses.NoMemory
+run_status (Err (Is fault)) rose = statuses.WriteFault
 
 -- the phases were run, or their run was given up
 abbrev pub HasRunSo : Result Bool (Or WriteFault) → List Phase → List Told → Outside → Type 0
@@ -86,22 +95,3 @@ HasRunSo (Err cut) phases story outside = IsGivenUp cut phases story outside.hel
 pub record GivenAsTold (story : List Told) : Type 0 where
   pub earlier : given_earlier story ≡ earlier_phases told_after story
   pub ended : given story ≡ ended_phases told_after story
-
--- a base was opened and the phases were run, or memory ran out before
-pub record RunsOpened (phases : List Phase) (status : Status) (story : List Told) (outside : Outside) (faults : Change ℕ) : Type 0 where
-  pub result : Result Bool (Or WriteFault)
-  pub status_is : status ≡ run_status result
-  pub legal : Legal story
-  pub memory : IsInMemory story
-  pub told : GivenAsTold story
-  pub built : AreFromNothing story
-  pub ran : HasRunSo result phases story outside
-  pub fault : OnWriteFault result (Rose faults.before faults.after)
-
-pub record StaysClosed (status : Status) (story : List Told) (outside : Outside) : Type 0 where
-  pub status_is : status ≡ statuses.NoMemory
-  pub empty : story ≡ []
-  pub written : outside.holds ≡ outside.held
-
-abbrev pub RunsSession : List Phase → Status → List Told → Outside → Change ℕ → Type 0
-RunsSession phases status story outside faults = RunsOpened phases status story outside faults ⊎ StaysClosed status story outside

@@ -13,16 +13,12 @@ number_of statuses.Good = 0
 number_of statuses.SomeFailed = 1
 number_of statuses.BadWords = 2
 number_of statuses.BadSession = 3
+number_of (statuses.Damaged row) = 4
 number_of statuses.ReadFault = 5
 number_of statuses.WriteFault = 6
+number_of statuses.DiskFault = 7
 number_of statuses.NoMemory = 8
 number_of statuses.TooLong = 9
-
--- whether the session was run through
-abbrev pub is_through : Status → Bool
-is_through statuses.Good = true
-is_through statuses.SomeFailed = true
-is_through status = false
 
 -- whether the text may be cut short: the sink failed, or memory ran out
 abbrev pub is_cut : Status → Bool
@@ -49,6 +45,8 @@ error_words error = decimal error.line ++ 32 ∷ cause_word error.cause
 abbrev pub status_line : Status → SessionError → List ℕ
 status_line statuses.BadWords error = codes "bad words\n"
 status_line statuses.BadSession error = codes "bad session " ++ error_words error ++ 10 ∷ []
+status_line (statuses.Damaged row) error = codes "damaged " ++ decimal row ++ 10 ∷ []
+status_line statuses.DiskFault error = codes "disk fault\n"
 status_line statuses.ReadFault error = codes "read fault\n"
 status_line statuses.TooLong error = codes "too long\n"
 status_line status error = []

@@ -1,5 +1,6 @@
 -- Why no base is opened.
-use Rattle.std.specs.Prelude.{◌≡◌, ℕ, true, false, IfSome, Option, Err, List, [], ◌∷◌, ◌++◌, codes}
+use Rattle.std.specs.Prelude.{◌≡◌, ℕ, Bool, true, false, IfSome, Option, Err, List, [], ◌∷◌, ◌++◌, codes}
+use Rattle.std.specs.Fmt.{decimal}
 use Rattle.std.specs.Io.KnownBytes.{Appends}
 use Rattle.cc_names.specs.declared.commands.Phase.{Phase}
 use Rattle.cc_names.specs.declared.memory.Or.{Or}
@@ -10,9 +11,11 @@ use Rattle.cc_outside.specs.Feeds.{AppendsFront}
 use Rattle.cc_outside.specs.declared.sources.Unread.{Unread}
 use Rattle.cc_outside.specs.declared.sources.Unread.TheVariants.{Fault}
 use Rattle.cc_outside.specs.declared.sources.Unread.TheVariants as unreads
+use Rattle.base_core.specs.declared.opening.OpenCause.{OpenCause}
+use Rattle.base_core.specs.declared.opening.OpenCause.TheVariants as opens
 use Rattle.session_text.specs.Sessions.{session_of}
 use Rattle.session_run.specs.Causes.{Change, Intake, IsRead, SourceFailed, GaveTooMuch}
-use Rattle.session_run.specs.Headline.{is_run, is_session, phases_spelled}
+use Rattle.session_run.specs.Asked.{is_run, is_session, phases_spelled}
 use Rattle.session_run.specs.Runs.{IsRunnable}
 use Rattle.session_run.specs.Statuses.{is_cut, error_words}
 use Rattle.session_run.specs.declared.sessions.Stop.{Stop}
@@ -38,13 +41,22 @@ abbrev pub unsaid_stop : Or SessionError → Stop
 unsaid_stop ors.NoMemory = stops.NoMemory
 unsaid_stop (ors.Is error) = stops.BadSession error
 
--- the cause of a stop
+-- the cause of a stop before the disk is opened
 abbrev pub HasStop : Stop → Intake → Type 0
 HasStop stops.BadWords intake = is_run intake.words ≡ false
 HasStop stops.ReadFault intake = SourceFailed intake
 HasStop stops.TooLong intake = GaveTooMuch intake
+HasStop (stops.Damaged row) intake = ⊥
+HasStop stops.DiskFault intake = ⊥
 HasStop (stops.BadSession error) intake = IsRead intake × IfSome intake.text.before (λ bytes. session_of bytes ≡ Err error)
 HasStop stops.NoMemory intake = Unit {0}
+
+-- the stop of a base that could not be opened: where the disk's faults rose, the disk failed
+abbrev pub open_stop : OpenCause → Bool → Stop
+open_stop opens.NoMemory rose = stops.NoMemory
+open_stop (opens.Damaged row) true = stops.DiskFault
+open_stop (opens.Damaged row) false = stops.Damaged row
+open_stop opens.DiskFault rose = stops.DiskFault
 
 -- the status of a stop
 abbrev pub stop_status : Stop → Status
@@ -52,6 +64,8 @@ stop_status stops.BadWords = statuses.BadWords
 stop_status stops.ReadFault = statuses.ReadFault
 stop_status stops.TooLong = statuses.TooLong
 stop_status (stops.BadSession error) = statuses.BadSession
+stop_status (stops.Damaged row) = statuses.Damaged row
+stop_status stops.DiskFault = statuses.DiskFault
 stop_status stops.NoMemory = statuses.NoMemory
 
 -- the line of a stop
@@ -60,6 +74,8 @@ stop_line stops.BadWords = codes "bad words\n"
 stop_line stops.ReadFault = codes "read fault\n"
 stop_line stops.TooLong = codes "too long\n"
 stop_line (stops.BadSession error) = codes "bad session " ++ error_words error ++ 10 ∷ []
+stop_line (stops.Damaged row) = codes "damaged " ++ decimal row ++ 10 ∷ []
+stop_line stops.DiskFault = codes "disk fault\n"
 stop_line stops.NoMemory = []
 
 -- the line of a stop was written, unless the sink failed or memory ran out

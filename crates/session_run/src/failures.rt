@@ -9,6 +9,7 @@ ghost use Rattle.session_run.specs.Rendered.{is_failure, lanes_fail};
 
 use base_core::Core;
 use cc_names::replies::{Reply, UnitLine, UnitWord};
+use disk_model::Disk;
 
 fn is_made(line: &UnitLine) -> bool
     ensures { result ≡ is_made_line line.now }
@@ -40,7 +41,7 @@ fn has_failure(replies: &[Reply]) -> bool
 
 /// Whether a command of the last phase failed: it was refused, or a unit of its build is not made. Takes time linear in the
 /// replies.
-pub(crate) fn any_failed(core: &Core) -> bool
+pub(crate) fn any_failed<D: Disk>(core: &Core<D>) -> bool
     requires begun { 0 < (state_of core.now.story).number }
     requires few { length (state_of core.now.story).phase.lanes ≤ 64 }
     ensures { result ≡ lanes_fail 1 (state_of core.now.story).phase.lanes (replies_of core.now.story) }

@@ -10,10 +10,11 @@ ghost use Rattle.session_run.specs.Lanes.{TakesTurn, IsWithin, IsFinished, GoesI
 use base_core::Core;
 use cc_names::desks::Next;
 use cc_names::memory::NoMemory;
+use disk_model::Disk;
 use std::alloc::Global;
 
 /// Carries out a lane's next command, and answers whether there was one.
-fn take_turn(alloc: Global, core: &mut Core, lane: u32) -> Result<bool, NoMemory>
+fn take_turn<D: Disk>(alloc: Global, core: &mut Core<D>, lane: u32) -> Result<bool, NoMemory>
     requires carried_out { AreCarriedOut (state_of core.old.story).phase }
     ensures { TakesTurn result core.old.story core.new.story lane }
 {
@@ -28,7 +29,7 @@ fn take_turn(alloc: Global, core: &mut Core, lane: u32) -> Result<bool, NoMemory
 }
 
 /// Carries out the commands of a lane until each is finished.
-fn run_lane(alloc: Global, core: &mut Core, lane: u32) -> Result<(), NoMemory>
+fn run_lane<D: Disk>(alloc: Global, core: &mut Core<D>, lane: u32) -> Result<(), NoMemory>
     requires carried_out { AreCarriedOut (state_of core.old.story).phase }
     requires opened { is_opened core.old.story ≡ true }
     requires within { IsWithin (state_of core.old.story) lane }
@@ -40,7 +41,7 @@ fn run_lane(alloc: Global, core: &mut Core, lane: u32) -> Result<(), NoMemory>
 }
 
 /// Carries out the commands of the last phase, lane by lane.
-pub(crate) fn run_lanes(alloc: Global, core: &mut Core) -> Result<(), NoMemory>
+pub(crate) fn run_lanes<D: Disk>(alloc: Global, core: &mut Core<D>) -> Result<(), NoMemory>
     requires begun { 0 < (state_of core.old.story).number }
     requires carried_out { AreCarriedOut (state_of core.old.story).phase }
     requires few { length (state_of core.old.story).phase.lanes ≤ 64 }

@@ -38,11 +38,13 @@ fn status_of(stop: Stop) -> Status
         Stop::ReadFault => Status::ReadFault,
         Stop::TooLong => Status::TooLong,
         Stop::BadSession(_) => Status::BadSession,
+        Stop::Damaged(row) => Status::Damaged(row),
+        Stop::DiskFault => Status::DiskFault,
         Stop::NoMemory => Status::NoMemory,
     }
 }
 
-fn push_number(alloc: Global, text: &mut Vec<u8>, number: u32) -> Result<(), NoMemory>
+fn push_number(alloc: Global, text: &mut Vec<u8>, number: u64) -> Result<(), NoMemory>
     ensures { OnOk result (text.new.items ≡ text.old.items ++ decimal number) }
 {
     let digits = format!(in alloc; "{number}")?;
@@ -53,7 +55,7 @@ fn push_number(alloc: Global, text: &mut Vec<u8>, number: u32) -> Result<(), NoM
 fn push_error(alloc: Global, text: &mut Vec<u8>, error: SessionError) -> Result<(), NoMemory>
     ensures { OnOk result (text.new.items ≡ text.old.items ++ error_words error) }
 {
-    push_number(alloc, text, error.line)?;
+    push_number(alloc, text, u64::from(error.line))?;
     text.push(b' ')?;
     text.extend_from_slice(cause_word(error.cause))?;
     Ok(())
@@ -68,6 +70,15 @@ fn error_line(alloc: Global, error: SessionError) -> Result<Text, NoMemory>
     Ok(Text::of(text))
 }
 
+fn damaged_line(alloc: Global, row: u64) -> Result<Text, NoMemory>
+    ensures { IfOk result (λ line. line ≡ stop_line (stops.Damaged row)) }
+{
+    let mut text = Vec::from_slice(alloc, b"damaged ")?;
+    push_number(alloc, &mut text, row)?;
+    text.push(b'\n')?;
+    Ok(Text::of(text))
+}
+
 fn line_of(alloc: Global, stop: Stop) -> Result<Text, NoMemory>
     ensures { IfOk result (λ line. line ≡ stop_line stop) }
 {
@@ -76,6 +87,8 @@ fn line_of(alloc: Global, stop: Stop) -> Result<Text, NoMemory>
         Stop::ReadFault => Text::from_bytes(alloc, b"read fault\n"),
         Stop::TooLong => Text::from_bytes(alloc, b"too long\n"),
         Stop::BadSession(error) => error_line(alloc, error),
+        Stop::Damaged(row) => damaged_line(alloc, row),
+        Stop::DiskFault => Text::from_bytes(alloc, b"disk fault\n"),
         Stop::NoMemory => Text::from_bytes(alloc, b""),
     }
 }

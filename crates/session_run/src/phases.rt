@@ -9,13 +9,10 @@ ghost use Rattle.legal_history.specs.States.{all_done};
 ghost use Rattle.legal_history.specs.Steps.{state_of};
 ghost use Rattle.legal_history.specs.Stories.{last_moment};
 ghost use Rattle.base_core.specs.Replying.{replies_of};
-ghost use Rattle.base_core.specs.Telling.{no_counts};
-ghost use Rattle.cc_names.specs.declared.steps.Told.TheVariants as told;
-ghost use Rattle.std.specs.Prelude.{false, ◌∷◌, []};
-ghost use Rattle.session_run.specs.Headline.{is_opened};
+ghost use Rattle.session_run.specs.Headline.{first_step, is_opened};
 ghost use Rattle.session_run.specs.Rendered.{transcript};
 ghost use Rattle.session_run.specs.Lanes.{RunsPhase, LeavesPhase};
-ghost use Rattle.session_run.specs.Runs.{IsReady, IsRunnable, HasRun, IsGivenUp, OnWriteFault};
+ghost use Rattle.session_run.specs.Runs.{IsJustOpened, IsReady, IsRunnable, HasRun, IsGivenUp, OnWriteFault};
 
 use crate::failures::any_failed;
 use crate::lanes::run_lanes;
@@ -24,6 +21,7 @@ use base_core::Core;
 use cc_names::commands::Phase;
 use cc_names::memory::{NoMemory, Or};
 use cc_outside::{Clock, Sink, WriteFault, write_whole};
+use disk_model::Disk;
 use std::alloc::Global;
 
 // The last moment of the year 9999.
@@ -40,7 +38,12 @@ fn moment_of<C: Clock>(clock: &mut C) -> u64
 }
 
 /// Begins a phase and carries out its commands.
-fn run_commands(alloc: Global, core: &mut Core, phase: Phase, moment: u64) -> Result<(), NoMemory>
+fn run_commands<D: Disk>(
+    alloc: Global,
+    core: &mut Core<D>,
+    phase: Phase,
+    moment: u64,
+) -> Result<(), NoMemory>
     requires finished { all_done (state_of core.old.story) ≡ true }
     requires opened { is_opened core.old.story ≡ true }
     requires ready { IsReady phase }
@@ -48,15 +51,16 @@ fn run_commands(alloc: Global, core: &mut Core, phase: Phase, moment: u64) -> Re
     requires in_time { moment ≤ last_moment }
     ensures ok { OnOk result (RunsPhase phase moment core.old.story core.new.story) }
     ensures err { OnErr result (LeavesPhase phase moment core.old.story core.new.story) }
+    ensures first { first_step core.new.story ≡ first_step core.old.story }
 {
     core.begin_phase(alloc, phase, moment)?;
     run_lanes(alloc, core)
 }
 
 /// Writes the transcript of the last phase, which has this number.
-fn write_transcript<K: Sink>(
+fn write_transcript<K: Sink, D: Disk>(
     alloc: Global,
-    core: &Core,
+    core: &Core<D>,
     number: u32,
     sink: &mut K,
 ) -> Result<(), Or<WriteFault>>
@@ -75,17 +79,18 @@ fn write_transcript<K: Sink>(
 }
 
 /// Runs the phases of a session and writes the transcript of each, and answers whether a command failed.
-pub(crate) fn run_phases<K: Sink, C: Clock>(
+pub(crate) fn run_phases<K: Sink, D: Disk, C: Clock>(
     alloc: Global,
-    core: &mut Core,
+    core: &mut Core<D>,
     phases: Vec<Phase>,
     sink: &mut K,
     clock: &mut C,
 ) -> Result<bool, Or<WriteFault>>
-    requires opened { core.old.story ≡ told.Opened [] no_counts false ∷ [] }
+    requires opened { IsJustOpened core.old.story }
     requires runnable { IsRunnable phases.items }
     ensures ok { IfOk result (HasRun phases.items core.new.story (record { held = K.held sink.old; holds = K.held sink.new; moments = C.told clock.old; first = C.readings clock.old; reading = C.readings clock.new })) }
     ensures err { IfErr result (λ cut. IsGivenUp cut phases.items core.new.story (K.held sink.old) (K.held sink.new) (C.told clock.old) (C.readings clock.old)) }
+    ensures first { first_step core.new.story ≡ first_step core.old.story }
     ensures fault { OnWriteFault result (Rose (K.faults sink.old) (K.faults sink.new)) }
 {
     let mut failed = false;

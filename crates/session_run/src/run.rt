@@ -1,34 +1,52 @@
 // The top call.
 
 ghost use Rattle.std.specs.Prelude.{◌≡◌};
+ghost use Rattle.legal_history.specs.Steps.{state_of};
+ghost use Rattle.legal_history.specs.Stories.{rises};
+ghost use Rattle.disk_model.specs.Told.{IfTold};
+ghost use Rattle.disk_model.specs.Devices.{file_of, bytes_of};
+ghost use Rattle.disk_model.specs.Files.{stable};
 ghost use Rattle.session_run.specs.Causes.{HasCause};
-ghost use Rattle.session_run.specs.Headline.{IsSession, IsOneHistory, AreFromNothing, ArePrinted};
-ghost use Rattle.session_run.specs.Runs.{IsRunnable, RunsSession, run_status};
+ghost use Rattle.session_run.specs.Headline.{IsSession, IsOneHistory, AreFromNothing, ArePrinted, first_step};
+ghost use Rattle.session_run.specs.Outcomes.{RunsOpened, RunsSession};
+ghost use Rattle.session_run.specs.Runs.{IsJustOpened, IsRunnable, run_status};
+ghost use Rattle.session_run.specs.Stopped.{IsHandedIn, IsMended, IsStopped};
+ghost use Rattle.session_run.specs.Stops.{open_stop};
 
 use crate::lines::refuse;
 use crate::phases::run_phases;
-use crate::sessions::session_given;
+use crate::sessions::{Stop, session_given};
 use crate::statuses::Status;
-use base_core::{Core, History};
+use base_core::{Core, History, OpenCause, OpenFault};
 use cc_names::commands::Phase;
 use cc_names::memory::Or;
 use cc_names::texts::Text;
 use cc_outside::{Clock, Sink, Source, WriteFault};
+use disk_model::Disk;
 use fresh_builds::laws::{a_build_is_as_from_nothing, a_build_is_of_its_command};
 use std::alloc::Global;
 
-/// How a call ended, and the history of the base that it opened, which is empty where it opened none.
-#[derive(Debug, Drop)]
-pub struct Ended {
+/// How a call ended: its status, the disk, and the history of the base that it opened, which is empty where it opened none.
+#[derive(Drop)]
+pub struct Ended<D: Disk> {
     pub status: Status,
+    pub disk: D,
     pub history: History,
 }
 
-/// The status of a run whose base was opened.
-fn status_of(run: Result<bool, Or<WriteFault>>) -> Status
-    ensures { result ≡ run_status run }
+/// Whether a count rose: it is greater than before, or stood and stands at its last number.
+fn has_risen(before: u64, after: u64) -> bool
+    ensures { result ≡ rises before after }
+{
+    before < after || (before == u64::MAX && after == u64::MAX)
+}
+
+/// The status of a run whose base was opened, by whether the disk's faults rose.
+fn status_of(run: Result<bool, Or<WriteFault>>, rose: bool) -> Status
+    ensures { result ≡ run_status run rose }
 {
     match run {
+        Ok(_) if rose => Status::DiskFault,
         Ok(false) => Status::Good,
         Ok(true) => Status::SomeFailed,
         Err(Or::Is(WriteFault)) => Status::WriteFault,
@@ -36,49 +54,105 @@ fn status_of(run: Result<bool, Or<WriteFault>>) -> Status
     }
 }
 
-fn run_session<K: Sink, C: Clock>(
-    alloc: Global,
-    phases: Vec<Phase>,
-    sink: &mut K,
-    clock: &mut C,
-) -> Ended
-    requires { IsRunnable phases.items }
-    ensures { RunsSession phases.items result.status result.history (record { held = K.held sink.old; holds = K.held sink.new; moments = C.told clock.old; first = C.readings clock.old; reading = C.readings clock.new }) (record { before = K.faults sink.old; after = K.faults sink.new }) }
+/// Why no base was opened, by whether the disk's faults rose.
+fn stop_of(cause: OpenCause, rose: bool) -> Stop
+    ensures { result ≡ open_stop cause rose }
 {
-    let Ok(mut core) = Core::open(alloc) else {
-        return Ended {
-            status: Status::NoMemory,
-            history: History::empty(alloc),
-        };
-    };
-    let status = status_of(run_phases(alloc, &mut core, phases, sink, clock));
-    a_build_is_as_from_nothing();
-    a_build_is_of_its_command();
-    Ended {
-        status,
-        history: core.into_history(),
+    match cause {
+        OpenCause::NoMemory => Stop::NoMemory,
+        OpenCause::Damaged(row) if !rose => Stop::Damaged(row),
+        _ => Stop::DiskFault,
     }
 }
 
-/// Runs the session that the words ask for: reads it from the source, opens a base, runs the phases in order, and writes the
-/// transcript of each when its lanes have ended. Takes time linear in the session for each row of the base.
-pub fn run_words<S: Source, K: Sink, C: Clock>(
+/// Settles the journal at the end of a call, where a fault left its tail open. Unless this fails no stop finds more than the
+/// rows of the base.
+fn settle<D: Disk>(core: &mut Core<D>)
+    ensures same { core.new.story ≡ core.old.story }
+    ensures mended { IsMended (state_of core.new.story) core.new.sight }
+{
+    let _ = core.finish();
+}
+
+/// Runs the phases on a base that was just opened, settles its journal, and hands the disk back. The disk had this count of
+/// faults before.
+fn run_opened<K: Sink, D: Disk, C: Clock>(
+    alloc: Global,
+    core: Core<D>,
+    before: u64,
+    phases: Vec<Phase>,
+    sink: &mut K,
+    clock: &mut C,
+) -> Ended<D>
+    requires opened { IsJustOpened core.story }
+    requires runnable { IsRunnable phases.items }
+    ensures { RunsOpened phases.items result.status (first_step core.story) result.history before (D.sight result.disk) (record { held = K.held sink.old; holds = K.held sink.new; moments = C.told clock.old; first = C.readings clock.old; reading = C.readings clock.new }) (record { before = K.faults sink.old; after = K.faults sink.new }) }
+{
+    let mut core = core;
+    let run = run_phases(alloc, &mut core, phases, sink, clock);
+    a_build_is_as_from_nothing();
+    a_build_is_of_its_command();
+    settle(&mut core);
+    let status = status_of(run, has_risen(before, core.counts().faults));
+    let (disk, history) = core.into_parts();
+    Ended {
+        status,
+        disk,
+        history,
+    }
+}
+
+/// Opens the base that a disk stands for and runs the phases on it, or writes why it cannot be opened.
+fn run_session<K: Sink, D: Disk, C: Clock>(
+    alloc: Global,
+    phases: Vec<Phase>,
+    sink: &mut K,
+    disk: D,
+    clock: &mut C,
+) -> Ended<D>
+    requires runnable { IsRunnable phases.items }
+    requires stable { IfTold (D.sight disk).told (λ d. file_of 0 d ≡ stable (bytes_of 0 d)) }
+    ensures { RunsSession phases.items result.status result.history (record { held = K.held sink.old; holds = K.held sink.new; moments = C.told clock.old; first = C.readings clock.old; reading = C.readings clock.new }) (record { before = K.faults sink.old; after = K.faults sink.new }) (record { before = D.sight disk; after = D.sight result.disk }) }
+{
+    let before = disk.counts().faults;
+    match Core::open(alloc, disk) {
+        Ok(core) => run_opened(alloc, core, before, phases, sink, clock),
+        Err(OpenFault { cause, disk }) => {
+            let stop = stop_of(cause, has_risen(before, disk.counts().faults));
+            Ended {
+                status: refuse(alloc, stop, sink),
+                disk,
+                history: History::empty(alloc),
+            }
+        }
+    }
+}
+
+/// Runs the session that the words ask for: reads it from the source, opens the base that the disk stands for, runs the
+/// phases in order, writes the transcript of each when its lanes have ended, and settles the journal. The disk comes back in
+/// every case, and unless a session was read no call was made on it. Takes time linear in the session for each row of the
+/// base.
+pub fn run_words<S: Source, K: Sink, D: Disk, C: Clock>(
     alloc: Global,
     words: &[Text],
     source: &mut S,
     sink: &mut K,
+    disk: D,
     clock: &mut C,
-) -> Ended
+) -> Ended<D>
+    requires { IsHandedIn (D.sight disk) }
     ensures session { IsSession result.status result.history (S.left source.old) (C.told clock.old) (C.readings clock.old) }
-    ensures history { IsOneHistory result.status result.history (K.held sink.old) (K.held sink.new) }
+    ensures history { IsOneHistory result.status result.history (D.sight disk) (K.held sink.old) (K.held sink.new) }
     ensures built { AreFromNothing result.history }
     ensures printed { ArePrinted result.status result.history (S.left source.old) (K.held sink.old) (K.held sink.new) }
-    ensures cause { HasCause result.status (record { words = words.now; text = record { before = S.left source.old; after = S.left source.new }; given = record { before = S.given source.old; after = S.given source.new }; faults = record { before = S.faults source.old; after = S.faults source.new } }) (record { before = K.faults sink.old; after = K.faults sink.new }) result.history }
+    ensures stopped { IsStopped (D.sight disk) (D.sight result.disk) result.history }
+    ensures cause { HasCause result.status (record { words = words.now; text = record { before = S.left source.old; after = S.left source.new }; given = record { before = S.given source.old; after = S.given source.new }; faults = record { before = S.faults source.old; after = S.faults source.new } }) (record { before = K.faults sink.old; after = K.faults sink.new }) (record { before = D.sight disk; after = D.sight result.disk }) result.history }
 {
     match session_given(alloc, words, source) {
-        Ok(phases) => run_session(alloc, phases, sink, clock),
+        Ok(phases) => run_session(alloc, phases, sink, disk, clock),
         Err(stop) => Ended {
             status: refuse(alloc, stop, sink),
+            disk,
             history: History::empty(alloc),
         },
     }

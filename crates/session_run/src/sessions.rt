@@ -22,6 +22,8 @@ pub(crate) enum Stop {
     ReadFault,
     TooLong,
     BadSession(SessionError),
+    Damaged(u64),
+    DiskFault,
     NoMemory,
 }
 

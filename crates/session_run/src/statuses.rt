@@ -14,10 +14,15 @@ pub enum Status {
     BadWords,
     /// The source's bytes spell no session.
     BadSession,
+    /// The frame of this number, counted from 1, is the first of the disk's journal that spells no row, or whose row does
+    /// not fit those before it.
+    Damaged(u64),
     /// The source failed.
     ReadFault,
     /// The sink failed.
     WriteFault,
+    /// The disk failed.
+    DiskFault,
     /// Memory ran out.
     NoMemory,
     /// The source gave too many bytes.
@@ -34,8 +39,10 @@ impl Status {
             Status::SomeFailed => 1,
             Status::BadWords => 2,
             Status::BadSession => 3,
+            Status::Damaged(_) => 4,
             Status::ReadFault => 5,
             Status::WriteFault => 6,
+            Status::DiskFault => 7,
             Status::NoMemory => 8,
             Status::TooLong => 9,
         }

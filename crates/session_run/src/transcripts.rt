@@ -9,6 +9,7 @@ ghost use Rattle.session_run.specs.Rendered.{phase_line, lanes_text, transcript}
 use base_core::Core;
 use cc_names::memory::NoMemory;
 use cc_names::texts::Text;
+use disk_model::Disk;
 use reply_text::render;
 use std::alloc::Global;
 
@@ -20,7 +21,12 @@ fn push_phase_line(alloc: Global, text: &mut Vec<u8>, number: u32) -> Result<(),
     Ok(())
 }
 
-fn push_lane(alloc: Global, text: &mut Vec<u8>, core: &Core, lane: u32) -> Result<(), NoMemory>
+fn push_lane<D: Disk>(
+    alloc: Global,
+    text: &mut Vec<u8>,
+    core: &Core<D>,
+    lane: u32,
+) -> Result<(), NoMemory>
     requires begun { 0 < (state_of core.now.story).number }
     requires from { 1 ≤ lane }
     requires upto { lane ≤ length (state_of core.now.story).phase.lanes }
@@ -31,7 +37,7 @@ fn push_lane(alloc: Global, text: &mut Vec<u8>, core: &Core, lane: u32) -> Resul
     Ok(())
 }
 
-fn push_lanes(alloc: Global, text: &mut Vec<u8>, core: &Core) -> Result<(), NoMemory>
+fn push_lanes<D: Disk>(alloc: Global, text: &mut Vec<u8>, core: &Core<D>) -> Result<(), NoMemory>
     requires begun { 0 < (state_of core.now.story).number }
     requires few { length (state_of core.now.story).phase.lanes ≤ 64 }
     ensures { OnOk result (text.new.items ≡ text.old.items ++ lanes_text (state_of core.now.story).phase 1 (state_of core.now.story).phase.lanes (replies_of core.now.story)) }
@@ -47,7 +53,11 @@ fn push_lanes(alloc: Global, text: &mut Vec<u8>, core: &Core) -> Result<(), NoMe
 }
 
 /// The transcript of the last phase, which has this number: its line, and the lines of its lanes.
-pub(crate) fn transcript(alloc: Global, core: &Core, number: u32) -> Result<Text, NoMemory>
+pub(crate) fn transcript<D: Disk>(
+    alloc: Global,
+    core: &Core<D>,
+    number: u32,
+) -> Result<Text, NoMemory>
     requires begun { 0 < (state_of core.now.story).number }
     requires few { length (state_of core.now.story).phase.lanes ≤ 64 }
     ensures { IfOk result (λ text. text ≡ transcript number (state_of core.now.story).phase (replies_of core.now.story)) }

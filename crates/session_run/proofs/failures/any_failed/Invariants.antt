@@ -5,11 +5,11 @@ use Rattle.session_run.specs.Rendered.{lanes_fail}
 use Rattle.session_run.proofs.failures.any_failed.Given as goal
 
 abbrev pub invariant-loop-behind : goal.invariant-loop-behind
-invariant-loop-behind l = record {
+invariant-loop-behind g l = record {
   fails : lanes_fail 1 (state_of l.core.story).phase.lanes (replies_of l.core.story) ≡ lanes_fail l.lane l.rest (replies_of l.core.story);
   from : 1 ≤ l.lane;
   within : l.lane + length l.rest ≡ length (state_of l.core.story).phase.lanes + 1;
 }
 
 abbrev pub decreases-loop-behind : goal.decreases-loop-behind
-decreases-loop-behind l = length l.rest
+decreases-loop-behind g l = length l.rest

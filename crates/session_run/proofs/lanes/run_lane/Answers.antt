@@ -6,16 +6,16 @@ use Rattle.session_run.proofs.LaneSteps.{has_turned, has_rested, lane_goes_on, l
 use Rattle.session_run.proofs.lanes.run_lane.Goals as goal
 
 pub returns-in_err-take_turn-clause-goes : goal.returns-in_err-take_turn-clause-goes
-returns-in_err-take_turn-clause-goes c =
+returns-in_err-take_turn-clause-goes g c =
     lane_leaves c.args.lane c.args.core.now.story c.loop.core.story c.take_turn.new.core.story c.loop.invariant.goes c.loop.invariant.opened c.in_err-take_turn.ensures
 
 pub loop-smaller : goal.loop-smaller
-loop-smaller c =
+loop-smaller g c =
     let turn = has_turned c.in_ok-take_turn.field-0 c.loop.core.story c.take_turn.new.core.story c.args.lane c.if-branch.true c.in_ok-take_turn.ensures in
     lane_shrinks c.args.lane c.loop.core.story c.take_turn.new.core.story turn.0 turn.1
 
 pub loop-preserved : goal.loop-preserved
-loop-preserved c =
+loop-preserved g c =
     let turn = has_turned c.in_ok-take_turn.field-0 c.loop.core.story c.take_turn.new.core.story c.args.lane c.if-branch.true c.in_ok-take_turn.ensures in
     let more = lane_goes_on c.args.lane c.args.core.now.story c.loop.core.story c.take_turn.new.core.story c.loop.invariant.goes c.loop.invariant.opened turn.0 turn.1 in
     record {
@@ -25,6 +25,6 @@ loop-preserved c =
     }
 
 pub returns-clause-finished : goal.returns-clause-finished
-returns-clause-finished c =
+returns-clause-finished g c =
     let rest = has_rested c.in_ok-take_turn.field-0 c.loop.core.story c.take_turn.new.core.story c.args.lane c.if-branch.false c.in_ok-take_turn.ensures in
     subst (λ story. IsFinished (state_of story) c.args.lane) (sym rest.1) (lane_ends c.args.lane c.loop.core.story c.loop.invariant.goes.within rest.0)

@@ -7,11 +7,11 @@ use Rattle.session_run.specs.Lanes.{GoesInLane, count_of}
 use Rattle.session_run.proofs.lanes.run_lane.Given as goal
 
 abbrev pub invariant-loop : goal.invariant-loop
-invariant-loop l = record {
+invariant-loop g l = record {
   goes : GoesInLane l.lane l.initial.core.story l.core.story;
   carried_out : AreCarriedOut (state_of l.core.story).phase;
   opened : is_opened l.core.story ≡ true;
 }
 
 abbrev pub decreases-loop : goal.decreases-loop
-decreases-loop l = count_of (lane_at (state_of l.core.story).phase l.lane) - done_of (state_of l.core.story).done l.lane
+decreases-loop g l = count_of (lane_at (state_of l.core.story).phase l.lane) - done_of (state_of l.core.story).done l.lane

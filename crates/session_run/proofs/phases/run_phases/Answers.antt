@@ -36,6 +36,7 @@ loop-phase-preserved g c =
           at.invariant.run c.in_ok-run_commands.ensures.ok c.any_failed-failed.ensures
           (told_still (g.C.Clock.told at.clock) (g.C.Clock.told c.args.clock.now) c.moment_of-moment.result (g.C.Clock.readings at.clock) at.invariant.clock c.moment_of-moment.ensures.moment)
           c.moment_of-moment.ensures.counted (ap (λ n. n + 1) at.invariant.number) c.in_ok-write_transcript.ensures.ok;
+      first = c.run_commands.ensures.first ∙ at.invariant.first;
       rest = append_assoc at.yielded (c.in-Some.phase ∷ []) (into_iter_items c.next.new.self) ∙ in_hand at.yielded (into_iter_items at.phase-iterator) (into_iter_items c.next.new.self) _ _ c.in-Some.phase at.invariant.rest c.in-Some.ensures.steps.0 refl;
       ready = ready.1;
       few = at.invariant.few;

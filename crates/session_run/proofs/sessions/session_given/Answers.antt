@@ -1,7 +1,7 @@
 use Rattle.std.proofs.Common.{◌≡◌, ap, sym, subst, ◌∙◌, length, true, arith, rules}
 use Rattle.session_text.specs.Formed.{IsSession}
 use Rattle.session_text.specs.Sessions.{session_of}
-use Rattle.session_run.specs.Headline.{is_run}
+use Rattle.session_run.specs.Asked.{is_run}
 use Rattle.session_run.specs.Stops.{GivesPhases}
 use Rattle.session_run.proofs.Ready.{gives_phases}
 use Rattle.session_run.proofs.sessions.session_given.Goals as goal

@@ -5,7 +5,7 @@ use Rattle.session_run.specs.Rendered.{lanes_text}
 use Rattle.session_run.proofs.transcripts.push_lanes.Given as goal
 
 abbrev pub invariant-loop-behind : goal.invariant-loop-behind
-invariant-loop-behind l = record {
+invariant-loop-behind g l = record {
   lines : l.initial.text.items ++ lanes_text (state_of l.core.story).phase 1 (state_of l.core.story).phase.lanes (replies_of l.core.story)
       ≡ l.text.items ++ lanes_text (state_of l.core.story).phase l.lane l.rest (replies_of l.core.story);
   from : 1 ≤ l.lane;
@@ -13,4 +13,4 @@ invariant-loop-behind l = record {
 }
 
 abbrev pub decreases-loop-behind : goal.decreases-loop-behind
-decreases-loop-behind l = length l.rest
+decreases-loop-behind g l = length l.rest

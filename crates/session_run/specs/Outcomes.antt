@@ -1,0 +1,49 @@
+-- What became of a session that was to be run: its base was opened and its phases were run, or no base was opened.
+use Rattle.std.specs.Prelude.{◌≡◌, ℕ, Bool, ◌⊎◌, Option, Result, List, []}
+use Rattle.cc_names.specs.declared.commands.Phase.{Phase}
+use Rattle.cc_names.specs.declared.memory.Or.{Or}
+use Rattle.cc_names.specs.declared.steps.Told.{Told}
+use Rattle.cc_outside.specs.Counts.{Rose}
+use Rattle.cc_outside.specs.declared.sinks.WriteFault.{WriteFault}
+use Rattle.disk_model.specs.Told.{Sight}
+use Rattle.legal_history.specs.Steps.{state_of}
+use Rattle.legal_history.specs.Stories.{Legal, rises}
+use Rattle.base_core.specs.Backed.{IsAccounted}
+use Rattle.base_core.specs.Opening.{FailsToOpen}
+use Rattle.base_core.specs.declared.opening.OpenCause.{OpenCause}
+use Rattle.session_run.specs.Causes.{Change, disk_rose}
+use Rattle.session_run.specs.Headline.{AreFromNothing, BeginsOn, first_step}
+use Rattle.session_run.specs.Runs.{Outside, GivenAsTold, HasRunSo, OnWriteFault, run_status}
+use Rattle.session_run.specs.Stopped.{IsMended}
+use Rattle.session_run.specs.Stops.{WritesStop, open_stop}
+use Rattle.session_run.specs.declared.statuses.Status.{Status}
+
+-- The phases were run on a base that was opened, or their run was given up, and the disk was handed back. The story has this
+-- first step, and the disk had this count of faults as the call began.
+pub record RunsOpened (phases : List Phase) (status : Status) (first : Option Told) (story : List Told) (before : ℕ) (after : Sight) (outside : Outside) (faults : Change ℕ) : Type 0 where
+  pub result : Result Bool (Or WriteFault)
+  pub status_is : status ≡ run_status result (rises before after.faults)
+  pub first_is : first_step story ≡ first
+  pub legal : Legal story
+  pub told : GivenAsTold story
+  pub built : AreFromNothing story
+  pub ran : HasRunSo result phases story outside
+  pub fault : OnWriteFault result (Rose faults.before faults.after)
+  pub accounted : IsAccounted (state_of story) after
+  pub mended : IsMended (state_of story) after
+
+-- the base that the disk stood for was opened
+pub record RunsOn (phases : List Phase) (status : Status) (story : List Told) (outside : Outside) (faults : Change ℕ) (disk : Change Sight) : Type 0 where
+  pub begins : BeginsOn disk.before story
+  pub first : Option Told
+  pub runs : RunsOpened phases status first story disk.before.faults disk.after outside faults
+
+-- no base was opened, and the line of the cause was written
+pub record StaysClosed (status : Status) (story : List Told) (outside : Outside) (faults : Change ℕ) (disk : Change Sight) : Type 0 where
+  pub because : OpenCause
+  pub fails : FailsToOpen disk.before because disk.after
+  pub empty : story ≡ []
+  pub wrote : WritesStop (open_stop because (disk_rose disk)) status outside.held outside.holds faults
+
+abbrev pub RunsSession : List Phase → Status → List Told → Outside → Change ℕ → Change Sight → Type 0
+RunsSession phases status story outside faults disk = RunsOn phases status story outside faults disk ⊎ StaysClosed status story outside faults disk
