@@ -23,7 +23,8 @@ const BUILT: &str =
 const UNBUILT: &str =
     "phase 1\nlane a\n1 mkview ok\n2 save ok\n3 save ok\n4 clearmake disk fault\n";
 
-const UNMADE: &str = "phase 1\nlane a\n1 mkview disk fault\n2 save refused C1 NoView\n3 save refused C1 NoView\n4 clearmake refused C1 NoView\n";
+const UNMADE: &str =
+    "phase 1\nlane a\n1 mkview disk fault\n2 save refused C1 NoView\n3 save refused C1 NoView\n4 clearmake refused C1 NoView\n";
 
 fn letter_of(call: &Call) -> char {
     match call {
