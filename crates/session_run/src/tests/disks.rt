@@ -233,16 +233,26 @@ fn a_journal_is_read_to_its_end(rt: HostRuntime) -> Result<(), Fail> {
     assert_found(&rt, alloc, &journal, "", 0, 1)
 }
 
+// The first two frames of the journal of two views, and the first of them once more.
+fn first_again(alloc: Global, journal: &[u8]) -> Result<Vec<u8>, Fail> {
+    let mut twice = Vec::new(alloc);
+    for byte in journal.iter().take(64) {
+        twice.push(*byte)?;
+    }
+    for byte in journal.iter().take(32) {
+        twice.push(*byte)?;
+    }
+    Ok(twice)
+}
+
 // A frame that is no row, one with nothing in it, a row that is there already, and one behind rows that are missing.
 #[test]
 fn a_damaged_journal_is_told(rt: HostRuntime) -> Result<(), Fail> {
     let alloc = rt.alloc();
     assert_found(&rt, alloc, b"\x01\x01\0\0\0\x09\0", "damaged 1\n", 4, 0)?;
     assert_found(&rt, alloc, b"\x01\0\0\0\0\0", "damaged 1\n", 4, 0)?;
-    let journal = journal_of(alloc, VIEWS)?;
-    assert!(rt; journal.len() > 64);
-    let mut twice = journal[..64].to_vec(alloc)?;
-    twice.extend_from_slice(&journal[..32])?;
+    let views = journal_of(alloc, VIEWS)?;
+    let twice = first_again(alloc, &views)?;
     assert_found(&rt, alloc, &twice, "damaged 3\n", 4, 0)?;
     let journal = journal_of(alloc, "phase\nlane a\nmkview v\nsave v in\n|hi\n")?;
     assert!(rt; journal.len() > 32);
