@@ -1,5 +1,4 @@
 use Rattle.std.proofs.Common.{subst, sym}
-use Rattle.disk_model.specs.Told.{Sight}
 use Rattle.session_run.specs.Causes.{Change, Intake}
 use Rattle.session_run.specs.Runs.{Outside}
 use Rattle.session_run.proofs.Promises.{Promised, promised_run, promised_stop}
