@@ -54,10 +54,6 @@ Consumes-length None b xs limit p h = tt
 Consumes-length (Some x) None xs limit p h = absurd p
 Consumes-length (Some x) (Some y) xs limit p h = let e : length x ≡ length xs + length y = ap length p ∙ length-append xs y in omega arith
 
--- the front of a list that was written there whole
-pub front_is : (len : ℕ) (xs ys : List ℕ) → length xs ≡ len → take len (xs ++ ys) ≡ xs
-front_is len xs ys e = let f : ℕ → List ℕ = λ n. take n (xs ++ ys) in sym (ap f e) ∙ take-append_seam xs ys
-
 -- a source of bytes gives the first of those behind a place, and none only where there are none or no room
 pub takes_front : (bytes into piece : List ℕ) (place count : ℕ) → count ≡ min (length (drop place bytes)) (length into) → piece ≡ take count (drop place bytes) → ReadConsumes {E = ℕ} (Some (drop place bytes)) (Some (drop (place + count) bytes)) (Ok count) (piece ++ drop count into)
 takes_front bytes into piece place count m e =

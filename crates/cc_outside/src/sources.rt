@@ -1,8 +1,8 @@
 // Where bytes come from.
 
-ghost use Rattle.std.specs.Prelude.{◌≡◌, ℕ, ◌≤◌, ◌<◌, ◌^◌, Option, List, length, IfOk, IfSome, OnErr};
+ghost use Rattle.std.specs.Prelude.{◌≡◌, ℕ, ◌+◌, ◌≤◌, ◌<◌, ◌^◌, Option, List, length, IfOk, IfSome, OnErr};
 ghost use Rattle.std.specs.Io.KnownBytes.{ReadConsumes, Consumes, IsAtEnd};
-ghost use Rattle.cc_outside.specs.Counts.{raised, Rose, RoseAbove};
+ghost use Rattle.cc_outside.specs.Counts.{raised, Rose, RoseAbove, RoseAtMost};
 ghost use Rattle.cc_outside.specs.Reading.{OnFault, OnTooLong};
 
 use cc_names::memory::Or;
@@ -53,10 +53,11 @@ pub enum Unread {
     TooLong,
 }
 
-// How many bytes are asked for at once.
+// The most bytes that are asked for at once.
 const PIECE: usize = 65_536;
 
-/// Reads a source to its end, or until it gave more bytes than the limit. Takes time linear in the bytes read.
+/// Reads a source to its end, or until it gave one byte more than the limit, and takes no byte past that one. Takes time
+/// linear in the bytes read.
 pub fn read_whole<S: Source>(
     alloc: Global,
     source: &mut S,
@@ -71,17 +72,20 @@ pub fn read_whole<S: Source>(
     ensures fault { OnFault result (Rose (S.faults source.old) (S.faults source.new)) }
     ensures too_long { OnTooLong result (RoseAbove limit (S.given source.old) (S.given source.new)) }
     ensures told { OnTooLong result (IfSome (S.left source.old) (λ bytes. limit < length bytes)) }
+    ensures taken { RoseAtMost (limit + 1) (S.given source.old) (S.given source.new) }
 {
     let mut piece = vec![in alloc; 0u8; PIECE]?;
     let mut bytes = Vec::new(alloc);
     while bytes.len() <= limit {
-        let Ok(count) = source.read(piece.as_mut_slice()) else {
+        let room = PIECE.min(limit + 1 - bytes.len());
+        let into = &mut piece[..room];
+        let Ok(count) = source.read(into) else {
             return Err(Or::Is(Unread::Fault));
         };
         if count == 0 {
             return Ok(Text::of(bytes));
         }
-        bytes.extend_from_slice(&piece[..count])?;
+        bytes.extend_from_slice(&into[..count])?;
     }
     Err(Or::Is(Unread::TooLong))
 }

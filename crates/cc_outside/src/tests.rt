@@ -69,6 +69,16 @@ fn a_source_is_read_to_its_end_or_past_the_limit(rt: HostRuntime) {
 }
 
 #[test]
+fn what_lies_past_the_limit_and_one_byte_stays(rt: HostRuntime) -> Result<(), Fail> {
+    let mut source = MemorySource::new(rt.alloc(), b"hello world", &[])?;
+    let unread = read_whole(rt.alloc(), &mut source, 5).err();
+    assert_eq!(rt; unread, Some(Or::Is(Unread::TooLong)));
+    let rest = read_whole(rt.alloc(), &mut source, 5)?;
+    assert_eq!(rt; rest.as_bytes(), b"world".as_slice());
+    Ok(())
+}
+
+#[test]
 fn a_text_is_written_whole_or_its_front(rt: HostRuntime) -> Result<(), Fail> {
     let mut sink = MemorySink::new(rt.alloc(), &[2])?;
     assert_eq!(rt; write_whole(&mut sink, b"phase 1\n"), Ok(()));

@@ -3,13 +3,14 @@ use Rattle.std.specs.Io.KnownBytes.{Consumes}
 use Rattle.cc_outside.specs.Counts.{raised}
 use Rattle.cc_outside.proofs.sources.read_whole.Given as goal
 
-abbrev pub invariant-loop-source : goal.invariant-loop-source
-invariant-loop-source g l = record {
+abbrev pub invariant-loop-bytes : goal.invariant-loop-bytes
+invariant-loop-bytes g l = record {
   room : vec_len l.piece ≡ 65536;
   bytes : Consumes (g.S.Source.left l.initial.source) (g.S.Source.left l.source) l.bytes.items;
+  short : vec_len l.bytes ≤ l.limit + 1;
   counted : g.S.Source.given l.source ≡ raised (g.S.Source.given l.initial.source) (vec_len l.bytes);
   kept : g.S.Source.faults l.initial.source ≤ g.S.Source.faults l.source;
 }
 
-abbrev pub decreases-loop-source : goal.decreases-loop-source
-decreases-loop-source g l = l.limit + 1 - vec_len l.bytes
+abbrev pub decreases-loop-bytes : goal.decreases-loop-bytes
+decreases-loop-bytes g l = l.limit + 1 - vec_len l.bytes
