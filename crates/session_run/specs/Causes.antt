@@ -1,8 +1,8 @@
 -- The cause of each status of a call.
-use Rattle.std.specs.Prelude.{◌≡◌, ℕ, ◌<◌, ◌≤◌, Bool, true, false, Option, IfSome, List, [], length}
+use Rattle.std.specs.Prelude.{◌≡◌, ℕ, ◌+◌, ◌<◌, ◌≤◌, Bool, true, false, Option, IfSome, List, [], length}
 use Rattle.std.specs.Io.KnownBytes.{IsAtEnd}
 use Rattle.cc_names.specs.declared.steps.Told.{Told}
-use Rattle.cc_outside.specs.Counts.{raised, Rose, RoseAbove}
+use Rattle.cc_outside.specs.Counts.{raised, Rose, RoseAbove, RoseAtMost}
 use Rattle.disk_model.specs.Devices.{bytes_of}
 use Rattle.disk_model.specs.Told.{Sight, IfTold}
 use Rattle.vob_journal.specs.Frames.{frames}
@@ -91,3 +91,7 @@ HasCause statuses.WriteFault intake sink_faults disk story = Rose sink_faults.be
 HasCause statuses.DiskFault intake sink_faults disk story = IsAsked intake × (disk_rose disk ≡ true) × (is_opened story ≡ true → all_done (state_of story) ≡ true)
 HasCause statuses.NoMemory intake sink_faults disk story = Unit {0}
 HasCause statuses.TooLong intake sink_faults disk story = GaveTooMuch intake × IsUntouched disk story
+
+-- *How far a source is read*, whatever the status: it gave at most one byte more than a text may have
+pub record TakesNoMore (given : Change ℕ) : Type 0 where
+  pub most : RoseAtMost (text_limit + 1) given.before given.after
