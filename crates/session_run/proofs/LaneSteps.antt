@@ -1,5 +1,5 @@
 -- What the turns of a lane do to the story.
-use Rattle.std.proofs.Common.{◌≡◌, ℕ, ◌-◌, ◌<◌, Bool, true, false, Option, Some, None, Result, Ok, Err, List, [], ◌∷◌, refl, ap, sym, subst, ◌∙◌, arith}
+use Rattle.std.proofs.Common.{◌≡◌, ℕ, ◌-◌, ◌<◌, Bool, true, false, Option, Some, None, Result, Ok, List, [], ◌∷◌, refl, ap, sym, subst, ◌∙◌, arith}
 use Rattle.std.specs.Prelude.{IfSome, IsSome, option_map, option_and_then}
 use Rattle.cc_names.specs.declared.commands.Command.{Command}
 use Rattle.cc_names.specs.declared.commands.Command.TheVariants as commands
@@ -23,7 +23,7 @@ use Rattle.base_core.specs.Nexts.{next_of, next_by, waiting}
 use Rattle.std.proofs.lemmas.List.{append-nil}
 use Rattle.legal_history.specs.Base.{only_where}
 use Rattle.legal_history.specs.Builds.{build_of}
-use Rattle.legal_history.specs.Decisions.{Scene, Decision, Makes, Answers, Begins, unless_refused}
+use Rattle.legal_history.specs.Decisions.{Scene, Decision, Makes, unless_refused}
 use Rattle.legal_history.specs.FileLines.{save_deed}
 use Rattle.legal_history.specs.Lines.{decision}
 use Rattle.legal_history.specs.States.{State, start, scene, done_of, with_done, is_next, next_tag, decided, lane_at, build_if, build_by}

@@ -7,7 +7,7 @@ use Rattle.cc_names.specs.declared.steps.Counts.{Counts}
 use Rattle.cc_names.specs.declared.steps.Step.TheVariants as steps
 use Rattle.cc_names.specs.declared.steps.Told.{Told}
 use Rattle.cc_names.specs.declared.steps.Told.TheVariants as told
-use Rattle.disk_model.specs.Devices.{Device, MayLeave, Leaves, LeavesNow, bytes_of, file_of}
+use Rattle.disk_model.specs.Devices.{Device, MayLeave, bytes_of, file_of}
 use Rattle.disk_model.specs.Files.{IsImage, stable}
 use Rattle.disk_model.specs.Told.{Sight, IfTold, IsCounted}
 use Rattle.legal_history.specs.States.{State, Opening, start, faults_of, hanging}
@@ -20,7 +20,7 @@ use Rattle.base_core.specs.Standing.{MayBeFound}
 use Rattle.base_core.proofs.Backing.{left_within_calls}
 use Rattle.base_core.proofs.Idle.{some_same}
 use Rattle.session_run.specs.Headline.{BeginsOn, first_step, is_opened}
-use Rattle.session_run.specs.Stopped.{AreApart, IsHandedIn, IsMended, IsStopped, KeepsFrames, KeepsPrefix, rises_of}
+use Rattle.session_run.specs.Stopped.{AreApart, IsHandedIn, IsMended, IsStopped, KeepsFrames, rises_of}
 
 -- each fault of a story has a rise of its own
 apart_from : (s : State) (story : List Told) → is_some s.opened ≡ true → LegalFrom s story → AreApart (faults_of s.opened s.ends) (rises_of story) (faults_of (state_from s story).opened (state_from s story).ends)
