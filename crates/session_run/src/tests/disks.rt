@@ -220,6 +220,14 @@ fn journal_of(alloc: Global, session: &str) -> Result<Vec<u8>, Fail> {
     Ok(outcome.disk.bytes(0).to_vec(alloc)?)
 }
 
+fn first_bytes(alloc: Global, bytes: &[u8], count: usize) -> Result<Vec<u8>, Fail> {
+    let mut first = Vec::new(alloc);
+    for byte in bytes.iter().take(count) {
+        first.push(*byte)?;
+    }
+    Ok(first)
+}
+
 // The journal of two views has two frames of 32 bytes and a gate that is shut.
 #[test]
 fn a_journal_is_read_to_its_end(rt: HostRuntime) -> Result<(), Fail> {
@@ -227,7 +235,8 @@ fn a_journal_is_read_to_its_end(rt: HostRuntime) -> Result<(), Fail> {
     let mut journal = journal_of(alloc, VIEWS)?;
     assert_eq!(rt; journal.len(), 65);
     assert_found(&rt, alloc, &journal, "", 0, 2)?;
-    assert_found(&rt, alloc, &journal[..40], "", 0, 1)?;
+    let cut = first_bytes(alloc, &journal, 40)?;
+    assert_found(&rt, alloc, &cut, "", 0, 1)?;
     assert_found(&rt, alloc, b"\x01\xff\0\0\0", "", 0, 0)?;
     journal[32] = 7;
     assert_found(&rt, alloc, &journal, "", 0, 1)
@@ -235,10 +244,7 @@ fn a_journal_is_read_to_its_end(rt: HostRuntime) -> Result<(), Fail> {
 
 // The first two frames of the journal of two views, and the first of them once more.
 fn first_again(alloc: Global, journal: &[u8]) -> Result<Vec<u8>, Fail> {
-    let mut twice = Vec::new(alloc);
-    for byte in journal.iter().take(64) {
-        twice.push(*byte)?;
-    }
+    let mut twice = first_bytes(alloc, journal, 64)?;
     for byte in journal.iter().take(32) {
         twice.push(*byte)?;
     }
