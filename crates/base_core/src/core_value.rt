@@ -178,7 +178,7 @@ impl<D: Disk> Core<D> {
         let busy = building(self.builds.as_slice(), building_view(command));
         let taken = self.log.rows().len() as u64 + 1 + reserved(self.builds.as_slice());
         let room = ROW_LIMIT.saturating_sub(taken);
-        decide(alloc, self.log.rows(), command, stamp, busy, room)
+        decide(alloc, &self.log.rows(), command, stamp, busy, room)
     }
 
     /// Commits the row of its lane's next command, or tells that the disk failed under it. An `Err` changes nothing.
@@ -218,7 +218,7 @@ impl<D: Disk> Core<D> {
     }
 
     /// Carries out a lane's next command, which builds nothing: its row is committed, it is refused, or the disk fails
-    /// under it. An `Err` changes nothing. Takes time linear in the rows.
+    /// under it. An `Err` changes nothing. Takes time linear in the command and in the row, however many rows there are.
     pub fn act(&mut self, alloc: Global, lane: u32) -> Result<Done, NoMemory>
         requires { next_of (state_of self.old.story) lane ≡ nexts.Act }
         ensures ok { IfOk result (λ done. Acts self.old.story self.new.story lane done) }
@@ -246,7 +246,14 @@ impl<D: Disk> Core<D> {
         };
         let busy = building(self.builds.as_slice(), clearmake_view(command));
         let taken = self.log.rows().len() as u64 + 1 + reserved(self.builds.as_slice());
-        plan_build(alloc, self.log.rows(), command, self.tag(lane), busy, taken)
+        plan_build(
+            alloc,
+            &self.log.rows(),
+            command,
+            self.tag(lane),
+            busy,
+            taken,
+        )
     }
 
     /// Begins the build that was decided for the next command of its lane. An `Err` changes nothing.
@@ -339,7 +346,7 @@ impl<D: Disk> Core<D> {
         let Some(build) = build_of(self.builds.as_slice(), lane) else {
             unreachable!()
         };
-        step(alloc, self.log.rows(), build, unit)
+        step(alloc, &self.log.rows(), build, unit)
     }
 
     /// Tries a unit of a lane's build whose turn it is: it ends without a run, or its script is started. An `Err` changes
@@ -382,7 +389,7 @@ impl<D: Disk> Core<D> {
         let Some(build) = build_of(self.builds.as_slice(), lane) else {
             unreachable!()
         };
-        run_unit(alloc, self.log.rows(), build, unit, script, targets)
+        run_unit(alloc, &self.log.rows(), build, unit, script, targets)
     }
 
     /// The row of what the run of a unit of a lane's build gave.
@@ -405,7 +412,7 @@ impl<D: Disk> Core<D> {
         };
         publish_row(
             alloc,
-            self.log.rows(),
+            &self.log.rows(),
             build,
             unit,
             self.moment,
@@ -517,7 +524,7 @@ impl<D: Disk> Core<D> {
         let Some(build) = build_of(self.builds.as_slice(), lane) else {
             unreachable!()
         };
-        let reply = reply_of(alloc, self.log.rows(), build)?;
+        let reply = reply_of(alloc, &self.log.rows(), build)?;
         add_reply(&mut self.replies, lane, reply)?;
         if self.log.tell(Step::End { tag }).is_err() {
             take_reply_back(&mut self.replies, lane);

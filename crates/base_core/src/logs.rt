@@ -17,6 +17,7 @@ use disk_model::{Disk, DiskFault};
 use row_form::spell;
 use std::alloc::Global;
 use std::marker::Model;
+use view_lookup::{FirstRows, Rows};
 use vob_journal::{Frame, Journal, Left};
 
 /// What became of a row that was to be committed.
@@ -31,7 +32,7 @@ pub(crate) enum Appended {
 /// it as the story that the steps tell, these rows and phases, and the disk's counts and device.
 #[derive(Drop)]
 pub(crate) struct Log<D: Disk> {
-    rows: Vec<Row>,
+    rows: Rows,
     phases: Vec<Phase>,
     steps: Vec<Step>,
     handed: Handed,
@@ -45,13 +46,13 @@ impl<D: Disk> Model for Log<D> {
     ghost Value = { Logged };
 
     ghost view = { λ log. record {
-      story = story_of log.handed log.steps.items log.rows.items log.phases.items;
-      rows = log.rows.items;
+      story = story_of log.handed log.steps.items log.rows.rows log.phases.items;
+      rows = log.rows.rows;
       phases = log.phases.items;
       sight = D.sight log.journal.disk;
     } };
 
-    ghost invariant = { λ log. IsLogged log.handed log.steps.items log.rows.items log.phases.items (D.sight log.journal.disk) log.journal.list log.journal.loose log.journal.ended log.journal.left };
+    ghost invariant = { λ log. IsLogged log.handed log.steps.items log.rows.rows log.phases.items (D.sight log.journal.disk) log.journal.list log.journal.loose log.journal.ended log.journal.left };
 }
 
 /// The frame of a row. A row that is spelled in 2^32 bytes or more counts as want of memory.
@@ -128,13 +129,13 @@ impl<D: Disk> Log<D> {
     /// memory runs out.
     pub(crate) fn open(
         alloc: Global,
-        rows: Vec<Row>,
+        rows: Rows,
         handed: Handed,
         journal: Journal<D>,
     ) -> Result<Log<D>, Journal<D>>
-        requires few { length rows.items + 1 < 2 ^ 63 }
-        requires backed { IsBacked (state_of (told.Opened rows.items handed.counts handed.tells ∷ [])) (D.sight journal.disk) journal.list journal.loose journal.ended journal.left }
-        ensures ok { IfOk result (λ log. log ≡ opened_log rows.items handed (D.sight journal.disk)) }
+        requires few { length rows.rows + 1 < 2 ^ 63 }
+        requires backed { IsBacked (state_of (told.Opened rows.rows handed.counts handed.tells ∷ [])) (D.sight journal.disk) journal.list journal.loose journal.ended journal.left }
+        ensures ok { IfOk result (λ log. log ≡ opened_log rows.rows handed (D.sight journal.disk)) }
         ensures err { IfErr result (λ back. back ≡ journal) }
     {
         let mut steps = Vec::new(alloc);
@@ -187,14 +188,14 @@ impl<D: Disk> Log<D> {
     {
         let frame = frame_of(alloc, &row)?;
         let earlier = copy_left(alloc, self.steps.as_slice())?;
-        self.rows.reserve(1)?;
+        self.rows.reserve(row.deed())?;
         self.steps.reserve(2)?;
         let tag = row.tag();
         let number = self.rows.len() as u64 + 1;
         let before = self.journal.counts().faults;
         if let Ok(tick) = self.journal.append(&frame) {
             self.steps.push(Step::Commit { tag, number, tick }).unwrap();
-            self.rows.push(row).unwrap();
+            self.rows.push(row);
             return Ok(Appended::Committed);
         }
         let counts = self.journal.counts();
@@ -248,10 +249,10 @@ impl<D: Disk> Log<D> {
     }
 
     /// The rows, from row 1 on.
-    pub(crate) fn rows(&self) -> &[Row]
-        ensures { result.now ≡ self.now.rows }
+    pub(crate) fn rows(&self) -> FirstRows<'_>
+        ensures { result ≡ self.now.rows }
     {
-        self.rows.as_slice()
+        self.rows.all()
     }
 
     /// The phases that began.
@@ -277,7 +278,7 @@ impl<D: Disk> Log<D> {
         let _now = journal.counts();
         (
             journal.into_disk(),
-            History::of(rows, phases, steps, handed),
+            History::of(rows.into_vec(), phases, steps, handed),
         )
     }
 }

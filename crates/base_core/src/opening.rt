@@ -17,7 +17,7 @@ use cc_names::texts::Text;
 use disk_model::Disk;
 use row_form::read;
 use std::alloc::Global;
-use view_lookup::fits;
+use view_lookup::{FirstRows, Rows, fits};
 use vob_journal::Journal;
 
 /// Why a base cannot be opened.
@@ -52,7 +52,7 @@ fn next_payload<D: Disk>(alloc: Global, journal: &mut Journal<D>) -> Result<Opti
 }
 
 /// The row that the payload of the next frame spells, where it fits the rows before it.
-fn next_row(alloc: Global, rows: &[Row], payload: &[u8]) -> Result<Row, OpenCause>
+fn next_row(alloc: Global, rows: &FirstRows<'_>, payload: &[u8]) -> Result<Row, OpenCause>
     requires unversioned { is_unversioned (reverse rows.now) ≡ true }
     requires few { length rows.now < row_limit }
     ensures ok { IfOk result (IsNextRow (reverse rows.now) payload.now) }
@@ -76,7 +76,7 @@ fn next_row(alloc: Global, rows: &[Row], payload: &[u8]) -> Result<Row, OpenCaus
 fn read_row<D: Disk>(
     alloc: Global,
     journal: &mut Journal<D>,
-    rows: &[Row],
+    rows: &FirstRows<'_>,
 ) -> Result<Option<Row>, OpenCause>
     requires { IsReadSoFar D.sight rows.now journal.old }
     ensures reads { OnlyReads D.sight journal.old journal.new }
@@ -96,20 +96,21 @@ fn read_row<D: Disk>(
 }
 
 /// The rows of a journal, read to its end: each spells a row that fits those before it.
-fn read_rows<D: Disk>(alloc: Global, journal: &mut Journal<D>) -> Result<Vec<Row>, OpenCause>
+fn read_rows<D: Disk>(alloc: Global, journal: &mut Journal<D>) -> Result<Rows, OpenCause>
     requires { IsReadSoFar D.sight [] journal.old }
     ensures reads { OnlyReads D.sight journal.old journal.new }
-    ensures ok { IfOk result (λ rows. IsReadThrough D.sight rows.items journal.new) }
+    ensures ok { IfOk result (λ rows. IsReadThrough D.sight rows.rows journal.new) }
     ensures sound { OnOk result ((D.sight journal.new.disk).faults ≡ (D.sight journal.old.disk).faults) }
     ensures err { IfErr result (λ cause. StopsBy (D.sight journal.old.disk).told (λ _. journal.old.list) cause (D.sight journal.old.disk).faults (D.sight journal.new.disk).faults) }
 {
-    let mut rows = Vec::new(alloc);
+    let mut rows = Rows::new(alloc);
     'frames: loop {
-        match read_row(alloc, journal, rows.as_slice()) {
+        match read_row(alloc, journal, &rows.all()) {
             Ok(Some(row)) => {
-                if rows.push(row).is_err() {
+                if rows.reserve(row.deed()).is_err() {
                     return Err(OpenCause::NoMemory);
                 }
+                rows.push(row);
             }
             Ok(None) => return Ok(rows),
             Err(cause) => return Err(cause),

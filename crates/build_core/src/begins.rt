@@ -22,11 +22,11 @@ use cc_names::memory::Or;
 use cc_names::names::Name;
 use cc_names::paths::Path;
 use cc_names::refusals::Refusal;
-use cc_names::rows::{Row, Tag};
+use cc_names::rows::Tag;
 use cc_names::units::Unit;
 use make_text::makefiles::Texts;
 use std::alloc::Global;
-use view_lookup::{text_at, view_row};
+use view_lookup::{FirstRows, text_at, view_row};
 
 /// The most rows that a base may have, row 0 included.
 const ROW_LIMIT: u64 = 4_000_000;
@@ -34,7 +34,7 @@ const ROW_LIMIT: u64 = 4_000_000;
 // The texts of the files of a view that there is.
 #[derive(Drop)]
 struct ViewTexts<'a> {
-    rows: &'a [Row],
+    rows: &'a FirstRows<'a>,
     owner: &'a Name,
     ghost room: { length rows.now < 2 ^ 63 },
     ghost unversioned: { is_unversioned (reverse rows.now) ≡ true },
@@ -55,7 +55,7 @@ impl Texts for ViewTexts<'_> {
 /// The units of a build in a view that there is, over the view's files.
 fn units_in(
     alloc: Global,
-    rows: &[Row],
+    rows: &FirstRows<'_>,
     view: &Name,
     file: Option<&Path>,
     macros: &[Macro],
@@ -72,7 +72,7 @@ fn units_in(
 }
 
 /// The refusal of a build before its units are planned: there is no such view, or a build of it is active.
-fn refusal_of_view(rows: &[Row], view: &Name, busy: Option<Tag>) -> Option<Refusal>
+fn refusal_of_view(rows: &FirstRows<'_>, view: &Name, busy: Option<Tag>) -> Option<Refusal>
     requires { length rows.now < 2 ^ 63 }
     ensures refusal { (scene : Scene) → scene.base ≡ reverse rows.now → building scene.active view.now ≡ busy
         → result ≡ first_refusal (clearmake_tests scene view.now) }
@@ -104,7 +104,7 @@ fn refusal_of_room(taken: u64, units: u64) -> Option<Refusal>
 /// The units with which a build in a view begins, or its first refusal.
 fn begun(
     alloc: Global,
-    rows: &[Row],
+    rows: &FirstRows<'_>,
     view: &Name,
     file: Option<&Path>,
     macros: &[Macro],
@@ -140,7 +140,7 @@ fn begun(
 /// Takes time linear in the rows, and what `plan` takes with a walk over the rows for each file that it looks at.
 pub fn plan_build(
     alloc: Global,
-    rows: &[Row],
+    rows: &FirstRows<'_>,
     command: &Command,
     tag: Tag,
     busy: Option<Tag>,

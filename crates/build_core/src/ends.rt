@@ -15,11 +15,10 @@ use crate::active::{ActiveBuild, Came};
 use cc_names::memory::NoMemory;
 use cc_names::paths::Path;
 use cc_names::refusals::UnitFault;
-use cc_names::rows::Row;
 use cc_names::steps::UnitEnd;
 use cc_names::units::{Unit, UnitScript};
 use std::alloc::Global;
-use view_lookup::file_at;
+use view_lookup::{FirstRows, file_at};
 
 /// Whether a unit makes the path.
 pub(crate) fn makes(unit: &Unit, path: &Path) -> bool
@@ -42,7 +41,7 @@ pub(crate) fn number_of(units: &[Unit], path: &Path) -> Option<usize>
 }
 
 /// Whether a path is neither a unit's nor a file.
-fn is_missing(rows: &[Row], build: &ActiveBuild, path: &Path) -> bool
+fn is_missing(rows: &FirstRows<'_>, build: &ActiveBuild, path: &Path) -> bool
     requires room { length rows.now < 2 ^ 63 }
     requires unversioned { is_unversioned (reverse rows.now) ≡ true }
     requires view { IsSome (view_row (reverse rows.now) build.now.view) }
@@ -64,7 +63,11 @@ fn is_bad(build: &ActiveBuild, path: &Path) -> bool
     )
 }
 
-fn first_missing<'a>(rows: &[Row], build: &ActiveBuild, paths: &'a [Path]) -> Option<&'a Path>
+fn first_missing<'a>(
+    rows: &FirstRows<'_>,
+    build: &ActiveBuild,
+    paths: &'a [Path],
+) -> Option<&'a Path>
     requires room { length rows.now < 2 ^ 63 }
     requires unversioned { is_unversioned (reverse rows.now) ≡ true }
     requires view { IsSome (view_row (reverse rows.now) build.now.view) }
@@ -78,7 +81,7 @@ fn first_missing<'a>(rows: &[Row], build: &ActiveBuild, paths: &'a [Path]) -> Op
     None
 }
 
-fn first_bad<'a>(rows: &[Row], build: &ActiveBuild, paths: &'a [Path]) -> Option<&'a Path>
+fn first_bad<'a>(rows: &FirstRows<'_>, build: &ActiveBuild, paths: &'a [Path]) -> Option<&'a Path>
     ensures { option_copied result ≡ find (λ path. is_bad (standing_or_file (sees_file (reverse rows.now) build.now.view path) (standing_of_unit build.now path))) paths.now }
 {
     for path in paths {
@@ -149,7 +152,7 @@ fn no_script(alloc: Global, unit: &Unit) -> Result<Option<UnitEnd>, NoMemory>
 /// What the unit comes to without a run, where these are the rows that its build sees.
 pub(crate) fn early(
     alloc: Global,
-    rows: &[Row],
+    rows: &FirstRows<'_>,
     build: &ActiveBuild,
     unit: &Unit,
 ) -> Result<Option<UnitEnd>, NoMemory>

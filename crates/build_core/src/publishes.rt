@@ -20,11 +20,12 @@ use cc_names::rows::{Deed, ReadOf, Row};
 use cc_names::texts::Text;
 use std::alloc::Global;
 use std::collections::BTreeMap;
+use view_lookup::FirstRows;
 
 /// The row that a unit sees at each of these paths, 0 where it sees none, in byte order of the paths.
 fn rows_read(
     alloc: Global,
-    rows: &[Row],
+    rows: &FirstRows<'_>,
     build: &ActiveBuild,
     unit: u32,
     reads: &[Path],
@@ -62,7 +63,7 @@ fn entries_of(alloc: Global, found: BTreeMap<Path, u64>) -> Result<List<ReadOf>,
 /// Takes for each read a walk over the rows and one over the units, and time linear in what it copies.
 pub fn publish_row(
     alloc: Global,
-    rows: &[Row],
+    rows: &FirstRows<'_>,
     build: &ActiveBuild,
     unit: u32,
     moment: u64,

@@ -2,7 +2,6 @@
 
 ghost use Rattle.std.specs.Prelude.{◌≡◌, ◌++◌, ◌<◌, ◌^◌, [], true, Some, length, reverse, option_copied, IfOk, OnOk};
 ghost use Rattle.fresh_builds.specs.Replied.{digest_at, is_of_tag, is_own, word_of_object, word_of_end, word_of_came, line_before, lines_of, lines_from, reply_of};
-ghost use Rattle.legal_history.specs.Base.{row_at};
 ghost use Rattle.legal_history.specs.Builds.{came_to, Given};
 ghost use Rattle.legal_history.specs.Texts.{text};
 ghost use Rattle.view_lookup.specs.Unversioned.{is_unversioned};
@@ -17,7 +16,7 @@ use cc_names::rows::{Row, Tag};
 use cc_names::steps::UnitEnd;
 use reply_text::digest_of;
 use std::alloc::Global;
-use view_lookup::text_of;
+use view_lookup::{FirstRows, row_at, text_of};
 
 /// The length and the SHA-256 of an output; of no bytes where there is none.
 fn digest_at(output: Option<&[u8]>) -> Digest
@@ -33,14 +32,6 @@ fn digest_at(output: Option<&[u8]>) -> Digest
     }
 }
 
-/// The row of this number.
-fn row_at(rows: &[Row], number: u64) -> Option<&Row>
-    ensures { option_copied result ≡ row_at (reverse rows.now) number }
-{
-    let index = number.checked_sub(1)?;
-    rows.get(index as usize)
-}
-
 fn is_of_tag(tag: Tag, row: Option<&Row>) -> bool
     ensures { result ≡ is_of_tag tag (option_copied row.entry) }
 {
@@ -54,14 +45,14 @@ fn is_of_tag(tag: Tag, row: Option<&Row>) -> bool
 }
 
 /// Whether a build published an object itself.
-fn is_own(rows: &[Row], build: &ActiveBuild, id: u64) -> bool
+fn is_own(rows: &FirstRows<'_>, build: &ActiveBuild, id: u64) -> bool
     ensures { result ≡ is_own (reverse rows.now) build.now id }
 {
     build.rows() <= id && is_of_tag(build.tag(), row_at(rows, id))
 }
 
 /// The word for an object that a unit was given, by its output at a path.
-fn word_of_given(rows: &[Row], build: &ActiveBuild, path: &Path, id: u64) -> UnitWord
+fn word_of_given(rows: &FirstRows<'_>, build: &ActiveBuild, path: &Path, id: u64) -> UnitWord
     requires room { length rows.now < 2 ^ 63 }
     requires unversioned { is_unversioned (reverse rows.now) ≡ true }
     ensures { result ≡ word_of_object (reverse rows.now) build.now (Some (Given id)) (digest_at (text (reverse rows.now) id path.now)) }
@@ -77,7 +68,7 @@ fn word_of_given(rows: &[Row], build: &ActiveBuild, path: &Path, id: u64) -> Uni
 /// The word for an end without a row.
 fn word_of_end(
     alloc: Global,
-    rows: &[Row],
+    rows: &FirstRows<'_>,
     path: &Path,
     end: &UnitEnd,
 ) -> Result<UnitWord, NoMemory>
@@ -96,7 +87,7 @@ fn word_of_end(
 /// The word for a unit at one of its targets, if the unit has its outcome.
 fn word_of(
     alloc: Global,
-    rows: &[Row],
+    rows: &FirstRows<'_>,
     build: &ActiveBuild,
     unit: u32,
     path: &Path,
@@ -115,7 +106,7 @@ fn word_of(
 /// Puts the line of a unit at one of its targets behind others, if the unit has its outcome.
 fn push_line(
     alloc: Global,
-    rows: &[Row],
+    rows: &FirstRows<'_>,
     build: &ActiveBuild,
     unit: u32,
     path: &Path,
@@ -135,7 +126,7 @@ fn push_line(
 /// Puts the lines of a unit at these targets behind others.
 fn push_lines(
     alloc: Global,
-    rows: &[Row],
+    rows: &FirstRows<'_>,
     build: &ActiveBuild,
     unit: u32,
     targets: &[Path],
@@ -156,7 +147,7 @@ fn push_lines(
 /// The lines of all units, in order.
 fn lines_of_units(
     alloc: Global,
-    rows: &[Row],
+    rows: &FirstRows<'_>,
     build: &ActiveBuild,
 ) -> Result<Vec<UnitLine>, NoMemory>
     requires room { length rows.now < 2 ^ 63 }
@@ -185,7 +176,7 @@ fn lines_of_units(
 /// The reply of a build in a base without elements: unit by unit in order, a line for each target of those that have
 /// their outcome. Fails where memory runs out. Takes time linear in the targets and in the outputs, and for a unit with
 /// several targets in the square of their number.
-pub fn reply_of(alloc: Global, rows: &[Row], build: &ActiveBuild) -> Result<Reply, NoMemory>
+pub fn reply_of(alloc: Global, rows: &FirstRows<'_>, build: &ActiveBuild) -> Result<Reply, NoMemory>
     requires room { length rows.now < 2 ^ 63 }
     requires unversioned { is_unversioned (reverse rows.now) ≡ true }
     requires few { length build.now.units < 2 ^ 32 }

@@ -19,14 +19,14 @@ use build_script::run::run;
 use build_script::scripts::Script;
 use cc_names::memory::{NoMemory, Or};
 use cc_names::paths::Path;
-use cc_names::rows::Row;
 use std::alloc::Global;
+use view_lookup::FirstRows;
 
 /// The files that the script of a unit sees.
 #[derive(Drop)]
 struct UnitFiles<'a> {
     alloc: Global,
-    rows: &'a [Row],
+    rows: &'a FirstRows<'a>,
     build: &'a ActiveBuild,
     unit: u32,
     ghost room: { length rows.now < 2 ^ 63 },
@@ -60,7 +60,7 @@ impl Files for UnitFiles<'_> {
 /// Takes what `run` takes, and for each path that it reads a walk over the rows and one over the units.
 pub fn run_unit(
     alloc: Global,
-    rows: &[Row],
+    rows: &FirstRows<'_>,
     build: &ActiveBuild,
     unit: u32,
     script: &Script,

@@ -17,11 +17,10 @@ use crate::ends::makes;
 use build_script::files::Got;
 use cc_names::memory::NoMemory;
 use cc_names::paths::Path;
-use cc_names::rows::Row;
 use cc_names::texts::Text;
 use cc_names::units::Unit;
 use std::alloc::Global;
-use view_lookup::{file_at, first_rows, text_of};
+use view_lookup::{FirstRows, file_at, first_rows, text_of};
 
 /// Whether a unit makes one of these paths.
 fn makes_any(unit: &Unit, paths: &[Path]) -> bool
@@ -85,7 +84,7 @@ fn object_below(
 /// Takes time that grows with the units before it times the prerequisites met, and with the rows.
 pub fn visible(
     alloc: Global,
-    rows: &[Row],
+    rows: &FirstRows<'_>,
     build: &ActiveBuild,
     unit: u32,
     path: &Path,
@@ -101,11 +100,11 @@ pub fn visible(
         return Ok(Some(id));
     }
     let rows = first_rows(rows, build.rows());
-    Ok(file_at(rows, build.view(), path))
+    Ok(file_at(&rows, build.view(), path))
 }
 
 /// What a row made at the path.
-fn found(alloc: Global, rows: &[Row], row: u64, path: &Path) -> Got
+fn found(alloc: Global, rows: &FirstRows<'_>, row: u64, path: &Path) -> Got
     requires room { length rows.now < 2 ^ 63 }
     requires unversioned { is_unversioned (reverse rows.now) ≡ true }
     ensures { IsFetched result (standing_of (reverse rows.now) path.now row) }
@@ -121,7 +120,13 @@ fn found(alloc: Global, rows: &[Row], row: u64, path: &Path) -> Got
 
 /// What the script of a unit finds at a path, in a base without elements: the row that the unit sees there with its
 /// text, or nothing. It never breaks. Takes the time of `visible`, and that of a copy of the text.
-pub fn fetch(alloc: Global, rows: &[Row], build: &ActiveBuild, unit: u32, path: &Path) -> Got
+pub fn fetch(
+    alloc: Global,
+    rows: &FirstRows<'_>,
+    build: &ActiveBuild,
+    unit: u32,
+    path: &Path,
+) -> Got
     requires room { length rows.now < 2 ^ 63 }
     requires unversioned { is_unversioned (reverse rows.now) ≡ true }
     requires unit { unit < length build.now.units }

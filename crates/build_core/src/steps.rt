@@ -18,11 +18,10 @@ use cc_names::lists::List;
 use cc_names::memory::{NoMemory, Or};
 use cc_names::paths::Path;
 use cc_names::refusals::ScriptFault;
-use cc_names::rows::Row;
 use cc_names::steps::UnitEnd;
 use cc_names::units::{Unit, UnitScript};
 use std::alloc::Global;
-use view_lookup::first_rows;
+use view_lookup::{FirstRows, first_rows};
 
 /// What comes next for a unit.
 #[derive(Debug, Drop)]
@@ -80,7 +79,7 @@ fn read_script(alloc: Global, unit: &Unit) -> Result<Script, Or<ScriptFault>>
 /// The start of an open unit.
 fn start(
     alloc: Global,
-    rows: &[Row],
+    rows: &FirstRows<'_>,
     build: &ActiveBuild,
     unit: &Unit,
 ) -> Result<UnitStep, NoMemory>
@@ -98,7 +97,12 @@ fn start(
 }
 
 /// What comes next for a unit without an outcome, where these are the rows that its build sees.
-fn next(alloc: Global, rows: &[Row], build: &ActiveBuild, unit: &Unit) -> Result<UnitStep, NoMemory>
+fn next(
+    alloc: Global,
+    rows: &FirstRows<'_>,
+    build: &ActiveBuild,
+    unit: &Unit,
+) -> Result<UnitStep, NoMemory>
     requires room { length rows.now < 2 ^ 63 }
     requires unversioned { is_unversioned (reverse rows.now) ≡ true }
     requires few { length build.now.units < 2 ^ 32 }
@@ -121,7 +125,7 @@ fn next(alloc: Global, rows: &[Row], build: &ActiveBuild, unit: &Unit) -> Result
 /// the script.
 pub fn step(
     alloc: Global,
-    rows: &[Row],
+    rows: &FirstRows<'_>,
     build: &ActiveBuild,
     unit: u32,
 ) -> Result<UnitStep, NoMemory>
@@ -136,5 +140,5 @@ pub fn step(
         return Ok(UnitStep::Settled);
     }
     let rows = first_rows(rows, build.rows());
-    next(alloc, rows, build, &build.units()[unit as usize])
+    next(alloc, &rows, build, &build.units()[unit as usize])
 }

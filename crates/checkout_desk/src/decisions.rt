@@ -15,12 +15,13 @@ use cc_names::memory::Or;
 use cc_names::refusals::Refusal;
 use cc_names::rows::{Row, Tag};
 use std::alloc::Global;
+use view_lookup::FirstRows;
 
 /// A command's row, or its first refusal in the order of the tests of its line. `busy` is the active build of the
 /// command's view, and `room` is how many rows may still be made. Takes time linear in the rows and their targets.
 pub fn decide(
     alloc: Global,
-    rows: &[Row],
+    rows: &FirstRows<'_>,
     command: &Command,
     stamp: Stamp,
     busy: Option<Tag>,

@@ -22,7 +22,7 @@ use cc_names::rows::{Deed, Row, Tag};
 use cc_names::selection::Seen;
 use cc_names::texts::Text;
 use std::alloc::Global;
-use view_lookup::{at, held, view_row};
+use view_lookup::{FirstRows, at, held, view_row};
 
 /// The refusal of a directory in which a private file may not be saved: nothing or a file stands there.
 fn needs_directory(parent: Path, seen: Seen) -> Option<Refusal>
@@ -42,7 +42,7 @@ fn needs_directory(parent: Path, seen: Seen) -> Option<Refusal>
 /// object. Takes time linear in the rows and their targets.
 fn saves_at(
     alloc: Global,
-    rows: &[Row],
+    rows: &FirstRows<'_>,
     view: &Name,
     path: &Path,
 ) -> Result<Option<Refusal>, NoMemory>
@@ -65,7 +65,7 @@ fn saves_at(
 /// The first refusal of `save V P`, its room included. Takes time linear in the rows and their targets.
 fn save_refusal(
     alloc: Global,
-    rows: &[Row],
+    rows: &FirstRows<'_>,
     view: &Name,
     path: &Path,
     busy: Option<Tag>,
@@ -101,7 +101,7 @@ fn save_refusal(
 /// The row of `save V P` in a base without elements, or its first refusal.
 pub fn save(
     alloc: Global,
-    rows: &[Row],
+    rows: &FirstRows<'_>,
     view: &Name,
     path: &Path,
     text: &Text,

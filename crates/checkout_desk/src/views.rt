@@ -16,10 +16,10 @@ use cc_names::names::Name;
 use cc_names::refusals::Refusal;
 use cc_names::rows::{Deed, Row};
 use std::alloc::Global;
-use view_lookup::view_row;
+use view_lookup::{FirstRows, view_row};
 
 /// The first refusal of `mkview V`, its room included.
-fn mkview_refusal(rows: &[Row], view: &Name, room: u64) -> Option<Refusal>
+fn mkview_refusal(rows: &FirstRows<'_>, view: &Name, room: u64) -> Option<Refusal>
     requires { length rows.now < 2 ^ 63 }
     ensures refusal { (scene : Scene) (moment : ℕ) (other : List ℕ) (busy : Option Tag) → Sees scene (reverse rows.now) moment other busy room
         → result ≡ first_refusal (mkview_tests scene view.now ++ needs_room scene 1 ∷ []) }
@@ -34,7 +34,7 @@ fn mkview_refusal(rows: &[Row], view: &Name, room: u64) -> Option<Refusal>
 /// The row of `mkview V`, or its first refusal.
 pub fn mkview(
     alloc: Global,
-    rows: &[Row],
+    rows: &FirstRows<'_>,
     view: &Name,
     stamp: Stamp,
     room: u64,

@@ -1,8 +1,10 @@
-pub mod Walks
-pub mod FirstRows
-pub mod Holdings
-pub mod RowTexts
-pub mod Unversioned
-pub mod Standing
+pub mod Chains
 pub mod Files
+pub mod Fronts
+pub mod Holdings
+pub mod LastOn
+pub mod Lives
+pub mod RowTexts
 pub mod RowsFit
+pub mod Standing
+pub mod Unversioned

@@ -1,3 +1,11 @@
+pub mod Bearing
+pub mod Indexed
+pub mod Keyed
+pub mod Lives
 pub mod Made
+pub mod MarkSteps
+pub mod Marked
+pub mod Numbered
 pub mod Roots
+pub mod Shown
 pub mod Unversioned

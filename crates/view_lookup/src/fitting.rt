@@ -8,6 +8,7 @@ ghost use Rattle.legal_history.specs.Conditions.{is_put, is_entry};
 ghost use Rattle.legal_history.specs.Fits.{deed_fits, fits};
 ghost use Rattle.view_lookup.specs.Unversioned.{is_unversioned_deed, is_unversioned};
 
+use crate::bases::FirstRows;
 use crate::objects::is_target;
 use crate::texts::row_at;
 use crate::views::view_row;
@@ -29,7 +30,7 @@ fn makes_text(path: &Path, deed: &Deed) -> bool
 }
 
 /// Whether an entry says that its path was absent, or names a private file or an output at its path.
-fn is_entry(rows: &[Row], entry: &ReadOf) -> bool
+fn is_entry(rows: &FirstRows<'_>, entry: &ReadOf) -> bool
     requires { is_unversioned (reverse rows.now) ≡ true }
     ensures { result ≡ is_entry (reverse rows.now) entry.now }
 {
@@ -42,15 +43,14 @@ fn is_entry(rows: &[Row], entry: &ReadOf) -> bool
     }
 }
 
-fn are_entries(rows: &[Row], entries: &[ReadOf]) -> bool
+fn are_entries(rows: &FirstRows<'_>, entries: &[ReadOf]) -> bool
     requires { is_unversioned (reverse rows.now) ≡ true }
     ensures { result ≡ list_all (is_entry (reverse rows.now)) entries.now }
 {
     entries.iter().all(|entry| is_entry(rows, entry))
 }
 
-fn deed_fits(rows: &[Row], deed: &Deed) -> bool
-    requires room { length rows.now < 2 ^ 63 }
+fn deed_fits(rows: &FirstRows<'_>, deed: &Deed) -> bool
     requires unversioned { is_unversioned (reverse rows.now) ≡ true }
     requires known { is_unversioned_deed deed.now ≡ true }
     ensures { result ≡ deed_fits (reverse rows.now) deed.now }
@@ -68,7 +68,7 @@ fn deed_fits(rows: &[Row], deed: &Deed) -> bool
 /// Whether a row that makes a view, a private file or an object fits a base whose rows are all of these kinds, as its next
 /// row. With it the base is of these kinds too. Takes time linear in the rows, in the row's entries and in the targets of
 /// the objects that they name; no memory.
-pub fn fits(rows: &[Row], row: &Row) -> bool
+pub fn fits(rows: &FirstRows<'_>, row: &Row) -> bool
     requires unversioned { is_unversioned (reverse rows.now) ≡ true }
     requires known { is_unversioned_deed row.now.deed ≡ true }
     ensures fits { result ≡ fits (reverse rows.now) row.now.deed }

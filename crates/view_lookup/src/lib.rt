@@ -8,16 +8,20 @@
 // What it stands on: the rows of `cc_names` and the definitions of `legal_history`.
 #![tactic(auto)]
 
+mod bases;
 mod fitting;
+mod marks;
 mod objects;
 mod seen;
 #[cfg(test)]
 mod tests;
 mod texts;
+mod things;
 mod views;
 
+pub use bases::{FirstRows, Rows, first_rows};
 pub use fitting::fits;
 pub use objects::held;
 pub use seen::{at, file_at, is_directory};
-pub use texts::{first_rows, row_at, text_at, text_of};
+pub use texts::{row_at, text_at, text_of};
 pub use views::{private, view_row};

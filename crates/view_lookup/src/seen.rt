@@ -1,6 +1,6 @@
 // What stands at a path in a view.
 
-ghost use Rattle.std.specs.Prelude.{◌≡◌, ℕ, List, ◌<◌, ◌^◌, length, reverse, true, is_some, IsSome};
+ghost use Rattle.std.specs.Prelude.{◌≡◌, ℕ, List, reverse, true, is_some, IsSome};
 ghost use Rattle.std.specs.List.{list_any};
 ghost use Rattle.cc_names.specs.Paths.{is_slash};
 ghost use Rattle.legal_history.specs.Base.{Base};
@@ -9,10 +9,10 @@ ghost use Rattle.legal_history.specs.Views.{view_row};
 ghost use Rattle.view_lookup.specs.Unversioned.{is_unversioned};
 ghost use Rattle.view_lookup.specs.Roots.{IsRootOrFile};
 
+use crate::bases::FirstRows;
 use crate::views::private;
 use cc_names::names::Name;
 use cc_names::paths::Path;
-use cc_names::rows::Row;
 use cc_names::selection::{Picked, Seen};
 
 // The root's version 0, by the second rule of the default config spec.
@@ -29,9 +29,8 @@ fn has_slash(bytes: &[u8]) -> bool
 }
 
 /// What stands at a path in a view that there is, in a base without elements: the root, picked by the second rule of
-/// the default config spec, or a private file below it, or nothing. Takes time linear in the rows.
-pub fn at(rows: &[Row], view: &Name, path: &Path) -> Seen
-    requires room { length rows.now < 2 ^ 63 }
+/// the default config spec, or a private file below it, or nothing. Takes the time of `private`.
+pub fn at(rows: &FirstRows<'_>, view: &Name, path: &Path) -> Seen
     requires unversioned { is_unversioned (reverse rows.now) ≡ true }
     requires view { IsSome (view_row (reverse rows.now) view.now) }
     ensures seen { result ≡ at (reverse rows.now) view.now path.now }
@@ -50,9 +49,8 @@ pub fn at(rows: &[Row], view: &Name, path: &Path) -> Seen
 }
 
 /// The row that put the file that a view sees at a path, where there is one: in a base without elements it is a private
-/// file of the view. Takes time linear in the rows.
-pub fn file_at(rows: &[Row], view: &Name, path: &Path) -> Option<u64>
-    requires room { length rows.now < 2 ^ 63 }
+/// file of the view. Takes the time of `private`.
+pub fn file_at(rows: &FirstRows<'_>, view: &Name, path: &Path) -> Option<u64>
     requires unversioned { is_unversioned (reverse rows.now) ≡ true }
     requires view { IsSome (view_row (reverse rows.now) view.now) }
     ensures { result ≡ file_at (reverse rows.now) view.now path.now }

@@ -1,6 +1,6 @@
 // What two views see of a base of seven rows, and which rows fit it.
 
-ghost use Rattle.std.specs.Prelude.{◌≡◌, ◌<◌, ◌≤◌, ◌^◌, length, reverse, true, IfOk, IsSome};
+ghost use Rattle.std.specs.Prelude.{◌≡◌, ◌<◌, ◌≤◌, length, reverse, true, IfOk, IsSome};
 ghost use Rattle.cc_names.specs.Formed.{IsBelowRoot, IsText, IsListOf, AreEntries, AreTargets};
 ghost use Rattle.legal_history.specs.Views.{view_row};
 ghost use Rattle.view_lookup.specs.Unversioned.{is_unversioned_deed, is_unversioned};
@@ -140,10 +140,23 @@ fn publish(
     publish_of(alloc, view, targets, no_reads(alloc), outputs)
 }
 
-fn seven_rows(alloc: Global) -> Result<[Row; 7], Fail>
-    ensures { IfOk result (λ rows. is_unversioned (reverse rows) ≡ true) }
+/// A base of these rows.
+fn base_of(alloc: Global, rows: Vec<Row>) -> Result<Rows, Fail>
+    requires { length rows.items < 100 }
+    ensures { IfOk result (λ base. base.rows ≡ rows.items) }
 {
-    Ok([
+    let mut base = Rows::new(alloc);
+    for row in rows {
+        base.reserve(row.deed())?;
+        base.push(row);
+    }
+    Ok(base)
+}
+
+fn seven_rows(alloc: Global) -> Result<Rows, Fail>
+    ensures { IfOk result (λ base. is_unversioned (reverse base.rows) ≡ true) }
+{
+    let rows = [
         mkview(alloc, b"v")?,
         put(alloc, b"v", b"a", b"old")?,
         mkview(alloc, b"w")?,
@@ -151,18 +164,18 @@ fn seven_rows(alloc: Global) -> Result<[Row; 7], Fail>
         put(alloc, b"v", b"a", b"new")?,
         publish(alloc, b"v", [b"out", b"log"], [b"built", b"done"])?,
         publish(alloc, b"w", [b"out", b"a.o"], [b"other", b"code"])?,
-    ])
+    ];
+    base_of(alloc, Vec::from_array(alloc, rows)?)
 }
 
 /// What a view sees at a path, what it holds there, and the text of the file.
 fn looked_up<'a>(
     rt: &impl Abort,
-    rows: &'a [Row],
+    rows: &FirstRows<'a>,
     view: &Name,
     path: &Path,
 ) -> (Seen, Option<u64>, Option<&'a [u8]>)
-    requires room { length rows.now < 2 ^ 63 }
-    requires unversioned { is_unversioned (reverse rows.now) ≡ true }
+    requires { is_unversioned (reverse rows.now) ≡ true }
 {
     assert!(rt; view_row(rows, view).is_some());
     let seen = at(rows, view, path);
@@ -198,11 +211,12 @@ const SEEN: [(u64, &[u8], &[u8], Seen, Option<u64>, Option<&[u8]>); 11] = [
 #[test]
 fn views_see_and_hold(rt: HostRuntime) -> Result<(), Fail> {
     let alloc = rt.alloc();
-    let rows = seven_rows(alloc)?;
+    let base = seven_rows(alloc)?;
+    let rows = base.all();
     for (count, view, bytes, seen, held, text) in SEEN {
         let view = name(alloc, view)?;
         let path = path(alloc, bytes)?;
-        let found = looked_up(&rt, first_rows(&rows, count), &view, &path);
+        let found = looked_up(&rt, &first_rows(&rows, count), &view, &path);
         assert_eq!(rt; found.0, seen);
         assert_eq!(rt; found.1, held);
         assert_eq!(rt; found.2, text);
@@ -213,7 +227,8 @@ fn views_see_and_hold(rt: HostRuntime) -> Result<(), Fail> {
 #[test]
 fn views_begin_with_their_rows(rt: HostRuntime) -> Result<(), Fail> {
     let alloc = rt.alloc();
-    let rows = seven_rows(alloc)?;
+    let base = seven_rows(alloc)?;
+    let rows = base.all();
     let table: [(u64, &[u8], Option<u64>); 4] = [
         (8, b"v", Some(1)),
         (8, b"w", Some(3)),
@@ -222,7 +237,7 @@ fn views_begin_with_their_rows(rt: HostRuntime) -> Result<(), Fail> {
     ];
     for (count, view, row) in table {
         let view = name(alloc, view)?;
-        assert_eq!(rt; view_row(first_rows(&rows, count), &view), row);
+        assert_eq!(rt; view_row(&first_rows(&rows, count), &view), row);
     }
     Ok(())
 }
@@ -230,7 +245,8 @@ fn views_begin_with_their_rows(rt: HostRuntime) -> Result<(), Fail> {
 #[test]
 fn rows_have_texts(rt: HostRuntime) -> Result<(), Fail> {
     let alloc = rt.alloc();
-    let rows = seven_rows(alloc)?;
+    let base = seven_rows(alloc)?;
+    let rows = base.all();
     let table: [(u64, &[u8], Option<&[u8]>); 7] = [
         (0, b"a", None),
         (1, b"a", None),
@@ -290,10 +306,11 @@ const OBJECTS_MADE: [(u64, &[u8], &[u8], u64, bool); 12] = [
 #[test]
 fn a_view_fits_where_it_is_not(rt: HostRuntime) -> Result<(), Fail> {
     let alloc = rt.alloc();
-    let rows = seven_rows(alloc)?;
+    let base = seven_rows(alloc)?;
+    let rows = base.all();
     for (count, view, fit) in VIEWS_MADE {
         let row = mkview(alloc, view)?;
-        assert_eq!(rt; fits(first_rows(&rows, count), &row), fit, "over {count}");
+        assert_eq!(rt; fits(&first_rows(&rows, count), &row), fit, "over {count}");
     }
     Ok(())
 }
@@ -301,10 +318,11 @@ fn a_view_fits_where_it_is_not(rt: HostRuntime) -> Result<(), Fail> {
 #[test]
 fn a_private_file_fits_in_a_view(rt: HostRuntime) -> Result<(), Fail> {
     let alloc = rt.alloc();
-    let rows = seven_rows(alloc)?;
+    let base = seven_rows(alloc)?;
+    let rows = base.all();
     for (count, view, path, fit) in FILES_PUT {
         let row = put(alloc, view, path, b"text")?;
-        assert_eq!(rt; fits(first_rows(&rows, count), &row), fit, "over {count}");
+        assert_eq!(rt; fits(&first_rows(&rows, count), &row), fit, "over {count}");
     }
     Ok(())
 }
@@ -312,11 +330,12 @@ fn a_private_file_fits_in_a_view(rt: HostRuntime) -> Result<(), Fail> {
 #[test]
 fn an_object_fits_behind_what_it_read(rt: HostRuntime) -> Result<(), Fail> {
     let alloc = rt.alloc();
-    let rows = seven_rows(alloc)?;
+    let base = seven_rows(alloc)?;
+    let rows = base.all();
     for (count, view, path, source, fit) in OBJECTS_MADE {
         let read = one_read(alloc, path, source)?;
         let row = publish_of(alloc, view, [b"x", b"y"], read, [b"", b""])?;
-        assert_eq!(rt; fits(first_rows(&rows, count), &row), fit, "over {count}");
+        assert_eq!(rt; fits(&first_rows(&rows, count), &row), fit, "over {count}");
     }
     Ok(())
 }

@@ -1,4 +1,4 @@
-// The texts that rows made, and the rows of an earlier moment.
+// The texts that rows made.
 
 ghost use Rattle.std.specs.Prelude.{◌≡◌, ℕ, ◌<◌, ◌^◌, length, reverse, true, IsSome};
 ghost use Rattle.std.specs.Option.{option_copied};
@@ -9,27 +9,18 @@ ghost use Rattle.legal_history.specs.Views.{view_row};
 ghost use Rattle.view_lookup.specs.Made.{text_made};
 ghost use Rattle.view_lookup.specs.Unversioned.{is_unversioned};
 
+use crate::bases::{FirstRows, row_in};
 use crate::seen::file_at;
 use cc_names::names::Name;
 use cc_names::paths::Path;
 use cc_names::rows::{Deed, Row};
 use cc_names::texts::Text;
 
-/// The first rows of a base, `count` of them with row 0. Takes no time.
-pub fn first_rows(rows: &[Row], count: u64) -> &[Row]
-    ensures first { reverse result.now ≡ first_rows count (reverse rows.now) }
-    ensures unversioned { is_unversioned (reverse rows.now) ≡ true → is_unversioned (reverse result.now) ≡ true }
-{
-    let behind_root = count.saturating_sub(1).min(rows.len() as u64);
-    &rows[..behind_root as usize]
-}
-
 /// The row of this number. Takes no time.
-pub fn row_at(rows: &[Row], number: u64) -> Option<&Row>
+pub fn row_at<'a>(rows: &FirstRows<'a>, number: u64) -> Option<&'a Row>
     ensures { option_copied result ≡ row_at (reverse rows.now) number }
 {
-    let index = number.checked_sub(1)?;
-    rows.get(index as usize)
+    row_in(rows.as_slice(), number)
 }
 
 /// The output at the place of the target with this path.
@@ -60,9 +51,8 @@ fn text_made<'a>(path: &Path, deed: &'a Deed) -> Option<&'a [u8]>
 }
 
 /// The text that a row made, in a base without elements; of an object, its output at the path. Takes time linear in
-/// the targets of an object, and no walk over the rows.
-pub fn text_of<'a>(rows: &'a [Row], row: u64, path: &Path) -> Option<&'a [u8]>
-    requires room { length rows.now < 2 ^ 63 }
+/// the targets of an object.
+pub fn text_of<'a>(rows: &FirstRows<'a>, row: u64, path: &Path) -> Option<&'a [u8]>
     requires unversioned { is_unversioned (reverse rows.now) ≡ true }
     ensures { option_copied result ≡ text (reverse rows.now) row path.now }
 {
@@ -70,9 +60,9 @@ pub fn text_of<'a>(rows: &'a [Row], row: u64, path: &Path) -> Option<&'a [u8]>
     text_made(path, row.deed())
 }
 
-/// The text of the file that the view sees at the path, in a base without elements. Takes time linear in the rows.
-pub fn text_at<'a>(rows: &'a [Row], view: &Name, path: &Path) -> Option<&'a [u8]>
-    requires room { length rows.now < 2 ^ 63 }
+/// The text of the file that the view sees at the path, in a base without elements. Takes the time of `file_at` and
+/// `text_of`.
+pub fn text_at<'a>(rows: &FirstRows<'a>, view: &Name, path: &Path) -> Option<&'a [u8]>
     requires unversioned { is_unversioned (reverse rows.now) ≡ true }
     requires view { IsSome (view_row (reverse rows.now) view.now) }
     ensures { option_copied result ≡ texts (reverse rows.now) view.now path.now }

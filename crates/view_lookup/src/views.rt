@@ -1,72 +1,50 @@
-// A view's own state, found by a walk over the rows.
+// A view's own state: its life, and its private files.
 
-ghost use Rattle.std.specs.Prelude.{◌≡◌, ◌<◌, ◌^◌, length, reverse};
-ghost use Rattle.cc_names.specs.Last.{left};
-ghost use Rattle.legal_history.specs.Views.{view_effect, view_row, private_effect, private};
+ghost use Rattle.std.specs.Prelude.{◌≡◌, reverse};
+ghost use Rattle.legal_history.specs.Views.{view_row, private};
+ghost use Rattle.view_lookup.specs.Lives.{is_within, numbered_life};
 
+use crate::bases::{FirstRows, Found};
+use crate::things::Thing;
 use cc_names::names::Name;
 use cc_names::paths::Path;
-use cc_names::rows::{Deed, Row};
+use cc_names::rows::Deed;
 
-/// What a deed does to the row with which a view's life began.
-fn view_after(view: &Name, number: u64, deed: &Deed, before: Option<u64>) -> Option<u64>
-    ensures { result ≡ left (view_effect view.now number deed.now) before }
-{
-    match deed {
-        Deed::Mkview { view: made } if made.as_bytes() == view.as_bytes() => Some(number),
-        Deed::Rmview { view: gone } if gone.as_bytes() == view.as_bytes() => None,
-        _ => before,
-    }
-}
-
-/// The mkview row with which the view's life began, where the view exists. Takes time linear in the rows.
-pub fn view_row(rows: &[Row], view: &Name) -> Option<u64>
-    requires { length rows.now < 2 ^ 63 }
+/// The mkview row with which the view's life began, where the view exists. Takes time linear in the view's name.
+pub fn view_row(rows: &FirstRows<'_>, view: &Name) -> Option<u64>
     ensures { result ≡ view_row (reverse rows.now) view.now }
 {
-    let mut found = None;
-    for (index, row) in rows.iter().enumerate() {
-        found = view_after(view, index as u64 + 1, row.deed(), found);
+    let found = rows.last_on(Thing::View(view))?;
+    match found.deed {
+        Deed::Mkview { .. } => Some(found.number),
+        _ => None,
     }
-    found
 }
 
-/// What a deed does to the row of a private file.
-fn private_after(
-    view: &Name,
-    path: &Path,
-    number: u64,
-    deed: &Deed,
-    before: Option<u64>,
-) -> Option<u64>
-    ensures { result ≡ left (private_effect view.now path.now number deed.now) before }
+/// Whether a view's life neither began nor ended behind a row, where this is the last row that bears on the life.
+fn is_within(life: Option<Found<'_>>, number: u64) -> bool
+    ensures { result ≡ is_within (numbered_life life.entry) number }
 {
-    match deed {
-        Deed::Mkview { view: made } if made.as_bytes() == view.as_bytes() => None,
-        Deed::Rmview { view: gone } if gone.as_bytes() == view.as_bytes() => None,
-        Deed::Put {
-            view: owner,
-            path: place,
-            ..
-        } if owner.as_bytes() == view.as_bytes() && place.as_bytes() == path.as_bytes() => {
-            Some(number)
-        }
-        Deed::Rm {
-            view: owner,
-            path: place,
-        } if owner.as_bytes() == view.as_bytes() && place.as_bytes() == path.as_bytes() => { None }
-        _ => before,
+    match life {
+        None => true,
+        Some(life) => life.number < number,
     }
 }
 
-/// The row that put the view's private file at the path. Takes time linear in the rows.
-pub fn private(rows: &[Row], view: &Name, path: &Path) -> Option<u64>
-    requires { length rows.now < 2 ^ 63 }
+/// The row that put the view's private file at the path. Takes time linear in the two names, and in the rows with their key
+/// that come behind the one that is found.
+pub fn private(rows: &FirstRows<'_>, view: &Name, path: &Path) -> Option<u64>
     ensures { result ≡ private (reverse rows.now) view.now path.now }
 {
-    let mut found = None;
-    for (index, row) in rows.iter().enumerate() {
-        found = private_after(view, path, index as u64 + 1, row.deed(), found);
+    let found = rows.last_on(Thing::File(view, path))?;
+    match found.deed {
+        Deed::Put { .. } => {
+            if is_within(rows.last_on(Thing::View(view)), found.number) {
+                Some(found.number)
+            } else {
+                None
+            }
+        }
+        _ => None,
     }
-    found
 }

@@ -29,7 +29,7 @@ open-requires-2-clause-backed g c =
     let begins = c.in-Ok.ensures.begins in
     let new = new_on sight first opened c.in-Ok.ensures.list begins.4 begins.1 c.in-Ok.ensures.moves c.in-Ok.ensures.counts in
     let rows = c.in-Ok-read_rows.ensures in
-    opened_backed sight first (record { counts = c.counts.result; tells = c.tells.result }) c.in-Ok-read_rows.rows.items opened c.read_rows.new.journal
+    opened_backed sight first (record { counts = c.counts.result; tells = c.tells.result }) c.in-Ok-read_rows.rows.rows opened c.read_rows.new.journal
     (g.met.D.Disk.counted c.args.disk) c.counts.ensures.ticks c.counts.ensures.faults c.tells.ensures new rows.reads rows.sound rows.ok
 
 pub returns-in-Ok-open-clause-ok : goal.returns-in-Ok-open-clause-ok
@@ -40,7 +40,7 @@ returns-in-Ok-open-clause-ok g c =
     let begins = c.in-Ok.ensures.begins in
     let new = new_on sight first opened c.in-Ok.ensures.list begins.4 begins.1 c.in-Ok.ensures.moves c.in-Ok.ensures.counts in
     let rows = c.in-Ok-read_rows.ensures in
-    is_opened sight first (record { counts = c.counts.result; tells = c.tells.result }) c.in-Ok-read_rows.rows.items opened c.read_rows.new.journal
+    is_opened sight first (record { counts = c.counts.result; tells = c.tells.result }) c.in-Ok-read_rows.rows.rows opened c.read_rows.new.journal
     (g.met.D.Disk.counted c.args.disk) c.counts.ensures.ticks c.counts.ensures.faults c.tells.ensures new rows.reads rows.sound rows.ok c.in-Ok-open.log c.in-Ok-open.ensures.ok
 
 pub returns-in-Err-open-clause-err : goal.returns-in-Err-open-clause-err

@@ -1,14 +1,22 @@
--- The walk has the last publish with the target.
-use Rattle.std.proofs.Common.{reverse, ◌∙◌, ap, arith}
-use Rattle.std.proofs.lemmas.List.{take_all}
-use Rattle.cc_names.specs.Last.{last}
-use Rattle.legal_history.specs.Base.{Base, size}
-use Rattle.view_lookup.specs.Made.{held_effect}
+-- The last publish of the view with the target is held.
+use Rattle.std.proofs.Common.{◌≡◌, reverse, Some, None, sym, ap, ◌∙◌, rules}
+use Rattle.std.specs.Option.{option_map}
+use Rattle.view_lookup.specs.Numbered.{numbered}
 use Rattle.view_lookup.proofs.Holdings.{last_held}
+use Rattle.view_lookup.proofs.Lives.{number_of, object_by_last}
 use Rattle.view_lookup.proofs.objects.held.Goals as goal
+
+pub returns-in_err-found : goal.returns-in_err-found
+returns-in_err-found c =
+    let none : c.last_on.result ≡ None = search rules in
+    c.from_residual.ensures
+    ∙ ap number_of (ap (option_map numbered) (sym none) ∙ c.last_on.ensures)
+    ∙ sym (object_by_last c.args.view c.args.path (reverse c.args.rows.now))
+    ∙ last_held (reverse c.args.rows.now) c.args.view.now c.args.path.now c.requires
 
 pub returns : goal.returns
 returns c =
-    c.loop-index.invariant
-    ∙ ap (λ (rows : Base). last (λ older row. held_effect c.args.view.now c.args.path.now (size older) row.deed) (reverse rows)) (take_all c.loop-index.index c.args.rows.now (omega arith))
-    ∙ last_held (reverse c.args.rows.now) c.args.view.now c.args.path.now c.requires.unversioned
+    let some : c.last_on.result ≡ Some c.in_ok-found.found = search rules in
+    ap number_of (ap (option_map numbered) (sym some) ∙ c.last_on.ensures)
+    ∙ sym (object_by_last c.args.view c.args.path (reverse c.args.rows.now))
+    ∙ last_held (reverse c.args.rows.now) c.args.view.now c.args.path.now c.requires

@@ -45,8 +45,8 @@ pub invariant_of-self-2 : goal.invariant_of-self-2
 invariant_of-self-2 g c =
     subst (λ log. IsKept log c.add_reply.new.lanes.items (set c.self.inside.builds.items (c.args.lane - 1) None) c.self.inside.moment) (sym (done_well c.tell.result (sym c.is_err.ensures.value ∙ c.if-is_err.false) c.tell.ensures.ok))
     (subst (λ lanes. IsKept (with_step c.self.inside.log (steps.End c.tag-tag.result)) lanes (set c.self.inside.builds.items (c.args.lane - 1) None) c.self.inside.moment) (sym c.in_ok-add_reply.ensures.ok)
-    (kept_ended c.self.inside.log c.self.inside.replies.items c.self.inside.builds.items c.self.inside.moment c.args.lane c.args.self.now.story c.rows.result.now c.tag-tag.result c.in-Some.build.now c.in_ok-reply.reply
-    (ap (λ v. v.story) c.self.view_is) c.self.invariant c.requires (found c.self.inside.log c.self.inside.replies.items c.self.inside.builds.items c.as_slice.result.now c.self.inside.moment c.args.self.now.story c.args.lane c.in-Some.build.now (ap (λ v. v.story) c.self.view_is) c.self.invariant c.as_slice.ensures.value c.in-Some.ensures) (base_of_rows c.self.inside.log c.self.inside.replies.items c.self.inside.builds.items c.self.inside.moment c.args.self.now.story c.rows.result.now (ap (λ v. v.story) c.self.view_is) c.self.invariant c.rows.ensures) c.tag-tag.ensures c.in_ok-reply.ensures))
+    (kept_ended c.self.inside.log c.self.inside.replies.items c.self.inside.builds.items c.self.inside.moment c.args.lane c.args.self.now.story c.rows.result c.tag-tag.result c.in-Some.build.now c.in_ok-reply.reply
+    (ap (λ v. v.story) c.self.view_is) c.self.invariant c.requires (found c.self.inside.log c.self.inside.replies.items c.self.inside.builds.items c.as_slice.result.now c.self.inside.moment c.args.self.now.story c.args.lane c.in-Some.build.now (ap (λ v. v.story) c.self.view_is) c.self.invariant c.as_slice.ensures.value c.in-Some.ensures) (base_of_rows c.self.inside.log c.self.inside.replies.items c.self.inside.builds.items c.self.inside.moment c.args.self.now.story c.rows.result (ap (λ v. v.story) c.self.view_is) c.self.invariant c.rows.ensures) c.tag-tag.ensures c.in_ok-reply.ensures))
 
 pub returns-clause-ok : goal.returns-clause-ok
 returns-clause-ok g c =

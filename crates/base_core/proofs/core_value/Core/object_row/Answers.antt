@@ -14,8 +14,8 @@ use Rattle.base_core.proofs.core_value.Core.object_row.Goals as goal
 pub publish_row-requires-clause-formed : goal.publish_row-requires-clause-formed
 publish_row-requires-clause-formed g c =
     let h = found c.self.inside.log c.self.inside.replies.items c.self.inside.builds.items c.as_slice.result.now c.self.inside.moment c.args.self.now.story c.args.lane c.in-Some.build.now (ap (λ v. v.story) c.self.view_is) c.self.invariant c.as_slice.ensures.value c.in-Some.ensures in
-    let base = base_of_rows c.self.inside.log c.self.inside.replies.items c.self.inside.builds.items c.self.inside.moment c.args.self.now.story c.rows.result.now (ap (λ v. v.story) c.self.view_is) c.self.invariant c.rows.ensures in
-    λ it is. c.a_unit_may_publish.ensures (reverse c.rows.result.now) c.in-Some.build.now c.args.unit it h.kept.formed.named h.kept.formed.units
+    let base = base_of_rows c.self.inside.log c.self.inside.replies.items c.self.inside.builds.items c.self.inside.moment c.args.self.now.story c.rows.result (ap (λ v. v.story) c.self.view_is) c.self.invariant c.rows.ensures in
+    λ it is. c.a_unit_may_publish.ensures (reverse c.rows.result) c.in-Some.build.now c.args.unit it h.kept.formed.named h.kept.formed.units
     (subst (λ b. is_base b ≡ true) base (c.a_base_fits.ensures c.args.self.now.story h.legal))
     (subst (λ b. AgreesSoFar b c.in-Some.build.now) base (c.a_build_agrees.ensures c.args.self.now.story c.args.lane c.in-Some.build.now h.legal h.active)) is
 
@@ -24,7 +24,7 @@ returns g c =
     let h = found c.self.inside.log c.self.inside.replies.items c.self.inside.builds.items c.as_slice.result.now c.self.inside.moment c.args.self.now.story c.args.lane c.in-Some.build.now (ap (λ v. v.story) c.self.view_is) c.self.invariant c.as_slice.ensures.value c.in-Some.ensures in
     let is : c.requires.build ≡ c.in-Some.build.now = some_same c.requires.build c.in-Some.build.now (sym c.requires.active ∙ h.active) in
     let is_unit : unit_at c.in-Some.build.now c.args.unit ≡ Some c.requires.unit = ap (λ b. unit_at b c.args.unit) (sym is) ∙ c.requires.is_unit in
-    if_ok c.publish_row.result (IsPublishOf (reverse c.rows.result.now) c.in-Some.build.now c.args.unit c.requires.unit c.self.inside.moment) (IsObjectRow (state_of c.args.self.now.story) c.args.lane c.args.unit)
+    if_ok c.publish_row.result (IsPublishOf (reverse c.rows.result) c.in-Some.build.now c.args.unit c.requires.unit c.self.inside.moment) (IsObjectRow (state_of c.args.self.now.story) c.args.lane c.args.unit)
     (λ row p. record {
       build = c.in-Some.build.now;
       active = h.active;
@@ -33,6 +33,6 @@ returns g c =
       started = ap (λ b. came_to b c.args.unit) (sym is) ∙ c.requires.started;
       of_tag = p.tag ∙ h.kept.tag;
       at_moment = p.made ∙ sym (ap (λ v. (state_of v.story).moment) (sym c.self.view_is) ∙ c.self.invariant.agrees.moment);
-      made = ap (λ b. publish_of b c.in-Some.build.now c.args.unit c.requires.unit) (base_of_rows c.self.inside.log c.self.inside.replies.items c.self.inside.builds.items c.self.inside.moment c.args.self.now.story c.rows.result.now (ap (λ v. v.story) c.self.view_is) c.self.invariant c.rows.ensures) ∙ p.deed;
+      made = ap (λ b. publish_of b c.in-Some.build.now c.args.unit c.requires.unit) (base_of_rows c.self.inside.log c.self.inside.replies.items c.self.inside.builds.items c.self.inside.moment c.args.self.now.story c.rows.result (ap (λ v. v.story) c.self.view_is) c.self.invariant c.rows.ensures) ∙ p.deed;
     })
     (c.publish_row.ensures c.requires.unit is_unit)

@@ -10,14 +10,14 @@ use Rattle.base_core.proofs.Idle.{some_same}
 use Rattle.base_core.proofs.core_value.Core.run.Goals as goal
 
 pub run_unit-requires-clause-view : goal.run_unit-requires-clause-view
-run_unit-requires-clause-view g c = view_there c.args.self.now.story c.args.lane c.in-Some.build.now (reverse c.rows.result.now) (found c.self.inside.log c.self.inside.replies.items c.self.inside.builds.items c.as_slice.result.now c.self.inside.moment c.args.self.now.story c.args.lane c.in-Some.build.now (ap (λ v. v.story) c.self.view_is) c.self.invariant c.as_slice.ensures.value c.in-Some.ensures) (base_of_rows c.self.inside.log c.self.inside.replies.items c.self.inside.builds.items c.self.inside.moment c.args.self.now.story c.rows.result.now (ap (λ v. v.story) c.self.view_is) c.self.invariant c.rows.ensures)
+run_unit-requires-clause-view g c = view_there c.args.self.now.story c.args.lane c.in-Some.build.now (reverse c.rows.result) (found c.self.inside.log c.self.inside.replies.items c.self.inside.builds.items c.as_slice.result.now c.self.inside.moment c.args.self.now.story c.args.lane c.in-Some.build.now (ap (λ v. v.story) c.self.view_is) c.self.invariant c.as_slice.ensures.value c.in-Some.ensures) (base_of_rows c.self.inside.log c.self.inside.replies.items c.self.inside.builds.items c.self.inside.moment c.args.self.now.story c.rows.result (ap (λ v. v.story) c.self.view_is) c.self.invariant c.rows.ensures)
 
 pub returns : goal.returns
 returns g c =
     let h = found c.self.inside.log c.self.inside.replies.items c.self.inside.builds.items c.as_slice.result.now c.self.inside.moment c.args.self.now.story c.args.lane c.in-Some.build.now (ap (λ v. v.story) c.self.view_is) c.self.invariant c.as_slice.ensures.value c.in-Some.ensures in
     let is : c.requires.has.build ≡ c.in-Some.build.now = some_same c.requires.has.build c.in-Some.build.now (sym c.requires.has.active ∙ h.active) in
     let is_unit : unit_at c.in-Some.build.now c.args.unit ≡ Some c.requires.has.unit = ap (λ b. unit_at b c.args.unit) (sym is) ∙ c.requires.has.is_unit in
-    if_ok c.run_unit.result (λ ended. ran_of ended ≡ here (reverse c.rows.result.now) c.in-Some.build.now c.args.unit c.requires.has.unit) (λ ended. HasRun (state_of c.args.self.now.story) c.args.lane c.args.unit (ran_of ended))
+    if_ok c.run_unit.result (λ ended. ran_of ended ≡ here (reverse c.rows.result) c.in-Some.build.now c.args.unit c.requires.has.unit) (λ ended. HasRun (state_of c.args.self.now.story) c.args.lane c.args.unit (ran_of ended))
     (λ ended ran. record {
       build = c.in-Some.build.now;
       active = h.active;
@@ -25,6 +25,6 @@ returns g c =
       is_unit = is_unit;
       started = ap (λ b. came_to b c.args.unit) (sym is) ∙ c.requires.started;
       kept = h.kept;
-      run = ran ∙ ap (λ b. here b c.in-Some.build.now c.args.unit c.requires.has.unit) (sym (base_of_rows c.self.inside.log c.self.inside.replies.items c.self.inside.builds.items c.self.inside.moment c.args.self.now.story c.rows.result.now (ap (λ v. v.story) c.self.view_is) c.self.invariant c.rows.ensures));
+      run = ran ∙ ap (λ b. here b c.in-Some.build.now c.args.unit c.requires.has.unit) (sym (base_of_rows c.self.inside.log c.self.inside.replies.items c.self.inside.builds.items c.self.inside.moment c.args.self.now.story c.rows.result (ap (λ v. v.story) c.self.view_is) c.self.invariant c.rows.ensures));
     })
     (c.run_unit.ensures c.requires.has.unit is_unit)

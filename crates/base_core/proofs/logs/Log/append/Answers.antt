@@ -18,10 +18,10 @@ pub invariant_of-self-in-Ok : goal.invariant_of-self-in-Ok
 invariant_of-self-in-Ok g c =
     let commit = steps.Commit c.tag-tag.result (c.len.result + 1) c.in-Ok.tick in
     let kept : c.push.new.self.items ≡ c.self.inside.steps.items ++ commit ∷ [] = c.push.ensures.items ∙ ap (λ r. cond (is_ok r) (c.reserve-2.new.self.items ++ commit ∷ []) c.reserve-2.new.self.items) c.unwrap.ensures ∙ ap (λ xs. xs ++ commit ∷ []) c.reserve-2.ensures.items in
-    let rows : c.push-in-Ok.new.self.items ≡ c.self.inside.rows.items ++ c.args.row ∷ [] = c.push-in-Ok.ensures.items ∙ ap (λ r. cond (is_ok r) (c.reserve.new.self.items ++ c.args.row ∷ []) c.reserve.new.self.items) c.unwrap-in-Ok.ensures ∙ ap (λ xs. xs ++ c.args.row ∷ []) c.reserve.ensures.items in
-    logged_row c.self.inside.handed c.self.inside.steps.items c.push.new.self.items c.self.inside.rows.items c.push-in-Ok.new.self.items c.self.inside.phases.items c.tag-tag.result (c.len.result + 1) c.in-Ok.tick c.args.row
+    let rows : c.push-in-Ok.new.self.rows ≡ c.self.inside.rows.rows ++ c.args.row ∷ [] = c.push-in-Ok.ensures ∙ ap (λ xs. xs ++ c.args.row ∷ []) c.reserve.ensures.same in
+    logged_row c.self.inside.handed c.self.inside.steps.items c.push.new.self.items c.self.inside.rows.rows c.push-in-Ok.new.self.rows c.self.inside.phases.items c.tag-tag.result (c.len.result + 1) c.in-Ok.tick c.args.row
     (g.D.Disk.sight c.self.inside.journal.disk) (g.D.Disk.sight c.append.new.self.disk) c.self.inside.journal.list c.self.inside.journal.loose c.append.new.self.list c.append.new.self.loose c.self.inside.journal.ended c.append.new.self.ended c.self.inside.journal.left c.append.new.self.left
-    c.self.invariant kept rows (sym c.tag-tag.ensures) (omega (arith, ap length c.reserve.ensures.items)) c.in-Ok.ensures.moves
+    c.self.invariant kept rows (sym c.tag-tag.ensures) (omega (arith, ap length c.reserve.ensures.same)) c.in-Ok.ensures.moves
     (subst (λ f. IfTold (g.D.Disk.sight c.self.inside.journal.disk).told (λ _. (c.append.new.self.list ≡ c.self.inside.journal.list ++ f ∷ []) × (c.append.new.self.loose ≡ []))) c.in_ok-frame.ensures c.in-Ok.ensures.ok)
     c.in-Ok.ensures.tick c.in-Ok.ensures.costs.1 (g.met.D.Disk.counted c.self.inside.journal.disk) (g.met.D.Disk.counted c.append.new.self.disk) c.in-Ok.ensures.ended
 
@@ -29,14 +29,14 @@ pub returns-in-Ok-clause-ok : goal.returns-in-Ok-clause-ok
 returns-in-Ok-clause-ok g c =
     let commit = steps.Commit c.tag-tag.result (c.len.result + 1) c.in-Ok.tick in
     let kept : c.push.new.self.items ≡ c.self.inside.steps.items ++ commit ∷ [] = c.push.ensures.items ∙ ap (λ r. cond (is_ok r) (c.reserve-2.new.self.items ++ commit ∷ []) c.reserve-2.new.self.items) c.unwrap.ensures ∙ ap (λ xs. xs ++ commit ∷ []) c.reserve-2.ensures.items in
-    let rows : c.push-in-Ok.new.self.items ≡ c.self.inside.rows.items ++ c.args.row ∷ [] = c.push-in-Ok.ensures.items ∙ ap (λ r. cond (is_ok r) (c.reserve.new.self.items ++ c.args.row ∷ []) c.reserve.new.self.items) c.unwrap-in-Ok.ensures ∙ ap (λ xs. xs ++ c.args.row ∷ []) c.reserve.ensures.items in
-    subst (λ old. IsCommitted old (shown c.self.inside.handed c.push.new.self.items c.push-in-Ok.new.self.items c.self.inside.phases.items (g.D.Disk.sight c.append.new.self.disk)) c.args.row) c.self.view_is
-    (is_committed c.self.inside.handed c.self.inside.steps.items c.push.new.self.items c.self.inside.rows.items c.push-in-Ok.new.self.items c.self.inside.phases.items c.tag-tag.result (c.len.result + 1) c.in-Ok.tick _ c.args.row
+    let rows : c.push-in-Ok.new.self.rows ≡ c.self.inside.rows.rows ++ c.args.row ∷ [] = c.push-in-Ok.ensures ∙ ap (λ xs. xs ++ c.args.row ∷ []) c.reserve.ensures.same in
+    subst (λ old. IsCommitted old (shown c.self.inside.handed c.push.new.self.items c.push-in-Ok.new.self.rows c.self.inside.phases.items (g.D.Disk.sight c.append.new.self.disk)) c.args.row) c.self.view_is
+    (is_committed c.self.inside.handed c.self.inside.steps.items c.push.new.self.items c.self.inside.rows.rows c.push-in-Ok.new.self.rows c.self.inside.phases.items c.tag-tag.result (c.len.result + 1) c.in-Ok.tick _ c.args.row
     (g.D.Disk.sight c.self.inside.journal.disk) (g.D.Disk.sight c.append.new.self.disk) c.self.inside.journal.list c.self.inside.journal.loose c.self.inside.journal.ended c.self.inside.journal.left c.self.invariant kept rows c.in-Ok.ensures.tick c.in-Ok.ensures.costs.0 (some_calls c.self.inside.journal.settled) c.in-Ok.ensures.costs.1)
 
 pub invariant_of-self : goal.invariant_of-self
 invariant_of-self g c =
-    subst (λ rows. IsLogged c.self.inside.handed c.self.inside.steps.items rows c.self.inside.phases.items (g.D.Disk.sight c.self.inside.journal.disk) c.self.inside.journal.list c.self.inside.journal.loose c.self.inside.journal.ended c.self.inside.journal.left) (sym c.reserve.ensures.items) c.self.invariant
+    subst (λ rows. IsLogged c.self.inside.handed c.self.inside.steps.items rows c.self.inside.phases.items (g.D.Disk.sight c.self.inside.journal.disk) c.self.inside.journal.list c.self.inside.journal.loose c.self.inside.journal.ended c.self.inside.journal.left) (sym c.reserve.ensures.same) c.self.invariant
 
 pub invariant_of-self-2 : goal.invariant_of-self-2
 invariant_of-self-2 g c =
@@ -47,8 +47,8 @@ invariant_of-self-2 g c =
       | in-Earlier w ↦ subst (λ l. LeftSo c.in_ok-earlier.earlier c.args.row l c.match-left.left) (sym w.in-Earlier.is ∙ c.left.ensures) w.left-is
       | in-InFlight w ↦ subst (λ l. LeftSo c.in_ok-earlier.earlier c.args.row l c.match-left.left) (sym w.in-InFlight.is ∙ c.left.ensures) w.left-is
     ] in
-    subst (λ rows. IsLogged c.self.inside.handed c.push_both.new.steps.items rows c.self.inside.phases.items (g.D.Disk.sight c.append.new.self.disk) c.append.new.self.list c.append.new.self.loose c.append.new.self.ended c.append.new.self.left) (sym c.reserve.ensures.items)
-    (logged_faulted c.self.inside.handed c.self.inside.steps.items c.push_both.new.steps.items c.self.inside.rows.items c.self.inside.phases.items c.tag-tag.result c.args.row c.in_ok-earlier.earlier c.match-left.left c.counts-before.result.faults c.counts-counts.result.faults c.counts-counts.result.ticks c.args.ending
+    subst (λ rows. IsLogged c.self.inside.handed c.push_both.new.steps.items rows c.self.inside.phases.items (g.D.Disk.sight c.append.new.self.disk) c.append.new.self.list c.append.new.self.loose c.append.new.self.ended c.append.new.self.left) (sym c.reserve.ensures.same)
+    (logged_faulted c.self.inside.handed c.self.inside.steps.items c.push_both.new.steps.items c.self.inside.rows.rows c.self.inside.phases.items c.tag-tag.result c.args.row c.in_ok-earlier.earlier c.match-left.left c.counts-before.result.faults c.counts-counts.result.faults c.counts-counts.result.ticks c.args.ending
     (g.D.Disk.sight c.self.inside.journal.disk) (g.D.Disk.sight c.append.new.self.disk) c.self.inside.journal.list c.self.inside.journal.loose c.append.new.self.list c.append.new.self.loose c.self.inside.journal.ended c.append.new.self.ended c.self.inside.journal.left c.append.new.self.left
     c.requires.ending c.self.invariant kept c.in_default.ensures.moves
     (subst (λ f. IfTold (g.D.Disk.sight c.self.inside.journal.disk).told (λ _. (c.append.new.self.list ≡ c.self.inside.journal.list) × (c.append.new.self.loose ≡ loose_after c.append.new.self.left c.self.inside.journal.loose f))) c.in_ok-frame.ensures c.in_default.ensures.err)
@@ -63,9 +63,9 @@ returns-clause-ok g c =
       | in-Earlier w ↦ subst (λ l. LeftSo c.in_ok-earlier.earlier c.args.row l c.match-left.left) (sym w.in-Earlier.is ∙ c.left.ensures) w.left-is
       | in-InFlight w ↦ subst (λ l. LeftSo c.in_ok-earlier.earlier c.args.row l c.match-left.left) (sym w.in-InFlight.is ∙ c.left.ensures) w.left-is
     ] in
-    subst (λ old. IsFaulted old (shown c.self.inside.handed c.push_both.new.steps.items c.reserve.new.self.items c.self.inside.phases.items (g.D.Disk.sight c.append.new.self.disk)) c.args.row c.args.ending) c.self.view_is
-    (subst (λ rows. IsFaulted (shown c.self.inside.handed c.self.inside.steps.items c.self.inside.rows.items c.self.inside.phases.items (g.D.Disk.sight c.self.inside.journal.disk)) (shown c.self.inside.handed c.push_both.new.steps.items rows c.self.inside.phases.items (g.D.Disk.sight c.append.new.self.disk)) c.args.row c.args.ending) (sym c.reserve.ensures.items)
-    (is_faulted c.self.inside.handed c.self.inside.steps.items c.push_both.new.steps.items c.self.inside.rows.items c.self.inside.phases.items c.tag-tag.result c.args.row c.in_ok-earlier.earlier c.match-left.left c.counts-before.result.faults c.counts-counts.result.faults c.counts-counts.result.ticks c.args.ending
+    subst (λ old. IsFaulted old (shown c.self.inside.handed c.push_both.new.steps.items c.reserve.new.self.rows c.self.inside.phases.items (g.D.Disk.sight c.append.new.self.disk)) c.args.row c.args.ending) c.self.view_is
+    (subst (λ rows. IsFaulted (shown c.self.inside.handed c.self.inside.steps.items c.self.inside.rows.rows c.self.inside.phases.items (g.D.Disk.sight c.self.inside.journal.disk)) (shown c.self.inside.handed c.push_both.new.steps.items rows c.self.inside.phases.items (g.D.Disk.sight c.append.new.self.disk)) c.args.row c.args.ending) (sym c.reserve.ensures.same)
+    (is_faulted c.self.inside.handed c.self.inside.steps.items c.push_both.new.steps.items c.self.inside.rows.rows c.self.inside.phases.items c.tag-tag.result c.args.row c.in_ok-earlier.earlier c.match-left.left c.counts-before.result.faults c.counts-counts.result.faults c.counts-counts.result.ticks c.args.ending
     (g.D.Disk.sight c.self.inside.journal.disk) (g.D.Disk.sight c.append.new.self.disk) c.self.inside.journal.list c.self.inside.journal.loose c.self.inside.journal.ended c.self.inside.journal.left c.append.new.self.left
     c.tag-tag.ensures c.requires.ending c.self.invariant kept (c.in_ok-earlier.ensures ∙ ap left_in c.as_slice.ensures.value) left c.counts-counts.ensures.ticks c.counts-counts.ensures.faults c.counts-before.ensures.faults c.in_default.ensures.costs.0 c.in_default.ensures.costs.2
     (g.met.D.Disk.counted c.self.inside.journal.disk) (g.met.D.Disk.counted c.append.new.self.disk)))

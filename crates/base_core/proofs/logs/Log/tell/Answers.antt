@@ -6,9 +6,9 @@ use Rattle.base_core.proofs.LogSteps.{shown_step}
 use Rattle.base_core.proofs.logs.Log.tell.Goals as goal
 
 pub invariant_of-self-2 : goal.invariant_of-self-2
-invariant_of-self-2 g c = logged_step c.self.inside.handed c.self.inside.steps.items _ c.self.inside.rows.items c.self.inside.phases.items c.args.step _ _ _ _ _ c.self.invariant c.requires.alone c.requires.sound c.in_ok-push_step.ensures.ok
+invariant_of-self-2 g c = logged_step c.self.inside.handed c.self.inside.steps.items _ c.self.inside.rows.rows c.self.inside.phases.items c.args.step _ _ _ _ _ c.self.invariant c.requires.alone c.requires.sound c.in_ok-push_step.ensures.ok
 
 pub returns-clause-ok : goal.returns-clause-ok
 returns-clause-ok g c =
-    shown_step c.self.inside.handed c.self.inside.steps.items _ c.self.inside.rows.items c.self.inside.phases.items c.args.step _ c.self.invariant.told c.requires.alone c.in_ok-push_step.ensures.ok
+    shown_step c.self.inside.handed c.self.inside.steps.items _ c.self.inside.rows.rows c.self.inside.phases.items c.args.step _ c.self.invariant.told c.requires.alone c.in_ok-push_step.ensures.ok
     ∙ ap (λ log. with_step log c.args.step) c.self.view_is

@@ -7,7 +7,7 @@ use Rattle.std.specs.Option.{option_copied}
 use Rattle.std.specs.Prelude.{is_some, nat_lt}
 use Rattle.legal_history.specs.Base.{row_at}
 use Rattle.view_lookup.proofs.RowTexts.{row_numbered, no_row}
-use Rattle.build_core.proofs.replies.row_at.Goals as goal
+use Rattle.view_lookup.proofs.bases.row_in.Goals as goal
 
 -- what a look-up in a slice gives
 looked_up : {X : Type 0} (xs : List X) (i : ℕ) (found : Option (Bor X)) → is_some found ≡ nat_lt i (length xs) → IfSome found (λ x. x.now ≡ get_or xs i x.now) → option_copied found ≡ slice_get xs i

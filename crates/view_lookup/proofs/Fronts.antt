@@ -1,5 +1,5 @@
 -- The first rows of a base are those that stand first in the list of its rows.
-use Rattle.std.proofs.Common.{◌≡◌, ℕ, ◌-◌, ◌≤◌, true, false, nat_lt, min, [], ◌∷◌, ◌++◌, length, reverse, take, refl, ap, sym, ◌∙◌, arith}
+use Rattle.std.proofs.Common.{◌≡◌, ℕ, zero, suc, ◌-◌, ◌≤◌, true, false, nat_lt, min, [], ◌∷◌, ◌++◌, length, reverse, take, refl, ap, sym, ◌∙◌, arith}
 use Rattle.std.proofs.lemmas.Bool.Decides.{nat_tests}
 use Rattle.std.proofs.lemmas.List.{length-reverse, reverse-append, reverse-reverse, take_all, take-append-le, length-append}
 use Rattle.cc_names.specs.Formed.{Plain}
@@ -48,3 +48,10 @@ cut_down rows n =
 -- a number of rows that is cut to the length of the list takes the same ones
 pub take_within : (rows : Base) (t less cut : ℕ) → less ≡ t - 1 → cut ≡ min less (length rows) → take cut rows ≡ take (t - 1) rows
 take_within rows t less cut e1 e2 = ap (λ n. take n rows) (e2 ∙ ap (λ n. min n (length rows)) e1) ∙ cut_down rows (t - 1)
+
+-- a front of a front
+pub front_of_front : (k n : ℕ) (rows : Base) → k ≤ n → take k (take n rows) ≡ take k rows
+front_of_front zero n rows le = refl
+front_of_front (suc k) zero rows le = absurd (omega arith)
+front_of_front (suc k) (suc n) [] le = refl
+front_of_front (suc k) (suc n) (row ∷ rows) le = ap (λ front. row ∷ front) (front_of_front k n rows (omega arith))

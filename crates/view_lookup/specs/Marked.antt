@@ -1,0 +1,45 @@
+-- The marks that rows leave for the keys of what they bear on: links, each of which names the next older one of its key.
+use Rattle.std.specs.Prelude.{◌≡◌, ℕ, ◌<◌, ◌==◌, Bool, true, false, cond, Option, Some, None, List, [], ◌∷◌, length, reverse, IfSome}
+use Rattle.cc_names.specs.Versions.{put_if}
+use Rattle.legal_history.specs.Base.{Base, size}
+use Rattle.view_lookup.specs.Keyed.{keys_of}
+use Rattle.view_lookup.specs.declared.marks.Link.{Link}
+
+-- whether this is the place
+abbrev pub is_place : Option ℕ → ℕ → Bool
+is_place None place = false
+is_place (Some p) place = p == place
+
+-- The rows along the links from a place on. The links stand newest first, and places are counted from the oldest.
+abbrev pub rows_from : List Link → Option ℕ → List ℕ
+rows_from [] next = []
+rows_from (link ∷ older) next = elim (is_place next (length older)) [ true ↦ link.row ∷ rows_from older link.older | false ↦ rows_from older next ]
+
+-- each link leads to an older one
+abbrev pub AreLinked : List Link → Type 0
+AreLinked [] = Unit {0}
+AreLinked (link ∷ older) = IfSome link.older (λ place. place < length older) × AreLinked older
+
+-- the links lead to older ones, and each head is one of them
+pub record IsChained (links : List Link) (heads : ℕ → Option ℕ) : Type 0 where
+  pub linked : AreLinked (reverse links)
+  pub within : (key : ℕ) → IfSome (heads key) (λ place. place < length links)
+
+-- the rows that are marked for a key, newest first
+abbrev pub rows_by : List Link → (ℕ → Option ℕ) → ℕ → List ℕ
+rows_by links heads key = rows_from (reverse links) (heads key)
+
+-- the rows of a key, with a row that marks these keys
+abbrev pub with_marks : ℕ → ℕ → List ℕ → List ℕ → List ℕ
+with_marks row key [] rows = rows
+with_marks row key (k ∷ keys) rows = with_marks row key keys (put_if (k == key) row rows)
+
+-- the rows of a base that bear on something of this key
+abbrev pub marked : ℕ → Base → List ℕ
+marked key [] = []
+marked key (row ∷ older) = with_marks (size older) key (keys_of row.deed) (marked key older)
+
+-- the links are the marks of a base's rows
+pub record IsMarked (links : List Link) (heads : ℕ → Option ℕ) (b : Base) : Type 0 where
+  pub chained : IsChained links heads
+  pub rows : (key : ℕ) → rows_by links heads key ≡ marked key b

@@ -1,0 +1,78 @@
+// The marks that rows leave for the keys of what they bear on: links, each of which names the next older one of its key.
+
+ghost use Rattle.std.specs.Prelude.{◌≡◌, ◌+◌, ◌<◌, ◌≤◌, nat_eq, length, map, vec_len, vec_capacity};
+ghost use Rattle.std.specs.HashMap.{get, spare};
+ghost use Rattle.view_lookup.specs.Keyed.{key_of_object, keys_of};
+ghost use Rattle.view_lookup.specs.MarkSteps.{Marks, MarksAll};
+
+use crate::things::{key_of_file, key_of_object, key_of_view};
+use cc_names::names::Name;
+use cc_names::paths::Path;
+use cc_names::rows::Deed;
+use std::collections::HashMap;
+
+/// A row that bears on something with a key, and the place of the next older one of the key.
+#[derive(Clone, Copy)]
+pub(crate) struct Link {
+    pub(crate) row: u64,
+    pub(crate) older: Option<usize>,
+}
+
+/// Marks a row for a key. Takes constant time and no memory.
+fn mark(links: &mut Vec<Link>, newest: &mut HashMap<u64, usize>, row: u64, key: u64)
+    requires links { vec_len links.old < vec_capacity links.old }
+    requires newest { 0 < spare newest.old }
+    ensures marks { Marks row key links.old.items (get nat_eq newest.old) links.new.items (get nat_eq newest.new) }
+    ensures len { vec_len links.new ≡ vec_len links.old + 1 }
+    ensures capacity { vec_capacity links.old ≤ vec_capacity links.new }
+    ensures spare { spare newest.old ≤ spare newest.new + 1 }
+{
+    let older = newest.get(&key).copied();
+    let place = links.len();
+    links.push(Link { row, older }).unwrap();
+    match newest.insert(key, place) {
+        Ok(_) => {}
+        Err(_) => unreachable!(),
+    }
+}
+
+/// Marks a row that makes an object for each of its targets.
+fn mark_targets(
+    links: &mut Vec<Link>,
+    newest: &mut HashMap<u64, usize>,
+    row: u64,
+    view: &Name,
+    targets: &[Path],
+)
+    requires links { vec_len links.old + length targets.now ≤ vec_capacity links.old }
+    requires newest { length targets.now ≤ spare newest.old }
+    ensures marks { MarksAll row (map (key_of_object view.now) targets.now) links.old.items (get nat_eq newest.old) links.new.items (get nat_eq newest.new) }
+    ensures len { vec_len links.new ≡ vec_len links.old + length targets.now }
+{
+    for target in targets {
+        mark(links, newest, row, key_of_object(view, target));
+    }
+}
+
+/// Marks a row for each thing that its deed bears on. Takes time linear in the names that the deed has, and no memory.
+pub(crate) fn mark_all(
+    links: &mut Vec<Link>,
+    newest: &mut HashMap<u64, usize>,
+    row: u64,
+    deed: &Deed,
+)
+    requires links { vec_len links.old + length (keys_of deed.now) ≤ vec_capacity links.old }
+    requires newest { length (keys_of deed.now) ≤ spare newest.old }
+    ensures { MarksAll row (keys_of deed.now) links.old.items (get nat_eq newest.old) links.new.items (get nat_eq newest.new) }
+{
+    match deed {
+        Deed::Mkview { view } => mark(links, newest, row, key_of_view(view)),
+        Deed::Rmview { view } => mark(links, newest, row, key_of_view(view)),
+        Deed::Put { view, path, .. } => mark(links, newest, row, key_of_file(view, path)),
+        Deed::Rm { view, path } => mark(links, newest, row, key_of_file(view, path)),
+        Deed::Publish { view, targets, .. } => {
+            mark_targets(links, newest, row, view, targets.as_slice())
+        }
+        _ => {}
+    }
+}
