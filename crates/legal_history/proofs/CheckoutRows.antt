@@ -1,6 +1,6 @@
 -- Checkouts of one element by two views: reserved and not, a checkin that comes too late, and one of an identical text; then
 -- what else is refused.
-use Rattle.std.proofs.Common.{◌≡◌, refl, ℕ, true, false, Ok, Err, List, [], ◌∷◌, ◌++◌}
+use Rattle.std.proofs.Common.{◌≡◌, refl, ℕ, true, false, Some, Ok, Err, List, [], ◌∷◌, ◌++◌, map}
 use Rattle.std.specs.Prelude.{codes}
 use Rattle.std.specs.Fmt.{digits}
 use Rattle.cc_names.specs.declared.commands.Command.TheVariants as commands
@@ -8,7 +8,11 @@ use Rattle.cc_names.specs.declared.refusals.Refusal.TheVariants as refusals
 use Rattle.cc_names.specs.declared.rows.Deed.TheVariants as deeds
 use Rattle.cc_names.specs.declared.rows.Out.TheVariants as outs
 use Rattle.cc_names.specs.declared.rows.TypeKind.TheVariants as type_kinds
+use Rattle.legal_history.specs.Base.{Base, first_rows}
 use Rattle.legal_history.specs.Decisions.{Makes}
+use Rattle.legal_history.specs.Fits.{is_base}
+use Rattle.legal_history.specs.Seen.{file_at}
+use Rattle.legal_history.specs.Texts.{text}
 use Rattle.legal_history.specs.VersionNames.{line, version_name}
 use Rattle.legal_history.specs.Worked.{base_of, decisions}
 use Rattle.legal_history.proofs.TwoViews.{v, w, two_views, all_deeds}
@@ -42,6 +46,29 @@ two_views_check_out :
     ∷ []
 two_views_check_out = refl
 
+-- the rows that were made of this: both take the element out, and only what view w saved is brought in
+abbrev checked_out : Base
+checked_out = base_of (all_deeds ++ (deeds.Checkout v 6 8 false ∷ deeds.Checkout w 6 8 true
+    ∷ deeds.Save v 6 (line (codes "foo")) ∷ deeds.Save w 6 (line (codes "bar")) ∷ deeds.Checkin w 6
+    ∷ deeds.Uncheckout v 6 ∷ deeds.Checkout v 6 17 true ∷ []))
+
+checkouts_fit : is_base checked_out ≡ true
+checkouts_fit = refl
+
+versions_have_names : map (version_name checked_out) (8 ∷ 17 ∷ []) ≡ codes "/main/1" ∷ codes "/main/2" ∷ []
+unfolding digits
+versions_have_names = refl
+
+the_reserved_text_is_in : text checked_out 17 a_file ≡ Some (line (codes "bar"))
+the_reserved_text_is_in = refl
+
+each_saw_its_own :
+    map (λ view. file_at (first_rows 17 checked_out) view a_file) (v ∷ w ∷ []) ≡ Some 15 ∷ Some 16 ∷ []
+each_saw_its_own = refl
+
+the_checkout_is_seen : file_at checked_out v a_file ≡ Some 19
+the_checkout_is_seen = refl
+
 -- a branch is made by a rule of the config spec, and another rule lets nothing be checked out
 abbrev spec : List ℕ
 spec =
@@ -68,10 +95,16 @@ a_rule_makes_a_branch :
     ∷ []
 a_rule_makes_a_branch = refl
 
+abbrev branched : Base
+branched = base_of (all_deeds ++ (deeds.Mktype type_kinds.Branch (codes "fix") ∷ deeds.Setcs w spec
+    ∷ deeds.Branch w 6 8 (codes "fix") outs.Reserved ∷ deeds.Save w 6 (line (codes "foo")) ∷ deeds.Checkin w 6
+    ∷ deeds.Checkout w 6 17 true ∷ []))
+
+the_branch_fits : is_base branched ≡ true
+the_branch_fits = refl
+
 versions_on_the_branch_have_names :
-    let base = base_of (all_deeds ++ (deeds.Mktype type_kinds.Branch (codes "fix") ∷ deeds.Setcs w spec
-    ∷ deeds.Branch w 6 8 (codes "fix") outs.Reserved ∷ deeds.Save w 6 (line (codes "foo")) ∷ deeds.Checkin w 6 ∷ [])) in
-    (version_name base 15 ++ version_name base 17) ≡ codes "/main/fix/0/main/fix/1"
+    map (version_name branched) (15 ∷ 17 ∷ []) ≡ codes "/main/fix/0" ∷ codes "/main/fix/1" ∷ []
 unfolding digits
 versions_on_the_branch_have_names = refl
 
@@ -98,3 +131,6 @@ others_are_refused :
     ∷ Err refusals.ViewExists
     ∷ []
 others_are_refused = refl
+
+the_label_fits : is_base (base_of (all_deeds ++ (deeds.Mktype type_kinds.Label (codes "REL") ∷ deeds.Label (codes "REL") 6 8 ∷ []))) ≡ true
+the_label_fits = refl

@@ -7,6 +7,7 @@ pub mod CheckoutFits
 pub mod ElementFits
 pub mod DecidedFits
 pub mod FilesBelow
+mod FaultRows
 mod FirstBuild
 pub mod Fronts
 pub mod Grows
@@ -19,15 +20,18 @@ pub mod Picks
 pub mod Makings
 pub mod Pairs
 pub mod FreshSeen
+mod MergeRows
 mod QueryRows
 mod RecordRows
 mod ReuseRows
 pub mod Passed
+mod ScrubRows
 pub mod Stay
 mod StoryRows
 mod TimeRows
 pub mod TwoViews
 pub mod Tables
 pub mod TreesStay
+mod UnlawfulBuilds
 mod UnlawfulRows
 pub mod VersionsStay
