@@ -1,6 +1,6 @@
 -- A whole story: a build under which the disk fails, and the same command once more.
 use Rattle.std.proofs.Common.{◌≡◌, refl, inl, ℕ, true, false, Some, None, List, [], ◌∷◌, ◌++◌}
-use Rattle.std.specs.Prelude.{codes}
+use Rattle.std.specs.Prelude.{codes, option_map}
 use native.Mathlib.Bridge.{le_by_compare, IsLe}
 use Rattle.cc_names.specs.Formed.{Plain}
 use Rattle.cc_names.specs.declared.commands.Command.{Command}
@@ -9,11 +9,12 @@ use Rattle.cc_names.specs.declared.rows.Deed.TheVariants as deeds
 use Rattle.cc_names.specs.declared.steps.Step.TheVariants as steps
 use Rattle.cc_names.specs.declared.steps.Told.{Told}
 use Rattle.cc_names.specs.declared.steps.Told.TheVariants as told
-use Rattle.legal_history.specs.States.{all_done}
+use Rattle.legal_history.specs.Builds.{Given}
+use Rattle.legal_history.specs.States.{all_done, build_by}
 use Rattle.legal_history.specs.Steps.{state_of}
 use Rattle.legal_history.specs.Stories.{Legal}
 use Rattle.legal_history.specs.Worked.{tag, row}
-use Rattle.legal_history.proofs.StoryRows.{one_lane, opened}
+use Rattle.legal_history.proofs.StoryRows.{one_lane, opened, comes_after}
 use Rattle.legal_history.proofs.TwoViews.{v, hi, makefile, script}
 
 abbrev build : Command
@@ -37,10 +38,17 @@ before_build =
 abbrev pub before_fault : List Told
 before_fault = before_build ++ (told.Other (steps.Begin (tag 1 1 4) 4 1) ∷ told.Other (steps.Start (tag 1 1 4) 0) ∷ [])
 
--- the disk fails at the first build's last sync, so that its row may be found; the second build makes it anew
+-- the disk fails at the first build's last sync, so that its row may be found
+abbrev fault : Told
+fault = told.Other (steps.Fault (tag 1 1 4) (Some (published 4)) 0 1 19)
+
+the_first_build_meets_it : option_map (λ build. build.faulted) (build_by (state_of (before_fault ++ (fault ∷ []))) (tag 1 1 4)) ≡ Some true
+the_first_build_meets_it = refl
+
+-- the second build makes the row anew, two calls of the disk settle what the fault left, and four commit the row
 abbrev fails_once : List Told
 fails_once =
-    before_fault ++ (told.Other (steps.Fault (tag 1 1 4) (Some (published 4)) 0 1 19)
+    before_fault ++ (fault
     ∷ told.Other (steps.End (tag 1 1 4))
     ∷ told.Other (steps.Begin (tag 1 1 5) 4 1)
     ∷ told.Other (steps.Start (tag 1 1 5) 0)
@@ -90,6 +98,9 @@ fails_once_is_legal = (
 
 both_are_finished : all_done (state_of fails_once) ≡ true
 both_are_finished = refl
+
+the_second_build_has_its_object : comes_after 12 5 fails_once ≡ Some ((0, Given 4) ∷ [])
+the_second_build_has_its_object = refl
 
 -- the base has the row of the second build alone
 one_object_is_published :

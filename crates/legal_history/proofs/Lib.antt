@@ -1,4 +1,5 @@
 pub mod Below
+mod BranchRows
 pub mod CatalogElements
 mod CheckoutRows
 pub mod FileFits
@@ -9,6 +10,7 @@ pub mod DecidedFits
 pub mod FilesBelow
 mod FaultRows
 mod FirstBuild
+mod LabelRows
 pub mod Fronts
 pub mod Grows
 pub mod Goes
@@ -21,6 +23,7 @@ pub mod Makings
 pub mod Pairs
 pub mod FreshSeen
 mod MergeRows
+mod NoSteps
 mod QueryRows
 mod RecordRows
 mod ReuseRows

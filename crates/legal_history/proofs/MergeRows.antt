@@ -8,9 +8,10 @@ use Rattle.cc_names.specs.declared.refusals.Refusal.TheVariants as refusals
 use Rattle.cc_names.specs.declared.rows.Deed.TheVariants as deeds
 use Rattle.cc_names.specs.declared.rows.Out.TheVariants as outs
 use Rattle.cc_names.specs.declared.rows.TypeKind.TheVariants as type_kinds
-use Rattle.legal_history.specs.Base.{Base}
+use Rattle.legal_history.specs.Base.{Base, first_rows}
 use Rattle.legal_history.specs.Decisions.{Makes, Answers}
 use Rattle.legal_history.specs.Fits.{is_base}
+use Rattle.legal_history.specs.Merges.{reaches}
 use Rattle.legal_history.specs.VersionNames.{line, version_name}
 use Rattle.legal_history.specs.Worked.{base_of, decisions}
 use Rattle.legal_history.proofs.TwoViews.{v, w, two_views, all_deeds}
@@ -56,6 +57,10 @@ the_arrow_fits = refl
 versions_have_names : map (version_name merged) (14 ∷ 16 ∷ []) ≡ codes "/main/fix/0" ∷ codes "/main/fix/1" ∷ []
 unfolding digits
 versions_have_names = refl
+
+-- the branch's version reaches the selected one by the arrow alone
+the_arrow_reaches : map (λ rows. reaches (first_rows rows merged) 16 8) (17 ∷ 18 ∷ []) ≡ false ∷ true ∷ []
+the_arrow_reaches = refl
 
 nothing_else_is_merged :
     decisions two_views (

@@ -2,6 +2,7 @@
 use Rattle.std.proofs.Common.{◌≡◌, refl, ℕ, true, false, Some, None, Ok, Err, List, [], ◌∷◌, ◌++◌, map}
 use Rattle.std.specs.Prelude.{codes}
 use Rattle.std.specs.Fmt.{digits}
+use Rattle.cc_names.specs.Labels.{holder}
 use Rattle.cc_names.specs.declared.commands.Command.TheVariants as commands
 use Rattle.cc_names.specs.declared.refusals.Refusal.TheVariants as refusals
 use Rattle.cc_names.specs.declared.refusals.SpecCause.TheVariants as causes
@@ -9,6 +10,8 @@ use Rattle.cc_names.specs.declared.rows.Deed.{Deed}
 use Rattle.cc_names.specs.declared.rows.Deed.TheVariants as deeds
 use Rattle.cc_names.specs.declared.rows.TypeKind.TheVariants as type_kinds
 use Rattle.legal_history.specs.Base.{Base, first_rows}
+use Rattle.legal_history.specs.Changes.{labels}
+use Rattle.legal_history.specs.Closures.{listing}
 use Rattle.legal_history.specs.Decisions.{Makes, Answers, Begins}
 use Rattle.legal_history.specs.Fits.{is_base}
 use Rattle.legal_history.specs.Fresh.{fresh}
@@ -51,6 +54,12 @@ the_labels_fit = refl
 versions_have_names : map (version_name (base_of recorded)) (8 ∷ 17 ∷ []) ≡ codes "/main/1" ∷ codes "/main/2" ∷ []
 unfolding digits
 versions_have_names = refl
+
+the_record_lists_its_source : listing (base_of recorded) 10 ≡ (6, 8) ∷ []
+the_record_lists_its_source = refl
+
+the_label_stays_on_the_source : holder (labels (base_of recorded)) (codes "REL") 6 ≡ Some 8
+the_label_stays_on_the_source = refl
 
 -- a build from private files alone, and a label type
 abbrev private_build : Base

@@ -1,6 +1,6 @@
 -- A whole story: two views that build, the second one by its own run.
-use Rattle.std.proofs.Common.{◌≡◌, refl, true, List, [], ◌∷◌, ◌++◌}
-use Rattle.std.specs.Prelude.{codes}
+use Rattle.std.proofs.Common.{◌≡◌, refl, ℕ, true, Option, Some, List, [], ◌∷◌, ◌++◌}
+use Rattle.std.specs.Prelude.{codes, take, option_map}
 use native.Mathlib.Bridge.{le_by_compare, IsLe}
 use Rattle.cc_names.specs.declared.commands.Command.{Command}
 use Rattle.cc_names.specs.declared.commands.Command.TheVariants as commands
@@ -10,7 +10,8 @@ use Rattle.cc_names.specs.declared.rows.Kind.TheVariants.{File}
 use Rattle.cc_names.specs.declared.steps.Step.TheVariants as steps
 use Rattle.cc_names.specs.declared.steps.Told.{Told}
 use Rattle.cc_names.specs.declared.steps.Told.TheVariants as told
-use Rattle.legal_history.specs.States.{all_done}
+use Rattle.legal_history.specs.Builds.{Came, Given}
+use Rattle.legal_history.specs.States.{all_done, build_by}
 use Rattle.legal_history.specs.Steps.{state_of}
 use Rattle.legal_history.specs.Stories.{Legal}
 use Rattle.legal_history.specs.Worked.{tag, row, base_of}
@@ -112,6 +113,16 @@ both_build_is_legal = (
 
 both_are_finished : all_done (state_of both_build) ≡ true
 both_are_finished = refl
+
+-- what the units of a command's build have come to after so many steps
+abbrev pub comes_after : ℕ → ℕ → List Told → Option (List (ℕ × Came))
+comes_after steps command story = option_map (λ build. build.comes) (build_by (state_of (take steps story)) (tag 1 1 command))
+
+the_first_has_its_own_object : comes_after 14 10 both_build ≡ Some ((0, Given 10) ∷ [])
+the_first_has_its_own_object = refl
+
+the_second_has_its_own_object : comes_after 19 12 both_build ≡ Some ((0, Given 12) ∷ [])
+the_second_has_its_own_object = refl
 
 both_have_their_objects : (state_of both_build).base ≡ base_of (first_deeds ++ (publish ∷ deeds.Mkview w ∷ publish_in w ∷ []))
 both_have_their_objects = refl

@@ -1,5 +1,5 @@
 -- A rule with a time takes the last version made before it.
-use Rattle.std.proofs.Common.{◌≡◌, refl, ℕ, ◌+◌, true, false, None, Result, Ok, List, [], ◌∷◌, ◌++◌, map}
+use Rattle.std.proofs.Common.{◌≡◌, refl, ℕ, ◌+◌, true, false, Some, None, Result, Ok, List, [], ◌∷◌, ◌++◌, map}
 use Rattle.std.specs.Fmt.{digits}
 use Rattle.std.specs.Prelude.{codes}
 use Rattle.cc_names.specs.Formed.{Plain}
@@ -14,6 +14,7 @@ use Rattle.legal_history.specs.Base.{Base}
 use Rattle.legal_history.specs.Decisions.{Decision, Makes, Answers}
 use Rattle.legal_history.specs.Fits.{is_base}
 use Rattle.legal_history.specs.Lines.{decision}
+use Rattle.legal_history.specs.Seen.{file_at}
 use Rattle.legal_history.specs.VersionNames.{line, version_name}
 use Rattle.legal_history.specs.Worked.{tag, base_of, decisions}
 use Rattle.legal_history.proofs.TwoViews.{v, w}
@@ -90,3 +91,7 @@ the_second_phase_is_decided = refl
 versions_have_names : map (version_name two_moments) (5 ∷ 9 ∷ []) ≡ codes "/main/1" ∷ codes "/main/2" ∷ []
 unfolding digits
 versions_have_names = refl
+
+each_view_sees_its_version : map (λ view. file_at two_moments view (codes "in")) (v ∷ w ∷ []) ≡ Some 9 ∷ Some 5 ∷ []
+unfolding dates_on_literals
+each_view_sees_its_version = refl

@@ -1,35 +1,25 @@
 -- Steps that open, plan and decide, and rows and faults, each with one thing wrong and refused.
-use Rattle.std.proofs.Common.{◌≡◌, refl, ap, sym, ⊎_elim, ℕ, ◌≤◌, Bool, true, false, Option, Some, None, Result, Ok, Err, List, [], ◌∷◌, ◌++◌, length, arith}
-use Rattle.std.specs.Prelude.{codes, is_some, is_none, not, nat_eq, reverse}
+use Rattle.std.proofs.Common.{◌≡◌, refl, sym, ⊎_elim, ℕ, ◌≤◌, Bool, true, false, Option, Some, None, Result, Ok, Err, List, [], ◌∷◌, ◌++◌, length, arith}
+use Rattle.std.specs.Prelude.{codes, is_some, is_none, not, nat_eq, reverse, bytes_eq}
 use Rattle.cc_names.specs.declared.commands.Command.TheVariants as commands
 use Rattle.cc_names.specs.declared.refusals.Refusal.{Refusal}
 use Rattle.cc_names.specs.declared.refusals.Refusal.TheVariants as refusals
 use Rattle.cc_names.specs.declared.rows.Deed.TheVariants as deeds
-use Rattle.cc_names.specs.declared.rows.Tag.{Tag}
 use Rattle.cc_names.specs.declared.steps.Step.TheVariants as steps
 use Rattle.cc_names.specs.declared.steps.Told.{Told}
 use Rattle.cc_names.specs.declared.steps.Told.TheVariants as told
-use Rattle.cc_names.specs.declared.units.Unit.{Unit}
-use Rattle.legal_history.specs.Decisions.{Decision, Makes, Begins}
+use Rattle.legal_history.specs.Decisions.{Decision, Makes, Answers}
 use Rattle.legal_history.specs.States.{State, decided, start}
 use Rattle.legal_history.specs.Steps.{state_of}
-use Rattle.legal_history.specs.Stories.{Lawful, BeginsBuild}
+use Rattle.legal_history.specs.Stories.{Lawful}
 use Rattle.legal_history.specs.Worked.{tag, row, base_of}
 use Rattle.legal_history.proofs.FaultRows.{before_build, before_fault}
+use Rattle.legal_history.proofs.NoSteps.{apart, units_are, no_row}
 use Rattle.legal_history.proofs.StoryRows.{opened, one_lane}
 use Rattle.legal_history.proofs.TwoViews.{v, w, publish, all_deeds}
 
--- two things that a test tells apart are not the same
-pub apart : {A : Type 0} (test : A → Bool) {a b : A} → a ≡ b → test a ≡ true → test b ≡ false → ⊥
-apart test e first second = cc (ap test e)
-
--- a build begins with the units that are decided, at the rows that there are
-units_are : {s : State} {tag : Tag} {rows count : ℕ} {units : List Unit} →
-    decided s tag ≡ Some (Ok (Begins units)) → BeginsBuild s tag rows count → count ≡ length units
-units_are d h = let c = h.chosen in let l = h.of_units in cc
-
 -- the build of private files has begun, and its unit was started
-abbrev pub started : State
+abbrev started : State
 started = state_of before_fault
 
 opened_twice : Lawful started opened → ⊥
@@ -83,6 +73,11 @@ a_refusal_without_a_reason : Lawful scrubbing (told.Other (steps.Refused (tag 1 
 unfolding is_refused
 a_refusal_without_a_reason h = apart (λ d. not (is_refused d)) h refl refl
 
+-- whether a decision is to answer this text
+answers : List ℕ → Option (Result Decision Refusal) → Bool
+answers text (Some (Ok (Answers answer))) = bytes_eq text answer
+answers text decided = false
+
 -- a fault where the scrub's row was to be committed
 abbrev scrub_fault : List ℕ → ℕ → ℕ → Told
 scrub_fault objects before faults = told.Other (steps.Fault (tag 1 1 1) (Some (row 1 (deeds.Scrub objects))) before faults 1)
@@ -94,6 +89,17 @@ a_fault_that_left_another_row h =
 
 a_fault_without_a_rise : Lawful scrubbing (scrub_fault (10 ∷ []) 1 1) → ⊥
 a_fault_without_a_rise h = apart not h.rose refl refl
+
+-- a query is the next command
+abbrev asked : State
+asked = state_of (opened ∷ told.Plan (one_lane (commands.Mkview v ∷ commands.Lsdo v ∷ [])) 1700000000 ∷ told.Commit (row 1 (deeds.Mkview v)) 7 ∷ [])
+
+an_answer_of_another_text : Lawful asked (told.Other (steps.Answer (tag 1 1 2) (codes "out"))) → ⊥
+unfolding answers
+an_answer_of_another_text h = apart (answers []) h refl refl
+
+a_fault_where_no_row_was_to_be_made : Lawful asked (told.Other (steps.Fault (tag 1 1 2) None 0 1 8)) → ⊥
+a_fault_where_no_row_was_to_be_made h = no_row refl refl h.wanted
 
 -- the build of private files is the next command
 abbrev waiting : State
