@@ -31,6 +31,9 @@ private_build = base_of (deeds.Mkview v ∷ deeds.Put v (codes "Makefile") makef
 a_first_build_runs : reusable (first_rows 4 private_build) (build_in v 4) 0 unit ≡ None
 a_first_build_runs = refl
 
+a_first_build_from_nothing : fresh (first_rows 4 private_build) v None [] (codes "out" ∷ []) ≡ Ok built
+a_first_build_from_nothing = refl
+
 a_second_build_keeps : reusable private_build (build_in v 5) 0 unit ≡ Some 4
 a_second_build_keeps = refl
 

@@ -8,6 +8,7 @@ use Rattle.cc_names.specs.declared.rows.Deed.{Deed}
 use Rattle.cc_names.specs.declared.rows.Deed.TheVariants as deeds
 use Rattle.cc_names.specs.declared.rows.ReadOf.{ReadOf}
 use Rattle.cc_names.specs.declared.steps.Step.TheVariants as steps
+use Rattle.cc_names.specs.declared.steps.Told.{Told}
 use Rattle.cc_names.specs.declared.steps.Told.TheVariants as told
 use Rattle.cc_names.specs.declared.steps.UnitEnd.TheVariants as ends
 use Rattle.legal_history.specs.Closures.{entries_of_deed}
@@ -18,7 +19,7 @@ use Rattle.legal_history.specs.Worked.{tag, row, base_of}
 use Rattle.legal_history.proofs.FaultRows.{before_fault, published}
 use Rattle.legal_history.proofs.NoSteps.{apart, published_is, no_second, no_second_row, no_start, no_end, no_failure, no_early_end, no_keep, no_wink}
 use Rattle.legal_history.proofs.StoryRows.{one_lane}
-use Rattle.legal_history.proofs.TwoViews.{v, w, hi, script, clearmake, publish, first_deeds}
+use Rattle.legal_history.proofs.TwoViews.{v, w, hi, makefile, script, clearmake, publish, first_deeds}
 
 -- the build of private files has begun, and its unit was started
 abbrev started : State
@@ -53,12 +54,24 @@ a_failure_without_a_run h = no_early_end refl refl refl h
 ended_too_early : Lawful started (told.Other (steps.End (tag 1 1 4))) → ⊥
 ended_too_early h = no_end refl refl h
 
--- after the unit's row
+-- a build whose one prerequisite is not there, which ends without a run, once
+abbrev without_source : List Told
+without_source =
+    told.Opened (reverse (base_of (deeds.Mkview v ∷ deeds.Put v (codes "Makefile") makefile ∷ []))) (record { ticks = 0; faults = 0 }) true
+    ∷ told.Plan (one_lane (clearmake v ∷ [])) 1700000000 ∷ told.Other (steps.Begin (tag 1 1 1) 3 1) ∷ []
+
+abbrev no_source : Told
+no_source = told.Other (steps.Settled (tag 1 1 1) 0 (ends.Failed (NoRule (codes "in"))))
+
+a_first_outcome : Lawful (state_of without_source) no_source
+a_first_outcome = record { build = _; unit = _; waits = record { active = refl; is_unit = refl; waits = refl }; sound = refl; ready = refl; ends = refl }
+
+a_second_outcome : Lawful (state_of (without_source ++ (no_source ∷ []))) no_source → ⊥
+a_second_outcome h = no_second refl refl h.waits
+
+-- after the row of the unit that was started
 abbrev built : State
 built = state_of (before_fault ++ (told.Commit (published 4) 19 ∷ []))
-
-a_second_outcome : Lawful built (told.Other (steps.Settled (tag 1 1 4) 0 ends.Bare)) → ⊥
-a_second_outcome h = no_second refl refl h.waits
 
 a_second_row : Lawful built (told.Commit (published 4) 23) → ⊥
 a_second_row h = no_second_row refl refl refl h.may.made

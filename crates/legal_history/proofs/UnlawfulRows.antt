@@ -12,6 +12,7 @@ use Rattle.legal_history.specs.Decisions.{Decision, Makes, Answers}
 use Rattle.legal_history.specs.States.{State, decided, start}
 use Rattle.legal_history.specs.Steps.{state_of}
 use Rattle.legal_history.specs.Stories.{Lawful}
+use Rattle.legal_history.specs.VersionNames.{line}
 use Rattle.legal_history.specs.Worked.{tag, row, base_of}
 use Rattle.legal_history.proofs.FaultRows.{before_build, before_fault}
 use Rattle.legal_history.proofs.NoSteps.{apart, units_are, no_row}
@@ -61,7 +62,7 @@ a_row_of_another_moment h = apart (λ moment. nat_eq moment 1700000001) h.may.mo
 a_tick_that_stands_still : Lawful scrubbing (told.Commit (row 1 (deeds.Scrub (10 ∷ []))) 0) → ⊥
 a_tick_that_stands_still h = apart not h.ticked refl refl
 
-an_answer_out_of_turn : Lawful scrubbing (told.Other (steps.Answer (tag 1 1 2) [])) → ⊥
+an_answer_out_of_turn : Lawful scrubbing (told.Other (steps.Answer (tag 1 1 2) (line (codes "out@@13 references 1")))) → ⊥
 an_answer_out_of_turn h = apart is_none h refl refl
 
 -- whether a decision is a refusal
