@@ -1,15 +1,19 @@
--- Checkouts of one element by two views: reserved and not, a checkin that comes too late, and one of an identical text; then
--- what else is refused.
-use Rattle.std.proofs.Common.{◌≡◌, refl, ℕ, true, false, Ok, Err, List, [], ◌∷◌, ◌++◌}
+-- Checkouts of one element by two views: reserved and not, a checkin that comes too late, and one of an identical text.
+use Rattle.std.proofs.Common.{◌≡◌, refl, ℕ, true, false, Some, Ok, Err, List, [], ◌∷◌, ◌++◌, map}
 use Rattle.std.specs.Prelude.{codes}
 use Rattle.std.specs.Fmt.{digits}
+use Rattle.cc_names.specs.Versions.{Version, versions_on}
 use Rattle.cc_names.specs.declared.commands.Command.TheVariants as commands
 use Rattle.cc_names.specs.declared.refusals.Refusal.TheVariants as refusals
 use Rattle.cc_names.specs.declared.rows.Deed.TheVariants as deeds
-use Rattle.cc_names.specs.declared.rows.Out.TheVariants as outs
-use Rattle.cc_names.specs.declared.rows.TypeKind.TheVariants as type_kinds
+use Rattle.legal_history.specs.Base.{Base, first_rows}
+use Rattle.legal_history.specs.Changes.{tree}
 use Rattle.legal_history.specs.Decisions.{Makes}
+use Rattle.legal_history.specs.Fits.{is_base}
+use Rattle.legal_history.specs.Seen.{file_at}
+use Rattle.legal_history.specs.Texts.{text}
 use Rattle.legal_history.specs.VersionNames.{line, version_name}
+use Rattle.legal_history.specs.Views.{making, out}
 use Rattle.legal_history.specs.Worked.{base_of, decisions}
 use Rattle.legal_history.proofs.TwoViews.{v, w, two_views, all_deeds}
 
@@ -42,59 +46,41 @@ two_views_check_out :
     ∷ []
 two_views_check_out = refl
 
--- a branch is made by a rule of the config spec, and another rule lets nothing be checked out
-abbrev spec : List ℕ
-spec =
-    line (codes "element * CHECKEDOUT") ++ line (codes "element in .../fix/LATEST")
-    ++ line (codes "element in /main/LATEST -mkbranch fix") ++ line (codes "element * /main/LATEST -nocheckout")
+-- the rows that were made of this: both take the element out, and only what view w saved is brought in
+abbrev checked_out : Base
+checked_out = base_of (all_deeds ++ (deeds.Checkout v 6 8 false ∷ deeds.Checkout w 6 8 true
+    ∷ deeds.Save v 6 (line (codes "foo")) ∷ deeds.Save w 6 (line (codes "bar")) ∷ deeds.Checkin w 6
+    ∷ deeds.Uncheckout v 6 ∷ deeds.Checkout v 6 17 true ∷ []))
 
-a_rule_makes_a_branch :
-    decisions two_views (
-    commands.Mkbrtype (codes "fix")
-    ∷ commands.Setcs w spec
-    ∷ commands.Checkout w false a_file
-    ∷ commands.Save w a_file (line (codes "foo"))
-    ∷ commands.Checkin w false a_file
-    ∷ commands.Checkout w false (codes "Makefile")
-    ∷ commands.Checkout w false a_file ∷ [])
-    ≡
-    Ok (Makes (deeds.Mktype type_kinds.Branch (codes "fix")))
-    ∷ Ok (Makes (deeds.Setcs w spec))
-    ∷ Ok (Makes (deeds.Branch w 6 8 (codes "fix") outs.Reserved))
-    ∷ Ok (Makes (deeds.Save w 6 (line (codes "foo"))))
-    ∷ Ok (Makes (deeds.Checkin w 6))
-    ∷ Err (refusals.NoCheckoutRule 4)
-    ∷ Ok (Makes (deeds.Checkout w 6 17 true))
-    ∷ []
-a_rule_makes_a_branch = refl
+checkouts_fit : is_base checked_out ≡ true
+checkouts_fit = refl
 
-versions_on_the_branch_have_names :
-    let base = base_of (all_deeds ++ (deeds.Mktype type_kinds.Branch (codes "fix") ∷ deeds.Setcs w spec
-    ∷ deeds.Branch w 6 8 (codes "fix") outs.Reserved ∷ deeds.Save w 6 (line (codes "foo")) ∷ deeds.Checkin w 6 ∷ [])) in
-    (version_name base 15 ++ version_name base 17) ≡ codes "/main/fix/0/main/fix/1"
+versions_have_names : map (version_name checked_out) (8 ∷ 17 ∷ []) ≡ codes "/main/1" ∷ codes "/main/2" ∷ []
 unfolding digits
-versions_on_the_branch_have_names = refl
+versions_have_names = refl
 
-others_are_refused :
-    decisions two_views (
-    commands.Mklabel v false (codes "REL") a_file
-    ∷ commands.Mklbtype (codes "REL")
-    ∷ commands.Mklbtype (codes "main")
-    ∷ commands.Mklabel v false (codes "REL") a_file
-    ∷ commands.Rmlabel v (codes "REL") (codes "Makefile")
-    ∷ commands.Mkelem v false (codes "new")
-    ∷ commands.Save v a_file []
-    ∷ commands.Save v (codes "out") []
-    ∷ commands.Mkview v ∷ [])
-    ≡
-    Err (refusals.NoType (codes "REL"))
-    ∷ Ok (Makes (deeds.Mktype type_kinds.Label (codes "REL")))
-    ∷ Err (refusals.TypeExists (codes "main"))
-    ∷ Ok (Makes (deeds.Label (codes "REL") 6 8))
-    ∷ Err (refusals.NoLabel (codes "Makefile"))
-    ∷ Err (refusals.ParentNotOut (codes "."))
-    ∷ Err (refusals.NotCheckedOut a_file)
-    ∷ Err (refusals.IsDerived (codes "out"))
-    ∷ Err refusals.ViewExists
-    ∷ []
-others_are_refused = refl
+-- the version of a row on the element's main branch, and its number
+abbrev numbered_row : Version → ℕ × ℕ
+numbered_row version = (version.row, version.number)
+
+each_version_has_its_number : map numbered_row (versions_on (tree checked_out) 6) ≡ (17, 2) ∷ (8, 1) ∷ (6, 0) ∷ []
+each_version_has_its_number = refl
+
+the_reserved_text_is_in : text checked_out 17 a_file ≡ Some (line (codes "bar"))
+the_reserved_text_is_in = refl
+
+-- before one of them is brought in
+each_has_it_out :
+    map (λ view. out (first_rows 17 checked_out) view 6) (v ∷ w ∷ [])
+    ≡ Some (record { row = 13; origin = 8; reserved = false }) ∷ Some (record { row = 14; origin = 8; reserved = true }) ∷ []
+each_has_it_out = refl
+
+each_makes_its_own : map (λ view. making (first_rows 17 checked_out) view 6) (v ∷ w ∷ []) ≡ Some 15 ∷ Some 16 ∷ []
+each_makes_its_own = refl
+
+each_saw_its_own :
+    map (λ view. file_at (first_rows 17 checked_out) view a_file) (v ∷ w ∷ []) ≡ Some 15 ∷ Some 16 ∷ []
+each_saw_its_own = refl
+
+the_checkout_is_seen : file_at checked_out v a_file ≡ Some 19
+the_checkout_is_seen = refl

@@ -1,27 +1,41 @@
 -- The texts of queries over two views: records, the objects held, a directory, and how two records differ.
-use Rattle.std.proofs.Common.{◌≡◌, refl, true, None, Ok, [], ◌∷◌, ◌++◌}
+use Rattle.std.proofs.Common.{◌≡◌, refl, true, false, Some, None, Ok, [], ◌∷◌, ◌++◌}
 use Rattle.std.specs.Prelude.{codes}
 use Rattle.std.specs.Fmt.{digits}
 use Rattle.cc_names.specs.declared.commands.Command.TheVariants as commands
 use Rattle.cc_names.specs.declared.rows.Deed.TheVariants as deeds
 use Rattle.cc_names.specs.declared.rows.TypeKind.TheVariants as type_kinds
-use Rattle.legal_history.specs.Base.{Base}
-use Rattle.legal_history.specs.Decisions.{Answers}
+use Rattle.legal_history.specs.Base.{Base, first_rows}
+use Rattle.legal_history.specs.Decisions.{Makes, Answers, Begins}
+use Rattle.legal_history.specs.Fits.{is_base}
+use Rattle.legal_history.specs.Fresh.{fresh}
+use Rattle.legal_history.specs.Texts.{text}
 use Rattle.legal_history.specs.VersionNames.{line}
 use Rattle.legal_history.specs.Worked.{base_of, decisions}
-use Rattle.legal_history.proofs.TwoViews.{v, w, hi, script, two_views, all_deeds}
+use Rattle.legal_history.proofs.TwoViews.{v, w, hi, script, unit, built, clearmake, two_views, all_deeds}
 
 -- view w checks its source out and builds anew
 abbrev rebuilt : Base
 rebuilt = base_of (all_deeds ++ (deeds.Checkout w 6 8 true
     ∷ deeds.Publish w (codes "out" ∷ []) script (record { path = codes "in"; row = 13 } ∷ []) (hi ∷ []) ∷ []))
 
+rebuilt_is_a_base : is_base rebuilt ≡ true
+rebuilt_is_a_base = refl
+
 records_are_told :
-    decisions two_views (commands.Catcr w (codes "out") ∷ commands.Lsdo w ∷ [])
+    decisions two_views (commands.Catcr w (codes "out") ∷ commands.Lsdo w ∷ commands.Checkout w false (codes "in") ∷ clearmake w ∷ [])
     ≡ Ok (Answers (line (codes "target out") ++ line (codes "script cat in > out") ++ line (codes "read in@@/main/1")))
-    ∷ Ok (Answers (line (codes "out@@10 references 2"))) ∷ []
+    ∷ Ok (Answers (line (codes "out@@10 references 2")))
+    ∷ Ok (Makes (deeds.Checkout w 6 8 true))
+    ∷ Ok (Begins (unit ∷ [])) ∷ []
 unfolding digits
 records_are_told = refl
+
+the_checkout_is_built_from_nothing : fresh (first_rows 14 rebuilt) w None [] [] ≡ Ok built
+the_checkout_is_built_from_nothing = refl
+
+the_new_object_has_its_text : text rebuilt 14 (codes "out") ≡ Some hi
+the_new_object_has_its_text = refl
 
 differences_are_told :
     decisions rebuilt (commands.Diffcr v (codes "out") w (codes "out") ∷ commands.Ls w None ∷ [])

@@ -1,20 +1,26 @@
--- Labels and selection by a record, and merge arrows.
-use Rattle.std.proofs.Common.{◌≡◌, refl, ℕ, true, false, Some, Ok, Err, List, [], ◌∷◌, ◌++◌}
+-- Labels and selection by a record.
+use Rattle.std.proofs.Common.{◌≡◌, refl, ℕ, true, false, Some, None, Ok, Err, List, [], ◌∷◌, ◌++◌, map}
 use Rattle.std.specs.Prelude.{codes}
 use Rattle.std.specs.Fmt.{digits}
-use Rattle.cc_names.specs.declared.commands.Command.{Command}
+use Rattle.cc_names.specs.Labels.{holder}
 use Rattle.cc_names.specs.declared.commands.Command.TheVariants as commands
 use Rattle.cc_names.specs.declared.refusals.Refusal.TheVariants as refusals
 use Rattle.cc_names.specs.declared.refusals.SpecCause.TheVariants as causes
+use Rattle.cc_names.specs.declared.rows.Deed.{Deed}
 use Rattle.cc_names.specs.declared.rows.Deed.TheVariants as deeds
-use Rattle.cc_names.specs.declared.rows.Out.TheVariants as outs
 use Rattle.cc_names.specs.declared.rows.TypeKind.TheVariants as type_kinds
-use Rattle.legal_history.specs.Base.{Base}
-use Rattle.legal_history.specs.Decisions.{Makes, Answers}
+use Rattle.legal_history.specs.Base.{Base, first_rows}
+use Rattle.legal_history.specs.Changes.{labels}
+use Rattle.legal_history.specs.Closures.{listing}
+use Rattle.legal_history.specs.Decisions.{Makes, Answers, Begins}
+use Rattle.legal_history.specs.Fits.{is_base}
+use Rattle.legal_history.specs.Fresh.{fresh}
+use Rattle.legal_history.specs.Reuse.{reusable, held_at_all}
 use Rattle.legal_history.specs.Seen.{file_at}
-use Rattle.legal_history.specs.VersionNames.{line}
-use Rattle.legal_history.specs.Worked.{base_of, decisions}
-use Rattle.legal_history.proofs.TwoViews.{v, w, hi, makefile, script, two_views, all_deeds}
+use Rattle.legal_history.specs.VersionNames.{line, version_name}
+use Rattle.legal_history.specs.Worked.{base_of, decisions, with_decision}
+use Rattle.legal_history.proofs.ReuseRows.{build_in}
+use Rattle.legal_history.proofs.TwoViews.{v, w, hi, makefile, script, unit, built, clearmake, two_views, all_deeds}
 
 a_record_is_labelled_and_covered :
     decisions two_views (
@@ -36,7 +42,26 @@ a_record_is_labelled_and_covered :
     ∷ []
 a_record_is_labelled_and_covered = refl
 
--- a build from private files alone
+-- the rows that were made of this
+abbrev recorded : List Deed
+recorded = all_deeds ++ (deeds.Mktype type_kinds.Label (codes "REL")
+    ∷ deeds.Labels (codes "REL") (record { element = 6; version = 8 } ∷ [])
+    ∷ deeds.Checkout v 6 8 true ∷ deeds.Save v 6 (line (codes "foo")) ∷ deeds.Checkin v 6 ∷ [])
+
+the_labels_fit : is_base (base_of recorded) ≡ true
+the_labels_fit = refl
+
+versions_have_names : map (version_name (base_of recorded)) (8 ∷ 17 ∷ []) ≡ codes "/main/1" ∷ codes "/main/2" ∷ []
+unfolding digits
+versions_have_names = refl
+
+the_record_lists_its_source : listing (base_of recorded) 10 ≡ (6, 8) ∷ []
+the_record_lists_its_source = refl
+
+the_label_stays_on_the_source : holder (labels (base_of recorded)) (codes "REL") 6 ≡ Some 8
+the_label_stays_on_the_source = refl
+
+-- a build from private files alone, and a label type
 abbrev private_build : Base
 private_build = base_of (deeds.Mkview v ∷ deeds.Put v (codes "Makefile") makefile ∷ deeds.Put v (codes "in") hi
     ∷ deeds.Publish v (codes "out" ∷ []) script (record { path = codes "in"; row = 3 } ∷ []) (hi ∷ []) ∷ [])
@@ -46,61 +71,44 @@ a_private_file_has_no_version :
     ≡ Ok (Makes (deeds.Mktype type_kinds.Label (codes "REL"))) ∷ Err (refusals.NotVersion (codes "in")) ∷ []
 a_private_file_has_no_version = refl
 
-abbrev findmerge : Command
-findmerge = commands.Findmerge w (codes ".") (codes "fix")
+the_private_build_fits : is_base (with_decision private_build (Ok (Makes (deeds.Mktype type_kinds.Label (codes "REL"))))) ≡ true
+the_private_build_fits = refl
 
-abbrev mkarrow : Command
-mkarrow = commands.Mkarrow w (codes "in") (record { branches = codes "fix" ∷ []; number = 1 })
-
-a_branch_is_merged :
-    decisions two_views (
-    commands.Mkbrtype (codes "fix")
-    ∷ commands.Mkbranch v false (codes "fix") (codes "in")
-    ∷ commands.Save v (codes "in") (line (codes "foo"))
-    ∷ commands.Checkin v false (codes "in")
-    ∷ findmerge
-    ∷ mkarrow
-    ∷ findmerge
-    ∷ mkarrow ∷ [])
-    ≡
-    Ok (Makes (deeds.Mktype type_kinds.Branch (codes "fix")))
-    ∷ Ok (Makes (deeds.Branch v 6 8 (codes "fix") outs.Reserved))
-    ∷ Ok (Makes (deeds.Save v 6 (line (codes "foo"))))
-    ∷ Ok (Makes (deeds.Checkin v 6))
-    ∷ Ok (Answers (line (codes "in@@/main/fix/1 into in@@/main/1")))
-    ∷ Ok (Makes (deeds.Arrow 6 16 8))
-    ∷ Ok (Answers [])
-    ∷ Err (refusals.ArrowExists 17)
-    ∷ []
-unfolding digits
-a_branch_is_merged = refl
-
-nothing_else_is_merged :
-    decisions two_views (
-    commands.Mkarrow w (codes "in") (record { branches = []; number = 9 })
-    ∷ commands.Mkarrow w (codes "in") (record { branches = []; number = 1 })
-    ∷ findmerge ∷ [])
-    ≡ Err (refusals.NoVersion (codes "in")) ∷ Err (refusals.SameVersion 8) ∷ Err (refusals.NoType (codes "fix")) ∷ []
-nothing_else_is_merged = refl
+abbrev x : List ℕ
+x = codes "x"
 
 -- a config spec that selects by the record of an object
 abbrev by_record : List ℕ
 by_record = line (codes "element in -config out@@10") ++ line (codes "element * /main/LATEST")
 
--- the source has a newer version, and a third view selects by the record
-abbrev selected_by_record : Base
-selected_by_record = base_of (all_deeds ++ (deeds.Mktype type_kinds.Label (codes "REL")
-    ∷ deeds.Labels (codes "REL") (record { element = 6; version = 8 } ∷ [])
-    ∷ deeds.Checkout v 6 8 true ∷ deeds.Save v 6 (line (codes "foo")) ∷ deeds.Checkin v 6
-    ∷ deeds.Mkview (codes "x") ∷ deeds.Setcs (codes "x") by_record ∷ []))
+a_view_selects_by_the_record :
+    decisions (base_of recorded) (commands.Mkview x ∷ commands.Setcs x by_record ∷ clearmake x ∷ [])
+    ≡ Ok (Makes (deeds.Mkview x)) ∷ Ok (Makes (deeds.Setcs x by_record)) ∷ Ok (Begins (unit ∷ [])) ∷ []
+a_view_selects_by_the_record = refl
 
-the_record_decides : file_at selected_by_record (codes "x") (codes "in") ≡ Some 8
+-- the source has a newer version, and a third view selects by the record and takes the object in
+abbrev selected_by_record : Base
+selected_by_record = base_of (recorded ++ (deeds.Mkview x ∷ deeds.Setcs x by_record ∷ deeds.Wink x 10 ∷ []))
+
+the_selection_fits : is_base selected_by_record ≡ true
+the_selection_fits = refl
+
+its_build_may_reuse_the_object : reusable (first_rows 20 selected_by_record) (build_in x 20) 0 unit ≡ Some 10
+its_build_may_reuse_the_object = refl
+
+its_view_holds_nothing_yet : held_at_all (first_rows 20 selected_by_record) x (codes "out" ∷ []) ≡ None
+its_view_holds_nothing_yet = refl
+
+its_build_from_nothing : fresh (first_rows 20 selected_by_record) x None [] [] ≡ Ok built
+its_build_from_nothing = refl
+
+the_record_decides : file_at selected_by_record x (codes "in") ≡ Some 8
 the_record_decides = refl
 
 the_latest_is_newer : file_at selected_by_record w (codes "in") ≡ Some 17
 the_latest_is_newer = refl
 
-such_a_view_covers_the_record : decisions selected_by_record (commands.Covers (codes "x") w (codes "out") ∷ []) ≡ Ok (Answers (line (codes "covered"))) ∷ []
+such_a_view_covers_the_record : decisions selected_by_record (commands.Covers x w (codes "out") ∷ []) ≡ Ok (Answers (line (codes "covered"))) ∷ []
 such_a_view_covers_the_record = refl
 
 a_record_needs_a_row :

@@ -15,7 +15,9 @@ use Rattle.legal_history.specs.Catalogs.{catalog_of}
 use Rattle.legal_history.specs.Changes.{held}
 use Rattle.legal_history.specs.Decisions.{Makes, Begins}
 use Rattle.legal_history.specs.Fits.{is_base}
+use Rattle.legal_history.specs.Fresh.{fresh}
 use Rattle.legal_history.specs.Seen.{file_at, directory_at}
+use Rattle.legal_history.specs.Serials.{Made, Finished}
 use Rattle.legal_history.specs.Texts.{text}
 use Rattle.legal_history.specs.VersionNames.{line, version_name}
 use Rattle.legal_history.specs.Worked.{base_of, decisions}
@@ -69,11 +71,18 @@ first_are_decided = refl
 abbrev pub unit : Unit
 unit = record { targets = codes "out" ∷ []; prerequisites = codes "in" ∷ []; script = scripts.Lines script }
 
-abbrev clearmake : List ℕ → Command
+abbrev pub clearmake : List ℕ → Command
 clearmake view = commands.Clearmake view None false false 1 [] []
 
 first_build_begins : decisions (base_of first_deeds) (clearmake v ∷ []) ≡ Ok (Begins (unit ∷ [])) ∷ []
 first_build_begins = refl
+
+-- what the unit comes to from nothing
+abbrev pub built : List Finished
+built = record { unit = unit; outcome = Made (hi ∷ []) } ∷ []
+
+first_build_from_nothing : fresh (base_of first_deeds) v None [] [] ≡ Ok built
+first_build_from_nothing = refl
 
 -- the object that the first build publishes
 abbrev pub publish : Deed
@@ -89,12 +98,26 @@ two_views = base_of all_deeds
 all_fit : is_base two_views ≡ true
 all_fit = refl
 
+second_build_begins :
+    decisions (base_of (first_deeds ++ (publish ∷ []))) (commands.Mkview w ∷ clearmake w ∷ [])
+    ≡ Ok (Makes (deeds.Mkview w)) ∷ Ok (Begins (unit ∷ [])) ∷ []
+second_build_begins = refl
+
+second_build_from_nothing : fresh (first_rows 12 two_views) w None [] [] ≡ Ok built
+second_build_from_nothing = refl
+
+object_has_its_text : text two_views 10 (codes "out") ≡ Some hi
+object_has_its_text = refl
+
 source_is_the_version : file_at two_views w (codes "in") ≡ Some 8
 source_is_the_version = refl
 
-source_has_its_name : version_name two_views 8 ≡ codes "/main/1"
+-- the root as it was taken out, the makefile, the source, and the root as it was brought in
+versions_have_names :
+    map (version_name two_views) (0 ∷ 5 ∷ 8 ∷ 9 ∷ [])
+    ≡ codes "/main/0" ∷ codes "/main/1" ∷ codes "/main/1" ∷ codes "/main/1" ∷ []
 unfolding digits
-source_has_its_name = refl
+versions_have_names = refl
 
 source_was_a_checkout : file_at (first_rows 8 two_views) v (codes "in") ≡ Some 7
 source_was_a_checkout = refl
