@@ -1,5 +1,6 @@
 pub mod Beginning
 pub mod Closing
+pub mod Commanded
 pub mod EndSteps
 pub mod Finishing
 pub mod FoundBuilds
@@ -38,4 +39,5 @@ pub mod FoundBases
 pub mod ReadRows
 pub mod SameDeeds
 pub mod OpenedBases
+mod OpeningStep
 pub mod Appended

@@ -39,7 +39,7 @@ use Rattle.base_core.proofs.Publishing.{published, may_publish, kept_publish}
 use Rattle.base_core.proofs.UnitNotes.{outcome_noted}
 
 -- a list that holds at each place holds at this one
-all_at : {A : Type 0} (P : A → Type 0) (xs : List A) (n : ℕ) (x : A) → AllByRecursion P xs → slice_get xs n ≡ Some x → P x
+pub all_at : {A : Type 0} (P : A → Type 0) (xs : List A) (n : ℕ) (x : A) → AllByRecursion P xs → slice_get xs n ≡ Some x → P x
 all_at P [] n x all e = absurd (cc)
 all_at P (y ∷ ys) zero x all e = subst P (some_same y x e) all.0
 all_at P (y ∷ ys) (suc n) x all e = all_at P ys n x all.1 e

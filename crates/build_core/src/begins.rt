@@ -36,7 +36,6 @@ const ROW_LIMIT: u64 = 4_000_000;
 struct ViewTexts<'a> {
     rows: &'a FirstRows<'a>,
     owner: &'a Name,
-    ghost room: { length rows.now < 2 ^ 63 },
     ghost unversioned: { is_unversioned (reverse rows.now) ≡ true },
     ghost there: { IsSome (view_row (reverse rows.now) owner.now) },
 }
@@ -61,7 +60,6 @@ fn units_in(
     macros: &[Macro],
     goals: &[Path],
 ) -> Result<Vec<Unit>, Or<Refusal>>
-    requires room { length rows.now < 2 ^ 63 }
     requires unversioned { is_unversioned (reverse rows.now) ≡ true }
     requires view { IsSome (view_row (reverse rows.now) view.now) }
     requires goals { length goals.now < 2 ^ 31 }
@@ -73,7 +71,6 @@ fn units_in(
 
 /// The refusal of a build before its units are planned: there is no such view, or a build of it is active.
 fn refusal_of_view(rows: &FirstRows<'_>, view: &Name, busy: Option<Tag>) -> Option<Refusal>
-    requires { length rows.now < 2 ^ 63 }
     ensures refusal { (scene : Scene) → scene.base ≡ reverse rows.now → building scene.active view.now ≡ busy
         → result ≡ first_refusal (clearmake_tests scene view.now) }
     ensures view { IfNone result (IsSome (view_row (reverse rows.now) view.now)) }
@@ -112,7 +109,6 @@ fn begun(
     busy: Option<Tag>,
     taken: u64,
 ) -> Result<Vec<Unit>, Or<Refusal>>
-    requires rows { length rows.now < 2 ^ 63 }
     requires unversioned { is_unversioned (reverse rows.now) ≡ true }
     requires goals { length goals.now < 2 ^ 31 }
     requires taken { taken < 2 ^ 63 }

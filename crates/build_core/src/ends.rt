@@ -42,7 +42,6 @@ pub(crate) fn number_of(units: &[Unit], path: &Path) -> Option<usize>
 
 /// Whether a path is neither a unit's nor a file.
 fn is_missing(rows: &FirstRows<'_>, build: &ActiveBuild, path: &Path) -> bool
-    requires room { length rows.now < 2 ^ 63 }
     requires unversioned { is_unversioned (reverse rows.now) ≡ true }
     requires view { IsSome (view_row (reverse rows.now) build.now.view) }
     ensures { result ≡ is_missing (standing_or_file (sees_file (reverse rows.now) build.now.view path.now) (standing_of_unit build.now path.now)) }
@@ -68,7 +67,6 @@ fn first_missing<'a>(
     build: &ActiveBuild,
     paths: &'a [Path],
 ) -> Option<&'a Path>
-    requires room { length rows.now < 2 ^ 63 }
     requires unversioned { is_unversioned (reverse rows.now) ≡ true }
     requires view { IsSome (view_row (reverse rows.now) build.now.view) }
     ensures { option_copied result ≡ find (λ path. is_missing (standing_or_file (sees_file (reverse rows.now) build.now.view path) (standing_of_unit build.now path))) paths.now }
@@ -156,7 +154,6 @@ pub(crate) fn early(
     build: &ActiveBuild,
     unit: &Unit,
 ) -> Result<Option<UnitEnd>, NoMemory>
-    requires room { length rows.now < 2 ^ 63 }
     requires unversioned { is_unversioned (reverse rows.now) ≡ true }
     requires view { IsSome (view_row (reverse rows.now) build.now.view) }
     ensures { IfOk result (λ end. end ≡ early_in (reverse rows.now) build.now unit.now) }

@@ -30,7 +30,6 @@ fn rows_read(
     unit: u32,
     reads: &[Path],
 ) -> Result<BTreeMap<Path, u64>, NoMemory>
-    requires room { length rows.now < 2 ^ 63 }
     requires unversioned { is_unversioned (reverse rows.now) ≡ true }
     requires unit { unit < length build.now.units }
     requires view { IsSome (view_row (first_rows build.now.rows (reverse rows.now)) build.now.view) }
@@ -70,7 +69,6 @@ pub fn publish_row(
     outputs: List<Text>,
     reads: &[Path],
 ) -> Result<Row, NoMemory>
-    requires room { length rows.now < 2 ^ 63 }
     requires unversioned { is_unversioned (reverse rows.now) ≡ true }
     requires unit { unit < length build.now.units }
     requires view { IsSome (view_row (first_rows build.now.rows (reverse rows.now)) build.now.view) }

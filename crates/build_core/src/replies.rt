@@ -53,8 +53,7 @@ fn is_own(rows: &FirstRows<'_>, build: &ActiveBuild, id: u64) -> bool
 
 /// The word for an object that a unit was given, by its output at a path.
 fn word_of_given(rows: &FirstRows<'_>, build: &ActiveBuild, path: &Path, id: u64) -> UnitWord
-    requires room { length rows.now < 2 ^ 63 }
-    requires unversioned { is_unversioned (reverse rows.now) ≡ true }
+    requires { is_unversioned (reverse rows.now) ≡ true }
     ensures { result ≡ word_of_object (reverse rows.now) build.now (Some (Given id)) (digest_at (text (reverse rows.now) id path.now)) }
 {
     let digest = digest_at(text_of(rows, id, path));
@@ -72,8 +71,7 @@ fn word_of_end(
     path: &Path,
     end: &UnitEnd,
 ) -> Result<UnitWord, NoMemory>
-    requires room { length rows.now < 2 ^ 63 }
-    requires unversioned { is_unversioned (reverse rows.now) ≡ true }
+    requires { is_unversioned (reverse rows.now) ≡ true }
     ensures { IfOk result (λ word. word ≡ word_of_end (reverse rows.now) path.now end.now) }
 {
     match end {
@@ -92,8 +90,7 @@ fn word_of(
     unit: u32,
     path: &Path,
 ) -> Result<Option<UnitWord>, NoMemory>
-    requires room { length rows.now < 2 ^ 63 }
-    requires unversioned { is_unversioned (reverse rows.now) ≡ true }
+    requires { is_unversioned (reverse rows.now) ≡ true }
     ensures { IfOk result (λ word. word ≡ word_of_came (reverse rows.now) build.now path.now (came_to build.now unit)) }
 {
     match build.came_to(unit) {
@@ -112,8 +109,7 @@ fn push_line(
     path: &Path,
     lines: &mut Vec<UnitLine>,
 ) -> Result<(), NoMemory>
-    requires room { length rows.now < 2 ^ 63 }
-    requires unversioned { is_unversioned (reverse rows.now) ≡ true }
+    requires { is_unversioned (reverse rows.now) ≡ true }
     ensures { OnOk result (lines.new.items ≡ lines.old.items ++ line_before path.now (word_of_came (reverse rows.now) build.now path.now (came_to build.now unit)) []) }
 {
     if let Some(word) = word_of(alloc, rows, build, unit, path)? {
@@ -132,8 +128,7 @@ fn push_lines(
     targets: &[Path],
     lines: &mut Vec<UnitLine>,
 ) -> Result<(), NoMemory>
-    requires room { length rows.now < 2 ^ 63 }
-    requires unversioned { is_unversioned (reverse rows.now) ≡ true }
+    requires { is_unversioned (reverse rows.now) ≡ true }
     ensures { OnOk result (lines.new.items ≡ lines.old.items ++ lines_of (λ path. word_of_came (reverse rows.now) build.now path (came_to build.now unit)) targets.now) }
 {
     let mut rest = targets;
@@ -150,7 +145,6 @@ fn lines_of_units(
     rows: &FirstRows<'_>,
     build: &ActiveBuild,
 ) -> Result<Vec<UnitLine>, NoMemory>
-    requires room { length rows.now < 2 ^ 63 }
     requires unversioned { is_unversioned (reverse rows.now) ≡ true }
     requires few { length build.now.units < 2 ^ 32 }
     ensures { IfOk result (λ lines. lines.items ≡ lines_from (reverse rows.now) build.now 0 build.now.units) }
@@ -177,7 +171,6 @@ fn lines_of_units(
 /// their outcome. Fails where memory runs out. Takes time linear in the targets and in the outputs, and for a unit with
 /// several targets in the square of their number.
 pub fn reply_of(alloc: Global, rows: &FirstRows<'_>, build: &ActiveBuild) -> Result<Reply, NoMemory>
-    requires room { length rows.now < 2 ^ 63 }
     requires unversioned { is_unversioned (reverse rows.now) ≡ true }
     requires few { length build.now.units < 2 ^ 32 }
     ensures { IfOk result (λ reply. reply ≡ reply_of (reverse rows.now) build.now) }

@@ -29,7 +29,6 @@ struct UnitFiles<'a> {
     rows: &'a FirstRows<'a>,
     build: &'a ActiveBuild,
     unit: u32,
-    ghost room: { length rows.now < 2 ^ 63 },
     ghost unversioned: { is_unversioned (reverse rows.now) ≡ true },
     ghost within: { unit < length build.now.units },
     ghost view: { IsSome (view_row (first_rows build.now.rows (reverse rows.now)) build.now.view) },
@@ -66,7 +65,6 @@ pub fn run_unit(
     script: &Script,
     targets: &[Path],
 ) -> Result<Ended, NoMemory>
-    requires room { length rows.now < 2 ^ 63 }
     requires unversioned { is_unversioned (reverse rows.now) ≡ true }
     requires unit { unit < length build.now.units }
     requires view { IsSome (view_row (first_rows build.now.rows (reverse rows.now)) build.now.view) }

@@ -89,7 +89,6 @@ pub fn visible(
     unit: u32,
     path: &Path,
 ) -> Result<Option<u64>, NoMemory>
-    requires room { length rows.now < 2 ^ 63 }
     requires unversioned { is_unversioned (reverse rows.now) ≡ true }
     requires unit { unit < length build.now.units }
     requires view { IsSome (view_row (first_rows build.now.rows (reverse rows.now)) build.now.view) }
@@ -105,8 +104,7 @@ pub fn visible(
 
 /// What a row made at the path.
 fn found(alloc: Global, rows: &FirstRows<'_>, row: u64, path: &Path) -> Got
-    requires room { length rows.now < 2 ^ 63 }
-    requires unversioned { is_unversioned (reverse rows.now) ≡ true }
+    requires { is_unversioned (reverse rows.now) ≡ true }
     ensures { IsFetched result (standing_of (reverse rows.now) path.now row) }
 {
     let Some(bytes) = text_of(rows, row, path) else {
@@ -127,7 +125,6 @@ pub fn fetch(
     unit: u32,
     path: &Path,
 ) -> Got
-    requires room { length rows.now < 2 ^ 63 }
     requires unversioned { is_unversioned (reverse rows.now) ≡ true }
     requires unit { unit < length build.now.units }
     requires view { IsSome (view_row (first_rows build.now.rows (reverse rows.now)) build.now.view) }

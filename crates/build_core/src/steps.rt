@@ -103,7 +103,6 @@ fn next(
     build: &ActiveBuild,
     unit: &Unit,
 ) -> Result<UnitStep, NoMemory>
-    requires room { length rows.now < 2 ^ 63 }
     requires unversioned { is_unversioned (reverse rows.now) ≡ true }
     requires few { length build.now.units < 2 ^ 32 }
     requires view { IsSome (view_row (reverse rows.now) build.now.view) }
@@ -129,7 +128,6 @@ pub fn step(
     build: &ActiveBuild,
     unit: u32,
 ) -> Result<UnitStep, NoMemory>
-    requires room { length rows.now < 2 ^ 63 }
     requires unversioned { is_unversioned (reverse rows.now) ≡ true }
     requires unit { unit < length build.now.units }
     requires few { length build.now.units < 2 ^ 32 }

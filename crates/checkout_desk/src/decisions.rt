@@ -27,7 +27,6 @@ pub fn decide(
     busy: Option<Tag>,
     room: u64,
 ) -> Result<Row, Or<Refusal>>
-    requires rows { length rows.now < 2 ^ 63 }
     requires unversioned { is_unversioned (reverse rows.now) ≡ true }
     requires carried_out { is_carried_out command.now ≡ true }
     requires formed { IsCommand 16777216 command.now }

@@ -46,7 +46,6 @@ fn saves_at(
     view: &Name,
     path: &Path,
 ) -> Result<Option<Refusal>, NoMemory>
-    requires rows { length rows.now < 2 ^ 63 }
     requires unversioned { is_unversioned (reverse rows.now) ≡ true }
     requires view { IsSome (view_row (reverse rows.now) view.now) }
     requires below { IsBelowRoot path.now }
@@ -71,7 +70,6 @@ fn save_refusal(
     busy: Option<Tag>,
     room: u64,
 ) -> Result<Option<Refusal>, NoMemory>
-    requires rows { length rows.now < 2 ^ 63 }
     requires unversioned { is_unversioned (reverse rows.now) ≡ true }
     requires below { IsBelowRoot path.now }
     ensures refusal { IfOk result (λ refusal. (scene : Scene) (now : ℕ) → Sees scene (reverse rows.now) now view.now busy room
@@ -109,7 +107,6 @@ pub fn save(
     busy: Option<Tag>,
     room: u64,
 ) -> Result<Row, Or<Refusal>>
-    requires rows { length rows.now < 2 ^ 63 }
     requires unversioned { is_unversioned (reverse rows.now) ≡ true }
     requires below { IsBelowRoot path.now }
     requires short { length text.now ≤ 16777216 }

@@ -20,7 +20,6 @@ use view_lookup::{FirstRows, view_row};
 
 /// The first refusal of `mkview V`, its room included.
 fn mkview_refusal(rows: &FirstRows<'_>, view: &Name, room: u64) -> Option<Refusal>
-    requires { length rows.now < 2 ^ 63 }
     ensures refusal { (scene : Scene) (moment : ℕ) (other : List ℕ) (busy : Option Tag) → Sees scene (reverse rows.now) moment other busy room
         → result ≡ first_refusal (mkview_tests scene view.now ++ needs_room scene 1 ∷ []) }
     ensures room { IfNone result (0 < room) }
@@ -39,8 +38,7 @@ pub fn mkview(
     stamp: Stamp,
     room: u64,
 ) -> Result<Row, Or<Refusal>>
-    requires rows { length rows.now < 2 ^ 63 }
-    requires in_time { stamp.moment ≤ 253402300799 }
+    requires { stamp.moment ≤ 253402300799 }
     ensures decided { (scene : Scene) (now : ℕ) (other : List ℕ) (busy : Option Tag) → Sees scene (reverse rows.now) now other busy room
         → Decides stamp.tag stamp.moment result (mkview scene view.now) }
     ensures plain { IfOk result (λ row. is_plain_deed row.deed ≡ true) }
