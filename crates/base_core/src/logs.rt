@@ -190,6 +190,7 @@ impl<D: Disk> Log<D> {
         self.rows.reserve(1)?;
         self.steps.reserve(2)?;
         let tag = row.tag();
+        let _deed = row.deed();
         let number = self.rows.len() as u64 + 1;
         let before = self.journal.counts().faults;
         if let Ok(tick) = self.journal.append(&frame) {
