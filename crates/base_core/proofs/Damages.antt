@@ -1,14 +1,13 @@
 -- The journal of a base of readable rows is damaged nowhere, and is that of no other base.
-use Rattle.std.proofs.Common.{◌≡◌, ℕ, ◌+◌, ◌<◌, ◌≤◌, ◌^◌, ◌⊎◌, inl, inr, true, List, [], ◌∷◌, ◌++◌, length, length-append, refl, sym, ap, ap₂, subst, ◌∙◌, arith}
+use Rattle.std.proofs.Common.{◌≡◌, ℕ, ◌⊎◌, inl, inr, true, List, [], ◌∷◌, ◌++◌, length, length-append, refl, sym, ap, ap₂, subst, ◌∙◌, arith}
 use Rattle.std.specs.Prelude.{reverse}
-use Rattle.cc_names.specs.Formed.{Plain, IsFormed, IsLong}
+use Rattle.cc_names.specs.Formed.{Plain, IsLong}
 use Rattle.disk_model.specs.Devices.{bytes_of}
 use Rattle.disk_model.specs.Told.{Sight, IfTold}
 use Rattle.legal_history.specs.Base.{Base, size}
 use Rattle.legal_history.specs.Fits.{fits, is_base}
 use Rattle.row_form.specs.Fields.{word, long}
 use Rattle.row_form.specs.Peeling.{peel_byte, peel_word, peel_long}
-use Rattle.row_form.specs.Reading.{IsKnown}
 use Rattle.row_form.specs.Spelled.{spelled, first_byte, code_of, fields_of}
 use Rattle.vob_journal.specs.Frames.{frames}
 use Rattle.vob_journal.proofs.Telling.{told_map}
@@ -49,9 +48,9 @@ which_front (p ∷ xs) (q ∷ ys) r s x y e =
     elim (which_front xs ys r s x y tail) [
       | inl same ↦ inl (ap₂ (λ a b. a ∷ b) head same.0, same.1)
       | inr other ↦ elim other [
-          | inl goes ↦ inr (inl (goes.0, ap₂ (λ a b. a ∷ b) (sym head) goes.1))
-          | inr goes ↦ inr (inr (goes.0, ap₂ (λ a b. a ∷ b) head goes.1))
-        ]
+        | inl goes ↦ inr (inl (goes.0, ap₂ (λ a b. a ∷ b) (sym head) goes.1))
+        | inr goes ↦ inr (inr (goes.0, ap₂ (λ a b. a ∷ b) head goes.1))
+      ]
     ]
 
 -- a front does not go on behind its last payload

@@ -1,24 +1,23 @@
 -- Whatever a stop may find of a legal story is a base, whose rows are of the kind of those that the story names.
-use Rattle.std.proofs.Common.{◌≡◌, ℕ, ◌+◌, ◌<◌, ◌≤◌, ◌⊎◌, inl, inr, true, false, Option, Some, None, List, [], ◌∷◌, ◌++◌, refl, ap, sym, subst, ◌∙◌, arith}
+use Rattle.std.proofs.Common.{◌≡◌, ℕ, ◌+◌, ◌<◌, ◌⊎◌, inl, inr, true, false, Option, Some, None, List, [], ◌∷◌, ◌++◌, refl, ap, sym, subst, ◌∙◌, arith}
 use Rattle.std.proofs.Common.{append_assoc}
 use Rattle.std.proofs.lemmas.List.{append-nil}
 use Rattle.std.specs.List.{AllByRecursion}
 use Rattle.std.specs.Prelude.{IfSome, is_some, reverse}
 use Rattle.cc_names.specs.declared.rows.Tag.{Tag}
 use Rattle.cc_names.specs.Formed.{Plain}
-use Rattle.cc_names.specs.declared.steps.Step.{Step}
 use Rattle.cc_names.specs.declared.steps.Step.TheVariants as steps
 use Rattle.cc_names.specs.declared.steps.Told.{Told}
 use Rattle.cc_names.specs.declared.steps.Told.TheVariants as told
 use Rattle.legal_history.specs.Base.{Base}
 use Rattle.legal_history.specs.Fits.{is_base}
 use Rattle.legal_history.specs.States.{State, Opening, End, Committed, Faulted, start, ticks_of, hanging}
-use Rattle.legal_history.specs.Steps.{after, state_of, state_from}
+use Rattle.legal_history.specs.Steps.{after, state_of}
 use Rattle.legal_history.specs.Stories.{Legal, LegalFrom, Lawful, MayCommit, Leaves}
 use Rattle.base_core.specs.Founds.{OpensAgain, SpellsBase}
 use Rattle.base_core.specs.Opening.{IsUndamaged}
 use Rattle.base_core.specs.Readable.{IsReadable, NamesOnly, TellsOnly}
-use Rattle.base_core.specs.Standing.{payloads, with_left, base_by, left_after, left_within, StandsFor, MayBeFound}
+use Rattle.base_core.specs.Standing.{payloads, base_by, left_after, left_within, StandsFor, MayBeFound}
 use Rattle.legal_history.proofs.Fronts.{first_opens}
 use Rattle.base_core.proofs.Damages.{same_base, undamaged}
 use Rattle.base_core.proofs.Growing.{state_from-more, legal_more}
