@@ -36,6 +36,21 @@ hangs_from P s (told.Commit row tick ∷ story) hangs h = hangs_from P (after s 
 hangs_from P s (told.Other (steps.Fault tag left before faults tick) ∷ story) hangs h = hangs_from P (after s (told.Other (steps.Fault tag left before faults tick))) story h.0 h.1
 hangs_from P s (told.Other step ∷ story) hangs h = hangs_from P (after s (told.Other step)) story hangs h.1
 
+pub hanging_named : (P : Plain → Type 0) (story : List Told) → TellsOnly P story → IfSome (hanging (state_of story).ends) P
+hanging_named P story h = hangs_from P start story tt h
+
+-- and so is each row of the base
+rows_from : (P : Plain → Type 0) (s : State) (story : List Told) → AllByRecursion P s.base → TellsOnly P story → AllByRecursion P (state_from s story).base
+rows_from P s [] rows h = rows
+rows_from P s (told.Opened opened counts tells ∷ story) rows h = rows_from P (after s (told.Opened opened counts tells)) story h.0 h.1
+rows_from P s (told.Plan phase moment ∷ story) rows h = rows_from P (after s (told.Plan phase moment)) story rows h.1
+rows_from P s (told.Commit row tick ∷ story) rows h = rows_from P (after s (told.Commit row tick)) story (h.0, rows) h.1
+rows_from P s (told.Other (steps.Fault tag left before faults tick) ∷ story) rows h = rows_from P (after s (told.Other (steps.Fault tag left before faults tick))) story rows h.1
+rows_from P s (told.Other step ∷ story) rows h = rows_from P (after s (told.Other step)) story rows h.1
+
+pub base_named : (P : Plain → Type 0) (story : List Told) → TellsOnly P story → AllByRecursion P (state_of story).base
+base_named P story h = rows_from P start story tt h
+
 -- what a fault left is the row that was to be committed, or one that the story names
 left_by : (P : Plain → Type 0) (s : State) (row : Plain) (left : Option Plain) → MayLeave s row left → P row → IfSome (hanging s.ends) P → IfSome left P
 left_by P s row None leaves one hangs = tt
@@ -43,7 +58,7 @@ left_by P s row (Some left) (inl own) one hangs = subst P (sym own) one
 left_by P s row (Some left) (inr earlier) one hangs = subst (λ o. IfSome o P) earlier hangs
 
 pub left_named : (P : Plain → Type 0) (story : List Told) (row : Plain) (left : Option Plain) → MayLeave (state_of story) row left → P row → TellsOnly P story → IfSome left P
-left_named P story row left leaves one h = left_by P (state_of story) row left leaves one (hangs_from P start story tt h)
+left_named P story row left leaves one h = left_by P (state_of story) row left leaves one (hanging_named P story h)
 
 -- rows of the deeds that commands make are read
 pub plain_known : (deed : Deed) → is_plain_deed deed ≡ true → IsKnown deed

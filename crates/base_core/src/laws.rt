@@ -1,10 +1,10 @@
 // The laws of stops and of journals.
 
-ghost use Rattle.std.specs.Prelude.{◌≡◌, ℕ, List, Some, true};
+ghost use Rattle.std.specs.Prelude.{◌≡◌, ℕ, IfSome, List, Some, true};
 ghost use Rattle.cc_names.specs.declared.steps.Told.{Told};
 ghost use Rattle.legal_history.specs.Base.{Base};
 ghost use Rattle.legal_history.specs.Fits.{is_base};
-ghost use Rattle.legal_history.specs.States.{Opening};
+ghost use Rattle.legal_history.specs.States.{Opening, hanging};
 ghost use Rattle.legal_history.specs.Steps.{state_of};
 ghost use Rattle.legal_history.specs.Stories.{Legal};
 ghost use Rattle.base_core.specs.Founds.{OpensAgain, SpellsBase};
@@ -31,6 +31,12 @@ pub fn a_base_is_undamaged()
 /// One frame of a journal at most is damaged.
 pub fn a_journal_is_damaged_once()
     ensures { (list : List (List ℕ)) (m n : ℕ) → IsDamaged list m → IsDamaged list n → m ≡ n }
+{}
+
+/// The base of a story that names only readable rows is one of readable rows, and what a fault left behind it is readable.
+pub fn a_story_keeps_its_base_readable()
+    ensures base { (story : List Told) → TellsOnly IsReadable story → AreReadable (state_of story).base }
+    ensures left { (story : List Told) → TellsOnly IsReadable story → IfSome (hanging (state_of story).ends) IsReadable }
 {}
 
 /// Whatever a stop may find of a legal story that names only readable rows opens again, without damage and to one base: that
