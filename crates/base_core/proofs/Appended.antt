@@ -3,7 +3,7 @@ use Rattle.std.proofs.Common.{◌≡◌, ℕ, ◌+◌, ◌<◌, ◌≤◌, ◌^�
 use Rattle.std.proofs.Common.{append_assoc}
 use Rattle.std.specs.Option.{option_to_list}
 use Rattle.std.specs.Prelude.{IfSome}
-use Rattle.cc_names.specs.Formed.{Plain}
+use Rattle.cc_names.specs.Formed.{Plain, IsFormed}
 use Rattle.cc_names.specs.declared.commands.Phase.{Phase}
 use Rattle.cc_names.specs.declared.rows.Tag.{Tag}
 use Rattle.cc_names.specs.declared.steps.Step.{Step}
@@ -68,24 +68,26 @@ some_calls true = omega arith
 some_calls false = omega arith
 
 -- the row was committed
-pub is_committed : (on : Handed) (kept more : List Step) (rows grown : List Plain) (phases : List Phase) (tag : Tag) (number tick calls : ℕ) (row : Plain) (old new : Sight) (list loose : List (List ℕ)) (ended : Bool) (left : Left) → IsLogged on kept rows phases old list loose ended left → more ≡ kept ++ steps.Commit tag number tick ∷ [] → grown ≡ rows ++ row ∷ [] → tick ≡ new.ticks → new.ticks ≡ old.ticks + calls → 1 ≤ calls → new.faults ≡ old.faults → IsCommitted (shown on kept rows phases old) (shown on more grown phases new) row
-is_committed on kept more rows grown phases tag number tick calls row old new list loose ended left h e g at spent some same = record {
+pub is_committed : (on : Handed) (kept more : List Step) (rows grown : List Plain) (phases : List Phase) (tag : Tag) (number tick calls : ℕ) (row : Plain) (old new : Sight) (list loose : List (List ℕ)) (ended : Bool) (left : Left) → IsLogged on kept rows phases old list loose ended left → more ≡ kept ++ steps.Commit tag number tick ∷ [] → grown ≡ rows ++ row ∷ [] → tick ≡ new.ticks → new.ticks ≡ old.ticks + calls → 1 ≤ calls → new.faults ≡ old.faults → IsFormed row → IsCommitted (shown on kept rows phases old) (shown on more grown phases new) row
+is_committed on kept more rows grown phases tag number tick calls row old new list loose ended left h e g at spent some same formed = record {
   tick = tick;
   sight = new;
+  formed = formed;
   grows = shown_row on kept more rows grown phases tag number tick row old new h.told e g;
   ticked = rises_more _ tick (omega (arith, h.backed.ticks, at, spent, some));
   faults = same;
 }
 
 -- the disk failed
-pub is_faulted : (on : Handed) (kept more : List Step) (rows : List Plain) (phases : List Phase) (tag : Tag) (row : Plain) (earlier found : Option Plain) (before faults tick : ℕ) (ending : Option Step) (old new : Sight) (list loose : List (List ℕ)) (ended : Bool) (left left' : Left) → tag ≡ row.tag → IfSome ending IsQuiet → IsLogged on kept rows phases old list loose ended left → more ≡ kept ++ fault_step tag found before faults tick ∷ option_to_list ending → earlier ≡ left_in kept → LeftSo earlier row left' found → tick ≡ new.ticks → faults ≡ new.faults → before ≡ old.faults → raised old.ticks ≤ new.ticks → new.faults ≡ raised old.faults → IsCounted old → IsCounted new → IsFaulted (shown on kept rows phases old) (shown on more rows phases new) row ending
-is_faulted on kept more rows phases tag row earlier found before faults tick ending old new list loose ended left left' tagged quiet h e copied so at counts was spent rose counted counted' =
+pub is_faulted : (on : Handed) (kept more : List Step) (rows : List Plain) (phases : List Phase) (tag : Tag) (row : Plain) (earlier found : Option Plain) (before faults tick : ℕ) (ending : Option Step) (old new : Sight) (list loose : List (List ℕ)) (ended : Bool) (left left' : Left) → tag ≡ row.tag → IfSome ending IsQuiet → IsLogged on kept rows phases old list loose ended left → more ≡ kept ++ fault_step tag found before faults tick ∷ option_to_list ending → earlier ≡ left_in kept → LeftSo earlier row left' found → tick ≡ new.ticks → faults ≡ new.faults → before ≡ old.faults → raised old.ticks ≤ new.ticks → new.faults ≡ raised old.faults → IsCounted old → IsCounted new → IsFormed row → IsFaulted (shown on kept rows phases old) (shown on more rows phases new) row ending
+is_faulted on kept more rows phases tag row earlier found before faults tick ending old new list loose ended left left' tagged quiet h e copied so at counts was spent rose counted counted' formed =
     let s = state_of (story_of on kept rows phases) in record {
       left = found;
       before = before;
       faults = faults;
       tick = tick;
       sight = new;
+      formed = formed;
       grows = shown_faulted on kept more rows phases tag found before faults tick ending old new h.told quiet e
           ∙ ap (λ t. with_ending (with_step_on (shown on kept rows phases old) (fault_step t found before faults tick) new) ending) tagged;
       rose = rises_raised before old.faults faults (omega (arith, was)) counted.faults (omega (arith, counts, rose)) (omega (arith, counts, counted'.faults));

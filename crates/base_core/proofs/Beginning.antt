@@ -13,9 +13,11 @@ use Rattle.legal_history.specs.Steps.{state_of}
 use Rattle.legal_history.specs.Stories.{last_moment}
 use Rattle.base_core.specs.Kept.{last_phase, replies_at, command_limit, Agrees, IsKept}
 use Rattle.base_core.specs.Logs.{Logged, with_phase}
+use Rattle.base_core.specs.Readable.{IsReadable}
 use Rattle.base_core.specs.Replying.{no_replies}
 use Rattle.base_core.proofs.Growing.{state_from-more, legal_more, replies_from-more}
 use Rattle.base_core.proofs.Idle.{nobody_builds}
+use Rattle.base_core.proofs.Naming.{names_more}
 use Rattle.base_core.proofs.Phases.{last_phase-more}
 
 -- lanes that have no replies yet
@@ -52,6 +54,7 @@ kept_plan log lanes fresh builds none now moment phase h finished formed carried
       formed = subst (IsPhase command_limit) (sym last) formed;
       carried_out = subst AreCarriedOut (sym last) carried;
       unversioned = h.unversioned;
+      readable = names_more IsReadable story x h.readable tt;
       room = h.room;
       few = omega (arith, few, length-append log.phases (phase ∷ []));
       in_time = in_time;

@@ -5,7 +5,7 @@ use Rattle.std.proofs.lemmas.List.{append-nil, length-set, set-set}
 use Rattle.std.specs.Ordering.{nat_cmp}
 use Rattle.std.specs.FinMap.Entries.{put}
 use Rattle.std.specs.Prelude.{is_some}
-use Rattle.cc_names.specs.Formed.{Plain}
+use Rattle.cc_names.specs.Formed.{Plain, IsFormed}
 use Rattle.cc_names.specs.declared.replies.Reply.{Reply}
 use Rattle.cc_names.specs.declared.replies.Reply.TheVariants as replies
 use Rattle.cc_names.specs.declared.rows.ReadOf.{ReadOf}
@@ -28,6 +28,7 @@ use Rattle.base_core.specs.Building.{IsBuildKept}
 use Rattle.base_core.specs.Going.{Finishes}
 use Rattle.base_core.specs.Kept.{last_phase, replies_at, with_reply, AreReplies, IsKept}
 use Rattle.base_core.specs.Logs.{Logged, with_step, with_step_on}
+use Rattle.base_core.specs.Readable.{IsReadable}
 use Rattle.base_core.specs.Replying.{in_lane, reply_to_fault, reply_to_end, replies_of}
 use Rattle.base_core.proofs.Closing.{build_is_by}
 use Rattle.base_core.proofs.Faulting.{leaves_so}
@@ -37,8 +38,9 @@ use Rattle.base_core.proofs.Growing.{state_from-more, legal_more}
 use Rattle.base_core.proofs.Idle.{not_both}
 use Rattle.base_core.proofs.Lanes.{one_or_two, done_same, done_other}
 use Rattle.base_core.proofs.LaneSlots.{found_put, lane_slot}
+use Rattle.base_core.proofs.Naming.{left_named, names_more}
 use Rattle.base_core.proofs.Noting.{same_replies}
-use Rattle.base_core.proofs.ObjectSteps.{object_may}
+use Rattle.base_core.proofs.ObjectSteps.{object_known, object_may}
 use Rattle.base_core.proofs.Reserving.{found_set, found_other, reserved_set}
 use Rattle.base_core.proofs.Staying.{build_stays}
 
@@ -62,8 +64,8 @@ abbrev pub broken_log : Logged → Tag → Option Plain → ℕ → ℕ → ℕ 
 broken_log log tag left before faults tick sight = with_step (with_step_on log (steps.Fault tag left before faults tick) sight) (steps.End tag)
 
 -- what is kept then
-pub kept_broken : (log : Logged) (lanes : List (List Reply)) (builds : List (Option Build)) (now lane : ℕ) (build : Build) (row : Plain) (left : Option Plain) (before faults tick : ℕ) (sight : Sight) → rises before faults ≡ true → faults_of (state_of log.story).opened (state_of log.story).ends ≤ before → MayLeave (state_of log.story) row left → rises (ticks_of (state_of log.story).opened (state_of log.story).ends) tick ≡ true → IsKept log lanes builds now → 1 ≤ lane → lane ≤ length lanes → build_of (state_of log.story).active lane ≡ Some build → row.tag ≡ next_tag (state_of log.story) lane → MayCommit (state_of log.story) row → IsKept (broken_log log (next_tag (state_of log.story) lane) left before faults tick sight) (with_reply lanes lane replies.DiskFault) (set builds (lane - 1) None) now
-kept_broken log lanes builds now lane build row left before faults tick sight rose later leaves ticked h low high is tagged may = record {
+pub kept_broken : (log : Logged) (lanes : List (List Reply)) (builds : List (Option Build)) (now lane : ℕ) (build : Build) (row : Plain) (left : Option Plain) (before faults tick : ℕ) (sight : Sight) → rises before faults ≡ true → faults_of (state_of log.story).opened (state_of log.story).ends ≤ before → MayLeave (state_of log.story) row left → rises (ticks_of (state_of log.story).opened (state_of log.story).ends) tick ≡ true → IsKept log lanes builds now → 1 ≤ lane → lane ≤ length lanes → build_of (state_of log.story).active lane ≡ Some build → row.tag ≡ next_tag (state_of log.story) lane → MayCommit (state_of log.story) row → IsReadable row → IsKept (broken_log log (next_tag (state_of log.story) lane) left before faults tick sight) (with_reply lanes lane replies.DiskFault) (set builds (lane - 1) None) now
+kept_broken log lanes builds now lane build row left before faults tick sight rose later leaves ticked h low high is tagged may readable = record {
   legal = legal_more start story' end (legal_more start story fault h.legal lawful) (subst (λ t. EndsBuild t tag) (sym state1) ends);
   agrees = record {
     opened = ap (λ t. is_some t.opened) state2 ∙ h.agrees.opened;
@@ -82,6 +84,7 @@ kept_broken log lanes builds now lane build row left before faults tick sight ro
   formed = h.formed;
   carried_out = h.carried_out;
   unversioned = h.unversioned;
+  readable = names_more IsReadable story' end (names_more IsReadable story fault h.readable (left_named IsReadable story row left leaves readable h.readable)) tt;
   room = h.room;
   few = h.few;
   in_time = h.in_time;
@@ -180,15 +183,16 @@ broken_finishes log story lane build tag left before faults tick sight same is t
         ∙ ap (λ t. record s1 { done = with_done s.done t.lane; active = without_build s1.active t.lane }) tagged
 
 -- what is kept where the row of what a unit's run gave was not committed
-pub kept_broken_object : (log : Logged) (lanes : List (List Reply)) (builds : List (Option Build)) (now : ℕ) (story : List Told) (lane n : ℕ) (row : Plain) (tag : Tag) (left : Option Plain) (before faults tick : ℕ) (sight : Sight) → rises before faults ≡ true → faults_of (state_of log.story).opened (state_of log.story).ends ≤ before → MayLeave (state_of log.story) row left → rises (ticks_of (state_of log.story).opened (state_of log.story).ends) tick ≡ true → log.story ≡ story → IsKept log lanes builds now → IsObjectRow (state_of story) lane n row → tag ≡ next_tag (state_of story) lane → ((told : List Told) (l : ℕ) (b : Build) → Legal told → build_of (state_of told).active l ≡ Some b → AgreesSoFar (state_of told).base b) → IsKept (with_step (with_step_on log (steps.Fault row.tag left before faults tick) sight) (steps.End tag)) (with_reply lanes lane replies.DiskFault) (set builds (lane - 1) None) now
-kept_broken_object log lanes builds now story lane n row tag left before faults tick sight rose later leaves ticked same h object tagged agree =
+pub kept_broken_object : (log : Logged) (lanes : List (List Reply)) (builds : List (Option Build)) (now : ℕ) (story : List Told) (lane n : ℕ) (row : Plain) (tag : Tag) (left : Option Plain) (before faults tick : ℕ) (sight : Sight) → rises before faults ≡ true → faults_of (state_of log.story).opened (state_of log.story).ends ≤ before → MayLeave (state_of log.story) row left → rises (ticks_of (state_of log.story).opened (state_of log.story).ends) tick ≡ true → log.story ≡ story → IsKept log lanes builds now → IsObjectRow (state_of story) lane n row → tag ≡ next_tag (state_of story) lane → ((told : List Told) (l : ℕ) (b : Build) → Legal told → build_of (state_of told).active l ≡ Some b → AgreesSoFar (state_of told).base b) → IsFormed row → IsKept (with_step (with_step_on log (steps.Fault row.tag left before faults tick) sight) (steps.End tag)) (with_reply lanes lane replies.DiskFault) (set builds (lane - 1) None) now
+kept_broken_object log lanes builds now story lane n row tag left before faults tick sight rose later leaves ticked same h object tagged agree formed =
     let s = state_of log.story in
     let here : IsObjectRow s lane n row = subst (λ t. IsObjectRow (state_of t) lane n row) (sym same) object in
     let slot = lane_slot log lanes builds now lane here.build h here.active in
     let of_tag : tag ≡ next_tag s lane = tagged ∙ ap (λ t. next_tag (state_of t) lane) (sym same) in
     subst (λ t. IsKept (with_step (with_step_on log (steps.Fault row.tag left before faults tick) sight) (steps.End t)) (with_reply lanes lane replies.DiskFault) (set builds (lane - 1) None) now) (sym of_tag)
     (subst (λ t. IsKept (with_step (with_step_on log (steps.Fault t left before faults tick) sight) (steps.End (next_tag s lane))) (with_reply lanes lane replies.DiskFault) (set builds (lane - 1) None) now) (sym here.of_tag)
-    (kept_broken log lanes builds now lane here.build row left before faults tick sight rose later leaves ticked h slot.from (omega (arith, slot.upto, h.count)) here.active here.of_tag (object_may log lanes builds now lane n row h here agree)))
+    (kept_broken log lanes builds now lane here.build row left before faults tick sight rose later leaves ticked h slot.from (omega (arith, slot.upto, h.count)) here.active here.of_tag (object_may log lanes builds now lane n row h here agree)
+    (record { formed = formed; known = object_known s lane n row here })))
 
 -- how the story went on
 pub broken_object_finishes : (log : Logged) (lanes : List (List Reply)) (builds : List (Option Build)) (now : ℕ) (story : List Told) (lane n : ℕ) (row : Plain) (tag : Tag) (left : Option Plain) (before faults tick : ℕ) (sight : Sight) → log.story ≡ story → IsKept log lanes builds now → IsObjectRow (state_of story) lane n row → tag ≡ next_tag (state_of story) lane → Finishes story (with_step (with_step_on log (steps.Fault row.tag left before faults tick) sight) (steps.End tag)).story lane

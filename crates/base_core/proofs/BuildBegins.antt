@@ -20,10 +20,12 @@ use Rattle.legal_history.specs.Steps.{begun, state_of, with_build}
 use Rattle.base_core.specs.Building.{IsBuildKept}
 use Rattle.base_core.specs.Kept.{IsKept}
 use Rattle.base_core.specs.Logs.{Logged, with_step}
+use Rattle.base_core.specs.Readable.{IsReadable}
 use Rattle.base_core.specs.Replying.{replies_of}
 use Rattle.base_core.proofs.Growing.{state_from-more, legal_more}
 use Rattle.base_core.proofs.Idle.{build_in_slot, decided_is_free, some_same}
 use Rattle.base_core.proofs.Lanes.{one_or_two}
+use Rattle.base_core.proofs.Naming.{names_more}
 use Rattle.base_core.proofs.Noting.{same_replies}
 use Rattle.base_core.proofs.Reserving.{found_set, found_other, reserved_set, rows_for}
 use Rattle.base_core.proofs.Staying.{build_stays}
@@ -47,6 +49,7 @@ kept_begin log lanes builds now tag build h low high made begins kept room = rec
   formed = h.formed;
   carried_out = h.carried_out;
   unversioned = h.unversioned;
+  readable = names_more IsReadable story x h.readable tt;
   room = h.room;
   few = h.few;
   in_time = h.in_time;

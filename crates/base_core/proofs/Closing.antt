@@ -19,11 +19,13 @@ use Rattle.legal_history.specs.Turns.{is_complete}
 use Rattle.base_core.specs.Building.{IsBuildKept}
 use Rattle.base_core.specs.Kept.{last_phase, replies_at, with_reply, IsKept}
 use Rattle.base_core.specs.Logs.{Logged, with_step}
+use Rattle.base_core.specs.Readable.{IsReadable}
 use Rattle.base_core.specs.Replying.{in_lane, reply_to_end, replies_of}
 use Rattle.base_core.proofs.Finishing.{finished}
 use Rattle.base_core.proofs.Growing.{state_from-more, legal_more}
 use Rattle.base_core.proofs.Idle.{not_both}
 use Rattle.base_core.proofs.Lanes.{one_or_two, done_other}
+use Rattle.base_core.proofs.Naming.{names_more}
 use Rattle.base_core.proofs.NextCommands.{same_as_itself}
 use Rattle.base_core.proofs.Reserving.{found_set, found_other, reserved_set}
 use Rattle.base_core.proofs.Staying.{build_stays}
@@ -54,6 +56,7 @@ kept_end log lanes builds now lane build h low high is over = record {
   formed = h.formed;
   carried_out = h.carried_out;
   unversioned = h.unversioned;
+  readable = names_more IsReadable story x h.readable tt;
   room = h.room;
   few = h.few;
   in_time = h.in_time;

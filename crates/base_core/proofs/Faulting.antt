@@ -2,7 +2,7 @@
 use Rattle.std.proofs.Common.{◌≡◌, ◌≢◌, ℕ, ◌+◌, ◌-◌, ◌≤◌, inl, inr, true, Option, Some, None, Ok, List, [], ◌∷◌, ◌++◌, length, refl, ap, sym, subst, ◌∙◌, arith}
 use Rattle.std.proofs.lemmas.List.{length-set}
 use Rattle.std.specs.Prelude.{option_and_then}
-use Rattle.cc_names.specs.Formed.{Plain}
+use Rattle.cc_names.specs.Formed.{Plain, IsFormed}
 use Rattle.cc_names.specs.declared.replies.Reply.{Reply}
 use Rattle.cc_names.specs.declared.replies.Reply.TheVariants as replies
 use Rattle.cc_names.specs.declared.rows.Tag.{Tag}
@@ -22,10 +22,12 @@ use Rattle.base_core.specs.Acting.{Acts, IsNextRow}
 use Rattle.base_core.specs.Appending.{MayLeave}
 use Rattle.base_core.specs.Kept.{last_phase, replies_at, with_reply, Agrees, IsKept}
 use Rattle.base_core.specs.Logs.{Logged, with_step_on}
+use Rattle.base_core.specs.Readable.{IsReadable}
 use Rattle.base_core.specs.Replying.{in_lane, reply_to_fault, replies_of}
 use Rattle.base_core.proofs.Finishing.{finished, others_kept}
 use Rattle.base_core.proofs.Growing.{state_from-more, legal_more}
 use Rattle.base_core.proofs.Idle.{decided_is_free}
+use Rattle.base_core.proofs.Naming.{left_named, names_more, readable_plain}
 use Rattle.base_core.proofs.PlainRows.{makes_row}
 
 -- what a fault left is what it may leave
@@ -35,8 +37,8 @@ leaves_so s row (Some left) may (inl e) = inl (ap (λ r. r.tag) e, subst (MayCom
 leaves_so s row (Some left) may (inr e) = inr e
 
 -- what is kept then
-pub kept_fault : (log : Logged) (lanes : List (List Reply)) (builds : List (Option Build)) (now : ℕ) (row : Plain) (left : Option Plain) (before faults tick : ℕ) (sight : Sight) → rises before faults ≡ true → faults_of (state_of log.story).opened (state_of log.story).ends ≤ before → MayLeave (state_of log.story) row left → rises (ticks_of (state_of log.story).opened (state_of log.story).ends) tick ≡ true → IsKept log lanes builds now → is_plain_deed row.deed ≡ true → row.moment ≡ now → decided (state_of log.story) row.tag ≡ Some (Ok (Makes row.deed)) → 1 ≤ row.tag.lane → row.tag.lane ≤ length lanes → IsKept (with_step_on log (steps.Fault row.tag left before faults tick) sight) (with_reply lanes row.tag.lane replies.DiskFault) builds now
-kept_fault log lanes builds now row left before faults tick sight rose later leaves ticked h plain in_time made low high =
+pub kept_fault : (log : Logged) (lanes : List (List Reply)) (builds : List (Option Build)) (now : ℕ) (row : Plain) (left : Option Plain) (before faults tick : ℕ) (sight : Sight) → rises before faults ≡ true → faults_of (state_of log.story).opened (state_of log.story).ends ≤ before → MayLeave (state_of log.story) row left → rises (ticks_of (state_of log.story).opened (state_of log.story).ends) tick ≡ true → IsKept log lanes builds now → is_plain_deed row.deed ≡ true → row.moment ≡ now → decided (state_of log.story) row.tag ≡ Some (Ok (Makes row.deed)) → 1 ≤ row.tag.lane → row.tag.lane ≤ length lanes → IsFormed row → IsKept (with_step_on log (steps.Fault row.tag left before faults tick) sight) (with_reply lanes row.tag.lane replies.DiskFault) builds now
+kept_fault log lanes builds now row left before faults tick sight rose later leaves ticked h plain in_time made low high formed =
     record {
       legal = legal_more start story x h.legal (record { wanted = record { row = row; of_tag = refl; may = may }; rose = rose; later = later; leaves = leaves_so s row left may leaves; ticked = ticked });
       agrees = subst (λ t. Agrees t log.rows log.phases builds now) (sym (state_from-more start story x))
@@ -56,6 +58,7 @@ kept_fault log lanes builds now row left before faults tick sight rose later lea
       formed = h.formed;
       carried_out = h.carried_out;
       unversioned = h.unversioned;
+      readable = names_more IsReadable story x h.readable (left_named IsReadable story row left leaves (readable_plain row formed plain) h.readable);
       room = h.room;
       few = h.few;
       in_time = h.in_time;
@@ -83,12 +86,12 @@ kept_fault log lanes builds now row left before faults tick sight rose later lea
     active = ap (faulted_in s.active row.tag.lane) no_build
 
 -- what is kept after a fault under a lane's next command
-pub kept_next_fault : (log : Logged) (lanes : List (List Reply)) (builds : List (Option Build)) (now : ℕ) (story : List Told) (row : Plain) (lane : ℕ) (left : Option Plain) (before faults tick : ℕ) (sight : Sight) → rises before faults ≡ true → faults_of (state_of log.story).opened (state_of log.story).ends ≤ before → MayLeave (state_of log.story) row left → rises (ticks_of (state_of log.story).opened (state_of log.story).ends) tick ≡ true → log.story ≡ story → lane ≡ row.tag.lane → IsKept log lanes builds now → IsNextRow (state_of story) row → IsKept (with_step_on log (steps.Fault row.tag left before faults tick) sight) (with_reply lanes lane replies.DiskFault) builds now
-kept_next_fault log lanes builds now story row lane left before faults tick sight rose later leaves ticked same at_lane h next =
+pub kept_next_fault : (log : Logged) (lanes : List (List Reply)) (builds : List (Option Build)) (now : ℕ) (story : List Told) (row : Plain) (lane : ℕ) (left : Option Plain) (before faults tick : ℕ) (sight : Sight) → rises before faults ≡ true → faults_of (state_of log.story).opened (state_of log.story).ends ≤ before → MayLeave (state_of log.story) row left → rises (ticks_of (state_of log.story).opened (state_of log.story).ends) tick ≡ true → log.story ≡ story → lane ≡ row.tag.lane → IsKept log lanes builds now → IsNextRow (state_of story) row → IsFormed row → IsKept (with_step_on log (steps.Fault row.tag left before faults tick) sight) (with_reply lanes lane replies.DiskFault) builds now
+kept_next_fault log lanes builds now story row lane left before faults tick sight rose later leaves ticked same at_lane h next formed =
     let here : IsNextRow (state_of log.story) row = subst (λ t. IsNextRow (state_of t) row) (sym same) next in
     subst (λ l. IsKept (with_step_on log (steps.Fault row.tag left before faults tick) sight) (with_reply lanes l replies.DiskFault) builds now) (sym at_lane)
     (kept_fault log lanes builds now row left before faults tick sight rose later leaves ticked h here.plain (here.at_moment ∙ h.agrees.moment) here.made here.of_next.from
-    (omega (arith, here.of_next.upto, h.replies.count, ap (λ p. length p.lanes) h.agrees.phase)))
+    (omega (arith, here.of_next.upto, h.replies.count, ap (λ p. length p.lanes) h.agrees.phase)) formed)
 
 -- how the story went on
 pub next_faults : (old new : List Told) (row : Plain) (left : Option Plain) (before faults tick : ℕ) → new ≡ old ++ told.Other (steps.Fault row.tag left before faults tick) ∷ [] → IsNextRow (state_of old) row → Acts old new row.tag.lane Faulted

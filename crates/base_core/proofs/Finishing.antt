@@ -3,7 +3,7 @@ use Rattle.std.proofs.Common.{◌≡◌, ◌≢◌, ℕ, suc, ◌+◌, ◌-◌, 
 use Rattle.std.proofs.lemmas.List.{append-nil, reverse-append, length-set, length-reverse}
 use Rattle.std.specs.Prelude.{OnOk, is_err}
 use Rattle.cc_names.specs.declared.memory.NoMemory.{NoMemory}
-use Rattle.cc_names.specs.Formed.{Plain}
+use Rattle.cc_names.specs.Formed.{Plain, IsFormed}
 use Rattle.cc_names.specs.declared.commands.Phase.{Phase}
 use Rattle.cc_names.specs.declared.refusals.Refusal.{Refusal}
 use Rattle.cc_names.specs.declared.replies.Reply.{Reply}
@@ -25,11 +25,13 @@ use Rattle.base_core.specs.Building.{IsBuildKept}
 use Rattle.base_core.specs.Acting.{IsNextRow, IsNextRefusal}
 use Rattle.base_core.specs.Kept.{last_phase, replies_at, with_reply, Agrees, AreReplies, IsKept}
 use Rattle.base_core.specs.Logs.{Logged, with_row, with_step}
+use Rattle.base_core.specs.Readable.{IsReadable}
 use Rattle.base_core.specs.Replying.{in_lane, replies_after, replies_of, no_replies}
 use Rattle.base_core.proofs.Idle.{decided_is_free, not_both}
 use Rattle.base_core.proofs.Staying.{first_stay, build_stays}
 use Rattle.base_core.proofs.Growing.{state_from-more, legal_more, replies_from-more}
 use Rattle.base_core.proofs.Lanes.{done_same, done_other, in_same, in_other, one_or_two, replies_same, replies_other}
+use Rattle.base_core.proofs.Naming.{names_more, readable_plain}
 use Rattle.base_core.proofs.PlainRows.{good_reply, finishes, builds_nothing, makes_row, plain_unversioned, newest_too}
 
 -- the replies after a step with which one lane finishes a command
@@ -74,8 +76,8 @@ others_kept log lanes builds now x tag h free active phase number done rows grow
     differs = λ e. not_both (build_of s.active lane) build (ap (build_of s.active) e ∙ free) was
 
 -- what is kept after a commit
-pub kept_commit : (log : Logged) (lanes : List (List Reply)) (builds : List (Option Build)) (now : ℕ) (row : Plain) (tick : ℕ) (sight : Sight) → rises (ticks_of (state_of log.story).opened (state_of log.story).ends) tick ≡ true → IsKept log lanes builds now → is_plain_deed row.deed ≡ true → row.moment ≡ now → decided (state_of log.story) row.tag ≡ Some (Ok (Makes row.deed)) → 1 ≤ row.tag.lane → row.tag.lane ≤ length lanes → length log.rows + 1 < row_limit → IsKept (with_row log row tick sight) (with_reply lanes row.tag.lane replies.Good) builds now
-kept_commit log lanes builds now row tick sight ticked h plain in_time made low high room =
+pub kept_commit : (log : Logged) (lanes : List (List Reply)) (builds : List (Option Build)) (now : ℕ) (row : Plain) (tick : ℕ) (sight : Sight) → rises (ticks_of (state_of log.story).opened (state_of log.story).ends) tick ≡ true → IsKept log lanes builds now → is_plain_deed row.deed ≡ true → row.moment ≡ now → decided (state_of log.story) row.tag ≡ Some (Ok (Makes row.deed)) → 1 ≤ row.tag.lane → row.tag.lane ≤ length lanes → length log.rows + 1 < row_limit → IsFormed row → IsKept (with_row log row tick sight) (with_reply lanes row.tag.lane replies.Good) builds now
+kept_commit log lanes builds now row tick sight ticked h plain in_time made low high room formed =
     let story = log.story in
     let x = told.Commit row tick in
     let done : (after (state_of story) x).done ≡ with_done (state_of story).done row.tag.lane = finishes (state_of story).done row.tag.lane row.deed plain in
@@ -104,6 +106,7 @@ kept_commit log lanes builds now row tick sight ticked h plain in_time made low 
       formed = h.formed;
       carried_out = h.carried_out;
       unversioned = newest_too row log.rows (plain_unversioned row.deed plain) h.unversioned;
+      readable = names_more IsReadable story x h.readable (readable_plain row formed plain);
       room = omega (arith, room, length-append log.rows (row ∷ []));
       few = h.few;
       in_time = h.in_time;
@@ -132,6 +135,7 @@ kept_refusal log lanes builds now tag refusal h made low high =
       formed = h.formed;
       carried_out = h.carried_out;
       unversioned = h.unversioned;
+      readable = names_more IsReadable story x h.readable tt;
       room = h.room;
       few = h.few;
       in_time = h.in_time;
@@ -143,13 +147,13 @@ done_well (Ok u) e h = h
 done_well (Err error) e h = absurd (cc)
 
 -- what is kept after the row of a lane's next command
-pub kept_next_row : (log : Logged) (lanes : List (List Reply)) (builds : List (Option Build)) (now : ℕ) (story : List Told) (row : Plain) (lane tick : ℕ) (sight : Sight) → rises (ticks_of (state_of log.story).opened (state_of log.story).ends) tick ≡ true → log.story ≡ story → lane ≡ row.tag.lane → IsKept log lanes builds now → IsNextRow (state_of story) row → IsKept (with_row log row tick sight) (with_reply lanes lane replies.Good) builds now
-kept_next_row log lanes builds now story row lane tick sight ticked same at_lane h next =
+pub kept_next_row : (log : Logged) (lanes : List (List Reply)) (builds : List (Option Build)) (now : ℕ) (story : List Told) (row : Plain) (lane tick : ℕ) (sight : Sight) → rises (ticks_of (state_of log.story).opened (state_of log.story).ends) tick ≡ true → log.story ≡ story → lane ≡ row.tag.lane → IsKept log lanes builds now → IsNextRow (state_of story) row → IsFormed row → IsKept (with_row log row tick sight) (with_reply lanes lane replies.Good) builds now
+kept_next_row log lanes builds now story row lane tick sight ticked same at_lane h next formed =
     let here : IsNextRow (state_of log.story) row = subst (λ t. IsNextRow (state_of t) row) (sym same) next in
     subst (λ l. IsKept (with_row log row tick sight) (with_reply lanes l replies.Good) builds now) (sym at_lane)
     (kept_commit log lanes builds now row tick sight ticked h here.plain (here.at_moment ∙ h.agrees.moment) here.made here.of_next.from
     (omega (arith, here.of_next.upto, h.replies.count, ap (λ p. length p.lanes) h.agrees.phase))
-    (omega (arith, here.room, ap length h.agrees.base, length-reverse log.rows)))
+    (omega (arith, here.room, ap length h.agrees.base, length-reverse log.rows)) formed)
 
 -- what is kept after the refusal of a lane's next command
 pub kept_next_refusal : (log : Logged) (lanes : List (List Reply)) (builds : List (Option Build)) (now : ℕ) (story : List Told) (tag : Tag) (refusal : Refusal) → log.story ≡ story → IsKept log lanes builds now → IsNextRefusal (state_of story) tag refusal → IsKept (with_step log (steps.Refused tag refusal)) (with_reply lanes tag.lane (replies.Refused refusal)) builds now

@@ -12,6 +12,7 @@ use Rattle.base_core.specs.Kept.{IsKept}
 use Rattle.base_core.specs.Logs.{Logged, opened_log, with_sight}
 use Rattle.base_core.specs.Opening.{IsBaseOn, IsOpened, Opens}
 use Rattle.base_core.specs.declared.handed.Handed.{Handed}
+use Rattle.base_core.proofs.Damages.{undamaged_on}
 use Rattle.base_core.proofs.Idle.{both}
 
 -- a base is within its limit
@@ -32,6 +33,7 @@ kept_rows old rows handed sight h = record {
   formed = (omega arith, tt);
   carried_out = tt;
   unversioned = h.unversioned;
+  readable = (h.readable, tt);
   room = let less = within_limit (reverse rows) h.fits in omega (arith, less, length-reverse rows);
   few = omega arith;
   in_time = omega arith;
@@ -41,7 +43,7 @@ pub kept_opened : (old : Sight) (log : Logged) → IsOpened old log → IsKept l
 kept_opened old log h = subst (λ l. IsKept l [] [] 0) (sym h.is) (kept_rows old h.rows h.handed log.sight h.on)
 
 pub opens_so : (old : Sight) (log : Logged) → IsOpened old log → Opens old log.story log.sight
-opens_so old log h = record { rows = h.rows; handed = h.handed; on = h.on; story_is = ap (λ l. l.story) h.is; sound = h.sound }
+opens_so old log h = record { rows = h.rows; handed = h.handed; on = h.on; undamaged = undamaged_on old h.rows h.handed h.on; story_is = ap (λ l. l.story) h.is; sound = h.sound }
 
 -- the disk changes nothing of what is kept beside it
 pub kept_sight : (log : Logged) (lanes : List (List Reply)) (builds : List (Option Build)) (now : ℕ) (sight : Sight) → IsKept log lanes builds now → IsKept (with_sight log sight) lanes builds now
@@ -55,6 +57,7 @@ kept_sight log lanes builds now sight h = record {
   formed = h.formed;
   carried_out = h.carried_out;
   unversioned = h.unversioned;
+  readable = h.readable;
   room = h.room;
   few = h.few;
   in_time = h.in_time;

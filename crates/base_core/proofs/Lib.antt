@@ -36,6 +36,8 @@ pub mod Logged
 pub mod Freshly
 pub mod Settled
 pub mod FoundBases
+pub mod Naming
+pub mod Damages
 pub mod ReadRows
 pub mod SameDeeds
 pub mod OpenedBases

@@ -18,10 +18,12 @@ use Rattle.base_core.specs.Building.{IsBuildKept}
 use Rattle.base_core.specs.Faults.{is_fault}
 use Rattle.base_core.specs.Kept.{last_phase, AreReplies, IsKept}
 use Rattle.base_core.specs.Logs.{Logged, with_step}
+use Rattle.base_core.specs.Readable.{IsReadable}
 use Rattle.base_core.specs.Replying.{replies_after, replies_of, no_replies}
 use Rattle.base_core.proofs.Growing.{state_from-more, legal_more, replies_from-more}
 use Rattle.base_core.proofs.Idle.{build_in_slot, some_same}
 use Rattle.base_core.proofs.Lanes.{one_or_two}
+use Rattle.base_core.proofs.Naming.{names_more, names_none}
 use Rattle.base_core.proofs.Reserving.{found_set, found_other, reserved_set, rows_for}
 use Rattle.base_core.proofs.Staying.{build_stays}
 
@@ -73,6 +75,7 @@ kept_note log lanes builds now step lane n build came h low high is lawful leave
   formed = h.formed;
   carried_out = h.carried_out;
   unversioned = h.unversioned;
+  readable = names_more IsReadable story x h.readable (names_none IsReadable step sound);
   room = h.room;
   few = h.few;
   in_time = h.in_time;

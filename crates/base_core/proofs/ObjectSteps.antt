@@ -6,7 +6,7 @@ use Rattle.std.specs.List.{AllByRecursion}
 use Rattle.std.specs.Ordering.{nat_cmp}
 use Rattle.std.specs.FinMap.Entries.{put}
 use Rattle.std.specs.Prelude.{slice_get}
-use Rattle.cc_names.specs.Formed.{Plain}
+use Rattle.cc_names.specs.Formed.{Plain, IsFormed}
 use Rattle.cc_names.specs.declared.refusals.ScriptFault.{ScriptFault}
 use Rattle.cc_names.specs.declared.replies.Reply.{Reply}
 use Rattle.cc_names.specs.declared.rows.Deed.{Deed}
@@ -28,6 +28,7 @@ use Rattle.legal_history.specs.States.{State, Committed, start, next_tag, ticks_
 use Rattle.legal_history.specs.Steps.{active_after, done_after, noted_in, state_of, with_came}
 use Rattle.disk_model.specs.Told.{Sight}
 use Rattle.legal_history.specs.Stories.{Legal, MayCommit, rises}
+use Rattle.row_form.specs.Reading.{IsKnown}
 use Rattle.base_core.specs.BuildCalls.{IsObjectRow}
 use Rattle.base_core.specs.Going.{GoesOn, HasOutcome, StillBuilds}
 use Rattle.base_core.specs.Kept.{IsKept}
@@ -71,6 +72,10 @@ row_told s lane n row h = deed_of_run h.build h.unit (entries (visible s.base h.
 row_is : (s : State) (lane n now : ℕ) (row : Plain) (h : IsObjectRow s lane n row) (d : IsDeedOf h.build h.unit row.deed) → s.moment ≡ now → row ≡ published (next_tag s lane) now h.build.view d.targets d.script d.reads d.outputs
 row_is s lane n now row h d moment = λ i. record { tag = h.of_tag i; moment = (h.at_moment ∙ moment) i; deed = d.is i }
 
+-- rows of its deed are read
+pub object_known : (s : State) (lane n : ℕ) (row : Plain) → IsObjectRow s lane n row → IsKnown row.deed
+object_known s lane n row h = subst IsKnown (sym (row_told s lane n row h).is) tt
+
 -- the row may be committed
 pub object_may : (log : Logged) (lanes : List (List Reply)) (builds : List (Option Build)) (now lane n : ℕ) (row : Plain) → IsKept log lanes builds now → (here : IsObjectRow (state_of log.story) lane n row) → ((told : List Told) (l : ℕ) (b : Build) → Legal told → build_of (state_of told).active l ≡ Some b → AgreesSoFar (state_of told).base b) → MayCommit (state_of log.story) row
 object_may log lanes builds now lane n row h here agree =
@@ -82,8 +87,8 @@ object_may log lanes builds now lane n row h here agree =
     (may_publish log lanes builds now lane n here.build here.unit here.build.view told.targets told.script told.reads told.outputs h here.active here.is_unit here.started place (here.made ∙ ap Some told.is))
 
 -- what is kept then
-pub kept_object : (log : Logged) (lanes : List (List Reply)) (builds more : List (Option Build)) (now : ℕ) (story : List Told) (lane n number : ℕ) (row : Plain) (tick : ℕ) (sight : Sight) → rises (ticks_of (state_of log.story).opened (state_of log.story).ends) tick ≡ true → log.story ≡ story → IsKept log lanes builds now → IsObjectRow (state_of story) lane n row → number ≡ suc (length log.rows) → ((told : List Told) → Legal told → is_base (state_of told).base ≡ true) → ((told : List Told) (l : ℕ) (b : Build) → Legal told → build_of (state_of told).active l ≡ Some b → AgreesSoFar (state_of told).base b) → ((build : Build) → held_in builds (lane - 1) ≡ Some build → more ≡ set builds (lane - 1) (Some (with_came build (Some n) (Given number)))) → IsKept (with_row log row tick sight) lanes more now
-kept_object log lanes builds more now story lane n number row tick sight ticked same h object counted based agree set_so =
+pub kept_object : (log : Logged) (lanes : List (List Reply)) (builds more : List (Option Build)) (now : ℕ) (story : List Told) (lane n number : ℕ) (row : Plain) (tick : ℕ) (sight : Sight) → rises (ticks_of (state_of log.story).opened (state_of log.story).ends) tick ≡ true → log.story ≡ story → IsKept log lanes builds now → IsObjectRow (state_of story) lane n row → number ≡ suc (length log.rows) → ((told : List Told) → Legal told → is_base (state_of told).base ≡ true) → ((told : List Told) (l : ℕ) (b : Build) → Legal told → build_of (state_of told).active l ≡ Some b → AgreesSoFar (state_of told).base b) → ((build : Build) → held_in builds (lane - 1) ≡ Some build → more ≡ set builds (lane - 1) (Some (with_came build (Some n) (Given number)))) → IsFormed row → IsKept (with_row log row tick sight) lanes more now
+kept_object log lanes builds more now story lane n number row tick sight ticked same h object counted based agree set_so formed_row =
     let s = state_of log.story in
     let here : IsObjectRow s lane n row = subst (λ t. IsObjectRow (state_of t) lane n row) (sym same) object in
     let slot = lane_slot log lanes builds now lane here.build h here.active in
@@ -94,7 +99,8 @@ kept_object log lanes builds more now story lane n number row tick sight ticked 
     subst (λ bs. IsKept (with_row log row tick sight) lanes bs now) (sym (set_so here.build slot.held))
     (subst (λ k. IsKept (with_row log row tick sight) lanes (set builds (lane - 1) (Some (with_came here.build (Some n) (Given k)))) now) (sym newest)
     (subst (λ r. IsKept (with_row log r tick sight) lanes (set builds (lane - 1) (Some (with_came here.build (Some n) (Given (size s.base))))) now) (sym (row_is s lane n now row here told h.agrees.moment))
-    (kept_publish log lanes builds now lane n here.build here.unit here.build.view told.targets told.script told.reads told.outputs tick sight ticked h slot.from (omega (arith, slot.upto, h.count)) here.active here.is_unit here.started place (here.made ∙ ap Some told.is) based)))
+    (kept_publish log lanes builds now lane n here.build here.unit here.build.view told.targets told.script told.reads told.outputs tick sight ticked h slot.from (omega (arith, slot.upto, h.count)) here.active here.is_unit here.started place (here.made ∙ ap Some told.is) based
+    (subst IsFormed (row_is s lane n now row here told h.agrees.moment) formed_row))))
 
 -- how the story went on
 pub object_so : (log : Logged) (lanes : List (List Reply)) (builds : List (Option Build)) (now : ℕ) (story : List Told) (lane n : ℕ) (row : Plain) (tick : ℕ) (sight : Sight) → log.story ≡ story → IsKept log lanes builds now → IsObjectRow (state_of story) lane n row → ((told : List Told) (l : ℕ) (b : Build) → Legal told → build_of (state_of told).active l ≡ Some b → AgreesSoFar (state_of told).base b) → GoesOn story (with_row log row tick sight).story lane × HasOutcome (state_of (with_row log row tick sight).story) lane n

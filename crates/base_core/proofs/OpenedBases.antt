@@ -173,6 +173,7 @@ module _ {D : Type 0} (sight : D → Sight) (first : Sight) (handed : Handed) (r
     found = told_both (λ _. opened.list ≡ payloads (reverse rows)) (λ d. opened.list ≡ frames (bytes_of 0 d)) (λ d. frames (bytes_of 0 d) ≡ payloads (reverse rows)) first.told (λ d is same. sym same ∙ is)
         (told_back (Moves opened.list [] opened.list []) (λ _. opened.list ≡ payloads (reverse rows)) (λ _. opened.list ≡ payloads (reverse rows)) first.told (sight read.disk).told (λ d e moves is. is) (since_first sight first opened read new reads) list_so) new.list;
     fits = through.so_far.good;
+    readable = through.so_far.readable;
     unversioned = through.so_far.unversioned;
   }
 

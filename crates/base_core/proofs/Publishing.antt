@@ -5,7 +5,7 @@ use Rattle.std.proofs.lemmas.Bool.Decides.{nat_tests}
 use Rattle.std.specs.Ordering.{nat_cmp}
 use Rattle.std.specs.Prelude.{is_some}
 use Rattle.std.specs.FinMap.Entries.{put}
-use Rattle.cc_names.specs.Formed.{Plain}
+use Rattle.cc_names.specs.Formed.{Plain, IsFormed}
 use Rattle.cc_names.specs.declared.replies.Reply.{Reply}
 use Rattle.cc_names.specs.declared.rows.Deed.TheVariants as deeds
 use Rattle.cc_names.specs.declared.rows.ReadOf.{ReadOf}
@@ -27,11 +27,13 @@ use Rattle.view_lookup.specs.Unversioned.{is_unversioned}
 use Rattle.base_core.specs.Building.{IsBuildKept}
 use Rattle.base_core.specs.Kept.{IsKept}
 use Rattle.base_core.specs.Logs.{Logged, with_row}
+use Rattle.base_core.specs.Readable.{IsReadable}
 use Rattle.base_core.specs.Replying.{replies_of}
 use Rattle.base_core.proofs.Closing.{build_is_by}
 use Rattle.base_core.proofs.Growing.{state_from-more, legal_more}
 use Rattle.base_core.proofs.Idle.{both, some_same}
 use Rattle.base_core.proofs.Lanes.{one_or_two}
+use Rattle.base_core.proofs.Naming.{names_more}
 use Rattle.base_core.proofs.Noting.{noted_kept, same_replies, slot_of}
 use Rattle.base_core.proofs.Reserving.{found_set, found_other, reserved_set, rows_for}
 use Rattle.base_core.proofs.Staying.{first_stay, build_stays}
@@ -65,8 +67,8 @@ may_publish log lanes builds now lane n build unit view targets script entries o
 }
 
 -- what is kept after the row of what a unit's run gave
-pub kept_publish : (log : Logged) (lanes : List (List Reply)) (builds : List (Option Build)) (now lane n : ℕ) (build : Build) (unit : Unit) (view : List ℕ) (targets : List (List ℕ)) (script : List ℕ) (entries : List ReadOf) (outputs : List (List ℕ)) (tick : ℕ) (sight : Sight) → rises (ticks_of (state_of log.story).opened (state_of log.story).ends) tick ≡ true → IsKept log lanes builds now → 1 ≤ lane → lane ≤ length lanes → build_of (state_of log.story).active lane ≡ Some build → unit_at build n ≡ Some unit → came_to build n ≡ Some Started → unit_with_first build targets ≡ Some n → publish_of (state_of log.story).base build n unit ≡ Some (deeds.Publish view targets script entries outputs) → ((told : List Told) → Legal told → is_base (state_of told).base ≡ true) → IsKept (with_row log (published (next_tag (state_of log.story) lane) now view targets script entries outputs) tick sight) lanes (set builds (lane - 1) (Some (with_came build (Some n) (Given (size (state_of log.story).base))))) now
-kept_publish log lanes builds now lane n build unit view targets script entries outputs tick sight ticked h low high is unit_is started place made based = record {
+pub kept_publish : (log : Logged) (lanes : List (List Reply)) (builds : List (Option Build)) (now lane n : ℕ) (build : Build) (unit : Unit) (view : List ℕ) (targets : List (List ℕ)) (script : List ℕ) (entries : List ReadOf) (outputs : List (List ℕ)) (tick : ℕ) (sight : Sight) → rises (ticks_of (state_of log.story).opened (state_of log.story).ends) tick ≡ true → IsKept log lanes builds now → 1 ≤ lane → lane ≤ length lanes → build_of (state_of log.story).active lane ≡ Some build → unit_at build n ≡ Some unit → came_to build n ≡ Some Started → unit_with_first build targets ≡ Some n → publish_of (state_of log.story).base build n unit ≡ Some (deeds.Publish view targets script entries outputs) → ((told : List Told) → Legal told → is_base (state_of told).base ≡ true) → IsFormed (published (next_tag (state_of log.story) lane) now view targets script entries outputs) → IsKept (with_row log (published (next_tag (state_of log.story) lane) now view targets script entries outputs) tick sight) lanes (set builds (lane - 1) (Some (with_came build (Some n) (Given (size (state_of log.story).base))))) now
+kept_publish log lanes builds now lane n build unit view targets script entries outputs tick sight ticked h low high is unit_is started place made based formed = record {
   legal = legal;
   agrees = record {
     opened = ap (λ t. is_some t.opened) state ∙ h.agrees.opened;
@@ -83,6 +85,7 @@ kept_publish log lanes builds now lane n build unit view targets script entries 
   formed = h.formed;
   carried_out = h.carried_out;
   unversioned = ap is_unversioned (reverse-append log.rows (row ∷ [])) ∙ h.unversioned;
+  readable = names_more IsReadable story x h.readable (record { formed = formed; known = tt });
   room = omega (arith, within_limit, length-append log.rows (row ∷ []), ap length h.agrees.base, length-reverse log.rows);
   few = h.few;
   in_time = h.in_time;

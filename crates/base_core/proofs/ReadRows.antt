@@ -1,5 +1,5 @@
 -- How the rows of a journal are read, and what reading leaves.
-use Rattle.std.proofs.Common.{◌≡◌, ℕ, ◌<◌, ◌&&◌, true, Some, List, [], ◌∷◌, ◌++◌, length, reverse, sym, ap, ap₂, ◌∙◌, inl, inr, arith}
+use Rattle.std.proofs.Common.{◌≡◌, ℕ, ◌<◌, ◌&&◌, true, Some, List, [], ◌∷◌, ◌++◌, length, reverse, sym, ap, ap₂, subst, ◌∙◌, inl, inr, arith}
 use Rattle.std.proofs.lemmas.List.{append_assoc, append-nil, reverse-append, length-reverse}
 use Rattle.cc_names.specs.Formed.{Plain}
 use Rattle.disk_model.specs.Counting.{raised}
@@ -14,6 +14,7 @@ use Rattle.vob_journal.specs.Moves.{Moves, Stands}
 use Rattle.vob_journal.specs.Shown.{Shown}
 use Rattle.vob_journal.proofs.Passing.{passes_then}
 use Rattle.vob_journal.proofs.Telling.{told_next, told_both, told_from}
+use Rattle.base_core.specs.Readable.{IsReadable, AreReadable}
 use Rattle.base_core.specs.Reading.{OnlyReads, NextIs, IsNextRow, IsReadSoFar}
 use Rattle.base_core.specs.Standing.{payloads}
 use Rattle.base_core.proofs.Freshly.{within_limit}
@@ -53,10 +54,14 @@ base_more rows row good fit = ap is_base (reverse-append rows (row ∷ [])) ∙ 
 unversioned_more : (rows : List Plain) (row : Plain) → is_unversioned (reverse rows) ≡ true → is_unversioned_deed row.deed ≡ true → is_unversioned (reverse (rows ++ row ∷ [])) ≡ true
 unversioned_more rows row all one = ap is_unversioned (reverse-append rows (row ∷ [])) ∙ ap₂ ◌&&◌ one all
 
+readable_more : (rows : List Plain) (row : Plain) → AreReadable (reverse rows) → IsReadable row → AreReadable (reverse (rows ++ row ∷ []))
+readable_more rows row all one = subst AreReadable (sym (reverse-append rows (row ∷ []))) (one, all)
+
 -- a further row was read
 pub read_more : {D : Type 0} (sight : D → Sight) (rows : List Plain) (row : Plain) (payload : List ℕ) (old new : Shown D) → IsReadSoFar sight rows old → OnlyReads sight old new → NextIs sight (Some payload) old new → IsNextRow (reverse rows) payload row → IsReadSoFar sight (rows ++ row ∷ []) new
 read_more sight rows row payload old new h reads next is = record {
   good = base_more rows row h.good is.fits;
+  readable = readable_more rows row h.readable (record { formed = is.formed; known = is.known });
   unversioned = unversioned_more rows row h.unversioned is.unversioned;
   loose = next.loose;
   now = read_now sight old new reads;

@@ -53,7 +53,7 @@ same_deed (deeds.Put v p b) _ h k known too code is = absurd too
 same_deed (deeds.Publish v ts s es os) _ h k known too code is = absurd too
 same_deed _ e h k known too code is = absurd known
 
-deed_told : (one two : Plain) → IsFormed one → IsFormed two → IsKnown one.deed → IsKnown two.deed → spelled one ≡ spelled two → one.deed ≡ two.deed
+pub deed_told : (one two : Plain) → IsFormed one → IsFormed two → IsKnown one.deed → IsKnown two.deed → spelled one ≡ spelled two → one.deed ≡ two.deed
 deed_told one two h k known too is =
     let split = fronts (head_bytes (head_of one)) (head_bytes (head_of two)) (fields_of one.deed) (fields_of two.deed) refl is in
     same_deed one.deed two.deed h.deed k.deed known too (ap (λ bytes. get_or bytes 21 0) split.0) split.1

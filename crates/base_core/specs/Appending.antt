@@ -1,6 +1,6 @@
 -- What became of a row that was to be committed.
 use Rattle.std.specs.Prelude.{◌≡◌, ℕ, ◌≤◌, ◌⊎◌, true, false, Option, Some, None, List}
-use Rattle.cc_names.specs.Formed.{Plain}
+use Rattle.cc_names.specs.Formed.{Plain, IsFormed}
 use Rattle.cc_names.specs.declared.steps.Step.{Step}
 use Rattle.cc_names.specs.declared.steps.Step.TheVariants as steps
 use Rattle.cc_names.specs.declared.steps.Told.TheVariants as told
@@ -24,6 +24,7 @@ MayLeave s row (Some left) = (left ≡ row) ⊎ (hanging s.ends ≡ Some left)
 pub record IsCommitted (old new : Logged) (row : Plain) : Type 0 where
   pub tick : ℕ
   pub sight : Sight
+  pub formed : IsFormed row
   pub grows : new ≡ with_row old row tick sight
   pub ticked : rises (ticks_of (state_of old.story).opened (state_of old.story).ends) tick ≡ true
   pub faults : sight.faults ≡ old.sight.faults
@@ -44,6 +45,7 @@ pub record IsFaulted (old new : Logged) (row : Plain) (ending : Option Step) : T
   pub faults : ℕ
   pub tick : ℕ
   pub sight : Sight
+  pub formed : IsFormed row
   pub grows : new ≡ with_ending (with_step_on old (steps.Fault row.tag left before faults tick) sight) ending
   pub rose : rises before faults ≡ true
   pub later : faults_of (state_of old.story).opened (state_of old.story).ends ≤ before

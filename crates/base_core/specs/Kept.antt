@@ -15,6 +15,7 @@ use Rattle.base_core.specs.Carried.{AreCarriedOut}
 use Rattle.view_lookup.specs.Unversioned.{is_unversioned}
 use Rattle.base_core.specs.Building.{IsBuildKept}
 use Rattle.base_core.specs.Logs.{Logged}
+use Rattle.base_core.specs.Readable.{IsReadable, TellsOnly}
 use Rattle.base_core.specs.Replying.{replies_of}
 
 -- the most bytes of a text, and members of a list, of a command
@@ -62,6 +63,7 @@ pub record IsKept (log : Logged) (lanes : List (List Reply)) (builds : List (Opt
   pub formed : IsPhase command_limit (last_phase log.phases)
   pub carried_out : AreCarriedOut (last_phase log.phases)
   pub unversioned : is_unversioned (reverse log.rows) ≡ true
+  pub readable : TellsOnly IsReadable log.story
   pub room : length log.rows < row_limit
   pub few : length log.phases < 2 ^ 32
   pub in_time : now ≤ last_moment

@@ -12,6 +12,7 @@ pub mod Leaving
 pub mod Logs
 pub mod Nexts
 pub mod Opening
+pub mod Readable
 pub mod Reading
 pub mod Replying
 pub mod Shown

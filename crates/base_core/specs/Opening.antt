@@ -13,18 +13,21 @@ use Rattle.row_form.specs.Spelled.{spelled}
 use Rattle.view_lookup.specs.Unversioned.{is_unversioned}
 use Rattle.vob_journal.specs.Frames.{frames}
 use Rattle.base_core.specs.Logs.{Logged, opened_log}
+use Rattle.base_core.specs.Readable.{AreReadable}
 use Rattle.base_core.specs.Standing.{payloads}
 use Rattle.base_core.specs.declared.handed.Handed.{Handed}
 use Rattle.base_core.specs.declared.opening.OpenCause.{OpenCause}
 use Rattle.base_core.specs.declared.opening.OpenCause.TheVariants as causes
 
--- The rows of a base that was opened on a disk: the disk's journal stands for them, and each fits those before it.
+-- The rows of a base that was opened on a disk: the disk's journal stands for them, each is readable, and each fits those
+-- before it.
 pub record IsBaseOn (old : Sight) (rows : List Plain) (handed : Handed) : Type 0 where
   pub ticks : handed.counts.ticks ≡ old.ticks
   pub faults : handed.counts.faults ≡ old.faults
   pub tells : handed.tells ≡ is_some old.told
   pub found : IfTold old.told (λ d. frames (bytes_of 0 d) ≡ payloads (reverse rows))
   pub fits : is_base (reverse rows) ≡ true
+  pub readable : AreReadable (reverse rows)
   pub unversioned : is_unversioned (reverse rows) ≡ true
 
 -- a log of such a base, under which no disk failed
@@ -35,19 +38,11 @@ pub record IsOpened (old : Sight) (log : Logged) : Type 0 where
   pub is : log ≡ opened_log rows handed log.sight
   pub sound : log.sight.faults ≡ old.faults
 
--- a base was opened: the one that the disk stands for
-pub record Opens (old : Sight) (story : List Told) (new : Sight) : Type 0 where
-  pub rows : List Plain
-  pub handed : Handed
-  pub on : IsBaseOn old rows handed
-  pub story_is : story ≡ told.Opened rows handed.counts handed.tells ∷ []
-  pub sound : new.faults ≡ old.faults
-
--- no row that is read and that fits the base has this spelling
+-- no readable row that fits the base has this spelling
 abbrev pub IsUnfit : Base → List ℕ → Type 0
 IsUnfit b payload = (row : Plain) → IsFormed row → IsKnown row.deed → payload ≡ spelled row → fits b row.deed ≡ true → ⊥
 
--- frame n of a journal is the first that spells no row that is read, or whose row does not fit those before it
+-- frame n of a journal is the first that spells no readable row, or whose row does not fit those before it
 pub record IsDamaged (list : List (List ℕ)) (n : ℕ) : Type 0 where
   pub base : Base
   pub payload : List ℕ
@@ -55,7 +50,21 @@ pub record IsDamaged (list : List (List ℕ)) (n : ℕ) : Type 0 where
   pub list_is : list ≡ payloads base ++ payload ∷ rest
   pub number : n ≡ size base
   pub good : is_base base ≡ true
+  pub readable : AreReadable base
   pub unfit : IsUnfit base payload
+
+-- no frame of a journal is damaged
+abbrev pub IsUndamaged : List (List ℕ) → Type 0
+IsUndamaged list = (n : ℕ) → IsDamaged list n → ⊥
+
+-- a base was opened: the one that the disk stands for, whose journal is not damaged
+pub record Opens (old : Sight) (story : List Told) (new : Sight) : Type 0 where
+  pub rows : List Plain
+  pub handed : Handed
+  pub on : IsBaseOn old rows handed
+  pub undamaged : IfTold old.told (λ d. IsUndamaged (frames (bytes_of 0 d)))
+  pub story_is : story ≡ told.Opened rows handed.counts handed.tells ∷ []
+  pub sound : new.faults ≡ old.faults
 
 -- why a journal with this list was not read through, with the disk's counts of faults before and after
 abbrev pub StopsBy : Option Device → (Device → List (List ℕ)) → OpenCause → ℕ → ℕ → Type 0

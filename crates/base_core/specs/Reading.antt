@@ -1,11 +1,12 @@
 -- How the rows of a journal are read.
 use Rattle.std.specs.Prelude.{◌≡◌, ◌≤◌, ℕ, Bool, true, Option, Some, None, List, [], ◌∷◌, ◌++◌, reverse}
-use Rattle.cc_names.specs.Formed.{Plain}
+use Rattle.cc_names.specs.Formed.{Plain, IsFormed}
 use Rattle.disk_model.specs.Devices.{LeavesNow}
 use Rattle.disk_model.specs.Told.{Sight, IfTold, Both}
 use Rattle.legal_history.specs.Base.{Base, size}
 use Rattle.legal_history.specs.Fits.{fits, is_base}
 use Rattle.legal_history.specs.Stories.{rises}
+use Rattle.row_form.specs.Reading.{IsKnown}
 use Rattle.row_form.specs.Spelled.{spelled}
 use Rattle.view_lookup.specs.Unversioned.{is_unversioned_deed, is_unversioned}
 use Rattle.vob_journal.specs.Answered.{Gives}
@@ -13,6 +14,7 @@ use Rattle.vob_journal.specs.Frames.{frames}
 use Rattle.vob_journal.specs.Moves.{Moves}
 use Rattle.vob_journal.specs.Shown.{Shown}
 use Rattle.base_core.specs.Opening.{IsUnfit}
+use Rattle.base_core.specs.Readable.{AreReadable}
 use Rattle.base_core.specs.Standing.{payloads}
 use Rattle.base_core.specs.declared.opening.OpenCause.{OpenCause}
 use Rattle.base_core.specs.declared.opening.OpenCause.TheVariants as causes
@@ -42,9 +44,11 @@ IsMissed (causes.Damaged n) old new = ⊥
 IsMissed causes.DiskFault old new = rises old new ≡ true
 IsMissed causes.NoMemory old new = new ≡ old
 
--- a payload spells this row, which fits a base
+-- a payload spells this row, which is readable and fits a base
 pub record IsNextRow (b : Base) (payload : List ℕ) (row : Plain) : Type 0 where
   pub spells : payload ≡ spelled row
+  pub formed : IsFormed row
+  pub known : IsKnown row.deed
   pub fits : fits b row.deed ≡ true
   pub unversioned : is_unversioned_deed row.deed ≡ true
 
@@ -54,9 +58,10 @@ IsNoRow b payload (causes.Damaged n) = (n ≡ size b) × IsUnfit b payload
 IsNoRow b payload causes.DiskFault = ⊥
 IsNoRow b payload causes.NoMemory = Unit {0}
 
--- Rows that were read so far are a base, and the journal's list is theirs and what is still to be read.
+-- Rows that were read so far are a base of readable rows, and the journal's list is theirs and what is still to be read.
 pub record IsReadSoFar {D : Type 0} (sight : D → Sight) (rows : List Plain) (journal : Shown D) : Type 0 where
   pub good : is_base (reverse rows) ≡ true
+  pub readable : AreReadable (reverse rows)
   pub unversioned : is_unversioned (reverse rows) ≡ true
   pub loose : journal.loose ≡ []
   pub now : IfTold (sight journal.disk).told (λ d. (image : List ℕ) → LeavesNow 0 d image → frames image ≡ journal.list)

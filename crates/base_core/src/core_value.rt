@@ -80,6 +80,7 @@ impl<D: Disk> Core<D> {
     ghost use Rattle.base_core.specs.Replying.{replies_of};
     ghost use Rattle.base_core.specs.Backed.{IsSettled, IsAccounted};
     ghost use Rattle.base_core.specs.Opening.{Opens, FailsToOpen};
+    ghost use Rattle.base_core.specs.Readable.{IsReadable, TellsOnly};
     ghost use Rattle.disk_model.specs.Counting.{raised};
     ghost use Rattle.disk_model.specs.Devices.{file_of, bytes_of};
     ghost use Rattle.disk_model.specs.Files.{stable};
@@ -584,6 +585,7 @@ impl<D: Disk> Core<D> {
         ensures disk { D.sight result.0 ≡ self.sight }
         ensures history { result.1 ≡ self.story }
         ensures legal { Legal self.story }
+        ensures readable { TellsOnly IsReadable self.story }
         ensures stopped { IsAccounted (state_of self.story) self.sight }
     {
         let Core {

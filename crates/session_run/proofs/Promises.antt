@@ -25,7 +25,7 @@ use Rattle.base_core.specs.declared.opening.OpenCause.{OpenCause}
 use Rattle.base_core.specs.declared.opening.OpenCause.TheVariants as opens
 use Rattle.legal_history.specs.Steps.{state_of}
 use Rattle.legal_history.specs.Stories.{Legal, rises}
-use Rattle.session_run.specs.Causes.{Change, Intake, IsAsked, IsUntouched, IsWhole, HasCause, disk_rose}
+use Rattle.session_run.specs.Causes.{Change, DiskUndamaged, Intake, IsAsked, IsUntouched, IsWhole, HasCause, disk_rose}
 use Rattle.session_run.specs.Asked.{is_session, is_read, phases_spelled}
 use Rattle.session_run.specs.Headline.{BeginsOn, IsFront, IsSession, IsOneHistory, IsCutAtLast, AreFromNothing, ArePrinted, first_step, is_opened, is_through, phases_begun, moments_begun, clock_moments}
 use Rattle.session_run.specs.Rendered.{rendered, earlier_text, transcripts, has_failure, phase_fails}
@@ -33,12 +33,13 @@ use Rattle.session_run.specs.Lanes.{given, given_earlier}
 use Rattle.session_run.specs.Runs.{IsJustOpened, Outside, GivenAsTold, HasRun, HasRunSo, IsGivenUp, OnWriteFault, run_status}
 use Rattle.session_run.specs.Statuses.{is_cut, status_line}
 use Rattle.session_run.specs.Outcomes.{RunsOpened, RunsSession}
-use Rattle.session_run.specs.Stopped.{IsHandedIn, IsMended, IsStopped}
+use Rattle.session_run.specs.Stopped.{AllOpenAgain, IsHandedIn, IsMended, IsStopped}
 use Rattle.session_run.specs.Stops.{GivesPhases, HasStop, WritesStop, open_stop, stop_status, stop_line}
 use Rattle.session_run.specs.declared.sessions.Stop.{Stop}
 use Rattle.session_run.specs.declared.sessions.Stop.TheVariants as stops
 use Rattle.session_run.specs.declared.statuses.Status.{Status}
 use Rattle.session_run.specs.declared.statuses.Status.TheVariants as statuses
+use Rattle.base_core.proofs.Damages.{undamaged_on}
 use Rattle.session_run.proofs.FromNothing.{Laws, given_as_told, are_from_nothing}
 use Rattle.session_run.proofs.Running.{clock_length}
 use Rattle.session_run.proofs.Stopping.{keeps_prefix, stays_closed, stays_untouched}
@@ -162,21 +163,21 @@ asked intake phases gives = record { read = gives.read; session = gives.session 
 told_failures : (story : List Told) (failed : Bool) → GivenAsTold story → list_any phase_fails (given story) ≡ failed → has_failure story ≡ failed
 told_failures story failed same e = ap (list_any phase_fails) (sym same.ended) ∙ e
 
-run_cause : (result : Result Bool (Or WriteFault)) (rose : Bool) (story : List Told) (phases : List Phase) (intake : Intake) (outside : Outside) (faults : Change ℕ) (disk : Change Sight) → disk_rose disk ≡ rose → GivesPhases intake phases → GivenAsTold story → HasRunSo result phases story outside → OnWriteFault result (Rose faults.before faults.after) → HasCause (run_status result rose) intake faults disk story
-run_cause (Ok true) true story phases intake outside faults disk by gives same ran wrote = (asked intake phases gives, by, λ opened. ran.finished)
-run_cause (Ok false) true story phases intake outside faults disk by gives same ran wrote = (asked intake phases gives, by, λ opened. ran.finished)
-run_cause (Ok true) false story phases intake outside faults disk by gives same ran wrote = (whole intake story phases outside true gives ran, told_failures story true same ran.failures, by)
-run_cause (Ok false) false story phases intake outside faults disk by gives same ran wrote = (whole intake story phases outside false gives ran, told_failures story false same ran.failures, by)
-run_cause (Err NoMemory) rose story phases intake outside faults disk by gives same left wrote = tt
-run_cause (Err (Is fault)) rose story phases intake outside faults disk by gives same left wrote = wrote
+run_cause : (result : Result Bool (Or WriteFault)) (rose : Bool) (story : List Told) (phases : List Phase) (intake : Intake) (outside : Outside) (faults : Change ℕ) (disk : Change Sight) → disk_rose disk ≡ rose → GivesPhases intake phases → GivenAsTold story → HasRunSo result phases story outside → OnWriteFault result (Rose faults.before faults.after) → DiskUndamaged disk → HasCause (run_status result rose) intake faults disk story
+run_cause (Ok true) true story phases intake outside faults disk by gives same ran wrote sound = (asked intake phases gives, by, λ opened. ran.finished)
+run_cause (Ok false) true story phases intake outside faults disk by gives same ran wrote sound = (asked intake phases gives, by, λ opened. ran.finished)
+run_cause (Ok true) false story phases intake outside faults disk by gives same ran wrote sound = (whole intake story phases outside true gives ran, told_failures story true same ran.failures, by, sound)
+run_cause (Ok false) false story phases intake outside faults disk by gives same ran wrote sound = (whole intake story phases outside false gives ran, told_failures story false same ran.failures, by, sound)
+run_cause (Err NoMemory) rose story phases intake outside faults disk by gives same left wrote sound = tt
+run_cause (Err (Is fault)) rose story phases intake outside faults disk by gives same left wrote sound = wrote
 
 -- Where no base was opened
 no_error : SessionError
 no_error = record { line = 0; cause = causes.NoPhase }
 
 -- a base was opened, and this is what became of it: the story as it was when the journal was settled is the one that was run
-pub runs_opened : (laws : Laws) (result : Result Bool (Or WriteFault)) (phases : List Phase) (status : Status) (first : Option Told) (story settled history : List Told) (before : ℕ) (sight now : Sight) (outside : Outside) (faults : Change ℕ) → settled ≡ story → history ≡ settled → now ≡ sight → status ≡ run_status result (rises before sight.faults) → first_step story ≡ first → Legal settled → IfOk result (HasRun phases story outside) → IfErr result (λ cut. IsGivenUp cut phases story outside.held outside.holds outside.moments outside.first) → OnWriteFault result (Rose faults.before faults.after) → IsAccounted (state_of settled) sight → IsMended (state_of settled) sight → RunsOpened phases status first history before now outside faults
-runs_opened laws result phases status first story settled history before sight now outside faults kept same seen is begins legal ran left wrote accounted mended =
+pub runs_opened : (laws : Laws) (result : Result Bool (Or WriteFault)) (phases : List Phase) (status : Status) (first : Option Told) (story settled history : List Told) (before : ℕ) (sight now : Sight) (outside : Outside) (faults : Change ℕ) → settled ≡ story → history ≡ settled → now ≡ sight → status ≡ run_status result (rises before sight.faults) → first_step story ≡ first → Legal settled → IfOk result (HasRun phases story outside) → IfErr result (λ cut. IsGivenUp cut phases story outside.held outside.holds outside.moments outside.first) → OnWriteFault result (Rose faults.before faults.after) → IsAccounted (state_of settled) sight → IsMended (state_of settled) sight → AllOpenAgain settled → RunsOpened phases status first history before now outside faults
+runs_opened laws result phases status first story settled history before sight now outside faults kept same seen is begins legal ran left wrote accounted mended again =
     subst (λ s. RunsOpened phases status first s before now outside faults) (sym same)
     (subst (λ d. RunsOpened phases status first settled before d outside faults) (sym seen)
     (record {
@@ -190,6 +191,7 @@ runs_opened laws result phases status first story settled history before sight n
       fault = wrote;
       accounted = accounted;
       mended = mended;
+      again = again;
     }))
   where
     ran_so : (r : Result Bool (Or WriteFault)) → IfOk r (HasRun phases story outside) → IfErr r (λ cut. IsGivenUp cut phases story outside.held outside.holds outside.moments outside.first) → HasRunSo r phases story outside
@@ -338,8 +340,8 @@ promised_run phases status story intake outside faults disk gives (inl run) =
       history = run_history ran.result rose story phases disk.before outside ran.legal run.begins ran.told ran.ran;
       built = ran.built;
       printed = run_printed ran.result rose story phases intake.text.before outside ran.told ran.ran;
-      stopped = keeps_prefix disk.before disk.after story run.begins ran.legal ran.accounted ran.mended;
-      cause = run_cause ran.result rose story phases intake outside faults disk refl gives ran.told ran.ran ran.fault;
+      stopped = keeps_prefix disk.before disk.after story run.begins ran.legal ran.accounted ran.mended ran.again;
+      cause = run_cause ran.result rose story phases intake outside faults disk refl gives ran.told ran.ran ran.fault (undamaged_on disk.before run.begins.rows run.begins.handed run.begins.on);
     })
 promised_run phases status story intake outside faults disk gives (inr closed) =
     subst (λ s. Promised status s intake outside faults disk) (sym closed.empty)

@@ -16,11 +16,12 @@ use Rattle.legal_history.specs.Stories.{Legal, LegalFrom, rises}
 use Rattle.vob_journal.specs.Frames.{frames}
 use Rattle.vob_journal.proofs.Journals.{stable_image}
 use Rattle.base_core.specs.Backed.{IsAccounted, IsSettled}
+use Rattle.base_core.specs.Founds.{OpensAgain}
 use Rattle.base_core.specs.Standing.{MayBeFound}
 use Rattle.base_core.proofs.Backing.{left_within_calls}
 use Rattle.base_core.proofs.Idle.{some_same}
 use Rattle.session_run.specs.Headline.{BeginsOn, first_step, is_opened}
-use Rattle.session_run.specs.Stopped.{AreApart, IsHandedIn, IsMended, IsStopped, KeepsFrames, rises_of}
+use Rattle.session_run.specs.Stopped.{AllOpenAgain, AreApart, IsHandedIn, IsMended, IsStopped, KeepsFrames, rises_of}
 
 -- each fault of a story has a rise of its own
 apart_from : (s : State) (story : List Told) → is_some s.opened ≡ true → LegalFrom s story → AreApart (faults_of s.opened s.ends) (rises_of story) (faults_of (state_from s story).opened (state_from s story).ends)
@@ -93,8 +94,8 @@ told_map None P Q h f = tt
 told_map (Some d) P Q h f = f d h
 
 -- A stop finds a prefix of what was committed, where the base of the disk was opened
-pub keeps_prefix : (before now : Sight) (story : List Told) → BeginsOn before story → Legal story → IsAccounted (state_of story) now → IsMended (state_of story) now → IsStopped before now story
-keeps_prefix before now story begins legal accounted mended = record {
+pub keeps_prefix : (before now : Sight) (story : List Told) → BeginsOn before story → Legal story → IsAccounted (state_of story) now → IsMended (state_of story) now → AllOpenAgain story → IsStopped before now story
+keeps_prefix before now story begins legal accounted mended again = record {
   tells = sym accounted.tells ∙ counts.1 ∙ begins.on.tells;
   on_base = λ opened. record {
     opening = accounted.opening;
@@ -102,6 +103,9 @@ keeps_prefix before now story begins legal accounted mended = record {
     stops =
         told_map now.told _ (λ d. (k : ℕ) (image : List ℕ) → before.ticks < k → MayLeave 0 d k image → MayBeFound accounted.opening (state_of story).ends k (frames image)) accounted.stops
         (λ d h k image later. h k image (omega (arith, later, ap (λ c. c.ticks) counts.0, begins.on.ticks)));
+    again =
+        told_map now.told _ (λ d. (k : ℕ) (image : List ℕ) → before.ticks < k → MayLeave 0 d k image → OpensAgain (frames image)) accounted.stops
+        (λ d h k image later may. again accounted.opening k (frames image) accounted.opened (h k image (omega (arith, later, ap (λ c. c.ticks) counts.0, begins.on.ticks)) may));
     sound = λ sound. accounted.settled (none_without story sound);
     mended = mended;
     apart =

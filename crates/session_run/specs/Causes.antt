@@ -1,18 +1,19 @@
 -- The cause of each status of a call.
-use Rattle.std.specs.Prelude.{◌≡◌, ℕ, ◌+◌, ◌<◌, ◌≤◌, Bool, true, false, Option, IfSome, List, [], length}
+use Rattle.std.specs.Prelude.{◌≡◌, ℕ, ◌+◌, ◌<◌, ◌≤◌, Bool, true, false, Option, is_some, IfSome, List, [], length}
 use Rattle.std.specs.Io.KnownBytes.{IsAtEnd}
 use Rattle.cc_names.specs.declared.steps.Told.{Told}
 use Rattle.cc_outside.specs.Counts.{raised, Rose, RoseAbove, RoseAtMost}
 use Rattle.disk_model.specs.Devices.{bytes_of}
 use Rattle.disk_model.specs.Told.{Sight, IfTold}
 use Rattle.vob_journal.specs.Frames.{frames}
-use Rattle.base_core.specs.Opening.{IsDamaged}
+use Rattle.base_core.specs.Opening.{IsDamaged, IsUndamaged}
 use Rattle.legal_history.specs.States.{all_done}
 use Rattle.legal_history.specs.Steps.{state_of}
 use Rattle.legal_history.specs.Stories.{rises}
 use Rattle.session_run.specs.Asked.{text_limit, is_run, is_session}
 use Rattle.session_run.specs.Headline.{is_opened}
 use Rattle.session_run.specs.Rendered.{has_failure}
+use Rattle.session_run.specs.Statuses.{is_cut}
 use Rattle.session_run.specs.declared.statuses.Status.{Status}
 use Rattle.session_run.specs.declared.statuses.Status.TheVariants as statuses
 
@@ -73,16 +74,21 @@ pub record IsUntouched (disk : Change Sight) (story : List Told) : Type 0 where
   pub disk_is : disk.after ≡ disk.before
   pub story_is : story ≡ []
 
--- the frame of this number is the first of the disk's journal that spells no row, or whose row does not fit those before it
+-- the frame of this number is the first of the disk's journal that spells no readable row, or whose row does not fit those
+-- before it
 abbrev pub DiskDamaged : Change Sight → ℕ → Type 0
 DiskDamaged disk row = IfTold disk.before.told (λ d. IsDamaged (frames (bytes_of 0 d)) row)
+
+-- no frame of the disk's journal is so
+abbrev pub DiskUndamaged : Change Sight → Type 0
+DiskUndamaged disk = IfTold disk.before.told (λ d. IsUndamaged (frames (bytes_of 0 d)))
 
 -- *The cause of each status*. Memory may run out anywhere. The other causes exclude one another, a failed source and a failed
 -- sink aside, so each status but those comes exactly where its cause does, unless the sink fails or memory runs out. Where the
 -- disk failed and a base was opened, each command is finished.
 abbrev pub HasCause : Status → Intake → Change ℕ → Change Sight → List Told → Type 0
-HasCause statuses.Good intake sink_faults disk story = IsWhole intake story × (has_failure story ≡ false) × (disk_rose disk ≡ false)
-HasCause statuses.SomeFailed intake sink_faults disk story = IsWhole intake story × (has_failure story ≡ true) × (disk_rose disk ≡ false)
+HasCause statuses.Good intake sink_faults disk story = IsWhole intake story × (has_failure story ≡ false) × (disk_rose disk ≡ false) × DiskUndamaged disk
+HasCause statuses.SomeFailed intake sink_faults disk story = IsWhole intake story × (has_failure story ≡ true) × (disk_rose disk ≡ false) × DiskUndamaged disk
 HasCause statuses.BadWords intake sink_faults disk story = (is_run intake.words ≡ false) × IsUntouched disk story
 HasCause statuses.BadSession intake sink_faults disk story = IsRead intake × SpellsNone intake × IsUntouched disk story
 HasCause (statuses.Damaged row) intake sink_faults disk story = IsAsked intake × DiskDamaged disk row × (disk_rose disk ≡ false) × (story ≡ [])
@@ -91,6 +97,17 @@ HasCause statuses.WriteFault intake sink_faults disk story = Rose sink_faults.be
 HasCause statuses.DiskFault intake sink_faults disk story = IsAsked intake × (disk_rose disk ≡ true) × (is_opened story ≡ true → all_done (state_of story) ≡ true)
 HasCause statuses.NoMemory intake sink_faults disk story = Unit {0}
 HasCause statuses.TooLong intake sink_faults disk story = GaveTooMuch intake × IsUntouched disk story
+
+-- the base was to be opened, as the source tells, whose count of faults did not rise
+pub record IsToldToOpen (intake : Intake) : Type 0 where
+  pub asked : IsAsked intake
+  pub text : is_some intake.text.before ≡ true
+  pub sound : Rose intake.faults.before intake.faults.after → ⊥
+
+-- *A damaged journal*, the other way. Where the base was to be opened on a disk that tells a damaged journal, and the count of
+-- the disk's faults did not rise, the status says so with the frame's number, unless the sink fails or memory runs out.
+pub record FindsDamage (status : Status) (intake : Intake) (disk : Change Sight) : Type 0 where
+  pub damaged : (row : ℕ) → IsToldToOpen intake → is_some disk.before.told ≡ true → DiskDamaged disk row → disk_rose disk ≡ false → is_cut status ≡ false → status ≡ statuses.Damaged row
 
 -- *How far a source is read*, whatever the status: it gave at most one byte more than a text may have
 pub record TakesNoMore (given : Change ℕ) : Type 0 where

@@ -14,7 +14,7 @@ use Rattle.base_core.specs.declared.opening.OpenCause.{OpenCause}
 use Rattle.session_run.specs.Causes.{Change, disk_rose}
 use Rattle.session_run.specs.Headline.{AreFromNothing, BeginsOn, first_step}
 use Rattle.session_run.specs.Runs.{Outside, GivenAsTold, HasRunSo, OnWriteFault, run_status}
-use Rattle.session_run.specs.Stopped.{IsMended}
+use Rattle.session_run.specs.Stopped.{AllOpenAgain, IsMended}
 use Rattle.session_run.specs.Stops.{WritesStop, open_stop}
 use Rattle.session_run.specs.declared.statuses.Status.{Status}
 
@@ -31,6 +31,7 @@ pub record RunsOpened (phases : List Phase) (status : Status) (first : Option To
   pub fault : OnWriteFault result (Rose faults.before faults.after)
   pub accounted : IsAccounted (state_of story) after
   pub mended : IsMended (state_of story) after
+  pub again : AllOpenAgain story
 
 -- the base that the disk stood for was opened
 pub record RunsOn (phases : List Phase) (status : Status) (story : List Told) (outside : Outside) (faults : Change ℕ) (disk : Change Sight) : Type 0 where

@@ -11,6 +11,7 @@ use Rattle.legal_history.specs.Steps.{state_of}
 use Rattle.legal_history.specs.Stories.{rises}
 use Rattle.vob_journal.specs.Frames.{frames}
 use Rattle.base_core.specs.Backed.{IsSettled}
+use Rattle.base_core.specs.Founds.{OpensAgain}
 use Rattle.base_core.specs.Standing.{MayBeFound}
 use Rattle.session_run.specs.Headline.{is_opened}
 
@@ -36,13 +37,15 @@ IsMended s disk = faults_of s.opened s.ends ≡ disk.faults → disk.faults < 2 
 
 -- Where a base was opened. A stop at a device call of the session, or after the last, finds the base as it was opened with
 -- the row of each commit that ended before that call; besides it may find the row of the commit within whose call it comes,
--- or the row that a fault left, and no more. After the last call it finds the rows of all commits and no more where the
--- history has no fault, and where the count of the disk's faults stands as the last fault left it, below its last number.
--- Each fault of the history has a rise of that count of its own, within those of the call.
+-- or the row that a fault left, and no more. What it finds opens again without damage, to the base that it stands for. After
+-- the last call it finds the rows of all commits and no more where the history has no fault, and where the count of the
+-- disk's faults stands as the last fault left it, below its last number. Each fault of the history has a rise of that count
+-- of its own, within those of the call.
 pub record KeepsPrefix (before after : Sight) (story : List Told) : Type 0 where
   pub opening : Opening
   pub opened : (state_of story).opened ≡ Some opening
   pub stops : IfTold after.told (λ d. (k : ℕ) (image : List ℕ) → before.ticks < k → MayLeave 0 d k image → MayBeFound opening (state_of story).ends k (frames image))
+  pub again : IfTold after.told (λ d. (k : ℕ) (image : List ℕ) → before.ticks < k → MayLeave 0 d k image → OpensAgain (frames image))
   pub sound : rises_of story ≡ [] → IsSettled (state_of story) after
   pub mended : IsMended (state_of story) after
   pub apart : AreApart before.faults (rises_of story) after.faults
@@ -50,6 +53,10 @@ pub record KeepsPrefix (before after : Sight) (story : List Told) : Type 0 where
 -- Where none was opened. A stop finds the frames that the disk had.
 abbrev pub KeepsFrames : Sight → Sight → Type 0
 KeepsFrames before after = IfTold before.told (λ d. IfTold after.told (λ e. (k : ℕ) (image : List ℕ) → before.ticks < k → MayLeave 0 e k image → frames image ≡ frames (bytes_of 0 d)))
+
+-- whatever a stop may find of a story opens again
+abbrev pub AllOpenAgain : List Told → Type 0
+AllOpenAgain story = (opening : Opening) (k : ℕ) (found : List (List ℕ)) → (state_of story).opened ≡ Some opening → MayBeFound opening (state_of story).ends k found → OpensAgain found
 
 -- *Stopped*: what a stop at each device call finds, from what the disk told as it was handed in and as it came back.
 pub record IsStopped (before after : Sight) (story : List Told) : Type 0 where

@@ -6,7 +6,7 @@ ghost use Rattle.legal_history.specs.Stories.{rises};
 ghost use Rattle.disk_model.specs.Told.{IfTold};
 ghost use Rattle.disk_model.specs.Devices.{file_of, bytes_of};
 ghost use Rattle.disk_model.specs.Files.{stable};
-ghost use Rattle.session_run.specs.Causes.{HasCause, TakesNoMore};
+ghost use Rattle.session_run.specs.Causes.{FindsDamage, HasCause, TakesNoMore};
 ghost use Rattle.session_run.specs.Headline.{IsSession, IsOneHistory, AreFromNothing, ArePrinted, first_step};
 ghost use Rattle.session_run.specs.Outcomes.{RunsOpened, RunsSession};
 ghost use Rattle.session_run.specs.Runs.{IsJustOpened, IsRunnable, run_status};
@@ -17,6 +17,7 @@ use crate::lines::refuse;
 use crate::phases::run_phases;
 use crate::sessions::{Stop, session_given};
 use crate::statuses::Status;
+use base_core::laws::a_stop_opens_again;
 use base_core::{Core, History, OpenCause, OpenFault};
 use cc_names::commands::Phase;
 use cc_names::memory::Or;
@@ -92,6 +93,7 @@ fn run_opened<K: Sink, D: Disk, C: Clock>(
     let run = run_phases(alloc, &mut core, phases, sink, clock);
     a_build_is_as_from_nothing();
     a_build_is_of_its_command();
+    a_stop_opens_again();
     settle(&mut core);
     let status = status_of(run, has_risen(before, core.counts().faults));
     let (disk, history) = core.into_parts();
@@ -147,6 +149,7 @@ pub fn run_words<S: Source, K: Sink, D: Disk, C: Clock>(
     ensures printed { ArePrinted result.status result.history (S.left source.old) (K.held sink.old) (K.held sink.new) }
     ensures stopped { IsStopped (D.sight disk) (D.sight result.disk) result.history }
     ensures cause { HasCause result.status (record { words = words.now; text = record { before = S.left source.old; after = S.left source.new }; given = record { before = S.given source.old; after = S.given source.new }; faults = record { before = S.faults source.old; after = S.faults source.new } }) (record { before = K.faults sink.old; after = K.faults sink.new }) (record { before = D.sight disk; after = D.sight result.disk }) result.history }
+    ensures damaged { FindsDamage result.status (record { words = words.now; text = record { before = S.left source.old; after = S.left source.new }; given = record { before = S.given source.old; after = S.given source.new }; faults = record { before = S.faults source.old; after = S.faults source.new } }) (record { before = D.sight disk; after = D.sight result.disk }) }
     ensures taken { TakesNoMore (record { before = S.given source.old; after = S.given source.new }) }
 {
     match session_given(alloc, words, source) {

@@ -15,14 +15,14 @@ invariant_of-self-in-Ok-Committed g c =
     let done : IsCommitted c.self.inside.log c.append.new.self c.args.row = subst (Appends c.self.inside.log c.append.new.self c.args.row None) c.in-Ok-Committed.field-0-is c.in-Ok-Committed.ensures.ok in
     subst (λ log. IsKept log c.add_reply.new.lanes.items c.self.inside.builds.items c.self.inside.moment) (sym done.grows)
     (subst (λ lanes. IsKept (with_row c.self.inside.log c.args.row done.tick done.sight) lanes c.self.inside.builds.items c.self.inside.moment) (sym c.in_ok-add_reply.ensures.ok)
-    (kept_next_row c.self.inside.log c.self.inside.replies.items c.self.inside.builds.items c.self.inside.moment c.args.self.now.story c.args.row c.tag-lane.result.lane done.tick done.sight done.ticked (ap (λ v. v.story) c.self.view_is) (ap (λ t. t.lane) c.tag-lane.ensures) c.self.invariant c.requires))
+    (kept_next_row c.self.inside.log c.self.inside.replies.items c.self.inside.builds.items c.self.inside.moment c.args.self.now.story c.args.row c.tag-lane.result.lane done.tick done.sight done.ticked (ap (λ v. v.story) c.self.view_is) (ap (λ t. t.lane) c.tag-lane.ensures) c.self.invariant c.requires done.formed))
 
 pub invariant_of-self-in-Ok-Faulted : goal.invariant_of-self-in-Ok-Faulted
 invariant_of-self-in-Ok-Faulted g c =
     let done : IsFaulted c.self.inside.log c.append.new.self c.args.row None = subst (Appends c.self.inside.log c.append.new.self c.args.row None) c.in-Ok-Faulted.field-0-is c.in-Ok-Faulted.ensures.ok in
     subst (λ log. IsKept log c.replace_reply.new.lanes.items c.self.inside.builds.items c.self.inside.moment) (sym done.grows)
     (subst (λ lanes. IsKept (with_step_on c.self.inside.log (steps.Fault c.args.row.tag done.left done.before done.faults done.tick) done.sight) lanes c.self.inside.builds.items c.self.inside.moment) (sym (c.replace_reply.ensures c.self.inside.replies.items replies.Good c.in_ok-add_reply.ensures.ok))
-    (kept_next_fault c.self.inside.log c.self.inside.replies.items c.self.inside.builds.items c.self.inside.moment c.args.self.now.story c.args.row c.tag-lane.result.lane done.left done.before done.faults done.tick done.sight done.rose done.later done.leaves done.ticked (ap (λ v. v.story) c.self.view_is) (ap (λ t. t.lane) c.tag-lane.ensures) c.self.invariant c.requires))
+    (kept_next_fault c.self.inside.log c.self.inside.replies.items c.self.inside.builds.items c.self.inside.moment c.args.self.now.story c.args.row c.tag-lane.result.lane done.left done.before done.faults done.tick done.sight done.rose done.later done.leaves done.ticked (ap (λ v. v.story) c.self.view_is) (ap (λ t. t.lane) c.tag-lane.ensures) c.self.invariant c.requires done.formed))
 
 pub returns-in-Ok-Faulted-clause-ok : goal.returns-in-Ok-Faulted-clause-ok
 returns-in-Ok-Faulted-clause-ok g c =

@@ -32,7 +32,7 @@ returns-in-Ok-clause-ok g c =
     let rows : c.push-in-Ok.new.self.rows ≡ c.self.inside.rows.rows ++ c.args.row ∷ [] = c.push-in-Ok.ensures ∙ ap (λ xs. xs ++ c.args.row ∷ []) c.reserve.ensures.same in
     subst (λ old. IsCommitted old (shown c.self.inside.handed c.push.new.self.items c.push-in-Ok.new.self.rows c.self.inside.phases.items (g.D.Disk.sight c.append.new.self.disk)) c.args.row) c.self.view_is
     (is_committed c.self.inside.handed c.self.inside.steps.items c.push.new.self.items c.self.inside.rows.rows c.push-in-Ok.new.self.rows c.self.inside.phases.items c.tag-tag.result (c.len.result + 1) c.in-Ok.tick _ c.args.row
-    (g.D.Disk.sight c.self.inside.journal.disk) (g.D.Disk.sight c.append.new.self.disk) c.self.inside.journal.list c.self.inside.journal.loose c.self.inside.journal.ended c.self.inside.journal.left c.self.invariant kept rows c.in-Ok.ensures.tick c.in-Ok.ensures.costs.0 (some_calls c.self.inside.journal.settled) c.in-Ok.ensures.costs.1)
+    (g.D.Disk.sight c.self.inside.journal.disk) (g.D.Disk.sight c.append.new.self.disk) c.self.inside.journal.list c.self.inside.journal.loose c.self.inside.journal.ended c.self.inside.journal.left c.self.invariant kept rows c.in-Ok.ensures.tick c.in-Ok.ensures.costs.0 (some_calls c.self.inside.journal.settled) c.in-Ok.ensures.costs.1 c.deed.ensures.formed)
 
 pub invariant_of-self : goal.invariant_of-self
 invariant_of-self g c =
@@ -68,4 +68,4 @@ returns-clause-ok g c =
     (is_faulted c.self.inside.handed c.self.inside.steps.items c.push_both.new.steps.items c.self.inside.rows.rows c.self.inside.phases.items c.tag-tag.result c.args.row c.in_ok-earlier.earlier c.match-left.left c.counts-before.result.faults c.counts-counts.result.faults c.counts-counts.result.ticks c.args.ending
     (g.D.Disk.sight c.self.inside.journal.disk) (g.D.Disk.sight c.append.new.self.disk) c.self.inside.journal.list c.self.inside.journal.loose c.self.inside.journal.ended c.self.inside.journal.left c.append.new.self.left
     c.tag-tag.ensures c.requires.ending c.self.invariant kept (c.in_ok-earlier.ensures ∙ ap left_in c.as_slice.ensures.value) left c.counts-counts.ensures.ticks c.counts-counts.ensures.faults c.counts-before.ensures.faults c.in_default.ensures.costs.0 c.in_default.ensures.costs.2
-    (g.met.D.Disk.counted c.self.inside.journal.disk) (g.met.D.Disk.counted c.append.new.self.disk)))
+    (g.met.D.Disk.counted c.self.inside.journal.disk) (g.met.D.Disk.counted c.append.new.self.disk) c.deed.ensures.formed))

@@ -1,0 +1,6 @@
+-- what a stop finds opens again
+use Rattle.base_core.proofs.FoundBases.{opens_again}
+use Rattle.base_core.proofs.laws.a_stop_opens_again.Goals as goal
+
+pub returns : goal.returns
+returns c = λ story opening k found legal named opened may. opens_again c.a_base_fits.ensures story opening k found legal named opened may

@@ -1,0 +1,29 @@
+-- Readable rows, which a journal gives back, and stories that name no others.
+use Rattle.std.specs.Prelude.{IfSome, List, reverse}
+use Rattle.std.specs.List.{AllByRecursion}
+use Rattle.cc_names.specs.Formed.{Plain, IsFormed}
+use Rattle.cc_names.specs.declared.steps.Step.TheVariants as steps
+use Rattle.cc_names.specs.declared.steps.Told.{Told}
+use Rattle.cc_names.specs.declared.steps.Told.TheVariants as told
+use Rattle.legal_history.specs.Base.{Base}
+use Rattle.row_form.specs.Reading.{IsKnown}
+
+-- a readable row: it keeps its form, and rows of its deed are read
+pub record IsReadable (row : Plain) : Type 0 where
+  pub formed : IsFormed row
+  pub known : IsKnown row.deed
+
+-- each row of a base is readable
+abbrev pub AreReadable : Base → Type 0
+AreReadable b = AllByRecursion IsReadable b
+
+-- each row that a step names is so: those of the base that was opened, the row of a commit, and what a fault left
+abbrev pub NamesOnly : (Plain → Type 0) → Told → Type 0
+NamesOnly P (told.Opened rows counts tells) = AllByRecursion P (reverse rows)
+NamesOnly P (told.Commit row tick) = P row
+NamesOnly P (told.Other (steps.Fault tag left before faults tick)) = IfSome left P
+NamesOnly P step = Unit {0}
+
+-- each row that a story names is so
+abbrev pub TellsOnly : (Plain → Type 0) → List Told → Type 0
+TellsOnly P story = AllByRecursion (NamesOnly P) story
