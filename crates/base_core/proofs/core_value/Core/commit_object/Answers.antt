@@ -75,13 +75,8 @@ invariant_of-self-in-Ok-Committed g c =
     let done : IsCommitted c.self.inside.log c.append.new.self c.args.row = subst (Appends c.self.inside.log c.append.new.self c.args.row (Some (steps.End c.tag-tag.result))) c.in-Ok-Committed.field-0-is c.in-Ok-Committed.ensures.ok in
     subst (λ log. IsKept log c.take_reply_back.new.lanes.items c.note.new.builds.items c.self.inside.moment) (sym done.grows)
     (subst (λ lanes. IsKept (with_row c.self.inside.log c.args.row done.tick done.sight) lanes c.note.new.builds.items c.self.inside.moment) (sym (c.take_reply_back.ensures c.self.inside.replies.items replies.DiskFault c.in_ok-add_reply.ensures.ok))
-<<<<<<< HEAD
     (kept_object c.self.inside.log c.self.inside.replies.items c.self.inside.builds.items c.note.new.builds.items c.self.inside.moment c.args.self.now.story c.args.lane c.args.unit (c.len.result + 1) c.args.row done.tick done.sight done.ticked
-    (ap (λ v. v.story) c.self.view_is) c.self.invariant c.requires (omega (arith, c.len.ensures, ap length c.rows.ensures)) c.a_base_fits.ensures c.a_build_agrees.ensures (λ build e. c.note.ensures build e)))
-=======
-    (kept_object c.self.inside.log c.self.inside.replies.items c.self.inside.builds.items c.note.new.builds.items c.self.inside.moment c.args.self.now.story c.args.lane c.args.unit (length c.rows.result.now + 1) c.args.row done.tick done.sight done.ticked
-    (ap (λ v. v.story) c.self.view_is) c.self.invariant c.requires (omega (arith, ap length c.rows.ensures)) c.a_base_fits.ensures c.a_build_agrees.ensures (λ build e. c.note.ensures build e) done.formed))
->>>>>>> 78ad24707239a55373c137286e23d5a893229f25
+    (ap (λ v. v.story) c.self.view_is) c.self.invariant c.requires (omega (arith, c.len.ensures, ap length c.rows.ensures)) c.a_base_fits.ensures c.a_build_agrees.ensures (λ build e. c.note.ensures build e) done.formed))
 
 pub invariant_of-self-in-Ok-Faulted : goal.invariant_of-self-in-Ok-Faulted
 invariant_of-self-in-Ok-Faulted g c =
