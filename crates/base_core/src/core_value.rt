@@ -96,8 +96,8 @@ impl<D: Disk> Core<D> {
     ghost use Rattle.build_script.specs.Ended.{ran_of};
     ghost use Rattle.legal_history.specs.Turns.{came_by_start};
 
-    /// Opens the base that a disk stands for. Reads its journal once, in time linear in its bytes, and writes nothing; that a
-    /// row fits takes time linear in the rows before it. A disk whose base cannot be opened comes back with the cause.
+    /// Opens the base that a disk stands for. Reads its journal once, in time linear in its bytes, and writes nothing. A
+    /// disk whose base cannot be opened comes back with the cause.
     pub fn open(alloc: Global, disk: D) -> Result<Core<D>, OpenFault<D>>
         requires { IfTold (D.sight disk).told (λ d. file_of 0 d ≡ stable (bytes_of 0 d)) }
         ensures ok { IfOk result (λ core. Opens (D.sight disk) core.story core.sight) }
@@ -274,7 +274,7 @@ impl<D: Disk> Core<D> {
     }
 
     /// Begins the build of a lane's next command, or refuses the command. A build that is active goes on. An `Err` changes
-    /// nothing. Takes time linear in the rows and in the makefile.
+    /// nothing. Takes time linear in the makefile.
     fn begin(&mut self, alloc: Global, lane: u32) -> Result<Begun, NoMemory>
         requires { next_of (state_of self.old.story) lane ≡ nexts.Build (next_tag (state_of self.old.story) lane) }
         ensures ok { IfOk result (λ begun. Begins self.old.story self.new.story lane begun) }
@@ -537,7 +537,7 @@ impl<D: Disk> Core<D> {
 
     /// Carries out a lane's next command, which builds: it is refused, or its units are carried out one after the other and
     /// the build ends. After an `Err` the story may have gone on by steps of this build, which is then active. Takes time
-    /// linear in the makefile, and for each read of a script in the rows.
+    /// linear in the makefile, and in what the scripts read and write.
     pub fn build(&mut self, alloc: Global, lane: u32) -> Result<(), NoMemory>
         requires { next_of (state_of self.old.story) lane ≡ nexts.Build (next_tag (state_of self.old.story) lane) }
         ensures ok { OnOk result (Finishes self.old.story self.new.story lane) }

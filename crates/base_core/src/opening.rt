@@ -119,7 +119,7 @@ fn read_rows<D: Disk>(alloc: Global, journal: &mut Journal<D>) -> Result<Rows, O
 }
 
 /// Opens the log of the base that a disk stands for. Reads the journal once, and writes nothing. Takes time linear in the
-/// journal's bytes, and to see that a row fits, for each row in the rows before it.
+/// journal's bytes.
 pub(crate) fn open_log<D: Disk>(alloc: Global, disk: D) -> Result<Log<D>, OpenFault<D>>
     requires { IfTold (D.sight disk).told (λ d. file_of 0 d ≡ stable (bytes_of 0 d)) }
     ensures ok { IfOk result (λ log. IsOpened (D.sight disk) log) }

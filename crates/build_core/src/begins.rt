@@ -133,7 +133,7 @@ fn begun(
 /// command's view, and `taken` is how many rows there are, row 0 included, and are reserved. Fails also where memory
 /// runs out.
 ///
-/// Takes time linear in the rows, and what `plan` takes with a walk over the rows for each file that it looks at.
+/// Takes what `plan` takes, and for each file that it looks at a look-up by the file's path.
 pub fn plan_build(
     alloc: Global,
     rows: &FirstRows<'_>,

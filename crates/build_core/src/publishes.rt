@@ -59,7 +59,7 @@ fn entries_of(alloc: Global, found: BTreeMap<Path, u64>) -> Result<List<ReadOf>,
 /// The row that a unit of an active build publishes at this moment, in a base without elements: its run gave these
 /// outputs, and asked for these paths. Fails only where memory runs out.
 ///
-/// Takes for each read a walk over the rows and one over the units, and time linear in what it copies.
+/// Takes for each read a walk over the units and a look-up by the path, and time linear in what it copies.
 pub fn publish_row(
     alloc: Global,
     rows: &FirstRows<'_>,

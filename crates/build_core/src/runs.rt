@@ -56,7 +56,7 @@ impl Files for UnitFiles<'_> {
 /// Runs the script of a unit over what the unit sees, in a base without elements. The script and the targets are those
 /// of the unit. Fails only where memory runs out.
 ///
-/// Takes what `run` takes, and for each path that it reads a walk over the rows and one over the units.
+/// Takes what `run` takes, and for each path that it reads a walk over the units and a look-up by the path.
 pub fn run_unit(
     alloc: Global,
     rows: &FirstRows<'_>,

@@ -81,7 +81,7 @@ fn object_below(
 /// unit that it needs, directly or through others, else the file of the view as the build began. Fails only where memory
 /// runs out.
 ///
-/// Takes time that grows with the units before it times the prerequisites met, and with the rows.
+/// Takes time that grows with the units before it times the prerequisites met, and a look-up by the path.
 pub fn visible(
     alloc: Global,
     rows: &FirstRows<'_>,

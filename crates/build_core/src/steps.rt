@@ -120,8 +120,7 @@ fn next(
 /// What comes next for a unit of an active build, in a base without elements: nothing where it has its outcome; else the
 /// wait for another unit, the end without a run, or its start with its script. Fails only where memory runs out.
 ///
-/// Takes time that grows with the rows times the unit's prerequisites, with the units times them, and with the bytes of
-/// the script.
+/// Takes time that grows with the units times the unit's prerequisites, and with the bytes of the script.
 pub fn step(
     alloc: Global,
     rows: &FirstRows<'_>,

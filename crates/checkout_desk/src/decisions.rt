@@ -18,7 +18,8 @@ use std::alloc::Global;
 use view_lookup::FirstRows;
 
 /// A command's row, or its first refusal in the order of the tests of its line. `busy` is the active build of the
-/// command's view, and `room` is how many rows may still be made. Takes time linear in the rows and their targets.
+/// command's view, and `room` is how many rows may still be made. Takes time linear in the command, however
+/// many rows there are.
 pub fn decide(
     alloc: Global,
     rows: &FirstRows<'_>,

@@ -39,7 +39,7 @@ fn needs_directory(parent: Path, seen: Seen) -> Option<Refusal>
 }
 
 /// The refusal of a file that may not be saved at a path below the root: nothing stands there, and the view holds an
-/// object. Takes time linear in the rows and their targets.
+/// object. Takes time linear in the path, however many rows there are.
 fn saves_at(
     alloc: Global,
     rows: &FirstRows<'_>,
@@ -61,7 +61,7 @@ fn saves_at(
     Ok(Some(Refusal::IsDerived(path.copy(alloc)?)))
 }
 
-/// The first refusal of `save V P`, its room included. Takes time linear in the rows and their targets.
+/// The first refusal of `save V P`, its room included. Takes time linear in the path, however many rows there are.
 fn save_refusal(
     alloc: Global,
     rows: &FirstRows<'_>,

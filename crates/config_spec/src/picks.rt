@@ -98,7 +98,9 @@ fn verdict(sight: Sight, element: u64, path: &Path, rule: &Rule) -> Option<Optio
 
 /// Picks the version of an element at a path: that of the first rule whose pattern matches the path and whose selector
 /// finds a version, or none where such a rule is `-none` first. `out` is the row that makes the text of the view's
-/// checkout, where it has one. Takes no memory, and the time of the rules tried times the look-up of a version.
+/// checkout, where it has one. Takes no memory, and for each rule tried the matching of the path and the look-up of a
+/// version: logarithmic in the versions, but for a rule with a time linear in those that are not before it (`Tree::latest`),
+/// and for one of a record linear in what the record lists (`Rolls`).
 pub fn pick(
     tree: &Tree,
     labels: &Book,

@@ -8,7 +8,7 @@
 // `Branches`), None exactly where they find nothing. Adding a change or setting what a version holds takes no memory,
 // where room for it was reserved before.
 //
-// What it stands on: `cc_names`. A version takes about 100 bytes, and what it holds about 40 more.
+// What it stands on: `cc_names`. A version takes about 100 bytes, and what it holds about 60 more.
 #![tactic(auto)]
 
 ghost use Rattle.std.specs.Prelude.{◌≡◌, ℕ, ◌==◌, ◌<◌, ◌≤◌, ◌+◌, ◌∷◌, [], ◌++◌, IsTrue, IsSome, IfOk, IfSome, OnOk, map, reverse, filter, nat_eq, nat_lt, option_copied, vec_len, vec_capacity, if◌then◌else◌};

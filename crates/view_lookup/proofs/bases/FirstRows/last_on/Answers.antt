@@ -14,7 +14,6 @@ use Rattle.view_lookup.proofs.Fronts.{first_of_rows}
 use Rattle.view_lookup.proofs.LastOn.{marks_of_first}
 use Rattle.view_lookup.proofs.bases.FirstRows.last_on.Goals as goal
 
-
 -- the search begins at the newest row of the key
 pub loop-next-init : goal.loop-next-init
 loop-next-init c =
