@@ -1,14 +1,13 @@
 -- The first marked row that bears on a thing is the last row of the base that does.
-use Rattle.std.proofs.Common.{◌≡◌, ℕ, suc, ◌<◌, ◌≤◌, ◌==◌, Bool, true, false, cond, ◌||◌, ◌&&◌, List, [], ◌∷◌, length, Option, Some, None, map, nat_lt, refl, sym, ap, ap₂, ◌∙◌, arith, bytes_eq}
+use Rattle.std.proofs.Common.{◌≡◌, ℕ, suc, ◌<◌, ◌≤◌, ◌==◌, Bool, true, false, ◌||◌, List, [], ◌∷◌, length, Option, Some, None, map, nat_lt, refl, ap, ap₂, ◌∙◌, arith, bytes_eq}
 use Rattle.std.specs.List.{list_any}
 use Rattle.std.proofs.lemmas.Bool.Decides.{nat_tests, Decides-eqb}
 use Rattle.std.proofs.lemmas.Slice.Eq.{bytes_eq-Decides}
-use Rattle.cc_names.specs.Formed.{Plain}
 use Rattle.cc_names.specs.Versions.{put_if}
 use Rattle.cc_names.specs.declared.rows.Deed.{Deed}
 use Rattle.cc_names.specs.declared.rows.Deed.TheVariants as deeds
-use Rattle.legal_history.specs.Base.{Base, size, first_rows, row_at, deed_at, deed_of}
-use Rattle.view_lookup.specs.Bearing.{bears, key_of_thing, Numbered, last_on, bearing, deed_on, numbered_or, first_on}
+use Rattle.legal_history.specs.Base.{Base, size, first_rows, row_at, deed_of}
+use Rattle.view_lookup.specs.Bearing.{bears, key_of_thing, last_on, bearing, deed_on, numbered_or, first_on}
 use Rattle.view_lookup.specs.Keyed.{key_of_view, key_of_file, key_of_object, keys_of}
 use Rattle.view_lookup.specs.Made.{is_target}
 use Rattle.view_lookup.specs.Marked.{with_marks, marked}

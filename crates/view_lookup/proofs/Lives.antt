@@ -1,5 +1,5 @@
 -- A view's life and its private files, told by the last rows that bear on them.
-use Rattle.std.proofs.Common.{◌≡◌, ℕ, suc, ◌<◌, ◌≤◌, Bool, true, false, ◌&&◌, nat_lt, bytes_eq, Bor, List, [], ◌∷◌, length, Option, Some, None, IfSome, refl, sym, ap, ap₂, ◌∙◌, arith}
+use Rattle.std.proofs.Common.{◌≡◌, ℕ, ◌<◌, ◌≤◌, Bool, true, false, ◌&&◌, nat_lt, bytes_eq, Bor, List, [], ◌∷◌, Option, Some, None, IfSome, refl, sym, ap, arith}
 use Rattle.std.proofs.lemmas.Bool.Decides.{nat_tests}
 use Rattle.cc_names.specs.Last.{Sets, Ends, only_if, left, last}
 use Rattle.cc_names.specs.declared.rows.Deed.{Deed}

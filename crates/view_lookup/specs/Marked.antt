@@ -1,5 +1,5 @@
 -- The marks that rows leave for the keys of what they bear on: links, each of which names the next older one of its key.
-use Rattle.std.specs.Prelude.{◌≡◌, ℕ, ◌<◌, ◌==◌, Bool, true, false, cond, Option, Some, None, List, [], ◌∷◌, length, reverse, IfSome}
+use Rattle.std.specs.Prelude.{◌≡◌, ℕ, ◌<◌, ◌==◌, Bool, true, false, Option, Some, None, List, [], ◌∷◌, length, reverse, IfSome}
 use Rattle.cc_names.specs.Versions.{put_if}
 use Rattle.legal_history.specs.Base.{Base, size}
 use Rattle.view_lookup.specs.Keyed.{keys_of}

@@ -1,7 +1,7 @@
 // The things of a view on which rows bear, and the keys by which the rows are found.
 
-ghost use Rattle.std.specs.Prelude.{◌≡◌, length};
-ghost use Rattle.cc_names.specs.Keys.{hash_step};
+ghost use Rattle.std.specs.Prelude.{◌≡◌, fold, length};
+ghost use Rattle.cc_names.specs.Keys.{hash_step, key_of};
 ghost use Rattle.view_lookup.specs.Keyed.{key_of_view, key_of_file, key_of_object, keys_of};
 ghost use Rattle.view_lookup.specs.Made.{bears_on_view, bears_on_file, bears_on_object};
 
@@ -37,22 +37,26 @@ pub(crate) fn key_of_view(view: &Name) -> u64
     key_of(0, view)
 }
 
+// The hash of a view goes on over a path.
+fn key_at(kind: u64, view: &Name, path: &Path) -> u64
+    ensures { result ≡ fold hash_step (key_of kind view.now) path.now }
+{
+    path.as_bytes().iter().fold(
+        key_of(kind, view),
+        |hash, byte| hash_step(hash, u64::from(*byte)),
+    )
+}
+
 pub(crate) fn key_of_file(view: &Name, path: &Path) -> u64
     ensures { result ≡ key_of_file view.now path.now }
 {
-    path.as_bytes().iter().fold(
-        key_of(1, view),
-        |hash, byte| hash_step(hash, u64::from(*byte)),
-    )
+    key_at(1, view, path)
 }
 
 pub(crate) fn key_of_object(view: &Name, path: &Path) -> u64
     ensures { result ≡ key_of_object view.now path.now }
 {
-    path.as_bytes().iter().fold(
-        key_of(2, view),
-        |hash, byte| hash_step(hash, u64::from(*byte)),
-    )
+    key_at(2, view, path)
 }
 
 /// How many things a deed bears on.

@@ -1,7 +1,6 @@
 -- The front is the first rows, however few there are.
-use Rattle.std.proofs.Common.{◌≡◌, ℕ, ◌≤◌, List, length, reverse, take, min, sym, ap, subst, ◌∙◌, arith}
+use Rattle.std.proofs.Common.{◌≡◌, ◌≤◌, length, reverse, take, min, sym, ap, ◌∙◌, arith}
 use Rattle.std.proofs.lemmas.List.{length-take-le}
-use Rattle.legal_history.specs.Base.{first_rows}
 use Rattle.view_lookup.specs.Unversioned.{is_unversioned}
 use Rattle.view_lookup.proofs.Fronts.{first_of_rows, first_unversioned, take_within, front_of_front}
 use Rattle.view_lookup.proofs.bases.first_rows.Goals as goal

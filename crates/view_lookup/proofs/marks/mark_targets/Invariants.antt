@@ -1,4 +1,4 @@
-use Rattle.std.proofs.Common.{◌≡◌, ℕ, ◌+◌, ◌≤◌, nat_eq, length, drop, map, vec_len, vec_capacity}
+use Rattle.std.proofs.Common.{◌≡◌, ℕ, ◌+◌, ◌≤◌, nat_eq, drop, map, vec_len, vec_capacity}
 use Rattle.std.specs.HashMap.{get, spare}
 use Rattle.view_lookup.specs.Keyed.{key_of_object}
 use Rattle.view_lookup.specs.Marked.{IsChained, rows_by, with_marks}

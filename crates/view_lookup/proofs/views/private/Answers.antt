@@ -1,12 +1,10 @@
 -- The last row that bears on the file puts it within the view's life, or there is none.
-use Rattle.std.proofs.Common.{◌≡◌, ℕ, true, false, reverse, Option, Some, None, sym, ap, ap₂, ◌∙◌, rules}
+use Rattle.std.proofs.Common.{◌≡◌, ℕ, true, false, reverse, Option, Some, None, sym, ap, ◌∙◌, rules}
 use Rattle.std.specs.Option.{option_map}
-use Rattle.cc_names.specs.declared.rows.Deed.{Deed}
-use Rattle.cc_names.specs.declared.rows.Deed.TheVariants as deeds
-use Rattle.view_lookup.specs.Bearing.{Numbered, last_on}
+use Rattle.view_lookup.specs.Bearing.{last_on}
 use Rattle.view_lookup.specs.Lives.{is_within}
 use Rattle.view_lookup.specs.Numbered.{numbered}
-use Rattle.view_lookup.specs.declared.things.Thing.TheVariants.{View, File}
+use Rattle.view_lookup.specs.declared.things.Thing.TheVariants.{View}
 use Rattle.view_lookup.proofs.Lives.{private_by, put_in, no_put, private_by_last}
 use Rattle.view_lookup.proofs.views.private.Goals as goal
 

@@ -1,9 +1,7 @@
 -- The last row that bears on the view's life begins it or ends it.
-use Rattle.std.proofs.Common.{◌≡◌, reverse, Option, Some, None, sym, ap, ◌∙◌, rules}
+use Rattle.std.proofs.Common.{◌≡◌, reverse, Some, None, sym, ap, ◌∙◌, rules}
 use Rattle.std.specs.Option.{option_map}
-use Rattle.view_lookup.specs.Bearing.{Numbered, last_on}
 use Rattle.view_lookup.specs.Numbered.{numbered}
-use Rattle.view_lookup.specs.declared.things.Thing.TheVariants.{View}
 use Rattle.view_lookup.proofs.Lives.{begun, begun_by, not_begun, view_by_last}
 use Rattle.view_lookup.proofs.views.view_row.Goals as goal
 

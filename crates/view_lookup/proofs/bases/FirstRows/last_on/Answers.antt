@@ -1,12 +1,11 @@
 -- The links of the key lead from one of its rows to the next older one.
-use Rattle.std.proofs.Common.{◌≡◌, ℕ, ◌+◌, ◌-◌, ◌<◌, ◌≤◌, nat_eq, List, [], ◌∷◌, length, get_or, take, reverse, Option, Some, None, IfSome, refl, sym, ap, subst, ◌∙◌, arith, rules}
+use Rattle.std.proofs.Common.{◌≡◌, ℕ, ◌+◌, ◌-◌, ◌<◌, nat_eq, List, length, get_or, take, reverse, Option, Some, None, IfSome, sym, ap, subst, ◌∙◌, arith, rules}
 use Rattle.std.specs.HashMap.{get}
 use Rattle.std.specs.Option.{option_copied}
 use Rattle.std.proofs.lemmas.List.{length-take-le}
-use Rattle.cc_names.specs.Formed.{Plain}
 use Rattle.cc_names.specs.declared.rows.Deed.{Deed}
 use Rattle.legal_history.specs.Base.{Base, first_rows}
-use Rattle.view_lookup.specs.Bearing.{Numbered, deed_on, first_on, key_of_thing, last_on, numbered_or}
+use Rattle.view_lookup.specs.Bearing.{deed_on, first_on, key_of_thing, last_on, numbered_or}
 use Rattle.view_lookup.specs.Marked.{rows_from, marked}
 use Rattle.view_lookup.specs.declared.marks.Link.{Link}
 use Rattle.view_lookup.proofs.Chains.{link_at, none_from}
