@@ -1,13 +1,11 @@
 -- What a base names lies below its size.
-use Rattle.std.proofs.Common.{◌≡◌, refl, ap, sym, subst, ◌∙◌, ℕ, suc, ◌<◌, ◌≤◌, Bool, true, false, cond, not, ◌&&◌, ◌==◌, Option, Some, None, List, [], ◌∷◌, arith}
+use Rattle.std.proofs.Common.{◌≡◌, refl, ap, subst, ◌∙◌, ℕ, suc, ◌<◌, Bool, true, false, cond, ◌==◌, Option, Some, None, List, [], ◌∷◌, arith}
 use Rattle.std.proofs.lemmas.Bool.Decides.{nat_tests}
-use Rattle.std.specs.Prelude.{is_some, option_and_then, option_map, find, bytes_eq}
-use Rattle.cc_names.specs.Last.{Effect, Keeps, Ends, Sets, only_if, left, last}
-use Rattle.cc_names.specs.Formed.{Plain}
-use Rattle.cc_names.specs.Branches.{branch_of_version, origin_by}
-use Rattle.cc_names.specs.Versions.{Version, row_of_change, branch_of_change, change_at, versions_on, version_at, element_by, element_of_branch, place, place_of, put_if, kind_of, kind_by}
-use Rattle.cc_names.specs.declared.changes.Place.{Place}
-use Rattle.cc_names.specs.declared.rows.Kind.TheVariants.{File, Directory}
+use Rattle.std.specs.Prelude.{option_map}
+use Rattle.cc_names.specs.Last.{Effect, Keeps, Ends, Sets, left, last}
+use Rattle.cc_names.specs.Branches.{branch_of_version}
+use Rattle.cc_names.specs.Versions.{row_of_change, branch_of_change, change_at}
+use Rattle.cc_names.specs.declared.rows.Kind.TheVariants.{Directory}
 use Rattle.cc_names.specs.declared.changes.TreeChange.{TreeChange}
 use Rattle.cc_names.specs.declared.changes.TreeChange.TheVariants.{ElementMade, BranchMade, VersionMade}
 use Rattle.cc_names.specs.declared.rows.Deed.{Deed}

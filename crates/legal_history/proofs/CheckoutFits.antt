@@ -1,13 +1,10 @@
 -- The rows of saves and checkins fit.
-use Rattle.std.proofs.Common.{◌≡◌, refl, ap, sym, subst, ◌∙◌, ℕ, Bool, true, false, cond, not, ◌&&◌, ◌==◌, Option, Some, None, Result, Ok, Err, List, [], ◌∷◌, arith}
-use Rattle.std.proofs.lemmas.Bool.Decides.{nat_tests}
+use Rattle.std.proofs.Common.{◌≡◌, refl, ap, ◌∙◌, ℕ, Bool, true, false, ◌==◌, Option, Some, None, List, [], ◌∷◌}
 use Rattle.std.specs.Prelude.{is_some, is_none, option_and_then, option_map, find}
 use Rattle.cc_names.specs.Branches.{branch_of_version}
-use Rattle.cc_names.specs.Versions.{Version, change_at, versions_on, version_at, place, latest, is_before, is_number, kind_of, row_of_version, branch_of_change}
-use Rattle.cc_names.specs.declared.changes.TreeChange.{TreeChange}
+use Rattle.cc_names.specs.Versions.{Version, versions_on, latest, is_before, is_number, kind_of, row_of_version, branch_of_change}
 use Rattle.cc_names.specs.declared.refusals.Refusal.{Refusal}
 use Rattle.cc_names.specs.declared.refusals.Refusal.TheVariants as refusals
-use Rattle.cc_names.specs.declared.rows.Deed.{Deed}
 use Rattle.cc_names.specs.declared.rows.Deed.TheVariants as deeds
 use Rattle.cc_names.specs.declared.rows.Kind.{Kind}
 use Rattle.cc_names.specs.declared.rows.Kind.TheVariants.{File, Directory}
@@ -21,14 +18,14 @@ use Rattle.legal_history.specs.Decisions.{Scene}
 use Rattle.legal_history.specs.FileLines.{save, element_of}
 use Rattle.legal_history.specs.Fits.{is_base}
 use Rattle.legal_history.specs.Seen.{at}
-use Rattle.legal_history.specs.Tests.{needs_no_other, needs_latest_origin, needs_latest, refused_unless_same}
+use Rattle.legal_history.specs.Tests.{needs_no_other, needs_latest_origin, refused_unless_same}
 use Rattle.legal_history.specs.Views.{Checkout, out}
 use Rattle.legal_history.proofs.DirectoryFits.{save_fits_by, was_out}
 use Rattle.legal_history.proofs.FileFits.{RowFits}
 use Rattle.legal_history.proofs.Origins.{out_is_version}
 use Rattle.legal_history.proofs.Owned.{version_has_kind}
-use Rattle.legal_history.proofs.Passed.{Made, made_by, unless_passes, fits_by}
-use Rattle.legal_history.proofs.VersionsStay.{Parts, parts_of, of_element}
+use Rattle.legal_history.proofs.Passed.{made_by, unless_passes, fits_by}
+use Rattle.legal_history.proofs.VersionsStay.{parts_of, of_element}
 
 -- what is there, by its test
 pub some_of : {A : Type 0} (o : Option A) → is_some o ≡ true → (a : A) × (o ≡ Some a)

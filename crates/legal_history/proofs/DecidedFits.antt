@@ -1,7 +1,7 @@
 -- Whatever row is decided fits.
-use Rattle.std.proofs.Common.{◌≡◌, refl, ap, sym, subst, ◌∙◌, ℕ, Bool, true, false, cond, not, ◌&&◌, ◌==◌, nat_le, ◌+◌, Option, Some, None, Result, Ok, Err, List, [], ◌∷◌, ◌++◌, map, max, nat_lt}
+use Rattle.std.proofs.Common.{◌≡◌, refl, sym, subst, ℕ, Bool, true, false, not, ◌&&◌, nat_le, ◌+◌, Option, Some, None, Result, Ok, Err, List, [], ◌∷◌, ◌++◌, map}
 use Rattle.std.proofs.lemmas.List.{reverse-append}
-use Rattle.std.specs.Prelude.{is_some, option_map, reverse, unwrap_or}
+use Rattle.std.specs.Prelude.{is_some, reverse, unwrap_or}
 use Rattle.std.specs.Bool.{⊤}
 use Rattle.std.specs.List.{list_all}
 use Rattle.std.specs.Ordering.{nat_cmp}
@@ -13,7 +13,6 @@ use Rattle.cc_names.specs.Versions.{place, put_if}
 use Rattle.cc_names.specs.declared.changes.Place.{Place}
 use Rattle.cc_names.specs.declared.commands.Command.{Command}
 use Rattle.cc_names.specs.declared.commands.Command.TheVariants as commands
-use Rattle.cc_names.specs.declared.commands.Macro.{Macro}
 use Rattle.cc_names.specs.declared.refusals.Refusal.{Refusal}
 use Rattle.cc_names.specs.declared.rows.Deed.{Deed}
 use Rattle.cc_names.specs.declared.rows.Deed.TheVariants as deeds
@@ -36,22 +35,22 @@ use Rattle.legal_history.specs.Seen.{at}
 use Rattle.legal_history.specs.Tests.{needs_view, needs_object}
 use Rattle.legal_history.specs.Views.{spec_text}
 use Rattle.legal_history.specs.Changes.{tree, held, live}
-use Rattle.legal_history.specs.Closures.{Sources, Listing, closure, listing, listing_of, with_version_at, greater_of, is_version_of}
+use Rattle.legal_history.specs.Closures.{Sources, Listing, closure, listing, listing_of, version_listed, with_version_at, greater_of, is_version_of}
 use Rattle.legal_history.specs.Conditions.{is_label_type, is_placed, may_be_scrubbed}
-use Rattle.legal_history.specs.Decisions.{Decision, Makes, Begins, Scene, first_refusal, unless_refused, needs_room, begins, answers}
+use Rattle.legal_history.specs.Decisions.{Makes, Begins, Scene, first_refusal, unless_refused, answers}
 use Rattle.legal_history.specs.Fits.{fits, is_base}
 use Rattle.legal_history.specs.Fresh.{texts}
 use Rattle.legal_history.specs.LabelLines.{as_placed, placed_by, mklabel_config, mklabel_config_tests, labels_or_nothing, object_held}
 use Rattle.legal_history.specs.Lines.{decision}
-use Rattle.legal_history.specs.ObjectLines.{is_due, due_among, due, scrub, scrub_of, clearmake, clearmake_tests, build_unless, build_of_units}
+use Rattle.legal_history.specs.ObjectLines.{due_among, due, scrub, scrub_of, clearmake_tests, build_unless}
 use Rattle.legal_history.proofs.CheckoutFits.{save_fits, checkin_fits}
 use Rattle.legal_history.proofs.DirectoryFits.{mkelem_fits, rmname_fits, mv_fits, uncheckout_fits, rmlabel_fits}
 use Rattle.legal_history.proofs.ElementFits.{checkout_fits, mkbranch_fits, mklabel_fits, mkarrow_fits}
 use Rattle.legal_history.proofs.FileFits.{RowFits, mkview_fits, rmview_fits, setcs_fits, rm_fits, mktype_fits, rmdo_fits}
-use Rattle.legal_history.proofs.LabelsHold.{greater, all_listed}
+use Rattle.legal_history.proofs.LabelsHold.{greater, all_listed, place_listed}
 use Rattle.legal_history.proofs.Tables.{tied}
 use Rattle.legal_history.proofs.Owned.{and_first, and_second}
-use Rattle.legal_history.proofs.Passed.{Made, made_by, answers_nothing, where_passes, unless_passes, fits_by}
+use Rattle.legal_history.proofs.Passed.{Made, made_by, answers_nothing, unless_passes, fits_by}
 use Rattle.legal_history.proofs.VersionsStay.{is_version}
 
 -- each entry of a listing is a version of its element
@@ -77,17 +76,17 @@ greatest_version : (b : Base) (e r : ℕ) (o : Option ℕ) → is_version_of b e
 greatest_version b e r None own others = own
 greatest_version b e r (Some m) own others = greater (λ r. is_version_of b e r ≡ true) r m own (others m refl)
 
-one_version : (b : Base) (row : ℕ) (p : Option Place) (sources : Sources) → place (tree b) row ≡ p → AllVersions b (listing_of b sources) → AllVersions b (with_version_at row p (listing_of b sources))
+one_version : (b : Base) (row : ℕ) (p : Option Place) (sources : Sources) → ((q : Place) → p ≡ Some q → place (tree b) row ≡ Some q) → AllVersions b (listing_of b sources) → AllVersions b (with_version_at row p (listing_of b sources))
 one_version b row None sources is h = h
 one_version b row (Some p) sources is h =
     let r = greater_of row (find nat_cmp p.element (listing_of b sources)) in
     let version : is_version_of b p.element r ≡ true =
-    greatest_version b p.element row (find nat_cmp p.element (listing_of b sources)) (is_version b p.element row p is refl) (λ m found. (all_listed b sources).lists p.element m found) in
+    greatest_version b p.element row (find nat_cmp p.element (listing_of b sources)) (is_version b p.element row p (is p refl) refl) (λ m found. (all_listed b sources).lists p.element m found) in
     put_version b p.element r (listing_of b sources) (λ f same. subst (λ f. is_version_of b f r ≡ true) (tied p.element f same) version) version h
 
 all_versions : (b : Base) (sources : Sources) → AllVersions b (listing_of b sources)
 all_versions b [] = tt
-all_versions b (source ∷ sources) = one_version b source.1 (place (tree b) source.1) sources refl (all_versions b sources)
+all_versions b (source ∷ sources) = one_version b source.1 (version_listed b source.1) sources (place_listed b source.1) (all_versions b sources)
 
 all_placed : (b : Base) (listing : Listing) → AllVersions b listing → list_all (is_placed b) (map as_placed listing) ≡ true
 all_placed b [] h = refl

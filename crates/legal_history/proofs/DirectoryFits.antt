@@ -1,19 +1,16 @@
 -- The rows of the commands on names of directories, of uncheckout, of rmlabel and of scrubs fit.
-use Rattle.std.proofs.Common.{◌≡◌, refl, ap, sym, subst, ◌∙◌, ℕ, Bool, true, false, not, ◌&&◌, ◌||◌, Option, Some, None, Result, Ok, Err, List, [], ◌∷◌, ◌++◌, nat_lt}
-use Rattle.std.specs.Prelude.{is_some, is_none, option_and_then, reverse}
-use Rattle.std.specs.List.{list_all}
-use Rattle.cc_names.specs.declared.refusals.Refusal.{Refusal}
+use Rattle.std.proofs.Common.{◌≡◌, refl, ℕ, Bool, true, false, not, ◌||◌, Option, Some, None, List, nat_lt}
+use Rattle.std.specs.Prelude.{is_some}
 use Rattle.cc_names.specs.declared.rows.Deed.{Deed}
 use Rattle.cc_names.specs.declared.rows.Deed.TheVariants as deeds
 use Rattle.cc_names.specs.declared.rows.Kind.{Kind}
 use Rattle.cc_names.specs.declared.selection.Seen.{Seen}
 use Rattle.cc_names.specs.declared.selection.Seen.TheVariants.{Private, Element, Unselected, Nothing}
 use Rattle.legal_history.specs.Base.{Base, size}
-use Rattle.legal_history.specs.Catalogs.{named, own_of}
 use Rattle.legal_history.specs.CheckoutLines.{uncheckout, uncheckout_tests}
 use Rattle.legal_history.specs.Conditions.{exists, has_out, is_file, is_directory, has_name, has_out_by_name}
-use Rattle.legal_history.specs.Decisions.{Decision, Makes, Scene}
-use Rattle.legal_history.specs.DirectoryLines.{mkelem, mkelem_tests, rmname, rmname_tests, mv, mv_tests, directory_of, renamed}
+use Rattle.legal_history.specs.Decisions.{Scene}
+use Rattle.legal_history.specs.DirectoryLines.{mkelem, mkelem_tests, rmname, rmname_tests, mv, mv_tests, directory_of}
 use Rattle.legal_history.specs.FileLines.{parent, last_name, element_of, save, save_tests, save_deed, saves_at, saves_element}
 use Rattle.legal_history.specs.Fits.{fits, row_limit}
 use Rattle.legal_history.specs.LabelLines.{rmlabel, rmlabel_tests}
@@ -21,7 +18,7 @@ use Rattle.legal_history.specs.Seen.{at}
 use Rattle.legal_history.specs.Tests.{needs_out, needs_not_out, needs_selected, needs_directory}
 use Rattle.legal_history.specs.Views.{Checkout, out}
 use Rattle.legal_history.proofs.FileFits.{RowFits}
-use Rattle.legal_history.proofs.Passed.{Made, made_by, where_passes, unless_passes, fits_by}
+use Rattle.legal_history.proofs.Passed.{made_by, where_passes, unless_passes, fits_by}
 
 -- what passes where an element is asked to be out, or not to be
 pub was_out : (path : List ℕ) (taken : Option Checkout) → needs_out path taken ≡ None → is_some taken ≡ true

@@ -1,40 +1,37 @@
 -- The rows of checkouts, branches, labels and arrows fit.
-use Rattle.std.proofs.Common.{◌≡◌, refl, ap, sym, subst, ◌∙◌, ℕ, Bool, true, false, cond, not, ◌&&◌, ◌==◌, Option, Some, None, Result, Ok, Err, List, [], ◌∷◌, ◌++◌, arith, nat_lt}
+use Rattle.std.proofs.Common.{◌≡◌, refl, ℕ, Bool, true, false, not, ◌==◌, Option, Some, None, Ok, List, arith, nat_lt}
 use Rattle.std.proofs.lemmas.Bool.Decides.{nat_tests}
-use Rattle.std.specs.Prelude.{is_some, is_none, option_and_then, option_map, reverse, unwrap_or}
-use Rattle.cc_names.specs.Branches.{branch_named, branch_of_version, branch_behind}
+use Rattle.std.specs.Prelude.{is_some, is_none, reverse}
+use Rattle.cc_names.specs.Branches.{branch_named}
 use Rattle.cc_names.specs.Paths.{names_of}
-use Rattle.cc_names.specs.Versions.{is_number, numbered}
 use Rattle.cc_names.specs.declared.commands.VersionName.{VersionName}
-use Rattle.cc_names.specs.declared.refusals.Refusal.{Refusal}
 use Rattle.cc_names.specs.declared.refusals.Refusal.TheVariants as refusals
 use Rattle.cc_names.specs.declared.rows.Deed.{Deed}
 use Rattle.cc_names.specs.declared.rows.Deed.TheVariants as deeds
 use Rattle.cc_names.specs.declared.rows.Out.{Out}
 use Rattle.cc_names.specs.declared.selection.Picked.{Picked}
-use Rattle.cc_names.specs.declared.selection.Rule.{Rule}
 use Rattle.cc_names.specs.declared.selection.Seen.{Seen}
 use Rattle.cc_names.specs.declared.selection.Seen.TheVariants.{Private, Element, Unselected, Nothing}
 use Rattle.cc_names.specs.declared.selection.Selector.TheVariants as selectors
 use Rattle.legal_history.specs.Base.{Base, size}
 use Rattle.legal_history.specs.Changes.{tree}
-use Rattle.legal_history.specs.Checkouts.{reserver, latest_beside, is_latest}
-use Rattle.legal_history.specs.CheckoutLines.{checkout, checkout_tests, checkout_tests_of, checkout_by, checkout_deed, reserves_if, branch_by, deciding_rule, picked_of, mkbranch, mkbranch_tests, out_unless, out_by}
+use Rattle.legal_history.specs.Checkouts.{latest_beside, is_latest}
+use Rattle.legal_history.specs.CheckoutLines.{checkout, checkout_tests_of, checkout_by, checkout_deed, reserves_if, branch_by, deciding_rule, picked_of, mkbranch, mkbranch_tests, out_unless, out_by}
 use Rattle.legal_history.specs.Closures.{is_version_of}
-use Rattle.legal_history.specs.Conditions.{exists, has_out, is_branch_type, is_label_type, has_branch, is_unreserved, arrow_row}
-use Rattle.legal_history.specs.Decisions.{Decision, Makes, Scene}
+use Rattle.legal_history.specs.Conditions.{exists, has_out, is_branch_type, is_label_type, has_branch, arrow_row}
+use Rattle.legal_history.specs.Decisions.{Makes, Scene}
 use Rattle.legal_history.specs.FileLines.{element_of}
-use Rattle.legal_history.specs.Fits.{fits, is_base, row_limit, may_reserve, deed_fits}
+use Rattle.legal_history.specs.Fits.{fits, is_base, row_limit, may_reserve}
 use Rattle.legal_history.specs.LabelLines.{mklabel, mklabel_tests, needs_version_picked, mkarrow, mkarrow_to, mkarrow_tests, version_named}
 use Rattle.legal_history.specs.Seen.{at}
-use Rattle.legal_history.specs.Tests.{needs_selected, needs_element, needs_not_out, needs_branch_type, needs_no_branch, needs_latest}
-use Rattle.legal_history.specs.Views.{Checkout, out, making}
+use Rattle.legal_history.specs.Tests.{needs_selected, needs_element, needs_branch_type, needs_no_branch}
+use Rattle.legal_history.specs.Views.{out}
 use Rattle.legal_history.proofs.CatalogElements.{IsElement}
 use Rattle.legal_history.proofs.CheckoutFits.{has_latest, latest_passes, none_mapped}
 use Rattle.legal_history.proofs.DirectoryFits.{was_not_out}
 use Rattle.legal_history.proofs.FileFits.{RowFits}
-use Rattle.legal_history.proofs.Makings.{making_is_out, SeenElement, seen_element}
-use Rattle.legal_history.proofs.Passed.{AllPass, Made, made_by, where_passes, unless_passes, fits_by}
+use Rattle.legal_history.proofs.Makings.{making_is_out, seen_element}
+use Rattle.legal_history.proofs.Passed.{AllPass, made_by, where_passes, unless_passes, fits_by}
 use Rattle.legal_history.proofs.Picks.{IsPick, picked_is, found_version}
 
 -- an element that stands at a path of a base, with what was picked of it

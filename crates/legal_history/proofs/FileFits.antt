@@ -1,7 +1,7 @@
 -- The rows of the commands on views and private files fit.
-use Rattle.std.proofs.Common.{◌≡◌, refl, ap, sym, subst, ◌∙◌, ℕ, Bool, true, false, not, ◌&&◌, Option, Some, None, Result, Ok, Err, List, [], ◌∷◌, nat_lt}
+use Rattle.std.proofs.Common.{◌≡◌, refl, ap, subst, ◌∙◌, ℕ, Bool, true, false, not, Option, Some, None, Result, Ok, Err, List, [], ◌∷◌}
 use Rattle.std.proofs.lemmas.List.{reverse-reverse}
-use Rattle.std.specs.Prelude.{is_some, is_none, is_ok, reverse}
+use Rattle.std.specs.Prelude.{is_ok, reverse}
 use Rattle.cc_names.specs.declared.refusals.Refusal.{Refusal}
 use Rattle.cc_names.specs.declared.refusals.SpecError.{SpecError}
 use Rattle.cc_names.specs.declared.rows.Deed.{Deed}
@@ -10,15 +10,13 @@ use Rattle.cc_names.specs.declared.rows.TypeKind.{TypeKind}
 use Rattle.cc_names.specs.declared.selection.Rule.{Rule}
 use Rattle.cc_names.specs.declared.selection.Seen.{Seen}
 use Rattle.cc_names.specs.declared.selection.Seen.TheVariants.{Private, Element, Unselected, Nothing}
-use Rattle.cc_names.specs.References.{held_at}
 use Rattle.spec_text.specs.Specs.{rules_of}
 use Rattle.cc_names.specs.Paths.{joined, names_of}
 use Rattle.cc_names.proofs.PathParts.{joined-names_of}
 use Rattle.cc_names.specs.declared.selection.Picked.{Picked}
-use Rattle.legal_history.specs.Base.{Base, size}
+use Rattle.legal_history.specs.Base.{Base}
 use Rattle.legal_history.specs.Catalogs.{Catalog, named}
 use Rattle.legal_history.specs.Views.{private}
-use Rattle.legal_history.specs.Changes.{held}
 use Rattle.legal_history.specs.Conditions.{exists}
 use Rattle.legal_history.specs.Decisions.{Decision, Makes, Scene}
 use Rattle.legal_history.specs.FileLines.{mkview, mkview_tests, rmview, rmview_tests, setcs, setcs_tests, rm, rm_tests}
@@ -27,7 +25,7 @@ use Rattle.legal_history.specs.Seen.{at, at_names, below, private_or, as_seen, e
 use Rattle.legal_history.specs.LabelLines.{mktype}
 use Rattle.legal_history.specs.ObjectLines.{rmdo, rmdo_tests}
 use Rattle.legal_history.specs.Tests.{needs_rules, needs_private, needs_free_type}
-use Rattle.legal_history.proofs.Passed.{Made, made_by, where_passes, unless_passes, fits_by}
+use Rattle.legal_history.proofs.Passed.{made_by, where_passes, unless_passes, fits_by}
 
 -- Fits s decided: whatever row is decided fits
 abbrev pub RowFits : Scene → Result Decision Refusal → Type 0

@@ -1,6 +1,6 @@
 -- The row of a file that a view sees lies below the size of the base, so its text stays when rows are added.
-use Rattle.std.proofs.Common.{◌≡◌, refl, ap, sym, subst, ◌∙◌, ℕ, suc, ◌<◌, ◌≤◌, Bool, true, false, Option, Some, None, List, [], ◌∷◌, ◌++◌, arith}
-use Rattle.std.specs.Prelude.{is_some, option_and_then, bytes_eq, reverse}
+use Rattle.std.proofs.Common.{◌≡◌, refl, ap, sym, subst, ◌∙◌, ℕ, ◌<◌, ◌≤◌, Bool, true, false, Option, Some, None, List, [], ◌∷◌, ◌++◌, arith}
+use Rattle.std.specs.Prelude.{option_and_then, bytes_eq, reverse}
 use Rattle.cc_names.specs.Formed.{Plain}
 use Rattle.cc_names.specs.Last.{Effect, Keeps, Ends, Sets, only_if}
 use Rattle.cc_names.specs.Paths.{names_of, joined}
@@ -20,10 +20,10 @@ use Rattle.legal_history.specs.Choices.{text_of_row}
 use Rattle.legal_history.specs.Fits.{is_base}
 use Rattle.legal_history.specs.Fresh.{texts}
 use Rattle.legal_history.specs.Growth.{Extends}
-use Rattle.legal_history.specs.Seen.{at, at_names, file_at, file_seen, row_of_file}
+use Rattle.legal_history.specs.Seen.{at, file_at, file_seen, row_of_file}
 use Rattle.legal_history.specs.Texts.{text}
-use Rattle.legal_history.specs.Views.{Checkout, TakenOut, out_effect, making, making_effect, making_of_out, made_out, set_by, taken_out, checkout_of_element, checkout_of_branch, private, private_effect}
-use Rattle.legal_history.proofs.Below.{Within, within, last_holds}
+use Rattle.legal_history.specs.Views.{Checkout, TakenOut, out_effect, making, making_effect, making_of_out, made_out, taken_out, checkout_of_element, checkout_of_branch, private, private_effect}
+use Rattle.legal_history.proofs.Below.{within, last_holds}
 use Rattle.legal_history.proofs.FileFits.{private_at}
 use Rattle.legal_history.proofs.Makings.{seen_element}
 use Rattle.legal_history.proofs.Origins.{out_sets, set_is}

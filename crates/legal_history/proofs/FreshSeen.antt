@@ -1,26 +1,20 @@
 -- A unit of a build that agrees with the build from nothing so far sees, and waits for, the same as there.
-use Rattle.std.proofs.Common.{◌≡◌, refl, ap, sym, subst, ◌∙◌, ℕ, zero, suc, ◌+◌, ◌<◌, ◌≤◌, Bool, true, false, cond, not, ◌&&◌, ◌||◌, ◌==◌, Option, Some, None, List, [], ◌∷◌, ◌++◌, length, map, arith}
+use Rattle.std.proofs.Common.{◌≡◌, refl, ap, sym, subst, ◌∙◌, ℕ, zero, suc, ◌+◌, ◌<◌, Bool, true, false, cond, ◌||◌, ◌==◌, Option, Some, None, List, [], ◌∷◌, map, arith}
 use Rattle.std.proofs.lemmas.Bool.Decides.{nat_tests}
 use Rattle.std.proofs.lemmas.Slice.Eq.{bytes_eq-Decides}
-use Rattle.std.specs.Bool.{⊤}
-use Rattle.std.specs.Option.{option_or}
-use Rattle.std.specs.Prelude.{is_some, option_and_then, option_map, find, slice_get, bytes_eq, if◌then◌else◌}
+use Rattle.std.specs.Prelude.{option_map, find, slice_get, bytes_eq}
 use Rattle.std.specs.List.{list_any}
-use Rattle.cc_names.specs.declared.steps.UnitEnd.{UnitEnd}
 use Rattle.cc_names.specs.declared.steps.UnitEnd.TheVariants.{Blocked, Failed}
 use Rattle.cc_names.specs.declared.refusals.UnitFault.TheVariants.{NoRule}
 use Rattle.cc_names.specs.declared.units.Unit.{Unit}
-use Rattle.build_script.specs.Run.{Files}
-use Rattle.legal_history.specs.Base.{Base, first_rows, only_where}
-use Rattle.legal_history.specs.Builds.{Build, Came, Started, Ended, Given, came_to, is_outcome, object_of, number_from, unit_at, unit_with}
-use Rattle.legal_history.specs.Choices.{Member, object_at, object_among, text_of_row}
+use Rattle.legal_history.specs.Base.{Base, first_rows}
+use Rattle.legal_history.specs.Builds.{Build, Came, Started, Ended, Given, came_to, is_outcome, number_from, unit_at}
 use Rattle.legal_history.specs.Closures.{is_among}
-use Rattle.legal_history.specs.Fresh.{output_of, output_or_file, sees_file, sees_directory}
-use Rattle.legal_history.specs.Freshness.{InOrder, Agrees, HasOutputs, IsReady, AgreesSoFar, done_in, outcome_in, early_from_nothing}
-use Rattle.legal_history.specs.Serials.{Outcome, Made, Without, Finished, Standing, standing_of_end, standing_of_outcome, standing_or_file, standing_in, is_missing, is_bad, makes, needed, early_end, first_end, no_directory, no_script}
-use Rattle.legal_history.specs.Texts.{output_at}
+use Rattle.legal_history.specs.Fresh.{sees_file, sees_directory}
+use Rattle.legal_history.specs.Freshness.{InOrder, Agrees, IsReady, AgreesSoFar, done_in, outcome_in, early_from_nothing}
+use Rattle.legal_history.specs.Serials.{Outcome, Made, Without, Standing, standing_of_end, standing_of_outcome, standing_or_file, standing_in, is_missing, is_bad, makes, first_end, no_directory, no_script}
 use Rattle.legal_history.specs.Turns.{standing_of_came, standing_of_unit, early_in}
-use Rattle.legal_history.proofs.Pairs.{Pair, unit_in, member_of, finished_of, with_pair, pairs_before, done_paired}
+use Rattle.legal_history.proofs.Pairs.{Pair, finished_of, with_pair, pairs_before, done_paired}
 
 pub or_first : (a b : Bool) → a ≡ true → (a || b) ≡ true
 or_first true b h = refl

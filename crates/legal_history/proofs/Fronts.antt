@@ -1,10 +1,7 @@
 -- A front of a legal story is legal, and the story goes on from there; the base only grows.
-use Rattle.std.proofs.Common.{◌≡◌, refl, ap, sym, subst, ◌∙◌, ℕ, zero, suc, Bool, true, false, Option, Some, None, List, [], ◌∷◌, ◌++◌, append_assoc, inl, inr}
-use Rattle.std.specs.Bool.{⊤}
+use Rattle.std.proofs.Common.{◌≡◌, refl, ℕ, zero, suc, Bool, true, false, Option, None, List, [], ◌∷◌, ◌++◌, inl, inr}
 use Rattle.std.specs.Prelude.{is_some, option_and_then}
 use Rattle.cc_names.specs.Formed.{Plain}
-use Rattle.cc_names.specs.declared.commands.Command.{Command}
-use Rattle.cc_names.specs.declared.commands.Lane.{Lane}
 use Rattle.cc_names.specs.declared.rows.Deed.{Deed}
 use Rattle.cc_names.specs.declared.rows.Deed.TheVariants as deeds
 use Rattle.cc_names.specs.declared.rows.Tag.{Tag}
@@ -15,11 +12,10 @@ use Rattle.cc_names.specs.declared.steps.Told.TheVariants as told
 use Rattle.cc_names.specs.declared.steps.UnitEnd.{UnitEnd}
 use Rattle.cc_names.specs.declared.steps.UnitEnd.TheVariants as ends
 use Rattle.cc_names.specs.declared.refusals.UnitFault.TheVariants as unit_faults
-use Rattle.legal_history.specs.Base.{Base, only_where}
-use Rattle.legal_history.specs.Growth.{Extends}
-use Rattle.legal_history.specs.States.{State, start, decided, is_next, next_command, command_behind, lane_at, done_of, build_by}
-use Rattle.legal_history.specs.Steps.{after, state_from, state_of}
-use Rattle.legal_history.specs.Stories.{Lawful, LawfulStep, LegalFrom, Legal, MayCommit, MakesRow, Settles}
+use Rattle.legal_history.specs.Base.{only_where}
+use Rattle.legal_history.specs.States.{State, start, decided, is_next, next_command, command_behind, lane_at, done_of}
+use Rattle.legal_history.specs.Steps.{after, state_from}
+use Rattle.legal_history.specs.Stories.{Lawful, LawfulStep, LegalFrom, MakesRow, Settles}
 
 pub front_is_legal : (s : State) (front rest : List Told) → LegalFrom s (front ++ rest) → LegalFrom s front
 front_is_legal s [] rest h = tt

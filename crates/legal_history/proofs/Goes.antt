@@ -1,9 +1,9 @@
 -- A lawful step leaves each active build as it is, lets it go on, or ends it.
-use Rattle.std.proofs.Common.{◌≡◌, refl, ap, sym, subst, ◌∙◌, inl, inr, ℕ, Bool, true, false, cond, not, ◌==◌, Option, Some, None, List, [], ◌∷◌, arith}
+use Rattle.std.proofs.Common.{◌≡◌, refl, ap, subst, ◌∙◌, inl, inr, ℕ, Bool, true, false, cond, not, ◌==◌, Option, Some, None, arith}
 use Rattle.std.proofs.lemmas.Bool.Decides.{nat_tests}
-use Rattle.std.specs.Prelude.{Result, is_some, is_none, option_map, option_and_then, ◌&&◌, ◌||◌}
+use Rattle.std.specs.Prelude.{Result, is_none, option_map, option_and_then, ◌&&◌}
 use Rattle.std.specs.Ordering.{nat_cmp}
-use Rattle.std.specs.FinMap.Entries.{put, find}
+use Rattle.std.specs.FinMap.Entries.{put}
 use Rattle.cc_names.specs.Formed.{Plain}
 use Rattle.cc_names.specs.declared.rows.Deed.{Deed}
 use Rattle.cc_names.specs.declared.rows.Deed.TheVariants as deeds
@@ -16,16 +16,16 @@ use Rattle.cc_names.specs.declared.steps.UnitEnd.{UnitEnd}
 use Rattle.cc_names.specs.declared.steps.UnitEnd.TheVariants as ends
 use Rattle.cc_names.specs.declared.refusals.UnitFault.TheVariants as unit_faults
 use Rattle.cc_names.specs.declared.units.Unit.{Unit}
-use Rattle.legal_history.specs.Base.{Base, only_where}
-use Rattle.legal_history.specs.Builds.{Active, Build, Came, Ended, Given, build_of, came_to, is_outcome, unit_with_first}
+use Rattle.legal_history.specs.Base.{only_where}
+use Rattle.legal_history.specs.Builds.{Active, Build, Came, build_of, came_to, is_outcome, unit_with_first}
 use Rattle.legal_history.specs.Changes.{targets_of}
 use Rattle.legal_history.specs.Growth.{Continues, Goes, Over, On}
 use Rattle.cc_names.specs.declared.refusals.Refusal.{Refusal}
 use Rattle.legal_history.specs.Decisions.{Decision}
 use Rattle.legal_history.specs.Lines.{decision}
-use Rattle.legal_history.specs.States.{State, scene, decided, next_command, command_behind, lane_at, done_of, is_next, build_by, build_if, same_tag}
-use Rattle.legal_history.specs.Steps.{after, after_step, noted, noted_in, with_came, came_by_starting, begun, with_build, without_build, faulted_in, active_after}
-use Rattle.legal_history.specs.Stories.{Lawful, LawfulStep, MakesRow, Settles, Waits, IsOpen, IsRunning}
+use Rattle.legal_history.specs.States.{State, scene, decided, command_behind, lane_at, done_of, is_next, build_by, build_if, same_tag}
+use Rattle.legal_history.specs.Steps.{after, after_step, noted, with_came, begun, with_build, without_build, faulted_in, active_after}
+use Rattle.legal_history.specs.Stories.{Lawful, LawfulStep, MakesRow, Settles, Waits}
 use Rattle.legal_history.proofs.Tables.{find_put_same, find_put_other, find_without}
 
 pub continues_itself : (b : Build) → Continues b b

@@ -1,30 +1,17 @@
 -- Along a legal story the base only grows, and an active build goes on until it ends.
-use Rattle.std.proofs.Common.{◌≡◌, refl, ap, sym, subst, ◌∙◌, inl, inr, ℕ, Bool, true, false, cond, not, ◌==◌, Option, Some, None, List, [], ◌∷◌, ◌++◌, append_assoc, arith}
-use Rattle.std.proofs.lemmas.Bool.Decides.{nat_tests}
+use Rattle.std.proofs.Common.{◌≡◌, refl, ap, sym, subst, ◌∙◌, true, List, [], ◌∷◌, ◌++◌, append_assoc}
 use Rattle.std.proofs.lemmas.List.{append-nil}
-use Rattle.std.specs.Prelude.{is_some, is_none, option_and_then, ◌&&◌, ◌||◌}
-use Rattle.std.specs.Ordering.{nat_cmp}
-use Rattle.std.specs.FinMap.Entries.{put, find}
-use Rattle.cc_names.specs.Formed.{Plain}
-use Rattle.cc_names.specs.declared.rows.Deed.{Deed}
-use Rattle.cc_names.specs.declared.rows.Deed.TheVariants as deeds
-use Rattle.cc_names.specs.declared.rows.Tag.{Tag}
+use Rattle.std.specs.Prelude.{is_some}
 use Rattle.cc_names.specs.declared.steps.Step.{Step}
 use Rattle.cc_names.specs.declared.steps.Step.TheVariants as steps
 use Rattle.cc_names.specs.declared.steps.Told.{Told}
 use Rattle.cc_names.specs.declared.steps.Told.TheVariants as told
-use Rattle.cc_names.specs.declared.steps.UnitEnd.{UnitEnd}
-use Rattle.cc_names.specs.declared.steps.UnitEnd.TheVariants as ends
-use Rattle.cc_names.specs.declared.refusals.UnitFault.TheVariants as unit_faults
-use Rattle.legal_history.specs.Base.{Base, only_where}
-use Rattle.legal_history.specs.Builds.{Active, Build, Came, build_of, came_to, is_outcome, unit_with_first}
-use Rattle.legal_history.specs.Changes.{targets_of}
-use Rattle.legal_history.specs.Growth.{Extends, Continues, Goes, Over, On}
-use Rattle.legal_history.specs.States.{State, start, decided, next_command, is_next, build_by, build_if, same_tag}
-use Rattle.legal_history.specs.Steps.{after, after_step, state_from, state_of, noted, noted_in, with_came}
-use Rattle.legal_history.specs.Stories.{Lawful, LawfulStep, LegalFrom, Legal, MayCommit, MakesRow, Settles, Waits}
-use Rattle.legal_history.proofs.Fronts.{state_goes_on, rest_is_legal, front_is_legal, first_opens}
-use Rattle.legal_history.proofs.Tables.{find_put_same, find_put_other, find_after_put, find_without}
+use Rattle.legal_history.specs.Base.{Base}
+use Rattle.legal_history.specs.Growth.{Extends}
+use Rattle.legal_history.specs.States.{State, start}
+use Rattle.legal_history.specs.Steps.{after, after_step, state_from, state_of}
+use Rattle.legal_history.specs.Stories.{Lawful, LegalFrom, Legal}
+use Rattle.legal_history.proofs.Fronts.{state_goes_on, rest_is_legal, first_opens}
 
 pub extends_itself : (b : Base) → Extends b b
 extends_itself b = record { more = []; is = refl }

@@ -1,18 +1,14 @@
 -- In a base a label's holder, and a version that a record lists, is one of the element; and what a catalog names is an element.
-use Rattle.std.proofs.Common.{◌≡◌, refl, ap, sym, subst, ◌∙◌, ℕ, ◌≤◌, Bool, true, false, cond, not, ◌&&◌, ◌||◌, ◌==◌, max, Option, Some, None, List, [], ◌∷◌, arith, nat_le}
+use Rattle.std.proofs.Common.{◌≡◌, refl, sym, subst, ◌∙◌, ℕ, zero, suc, ◌≤◌, Bool, true, false, cond, ◌&&◌, ◌==◌, max, Option, Some, None, List, [], ◌∷◌, arith, nat_le}
 use Rattle.std.proofs.lemmas.Bool.Decides.{nat_tests}
-use Rattle.std.specs.Prelude.{is_some, option_and_then, option_map, bytes_eq}
-use Rattle.std.specs.Bool.{⊤}
+use Rattle.std.specs.Prelude.{bytes_eq}
 use Rattle.std.specs.List.{list_all}
-use Rattle.std.specs.Ordering.{nat_cmp, is_eq, eq_by_cmp}
-use Rattle.std.specs.declared.cmp.Ordering.{Ordering}
-use Rattle.std.specs.declared.cmp.Ordering.TheVariants.{Less, Equal, Greater}
-use Rattle.std.specs.Cmp.Lexicographic.{slice_cmp}
-use Rattle.std.specs.FinMap.Entries.{put, find, where_key, by_order}
+use Rattle.std.specs.Ordering.{nat_cmp}
+use Rattle.std.specs.FinMap.Entries.{find}
 use Rattle.cc_names.specs.Formed.{Plain}
-use Rattle.cc_names.specs.Labels.{holder, label_effect}
-use Rattle.cc_names.specs.Last.{Effect, Keeps, Ends, Sets, only_if, left}
-use Rattle.cc_names.specs.Versions.{place, kind_of}
+use Rattle.cc_names.specs.Labels.{holder}
+use Rattle.cc_names.specs.Last.{Ends, Sets, only_if, left}
+use Rattle.cc_names.specs.Versions.{place}
 use Rattle.cc_names.specs.declared.changes.LabelChange.{LabelChange}
 use Rattle.cc_names.specs.declared.changes.LabelChange.TheVariants.{Put, Taken}
 use Rattle.cc_names.specs.declared.changes.Place.{Place}
@@ -21,7 +17,7 @@ use Rattle.cc_names.specs.declared.rows.Deed.TheVariants as deeds
 use Rattle.cc_names.specs.declared.rows.Placed.{Placed}
 use Rattle.legal_history.specs.Base.{Base, size}
 use Rattle.legal_history.specs.Changes.{tree, labels, labels_after, all_placed}
-use Rattle.legal_history.specs.Closures.{Sources, Listing, is_version_of, listing_of, with_version_at, greater_of}
+use Rattle.legal_history.specs.Closures.{Sources, Listing, is_version_of, listing_of, version_listed, with_version_at, greater_of}
 use Rattle.legal_history.specs.Conditions.{is_label_type, is_placed}
 use Rattle.legal_history.specs.Fits.{is_base, deed_fits}
 use Rattle.legal_history.proofs.Goes.{same_number}
@@ -84,12 +80,17 @@ greater P a b p q = elim (nat_le a b) as (λ (x : Bool). nat_le a b ≡ x → P 
 pub record AllListed (b : Base) (listing : Listing) : Type 0 where
   pub lists : (e r : ℕ) → find nat_cmp e listing ≡ Some r → is_version_of b e r ≡ true
 
-one_listed : (b : Base) (row : ℕ) (p : Option Place) (listing : Listing) → place (tree b) row ≡ p → AllListed b listing → AllListed b (with_version_at row p listing)
+-- what a source lists is the version that its row made
+pub place_listed : (b : Base) (row : ℕ) (p : Place) → version_listed b row ≡ Some p → place (tree b) row ≡ Some p
+place_listed b zero p is = cc
+place_listed b (suc row) p is = is
+
+one_listed : (b : Base) (row : ℕ) (p : Option Place) (listing : Listing) → ((q : Place) → p ≡ Some q → place (tree b) row ≡ Some q) → AllListed b listing → AllListed b (with_version_at row p listing)
 one_listed b row None listing is h = h
 one_listed b row (Some p) listing is h = record { lists = λ e r found. by e r (e == p.element) refl (sym (find_after_put e p.element (greater_of row (find nat_cmp p.element listing)) listing) ∙ found) }
   where
     own : is_version_of b p.element row ≡ true
-    own = is_version b p.element row p is refl
+    own = is_version b p.element row p (is p refl) refl
 
     greatest : (o : Option ℕ) → find nat_cmp p.element listing ≡ o → is_version_of b p.element (greater_of row o) ≡ true
     greatest None e = own
@@ -104,4 +105,4 @@ one_listed b row (Some p) listing is h = record { lists = λ e r found. by e r (
 
 pub all_listed : (b : Base) (sources : Sources) → AllListed b (listing_of b sources)
 all_listed b [] = record { lists = λ e r found. absurd (cc) }
-all_listed b (source ∷ sources) = one_listed b source.1 (place (tree b) source.1) (listing_of b sources) refl (all_listed b sources)
+all_listed b (source ∷ sources) = one_listed b source.1 (version_listed b source.1) (listing_of b sources) (place_listed b source.1) (all_listed b sources)

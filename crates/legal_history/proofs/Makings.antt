@@ -1,8 +1,7 @@
 -- A view has out what it makes anew; and what stands at a path as an element is one, with what was picked of it.
-use Rattle.std.proofs.Common.{◌≡◌, refl, ap, sym, subst, ◌∙◌, ℕ, Bool, true, false, cond, not, ◌&&◌, ◌==◌, Option, Some, None, List, [], ◌∷◌, arith}
+use Rattle.std.proofs.Common.{◌≡◌, refl, ap, subst, ◌∙◌, ℕ, Bool, true, false, ◌&&◌, ◌==◌, Option, Some, None, List, [], ◌∷◌}
 use Rattle.std.proofs.lemmas.Slice.Eq.{bytes_eq-Decides}
-use Rattle.std.specs.Prelude.{is_some, option_and_then, bytes_eq, reverse}
-use Rattle.cc_names.specs.Formed.{Plain}
+use Rattle.std.specs.Prelude.{is_some, bytes_eq, reverse}
 use Rattle.cc_names.specs.Last.{Effect, Keeps, Ends, Sets, only_if, left}
 use Rattle.cc_names.specs.Paths.{joined}
 use Rattle.cc_names.specs.Versions.{kind_of}

@@ -1,10 +1,7 @@
 -- What stands on a branch of a base is a version of the branch's element.
-use Rattle.std.proofs.Common.{◌≡◌, refl, ap, sym, subst, ◌∙◌, ℕ, suc, ◌<◌, ◌≤◌, Bool, true, false, cond, not, ◌&&◌, ◌==◌, Option, Some, None, List, [], ◌∷◌, length, arith}
-use Rattle.std.proofs.lemmas.Bool.Decides.{nat_tests}
-use Rattle.std.specs.Prelude.{is_some, option_and_then, option_map, find}
-use Rattle.cc_names.specs.Formed.{Plain}
-use Rattle.cc_names.specs.Versions.{Version, row_of_change, branch_of_change, change_at, versions_on, version_at, version_made, put_if, element_by, element_of_branch, place, place_of, latest, numbered, is_before, row_of_version}
-use Rattle.cc_names.specs.declared.changes.Place.{Place}
+use Rattle.std.proofs.Common.{◌≡◌, refl, sym, subst, ◌∙◌, ℕ, Bool, true, false, cond, ◌==◌, Option, Some, None, List, [], ◌∷◌, length}
+use Rattle.std.specs.Prelude.{option_map, find}
+use Rattle.cc_names.specs.Versions.{Version, row_of_change, branch_of_change, change_at, versions_on, version_at, version_made, put_if, element_of_branch, place_of, row_of_version}
 use Rattle.cc_names.specs.declared.changes.TreeChange.{TreeChange}
 use Rattle.cc_names.specs.declared.changes.TreeChange.TheVariants.{ElementMade}
 use Rattle.cc_names.specs.declared.rows.Kind.TheVariants.{Directory}

@@ -1,13 +1,11 @@
 -- In a base a checkout's origin is a version of its element.
-use Rattle.std.proofs.Common.{◌≡◌, refl, ap, sym, subst, ◌∙◌, ℕ, suc, Bool, true, false, cond, not, ◌&&◌, ◌==◌, Option, Some, None, List, [], ◌∷◌, length, arith}
-use Rattle.std.proofs.lemmas.Bool.Decides.{nat_tests}
-use Rattle.std.specs.Prelude.{is_some, option_and_then, option_map, bytes_eq, find}
+use Rattle.std.proofs.Common.{◌≡◌, refl, ap, sym, subst, ◌∙◌, ℕ, Bool, true, false, cond, not, ◌&&◌, ◌==◌, Option, Some, None, List, ◌∷◌, length}
+use Rattle.std.specs.Prelude.{option_and_then, bytes_eq, find}
 use Rattle.cc_names.specs.Formed.{Plain}
-use Rattle.cc_names.specs.Last.{Effect, Keeps, Ends, Sets, only_if}
-use Rattle.cc_names.specs.Versions.{Version, place_of, change_at, versions_on, version_made, version_at, put_if, place, element_of_branch, element_by, row_of_change, branch_of_change}
-use Rattle.cc_names.specs.declared.changes.Place.{Place}
+use Rattle.cc_names.specs.Last.{Ends, Sets, only_if}
+use Rattle.cc_names.specs.Versions.{Version, place_of, change_at, versions_on, version_made, put_if, place, element_of_branch, element_by, row_of_change, branch_of_change}
 use Rattle.cc_names.specs.declared.changes.TreeChange.{TreeChange}
-use Rattle.cc_names.specs.declared.changes.TreeChange.TheVariants.{ElementMade, BranchMade, VersionMade}
+use Rattle.cc_names.specs.declared.changes.TreeChange.TheVariants.{ElementMade, BranchMade}
 use Rattle.cc_names.specs.declared.rows.Deed.{Deed}
 use Rattle.cc_names.specs.declared.rows.Deed.TheVariants as deeds
 use Rattle.cc_names.specs.declared.rows.Tag.{Tag}
@@ -22,8 +20,8 @@ use Rattle.legal_history.specs.Fits.{deed_fits, is_base, may_reserve}
 use Rattle.legal_history.specs.Views.{Checkout, TakenOut, made_out, taken_out, checkout_of_element, checkout_of_branch, set_by, out_effect, out}
 use Rattle.legal_history.proofs.Below.{last_holds}
 use Rattle.legal_history.proofs.Goes.{same_number}
-use Rattle.legal_history.proofs.Owned.{row_fits, rows_below, same_is_same, third_of, and_first, and_second}
-use Rattle.legal_history.proofs.VersionsStay.{Parts, place_by, is_version, version_stays}
+use Rattle.legal_history.proofs.Owned.{row_fits, rows_below, same_is_same, third_of, and_second}
+use Rattle.legal_history.proofs.VersionsStay.{Parts, place_by, version_stays}
 
 some_same : {A : Type 0} {a b : A} → Some a ≡ Some b → a ≡ b
 some_same e = cc

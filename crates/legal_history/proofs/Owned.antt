@@ -1,26 +1,25 @@
 -- In a base each version and each checkout is one of an element.
-use Rattle.std.proofs.Common.{◌≡◌, refl, ap, sym, subst, ◌∙◌, ℕ, suc, ◌<◌, ◌≤◌, Bool, true, false, cond, not, ◌&&◌, ◌==◌, Option, Some, None, List, [], ◌∷◌, arith}
+use Rattle.std.proofs.Common.{◌≡◌, refl, ap, subst, ◌∙◌, ℕ, Bool, true, false, cond, not, ◌&&◌, ◌==◌, Option, Some, None, List, [], ◌∷◌, arith}
 use Rattle.std.proofs.lemmas.Bool.Decides.{nat_tests}
-use Rattle.std.specs.Prelude.{is_some, is_none, option_and_then, option_map, bytes_eq, nat_lt}
+use Rattle.std.specs.Prelude.{is_some, option_and_then}
 use Rattle.cc_names.specs.Formed.{Plain}
-use Rattle.cc_names.specs.Last.{Effect, Keeps, Ends, Sets, only_if}
 use Rattle.cc_names.specs.Branches.{branch_of_version}
-use Rattle.cc_names.specs.Versions.{row_of_change, change_at, element_by, element_of_branch, place, kind_of, kind_by}
+use Rattle.cc_names.specs.Versions.{row_of_change, change_at, element_by, place, kind_of, kind_by}
 use Rattle.cc_names.specs.declared.changes.Place.{Place}
 use Rattle.cc_names.specs.declared.changes.TreeChange.{TreeChange}
 use Rattle.cc_names.specs.declared.changes.TreeChange.TheVariants.{ElementMade, BranchMade, VersionMade}
 use Rattle.cc_names.specs.declared.rows.Deed.{Deed}
 use Rattle.cc_names.specs.declared.rows.Deed.TheVariants as deeds
 use Rattle.cc_names.specs.declared.rows.Kind.{Kind}
-use Rattle.cc_names.specs.declared.rows.Kind.TheVariants.{File, Directory}
+use Rattle.cc_names.specs.declared.rows.Kind.TheVariants.{Directory}
 use Rattle.legal_history.specs.Base.{Base, size}
 use Rattle.legal_history.specs.Changes.{tree, tree_after, with_version, with_checkin}
 use Rattle.legal_history.specs.Closures.{is_version_of}
-use Rattle.legal_history.specs.Conditions.{exists, has_out, is_branch_type, has_branch, is_file, is_directory, is_file_kind, is_directory_kind, is_unreserved, may_check_in}
-use Rattle.legal_history.specs.Fits.{fits, deed_fits, is_base}
+use Rattle.legal_history.specs.Conditions.{exists, has_out, is_branch_type, has_branch}
+use Rattle.legal_history.specs.Fits.{deed_fits, is_base}
 use Rattle.legal_history.specs.Views.{Checkout, out}
 use Rattle.legal_history.proofs.Below.{Within, within, older_change}
-use Rattle.legal_history.proofs.VersionsStay.{Parts, parts_of, owner_change, of_element, kind_stays, version_stays}
+use Rattle.legal_history.proofs.VersionsStay.{parts_of, owner_change, of_element}
 
 pub and_first : (a b : Bool) → (a && b) ≡ true → a ≡ true
 and_first true b e = refl

@@ -1,16 +1,15 @@
 -- The units of a build beside what they come to from nothing.
-use Rattle.std.proofs.Common.{◌≡◌, refl, ap, sym, subst, ◌∙◌, ℕ, zero, suc, ◌+◌, ◌<◌, ◌≤◌, Bool, true, false, cond, not, ◌&&◌, ◌||◌, ◌==◌, Option, Some, None, List, [], ◌∷◌, ◌++◌, length, map, take, arith}
-use Rattle.std.proofs.lemmas.Bool.Decides.{nat_tests}
+use Rattle.std.proofs.Common.{◌≡◌, refl, ap, ◌∙◌, ℕ, zero, suc, ◌+◌, Bool, true, false, Option, Some, None, List, [], ◌∷◌, ◌++◌, length, map, take, arith}
 use Rattle.std.proofs.lemmas.List.{reverse-append}
-use Rattle.std.specs.Prelude.{is_some, option_and_then, option_map, find, reverse, slice_get, bytes_eq}
+use Rattle.std.specs.Prelude.{reverse, slice_get}
 use Rattle.std.specs.List.{list_any}
 use Rattle.cc_names.specs.declared.units.Unit.{Unit}
 use Rattle.legal_history.specs.Base.{Base}
-use Rattle.legal_history.specs.Builds.{Build, Came, came_to, number_from, unit_at}
-use Rattle.legal_history.specs.Choices.{Member, unit_of_member, members_from, members_before}
-use Rattle.legal_history.specs.Fresh.{serial, serial_of, texts, sees_file, sees_directory}
+use Rattle.legal_history.specs.Builds.{Build, Came, came_to, unit_at}
+use Rattle.legal_history.specs.Choices.{Member, members_from, members_before}
+use Rattle.legal_history.specs.Fresh.{serial, texts, sees_file, sees_directory}
 use Rattle.legal_history.specs.Freshness.{done_in, outcome_in}
-use Rattle.legal_history.specs.Serials.{Outcome, Finished, unit_of, makes, needed}
+use Rattle.legal_history.specs.Serials.{Outcome, Finished, makes, needed}
 
 -- a unit with what it has come to, and with what it comes to from nothing
 pub record Pair : Type 0 where

@@ -1,13 +1,12 @@
 -- What it means that a command was decided to make a row: each of its tests passed.
-use Rattle.std.proofs.Common.{◌≡◌, refl, ap, sym, ◌∙◌, ℕ, ◌+◌, ◌<◌, ◌≤◌, Bool, true, false, not, Option, Some, None, Result, Ok, Err, List, [], ◌∷◌, ◌++◌, arith, if◌then◌else◌, nat_lt, ◌&&◌}
+use Rattle.std.proofs.Common.{◌≡◌, refl, ℕ, ◌+◌, ◌≤◌, Bool, true, false, Option, Some, None, Ok, List, [], ◌∷◌, ◌++◌, arith, if◌then◌else◌, nat_lt}
 use Rattle.std.proofs.lemmas.Bool.{lt-ltb, ltb-false}
-use Rattle.std.specs.Prelude.{is_some, is_none, is_ok, option_map}
 use Rattle.std.specs.Bool.{⊤}
 use Rattle.cc_names.specs.declared.refusals.Refusal.{Refusal}
 use Rattle.cc_names.specs.declared.rows.Deed.{Deed}
 use Rattle.legal_history.specs.Base.{Base, size}
 use Rattle.legal_history.specs.Builds.{reserved}
-use Rattle.legal_history.specs.Decisions.{Decision, Makes, Answers, Scene, first_refusal, unless_refused, needs_room, makes, answers}
+use Rattle.legal_history.specs.Decisions.{Decision, Makes, Scene, first_refusal, unless_refused, needs_room, makes, answers}
 use Rattle.legal_history.specs.Fits.{deed_fits, fits, row_limit}
 use Rattle.legal_history.specs.Tests.{refused_where, refused_unless}
 

@@ -1,24 +1,20 @@
 -- What a view selects of an element of a base is one of its versions, or the view's checkout.
-use Rattle.std.proofs.Common.{◌≡◌, refl, ap, sym, subst, ◌∙◌, ℕ, suc, Bool, true, false, cond, not, ◌&&◌, ◌==◌, Option, Some, None, List, [], ◌∷◌, arith}
-use Rattle.std.proofs.lemmas.Bool.Decides.{nat_tests}
-use Rattle.std.specs.Prelude.{is_some, option_and_then, option_map, find, reverse, bytes_eq, if◌then◌else◌, codes}
+use Rattle.std.proofs.Common.{◌≡◌, refl, ap, sym, subst, ◌∙◌, ℕ, Bool, true, false, cond, ◌==◌, Option, Some, None, List, [], ◌∷◌}
+use Rattle.std.specs.Prelude.{is_some, option_and_then, option_map, find, bytes_eq, if◌then◌else◌, codes}
 use Rattle.std.specs.Ordering.{nat_cmp}
 use Rattle.std.specs.FinMap.Entries.{find as find_key}
-use Rattle.cc_names.specs.Formed.{Plain}
 use Rattle.cc_names.specs.Branches.{makes_branch, branch_named, branch_behind, branch_from, if_above, branch_above}
-use Rattle.cc_names.specs.Labels.{holder}
-use Rattle.cc_names.specs.Versions.{row_of_change, branch_of_change, change_at, kind_of, kind_by, element_by, element_of_branch, latest, numbered, is_before, is_number}
+use Rattle.cc_names.specs.Versions.{row_of_change, change_at, kind_by, element_by, element_of_branch, latest, numbered, is_before, is_number}
 use Rattle.cc_names.specs.declared.changes.TreeChange.{TreeChange}
 use Rattle.cc_names.specs.declared.changes.TreeChange.TheVariants.{ElementMade, BranchMade, VersionMade}
-use Rattle.cc_names.specs.declared.rows.Kind.{Kind}
 use Rattle.cc_names.specs.declared.rows.Kind.TheVariants.{Directory}
 use Rattle.cc_names.specs.declared.selection.Picked.{Picked}
 use Rattle.cc_names.specs.declared.selection.Rule.{Rule}
 use Rattle.cc_names.specs.declared.selection.Selector.{Selector}
 use Rattle.cc_names.specs.declared.selection.Selector.TheVariants as selectors
-use Rattle.spec_text.specs.Rules.{finds, found_by, is_checkout, deciding, picked_by, pick, latest_on, branch_of_type}
+use Rattle.spec_text.specs.Rules.{finds, found_by, is_checkout, deciding, picked_by, branch_of_type}
 use Rattle.legal_history.specs.Base.{Base, size, only_where}
-use Rattle.legal_history.specs.Changes.{tree, labels, targets_of}
+use Rattle.legal_history.specs.Changes.{tree, targets_of}
 use Rattle.legal_history.specs.Closures.{is_version_of, listed, listing, closure, is_among}
 use Rattle.legal_history.specs.Fits.{is_base}
 use Rattle.legal_history.specs.Seen.{sources, selected, rules}

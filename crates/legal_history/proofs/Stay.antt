@@ -1,9 +1,9 @@
 -- What a base says of its first rows never changes when rows are added.
-use Rattle.std.proofs.Common.{◌≡◌, refl, ap, sym, ◌∙◌, ℕ, suc, ◌+◌, ◌<◌, ◌≤◌, true, false, Option, List, [], ◌∷◌, ◌++◌, length, arith, nat_lt, ◌==◌}
+use Rattle.std.proofs.Common.{◌≡◌, refl, ◌∙◌, ℕ, ◌<◌, ◌≤◌, List, [], ◌∷◌, ◌++◌, arith}
 use Rattle.std.proofs.lemmas.Bool.Decides.{nat_tests}
 use Rattle.cc_names.specs.Formed.{Plain}
 use Rattle.legal_history.specs.Base.{Base, size, first_rows, row_at}
-use Rattle.legal_history.specs.Catalogs.{Catalog, catalog_of}
+use Rattle.legal_history.specs.Catalogs.{catalog_of}
 use Rattle.legal_history.specs.Texts.{text}
 
 pub first_rows_stay : (row : Plain) (b : Base) (t : ℕ) → t ≤ size b → first_rows t (row ∷ b) ≡ first_rows t b

@@ -1,5 +1,5 @@
 -- Look-ups in a table that is keyed by numbers, after a change of it.
-use Rattle.std.proofs.Common.{◌≡◌, refl, ap, sym, subst, ◌∙◌, ℕ, Bool, true, false, cond, not, ◌==◌, Option, Some, None, List, [], ◌∷◌, arith, ◌≢◌}
+use Rattle.std.proofs.Common.{◌≡◌, ap, sym, ◌∙◌, ℕ, false, cond, not, ◌==◌, Some, None, List, arith}
 use Rattle.std.proofs.lemmas.Bool.Decides.{nat_tests}
 use Rattle.std.proofs.lemmas.Cmp.{nat_cmp_total}
 use Rattle.std.specs.Cmp.{unsigned_tied}

@@ -1,14 +1,12 @@
 -- The changes of trees and labels that the first rows of a base made are those of these rows alone.
-use Rattle.std.proofs.Common.{◌≡◌, refl, ap, sym, ◌∙◌, ℕ, suc, ◌+◌, ◌<◌, ◌≤◌, Bool, true, false, Option, Some, None, List, [], ◌∷◌, ◌++◌, length, arith, nat_lt, ◌==◌}
+use Rattle.std.proofs.Common.{◌≡◌, refl, ap, sym, ◌∙◌, ℕ, ◌<◌, ◌≤◌, Bool, true, false, Option, Some, None, List, [], ◌∷◌, arith, nat_lt}
 use Rattle.std.proofs.lemmas.Bool.{ltb-true, ltb-false}
 use Rattle.std.proofs.lemmas.Bool.Decides.{nat_tests}
-use Rattle.std.specs.List.{filter}
-use Rattle.cc_names.specs.Formed.{Plain}
 use Rattle.cc_names.specs.Branches.{branch_of_version}
-use Rattle.cc_names.specs.Labels.{labels_of_first_rows, row_of_label_change}
+use Rattle.cc_names.specs.Labels.{labels_of_first_rows}
 use Rattle.cc_names.specs.Versions.{of_first_rows, row_of_change}
 use Rattle.cc_names.specs.declared.changes.LabelChange.{LabelChange}
-use Rattle.cc_names.specs.declared.changes.LabelChange.TheVariants.{Put, Taken}
+use Rattle.cc_names.specs.declared.changes.LabelChange.TheVariants.{Put}
 use Rattle.cc_names.specs.declared.changes.TreeChange.{TreeChange}
 use Rattle.cc_names.specs.declared.changes.TreeChange.TheVariants.{ElementMade, BranchMade, VersionMade}
 use Rattle.cc_names.specs.declared.rows.Deed.{Deed}

@@ -1,17 +1,16 @@
 -- A version of a base stays one when rows are added, and each version is one of an element.
-use Rattle.std.proofs.Common.{◌≡◌, refl, ap, sym, subst, ◌∙◌, ℕ, suc, ◌<◌, ◌≤◌, Bool, true, false, cond, not, ◌&&◌, ◌==◌, Option, Some, None, List, [], ◌∷◌, length, arith}
+use Rattle.std.proofs.Common.{◌≡◌, refl, ap, sym, ◌∙◌, ℕ, ◌<◌, Bool, true, false, cond, ◌==◌, Option, Some, None, List, ◌∷◌, length, arith}
 use Rattle.std.proofs.lemmas.Bool.Decides.{nat_tests}
-use Rattle.std.specs.Prelude.{is_some, option_and_then, option_map, find}
+use Rattle.std.specs.Prelude.{option_and_then, option_map, find}
 use Rattle.cc_names.specs.Formed.{Plain}
-use Rattle.cc_names.specs.Versions.{Version, row_of_change, branch_of_change, change_at, versions_on, version_at, version_made, element_by, element_of_branch, place, place_of, put_if, kind_of, kind_by}
+use Rattle.cc_names.specs.Versions.{Version, row_of_change, branch_of_change, change_at, versions_on, version_made, element_by, element_of_branch, place, place_of, put_if, kind_of, kind_by}
 use Rattle.cc_names.specs.declared.changes.Place.{Place}
 use Rattle.cc_names.specs.declared.changes.TreeChange.{TreeChange}
-use Rattle.cc_names.specs.declared.changes.TreeChange.TheVariants.{ElementMade, BranchMade, VersionMade}
 use Rattle.cc_names.specs.declared.rows.Kind.{Kind}
 use Rattle.legal_history.specs.Base.{Base, size}
 use Rattle.legal_history.specs.Changes.{tree}
 use Rattle.legal_history.specs.Closures.{is_of_element, is_version_of}
-use Rattle.legal_history.proofs.Below.{Within, within, older_change, found_change}
+use Rattle.legal_history.proofs.Below.{Within, within, older_change}
 use Rattle.legal_history.proofs.TreesStay.{Adds, Nothing, One, adds_row}
 
 -- what a place is made of

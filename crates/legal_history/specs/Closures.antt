@@ -1,5 +1,5 @@
 -- What an object rests on in the end, and the version of each element that its record lists.
-use Rattle.std.specs.Prelude.{ℕ, Bool, true, false, ◌==◌, Option, Some, None, List, [], ◌∷◌, max, bytes_eq}
+use Rattle.std.specs.Prelude.{ℕ, zero, suc, Bool, true, false, ◌==◌, Option, Some, None, List, [], ◌∷◌, max, bytes_eq}
 use Rattle.std.specs.List.{list_any}
 use Rattle.std.specs.declared.cmp.Ordering.{Ordering}
 use Rattle.std.specs.Ordering.{nat_cmp, on, then_cmp}
@@ -83,10 +83,15 @@ abbrev pub with_version_at : ℕ → Option Place → Listing → Listing
 with_version_at row None listing = listing
 with_version_at row (Some place) listing = put nat_cmp place.element (greater_of row (find nat_cmp place.element listing)) listing
 
+-- The version that the row of a source made. Row 0, which says that nothing was at the path, lists none.
+abbrev pub version_listed : Base → ℕ → Option Place
+version_listed b zero = None
+version_listed b (suc row) = place (tree b) (suc row)
+
 -- the versions among sources
 abbrev pub listing_of : Base → Sources → Listing
 listing_of b [] = []
-listing_of b (source ∷ sources) = with_version_at source.1 (place (tree b) source.1) (listing_of b sources)
+listing_of b (source ∷ sources) = with_version_at source.1 (version_listed b source.1) (listing_of b sources)
 
 -- What the record of an object lists: of each element the greatest row of the object's closure that is a version of it.
 abbrev pub listing : Base → ℕ → Listing

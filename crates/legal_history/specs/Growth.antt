@@ -1,7 +1,5 @@
 -- What later steps of a story leave of earlier ones.
-use Rattle.std.specs.Prelude.{◌≡◌, ℕ, Option, Some, None, true, List, ◌++◌}
-use Rattle.cc_names.specs.declared.rows.Tag.{Tag}
-use Rattle.cc_names.specs.declared.units.Unit.{Unit}
+use Rattle.std.specs.Prelude.{◌≡◌, ℕ, Option, Some, None, true, ◌++◌}
 use Rattle.legal_history.specs.Base.{Base}
 use Rattle.legal_history.specs.Builds.{Build, came_to, is_outcome}
 

@@ -1,5 +1,5 @@
 -- Which versions have reached which, by the trees and by merge arrows; and what is left to be merged.
-use Rattle.std.specs.Prelude.{ℕ, zero, suc, Bool, true, false, not, ◌&&◌, ◌||◌, ◌==◌, ◌≡◌, Option, Some, None, List, [], ◌∷◌, ◌++◌, codes, map, option_and_then, bytes_eq}
+use Rattle.std.specs.Prelude.{ℕ, zero, suc, Bool, true, false, not, ◌&&◌, ◌||◌, ◌==◌, ◌≡◌, Option, Some, None, List, [], ◌∷◌, ◌++◌, codes, map, option_and_then, bytes_eq, length, nat_le}
 use Rattle.std.specs.List.{concat, list_any}
 use Rattle.std.specs.Option.{option_or, option_map_or}
 use Rattle.std.specs.Ordering.{nat_cmp}
@@ -99,10 +99,14 @@ abbrev pub with_element : List ℕ → Seen → Elements → Elements
 with_element path (Element e picked) found = put (slice_cmp nat_cmp) path (Element e picked) found
 with_element path seen found = found
 
+-- what is found at a path and below it, where the path is not too long to be seen
+abbrev pub where_short : (List ℕ → Elements → Elements) → List ℕ → Elements → Elements
+where_short below path found = elim (nat_le (length path) 1024) [ true ↦ below path found | false ↦ found ]
+
 -- what is found below each name of a catalog, put among others
 abbrev pub in_catalog : (List ℕ → Elements → Elements) → List ℕ → Catalog → Elements → Elements
 in_catalog below directory [] found = found
-in_catalog below directory (entry ∷ catalog) found = below (path_in directory entry.0) (in_catalog below directory catalog found)
+in_catalog below directory (entry ∷ catalog) found = where_short below (path_in directory entry.0) (in_catalog below directory catalog found)
 
 -- the elements selected at a path and below it, put among others; no directory lies deeper than there are rows
 abbrev pub elements_below : ℕ → Base → List ℕ → List ℕ → Elements → Elements

@@ -12,12 +12,12 @@ use Rattle.cc_names.specs.declared.selection.Picked.{Picked}
 use Rattle.spec_text.specs.Rules.{finds, is_checkout, picked_by}
 use Rattle.legal_history.specs.Base.{Base, only_where}
 use Rattle.legal_history.specs.Changes.{targets_of, tree}
-use Rattle.legal_history.specs.Closures.{Source, Sources, source_cmp, closure, greater_of, is_among, is_version_of, listed, listing, listing_of, with_version_at}
+use Rattle.legal_history.specs.Closures.{Source, Sources, source_cmp, closure, greater_of, is_among, is_version_of, listed, listing, listing_of, version_listed, with_version_at}
 use Rattle.legal_history.specs.RecordTexts.{uncovered, uncovered_among}
 use Rattle.legal_history.specs.Reuse.{agrees}
 use Rattle.legal_history.specs.Seen.{file_at, file_seen, row_of_file, selected, sources}
 use Rattle.legal_history.proofs.Goes.{same_number}
-use Rattle.legal_history.proofs.LabelsHold.{greater}
+use Rattle.legal_history.proofs.LabelsHold.{greater, place_listed}
 use Rattle.legal_history.proofs.Makings.{seen_element}
 use Rattle.legal_history.proofs.Owned.{same_is_same}
 use Rattle.legal_history.proofs.Tables.{find_after_put}
@@ -30,7 +30,7 @@ listed_is : (b : Base) (P : ℕ → Type 0) (e : ℕ) (sources : Sources) (r : �
     find nat_cmp e (listing_of b sources) ≡ Some r → P r
 listed_is b P e [] r keyed each h = absurd (cc)
 listed_is b P e (source ∷ rest) r keyed each h =
-    by (place (tree b) source.1) refl h (λ r found. listed_is b P e rest r keyed.1 (λ q has version. each q (later_found q source rest has) version) found)
+    by (version_listed b source.1) refl h (λ r found. listed_is b P e rest r keyed.1 (λ q has version. each q (later_found q source rest has) version) found)
   where
     own : (p : Place) → place (tree b) source.1 ≡ Some p → p.element ≡ e → P source.1
     own p is same = subst P (sym keyed.0) (each source.0 (front_found source rest) (ap (is_version_of b e) (sym keyed.0) ∙ is_version b e source.1 p is same))
@@ -46,10 +46,10 @@ listed_is b P e (source ∷ rest) r keyed each h =
         subst P same (or_greater p is (sym (same_number e p.element test)) before (find nat_cmp p.element (listing_of b rest)) refl)
     by_number p false is test h before = before r h
 
-    by : (o : Option Place) → place (tree b) source.1 ≡ o → find nat_cmp e (with_version_at source.1 o (listing_of b rest)) ≡ Some r → ((r : ℕ) → find nat_cmp e (listing_of b rest) ≡ Some r → P r) → P r
+    by : (o : Option Place) → version_listed b source.1 ≡ o → find nat_cmp e (with_version_at source.1 o (listing_of b rest)) ≡ Some r → ((r : ℕ) → find nat_cmp e (listing_of b rest) ≡ Some r → P r) → P r
     by None is h before = before r h
     by (Some p) is h before =
-        by_number p (e == p.element) is refl (sym (find_after_put e p.element (greater_of source.1 (find nat_cmp p.element (listing_of b rest))) (listing_of b rest)) ∙ h) before
+        by_number p (e == p.element) (place_listed b source.1 p is) refl (sym (find_after_put e p.element (greater_of source.1 (find nat_cmp p.element (listing_of b rest))) (listing_of b rest)) ∙ h) before
 
 -- what is listed of an element is its only version in the closure
 only_listed : (b : Base) (id e row : ℕ) (target : List ℕ) (r : ℕ) → IsOnlyVersion b id e row → listed b id target e ≡ Some r → r ≡ row

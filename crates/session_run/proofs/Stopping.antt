@@ -100,6 +100,7 @@ keeps_prefix before now story begins legal accounted mended again = record {
   on_base = λ opened. record {
     opening = accounted.opening;
     opened = accounted.opened;
+    ticks = accounted.ticks;
     stops =
         told_map now.told _ (λ d. (k : ℕ) (image : List ℕ) → before.ticks < k → MayLeave 0 d k image → MayBeFound accounted.opening (state_of story).ends k (frames image)) accounted.stops
         (λ d h k image later. h k image (omega (arith, later, ap (λ c. c.ticks) counts.0, begins.on.ticks)));

@@ -6,7 +6,7 @@ use Rattle.cc_names.specs.declared.steps.Told.TheVariants as told
 use Rattle.disk_model.specs.Devices.{MayLeave, bytes_of, file_of}
 use Rattle.disk_model.specs.Files.{stable}
 use Rattle.disk_model.specs.Told.{Sight, IfTold}
-use Rattle.legal_history.specs.States.{State, Opening, faults_of}
+use Rattle.legal_history.specs.States.{State, Opening, faults_of, ticks_of}
 use Rattle.legal_history.specs.Steps.{state_of}
 use Rattle.legal_history.specs.Stories.{rises}
 use Rattle.vob_journal.specs.Frames.{frames}
@@ -40,10 +40,11 @@ IsMended s disk = faults_of s.opened s.ends ≡ disk.faults → disk.faults < 2 
 -- or the row that a fault left, and no more. What it finds opens again without damage, to the base that it stands for. After
 -- the last call it finds the rows of all commits and no more where the history has no fault, and where the count of the
 -- disk's faults stands as the last fault left it, below its last number. Each fault of the history has a rise of that count
--- of its own, within those of the call.
+-- of its own, within those of the call, and each commit and fault ended at a call that the disk has counted.
 pub record KeepsPrefix (before after : Sight) (story : List Told) : Type 0 where
   pub opening : Opening
   pub opened : (state_of story).opened ≡ Some opening
+  pub ticks : ticks_of (state_of story).opened (state_of story).ends ≤ after.ticks
   pub stops : IfTold after.told (λ d. (k : ℕ) (image : List ℕ) → before.ticks < k → MayLeave 0 d k image → MayBeFound opening (state_of story).ends k (frames image))
   pub again : IfTold after.told (λ d. (k : ℕ) (image : List ℕ) → before.ticks < k → MayLeave 0 d k image → OpensAgain (frames image))
   pub sound : rises_of story ≡ [] → IsSettled (state_of story) after
