@@ -11,7 +11,7 @@ use Rattle.cc_names.specs.declared.rows.Deed.TheVariants as deeds
 use Rattle.cc_names.specs.declared.rows.TypeKind.TheVariants as type_kinds
 use Rattle.legal_history.specs.Base.{Base, first_rows}
 use Rattle.legal_history.specs.Changes.{labels}
-use Rattle.legal_history.specs.Closures.{listing}
+use Rattle.legal_history.specs.Closures.{listing, listing_of}
 use Rattle.legal_history.specs.Decisions.{Makes, Answers, Begins}
 use Rattle.legal_history.specs.Fits.{is_base}
 use Rattle.legal_history.specs.Fresh.{fresh}
@@ -54,6 +54,10 @@ the_labels_fit = refl
 versions_have_names : map (version_name (base_of recorded)) (8 ∷ 17 ∷ []) ≡ codes "/main/1" ∷ codes "/main/2" ∷ []
 unfolding digits
 versions_have_names = refl
+
+-- a path that was absent lists no version, not even the root's first one
+an_absent_path_lists_nothing : listing_of (base_of recorded) (((codes "h", 0), 0) ∷ ((codes "in", 8), 8) ∷ []) ≡ (6, 8) ∷ []
+an_absent_path_lists_nothing = refl
 
 the_record_lists_its_source : listing (base_of recorded) 10 ≡ (6, 8) ∷ []
 the_record_lists_its_source = refl
