@@ -66,8 +66,8 @@ fn deed_fits(rows: &FirstRows<'_>, deed: &Deed) -> bool
 }
 
 /// Whether a row that makes a view, a private file or an object fits a base whose rows are all of these kinds, as its next
-/// row. With it the base is of these kinds too. Takes time linear in the rows, in the row's entries and in the targets of
-/// the objects that they name; no memory.
+/// row. With it the base is of these kinds too. Takes time linear in the view's name, in the row's entries and in the targets
+/// of the objects that they name, however many rows there are; no memory.
 pub fn fits(rows: &FirstRows<'_>, row: &Row) -> bool
     requires unversioned { is_unversioned (reverse rows.now) ≡ true }
     requires known { is_unversioned_deed row.now.deed ≡ true }
