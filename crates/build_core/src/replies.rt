@@ -1,7 +1,7 @@
-// The reply of a build that has ended: a line for each target of its units.
+// The reply of a build that has ended: its units with objects at each of their targets, the others at their first.
 
 ghost use Rattle.std.specs.Prelude.{◌≡◌, ◌++◌, ◌<◌, ◌^◌, [], true, Some, length, reverse, option_copied, IfOk, OnOk};
-ghost use Rattle.fresh_builds.specs.Replied.{digest_at, is_of_tag, is_own, word_of_object, word_of_end, word_of_came, line_before, lines_of, lines_from, reply_of};
+ghost use Rattle.fresh_builds.specs.Replied.{digest_at, is_of_tag, is_own, word_of_object, word_of_end, word_of_came, told_targets, line_before, lines_of, lines_from, reply_of};
 ghost use Rattle.legal_history.specs.Builds.{came_to, Given};
 ghost use Rattle.legal_history.specs.Texts.{text};
 ghost use Rattle.view_lookup.specs.Unversioned.{is_unversioned};
@@ -139,6 +139,17 @@ fn push_lines(
     Ok(())
 }
 
+/// The targets at which a unit is told: each of them where it has an object, else the first.
+fn told_targets(has_object: bool, targets: &[Path]) -> &[Path]
+    ensures { result.now ≡ told_targets has_object targets.now }
+{
+    if has_object {
+        targets
+    } else {
+        &targets[..targets.len().min(1)]
+    }
+}
+
 /// The lines of all units, in order.
 fn lines_of_units(
     alloc: Global,
@@ -153,22 +164,17 @@ fn lines_of_units(
     let mut rest = build.units();
     let mut number = 0;
     while let Some((unit, more)) = rest.split_first() {
-        push_lines(
-            alloc,
-            rows,
-            build,
-            number,
-            unit.targets.as_slice(),
-            &mut lines,
-        )?;
+        let has_object = build.object_of(number).is_some();
+        let targets = told_targets(has_object, unit.targets.as_slice());
+        push_lines(alloc, rows, build, number, targets, &mut lines)?;
         rest = more;
         number += 1;
     }
     Ok(lines)
 }
 
-/// The reply of a build in a base without elements: unit by unit in order, a line for each target of those that have
-/// their outcome. Fails where memory runs out. Takes time linear in the targets and in the outputs, and for a unit with
+/// The reply of a build in a base without elements: unit by unit in order, a line for each target of those that have an
+/// object, a line for the first target of those that ended without one. Fails where memory runs out. Takes time linear in the targets and in the outputs, and for a unit with
 /// several targets in the square of their number.
 pub fn reply_of(alloc: Global, rows: &FirstRows<'_>, build: &ActiveBuild) -> Result<Reply, NoMemory>
     requires unversioned { is_unversioned (reverse rows.now) ≡ true }

@@ -135,3 +135,27 @@ fn files_hold_what_was_written(rt: HostRuntime) -> Result<(), Fail> {
     fs::remove_file(&rt, "disk_model_content.objects")?;
     Ok(())
 }
+
+/// What one disk has written in both files and synced, another finds.
+#[test]
+fn another_disk_finds_what_was_synced(rt: HostRuntime) -> Result<(), Fail> {
+    let alloc = rt.alloc();
+    let journal = String::from_str(alloc, "disk_model_again")?;
+    let objects = String::from_str(alloc, "disk_model_again.objects")?;
+    let mut writer = FileDisk::new(rt.clone()?, journal.clone()?, objects.clone()?);
+    writer.write_at(0, 0, b"journal")?;
+    writer.write_at(1, 0, b"objects")?;
+    writer.write_at(1, 3, b"_")?;
+    writer.sync(0)?;
+    writer.sync(1)?;
+    let mut reader = FileDisk::new(rt.clone()?, journal, objects);
+    assert_eq!(rt; (reader.length(0)?, reader.length(1)?), (7, 7));
+    let mut found = [0u8; 7];
+    reader.read_at(0, 0, &mut found)?;
+    assert_eq!(rt; found.as_slice(), b"journal".as_slice());
+    reader.read_at(1, 0, &mut found)?;
+    assert_eq!(rt; found.as_slice(), b"obj_cts".as_slice());
+    fs::remove_file(&rt, "disk_model_again")?;
+    fs::remove_file(&rt, "disk_model_again.objects")?;
+    Ok(())
+}

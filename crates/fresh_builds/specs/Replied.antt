@@ -1,5 +1,5 @@
 -- What a build that has ended is replied: by what its units have come to, and by the build from nothing.
-use Rattle.std.specs.Prelude.{ℕ, ◌+◌, Bool, true, false, ◌&&◌, nat_le, Option, Some, None, List, [], ◌∷◌, ◌++◌, length, unwrap_or}
+use Rattle.std.specs.Prelude.{ℕ, ◌+◌, Bool, true, false, ◌&&◌, nat_le, Option, Some, None, is_some, List, [], ◌∷◌, ◌++◌, length, take, unwrap_or}
 use Rattle.cc_names.specs.Formed.{Plain}
 use Rattle.cc_names.specs.declared.replies.Digest.{Digest}
 use Rattle.cc_names.specs.declared.replies.Reply.{Reply}
@@ -13,7 +13,7 @@ use Rattle.cc_names.specs.declared.steps.UnitEnd.TheVariants as ends
 use Rattle.cc_names.specs.declared.units.Unit.{Unit}
 use Rattle.sha2.specs.Sha256.{sha256}
 use Rattle.legal_history.specs.Base.{Base, first_rows, row_at}
-use Rattle.legal_history.specs.Builds.{Build, Came, Started, Ended, Given, came_to}
+use Rattle.legal_history.specs.Builds.{Build, Came, Started, Ended, Given, came_to, object_of}
 use Rattle.legal_history.specs.Fresh.{all_finished}
 use Rattle.legal_history.specs.Serials.{Outcome, Made, Without, Finished}
 use Rattle.legal_history.specs.States.{same_tag}
@@ -72,6 +72,16 @@ abbrev pub line_before : List ℕ → Option UnitWord → List UnitLine → List
 line_before path None lines = lines
 line_before path (Some word) lines = record { path = path; word = word } ∷ lines
 
+-- the targets at which a unit is told: each of them where it has an object, else the first
+abbrev pub told_targets : Bool → List (List ℕ) → List (List ℕ)
+told_targets true targets = targets
+told_targets false targets = take 1 targets
+
+-- whether a unit that was finished from nothing has outputs
+abbrev pub has_outputs : Outcome → Bool
+has_outputs (Made outputs) = true
+has_outputs (Without end) = false
+
 -- a line for each of some targets
 abbrev pub lines_of : (List ℕ → Option UnitWord) → List (List ℕ) → List UnitLine
 lines_of word [] = []
@@ -81,16 +91,19 @@ lines_of word (path ∷ paths) = line_before path (word path) (lines_of word pat
 abbrev pub lines_from : Base → Build → ℕ → List Unit → List UnitLine
 lines_from b build n [] = []
 lines_from b build n (unit ∷ units) =
-    lines_of (λ path. word_of_came b build path (came_to build n)) unit.targets ++ lines_from b build (n + 1) units
+    lines_of (λ path. word_of_came b build path (came_to build n)) (told_targets (is_some (object_of (came_to build n))) unit.targets)
+    ++ lines_from b build (n + 1) units
 
 -- the lines of finished units that are numbered from n on
 abbrev pub finished_from : Base → Build → ℕ → List Finished → List UnitLine
 finished_from b build n [] = []
 finished_from b build n (finished ∷ more) =
-    lines_of (λ path. Some (word_of_outcome b build path finished.unit.targets (came_to build n) finished.outcome)) finished.unit.targets
+    lines_of (λ path. Some (word_of_outcome b build path finished.unit.targets (came_to build n) finished.outcome))
+    (told_targets (has_outputs finished.outcome) finished.unit.targets)
     ++ finished_from b build (n + 1) more
 
--- The reply of a build by what its units have come to: unit by unit in order, one line a target.
+-- The reply of a build by what its units have come to: unit by unit in order, one with an object by a line for each of its
+-- targets, any other by one line with its first target.
 abbrev pub reply_of : Base → Build → Reply
 reply_of b build = Built (lines_from b build 0 build.units)
 

@@ -18,8 +18,8 @@ use Rattle.legal_history.specs.Steps.{after, state_from, state_of}
 use Rattle.legal_history.specs.Stories.{Lawful, LegalFrom, Legal, EndsBuild}
 use Rattle.legal_history.specs.Turns.{is_complete}
 use Rattle.session_run.specs.Headline.{AreFromNothing}
-use Rattle.session_run.specs.Rendered.{Replies, end_from_nothing, told_after, closed_by, closed_over, replies_over, last_phase}
-use Rattle.session_run.specs.Runs.{GivenAsTold}
+use Rattle.session_run.specs.FromNothing.{end_from_nothing, told_after, text_from_nothing}
+use Rattle.session_run.specs.Rendered.{Replies, closed_by, closed_over, replies_over, last_phase, rendered, transcripts}
 
 -- the two laws of builds
 pub record Laws : Type 0 where
@@ -96,12 +96,11 @@ over_same s replies [] h = refl
 over_same s replies (x ∷ story) h =
     ap (λ r. replies_over replies_after (after s x) r story) (step_same s replies x h.0) ∙ over_same (after s x) (told_after s x replies) story h.1
 
--- Along a legal story the replies that the core gives are those that are told.
-pub given_as_told : Laws → (story : List Told) → Legal story → GivenAsTold story
-given_as_told laws story legal =
+-- Along a legal story the text by the units' own outcomes is the one that building from nothing tells.
+same_text : Laws → (story : List Told) → Legal story → rendered story ≡ text_from_nothing story
+same_text laws story legal =
     let same = all_same laws [] story tt legal in
-    let earlier = closed_same start no_replies story same in
-    record { earlier = earlier; ended = ap₂ (λ front replies. front ++ last_phase (state_of story) replies) earlier (over_same start no_replies story same) }
+    ap transcripts (ap₂ (λ front replies. front ++ last_phase (state_of story) replies) (closed_same start no_replies story same) (over_same start no_replies story same))
 
 -- the front of a legal story is legal, and so is what follows
 front_legal : (s : State) (front rest : List Told) → LegalFrom s (front ++ rest) → LegalFrom s front
@@ -122,6 +121,7 @@ ends_complete s tag build ends is sound =
 
 pub are_from_nothing : Laws → (story : List Told) → Legal story → AreFromNothing story
 are_from_nothing laws story legal = record {
+  text = same_text laws story legal;
   each = λ front rest tag build grows is sound.
       let whole : Legal (front ++ told.Other (steps.End tag) ∷ rest) = subst Legal grows legal in
       let before = front_legal start front (told.Other (steps.End tag) ∷ rest) whole in

@@ -10,8 +10,8 @@ use Rattle.legal_history.specs.Steps.{after, after_step, state_from, state_of}
 use Rattle.base_core.specs.Going.{SamePhase}
 use Rattle.base_core.specs.Replying.{no_replies, replies_after}
 use Rattle.session_run.specs.Headline.{phases_begun, moments_begun, first_step, is_opened}
-use Rattle.session_run.specs.Rendered.{Replies, closed_by, closed_over, replies_over}
-use Rattle.session_run.specs.Lanes.{Goes, given_earlier}
+use Rattle.session_run.specs.Rendered.{Replies, closed_by, closed_over, earlier_phases, replies_over}
+use Rattle.session_run.specs.Lanes.{Goes}
 
 pub state_more : (s : State) (story more : List Told) → state_from s (story ++ more) ≡ state_from (state_from s story) more
 state_more s [] more = refl
@@ -100,9 +100,9 @@ goes_on old new more grows same opened =
       phase = same.phase;
       number = same.number;
       earlier =
-          ap (λ story. given_earlier story) grows ∙ closed_more replies_after start no_replies old more
-          ∙ ap (λ ps. given_earlier old ++ ps) (closes_none replies_after (state_of old) (replies_over replies_after start no_replies old) more none)
-          ∙ append-nil (given_earlier old);
+          ap (λ story. earlier_phases story) grows ∙ closed_more replies_after start no_replies old more
+          ∙ ap (λ ps. earlier_phases old ++ ps) (closes_none replies_after (state_of old) (replies_over replies_after start no_replies old) more none)
+          ∙ append-nil (earlier_phases old);
       first = ap first_step grows ∙ first_more old more opened;
       opened = ap is_opened grows ∙ opened_more old more opened;
     }

@@ -9,8 +9,8 @@ use Rattle.legal_history.specs.States.{start, done_of, lane_at, all_done}
 use Rattle.legal_history.specs.Steps.{after, state_of}
 use Rattle.base_core.specs.Replying.{no_replies, replies_after}
 use Rattle.session_run.specs.Headline.{phases_begun, moments_begun, first_step, is_opened}
-use Rattle.session_run.specs.Rendered.{last_phase, replies_over}
-use Rattle.session_run.specs.Lanes.{given_earlier, Goes, GoesInLane, GoesInLanes, GoesInPhase, RunsPhase, LeavesPhase, IsWithin, IsFinished, count_of}
+use Rattle.session_run.specs.Rendered.{earlier_phases, last_phase, replies_over}
+use Rattle.session_run.specs.Lanes.{Goes, GoesInLane, GoesInLanes, GoesInPhase, RunsPhase, LeavesPhase, IsWithin, IsFinished, count_of}
 use Rattle.session_run.proofs.LaneSteps.{goes_nowhere, goes_further}
 use Rattle.session_run.proofs.MoreSteps.{state_more, phases_more, moments_more, closed_more, first_more}
 use Rattle.session_run.proofs.Within.{one_or_two, all_finished}
@@ -74,7 +74,7 @@ phase_begins old new phase moment is =
       number = ap (λ s. s.number) state;
       first = λ before. ap first_step is ∙ first_more old (x ∷ []) before;
       opened = ap is_opened is ∙ ends_opened old x;
-      earlier = ap (λ story. given_earlier story) is ∙ closed_more replies_after start no_replies old (x ∷ []) ∙ ap (λ ps. given_earlier old ++ ps) (append-nil (last_phase (state_of old) (replies_over replies_after start no_replies old)));
+      earlier = ap (λ story. earlier_phases story) is ∙ closed_more replies_after start no_replies old (x ∷ []) ∙ ap (λ ps. earlier_phases old ++ ps) (append-nil (last_phase (state_of old) (replies_over replies_after start no_replies old)));
     }
 
 -- no lane of it has finished a command

@@ -1,7 +1,6 @@
 -- The promises of the headline, from what a run or a stop left.
 use Rattle.std.proofs.Common.{◌≡◌, ℕ, inl, inr, Bool, true, false, Option, Some, None, Result, Ok, Err, List, [], ◌∷◌, ◌++◌, length, refl, ap, sym, subst, ◌∙◌}
 use Rattle.std.specs.Prelude.{IfSome, IfOk, IfErr}
-use Rattle.std.specs.List.{list_any}
 use Rattle.std.specs.Io.KnownBytes.{Appends}
 use Rattle.std.proofs.lemmas.List.{append-nil}
 use Rattle.cc_names.specs.declared.commands.Phase.{Phase}
@@ -27,10 +26,10 @@ use Rattle.legal_history.specs.Steps.{state_of}
 use Rattle.legal_history.specs.Stories.{Legal, rises}
 use Rattle.session_run.specs.Causes.{Change, DiskUndamaged, Intake, IsAsked, IsUntouched, IsWhole, HasCause, disk_rose}
 use Rattle.session_run.specs.Asked.{is_session, is_read, phases_spelled}
-use Rattle.session_run.specs.Headline.{BeginsOn, IsFront, IsSession, IsOneHistory, IsCutAtLast, AreFromNothing, ArePrinted, first_step, is_opened, is_through, phases_begun, moments_begun, clock_moments}
-use Rattle.session_run.specs.Rendered.{rendered, earlier_text, transcripts, has_failure, phase_fails}
-use Rattle.session_run.specs.Lanes.{given, given_earlier}
-use Rattle.session_run.specs.Runs.{IsJustOpened, Outside, GivenAsTold, HasRun, HasRunSo, IsGivenUp, OnWriteFault, run_status}
+use Rattle.session_run.specs.FromNothing.{text_from_nothing}
+use Rattle.session_run.specs.Headline.{BeginsOn, IsFront, IsSession, IsOneHistory, AreFromNothing, ArePrinted, first_step, is_opened, is_through, phases_begun, moments_begun, clock_moments}
+use Rattle.session_run.specs.Rendered.{rendered}
+use Rattle.session_run.specs.Runs.{IsJustOpened, Outside, HasRun, HasRunSo, IsGivenUp, OnWriteFault, run_status}
 use Rattle.session_run.specs.Statuses.{is_cut, status_line}
 use Rattle.session_run.specs.Outcomes.{RunsOpened, RunsSession}
 use Rattle.session_run.specs.Stopped.{AllOpenAgain, IsHandedIn, IsMended, IsStopped}
@@ -40,7 +39,7 @@ use Rattle.session_run.specs.declared.sessions.Stop.TheVariants as stops
 use Rattle.session_run.specs.declared.statuses.Status.{Status}
 use Rattle.session_run.specs.declared.statuses.Status.TheVariants as statuses
 use Rattle.base_core.proofs.Damages.{undamaged_on}
-use Rattle.session_run.proofs.FromNothing.{Laws, given_as_told, are_from_nothing}
+use Rattle.session_run.proofs.FromNothing.{Laws, are_from_nothing}
 use Rattle.session_run.proofs.Running.{clock_length}
 use Rattle.session_run.proofs.Stopping.{keeps_prefix, stays_closed, stays_untouched}
 
@@ -89,19 +88,16 @@ run_session (Err NoMemory) rose story phases intake outside gives left = session
 run_session (Err (Is fault)) rose story phases intake outside gives left = session_cut _ (Is fault) story phases intake outside refl gives left
 
 -- One legal history
-cut_told : (story : List Told) (old new : Option (List ℕ)) → GivenAsTold story → IsCutAtLast story (transcripts (given_earlier story)) old new → IsCutAtLast story (earlier_text story) old new
-cut_told story old new same cut = subst (λ text. IsCutAtLast story text old new) (ap transcripts same.earlier) cut
-
 not_cut : (failed rose : Bool) → run_status (Ok failed) rose ≡ statuses.WriteFault → ⊥
 not_cut true true e = cc
 not_cut false true e = cc
 not_cut true false e = cc
 not_cut false false e = cc
 
-run_history : (result : Result Bool (Or WriteFault)) (rose : Bool) (story : List Told) (phases : List Phase) (disk : Sight) (outside : Outside) → Legal story → BeginsOn disk story → GivenAsTold story → HasRunSo result phases story outside → IsOneHistory (run_status result rose) story disk outside.held outside.holds
-run_history (Ok failed) rose story phases disk outside legal begins same ran = record { legal = legal; base = λ opened. begins; complete = λ through. ran.finished; cut = λ opened e. absurd (not_cut failed rose e) }
-run_history (Err NoMemory) rose story phases disk outside legal begins same left = record { legal = legal; base = λ opened. begins; complete = λ through. absurd (cc); cut = λ opened e. absurd (cc) }
-run_history (Err (Is fault)) rose story phases disk outside legal begins same left = record { legal = legal; base = λ opened. begins; complete = λ through. absurd (cc); cut = λ opened e. cut_told story outside.held outside.holds same left.cut_at }
+run_history : (result : Result Bool (Or WriteFault)) (rose : Bool) (story : List Told) (phases : List Phase) (disk : Sight) (outside : Outside) → Legal story → BeginsOn disk story → HasRunSo result phases story outside → IsOneHistory (run_status result rose) story disk outside.held outside.holds
+run_history (Ok failed) rose story phases disk outside legal begins ran = record { legal = legal; base = λ opened. begins; complete = λ through. ran.finished; cut = λ opened e. absurd (not_cut failed rose e) }
+run_history (Err NoMemory) rose story phases disk outside legal begins left = record { legal = legal; base = λ opened. begins; complete = λ through. absurd (cc); cut = λ opened e. absurd (cc) }
+run_history (Err (Is fault)) rose story phases disk outside legal begins left = record { legal = legal; base = λ opened. begins; complete = λ through. absurd (cc); cut = λ opened e. left.cut_at }
 
 history_none : (status : Status) (disk : Sight) (old new : Option (List ℕ)) → is_through status [] ≡ false → IsOneHistory status [] disk old new
 history_none status disk old new not = record {
@@ -118,6 +114,7 @@ empty_nowhere (y ∷ front) rest x e = cc
 
 pub built_none : (story : List Told) → story ≡ [] → AreFromNothing story
 built_none story empty = record {
+  text = ap rendered empty ∙ sym (ap text_from_nothing empty);
   each = λ front rest tag build grows is sound. absurd (empty_nowhere front rest (told.Other (steps.End tag)) (sym empty ∙ grows));
 }
 
@@ -138,19 +135,16 @@ printed_front status story text old new opened cut written = record {
   line_front = λ o c. not_false (is_opened story) opened o;
 }
 
-given_text : (story : List Told) → GivenAsTold story → transcripts (given story) ≡ rendered story
-given_text story same = ap transcripts same.ended
-
 not_cut_short : (failed rose : Bool) → is_cut (run_status (Ok failed) rose) ≡ false
 not_cut_short true true = refl
 not_cut_short false true = refl
 not_cut_short true false = refl
 not_cut_short false false = refl
 
-run_printed : (result : Result Bool (Or WriteFault)) (rose : Bool) (story : List Told) (phases : List Phase) (text : Option (List ℕ)) (outside : Outside) → GivenAsTold story → HasRunSo result phases story outside → ArePrinted (run_status result rose) story text outside.held outside.holds
-run_printed (Ok failed) rose story phases text outside same ran = printed_whole _ story text outside.held outside.holds ran.opened (not_cut_short failed rose) (subst (Appends outside.held outside.holds) (given_text story same) ran.written)
-run_printed (Err NoMemory) rose story phases text outside same left = printed_front _ story text outside.held outside.holds left.opened refl (subst (AppendsFront outside.held outside.holds) (given_text story same) left.written)
-run_printed (Err (Is fault)) rose story phases text outside same left = printed_front _ story text outside.held outside.holds left.opened refl (subst (AppendsFront outside.held outside.holds) (given_text story same) left.written)
+run_printed : (result : Result Bool (Or WriteFault)) (rose : Bool) (story : List Told) (phases : List Phase) (text : Option (List ℕ)) (outside : Outside) → HasRunSo result phases story outside → ArePrinted (run_status result rose) story text outside.held outside.holds
+run_printed (Ok failed) rose story phases text outside ran = printed_whole _ story text outside.held outside.holds ran.opened (not_cut_short failed rose) ran.written
+run_printed (Err NoMemory) rose story phases text outside left = printed_front _ story text outside.held outside.holds left.opened refl left.written
+run_printed (Err (Is fault)) rose story phases text outside left = printed_front _ story text outside.held outside.holds left.opened refl left.written
 
 -- The cause
 whole : (intake : Intake) (story : List Told) (phases : List Phase) (outside : Outside) (failed : Bool) → GivesPhases intake phases → HasRun phases story outside failed → IsWhole intake story
@@ -160,16 +154,13 @@ whole intake story phases outside failed gives ran =
 asked : (intake : Intake) (phases : List Phase) → GivesPhases intake phases → IsAsked intake
 asked intake phases gives = record { read = gives.read; session = gives.session }
 
-told_failures : (story : List Told) (failed : Bool) → GivenAsTold story → list_any phase_fails (given story) ≡ failed → has_failure story ≡ failed
-told_failures story failed same e = ap (list_any phase_fails) (sym same.ended) ∙ e
-
-run_cause : (result : Result Bool (Or WriteFault)) (rose : Bool) (story : List Told) (phases : List Phase) (intake : Intake) (outside : Outside) (faults : Change ℕ) (disk : Change Sight) → disk_rose disk ≡ rose → GivesPhases intake phases → GivenAsTold story → HasRunSo result phases story outside → OnWriteFault result (Rose faults.before faults.after) → DiskUndamaged disk → HasCause (run_status result rose) intake faults disk story
-run_cause (Ok true) true story phases intake outside faults disk by gives same ran wrote sound = (asked intake phases gives, by, λ opened. ran.finished)
-run_cause (Ok false) true story phases intake outside faults disk by gives same ran wrote sound = (asked intake phases gives, by, λ opened. ran.finished)
-run_cause (Ok true) false story phases intake outside faults disk by gives same ran wrote sound = (whole intake story phases outside true gives ran, told_failures story true same ran.failures, by, sound)
-run_cause (Ok false) false story phases intake outside faults disk by gives same ran wrote sound = (whole intake story phases outside false gives ran, told_failures story false same ran.failures, by, sound)
-run_cause (Err NoMemory) rose story phases intake outside faults disk by gives same left wrote sound = tt
-run_cause (Err (Is fault)) rose story phases intake outside faults disk by gives same left wrote sound = wrote
+run_cause : (result : Result Bool (Or WriteFault)) (rose : Bool) (story : List Told) (phases : List Phase) (intake : Intake) (outside : Outside) (faults : Change ℕ) (disk : Change Sight) → disk_rose disk ≡ rose → GivesPhases intake phases → HasRunSo result phases story outside → OnWriteFault result (Rose faults.before faults.after) → DiskUndamaged disk → HasCause (run_status result rose) intake faults disk story
+run_cause (Ok true) true story phases intake outside faults disk by gives ran wrote sound = (asked intake phases gives, by, λ opened. ran.finished)
+run_cause (Ok false) true story phases intake outside faults disk by gives ran wrote sound = (asked intake phases gives, by, λ opened. ran.finished)
+run_cause (Ok true) false story phases intake outside faults disk by gives ran wrote sound = (whole intake story phases outside true gives ran, ran.failures, by, sound)
+run_cause (Ok false) false story phases intake outside faults disk by gives ran wrote sound = (whole intake story phases outside false gives ran, ran.failures, by, sound)
+run_cause (Err NoMemory) rose story phases intake outside faults disk by gives left wrote sound = tt
+run_cause (Err (Is fault)) rose story phases intake outside faults disk by gives left wrote sound = wrote
 
 -- Where no base was opened
 no_error : SessionError
@@ -185,7 +176,6 @@ runs_opened laws result phases status first story settled history before sight n
       status_is = is;
       first_is = ap first_step kept ∙ begins;
       legal = legal;
-      told = given_as_told laws settled legal;
       built = are_from_nothing laws settled legal;
       ran = subst (λ s. HasRunSo result phases s outside) (sym kept) (ran_so result ran left);
       fault = wrote;
@@ -337,11 +327,11 @@ promised_run phases status story intake outside faults disk gives (inl run) =
     subst (λ s. Promised s story intake outside faults disk) (sym ran.status_is)
     (record {
       session = run_session ran.result rose story phases intake outside gives ran.ran;
-      history = run_history ran.result rose story phases disk.before outside ran.legal run.begins ran.told ran.ran;
+      history = run_history ran.result rose story phases disk.before outside ran.legal run.begins ran.ran;
       built = ran.built;
-      printed = run_printed ran.result rose story phases intake.text.before outside ran.told ran.ran;
+      printed = run_printed ran.result rose story phases intake.text.before outside ran.ran;
       stopped = keeps_prefix disk.before disk.after story run.begins ran.legal ran.accounted ran.mended ran.again;
-      cause = run_cause ran.result rose story phases intake outside faults disk refl gives ran.told ran.ran ran.fault (undamaged_on disk.before run.begins.rows run.begins.handed run.begins.on);
+      cause = run_cause ran.result rose story phases intake outside faults disk refl gives ran.ran ran.fault (undamaged_on disk.before run.begins.rows run.begins.handed run.begins.on);
     })
 promised_run phases status story intake outside faults disk gives (inr closed) =
     subst (λ s. Promised status s intake outside faults disk) (sym closed.empty)

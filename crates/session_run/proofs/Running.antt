@@ -21,8 +21,8 @@ use Rattle.legal_history.specs.Steps.{after, state_of}
 use Rattle.legal_history.specs.Stories.{last_moment}
 use Rattle.base_core.specs.Replying.{replies_after, replies_from, replies_of, no_replies}
 use Rattle.session_run.specs.Headline.{IsCutAtLast, phases_begun, moments_begun, clock_moments, is_opened}
-use Rattle.session_run.specs.Rendered.{EndedPhase, Replies, replies_over, last_phase, phase_where, is_ended, transcript, transcript_of, transcripts, lanes_fail, phase_fails}
-use Rattle.session_run.specs.Lanes.{given, given_earlier, GoesInPhase, RunsPhase, LeavesPhase}
+use Rattle.session_run.specs.Rendered.{EndedPhase, Replies, earlier_phases, ended_phases, replies_over, last_phase, phase_where, is_ended, transcript, transcript_of, transcripts, lanes_fail, phase_fails}
+use Rattle.session_run.specs.Lanes.{GoesInPhase, RunsPhase, LeavesPhase}
 use Rattle.session_run.specs.Runs.{IsJustOpened, Outside, HasRun, IsCutBy, IsGivenUp}
 
 -- what a clock may tell
@@ -103,7 +103,7 @@ last_is s number is one two e at same =
     ap (λ b. phase_where b (record { number = s.number; phase = s.phase; replies = one })) e
     ∙ ap₂ (λ n r. let p : EndedPhase = record { number = n; phase = s.phase; replies = r } in p ∷ []) at same
 
-given_more : (old new : List Told) (phase : Phase) (moment number : ℕ) → GoesInPhase phase moment old new → all_done (state_of new) ≡ true → number ≡ (state_of old).number + 1 → given new ≡ given old ++ ended_as new number ∷ []
+given_more : (old new : List Told) (phase : Phase) (moment number : ℕ) → GoesInPhase phase moment old new → all_done (state_of new) ≡ true → number ≡ (state_of old).number + 1 → ended_phases new ≡ ended_phases old ++ ended_as new number ∷ []
 unfolding ended_as
 given_more old new phase moment number goes done e =
     ap₂ (λ front last. front ++ last) goes.earlier
@@ -120,18 +120,18 @@ one_fails ended = or_false (phase_fails ended)
     or_false true = refl
     or_false false = refl
 
-rendered_more : (old new : List Told) (phase : Phase) (moment number : ℕ) → GoesInPhase phase moment old new → all_done (state_of new) ≡ true → number ≡ (state_of old).number + 1 → transcripts (given new) ≡ transcripts (given old) ++ transcript number (state_of new).phase (replies_of new)
+rendered_more : (old new : List Told) (phase : Phase) (moment number : ℕ) → GoesInPhase phase moment old new → all_done (state_of new) ≡ true → number ≡ (state_of old).number + 1 → transcripts (ended_phases new) ≡ transcripts (ended_phases old) ++ transcript number (state_of new).phase (replies_of new)
 unfolding ended_as
 rendered_more old new phase moment number goes done e =
     ap transcripts (given_more old new phase moment number goes done e)
-    ∙ flat_map-append transcript_of (given old) (ended_as new number ∷ [])
-    ∙ ap (λ text. transcripts (given old) ++ text) (one_text (ended_as new number))
+    ∙ flat_map-append transcript_of (ended_phases old) (ended_as new number ∷ [])
+    ∙ ap (λ text. transcripts (ended_phases old) ++ text) (one_text (ended_as new number))
 
-failures_more : (old new : List Told) (phase : Phase) (moment number : ℕ) (before now : Bool) → GoesInPhase phase moment old new → all_done (state_of new) ≡ true → number ≡ (state_of old).number + 1 → list_any phase_fails (given old) ≡ before → now ≡ lanes_fail 1 (state_of new).phase.lanes (replies_of new) → list_any phase_fails (given new) ≡ (before || now)
+failures_more : (old new : List Told) (phase : Phase) (moment number : ℕ) (before now : Bool) → GoesInPhase phase moment old new → all_done (state_of new) ≡ true → number ≡ (state_of old).number + 1 → list_any phase_fails (ended_phases old) ≡ before → now ≡ lanes_fail 1 (state_of new).phase.lanes (replies_of new) → list_any phase_fails (ended_phases new) ≡ (before || now)
 unfolding ended_as
 failures_more old new phase moment number before now goes done e was is =
     ap (list_any phase_fails) (given_more old new phase moment number goes done e)
-    ∙ list_any-append phase_fails (given old) (ended_as new number ∷ [])
+    ∙ list_any-append phase_fails (ended_phases old) (ended_as new number ∷ [])
     ∙ ap₂ (λ a b. a || b) was (one_fails (ended_as new number) ∙ sym is)
 
 -- nothing has been run
@@ -143,8 +143,8 @@ run_starts story held clock first just = record {
   finished = ap (λ s. all_done (state_of s)) is;
   moments_are = if_told clock (λ told. moments_begun story ≡ clock_moments told first 0) (λ told. ap moments_begun is);
   reading_is = sym (raised_none first);
-  failures = ap (λ s. list_any phase_fails (given s)) is;
-  written = subst (Appends held held) (sym (ap (λ s. transcripts (given s)) is)) (nothing_more held);
+  failures = ap (λ s. list_any phase_fails (ended_phases s)) is;
+  written = subst (Appends held held) (sym (ap (λ s. transcripts (ended_phases s)) is)) (nothing_more held);
 }
   where
     is : story ≡ told.Opened just.rows just.counts just.tells ∷ []
@@ -172,7 +172,7 @@ run_goes_on phases phase old new outside holds reading moment number failed more
   failures = failures_more old new phase moment number failed more runs.goes runs.finished (omega (arith, count, so_far.number)) so_far.failures fails;
   written =
       subst (Appends outside.held holds) (sym (rendered_more old new phase moment number runs.goes runs.finished (omega (arith, count, so_far.number))))
-      (appends_more outside.held outside.holds holds (transcripts (given old)) (transcript number (state_of new).phase (replies_of new)) so_far.written wrote);
+      (appends_more outside.held outside.holds holds (transcripts (ended_phases old)) (transcript number (state_of new).phase (replies_of new)) so_far.written wrote);
 }
 
 moments_kept : (told : List ℕ) (story : List Told) (first count : ℕ) → moments_begun story ≡ clock_moments told first count → moments_begun story ≡ clock_moments told first (length (moments_begun story))
@@ -191,8 +191,8 @@ run_leaves phases rest all phase old new outside moment failed so_far (inl is) t
       both_told outside.moments _ _ (λ told. moments_begun new ≡ clock_moments told outside.first (length (moments_begun new))) so_far.moments_are told
       (λ told before now. moments_kept told new outside.first (length phases) (ap moments_begun is ∙ before));
   written =
-      subst (AppendsFront outside.held outside.holds) (append-nil (transcripts (given old)) ∙ sym (ap (λ s. transcripts (given s)) is))
-      (is_front outside.held outside.holds (transcripts (given old)) [] so_far.written);
+      subst (AppendsFront outside.held outside.holds) (append-nil (transcripts (ended_phases old)) ∙ sym (ap (λ s. transcripts (ended_phases s)) is))
+      (is_front outside.held outside.holds (transcripts (ended_phases old)) [] so_far.written);
   cut_at = tt;
 }
 run_leaves phases rest all phase old new outside moment failed so_far (inr goes) told whole = record {
@@ -203,12 +203,12 @@ run_leaves phases rest all phase old new outside moment failed so_far (inr goes)
       (λ told before now. moments_kept told new outside.first (suc (length phases)) (moments_on told old new outside.first outside.reading (length phases) moment goes.moments before so_far.reading_is now));
   written =
       subst (AppendsFront outside.held outside.holds)
-      (ap (λ front. front ++ transcripts (last_given new)) (ap transcripts (sym goes.earlier)) ∙ sym (flat_map-append transcript_of (given_earlier new) (last_given new)))
-      (is_front outside.held outside.holds (transcripts (given old)) (transcripts (last_given new)) so_far.written);
+      (ap (λ front. front ++ transcripts (last_given new)) (ap transcripts (sym goes.earlier)) ∙ sym (flat_map-append transcript_of (earlier_phases new) (last_given new)))
+      (is_front outside.held outside.holds (transcripts (ended_phases old)) (transcripts (last_given new)) so_far.written);
   cut_at = tt;
 }
 
-cut_in : (cut : Or WriteFault) (story : List Told) (old new : Option (List ℕ)) → IsCutAtLast story (transcripts (given_earlier story)) old new → IsCutBy cut story old new
+cut_in : (cut : Or WriteFault) (story : List Told) (old new : Option (List ℕ)) → IsCutAtLast story (transcripts (earlier_phases story)) old new → IsCutBy cut story old new
 cut_in NoMemory story old new h = tt
 cut_in (Is fault) story old new h = h
 
@@ -224,14 +224,14 @@ run_is_cut cut phases rest all phase old new outside holds moment number failed 
           (λ told before now. moments_kept told new outside.first (suc (length phases)) (moments_on told old new outside.first outside.reading (length phases) moment runs.goes.moments before so_far.reading_is now));
       written =
           subst (AppendsFront outside.held holds) (sym (rendered_more old new phase moment number runs.goes runs.finished (omega (arith, count, so_far.number))))
-          (front_more outside.held outside.holds holds (transcripts (given old)) (transcript number (state_of new).phase (replies_of new)) so_far.written wrote);
+          (front_more outside.held outside.holds holds (transcripts (ended_phases old)) (transcript number (state_of new).phase (replies_of new)) so_far.written wrote);
       cut_at = cut_in cut new outside.held holds (record {
         begun = omega (arith, ap length begun, one_more phases phase);
         finished = runs.finished;
         written = (
           take wrote.0 (transcript number (state_of new).phase (replies_of new)),
           subst (λ front. Appends outside.held holds (front ++ take wrote.0 (transcript number (state_of new).phase (replies_of new)))) (sym (ap transcripts runs.goes.earlier))
-              (appends_more outside.held outside.holds holds (transcripts (given old)) (take wrote.0 (transcript number (state_of new).phase (replies_of new))) so_far.written wrote.2),
+              (appends_more outside.held outside.holds holds (transcripts (ended_phases old)) (take wrote.0 (transcript number (state_of new).phase (replies_of new))) so_far.written wrote.2),
         );
       });
     }

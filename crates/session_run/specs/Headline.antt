@@ -32,6 +32,7 @@ use Rattle.legal_history.specs.States.{State, all_done, build_by}
 use Rattle.legal_history.specs.Steps.{state_of}
 use Rattle.legal_history.specs.Stories.{Legal, last_moment}
 use Rattle.session_run.specs.Asked.{phases_spelled, is_session}
+use Rattle.session_run.specs.FromNothing.{text_from_nothing}
 use Rattle.session_run.specs.Rendered.{rendered, earlier_text}
 use Rattle.session_run.specs.Statuses.{is_cut, status_line}
 use Rattle.session_run.specs.declared.statuses.Status.{Status}
@@ -110,8 +111,10 @@ pub record IsFromNothing (s : State) (lane : ℕ) (build : Build) : Type 0 where
   pub of_command : IsOfCommand s lane build
   pub reply : reply_of s.base build ≡ reply_from_nothing s.base build
 
--- *Builds as from nothing*: each build of the history that ends, and under which no disk failed.
+-- *Builds as from nothing*: each build of the history that ends, and under which no disk failed. So the text of the history
+-- is the one that building from nothing tells.
 pub record AreFromNothing (story : List Told) : Type 0 where
+  pub text : rendered story ≡ text_from_nothing story
   pub each : (front rest : List Told) (tag : Tag) (build : Build) → story ≡ front ++ told.Other (steps.End tag) ∷ rest → build_by (state_of front) tag ≡ Some build → build.faulted ≡ false → IsFromNothing (state_of front) tag.lane build
 
 -- the status's line was written; the line of a bad session names the first line that stands wrong

@@ -6,11 +6,10 @@ use Rattle.cc_names.specs.declared.memory.NoMemory.{NoMemory}
 use Rattle.cc_names.specs.declared.steps.Told.{Told}
 use Rattle.base_core.specs.Going.{Finishes, GoesOn}
 use Rattle.base_core.specs.Nexts.{waiting}
-use Rattle.base_core.specs.Replying.{replies_after}
 use Rattle.legal_history.specs.States.{State, all_done, done_of, lane_at}
 use Rattle.legal_history.specs.Steps.{state_of}
 use Rattle.session_run.specs.Headline.{phases_begun, moments_begun, first_step, is_opened}
-use Rattle.session_run.specs.Rendered.{EndedPhase, earlier_phases, ended_phases}
+use Rattle.session_run.specs.Rendered.{earlier_phases, ended_phases}
 
 -- how many commands a lane has
 abbrev pub count_of : Option Lane → ℕ
@@ -24,13 +23,6 @@ IsWithin s lane = done_of s.done lane ≤ count_of (lane_at s.phase lane)
 abbrev pub IsFinished : State → ℕ → Type 0
 IsFinished s lane = done_of s.done lane ≡ count_of (lane_at s.phase lane)
 
--- the phases of a story but the last, and those whose commands are all finished, with the replies that the core gave
-abbrev pub given_earlier : List Told → List EndedPhase
-given_earlier story = earlier_phases replies_after story
-
-abbrev pub given : List Told → List EndedPhase
-given story = ended_phases replies_after story
-
 -- what one turn of a lane did: its next command is finished; none was left; or memory ran out
 abbrev pub TakesTurn : Result Bool NoMemory → List Told → List Told → ℕ → Type 0
 TakesTurn (Ok true) old new lane = IsSome (waiting (state_of old) lane) × Finishes old new lane
@@ -43,7 +35,7 @@ pub record Goes (old new : List Told) : Type 0 where
   pub moments : moments_begun new ≡ moments_begun old
   pub phase : (state_of new).phase ≡ (state_of old).phase
   pub number : (state_of new).number ≡ (state_of old).number
-  pub earlier : given_earlier new ≡ given_earlier old
+  pub earlier : earlier_phases new ≡ earlier_phases old
   pub first : first_step new ≡ first_step old
   pub opened : is_opened new ≡ is_opened old
 
@@ -67,7 +59,7 @@ pub record GoesInPhase (phase : Phase) (moment : ℕ) (old new : List Told) : Ty
   pub number : (state_of new).number ≡ (state_of old).number + 1
   pub first : is_opened old ≡ true → first_step new ≡ first_step old
   pub opened : is_opened new ≡ true
-  pub earlier : given_earlier new ≡ given old
+  pub earlier : earlier_phases new ≡ ended_phases old
 
 -- a phase began, and all its commands are finished
 pub record RunsPhase (phase : Phase) (moment : ℕ) (old new : List Told) : Type 0 where

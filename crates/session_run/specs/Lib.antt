@@ -1,5 +1,6 @@
 pub mod Asked
 pub mod Causes
+pub mod FromNothing
 pub mod Headline
 pub mod Lanes
 pub mod Outcomes

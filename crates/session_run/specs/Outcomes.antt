@@ -13,7 +13,7 @@ use Rattle.base_core.specs.Opening.{FailsToOpen}
 use Rattle.base_core.specs.declared.opening.OpenCause.{OpenCause}
 use Rattle.session_run.specs.Causes.{Change, disk_rose}
 use Rattle.session_run.specs.Headline.{AreFromNothing, BeginsOn, first_step}
-use Rattle.session_run.specs.Runs.{Outside, GivenAsTold, HasRunSo, OnWriteFault, run_status}
+use Rattle.session_run.specs.Runs.{Outside, HasRunSo, OnWriteFault, run_status}
 use Rattle.session_run.specs.Stopped.{AllOpenAgain, IsMended}
 use Rattle.session_run.specs.Stops.{WritesStop, open_stop}
 use Rattle.session_run.specs.declared.statuses.Status.{Status}
@@ -25,7 +25,6 @@ pub record RunsOpened (phases : List Phase) (status : Status) (first : Option To
   pub status_is : status ≡ run_status result (rises before after.faults)
   pub first_is : first_step story ≡ first
   pub legal : Legal story
-  pub told : GivenAsTold story
   pub built : AreFromNothing story
   pub ran : HasRunSo result phases story outside
   pub fault : OnWriteFault result (Rose faults.before faults.after)

@@ -1,43 +1,23 @@
 -- The text of a story: the transcripts of its phases whose commands are all finished.
 --
--- Each clearmake is told here from the build from nothing at its reference rows, so what is printed of it is what that
--- build says.
-use Rattle.std.specs.Prelude.{ℕ, ◌+◌, Bool, true, false, ◌&&◌, ◌||◌, not, nat_lt, Option, Some, None, List, [], ◌∷◌, ◌++◌, codes, if◌then◌else◌}
+-- Each clearmake is told by what its own units have come to. `FromNothing` tells it by the build from nothing.
+use Rattle.std.specs.Prelude.{ℕ, ◌+◌, Bool, true, false, ◌&&◌, ◌||◌, not, nat_lt, List, [], ◌∷◌, ◌++◌, codes}
 use Rattle.std.specs.Fmt.{decimal}
 use Rattle.std.specs.List.{flat_map, list_any, list_all}
 use Rattle.cc_names.specs.declared.commands.Lane.{Lane}
 use Rattle.cc_names.specs.declared.commands.Phase.{Phase}
 use Rattle.cc_names.specs.declared.replies.Reply.{Reply}
 use Rattle.cc_names.specs.declared.replies.Reply.TheVariants as replies
-use Rattle.cc_names.specs.declared.steps.Step.TheVariants as steps
 use Rattle.cc_names.specs.declared.steps.Told.{Told}
 use Rattle.cc_names.specs.declared.steps.Told.TheVariants as told
-use Rattle.fresh_builds.specs.Replied.{reply_from_nothing}
 use Rattle.reply_text.specs.Replies.{render, is_made_line}
-use Rattle.legal_history.specs.Base.{Base}
-use Rattle.legal_history.specs.Builds.{Build}
-use Rattle.legal_history.specs.States.{State, all_done, build_by, start}
+use Rattle.legal_history.specs.States.{State, all_done, start}
 use Rattle.legal_history.specs.Steps.{after, state_of}
-use Rattle.base_core.specs.Replying.{replies_by, in_lane, no_replies}
+use Rattle.base_core.specs.Replying.{replies_after, no_replies}
 
 -- the replies to the commands of each lane
 abbrev pub Replies : Type 0
 Replies = ℕ → List Reply
-
--- the reply to a command that built, by the build from nothing, or that the disk failed under it
-abbrev pub end_from_nothing : Base → Option Build → Option Reply
-end_from_nothing b None = None
-end_from_nothing b (Some build) = Some (if build.faulted then replies.DiskFault else reply_from_nothing b build)
-
--- the replies to the commands of a lane that a step finishes, those of builds from nothing
-abbrev pub told_by : State → ℕ → Told → List Reply
-told_by s lane (told.Other (steps.End tag)) = in_lane lane tag (end_from_nothing s.base (build_by s tag))
-told_by s lane step = replies_by s lane step
-
--- a lane's replies after a step; a new phase has none yet
-abbrev pub told_after : State → Told → Replies → Replies
-told_after s (told.Plan phase moment) replies lane = []
-told_after s step replies lane = replies lane ++ told_by s lane step
 
 -- a phase whose commands are all finished, with its number and the replies to them
 pub record EndedPhase : Type 0 where
@@ -73,13 +53,18 @@ abbrev pub closed_over : (State → Told → Replies → Replies) → State → 
 closed_over leave s replies [] = []
 closed_over leave s replies (x ∷ story) = closed_by s replies x ++ closed_over leave (after s x) (leave s x replies) story
 
+-- the phases of a story in order, the last one where all its commands are finished, where each step leaves the replies so
+abbrev pub ended_over : (State → Told → Replies → Replies) → List Told → List EndedPhase
+ended_over leave story =
+    closed_over leave start no_replies story ++ last_phase (state_of story) (replies_over leave start no_replies story)
+
 -- all phases of a story but the last
-abbrev pub earlier_phases : (State → Told → Replies → Replies) → List Told → List EndedPhase
-earlier_phases leave story = closed_over leave start no_replies story
+abbrev pub earlier_phases : List Told → List EndedPhase
+earlier_phases story = closed_over replies_after start no_replies story
 
 -- the phases of a story in order, the last one where all its commands are finished
-abbrev pub ended_phases : (State → Told → Replies → Replies) → List Told → List EndedPhase
-ended_phases leave story = earlier_phases leave story ++ last_phase (state_of story) (replies_over leave start no_replies story)
+abbrev pub ended_phases : List Told → List EndedPhase
+ended_phases story = ended_over replies_after story
 
 -- the lines of lanes that are numbered from n on
 abbrev pub lanes_text : Phase → ℕ → List Lane → Replies → List ℕ
@@ -103,11 +88,11 @@ transcripts phases = flat_map transcript_of phases
 
 -- the transcripts of all phases of a story but the last
 abbrev pub earlier_text : List Told → List ℕ
-earlier_text story = transcripts (earlier_phases told_after story)
+earlier_text story = transcripts (earlier_phases story)
 
 -- The text of a story: the transcripts of its phases in order, the last one where all its commands are finished.
 abbrev pub rendered : List Told → List ℕ
-rendered story = transcripts (ended_phases told_after story)
+rendered story = transcripts (ended_phases story)
 
 -- whether a command failed, by its reply: it was refused, or it built and a unit is not made
 abbrev pub is_failure : Reply → Bool
@@ -125,4 +110,4 @@ phase_fails ended = lanes_fail 1 ended.phase.lanes ended.replies
 
 -- Whether a command of a story failed.
 abbrev pub has_failure : List Told → Bool
-has_failure story = list_any phase_fails (ended_phases told_after story)
+has_failure story = list_any phase_fails (ended_phases story)

@@ -1,6 +1,6 @@
 -- What running the phases of a session does to the story, to the sink and to the clock.
 use Rattle.std.specs.Prelude.{◌≡◌, ℕ, ◌≤◌, Bool, true, false, Option, IfSome, Result, Ok, Err, List, [], ◌∷◌, length}
-use Rattle.std.specs.List.{AllByRecursion, list_any}
+use Rattle.std.specs.List.{AllByRecursion}
 use Rattle.std.specs.Io.KnownBytes.{Appends}
 use Rattle.cc_names.specs.Formed.{Plain}
 use Rattle.cc_names.specs.declared.commands.Phase.{Phase}
@@ -18,8 +18,7 @@ use Rattle.legal_history.specs.States.{all_done}
 use Rattle.legal_history.specs.Steps.{state_of}
 use Rattle.session_run.specs.Asked.{text_limit}
 use Rattle.session_run.specs.Headline.{IsFront, IsCutAtLast, phases_begun, moments_begun, clock_moments, is_opened}
-use Rattle.session_run.specs.Lanes.{given, given_earlier}
-use Rattle.session_run.specs.Rendered.{told_after, earlier_phases, ended_phases, transcripts, phase_fails}
+use Rattle.session_run.specs.Rendered.{earlier_text, rendered, has_failure}
 use Rattle.session_run.specs.declared.statuses.Status.{Status}
 use Rattle.session_run.specs.declared.statuses.Status.TheVariants as statuses
 
@@ -56,20 +55,20 @@ pub record HasRun (phases : List Phase) (story : List Told) (outside : Outside) 
   pub finished : all_done (state_of story) ≡ true
   pub moments_are : IfSome outside.moments (λ told. moments_begun story ≡ clock_moments told outside.first (length phases))
   pub reading_is : outside.reading ≡ raised outside.first (length phases)
-  pub failures : list_any phase_fails (given story) ≡ failed
-  pub written : Appends outside.held outside.holds (transcripts (given story))
+  pub failures : has_failure story ≡ failed
+  pub written : Appends outside.held outside.holds (rendered story)
 
 -- where the sink failed, its last transcript is cut
 abbrev pub IsCutBy : Or WriteFault → List Told → Option (List ℕ) → Option (List ℕ) → Type 0
 IsCutBy NoMemory story old new = Unit {0}
-IsCutBy (Is fault) story old new = IsCutAtLast story (transcripts (given_earlier story)) old new
+IsCutBy (Is fault) story old new = IsCutAtLast story (earlier_text story) old new
 
 -- the run of these phases was given up
 pub record IsGivenUp (cut : Or WriteFault) (phases : List Phase) (story : List Told) (old new clock : Option (List ℕ)) (first : ℕ) : Type 0 where
   pub opened : is_opened story ≡ true
   pub begun : IsFront (phases_begun story) phases
   pub moments_are : IfSome clock (λ told. moments_begun story ≡ clock_moments told first (length (moments_begun story)))
-  pub written : AppendsFront old new (transcripts (given story))
+  pub written : AppendsFront old new (rendered story)
   pub cut_at : IsCutBy cut story old new
 
 -- the sink's faults rose where it failed
@@ -90,8 +89,3 @@ run_status (Err (Is fault)) rose = statuses.WriteFault
 abbrev pub HasRunSo : Result Bool (Or WriteFault) → List Phase → List Told → Outside → Type 0
 HasRunSo (Ok failed) phases story outside = HasRun phases story outside failed
 HasRunSo (Err cut) phases story outside = IsGivenUp cut phases story outside.held outside.holds outside.moments outside.first
-
--- the replies that the core gave are those of builds from nothing
-pub record GivenAsTold (story : List Told) : Type 0 where
-  pub earlier : given_earlier story ≡ earlier_phases told_after story
-  pub ended : given story ≡ ended_phases told_after story

@@ -9,7 +9,7 @@ use std::process::Abort;
 use std::sync::Wait;
 use std::test::Fail;
 use std::thread::Threads;
-use tally::{Tally, run_lanes};
+use tally::{Note, Tally, run_lanes};
 
 mod rates;
 mod tally;
@@ -72,13 +72,14 @@ fn nine_lanes_forked_by_halving(rt: HostRuntime) -> Result<(), Fail> {
 
 // It is also run with each allocation refused in turn: the value comes back either way.
 #[test]
-fn the_value_comes_back(rt: HostRuntime) {
-    let tally = Tally {
-        notes: Vec::new(rt.alloc()),
-    };
-    let back = match TurnLock::new(rt.alloc(), tally, 1) {
+fn the_value_comes_back(rt: HostRuntime) -> Result<(), Fail> {
+    let mut notes = Vec::new(rt.alloc());
+    notes.push(Note { lane: 3, number: 7 })?;
+    let back = match TurnLock::new(rt.alloc(), Tally { notes }, 1) {
         Ok((lock, pass)) => lock.close(pass),
         Err(back) => back,
     };
-    assert_eq!(rt; back.notes.len(), 0);
+    assert_eq!(rt; back.notes.len(), 1);
+    assert_eq!(rt; (back.notes[0].lane, back.notes[0].number), (3, 7));
+    Ok(())
 }
