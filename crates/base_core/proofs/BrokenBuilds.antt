@@ -19,7 +19,8 @@ use Rattle.disk_model.specs.Told.{Sight}
 use Rattle.legal_history.specs.Builds.{Build, build_of, reserved}
 use Rattle.legal_history.specs.States.{State, Faulted, start, done_of, with_done, next_tag, build_by, ticks_of, faults_of}
 use Rattle.legal_history.specs.Steps.{after, state_of, done_by_fault, faulted_in, without_build}
-use Rattle.legal_history.specs.Stories.{FaultsAt, EndsBuild, Leaves, Legal, MayCommit, rises}
+use Rattle.legal_history.specs.Committing.{FaultsAt, Leaves, MayCommit, rises}
+use Rattle.legal_history.specs.Stories.{EndsBuild, Legal}
 use Rattle.legal_history.specs.Turns.{is_complete}
 use Rattle.legal_history.specs.Freshness.{AgreesSoFar}
 use Rattle.base_core.specs.Appending.{MayLeave}

@@ -15,7 +15,7 @@ use Rattle.legal_history.specs.Decisions.{Makes}
 use Rattle.legal_history.specs.Fits.{row_limit}
 use Rattle.legal_history.specs.States.{State, start, done_of, with_done, decided, build_if, build_by, ticks_of, faults_of}
 use Rattle.legal_history.specs.Steps.{after, state_of, done_by_fault, faulted_in}
-use Rattle.legal_history.specs.Stories.{Leaves, MayCommit, rises}
+use Rattle.legal_history.specs.Committing.{Leaves, MayCommit, rises}
 use Rattle.view_lookup.specs.Unversioned.{is_plain_deed}
 use Rattle.cc_names.specs.declared.desks.Done.TheVariants.{Faulted}
 use Rattle.base_core.specs.Acting.{Acts, IsNextRow}

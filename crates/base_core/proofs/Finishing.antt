@@ -19,7 +19,8 @@ use Rattle.legal_history.specs.Fits.{row_limit}
 use Rattle.legal_history.specs.States.{State, start, done_of, with_done, decided, ticks_of}
 use Rattle.legal_history.specs.Steps.{after, state_of}
 use Rattle.disk_model.specs.Told.{Sight}
-use Rattle.legal_history.specs.Stories.{Lawful, rises}
+use Rattle.legal_history.specs.Committing.{rises}
+use Rattle.legal_history.specs.Stories.{Lawful}
 use Rattle.view_lookup.specs.Unversioned.{is_plain_deed}
 use Rattle.base_core.specs.Building.{IsBuildKept}
 use Rattle.base_core.specs.Acting.{IsNextRow, IsNextRefusal}

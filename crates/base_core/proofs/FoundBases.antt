@@ -13,7 +13,8 @@ use Rattle.legal_history.specs.Base.{Base}
 use Rattle.legal_history.specs.Fits.{is_base}
 use Rattle.legal_history.specs.States.{State, Opening, End, Committed, Faulted, start, ticks_of, hanging}
 use Rattle.legal_history.specs.Steps.{after, state_of}
-use Rattle.legal_history.specs.Stories.{Legal, LegalFrom, Lawful, MayCommit, Leaves}
+use Rattle.legal_history.specs.Committing.{MayCommit, Leaves}
+use Rattle.legal_history.specs.Stories.{Legal, LegalFrom, Lawful}
 use Rattle.base_core.specs.Founds.{OpensAgain, SpellsBase}
 use Rattle.base_core.specs.Opening.{IsUndamaged}
 use Rattle.base_core.specs.Readable.{IsReadable, NamesOnly, TellsOnly}

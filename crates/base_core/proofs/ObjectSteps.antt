@@ -27,7 +27,8 @@ use Rattle.legal_history.specs.Fresh.{script_text}
 use Rattle.legal_history.specs.States.{State, Committed, start, next_tag, ticks_of}
 use Rattle.legal_history.specs.Steps.{active_after, done_after, noted_in, state_of, with_came}
 use Rattle.disk_model.specs.Told.{Sight}
-use Rattle.legal_history.specs.Stories.{Legal, MayCommit, rises}
+use Rattle.legal_history.specs.Committing.{MayCommit, rises}
+use Rattle.legal_history.specs.Stories.{Legal}
 use Rattle.row_form.specs.Reading.{IsKnown}
 use Rattle.base_core.specs.BuildCalls.{IsObjectRow}
 use Rattle.base_core.specs.Going.{GoesOn, HasOutcome, StillBuilds}

@@ -7,7 +7,7 @@ use Rattle.disk_model.specs.Devices.{Device, Failed, Leaves, LeavesNow, MayLeave
 use Rattle.disk_model.specs.Files.{IsImage, stable}
 use Rattle.disk_model.specs.Told.{Sight, IfTold, Both, IsCounted}
 use Rattle.legal_history.specs.States.{Opening}
-use Rattle.legal_history.specs.Stories.{rises}
+use Rattle.legal_history.specs.Committing.{rises}
 use Rattle.legal_history.specs.Steps.{state_of}
 use Rattle.vob_journal.specs.Answered.{OneMore, OneFault}
 use Rattle.vob_journal.specs.Frames.{frames}

@@ -10,7 +10,7 @@ use Rattle.legal_history.specs.Builds.{Active}
 use Rattle.legal_history.specs.Decisions.{Makes}
 use Rattle.legal_history.specs.States.{State, with_done, decided}
 use Rattle.legal_history.specs.Steps.{done_after, active_after}
-use Rattle.legal_history.specs.Stories.{MakesRow}
+use Rattle.legal_history.specs.Committing.{MakesRow}
 use Rattle.view_lookup.specs.Unversioned.{is_plain_deed, is_unversioned_deed, is_unversioned}
 use Rattle.base_core.specs.Replying.{reply_to_row}
 

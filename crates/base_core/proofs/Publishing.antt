@@ -22,7 +22,8 @@ use Rattle.legal_history.specs.Fits.{row_limit, fits, deed_fits, is_base}
 use Rattle.legal_history.specs.States.{State, start, next_tag, ticks_of}
 use Rattle.legal_history.specs.Steps.{after, state_of, noted_in, with_came}
 use Rattle.disk_model.specs.Told.{Sight}
-use Rattle.legal_history.specs.Stories.{Legal, MayCommit, rises}
+use Rattle.legal_history.specs.Committing.{MayCommit, rises}
+use Rattle.legal_history.specs.Stories.{Legal}
 use Rattle.view_lookup.specs.Unversioned.{is_unversioned}
 use Rattle.base_core.specs.Building.{IsBuildKept}
 use Rattle.base_core.specs.Kept.{IsKept}

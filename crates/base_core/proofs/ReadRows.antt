@@ -6,7 +6,7 @@ use Rattle.disk_model.specs.Counting.{raised}
 use Rattle.disk_model.specs.Devices.{Device, LeavesNow}
 use Rattle.disk_model.specs.Told.{Sight, IfTold, IsCounted}
 use Rattle.legal_history.specs.Fits.{fits, is_base, row_limit}
-use Rattle.legal_history.specs.Stories.{rises}
+use Rattle.legal_history.specs.Committing.{rises}
 use Rattle.row_form.specs.Spelled.{spelled}
 use Rattle.view_lookup.specs.Unversioned.{is_unversioned_deed, is_unversioned}
 use Rattle.vob_journal.specs.Frames.{frames}

@@ -2,7 +2,7 @@
 use Rattle.std.proofs.Common.{◌≡◌, ℕ, ◌+◌, ◌-◌, ◌<◌, ◌≤◌, ◌^◌, ◌⊎◌, inl, inr, ◌==◌, ◌&&◌, ◌||◌, nat_lt, Bool, true, false, refl, ap, ap₂, sym, ◌∙◌, arith}
 use Rattle.std.proofs.lemmas.Bool.Decides.{nat_tests}
 use Rattle.disk_model.specs.Counting.{raised}
-use Rattle.legal_history.specs.Stories.{rises}
+use Rattle.legal_history.specs.Committing.{rises}
 
 -- a greater count rose
 pub rises_more : (before now : ℕ) → before < now → rises before now ≡ true

@@ -13,7 +13,7 @@ use Rattle.legal_history.specs.Fresh.{script_text, sees_file, sees_directory}
 use Rattle.legal_history.specs.Freshness.{AgreesSoFar}
 use Rattle.legal_history.specs.Serials.{standing_or_file}
 use Rattle.legal_history.specs.States.{State, next_tag}
-use Rattle.legal_history.specs.Stories.{Waits}
+use Rattle.legal_history.specs.UnitTurns.{Waits}
 use Rattle.legal_history.specs.Turns.{fault_of, standing_of_unit}
 use Rattle.base_core.specs.BuildCalls.{MayStart, StepsTo}
 use Rattle.base_core.specs.Building.{IsBuildKept}

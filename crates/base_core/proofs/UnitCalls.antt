@@ -25,7 +25,7 @@ use Rattle.legal_history.specs.Freshness.{AgreesSoFar}
 use Rattle.legal_history.specs.Serials.{Standing, early_end, first_end, no_directory, no_script, outside, is_missing, is_bad}
 use Rattle.legal_history.specs.States.{State, next_tag}
 use Rattle.legal_history.specs.Steps.{came_of_unit, came_by_starting, noted_in, with_came}
-use Rattle.legal_history.specs.Stories.{Settles, EndsEarly}
+use Rattle.legal_history.specs.UnitTurns.{Settles, EndsEarly}
 use Rattle.legal_history.specs.Turns.{came_by_start, early}
 use Rattle.base_core.specs.BuildCalls.{MaySettle, MayStart, Notes}
 use Rattle.base_core.specs.Nexts.{next_of, next_by, waiting}

@@ -8,7 +8,7 @@ use Rattle.disk_model.specs.Counting.{raised}
 use Rattle.disk_model.specs.Told.{Sight}
 use Rattle.legal_history.specs.States.{State, ticks_of, faults_of, hanging}
 use Rattle.legal_history.specs.Steps.{state_of}
-use Rattle.legal_history.specs.Stories.{rises}
+use Rattle.legal_history.specs.Committing.{rises}
 use Rattle.base_core.specs.Faults.{is_fault}
 use Rattle.base_core.specs.Logs.{Logged, with_row, with_step, with_step_on}
 use Rattle.base_core.specs.Telling.{stands_alone}

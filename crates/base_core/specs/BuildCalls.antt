@@ -21,7 +21,8 @@ use Rattle.legal_history.specs.Choices.{here, publish_of}
 use Rattle.legal_history.specs.Fresh.{script_text}
 use Rattle.legal_history.specs.States.{State, next_tag}
 use Rattle.legal_history.specs.Steps.{after, state_of, with_came}
-use Rattle.legal_history.specs.Stories.{IsOpen, LawfulStep, Settles}
+use Rattle.legal_history.specs.Stories.{LawfulStep}
+use Rattle.legal_history.specs.UnitTurns.{IsOpen, Settles}
 use Rattle.legal_history.specs.Turns.{is_complete, unreadable}
 use Rattle.base_core.specs.Building.{IsBuildKept}
 use Rattle.base_core.specs.Going.{GoesOn, HasOutcome, Finishes}

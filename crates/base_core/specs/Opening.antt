@@ -7,7 +7,7 @@ use Rattle.disk_model.specs.Devices.{Device, MayLeave, bytes_of}
 use Rattle.disk_model.specs.Told.{Sight, IfTold}
 use Rattle.legal_history.specs.Base.{Base, size}
 use Rattle.legal_history.specs.Fits.{fits, is_base}
-use Rattle.legal_history.specs.Stories.{rises}
+use Rattle.legal_history.specs.Committing.{rises}
 use Rattle.row_form.specs.Reading.{IsKnown}
 use Rattle.row_form.specs.Spelled.{spelled}
 use Rattle.view_lookup.specs.Unversioned.{is_unversioned}

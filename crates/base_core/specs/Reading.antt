@@ -5,7 +5,7 @@ use Rattle.disk_model.specs.Devices.{LeavesNow}
 use Rattle.disk_model.specs.Told.{Sight, IfTold, Both}
 use Rattle.legal_history.specs.Base.{Base, size}
 use Rattle.legal_history.specs.Fits.{fits, is_base}
-use Rattle.legal_history.specs.Stories.{rises}
+use Rattle.legal_history.specs.Committing.{rises}
 use Rattle.row_form.specs.Reading.{IsKnown}
 use Rattle.row_form.specs.Spelled.{spelled}
 use Rattle.view_lookup.specs.Unversioned.{is_unversioned_deed, is_unversioned}

@@ -73,7 +73,8 @@ impl<D: Disk> Core<D> {
     ghost use Rattle.base_core.specs.Carried.{AreCarriedOut};
     ghost use Rattle.legal_history.specs.States.{all_done, next_tag, faults_of};
     ghost use Rattle.legal_history.specs.Steps.{state_of};
-    ghost use Rattle.legal_history.specs.Stories.{last_moment, Legal, rises};
+    ghost use Rattle.legal_history.specs.Committing.{rises};
+    ghost use Rattle.legal_history.specs.Stories.{last_moment, Legal};
     ghost use Rattle.base_core.specs.Acting.{Acts, DecidesNext, IsNextRow, IsNextRefusal};
     ghost use Rattle.base_core.specs.Kept.{command_limit};
     ghost use Rattle.base_core.specs.Nexts.{next_of, waiting};

@@ -118,7 +118,7 @@ impl<D: Disk> Log<D> {
     ghost use Rattle.disk_model.specs.Told.{IfTold};
     ghost use Rattle.legal_history.specs.States.{faults_of};
     ghost use Rattle.legal_history.specs.Steps.{state_of};
-    ghost use Rattle.legal_history.specs.Stories.{rises};
+    ghost use Rattle.legal_history.specs.Committing.{rises};
     ghost use Rattle.base_core.specs.Appending.{Appends, IsQuiet};
     ghost use Rattle.base_core.specs.Backed.{IsBacked, IsSettled, IsAccounted};
     ghost use Rattle.base_core.specs.Faults.{is_fault};

@@ -21,7 +21,9 @@ use Rattle.legal_history.specs.Fits.{is_base}
 use Rattle.legal_history.specs.Fresh.{texts}
 use Rattle.legal_history.specs.States.{State, decided, build_by}
 use Rattle.legal_history.specs.Steps.{after, after_step, noted, came_by_starting, active_after, begun}
-use Rattle.legal_history.specs.Stories.{Lawful, LawfulStep, MakesRow, Settles, EndsEarly, Starts}
+use Rattle.legal_history.specs.Committing.{MakesRow}
+use Rattle.legal_history.specs.Stories.{Lawful, LawfulStep}
+use Rattle.legal_history.specs.UnitTurns.{Settles, EndsEarly, Starts}
 use Rattle.legal_history.specs.Turns.{came_by_start, unreadable}
 use Rattle.legal_history.proofs.FreshSeen.{early_same}
 use Rattle.legal_history.proofs.Goes.{of_lane}

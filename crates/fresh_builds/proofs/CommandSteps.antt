@@ -12,7 +12,8 @@ use Rattle.legal_history.specs.Base.{size}
 use Rattle.legal_history.specs.Builds.{Active, Build, Came, Given, Ended, build_of, unit_with_first}
 use Rattle.legal_history.specs.States.{State, End, Committed, Faulted, build_by, done_of, start, with_done}
 use Rattle.legal_history.specs.Steps.{after, after_step, active_after, begun, came_by_starting, done_after, done_by_fault, faulted_in, noted, state_from, state_of, with_build, without_build}
-use Rattle.legal_history.specs.Stories.{Lawful, LawfulStep, Legal, LegalFrom, MakesRow}
+use Rattle.legal_history.specs.Committing.{MakesRow}
+use Rattle.legal_history.specs.Stories.{Lawful, LawfulStep, Legal, LegalFrom}
 use Rattle.legal_history.proofs.Goes.{decided_is_idle, of_lane}
 use Rattle.legal_history.proofs.Stay.{first_rows_stay}
 use Rattle.fresh_builds.specs.Commanded.{IsOfCommand}

@@ -14,7 +14,7 @@ use Rattle.legal_history.specs.Conditions.{exists}
 use Rattle.legal_history.specs.Freshness.{AgreesSoFar}
 use Rattle.legal_history.specs.States.{State}
 use Rattle.legal_history.specs.Steps.{noted, with_came}
-use Rattle.legal_history.specs.Stories.{Waits}
+use Rattle.legal_history.specs.UnitTurns.{Waits}
 use Rattle.legal_history.specs.Views.{view_row}
 use Rattle.legal_history.proofs.Goes.{of_lane}
 use Rattle.fresh_builds.proofs.AgreeStays.{row_added, MayCome, came_so}

@@ -23,7 +23,9 @@ use Rattle.legal_history.specs.Decisions.{Makes, Begins}
 use Rattle.legal_history.specs.Fits.{row_limit}
 use Rattle.legal_history.specs.States.{State, decided, build_by}
 use Rattle.legal_history.specs.Steps.{after, after_step, noted, noted_in, with_came, came_by_starting, active_after, begun, with_build, without_build, faulted_in}
-use Rattle.legal_history.specs.Stories.{Lawful, LawfulStep, MakesRow, Settles, Waits}
+use Rattle.legal_history.specs.Committing.{MakesRow}
+use Rattle.legal_history.specs.Stories.{Lawful, LawfulStep}
+use Rattle.legal_history.specs.UnitTurns.{Settles, Waits}
 use Rattle.legal_history.proofs.Goes.{of_lane, decided_is_idle}
 use Rattle.fresh_builds.proofs.DecidedSteps.{decided_of, says_of, begun_by, begun_is, none_chosen}
 use Rattle.fresh_builds.proofs.Room.{waiting, all_waiting, all_reserved, no_more_wait, fewer_wait, few_wait, put_waiting, put_new_waiting, without_waiting}

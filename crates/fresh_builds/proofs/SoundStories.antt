@@ -20,7 +20,8 @@ use Rattle.legal_history.specs.Fits.{fits, is_base, row_limit}
 use Rattle.legal_history.specs.Freshness.{AgreesSoFar, IsReady}
 use Rattle.legal_history.specs.States.{State, scene, start}
 use Rattle.legal_history.specs.Steps.{after, active_after, state_from, state_of}
-use Rattle.legal_history.specs.Stories.{Lawful, LegalFrom, Legal, MakesRow}
+use Rattle.legal_history.specs.Committing.{MakesRow}
+use Rattle.legal_history.specs.Stories.{Lawful, LegalFrom, Legal}
 use Rattle.legal_history.proofs.DecidedFits.{decided_fits}
 use Rattle.legal_history.proofs.Fronts.{first_opens}
 use Rattle.legal_history.proofs.Goes.{of_lane}

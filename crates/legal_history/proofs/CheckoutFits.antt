@@ -18,7 +18,7 @@ use Rattle.legal_history.specs.Decisions.{Scene}
 use Rattle.legal_history.specs.FileLines.{save, element_of}
 use Rattle.legal_history.specs.Fits.{is_base}
 use Rattle.legal_history.specs.Seen.{at}
-use Rattle.legal_history.specs.Tests.{needs_no_other, needs_latest_origin, refused_unless_same}
+use Rattle.legal_history.specs.CheckoutTests.{needs_no_other, needs_latest_origin, refused_unless_same}
 use Rattle.legal_history.specs.Views.{Checkout, out}
 use Rattle.legal_history.proofs.DirectoryFits.{save_fits_by, was_out}
 use Rattle.legal_history.proofs.FileFits.{RowFits}

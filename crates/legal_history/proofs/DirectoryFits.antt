@@ -15,7 +15,8 @@ use Rattle.legal_history.specs.FileLines.{parent, last_name, element_of, save, s
 use Rattle.legal_history.specs.Fits.{fits, row_limit}
 use Rattle.legal_history.specs.LabelLines.{rmlabel, rmlabel_tests}
 use Rattle.legal_history.specs.Seen.{at}
-use Rattle.legal_history.specs.Tests.{needs_out, needs_not_out, needs_selected, needs_directory}
+use Rattle.legal_history.specs.CheckoutTests.{needs_out, needs_not_out}
+use Rattle.legal_history.specs.Tests.{needs_selected, needs_directory}
 use Rattle.legal_history.specs.Views.{Checkout, out}
 use Rattle.legal_history.proofs.FileFits.{RowFits}
 use Rattle.legal_history.proofs.Passed.{made_by, where_passes, unless_passes, fits_by}

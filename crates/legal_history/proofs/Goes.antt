@@ -25,7 +25,9 @@ use Rattle.legal_history.specs.Decisions.{Decision}
 use Rattle.legal_history.specs.Lines.{decision}
 use Rattle.legal_history.specs.States.{State, scene, decided, command_behind, lane_at, done_of, is_next, build_by, build_if, same_tag}
 use Rattle.legal_history.specs.Steps.{after, after_step, noted, with_came, begun, with_build, without_build, faulted_in, active_after}
-use Rattle.legal_history.specs.Stories.{Lawful, LawfulStep, MakesRow, Settles, Waits}
+use Rattle.legal_history.specs.Committing.{MakesRow}
+use Rattle.legal_history.specs.Stories.{Lawful, LawfulStep}
+use Rattle.legal_history.specs.UnitTurns.{Settles, Waits}
 use Rattle.legal_history.proofs.Tables.{find_put_same, find_put_other, find_without}
 
 pub continues_itself : (b : Build) → Continues b b

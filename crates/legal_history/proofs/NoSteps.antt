@@ -15,7 +15,9 @@ use Rattle.legal_history.specs.Choices.{here, publish_of}
 use Rattle.legal_history.specs.Decisions.{Answers, Begins}
 use Rattle.legal_history.specs.Reuse.{held_at_all}
 use Rattle.legal_history.specs.States.{State, decided, build_by}
-use Rattle.legal_history.specs.Stories.{Waits, Starts, Keeps, Fails, EndsEarly, Winks, Publishes, MakesRow, RowFor, BeginsBuild, EndsBuild}
+use Rattle.legal_history.specs.Committing.{MakesRow, RowFor}
+use Rattle.legal_history.specs.Stories.{BeginsBuild, EndsBuild}
+use Rattle.legal_history.specs.UnitTurns.{Waits, Starts, Keeps, Fails, EndsEarly, Winks, Publishes}
 use Rattle.legal_history.specs.Turns.{early, is_complete}
 
 -- two things that a test tells apart are not the same

@@ -13,7 +13,8 @@ use Rattle.legal_history.specs.Base.{Base}
 use Rattle.legal_history.specs.Decisions.{Scene, Decision, makes}
 use Rattle.legal_history.specs.FileLines.{element_of}
 use Rattle.legal_history.specs.Seen.{at, rules}
-use Rattle.legal_history.specs.Tests.{needs_view, needs_idle, needs_something, needs_selected, needs_element, needs_out, needs_not_out, needs_unreserved, needs_no_other, needs_latest, needs_latest_origin, needs_change, needs_checkout_rule, needs_branch_type, needs_no_branch}
+use Rattle.legal_history.specs.CheckoutTests.{needs_out, needs_not_out, needs_unreserved, needs_no_other, needs_latest, needs_latest_origin, needs_change, needs_checkout_rule}
+use Rattle.legal_history.specs.Tests.{needs_view, needs_idle, needs_something, needs_selected, needs_element, needs_branch_type, needs_no_branch}
 use Rattle.legal_history.specs.Views.{out}
 
 -- what was picked of an element, where one is selected

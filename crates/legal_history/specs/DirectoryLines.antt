@@ -11,7 +11,8 @@ use Rattle.legal_history.specs.Catalogs.{named, own_of}
 use Rattle.legal_history.specs.Decisions.{Scene, Decision, makes}
 use Rattle.legal_history.specs.FileLines.{parent, last_name, element_of}
 use Rattle.legal_history.specs.Seen.{at}
-use Rattle.legal_history.specs.Tests.{needs_view, needs_idle, needs_selected, needs_directory, needs_parent_out, needs_name, needs_free_path, needs_not_out}
+use Rattle.legal_history.specs.CheckoutTests.{needs_not_out}
+use Rattle.legal_history.specs.Tests.{needs_view, needs_idle, needs_selected, needs_directory, needs_parent_out, needs_name, needs_free_path}
 use Rattle.legal_history.specs.Views.{out}
 
 -- the directory in which a path lies

@@ -14,7 +14,8 @@ use Rattle.legal_history.specs.Changes.{held}
 use Rattle.legal_history.specs.Conditions.{is_directory}
 use Rattle.legal_history.specs.Decisions.{Scene, Decision, makes}
 use Rattle.legal_history.specs.Seen.{at}
-use Rattle.legal_history.specs.Tests.{refused_where, needs_view, needs_new_view, needs_idle, needs_no_checkouts, needs_rules, needs_selected, needs_directory, needs_private, needs_out}
+use Rattle.legal_history.specs.CheckoutTests.{needs_out}
+use Rattle.legal_history.specs.Tests.{refused_where, needs_view, needs_new_view, needs_idle, needs_no_checkouts, needs_rules, needs_selected, needs_directory, needs_private}
 use Rattle.legal_history.specs.Views.{Checkout, out}
 
 -- the path of the directory in which a path lies; that of the root is never asked for

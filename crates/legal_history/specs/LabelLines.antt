@@ -20,7 +20,8 @@ use Rattle.legal_history.specs.Conditions.{has_label, arrow_row}
 use Rattle.legal_history.specs.Decisions.{Scene, Decision, makes, answers}
 use Rattle.legal_history.specs.FileLines.{element_of}
 use Rattle.legal_history.specs.Seen.{at}
-use Rattle.legal_history.specs.Tests.{refused_where, refused_unless, needs_view, needs_something, needs_selected, needs_element, needs_not_out, needs_label_type, needs_free_type, needs_object}
+use Rattle.legal_history.specs.CheckoutTests.{needs_not_out}
+use Rattle.legal_history.specs.Tests.{refused_where, refused_unless, needs_view, needs_something, needs_selected, needs_element, needs_label_type, needs_free_type, needs_object}
 use Rattle.legal_history.specs.Views.{Checkout, out}
 
 abbrev pub mktype : Scene → TypeKind → List ℕ → Result Decision Refusal

@@ -3,9 +3,11 @@ pub mod Builds
 pub mod Catalogs
 pub mod Changes
 pub mod CheckoutLines
+pub mod CheckoutTests
 pub mod Checkouts
 pub mod Choices
 pub mod Closures
+pub mod Committing
 pub mod Conditions
 pub mod Decisions
 pub mod DirectoryLines
@@ -32,6 +34,7 @@ pub mod Stories
 pub mod Tests
 pub mod Texts
 pub mod Turns
+pub mod UnitTurns
 pub mod Values
 pub mod VersionNames
 pub mod Views

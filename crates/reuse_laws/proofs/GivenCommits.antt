@@ -18,7 +18,8 @@ use Rattle.legal_history.specs.Reuse.{choice}
 use Rattle.legal_history.specs.Serials.{makes}
 use Rattle.legal_history.specs.States.{State, scene, decided}
 use Rattle.legal_history.specs.Steps.{noted, active_after, with_came}
-use Rattle.legal_history.specs.Stories.{MakesRow, Winks, Publishes, IsOpen, IsRunning}
+use Rattle.legal_history.specs.Committing.{MakesRow}
+use Rattle.legal_history.specs.UnitTurns.{Winks, Publishes, IsOpen, IsRunning}
 use Rattle.legal_history.proofs.Goes.{of_lane}
 use Rattle.fresh_builds.proofs.AllBuilds.{Each, each_noted}
 use Rattle.fresh_builds.proofs.DecidedSteps.{decided_of}

@@ -14,7 +14,8 @@ use Rattle.legal_history.specs.Decisions.{Begins}
 use Rattle.legal_history.specs.Fits.{is_base}
 use Rattle.legal_history.specs.States.{State, decided, build_by}
 use Rattle.legal_history.specs.Steps.{after, after_step, noted, came_by_starting, came_of_unit, begun, with_came}
-use Rattle.legal_history.specs.Stories.{Lawful, LawfulStep, Settles, Keeps}
+use Rattle.legal_history.specs.Stories.{Lawful, LawfulStep}
+use Rattle.legal_history.specs.UnitTurns.{Settles, Keeps}
 use Rattle.legal_history.specs.Turns.{came_by_start, unreadable}
 use Rattle.legal_history.proofs.Goes.{of_lane}
 use Rattle.legal_history.proofs.Owned.{row_fits}

@@ -18,7 +18,8 @@ use Rattle.legal_history.specs.Decisions.{Makes}
 use Rattle.legal_history.specs.Serials.{makes}
 use Rattle.legal_history.specs.States.{State, scene, decided}
 use Rattle.legal_history.specs.Steps.{after, active_after, noted, noted_in, with_came, state_of}
-use Rattle.legal_history.specs.Stories.{Lawful, Legal, MakesRow}
+use Rattle.legal_history.specs.Committing.{MakesRow}
+use Rattle.legal_history.specs.Stories.{Lawful, Legal}
 use Rattle.legal_history.proofs.Goes.{of_lane}
 use Rattle.legal_history.proofs.Tables.{find_put_same}
 use Rattle.fresh_builds.proofs.DecidedSteps.{decided_of}

@@ -12,7 +12,8 @@ use Rattle.legal_history.specs.Builds.{Build, build_of}
 use Rattle.legal_history.specs.Closures.{is_publish_deed}
 use Rattle.legal_history.specs.States.{State, Opening, start}
 use Rattle.legal_history.specs.Steps.{after, state_from, state_of}
-use Rattle.legal_history.specs.Stories.{Lawful, LegalFrom, Legal, MakesRow}
+use Rattle.legal_history.specs.Committing.{MakesRow}
+use Rattle.legal_history.specs.Stories.{Lawful, LegalFrom, Legal}
 use Rattle.legal_history.specs.Values.{is_true}
 use Rattle.legal_history.specs.Values as values
 use Rattle.legal_history.proofs.Goes.{of_lane}

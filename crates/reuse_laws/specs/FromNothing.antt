@@ -7,7 +7,7 @@ use Rattle.legal_history.specs.Builds.{Build}
 use Rattle.legal_history.specs.Freshness.{HasOutputs, outcome_in}
 use Rattle.legal_history.specs.Serials.{Made}
 use Rattle.legal_history.specs.States.{State}
-use Rattle.legal_history.specs.Stories.{IsOpen, IsRunning}
+use Rattle.legal_history.specs.UnitTurns.{IsOpen, IsRunning}
 
 -- From nothing, at the build's reference rows, unit n is made, and the object has exactly its targets and outputs.
 pub record IsAsFromNothing (b : Base) (build : Build) (n : ℕ) (unit : Unit) (id : ℕ) : Type 0 where

@@ -23,7 +23,8 @@ use Rattle.base_core.specs.Opening.{FailsToOpen, Opens, StopsBy}
 use Rattle.base_core.specs.declared.opening.OpenCause.{OpenCause}
 use Rattle.base_core.specs.declared.opening.OpenCause.TheVariants as opens
 use Rattle.legal_history.specs.Steps.{state_of}
-use Rattle.legal_history.specs.Stories.{Legal, rises}
+use Rattle.legal_history.specs.Committing.{rises}
+use Rattle.legal_history.specs.Stories.{Legal}
 use Rattle.session_run.specs.Causes.{Change, DiskUndamaged, Intake, IsAsked, IsUntouched, IsWhole, HasCause, disk_rose}
 use Rattle.session_run.specs.Asked.{is_session, is_read, phases_spelled}
 use Rattle.session_run.specs.FromNothing.{text_from_nothing}

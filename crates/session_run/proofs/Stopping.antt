@@ -12,7 +12,8 @@ use Rattle.disk_model.specs.Files.{IsImage, stable}
 use Rattle.disk_model.specs.Told.{Sight, IfTold, IsCounted}
 use Rattle.legal_history.specs.States.{State, Opening, start, faults_of, hanging}
 use Rattle.legal_history.specs.Steps.{after, state_from, state_of}
-use Rattle.legal_history.specs.Stories.{Legal, LegalFrom, rises}
+use Rattle.legal_history.specs.Committing.{rises}
+use Rattle.legal_history.specs.Stories.{Legal, LegalFrom}
 use Rattle.vob_journal.specs.Frames.{frames}
 use Rattle.vob_journal.proofs.Journals.{stable_image}
 use Rattle.base_core.specs.Backed.{IsAccounted, IsSettled}

@@ -9,7 +9,7 @@ use Rattle.vob_journal.specs.Frames.{frames}
 use Rattle.base_core.specs.Opening.{IsDamaged, IsUndamaged}
 use Rattle.legal_history.specs.States.{all_done}
 use Rattle.legal_history.specs.Steps.{state_of}
-use Rattle.legal_history.specs.Stories.{rises}
+use Rattle.legal_history.specs.Committing.{rises}
 use Rattle.session_run.specs.Asked.{text_limit, is_run, is_session}
 use Rattle.session_run.specs.Headline.{is_opened}
 use Rattle.session_run.specs.Rendered.{has_failure}

@@ -7,7 +7,8 @@ use Rattle.cc_outside.specs.Counts.{Rose}
 use Rattle.cc_outside.specs.declared.sinks.WriteFault.{WriteFault}
 use Rattle.disk_model.specs.Told.{Sight}
 use Rattle.legal_history.specs.Steps.{state_of}
-use Rattle.legal_history.specs.Stories.{Legal, rises}
+use Rattle.legal_history.specs.Committing.{rises}
+use Rattle.legal_history.specs.Stories.{Legal}
 use Rattle.base_core.specs.Backed.{IsAccounted}
 use Rattle.base_core.specs.Opening.{FailsToOpen}
 use Rattle.base_core.specs.declared.opening.OpenCause.{OpenCause}

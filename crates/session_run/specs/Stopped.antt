@@ -8,7 +8,7 @@ use Rattle.disk_model.specs.Files.{stable}
 use Rattle.disk_model.specs.Told.{Sight, IfTold}
 use Rattle.legal_history.specs.States.{State, Opening, faults_of, ticks_of}
 use Rattle.legal_history.specs.Steps.{state_of}
-use Rattle.legal_history.specs.Stories.{rises}
+use Rattle.legal_history.specs.Committing.{rises}
 use Rattle.vob_journal.specs.Frames.{frames}
 use Rattle.base_core.specs.Backed.{IsSettled}
 use Rattle.base_core.specs.Founds.{OpensAgain}

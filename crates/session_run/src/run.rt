@@ -2,7 +2,7 @@
 
 ghost use Rattle.std.specs.Prelude.{◌≡◌};
 ghost use Rattle.legal_history.specs.Steps.{state_of};
-ghost use Rattle.legal_history.specs.Stories.{rises};
+ghost use Rattle.legal_history.specs.Committing.{rises};
 ghost use Rattle.disk_model.specs.Told.{IfTold};
 ghost use Rattle.disk_model.specs.Devices.{file_of, bytes_of};
 ghost use Rattle.disk_model.specs.Files.{stable};

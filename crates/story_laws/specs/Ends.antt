@@ -7,7 +7,7 @@ use Rattle.cc_names.specs.declared.steps.Told.{Told}
 use Rattle.cc_names.specs.declared.steps.Told.TheVariants as told
 use Rattle.legal_history.specs.Builds.{Build}
 use Rattle.legal_history.specs.States.{State, Opening, End, Committed, Faulted, build_by, ticks_of, faults_of}
-use Rattle.legal_history.specs.Stories.{rises}
+use Rattle.legal_history.specs.Committing.{rises}
 use Rattle.legal_history.specs.Turns.{is_complete}
 
 -- a fault of the disk has a rise of the disk's count of faults that no earlier fault has

@@ -1,5 +1,5 @@
 use Rattle.std.proofs.Common.{ap, ◌∙◌}
-use Rattle.legal_history.specs.Stories.{rises}
+use Rattle.legal_history.specs.Committing.{rises}
 use Rattle.session_run.specs.Runs.{run_status}
 use Rattle.session_run.proofs.Promises.{runs_opened}
 use Rattle.session_run.proofs.run.run_opened.Goals as goal

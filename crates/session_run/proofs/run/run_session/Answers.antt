@@ -1,5 +1,5 @@
 use Rattle.std.proofs.Common.{ap, ap₂, ◌∙◌, inl, inr, refl, subst}
-use Rattle.legal_history.specs.Stories.{rises}
+use Rattle.legal_history.specs.Committing.{rises}
 use Rattle.session_run.specs.Causes.{Change}
 use Rattle.session_run.specs.Headline.{first_step}
 use Rattle.session_run.specs.Outcomes.{RunsOpened}
