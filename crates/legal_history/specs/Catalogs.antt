@@ -9,6 +9,7 @@ use Rattle.cc_names.specs.declared.rows.Out.{Out}
 use Rattle.cc_names.specs.declared.rows.Out.TheVariants as outs
 use Rattle.legal_history.specs.Base.{Base, size}
 
+-- a catalog: names with their elements, in byte order of the names, each name once
 abbrev pub Catalog : Type 0
 Catalog = List (List ℕ × ℕ)
 
@@ -50,6 +51,7 @@ pub data Edit : Type 0 where
   Removes : List ℕ → Edit
   Renames : List ℕ → List ℕ → Edit
 
+-- an edit where a test holds, else none
 abbrev pub edit_where : Bool → Edit → Edit
 edit_where true edit = edit
 edit_where false edit = Same
@@ -59,6 +61,7 @@ abbrev pub first_edit : Bool → Edit → Edit → Edit
 first_edit true edit other = edit
 first_edit false edit other = other
 
+-- whether a new branch is checked out
 abbrev pub is_out : Out → Bool
 is_out outs.No = false
 is_out outs.Reserved = true

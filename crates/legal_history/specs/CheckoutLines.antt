@@ -41,12 +41,14 @@ abbrev pub checkout_by : Base → Bool → ℕ → Picked → Option (List ℕ) 
 checkout_by b unreserved e picked (Some name) = needs_branch_type b name ∷ needs_no_branch b e name ∷ []
 checkout_by b unreserved e picked None = needs_latest b picked.row ∷ reserves_if b picked.row unreserved
 
+-- the tests of a checkout of what is seen at a path, where this rule decides
 abbrev pub checkout_tests_of : Scene → List ℕ → Bool → List ℕ → Seen → Option Rule → List (Option Refusal)
 checkout_tests_of s v unreserved path seen rule =
     needs_view s.base v ∷ needs_idle s v ∷ needs_selected path seen ∷ needs_element path seen
     ∷ needs_not_out (out s.base v (element_of seen)) ∷ needs_checkout_rule rule
     ∷ checkout_by s.base unreserved (element_of seen) (picked_of seen) (branch_by rule)
 
+-- the tests of `checkout V [-unreserved] P`
 abbrev pub checkout_tests : Scene → List ℕ → Bool → List ℕ → List (Option Refusal)
 checkout_tests s v unreserved path =
     checkout_tests_of s v unreserved path (at s.base v path) (deciding_rule s.base v (at s.base v path))
@@ -61,11 +63,13 @@ abbrev pub checkout_deed : List ℕ → Bool → Seen → Option (List ℕ) → 
 checkout_deed v unreserved seen None = deeds.Checkout v (element_of seen) (picked_of seen).row (not unreserved)
 checkout_deed v unreserved seen (Some name) = deeds.Branch v (element_of seen) (picked_of seen).row name (out_by unreserved)
 
+-- `checkout V [-unreserved] P`: the selected version is checked out, or a new branch by the rule that decides
 abbrev pub checkout : Scene → List ℕ → Bool → List ℕ → Result Decision Refusal
 checkout s v unreserved path =
     makes s (checkout_tests s v unreserved path)
     (checkout_deed v unreserved (at s.base v path) (branch_by (deciding_rule s.base v (at s.base v path))))
 
+-- the tests of `mkbranch V [-nco] B P`
 abbrev pub mkbranch_tests : Scene → List ℕ → List ℕ → List ℕ → Seen → List (Option Refusal)
 mkbranch_tests s v name path seen =
     needs_view s.base v ∷ needs_idle s v ∷ needs_selected path seen ∷ needs_element path seen
@@ -77,6 +81,7 @@ abbrev pub out_unless : Bool → Out
 out_unless true = outs.No
 out_unless false = outs.Reserved
 
+-- `mkbranch V [-nco] B P`: a branch at the selected version
 abbrev pub mkbranch : Scene → List ℕ → Bool → List ℕ → List ℕ → Result Decision Refusal
 mkbranch s v nco name path =
     makes s (mkbranch_tests s v name path (at s.base v path))
@@ -93,19 +98,23 @@ checkin_of s v identical path e =
     needs_out path (out s.base v e) ∷ needs_no_other s.base v (out s.base v e) ∷ needs_latest_origin s.base (out s.base v e)
     ∷ changes_unless identical (needs_change s.base v path e (out s.base v e))
 
+-- the tests of `checkin V [-identical] P`
 abbrev pub checkin_tests : Scene → List ℕ → Bool → List ℕ → Seen → List (Option Refusal)
 checkin_tests s v identical path seen =
     needs_view s.base v ∷ needs_idle s v ∷ needs_something path seen ∷ needs_element path seen
     ∷ checkin_of s v identical path (element_of seen)
 
+-- `checkin V [-identical] P`: the view's checkout becomes a version
 abbrev pub checkin : Scene → List ℕ → Bool → List ℕ → Result Decision Refusal
 checkin s v identical path =
     makes s (checkin_tests s v identical path (at s.base v path)) (deeds.Checkin v (element_of (at s.base v path)))
 
+-- the tests of `uncheckout V P`
 abbrev pub uncheckout_tests : Scene → List ℕ → List ℕ → Seen → List (Option Refusal)
 uncheckout_tests s v path seen =
     needs_view s.base v ∷ needs_idle s v ∷ needs_something path seen ∷ needs_element path seen
     ∷ needs_out path (out s.base v (element_of seen)) ∷ []
 
+-- `uncheckout V P`: the view's checkout ends without a version
 abbrev pub uncheckout : Scene → List ℕ → List ℕ → Result Decision Refusal
 uncheckout s v path = makes s (uncheckout_tests s v path (at s.base v path)) (deeds.Uncheckout v (element_of (at s.base v path)))

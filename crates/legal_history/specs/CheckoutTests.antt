@@ -37,6 +37,7 @@ abbrev pub refused_unless_same : ℕ → Option ℕ → Option Refusal
 refused_unless_same version None = None
 refused_unless_same version (Some latest) = refused_unless (is_number version (Some latest)) (refusals.NotLatest latest)
 
+-- a version is the latest of its branch; the refusal names the one that is
 abbrev pub needs_latest : Base → ℕ → Option Refusal
 needs_latest b version = refused_unless_same version (latest_beside b version)
 

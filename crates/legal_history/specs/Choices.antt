@@ -22,6 +22,7 @@ pub record Member : Type 0 where
   pub unit : Unit
   pub came : Option Came
 
+-- the unit alone
 abbrev pub unit_of_member : Member → Unit
 unit_of_member member = member.unit
 
@@ -71,6 +72,7 @@ abbrev pub in_order : (List ℕ → Option ℕ) → List (List ℕ) → List (Li
 in_order rows [] = []
 in_order rows (path ∷ paths) = put (slice_cmp nat_cmp) path (entry_row (rows path)) (in_order rows paths)
 
+-- a path with its row, as the entry of a record
 abbrev pub as_entry : List ℕ × ℕ → ReadOf
 as_entry pair = record { path = pair.0; row = pair.1 }
 

@@ -35,6 +35,7 @@ abbrev pub entries_of_deed : Option Deed → List ReadOf
 entries_of_deed (Some (deeds.Publish v targets script entries outputs)) = entries
 entries_of_deed _ = []
 
+-- whether a deed publishes an object
 abbrev pub is_publish_deed : Option Deed → Bool
 is_publish_deed (Some (deeds.Publish v targets script entries outputs)) = true
 is_publish_deed _ = false

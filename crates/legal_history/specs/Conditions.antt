@@ -28,10 +28,12 @@ exists b v = is_some (view_row b v)
 abbrev pub has_out : Base → List ℕ → ℕ → Bool
 has_out b v e = is_some (out b v e)
 
+-- whether there is an element, and it is a file
 abbrev pub is_file_kind : Option Kind → Bool
 is_file_kind (Some File) = true
 is_file_kind _ = false
 
+-- whether there is an element, and it is a directory
 abbrev pub is_directory_kind : Option Kind → Bool
 is_directory_kind (Some Directory) = true
 is_directory_kind _ = false
@@ -62,10 +64,12 @@ may_check_in b v None = false
 may_check_in b v (Some checkout) =
     is_none (option_and_then (other_reserver b v) (branch_of b checkout)) && is_latest b checkout.origin
 
+-- whether there is a type, and it is one of labels
 abbrev pub is_label_kind : Option TypeKind → Bool
 is_label_kind (Some type_kinds.Label) = true
 is_label_kind _ = false
 
+-- whether there is a type, and it is one of branches
 abbrev pub is_branch_kind : Option TypeKind → Bool
 is_branch_kind (Some type_kinds.Branch) = true
 is_branch_kind _ = false
@@ -131,6 +135,7 @@ may_be_scrubbed b id = is_some (live b id) && not (is_held (held b) id)
 abbrev pub is_placed : Base → Placed → Bool
 is_placed b placed = is_version_of b placed.element placed.version
 
+-- whether a deed makes the arrow from one version of an element to another
 abbrev pub is_arrow : ℕ → ℕ → ℕ → Deed → Bool
 is_arrow e tail head (deeds.Arrow element one two) = (element == e) && (one == tail) && (two == head)
 is_arrow e tail head deed = false

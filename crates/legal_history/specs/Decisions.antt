@@ -8,6 +8,7 @@ use Rattle.legal_history.specs.Base.{Base, size}
 use Rattle.legal_history.specs.Builds.{Active, reserved}
 use Rattle.legal_history.specs.Fits.{row_limit}
 
+-- what a command that is not refused comes to: a row with this deed, a text that answers it, or a build of these units
 pub data Decision : Type 0 where
   Makes : Deed → Decision
   Answers : List ℕ → Decision

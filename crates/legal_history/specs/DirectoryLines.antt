@@ -26,6 +26,7 @@ changes_directory s v path tests =
     ∷ needs_directory s.base (parent path) (at s.base v (parent path))
     ∷ needs_parent_out s.base v (parent path) (directory_of s.base v path) ∷ tests
 
+-- the tests of `mkelem` and `mkdir`
 abbrev pub mkelem_tests : Scene → List ℕ → List ℕ → List (Option Refusal)
 mkelem_tests s v path = changes_directory s v path (needs_free_path s.base v path (directory_of s.base v path) (last_name path) ∷ [])
 
@@ -38,11 +39,13 @@ mkelem s v nco kind path =
 abbrev pub needs_named_in : Base → List ℕ → ℕ → List ℕ → Option Refusal
 needs_named_in b v d name = needs_not_out (option_and_then (out b v) (named name (own_of b v d)))
 
+-- the tests of `rmname V P`
 abbrev pub rmname_tests : Scene → List ℕ → List ℕ → List (Option Refusal)
 rmname_tests s v path =
     changes_directory s v path (needs_name s.base v path (directory_of s.base v path) (last_name path)
     ∷ needs_named_in s.base v (directory_of s.base v path) (last_name path) ∷ [])
 
+-- `rmname V P`: the name goes from the view's checkout of its directory
 abbrev pub rmname : Scene → List ℕ → List ℕ → Result Decision Refusal
 rmname s v path = makes s (rmname_tests s v path) (deeds.Rmname v (directory_of s.base v path) (last_name path))
 
@@ -55,10 +58,12 @@ path_or path (Err fault) = path
 abbrev pub renamed : List ℕ → List ℕ → List ℕ
 renamed path name = path_or path (join_of (parent path) name)
 
+-- the tests of `mv V P NAME`
 abbrev pub mv_tests : Scene → List ℕ → List ℕ → List ℕ → List (Option Refusal)
 mv_tests s v path name =
     changes_directory s v path (needs_name s.base v path (directory_of s.base v path) (last_name path)
     ∷ needs_free_path s.base v (renamed path name) (directory_of s.base v path) name ∷ [])
 
+-- `mv V P NAME`: the name is changed in the view's checkout of its directory
 abbrev pub mv : Scene → List ℕ → List ℕ → List ℕ → Result Decision Refusal
 mv s v path name = makes s (mv_tests s v path name) (deeds.Mv v (directory_of s.base v path) (last_name path) name)

@@ -34,6 +34,7 @@ abbrev pub label_types : Base → NameSet
 label_types [] = []
 label_types (row ∷ older) = with_label_type row.deed (label_types older)
 
+-- the key of an entry
 abbrev pub first_of : List ℕ × List ℕ → List ℕ
 first_of entry = entry.0
 

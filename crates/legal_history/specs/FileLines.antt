@@ -32,21 +32,27 @@ element_of (Element e picked) = e
 element_of (Unselected e) = e
 element_of seen = 0
 
+-- the tests of `mkview V`
 abbrev pub mkview_tests : Scene → List ℕ → List (Option Refusal)
 mkview_tests s v = needs_new_view s.base v ∷ []
 
+-- `mkview V`: the view's life begins
 abbrev pub mkview : Scene → List ℕ → Result Decision Refusal
 mkview s v = makes s (mkview_tests s v) (deeds.Mkview v)
 
+-- the tests of `rmview [-force] V`
 abbrev pub rmview_tests : Scene → List ℕ → Bool → List (Option Refusal)
 rmview_tests s v force = needs_view s.base v ∷ needs_idle s v ∷ needs_no_checkouts s.base v force ∷ []
 
+-- `rmview [-force] V`: the view's life ends
 abbrev pub rmview : Scene → List ℕ → Bool → Result Decision Refusal
 rmview s v force = makes s (rmview_tests s v force) (deeds.Rmview v)
 
+-- the tests of `setcs V` with a text
 abbrev pub setcs_tests : Scene → List ℕ → List ℕ → List (Option Refusal)
 setcs_tests s v text = needs_view s.base v ∷ needs_idle s v ∷ needs_rules (rules_of text) ∷ []
 
+-- `setcs V`: the view has this config spec
 abbrev pub setcs : Scene → List ℕ → List ℕ → Result Decision Refusal
 setcs s v text = makes s (setcs_tests s v text) (deeds.Setcs v text)
 
@@ -63,6 +69,7 @@ saves_at b v path (Element e picked) = saves_element (is_directory b e) path (ou
 saves_at b v path (Unselected e) = saves_element (is_directory b e) path (out b v e)
 saves_at b v path Nothing = refused_where (is_some (held_at (held b) v path)) (refusals.IsDerived path)
 
+-- the tests of `save V P`
 abbrev pub save_tests : Scene → List ℕ → List ℕ → List (Option Refusal)
 save_tests s v path =
     needs_view s.base v ∷ needs_idle s v ∷ needs_selected (parent path) (at s.base v (parent path))
@@ -74,11 +81,14 @@ save_deed v path text (Element e picked) = deeds.Save v e text
 save_deed v path text (Unselected e) = deeds.Save v e text
 save_deed v path text seen = deeds.Put v path text
 
+-- `save V P`: the text of the view's checkout at the path, or of its private file there
 abbrev pub save : Scene → List ℕ → List ℕ → List ℕ → Result Decision Refusal
 save s v path text = makes s (save_tests s v path) (save_deed v path text (at s.base v path))
 
+-- the tests of `rm V P`
 abbrev pub rm_tests : Scene → List ℕ → List ℕ → List (Option Refusal)
 rm_tests s v path = needs_view s.base v ∷ needs_idle s v ∷ needs_private path (at s.base v path) ∷ []
 
+-- `rm V P`: the view's private file goes
 abbrev pub rm : Scene → List ℕ → List ℕ → Result Decision Refusal
 rm s v path = makes s (rm_tests s v path) (deeds.Rm v path)

@@ -70,6 +70,7 @@ serial files is_file is_directory (unit ∷ earlier) =
 abbrev pub all_finished : Base → List ℕ → List Unit → List Finished
 all_finished b v units = reverse (serial (texts b v) (sees_file b v) (sees_directory b v) (reverse units))
 
+-- units with what they come to, where there are such units
 abbrev pub fresh_of : Base → List ℕ → Result (List Unit) Refusal → Result (List Finished) Refusal
 fresh_of b v (Err refusal) = Err refusal
 fresh_of b v (Ok units) = Ok (all_finished b v units)

@@ -24,6 +24,7 @@ use Rattle.legal_history.specs.CheckoutTests.{needs_not_out}
 use Rattle.legal_history.specs.Tests.{refused_where, refused_unless, needs_view, needs_something, needs_selected, needs_element, needs_label_type, needs_free_type, needs_object}
 use Rattle.legal_history.specs.Views.{Checkout, out}
 
+-- `mklbtype L` and `mkbrtype B`: a type of labels or of branches
 abbrev pub mktype : Scene → TypeKind → List ℕ → Result Decision Refusal
 mktype s kind name = makes s (needs_free_type s.base name ∷ []) (deeds.Mktype kind name)
 
@@ -42,12 +43,14 @@ abbrev pub needs_label_free : Base → Bool → List ℕ → ℕ → ℕ → Opt
 needs_label_free b true label e version = None
 needs_label_free b false label e version = label_free version (holder (labels b) label e)
 
+-- the tests of `mklabel V [-replace] L P`
 abbrev pub mklabel_tests : Scene → List ℕ → Bool → List ℕ → List ℕ → Seen → List (Option Refusal)
 mklabel_tests s v replace label path seen =
     needs_view s.base v ∷ needs_selected path seen ∷ needs_element path seen ∷ needs_label_type s.base label
     ∷ needs_version_picked (picked_of seen).out (out s.base v (element_of seen))
     ∷ needs_label_free s.base replace label (element_of seen) (picked_of seen).row ∷ []
 
+-- `mklabel V [-replace] L P`: the label stands on the selected version
 abbrev pub mklabel : Scene → List ℕ → Bool → List ℕ → List ℕ → Result Decision Refusal
 mklabel s v replace label path =
     makes s (mklabel_tests s v replace label path (at s.base v path))
@@ -57,11 +60,13 @@ mklabel s v replace label path =
 abbrev pub needs_label : Base → List ℕ → List ℕ → ℕ → Option Refusal
 needs_label b label path e = refused_unless (has_label b label e) (refusals.NoLabel path)
 
+-- the tests of `rmlabel V L P`
 abbrev pub rmlabel_tests : Scene → List ℕ → List ℕ → List ℕ → Seen → List (Option Refusal)
 rmlabel_tests s v label path seen =
     needs_view s.base v ∷ needs_something path seen ∷ needs_element path seen ∷ needs_label_type s.base label
     ∷ needs_label s.base label path (element_of seen) ∷ []
 
+-- `rmlabel V L P`: the label stands on no version of the element
 abbrev pub rmlabel : Scene → List ℕ → List ℕ → List ℕ → Result Decision Refusal
 rmlabel s v label path =
     makes s (rmlabel_tests s v label path (at s.base v path)) (deeds.Unlabel label (element_of (at s.base v path)))
@@ -80,6 +85,7 @@ outsider_among b (source ∷ sources) =
 abbrev pub outsider : Base → ℕ → Option (List ℕ)
 outsider b id = outsider_among b (closure b id)
 
+-- an element with its version, as a place of a label
 abbrev pub as_placed : ℕ × ℕ → Placed
 as_placed entry = record { element = entry.0; version = entry.1 }
 
@@ -92,6 +98,7 @@ abbrev pub labels_free : Base → Bool → List ℕ → List Placed → List (Op
 labels_free b replace label [] = []
 labels_free b replace label (placed ∷ more) = needs_label_free b replace label placed.element placed.version ∷ labels_free b replace label more
 
+-- the tests of `mklabel V [-replace] -config P L`, by the object that the view holds there
 abbrev pub mklabel_config_tests : Scene → List ℕ → Bool → List ℕ → List ℕ → ℕ → List (Option Refusal)
 mklabel_config_tests s v replace path label id =
     needs_view s.base v ∷ needs_object s.base v path ∷ needs_label_type s.base label
@@ -102,6 +109,7 @@ abbrev pub labels_or_nothing : Scene → List (Option Refusal) → List ℕ → 
 labels_or_nothing s tests label [] = answers tests []
 labels_or_nothing s tests label (placed ∷ more) = makes s tests (deeds.Labels label (placed ∷ more))
 
+-- `mklabel V [-replace] -config P L`: the label stands on each version that the record of the view's object lists
 abbrev pub mklabel_config : Scene → List ℕ → Bool → List ℕ → List ℕ → Result Decision Refusal
 mklabel_config s v replace path label =
     labels_or_nothing s (mklabel_config_tests s v replace path label (object_held s.base v path)) label (placed_by s.base (object_held s.base v path))
@@ -110,6 +118,7 @@ mklabel_config s v replace path label =
 abbrev pub version_named : Base → ℕ → VersionName → Option ℕ
 version_named b e name = option_and_then (λ branch. numbered (tree b) branch name.number) (branch_behind (tree b) e name.branches)
 
+-- the tests of an arrow from this version
 abbrev pub mkarrow_tests : Scene → List ℕ → List ℕ → Seen → Option ℕ → List (Option Refusal)
 mkarrow_tests s v path seen tail =
     needs_view s.base v ∷ needs_selected path seen ∷ needs_element path seen
@@ -123,5 +132,6 @@ abbrev pub mkarrow_to : Scene → List ℕ → List ℕ → Seen → Option ℕ 
 mkarrow_to s v path seen tail =
     makes s (mkarrow_tests s v path seen tail) (deeds.Arrow (element_of seen) (unwrap_or tail 0) (picked_of seen).row)
 
+-- `mkarrow V P@@VERSION`: an arrow from that version to the one that the view selects
 abbrev pub mkarrow : Scene → List ℕ → List ℕ → VersionName → Result Decision Refusal
 mkarrow s v path name = mkarrow_to s v path (at s.base v path) (version_named s.base (element_of (at s.base v path)) name)

@@ -33,6 +33,7 @@ abbrev pub with_name_if : Bool → List ℕ → Seen → Names → Names
 with_name_if true name seen names = put (slice_cmp nat_cmp) name seen names
 with_name_if false name seen names = names
 
+-- a name with what stands at its path, put among others where that path is no longer than one may be
 abbrev pub with_path : Base → List ℕ → List ℕ → List ℕ → Names → Names
 with_path b v name path names = with_name_if (nat_le (length path) 1024) name (at b v path) names
 
@@ -104,6 +105,7 @@ abbrev pub held_line : Held → List ℕ → Bool → List ℕ → ℕ → List 
 held_line held v true path id = line (at_version path (decimal id) ++ codes " references " ++ decimal (count held id))
 held_line held v false path id = []
 
+-- a line for each object that the view holds, among these
 abbrev pub held_lines : Held → List ℕ → Held → List ℕ
 held_lines all v [] = []
 held_lines all v (entry ∷ held) = held_line all v (bytes_eq entry.0.0 v) entry.0.1 entry.1 ++ held_lines all v held

@@ -95,6 +95,7 @@ merge_line b path target (Some source) = elim (reaches b source target) [
 abbrev pub Elements : Type 0
 Elements = List (List ℕ × Seen)
 
+-- what is selected at a path, put among others where it is an element
 abbrev pub with_element : List ℕ → Seen → Elements → Elements
 with_element path (Element e picked) found = put (slice_cmp nat_cmp) path (Element e picked) found
 with_element path seen found = found

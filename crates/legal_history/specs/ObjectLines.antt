@@ -13,9 +13,11 @@ use Rattle.legal_history.specs.Decisions.{Scene, Decision, first_refusal, makes,
 use Rattle.legal_history.specs.Fresh.{texts}
 use Rattle.legal_history.specs.Tests.{needs_view, needs_idle, needs_object}
 
+-- the tests of `rmdo V P`
 abbrev pub rmdo_tests : Scene → List ℕ → List ℕ → List (Option Refusal)
 rmdo_tests s v path = needs_view s.base v ∷ needs_idle s v ∷ needs_object s.base v path ∷ []
 
+-- `rmdo V P`: the view's reference at the path goes
 abbrev pub rmdo : Scene → List ℕ → List ℕ → Result Decision Refusal
 rmdo s v path = makes s (rmdo_tests s v path) (deeds.Drop v path)
 
@@ -37,9 +39,11 @@ abbrev pub scrub_of : Scene → List ℕ → Result Decision Refusal
 scrub_of s [] = answers [] []
 scrub_of s (id ∷ ids) = makes s [] (deeds.Scrub (id ∷ ids))
 
+-- `scrub AGE`: what is due goes
 abbrev pub scrub : Scene → ℕ → Result Decision Refusal
 scrub s age = scrub_of s (due s.base s.moment age)
 
+-- the tests of `clearmake V ..` before those of its makefile
 abbrev pub clearmake_tests : Scene → List ℕ → List (Option Refusal)
 clearmake_tests s v = needs_view s.base v ∷ needs_idle s v ∷ []
 
@@ -53,5 +57,6 @@ abbrev pub build_unless : Scene → Option Refusal → Result (List Unit) Refusa
 build_unless s (Some refusal) units = Err refusal
 build_unless s None units = build_of_units s units
 
+-- `clearmake V ..`: a build of the units that the makefile has for the goals, on what the view sees
 abbrev pub clearmake : Scene → List ℕ → Option (List ℕ) → List Macro → List (List ℕ) → Result Decision Refusal
 clearmake s v file macros goals = build_unless s (first_refusal (clearmake_tests s v)) (units (texts s.base v) file macros goals)

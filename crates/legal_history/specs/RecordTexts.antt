@@ -25,6 +25,7 @@ abbrev pub script_of_deed : Option Deed → List ℕ
 script_of_deed (Some (deeds.Publish v targets script entries outputs)) = script
 script_of_deed _ = []
 
+-- the script of an object's record
 abbrev pub script_of : Base → ℕ → List ℕ
 script_of b id = script_of_deed (deed_at b id)
 

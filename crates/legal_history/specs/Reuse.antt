@@ -43,6 +43,7 @@ matches b build n unit id = record_matches unit.targets (script_text unit.script
 abbrev pub held_at_each : Base → List ℕ → List (List ℕ) → ℕ → Bool
 held_at_each b v paths id = list_all (λ path. is_number id (held_at (held b) v path)) paths
 
+-- the object that is held at one target, where it is held at the others too
 abbrev pub held_at_others : Base → List ℕ → List (List ℕ) → Option ℕ → Option ℕ
 held_at_others b v paths None = None
 held_at_others b v paths (Some id) = only_where (held_at_each b v paths id) (Some id)

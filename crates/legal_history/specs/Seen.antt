@@ -88,6 +88,7 @@ abbrev pub row_of_file : Picked → Option Kind → Option ℕ
 row_of_file picked (Some File) = Some picked.row
 row_of_file picked _ = None
 
+-- the same for a directory
 abbrev pub row_of_directory : Picked → Option Kind → Option ℕ
 row_of_directory picked (Some Directory) = Some picked.row
 row_of_directory picked _ = None

@@ -20,10 +20,12 @@ pub data Standing : Type 0 where
   Good : Standing
   Bad : Standing
 
+-- whether a path is neither a unit nor a file
 abbrev pub is_missing : Standing → Bool
 is_missing Missing = true
 is_missing standing = false
 
+-- whether a path is a unit that failed or was blocked
 abbrev pub is_bad : Standing → Bool
 is_bad Bad = true
 is_bad standing = false
@@ -40,6 +42,7 @@ outside is_directory [] = None
 outside is_directory (path ∷ paths) =
     option_or (only_where (not (is_directory (parent path))) (Some (parent path))) (outside is_directory paths)
 
+-- a unit with a script fails at its first target whose parent is no directory
 abbrev pub no_directory : (List ℕ → Bool) → List (List ℕ) → UnitScript → Option UnitEnd
 no_directory is_directory targets scripts.Bare = None
 no_directory is_directory targets script = option_map (λ path. Failed (NoDirectory path)) (outside is_directory targets)
@@ -49,6 +52,7 @@ abbrev pub first_target : List (List ℕ) → List ℕ
 first_target [] = root
 first_target (target ∷ targets) = target
 
+-- a unit without a script is bare, and one whose script is too long fails
 abbrev pub no_script : List (List ℕ) → UnitScript → Option UnitEnd
 no_script targets scripts.Bare = Some Bare
 no_script targets scripts.TooLong = Some (Failed (ScriptTooLong (first_target targets)))
@@ -73,6 +77,7 @@ pub record Finished : Type 0 where
   pub unit : Unit
   pub outcome : Outcome
 
+-- the unit alone
 abbrev pub unit_of : Finished → Unit
 unit_of finished = finished.unit
 
@@ -83,6 +88,7 @@ standing_of_end Bare = Good
 standing_of_end (Failed fault) = Bad
 standing_of_end (Blocked path) = Bad
 
+-- a unit that was made stands well; another as its end says
 abbrev pub standing_of_outcome : Outcome → Standing
 standing_of_outcome (Made outputs) = Good
 standing_of_outcome (Without end) = standing_of_end end
@@ -92,6 +98,7 @@ abbrev pub standing_of_file : Bool → Standing
 standing_of_file true = Good
 standing_of_file false = Missing
 
+-- a unit's standing, or a file's where the path is no unit's
 abbrev pub standing_or_file : Bool → Option Standing → Standing
 standing_or_file is_file (Some standing) = standing
 standing_or_file is_file None = standing_of_file is_file

@@ -30,6 +30,7 @@ abbrev pub noted_in : Active → ℕ → Option Build → (Build → Option ℕ)
 noted_in active lane None unit came = active
 noted_in active lane (Some build) unit came = put nat_cmp lane (with_came build (unit build) came) active
 
+-- the active builds where a unit of a lane's build has come to something
 abbrev pub noted : Active → ℕ → (Build → Option ℕ) → Came → Active
 noted active lane unit came = noted_in active lane (build_of active lane) unit came
 

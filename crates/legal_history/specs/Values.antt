@@ -21,6 +21,7 @@ abbrev pub outputs_of_result : Result (List (List ℕ)) ScriptFault → Option (
 outputs_of_result (Ok outputs) = Some outputs
 outputs_of_result (Err fault) = None
 
+-- the outputs of a run that took place and succeeded
 abbrev pub outputs_of_run : Option Ran → Option (List (List ℕ))
 outputs_of_run None = None
 outputs_of_run (Some ran) = outputs_of_result ran.result
@@ -114,6 +115,7 @@ text_seen b seen again path (suc row) = elim (is_publish b (suc row)) [
   | false ↦ seen path
 ]
 
+-- what a record that is run again reads at each path: what its entry there stands for, and nothing where it has none
 abbrev pub texts_seen : Base → Files → (ℕ → Option Ran) → List ReadOf → Files
 texts_seen b seen again entries path = option_and_then (text_seen b seen again path) (row_in entries path)
 

@@ -7,6 +7,7 @@ abbrev pub tails : {A : Type 0} → List A → List (List A)
 tails [] = [] ∷ []
 tails (x ∷ xs) = (x ∷ xs) ∷ tails xs
 
+-- whether a list is empty
 abbrev pub has_none : {A : Type 0} → List A → Bool
 has_none [] = true
 has_none (x ∷ xs) = false

@@ -27,13 +27,13 @@ pub record Options : Type 0 where
   pub nocheckout : Bool
   pub mkbranch : Option (List ℕ)
 
+-- a rule without options
 abbrev pub no_options : Options
 no_options = record { time = None; nocheckout = false; mkbranch = None }
 
 -- options without where their words lie in memory
 abbrev pub plain_options : OptionWords → Options
-plain_options words =
-    record { time = option_copied words.time; nocheckout = words.nocheckout; mkbranch = option_copied words.mkbranch }
+plain_options words = record { time = option_copied words.time; nocheckout = words.nocheckout; mkbranch = option_copied words.mkbranch }
 
 -- which option a word names
 abbrev pub option_named : List ℕ → Named
@@ -47,9 +47,11 @@ option_named word =
 abbrev pub with_time : List ℕ → Options → Option Options
 with_time word options = if is_some options.time then None else Some (record options { time = Some word })
 
+-- with `-nocheckout`, where it is not among them yet
 abbrev pub with_nocheckout : Options → Option Options
 with_nocheckout options = if options.nocheckout then None else Some (record options { nocheckout = true })
 
+-- with `-mkbranch` and its word, where it is not among them yet
 abbrev pub with_mkbranch : List ℕ → Options → Option Options
 with_mkbranch word options = if is_some options.mkbranch then None else Some (record options { mkbranch = Some word })
 
@@ -69,8 +71,7 @@ next_option Unknown next options behind behind_next = None
 abbrev pub options_from : List (List ℕ) → Options → Option Options
 options_from [] options = Some options
 options_from (word ∷ []) options = last_option (option_named word) options
-options_from (word ∷ next ∷ words) options =
-    next_option (option_named word) next options (options_from (next ∷ words)) (options_from words)
+options_from (word ∷ next ∷ words) options = next_option (option_named word) next options (options_from (next ∷ words)) (options_from words)
 
 -- a word read as a date
 abbrev pub moment_of_word : List ℕ → Result ℕ SpecCause
@@ -107,8 +108,7 @@ with_options line block pattern of_object selector (Some options) = rule_of line
 -- `element PATTERN -config` and the words behind
 abbrev pub object_line : ℕ → Option ℕ → List ℕ → List (List ℕ) → Result Line SpecCause
 object_line line block pattern [] = Err BadRule
-object_line line block pattern (object ∷ words) =
-    with_options line block pattern true object (options_from words no_options)
+object_line line block pattern (object ∷ words) = with_options line block pattern true object (options_from words no_options)
 
 -- the words behind `element`
 abbrev pub element_line : ℕ → Option ℕ → List (List ℕ) → Result Line SpecCause
@@ -117,13 +117,14 @@ element_line line block (pattern ∷ selector ∷ words) =
     else with_options line block pattern false selector (options_from words no_options)
 element_line line block _ = Err BadRule
 
--- the words behind `time`, and those behind `end`
+-- `time DATE` opens a block
 abbrev pub time_line : List (List ℕ) → Result Line SpecCause
 time_line (date ∷ []) = do
   moment ← moment_of_word date
   Ok (Opens moment)
 time_line _ = Err BadRule
 
+-- `end time` closes the innermost block
 abbrev pub end_line : List (List ℕ) → Result Line SpecCause
 end_line (word ∷ []) = if bytes_eq word (codes "time") then Ok Closes else Err BadRule
 end_line _ = Err BadRule

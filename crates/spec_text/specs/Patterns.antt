@@ -10,10 +10,11 @@ use Rattle.cc_names.specs.declared.selection.Segment.{Segment}
 use Rattle.cc_names.specs.declared.selection.Segment.TheVariants.{AnyNames, OneName}
 use Rattle.spec_text.specs.Covers.{tails, has_none, covers}
 
--- `*` and `?`
+-- whether a byte is `*`
 abbrev pub is_star : ℕ → Bool
 is_star b = b == 42
 
+-- whether a byte is `?`
 abbrev pub is_question_mark : ℕ → Bool
 is_question_mark b = b == 63
 

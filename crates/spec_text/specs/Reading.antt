@@ -14,6 +14,7 @@ pub record State : Type 0 where
   pub rules : List Rule
   pub blocks : List ℕ
 
+-- no rule and no open block
 abbrev pub nothing_read : State
 nothing_read = record { rules = []; blocks = [] }
 

@@ -55,6 +55,7 @@ selector_of_word word =
     else if bytes_eq word (codes "-none") then Some Nothing
     else option_or (option_map Label (type_name_of word)) (selector_of_parts (slice_split is_slash word))
 
+-- whether a byte is `@`
 abbrev pub is_at : ℕ → Bool
 is_at b = b == 64
 
@@ -73,6 +74,7 @@ abbrev pub selector_by : Bool → List ℕ → Option Selector
 selector_by false word = selector_of_word word
 selector_by true word = object_of_parts (slice_split is_at word)
 
+-- the selector that a word spells, or the cause where it spells none
 abbrev pub selector_of : Bool → List ℕ → Result Selector SpecCause
 selector_of of_object word = ok_or (selector_by of_object word) BadSelector
 

@@ -14,6 +14,7 @@ abbrev pub before_rules : Rule → Result (List Rule) SpecError → Result (List
 before_rules rule (Ok rules) = Ok (rule ∷ rules)
 before_rules rule (Err error) = Err error
 
+-- the text fails at a line, by a cause
 abbrev pub fails : ℕ → SpecCause → Result (List Rule) SpecError
 fails line cause = Err (record { line = line; cause = cause })
 

@@ -10,6 +10,7 @@ abbrev pub parts_left : ℕ → Option (List ℕ) → List (List ℕ)
 parts_left at None = []
 parts_left at (Some bytes) = slice_split (λ b. b == at) bytes
 
+-- whether a byte is a newline
 abbrev pub is_newline : ℕ → Bool
 is_newline b = b == 10
 
@@ -27,6 +28,7 @@ without_empty_end (part ∷ next ∷ parts) = part ∷ without_empty_end (next �
 abbrev pub lines_of : List ℕ → List (List ℕ)
 lines_of text = without_empty_end (slice_split is_newline text)
 
+-- whether a list has a member
 abbrev pub has_some : {A : Type 0} → List A → Bool
 has_some xs = not (has_none xs)
 

@@ -167,6 +167,37 @@ fn rules_are_read(rt: HostRuntime) -> Result<(), Fail> {
     )
 }
 
+/// Config specs as the manual's page `config_spec` has them, in this profile: dates in full, and no `include`.
+#[test]
+fn specs_of_the_manual_are_read(rt: HostRuntime) -> Result<(), Fail> {
+    reads(
+        &rt,
+        rt.alloc(),
+        &[
+            (
+                "# work on a release, on a branch of its own\nelement * CHECKEDOUT\nelement * .../rel2_bugfix/LATEST\nelement * REL2 -mkbranch rel2_bugfix\nelement * /main/LATEST -mkbranch rel2_bugfix\n",
+                "2 * CHECKEDOUT; 3 * .../rel2_bugfix/LATEST; 4 * label REL2 >rel2_bugfix; 5 * /main/LATEST >rel2_bugfix",
+            ),
+            (
+                "element * CHECKEDOUT\nelement /lib/... /main/LATEST -time 10-Jul-1995.19:00:00\nelement * /main/LATEST\n",
+                "1 * CHECKEDOUT; 2 /lib/... /main/LATEST @805402800; 3 * /main/LATEST",
+            ),
+            (
+                "time 15-Jul-1996.00:00:00\nelement /sys/... /main/LATEST\nelement /sys/... .../v1/LATEST\nend time\n",
+                "2 /sys/... /main/LATEST @837388800; 3 /sys/... .../v1/LATEST @837388800",
+            ),
+            (
+                "element utils.c /main/3\nelement *.h /main/bugfix/0\nelement * REL1.3 -nocheckout\n",
+                "1 utils.c /main/3; 2 *.h /main/bugfix/0; 3 * label REL1.3 !",
+            ),
+            (
+                "element /src/old/... -none\nelement .../doc/*.txt BETA\n",
+                "1 /src/old/... -none; 2 .../doc/*.txt label BETA",
+            ),
+        ],
+    )
+}
+
 #[test]
 fn the_first_failing_line_has_its_cause(rt: HostRuntime) -> Result<(), Fail> {
     reads(

@@ -2,7 +2,7 @@
 
 use crate::{Matches, Spec};
 use cc_names::paths::Path;
-use std::alloc::Global;
+use std::alloc::{AllocError, Global};
 use std::process::Abort;
 use std::test::Fail;
 
@@ -95,6 +95,48 @@ fn wild_cards_match_many_names(rt: HostRuntime) -> Result<(), Fail> {
             ("/a/.../c", "a/b/c/d", false),
             ("/a/.../b/.../c", "a/b/x/b/c", true),
             ("/a/.../b/.../c", "a/x/c", false),
+        ],
+    )
+}
+
+fn repeated(alloc: Global, piece: &str, times: u32) -> Result<String, AllocError> {
+    let mut text = String::new(alloc);
+    for _ in 0..times {
+        text.push_str(piece)?;
+    }
+    Ok(text)
+}
+
+/// Two hundred wild cards, in one segment and as segments, against paths of a thousand bytes that they match at the very
+/// end or not at all. A matcher that goes back to every wild card would not come to an end.
+#[test]
+fn many_wild_cards_end_at_once(rt: HostRuntime) -> Result<(), Fail> {
+    let alloc = rt.alloc();
+    let stars = repeated(alloc, "*a", 200)?;
+    let name = repeated(alloc, "a", 255)?;
+    let long = format!(in alloc; "{name}/{name}/{name}/{name}")?;
+    let dots = repeated(alloc, ".../a/", 150)?;
+    let deep = repeated(alloc, "a/", 510)?;
+    matches(
+        &rt,
+        alloc,
+        &[
+            (format!(in alloc; "{stars}*")?.as_str(), long.as_str(), true),
+            (
+                format!(in alloc; "{stars}b")?.as_str(),
+                long.as_str(),
+                false,
+            ),
+            (
+                format!(in alloc; "{dots}a")?.as_str(),
+                format!(in alloc; "{deep}a")?.as_str(),
+                true,
+            ),
+            (
+                format!(in alloc; "/{dots}b")?.as_str(),
+                format!(in alloc; "{deep}a")?.as_str(),
+                false,
+            ),
         ],
     )
 }
