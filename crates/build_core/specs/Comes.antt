@@ -18,8 +18,3 @@ cames_of slots = map (option_map came_of) slots
 -- what the units have come to, by their numbers
 abbrev pub comes_of : List (Option Came) → List (ℕ × model.Came)
 comes_of slots = numbered 0 (cames_of slots)
-
--- whether a unit's script was started and the unit has no outcome
-abbrev pub is_started : Option model.Came → Bool
-is_started (Some model.Started) = true
-is_started came = false

@@ -3,8 +3,7 @@
 ghost use Rattle.std.specs.Prelude.{◌≡◌, ◌<◌, [], true, false, Some, length, option_copied, option_map, IfOk};
 ghost use Rattle.legal_history.specs.Builds.{came_to, is_outcome, object_of};
 ghost use Rattle.legal_history.specs.Steps.{with_came};
-ghost use Rattle.legal_history.specs.Turns.{is_complete};
-ghost use Rattle.build_core.specs.Comes.{came_of, comes_of, is_started};
+ghost use Rattle.build_core.specs.Comes.{came_of, comes_of};
 
 use cc_names::memory::NoMemory;
 use cc_names::names::Name;
@@ -140,13 +139,6 @@ impl ActiveBuild {
         self.units.as_slice()
     }
 
-    /// Whether the disk failed under it.
-    pub fn is_faulted(&self) -> bool
-        ensures { result ≡ self.now.faulted }
-    {
-        self.faulted
-    }
-
     /// What the unit at an index has come to.
     pub(crate) fn came_at(&self, index: usize) -> Option<&Came>
         ensures { option_map came_of (option_copied result) ≡ came_to self.now index }
@@ -175,13 +167,6 @@ impl ActiveBuild {
         self.is_over(unit as usize)
     }
 
-    /// Whether a unit's script was started and the unit has no outcome.
-    pub fn is_started(&self, unit: u32) -> bool
-        ensures { result ≡ is_started (came_to self.now unit) }
-    {
-        matches!(self.came_to(unit), Some(Came::Started))
-    }
-
     /// The object that the unit at an index was given or kept.
     pub(crate) fn object_at(&self, index: usize) -> Option<u64>
         ensures { result ≡ object_of (came_to self.now index) }
@@ -206,24 +191,5 @@ impl ActiveBuild {
         ensures { self.new ≡ with_came self.old (Some unit) (came_of came) }
     {
         self.comes[unit as usize] = Some(came);
-    }
-
-    /// Notes that the disk failed under it. Takes no memory.
-    pub fn note_fault(&mut self)
-        ensures { self.new ≡ record self.old { faulted = true } }
-    {
-        self.faulted = true;
-    }
-
-    /// Whether each unit has its outcome, in time linear in the units.
-    pub fn is_complete(&self) -> bool
-        ensures { result ≡ is_complete self.now }
-    {
-        for index in 0..self.units.len() {
-            if !self.is_over(index) {
-                return false;
-            }
-        }
-        true
     }
 }

@@ -26,10 +26,7 @@ use cc_names::rows::Tag;
 use cc_names::units::Unit;
 use make_text::makefiles::Texts;
 use std::alloc::Global;
-use view_lookup::{FirstRows, text_at, view_row};
-
-/// The most rows that a base may have, row 0 included.
-const ROW_LIMIT: u64 = 4_000_000;
+use view_lookup::{FirstRows, ROW_LIMIT, text_at, view_row};
 
 // The texts of the files of a view that there is.
 #[derive(Drop)]

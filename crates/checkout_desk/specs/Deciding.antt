@@ -51,14 +51,6 @@ abbrev pub view_of : Command → List ℕ
 view_of (commands.Save view path text) = view
 view_of command = []
 
--- whether all commands of a lane are carried out
-abbrev pub IsLaneCarriedOut : Lane → Type 0
-IsLaneCarriedOut lane = AllByRecursion (λ command. is_carried_out command ≡ true) lane.commands
-
--- all commands of a phase are carried out
-abbrev pub AreCarriedOut : Phase → Type 0
-AreCarriedOut phase = AllByRecursion IsLaneCarriedOut phase.lanes
-
 -- a save at the path is one of a private file
 abbrev pub SavesPrivate : Base → List ℕ → List ℕ → Type 0
 SavesPrivate b v path = (text : List ℕ) → save_deed v path text (at b v path) ≡ deeds.Put v path text

@@ -14,5 +14,5 @@ mod stamps;
 mod views;
 
 pub use decisions::decide;
-pub use room::ROW_LIMIT;
 pub use stamps::Stamp;
+pub use view_lookup::ROW_LIMIT;

@@ -5,9 +5,7 @@ ghost use Rattle.legal_history.specs.Decisions.{Scene, needs_room};
 ghost use Rattle.checkout_desk.specs.Deciding.{room_of};
 
 use cc_names::refusals::Refusal;
-
-/// The most rows that a base may have, row 0 included.
-pub const ROW_LIMIT: u64 = 4_000_000;
+use view_lookup::ROW_LIMIT;
 
 /// The refusal of one more row where there is no room. It names the rows of the base and the reserved ones, or the
 /// limit where these are more.

@@ -79,7 +79,7 @@ impl Rows {
         self.rows.len()
     }
 
-    /// All of them, as rows in which to look things up. Takes no time.
+    /// All of them, as rows in which to look things up. Takes constant time.
     pub fn all(&self) -> FirstRows<'_>
         ensures { result ≡ self.now.rows }
     {
@@ -148,7 +148,7 @@ fn deed_on<'a>(rows: &'a [Row], number: u64, thing: Thing<'_>) -> Option<&'a Dee
     }
 }
 
-/// The first rows of a base, `count` of them with row 0. Takes no time.
+/// The first rows of a base, `count` of them with row 0. Takes constant time.
 pub fn first_rows<'a>(rows: &FirstRows<'a>, count: u64) -> FirstRows<'a>
     ensures first { reverse result ≡ first_rows count (reverse rows.now) }
     ensures unversioned { is_unversioned (reverse rows.now) ≡ true → is_unversioned (reverse result) ≡ true }

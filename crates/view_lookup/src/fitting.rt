@@ -16,7 +16,7 @@ use cc_names::paths::Path;
 use cc_names::rows::{Deed, ReadOf, Row};
 
 /// The most rows that a base may have, row 0 included.
-const ROW_LIMIT: usize = 4_000_000;
+pub const ROW_LIMIT: u64 = 4_000_000;
 
 /// Whether a record may name a row of this deed as the one that made the text at a path.
 fn makes_text(path: &Path, deed: &Deed) -> bool
@@ -74,5 +74,5 @@ pub fn fits(rows: &FirstRows<'_>, row: &Row) -> bool
     ensures fits { result ≡ fits (reverse rows.now) row.now.deed }
     ensures unversioned { is_unversioned (reverse (rows.now ++ row.now ∷ [])) ≡ true }
 {
-    rows.len() < ROW_LIMIT - 1 && deed_fits(rows, row.deed())
+    rows.len() < ROW_LIMIT as usize - 1 && deed_fits(rows, row.deed())
 }

@@ -20,7 +20,7 @@ mod things;
 mod views;
 
 pub use bases::{FirstRows, Rows, first_rows};
-pub use fitting::fits;
+pub use fitting::{ROW_LIMIT, fits};
 pub use objects::held;
 pub use seen::{at, file_at, is_directory};
 pub use texts::{row_at, text_at, text_of};

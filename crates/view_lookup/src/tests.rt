@@ -168,20 +168,22 @@ fn seven_rows(alloc: Global) -> Result<Rows, Fail>
     base_of(alloc, Vec::from_array(alloc, rows)?)
 }
 
-/// What a view sees at a path, what it holds there, and the text of the file.
+/// What a view sees at a path: what stands there, the row of the file, the object that it holds, and the text.
 fn looked_up<'a>(
     rt: &impl Abort,
     rows: &FirstRows<'a>,
     view: &Name,
     path: &Path,
-) -> (Seen, Option<u64>, Option<&'a [u8]>)
+) -> (Seen, Option<u64>, Option<u64>, Option<&'a [u8]>)
     requires { is_unversioned (reverse rows.now) ≡ true }
 {
     assert!(rt; view_row(rows, view).is_some());
-    let seen = at(rows, view, path);
-    let file = file_at(rows, view, path);
-    assert_eq!(rt; file, private(rows, view, path));
-    (seen, held(rows, view, path), text_at(rows, view, path))
+    (
+        at(rows, view, path),
+        file_at(rows, view, path),
+        held(rows, view, path),
+        text_at(rows, view, path),
+    )
 }
 
 const ROOT: Seen = Seen::Element(
@@ -216,10 +218,17 @@ fn views_see_and_hold(rt: HostRuntime) -> Result<(), Fail> {
     for (count, view, bytes, seen, held, text) in SEEN {
         let view = name(alloc, view)?;
         let path = path(alloc, bytes)?;
-        let found = looked_up(&rt, &first_rows(&rows, count), &view, &path);
+        let file = match seen {
+            Seen::Private(row) => Some(row),
+            _ => None,
+        };
+        let rows = first_rows(&rows, count);
+        assert_eq!(rt; private(&rows, &view, &path), file);
+        let found = looked_up(&rt, &rows, &view, &path);
         assert_eq!(rt; found.0, seen);
-        assert_eq!(rt; found.1, held);
-        assert_eq!(rt; found.2, text);
+        assert_eq!(rt; found.1, file);
+        assert_eq!(rt; found.2, held);
+        assert_eq!(rt; found.3, text);
     }
     Ok(())
 }

@@ -16,7 +16,7 @@ use cc_names::paths::Path;
 use cc_names::rows::{Deed, Row};
 use cc_names::texts::Text;
 
-/// The row of this number. Takes no time.
+/// The row of this number. Takes constant time.
 pub fn row_at<'a>(rows: &FirstRows<'a>, number: u64) -> Option<&'a Row>
     ensures { option_copied result ≡ row_at (reverse rows.now) number }
 {

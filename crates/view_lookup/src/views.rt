@@ -10,7 +10,8 @@ use cc_names::names::Name;
 use cc_names::paths::Path;
 use cc_names::rows::Deed;
 
-/// The mkview row with which the view's life began, where the view exists. Takes time linear in the view's name.
+/// The mkview row with which the view's life began, where the view exists. Takes time linear in the view's name, and in the rows
+/// with its key that come behind the one that is found.
 pub fn view_row(rows: &FirstRows<'_>, view: &Name) -> Option<u64>
     ensures { result ≡ view_row (reverse rows.now) view.now }
 {

@@ -1,6 +1,8 @@
 // Sessions that save, and what the source and the sink do.
 
 use super::outcome_of;
+use disk_model::Disk;
+use std::alloc::{AllocError, Global};
 use std::test::Fail;
 
 const SAVES: &str = "phase\nlane a\nmkview v\nsave v in\n|hi\n";
@@ -66,6 +68,31 @@ fn a_source_and_a_sink_that_fail_are_told(rt: HostRuntime) -> Result<(), Fail> {
         assert_eq!(rt; outcome.status.code(), code);
         assert_eq!(rt; outcome.written.as_bytes(), written.as_bytes());
         assert_eq!(rt; outcome.rows, rows);
+    }
+    Ok(())
+}
+
+/// A note of so many bytes, which is a session without a phase.
+fn note_of(alloc: Global, bytes: u32) -> Result<String, AllocError> {
+    let mut text = String::new(alloc);
+    for _ in 0..bytes {
+        text.push('#')?;
+    }
+    Ok(text)
+}
+
+/// The longest text opens its disk by one call; a longer one makes none.
+#[test]
+fn a_text_past_the_limit_is_too_long(rt: HostRuntime) -> Result<(), Fail> {
+    for (bytes, code, written, ticks) in [
+        (16_777_216, 0, "", 1),
+        (16_777_217, 9, "too long\n", 0),
+    ] {
+        let text = note_of(rt.alloc(), bytes)?;
+        let outcome = outcome_of(rt.alloc(), "f run", text.as_str(), &[], &[])?;
+        assert_eq!(rt; outcome.status.code(), code);
+        assert_eq!(rt; outcome.written.as_bytes(), written.as_bytes());
+        assert_eq!(rt; outcome.disk.counts().ticks, ticks);
     }
     Ok(())
 }
