@@ -1,5 +1,5 @@
 -- What a run that was carried out says of the unit's run.
-use Rattle.std.specs.Prelude.{◌≡◌, ℕ, Ok, List}
+use Rattle.std.specs.Prelude.{◌≡◌, ℕ, Ok}
 use Rattle.std.proofs.Common.{ap, sym, ◌∙◌}
 use Rattle.cc_names.specs.declared.units.Unit.{Unit}
 use Rattle.build_script.specs.Ended.{outputs_in, ran_of}
