@@ -2,3 +2,4 @@ pub mod Joins
 pub mod Listing
 pub mod Publishing
 pub mod Rows
+pub mod WorkedPlaces
