@@ -13,8 +13,9 @@ use cc_names::texts::Text;
 use std::alloc::Global;
 use std::fmt;
 
-/// F1: the bytes spell no row. The number is the place of the first field that cannot be read, or of the first byte left
-/// over.
+/// F1: the bytes spell no row. The number is the place, counted from 0, where the first field that cannot be read begins,
+/// or of the first byte left over. A list whose members can all be read and that breaks its rule fails where its count
+/// begins, and a code that the first byte does not have at the code.
 #[derive(Clone, Copy, Debug, PartialEq, Eq)]
 pub struct NotARow(pub u64);
 

@@ -27,8 +27,8 @@ struct Head {
     code: u8,
 }
 
-/// Reads bytes as a row of a deed that a command makes, or answers the place of the first field that cannot be read. Takes
-/// time linear in them.
+/// Reads bytes as a row of a deed that a command makes, or answers the place of the first field that cannot be read, or of
+/// the first byte left over. Takes time linear in them, and for the targets of a publish the square of their number.
 pub fn read(alloc: Global, bytes: &[u8]) -> Result<Row, Or<NotARow>>
     ensures row { IsReadAs result bytes.now }
     ensures place { NamesPlace result bytes.now }
@@ -40,6 +40,7 @@ pub fn read(alloc: Global, bytes: &[u8]) -> Result<Row, Or<NotARow>>
     }
 }
 
+/// The same with the number of the bytes that are left where the reading fails.
 fn read_row(alloc: Global, bytes: &[u8]) -> Result<Row, Or<Unread>>
     ensures row { IsReadAs result bytes.now }
     ensures left { IsLeftOr RowFails result bytes.now }
