@@ -18,13 +18,13 @@ use Rattle.row_form.specs.declared.cursor.Unread.{Unread}
 use Rattle.row_form.proofs.Listing.{peel_list}
 use Rattle.row_form.specs.Peeling.{peel_name, peel_path, peel_text, peel_entry}
 
-peel_paths : (ms ns : List (List ℕ)) (x y : List ℕ) → IsListOf IsBelowRoot ms → IsListOf IsBelowRoot ns → listed text ms ++ x ≡ listed text ns ++ y → (ms ≡ ns) × (x ≡ y)
+pub peel_paths : (ms ns : List (List ℕ)) (x y : List ℕ) → IsListOf IsBelowRoot ms → IsListOf IsBelowRoot ns → listed text ms ++ x ≡ listed text ns ++ y → (ms ≡ ns) × (x ≡ y)
 peel_paths = peel_list (List ℕ) text IsBelowRoot peel_path
 
-peel_texts : (ms ns : List (List ℕ)) (x y : List ℕ) → IsListOf IsText ms → IsListOf IsText ns → listed text ms ++ x ≡ listed text ns ++ y → (ms ≡ ns) × (x ≡ y)
+pub peel_texts : (ms ns : List (List ℕ)) (x y : List ℕ) → IsListOf IsText ms → IsListOf IsText ns → listed text ms ++ x ≡ listed text ns ++ y → (ms ≡ ns) × (x ≡ y)
 peel_texts = peel_list (List ℕ) text IsText peel_text
 
-peel_entries : (ms ns : List ReadOf) (x y : List ℕ) → IsListOf IsEntry ms → IsListOf IsEntry ns → listed entry ms ++ x ≡ listed entry ns ++ y → (ms ≡ ns) × (x ≡ y)
+pub peel_entries : (ms ns : List ReadOf) (x y : List ℕ) → IsListOf IsEntry ms → IsListOf IsEntry ns → listed entry ms ++ x ≡ listed entry ns ++ y → (ms ≡ ns) × (x ≡ y)
 peel_entries = peel_list ReadOf entry IsEntry peel_entry
 
 spread : (v t s e o rest : List ℕ) → (v ++ (t ++ (s ++ (e ++ o)))) ++ rest ≡ v ++ (t ++ (s ++ (e ++ (o ++ rest))))
@@ -55,7 +55,7 @@ module _ (form : ℕ) (view : List ℕ) (old one : List ℕ) (hv : IsName view) 
   after_view v ts s es os rest h e =
       (peel_name view v one (listed text ts ++ (text s ++ (listed entry es ++ (listed text os ++ rest)))) hv h.0.0 (sym first ∙ e ∙ publish_spread v ts s es os rest)).1
 
-  no_targets : NoneAt (listed text) (AreTargetsOf form) one → (deed : Deed) (rest : List ℕ) → IsDeedOf form 17 deed → old ≡ fields_of deed ++ rest → ⊥
+  pub no_targets : NoneAt (listed text) (AreTargetsOf form) one → (deed : Deed) (rest : List ℕ) → IsDeedOf form 17 deed → old ≡ fields_of deed ++ rest → ⊥
   no_targets none (deeds.Publish v ts s es os) rest h e = none ts (text s ++ (listed entry es ++ (listed text os ++ rest))) (h.0.0.1, h.2) (after_view v ts s es os rest h.0 e)
   no_targets none (deeds.Mkview v) rest h e = absurd (omega (arith, h.3))
   no_targets none (deeds.Put v p b) rest h e = absurd (omega (arith, h.3))
@@ -72,7 +72,7 @@ module _ (form : ℕ) (view : List ℕ) (old one : List ℕ) (hv : IsName view) 
     after_targets v ts s es os rest h e =
         peel_paths targets ts two (text s ++ (listed entry es ++ (listed text os ++ rest))) ht.0.0 h.0.1.0 (sym second ∙ after_view v ts s es os rest h e)
 
-    no_script : NoneAt text IsText two → (deed : Deed) (rest : List ℕ) → IsDeedOf form 17 deed → old ≡ fields_of deed ++ rest → ⊥
+    pub no_script : NoneAt text IsText two → (deed : Deed) (rest : List ℕ) → IsDeedOf form 17 deed → old ≡ fields_of deed ++ rest → ⊥
     no_script none (deeds.Publish v ts s es os) rest h e = none s (listed entry es ++ (listed text os ++ rest)) h.0.0.2 (after_targets v ts s es os rest h.0 e).1
     no_script none (deeds.Mkview v) rest h e = absurd (omega (arith, h.3))
     no_script none (deeds.Put v p b) rest h e = absurd (omega (arith, h.3))
@@ -89,7 +89,7 @@ module _ (form : ℕ) (view : List ℕ) (old one : List ℕ) (hv : IsName view) 
       after_script v ts s es os rest h e =
           (peel_text script s three (listed entry es ++ (listed text os ++ rest)) hs h.0.2 (sym third ∙ (after_targets v ts s es os rest h e).1)).1
 
-      no_entries : NoneAt (listed entry) AreEntries three → (deed : Deed) (rest : List ℕ) → IsDeedOf form 17 deed → old ≡ fields_of deed ++ rest → ⊥
+      pub no_entries : NoneAt (listed entry) AreEntries three → (deed : Deed) (rest : List ℕ) → IsDeedOf form 17 deed → old ≡ fields_of deed ++ rest → ⊥
       no_entries none (deeds.Publish v ts s es os) rest h e = none es (listed text os ++ rest) h.0.0.3 (after_script v ts s es os rest h.0 e)
       no_entries none (deeds.Mkview v) rest h e = absurd (omega (arith, h.3))
       no_entries none (deeds.Put v p b) rest h e = absurd (omega (arith, h.3))
@@ -104,7 +104,7 @@ module _ (form : ℕ) (view : List ℕ) (old one : List ℕ) (hv : IsName view) 
       )
 
       module _ (entries : List ReadOf) (four : List ℕ) (he : AreEntries entries) (fourth : three ≡ listed entry entries ++ four) where
-        no_outputs : (count : ℕ) → count ≡ length targets → NoneAt (listed text) (AreOutputsOf count) four → (deed : Deed) (rest : List ℕ) → IsDeedOf form 17 deed → old ≡ fields_of deed ++ rest → ⊥
+        pub no_outputs : (count : ℕ) → count ≡ length targets → NoneAt (listed text) (AreOutputsOf count) four → (deed : Deed) (rest : List ℕ) → IsDeedOf form 17 deed → old ≡ fields_of deed ++ rest → ⊥
         no_outputs count is none (deeds.Publish v ts s es os) rest h e =
             let targets_are = (after_targets v ts s es os rest h.0 e).0 in
             let last = (peel_entries entries es four (listed text os ++ rest) he.0 h.0.0.3.0 (sym fourth ∙ after_script v ts s es os rest h.0 e)).1 in

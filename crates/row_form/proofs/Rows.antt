@@ -69,36 +69,36 @@ is_put (deeds.Mkview view) known code = absurd (omega (arith, code))
 is_put (deeds.Publish view targets script entries outputs) known code = absurd (omega (arith, code))
 is_put _ known code = absurd known
 
-no_put_path : (view : List ℕ) (old new : List ℕ) → IsName view → old ≡ text view ++ new → NoneAt text IsBelowRoot new → (deed : Deed) (rest : List ℕ) → IsDeedOf 1 12 deed
+pub no_put_path : (form : ℕ) (view : List ℕ) (old new : List ℕ) → IsName view → old ≡ text view ++ new → NoneAt text IsBelowRoot new → (deed : Deed) (rest : List ℕ) → IsDeedOf form 12 deed
     → old ≡ fields_of deed ++ rest → ⊥
-no_put_path view old new hv first none (deeds.Put v p b) rest h e =
+no_put_path form view old new hv first none (deeds.Put v p b) rest h e =
     let peeled = peel_text view v new ((text p ++ text b) ++ rest) (name_short view hv) (name_short v h.0.0) (sym first ∙ e ∙ append_assoc (text v) (text p ++ text b) rest) in
     none p (text b ++ rest) h.0.1 (peeled.1 ∙ append_assoc (text p) (text b) rest)
-no_put_path view old new hv first none (deeds.Mkview v) rest h e = absurd (omega (arith, h.3))
-no_put_path view old new hv first none (deeds.Publish v ts s es os) rest h e = absurd (omega (arith, h.3))
-no_put_path view old new hv first none _ rest h e = absurd h.1
+no_put_path form view old new hv first none (deeds.Mkview v) rest h e = absurd (omega (arith, h.3))
+no_put_path form view old new hv first none (deeds.Publish v ts s es os) rest h e = absurd (omega (arith, h.3))
+no_put_path form view old new hv first none _ rest h e = absurd h.1
 
 pub put_without_path : (fault : Or Unread) (view : List ℕ) (old new left : List ℕ) → IsName view → old ≡ text view ++ new
     → ReadsOr {A = List ℕ} text IsBelowRoot (Err fault) new left → ReadsAllOr fields_of (IsDeedOf 1 12) PutFails (Err fault) old left
 put_without_path NoMemory view old new left hv first none = tt
 put_without_path (Is unread) view old new left hv first none =
-    (λ deed rest h e. no_put_path view old new hv first none.0 deed rest h e, (new, inr (view, new, hv, first, inl (refl, none.0)), none.1))
+    (λ deed rest h e. no_put_path 1 view old new hv first none.0 deed rest h e, (new, inr (view, new, hv, first, inl (refl, none.0)), none.1))
 
-no_put_text : (view path : List ℕ) (old one two : List ℕ) → IsName view → old ≡ text view ++ one → IsBelowRoot path → one ≡ text path ++ two → NoneAt text IsText two
-    → (deed : Deed) (rest : List ℕ) → IsDeedOf 1 12 deed → old ≡ fields_of deed ++ rest → ⊥
-no_put_text view path old one two hv first hp second none (deeds.Put v p b) rest h e =
+pub no_put_text : (form : ℕ) (view path : List ℕ) (old one two : List ℕ) → IsName view → old ≡ text view ++ one → IsBelowRoot path → one ≡ text path ++ two → NoneAt text IsText two
+    → (deed : Deed) (rest : List ℕ) → IsDeedOf form 12 deed → old ≡ fields_of deed ++ rest → ⊥
+no_put_text form view path old one two hv first hp second none (deeds.Put v p b) rest h e =
     let peeled = peel_text view v one ((text p ++ text b) ++ rest) (name_short view hv) (name_short v h.0.0) (sym first ∙ e ∙ append_assoc (text v) (text p ++ text b) rest) in
     let more = peel_text path p two (text b ++ rest) (path_short path hp.0) (path_short p h.0.1.0) (sym second ∙ peeled.1 ∙ append_assoc (text p) (text b) rest) in
     none b rest h.0.2 more.1
-no_put_text view path old one two hv first hp second none (deeds.Mkview v) rest h e = absurd (omega (arith, h.3))
-no_put_text view path old one two hv first hp second none (deeds.Publish v ts s es os) rest h e = absurd (omega (arith, h.3))
-no_put_text view path old one two hv first hp second none _ rest h e = absurd h.1
+no_put_text form view path old one two hv first hp second none (deeds.Mkview v) rest h e = absurd (omega (arith, h.3))
+no_put_text form view path old one two hv first hp second none (deeds.Publish v ts s es os) rest h e = absurd (omega (arith, h.3))
+no_put_text form view path old one two hv first hp second none _ rest h e = absurd h.1
 
 pub put_without_text : (fault : Or Unread) (view path : List ℕ) (old one two left : List ℕ) → IsName view → old ≡ text view ++ one → IsBelowRoot path → one ≡ text path ++ two
     → ReadsOr {A = List ℕ} text IsText (Err fault) two left → ReadsAllOr fields_of (IsDeedOf 1 12) PutFails (Err fault) old left
 put_without_text NoMemory view path old one two left hv first hp second none = tt
 put_without_text (Is unread) view path old one two left hv first hp second none =
-    (λ deed rest h e. no_put_text view path old one two hv first hp second none.0 deed rest h e, (two, inr (view, one, hv, first, inr (path, two, hp, second, (refl, none.0))), none.1))
+    (λ deed rest h e. no_put_text 1 view path old one two hv first hp second none.0 deed rest h e, (two, inr (view, one, hv, first, inr (path, two, hp, second, (refl, none.0))), none.1))
 
 -- what follows the spelling of a deed is told by it
 pub same_rest : (form code : ℕ) (d e : Deed) (x y : List ℕ) → IsDeedOf form code d → IsDeedOf form code e → fields_of d ++ x ≡ fields_of e ++ y → x ≡ y
@@ -139,7 +139,7 @@ row_head row formed known = let f = known_form row.deed known in (f.0, formed.ta
 pub row_splits : (row : Plain) → spelled row ≡ head_bytes (head_of row) ++ fields_of row.deed
 row_splits row = refl
 
-peel_head : (g h : Head) (x y : List ℕ) → head_bytes g ++ x ≡ head_bytes h ++ y → (g.form ≡ h.form) × (g.code ≡ h.code) × (x ≡ y)
+pub peel_head : (g h : Head) (x y : List ℕ) → head_bytes g ++ x ≡ head_bytes h ++ y → (g.form ≡ h.form) × (g.code ≡ h.code) × (x ≡ y)
 peel_head g h x y e =
     let f = fronts (head_bytes g) (head_bytes h) x y refl e in
     (ap (λ bytes. get_or bytes 0 0) f.0, ap (λ bytes. get_or bytes 21 0) f.0, f.1)
@@ -148,7 +148,7 @@ pub no_head : (bytes : List ℕ) → NoneAt head_bytes IsHead bytes → (row : P
 no_head bytes none row formed known e = none (head_of row) (fields_of row.deed) (row_head row formed known) e
 
 -- the row's deed is one of the head that was read, and its fields are all that follows
-deed_of : (head : Head) (bytes new : List ℕ) → bytes ≡ head_bytes head ++ new → (row : Plain) → IsFormed row → IsKnown row.deed → bytes ≡ spelled row
+pub deed_of : (head : Head) (bytes new : List ℕ) → bytes ≡ head_bytes head ++ new → (row : Plain) → IsFormed row → IsKnown row.deed → bytes ≡ spelled row
     → IsDeedOf head.form head.code row.deed × (new ≡ fields_of row.deed ++ [])
 deed_of head bytes new first row formed known e =
     let peeled = peel_head head (head_of row) new (fields_of row.deed) (sym first ∙ e) in
