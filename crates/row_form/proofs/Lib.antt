@@ -1,3 +1,4 @@
+pub mod Failing
 pub mod Joins
 pub mod Listing
 pub mod OnePlace

@@ -1,9 +1,11 @@
 -- Bytes fail at one place at most, and bytes that fail spell no row.
-use Rattle.std.proofs.Common.{◌≡◌, ◌⊎◌, ℕ, List, [], ◌∷◌, ◌++◌, length, refl, sym, ◌∙◌, ap, subst, inl, inr, arith}
+use Rattle.std.proofs.Common.{Err, ◌≡◌, ◌⊎◌, ℕ, List, [], ◌∷◌, ◌++◌, length, refl, sym, ◌∙◌, ap, subst, inl, inr, arith}
 use Rattle.std.proofs.lemmas.List.{append_assoc}
 use Rattle.std.specs.List.{flat_map, AllByRecursion}
 use Rattle.cc_names.specs.Formed.{Plain, IsFormed, IsWord, IsLong, IsText, IsBelowRoot, IsTag, IsEntry, IsListOf, AreEntries}
 use Rattle.cc_names.specs.Names.{IsName}
+use Rattle.cc_names.specs.declared.memory.Or.{Or}
+use Rattle.cc_names.specs.declared.memory.Or.TheVariants.{NoMemory, Is}
 use Rattle.cc_names.specs.declared.rows.Deed.{Deed}
 use Rattle.cc_names.specs.declared.rows.Deed.TheVariants as deeds
 use Rattle.cc_names.specs.declared.rows.ReadOf.{ReadOf}
@@ -12,9 +14,10 @@ use Rattle.row_form.specs.Fields.{byte, word, long, text, listed, entry}
 use Rattle.row_form.specs.Heads.{tag_bytes, head_bytes, IsHead, IsDeedOf}
 use Rattle.row_form.specs.Peeling.{peel_byte, peel_word, peel_long, peel_text, peel_name, peel_path, peel_entry, fronts}
 use Rattle.row_form.specs.Places.{FieldFails, Behind, FieldThen, TagFails, TailFails, HeadFails, EntryFails, MemberFails, MembersFail, ListFails, TargetsFail, EntriesFail, OutputsFail, PutFails, RecordFails, PublishFails, DeedFails, LeftOver, RowFails, IsFaultAt}
-use Rattle.row_form.specs.Reading.{NoneAt, IsForm, IsMoment, IsCodeOf, IsKnown}
+use Rattle.row_form.specs.Reading.{IsLeftOr, IsReadAs, NoneAt, IsForm, IsMoment, IsCodeOf, IsKnown}
 use Rattle.row_form.specs.Spelled.{fields_of, spelled}
 use Rattle.row_form.specs.Tested.{AreTargetsOf, AreOutputsOf}
+use Rattle.row_form.specs.declared.cursor.Unread.{Unread}
 use Rattle.row_form.specs.declared.reading.Head.{Head}
 use Rattle.row_form.proofs.Listing.{none_list, none_of_rule}
 use Rattle.row_form.proofs.Publishing.{peel_paths, peel_entries, no_targets, no_script, no_entries, no_outputs, publish_spread}
@@ -225,6 +228,11 @@ no_row_of bytes a (inl h) row formed known e = no_head bytes (head_none bytes a 
 no_row_of bytes a (inr (head, rest, good, first, inl h)) row formed known e =
     let is = deed_of head bytes rest first row formed known e in deed_none head.form head.code rest a h row.deed [] is.0 is.1
 no_row_of bytes a (inr (head, rest, good, first, inr (deed, more, fine, second, left))) row formed known e = too_many head deed bytes rest more first fine second left.1 row formed known e
+
+-- what is left of bytes that fail is left of no row
+pub left_of_none : (fault : Or Unread) (bytes : List ℕ) → IsLeftOr {A = Plain} RowFails (Err fault) bytes → IsReadAs (Err fault) bytes
+left_of_none NoMemory bytes h = tt
+left_of_none (Is unread) bytes h = no_row_of bytes h.0 h.1
 
 pub no_row : (bytes : List ℕ) (place : ℕ) → IsFaultAt bytes place → (row : Plain) → IsFormed row → IsKnown row.deed → bytes ≡ spelled row → ⊥
 no_row bytes place h = no_row_of bytes h.0 h.1

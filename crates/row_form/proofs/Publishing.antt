@@ -1,20 +1,16 @@
 -- A publish: where one of its fields is none, it is none.
-use Rattle.std.proofs.Common.{◌≡◌, ℕ, Err, List, ◌++◌, length, refl, sym, ◌∙◌, ap, subst, inl, inr, arith}
+use Rattle.std.proofs.Common.{◌≡◌, ℕ, List, ◌++◌, length, sym, ◌∙◌, ap, arith}
 use Rattle.std.proofs.lemmas.List.{append_assoc}
 use Rattle.cc_names.specs.Formed.{IsText, IsBelowRoot, IsEntry, IsListOf, AreEntries, IsDeedFormed}
 use Rattle.cc_names.specs.Names.{IsName}
-use Rattle.cc_names.specs.declared.memory.Or.{Or}
-use Rattle.cc_names.specs.declared.memory.Or.TheVariants.{NoMemory, Is}
 use Rattle.cc_names.specs.declared.rows.Deed.{Deed}
 use Rattle.cc_names.specs.declared.rows.Deed.TheVariants as deeds
 use Rattle.cc_names.specs.declared.rows.ReadOf.{ReadOf}
 use Rattle.row_form.specs.Fields.{text, listed, entry}
 use Rattle.row_form.specs.Heads.{IsDeedOf}
-use Rattle.row_form.specs.Places.{TargetsFail, EntriesFail, OutputsFail, PublishFails}
-use Rattle.row_form.specs.Reading.{NoneAt, ReadsOr, ReadsAllOr}
+use Rattle.row_form.specs.Reading.{NoneAt}
 use Rattle.row_form.specs.Spelled.{fields_of}
 use Rattle.row_form.specs.Tested.{AreTargetsOf, AreOutputsOf}
-use Rattle.row_form.specs.declared.cursor.Unread.{Unread}
 use Rattle.row_form.proofs.Listing.{peel_list}
 use Rattle.row_form.specs.Peeling.{peel_name, peel_path, peel_text, peel_entry}
 
@@ -61,11 +57,6 @@ module _ (form : ℕ) (view : List ℕ) (old one : List ℕ) (hv : IsName view) 
   no_targets none (deeds.Put v p b) rest h e = absurd (omega (arith, h.3))
   no_targets none _ rest h e = absurd h.1
 
-  pub without_targets : (fault : Or Unread) (left : List ℕ) → ReadsAllOr {A = List (List ℕ)} (listed text) (AreTargetsOf form) (TargetsFail form) (Err fault) one left
-      → ReadsAllOr fields_of (IsDeedOf form 17) (PublishFails form) (Err fault) old left
-  without_targets NoMemory left none = tt
-  without_targets (Is unread) left none = (λ deed rest h e. no_targets none.0 deed rest h e, (none.1.0, inr (view, one, hv, first, inl none.1.1), none.1.2))
-
   module _ (targets : List (List ℕ)) (two : List ℕ) (ht : AreTargetsOf form targets) (second : one ≡ listed text targets ++ two) where
     after_targets : (v : List ℕ) (ts : List (List ℕ)) (s : List ℕ) (es : List ReadOf) (os : List (List ℕ)) (rest : List ℕ) → IsDeedFormed (deeds.Publish v ts s es os)
         → old ≡ fields_of (deeds.Publish v ts s es os) ++ rest → (targets ≡ ts) × (two ≡ text s ++ (listed entry es ++ (listed text os ++ rest)))
@@ -77,11 +68,6 @@ module _ (form : ℕ) (view : List ℕ) (old one : List ℕ) (hv : IsName view) 
     no_script none (deeds.Mkview v) rest h e = absurd (omega (arith, h.3))
     no_script none (deeds.Put v p b) rest h e = absurd (omega (arith, h.3))
     no_script none _ rest h e = absurd h.1
-
-    pub without_script : (fault : Or Unread) (left : List ℕ) → ReadsOr {A = List ℕ} text IsText (Err fault) two left → ReadsAllOr fields_of (IsDeedOf form 17) (PublishFails form) (Err fault) old left
-    without_script NoMemory left none = tt
-    without_script (Is unread) left none =
-        (λ deed rest h e. no_script none.0 deed rest h e, (two, inr (view, one, hv, first, inr (targets, two, ht, second, inl (refl, none.0))), none.1))
 
     module _ (script : List ℕ) (three : List ℕ) (hs : IsText script) (third : two ≡ text script ++ three) where
       after_script : (v : List ℕ) (ts : List (List ℕ)) (s : List ℕ) (es : List ReadOf) (os : List (List ℕ)) (rest : List ℕ) → IsDeedFormed (deeds.Publish v ts s es os)
@@ -95,14 +81,6 @@ module _ (form : ℕ) (view : List ℕ) (old one : List ℕ) (hv : IsName view) 
       no_entries none (deeds.Put v p b) rest h e = absurd (omega (arith, h.3))
       no_entries none _ rest h e = absurd h.1
 
-      pub without_entries : (fault : Or Unread) (left : List ℕ) → ReadsAllOr {A = List ReadOf} (listed entry) AreEntries EntriesFail (Err fault) three left
-          → ReadsAllOr fields_of (IsDeedOf form 17) (PublishFails form) (Err fault) old left
-      without_entries NoMemory left none = tt
-      without_entries (Is unread) left none = (
-        λ deed rest h e. no_entries none.0 deed rest h e,
-        (none.1.0, inr (view, one, hv, first, inr (targets, two, ht, second, inr (script, three, hs, third, inl none.1.1))), none.1.2),
-      )
-
       module _ (entries : List ReadOf) (four : List ℕ) (he : AreEntries entries) (fourth : three ≡ listed entry entries ++ four) where
         pub no_outputs : (count : ℕ) → count ≡ length targets → NoneAt (listed text) (AreOutputsOf count) four → (deed : Deed) (rest : List ℕ) → IsDeedOf form 17 deed → old ≡ fields_of deed ++ rest → ⊥
         no_outputs count is none (deeds.Publish v ts s es os) rest h e =
@@ -112,12 +90,3 @@ module _ (form : ℕ) (view : List ℕ) (old one : List ℕ) (hv : IsName view) 
         no_outputs count is none (deeds.Mkview v) rest h e = absurd (omega (arith, h.3))
         no_outputs count is none (deeds.Put v p b) rest h e = absurd (omega (arith, h.3))
         no_outputs count is none _ rest h e = absurd h.1
-
-        pub without_outputs : (fault : Or Unread) (count : ℕ) (left : List ℕ) → count ≡ length targets → ReadsAllOr {A = List (List ℕ)} (listed text) (AreOutputsOf count) (OutputsFail count) (Err fault) four left
-            → ReadsAllOr fields_of (IsDeedOf form 17) (PublishFails form) (Err fault) old left
-        without_outputs NoMemory count left is none = tt
-        without_outputs (Is unread) count left is none =
-            let fails = subst (λ n. OutputsFail n four none.1.0) is none.1.1 in (
-              λ deed rest h e. no_outputs count is none.0 deed rest h e,
-              (none.1.0, inr (view, one, hv, first, inr (targets, two, ht, second, inr (script, three, hs, third, inr (entries, four, he, fourth, fails)))), none.1.2),
-            )

@@ -11,8 +11,8 @@ use Rattle.cc_names.specs.declared.rows.Tag.{Tag}
 use Rattle.cc_names.specs.declared.rows.Deed.TheVariants as deeds
 use Rattle.row_form.specs.Fields.{byte, word, long, text}
 use Rattle.row_form.specs.Heads.{tag_bytes, head_bytes, IsHead, head_of, IsDeedOf}
-use Rattle.row_form.specs.Places.{PutFails, DeedFails, RowFails}
-use Rattle.row_form.specs.Reading.{NoneAt, ReadsOr, ReadsAllOr, IsLeftOr, IsKnown, IsReadAs, IsForm, IsMoment, IsCodeOf}
+use Rattle.row_form.specs.Places.{DeedFails, RowFails}
+use Rattle.row_form.specs.Reading.{NoneAt, ReadsAllOr, IsLeftOr, IsKnown, IsForm, IsMoment, IsCodeOf}
 use Rattle.row_form.specs.Spelled.{fields_of, code_of, first_byte, form_of, spelled}
 use Rattle.row_form.specs.declared.cursor.Unread.{Unread}
 use Rattle.row_form.specs.declared.reading.Head.{Head}
@@ -78,12 +78,6 @@ no_put_path form view old new hv first none (deeds.Mkview v) rest h e = absurd (
 no_put_path form view old new hv first none (deeds.Publish v ts s es os) rest h e = absurd (omega (arith, h.3))
 no_put_path form view old new hv first none _ rest h e = absurd h.1
 
-pub put_without_path : (fault : Or Unread) (view : List ℕ) (old new left : List ℕ) → IsName view → old ≡ text view ++ new
-    → ReadsOr {A = List ℕ} text IsBelowRoot (Err fault) new left → ReadsAllOr fields_of (IsDeedOf 1 12) PutFails (Err fault) old left
-put_without_path NoMemory view old new left hv first none = tt
-put_without_path (Is unread) view old new left hv first none =
-    (λ deed rest h e. no_put_path 1 view old new hv first none.0 deed rest h e, (new, inr (view, new, hv, first, inl (refl, none.0)), none.1))
-
 pub no_put_text : (form : ℕ) (view path : List ℕ) (old one two : List ℕ) → IsName view → old ≡ text view ++ one → IsBelowRoot path → one ≡ text path ++ two → NoneAt text IsText two
     → (deed : Deed) (rest : List ℕ) → IsDeedOf form 12 deed → old ≡ fields_of deed ++ rest → ⊥
 no_put_text form view path old one two hv first hp second none (deeds.Put v p b) rest h e =
@@ -93,12 +87,6 @@ no_put_text form view path old one two hv first hp second none (deeds.Put v p b)
 no_put_text form view path old one two hv first hp second none (deeds.Mkview v) rest h e = absurd (omega (arith, h.3))
 no_put_text form view path old one two hv first hp second none (deeds.Publish v ts s es os) rest h e = absurd (omega (arith, h.3))
 no_put_text form view path old one two hv first hp second none _ rest h e = absurd h.1
-
-pub put_without_text : (fault : Or Unread) (view path : List ℕ) (old one two left : List ℕ) → IsName view → old ≡ text view ++ one → IsBelowRoot path → one ≡ text path ++ two
-    → ReadsOr {A = List ℕ} text IsText (Err fault) two left → ReadsAllOr fields_of (IsDeedOf 1 12) PutFails (Err fault) old left
-put_without_text NoMemory view path old one two left hv first hp second none = tt
-put_without_text (Is unread) view path old one two left hv first hp second none =
-    (λ deed rest h e. no_put_text 1 view path old one two hv first hp second none.0 deed rest h e, (two, inr (view, one, hv, first, inr (path, two, hp, second, (refl, none.0))), none.1))
 
 -- what follows the spelling of a deed is told by it
 pub same_rest : (form code : ℕ) (d e : Deed) (x y : List ℕ) → IsDeedOf form code d → IsDeedOf form code e → fields_of d ++ x ≡ fields_of e ++ y → x ≡ y
@@ -154,16 +142,10 @@ deed_of head bytes new first row formed known e =
     let peeled = peel_head head (head_of row) new (fields_of row.deed) (sym first ∙ e) in
     ((formed.deed, known, sym peeled.0, sym peeled.1), peeled.2 ∙ sym (append-nil (fields_of row.deed)))
 
-pub no_deed : (fault : Or Unread) (head : Head) (bytes new left : List ℕ) → bytes ≡ head_bytes head ++ new
-    → ReadsAllOr fields_of (IsDeedOf head.form head.code) (DeedFails head.form head.code) (Err fault) new left → IsReadAs (Err fault) bytes
-no_deed NoMemory head bytes new left first none = tt
-no_deed (Is unread) head bytes new left first none = λ row formed known e.
-    let is = deed_of head bytes new first row formed known e in none.0 row.deed [] is.0 is.1
-
 pub deed_left : (fault : Or Unread) (head : Head) (bytes new left : List ℕ) → IsHead head → bytes ≡ head_bytes head ++ new
     → ReadsAllOr fields_of (IsDeedOf head.form head.code) (DeedFails head.form head.code) (Err fault) new left → IsLeftOr {A = Plain} RowFails (Err fault) bytes
 deed_left NoMemory head bytes new left good first none = tt
-deed_left (Is unread) head bytes new left good first none = (none.1.0, inr (head, new, good, first, inl none.1.1), none.1.2)
+deed_left (Is unread) head bytes new left good first none = (none.0, inr (head, new, good, first, inl none.1), none.2)
 
 pub too_many : (head : Head) (deed : Deed) (bytes one two : List ℕ) → bytes ≡ head_bytes head ++ one → IsDeedOf head.form head.code deed → one ≡ fields_of deed ++ two → two ≢ []
     → (row : Plain) → IsFormed row → IsKnown row.deed → bytes ≡ spelled row → ⊥

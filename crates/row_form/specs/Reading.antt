@@ -52,12 +52,12 @@ IsLeft Fails bytes left = (at : List ℕ) × Fails bytes at × (left ≡ length 
 -- the same of what has several fields, and fails where one of them does
 abbrev pub ReadsAll : {A : Type 0} → (A → List ℕ) → (A → Type 0) → (List ℕ → List ℕ → Type 0) → Result A Unread → List ℕ → List ℕ → Type 0
 ReadsAll spell Good Fails (Ok value) old new = Good value × (old ≡ spell value ++ new)
-ReadsAll spell Good Fails (Err unread) old new = NoneAt spell Good old × IsLeft Fails old unread.left
+ReadsAll spell Good Fails (Err unread) old new = IsLeft Fails old unread.left
 
 abbrev pub ReadsAllOr : {A : Type 0} → (A → List ℕ) → (A → Type 0) → (List ℕ → List ℕ → Type 0) → Result A (Or Unread) → List ℕ → List ℕ → Type 0
 ReadsAllOr spell Good Fails (Ok value) old new = Good value × (old ≡ spell value ++ new)
 ReadsAllOr spell Good Fails (Err NoMemory) old new = Unit {0}
-ReadsAllOr spell Good Fails (Err (Is unread)) old new = NoneAt spell Good old × IsLeft Fails old unread.left
+ReadsAllOr spell Good Fails (Err (Is unread)) old new = IsLeft Fails old unread.left
 
 -- where reading bytes as a row fails, so many are left
 abbrev pub IsLeftOr : {A : Type 0} → (List ℕ → List ℕ → Type 0) → Result A (Or Unread) → List ℕ → Type 0

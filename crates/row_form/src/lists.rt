@@ -27,21 +27,14 @@ pub(crate) trait Member: Drop + Sized {
 
     fn read(alloc: Global, cursor: &mut Cursor<'_>) -> Result<Self, Or<Unread>>
         ensures { ReadsAllOr spelled formed fails result cursor.old.rest.now cursor.new.rest.now };
-
-    /// A member's spelling tells the member and what follows it.
-    ghost peel: { (a b : Self) (x y : List ℕ) → formed a → formed b → spelled a ++ x ≡ spelled b ++ y → (a ≡ b) × (x ≡ y) };
 }
 
 impl Member for Path {
-    ghost use Rattle.row_form.specs.Peeling.{peel_path};
-
     ghost spelled = { text };
 
     ghost formed = { IsBelowRoot };
 
     ghost fails = { FieldFails text IsBelowRoot };
-
-    ghost peel = { peel_path };
 
     fn read(alloc: Global, cursor: &mut Cursor<'_>) -> Result<Path, Or<Unread>> {
         cursor.path(alloc)
@@ -49,15 +42,11 @@ impl Member for Path {
 }
 
 impl Member for Text {
-    ghost use Rattle.row_form.specs.Peeling.{peel_text};
-
     ghost spelled = { text };
 
     ghost formed = { IsText };
 
     ghost fails = { FieldFails text IsText };
-
-    ghost peel = { peel_text };
 
     fn read(alloc: Global, cursor: &mut Cursor<'_>) -> Result<Text, Or<Unread>> {
         cursor.text(alloc)
@@ -65,15 +54,11 @@ impl Member for Text {
 }
 
 impl Member for ReadOf {
-    ghost use Rattle.row_form.specs.Peeling.{peel_entry};
-
     ghost spelled = { entry };
 
     ghost formed = { IsEntry };
 
     ghost fails = { EntryFails };
-
-    ghost peel = { peel_entry };
 
     fn read(alloc: Global, cursor: &mut Cursor<'_>) -> Result<ReadOf, Or<Unread>> {
         let path = match cursor.path(alloc) {
