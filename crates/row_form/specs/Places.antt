@@ -56,7 +56,7 @@ abbrev pub RuleFails : {A : Type 0} → (A → List ℕ) → (A → Type 0) → 
 RuleFails {A} spell Good Rule bytes at =
     (at ≡ bytes) × (members : List A) × (rest : List ℕ) × IsListOf Good members × (bytes ≡ listed spell members ++ rest) × (Rule members → ⊥)
 
--- A list. Where a member cannot be read the list fails there, whatever its count: its rule is asked of lists that are whole.
+-- A list. Where a member cannot be read it fails at that member, also where its count is wrong: its rule is asked of whole lists.
 abbrev pub ListFails : {A : Type 0} → (A → List ℕ) → (A → Type 0) → (List ℕ → List ℕ → Type 0) → (List A → Type 0) → List ℕ → List ℕ → Type 0
 ListFails spell Good Fails Rule bytes at = MembersFail spell Good Fails bytes at ⊎ RuleFails spell Good Rule bytes at
 
