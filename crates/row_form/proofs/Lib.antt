@@ -1,4 +1,7 @@
+pub mod Failing
 pub mod Joins
 pub mod Listing
+pub mod OnePlace
 pub mod Publishing
 pub mod Rows
+pub mod WorkedPlaces

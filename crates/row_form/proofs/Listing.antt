@@ -1,5 +1,5 @@
 -- Lists as they are spelled, member by member, and the rules of a publish's lists.
-use Rattle.std.proofs.Common.{◌≡◌, ◌<◌, ℕ, Bool, true, false, not, ◌&&◌, ◌||◌, Err, List, [], ◌∷◌, ◌++◌, length, map, refl, sym, ◌∙◌, ap, subst, arith}
+use Rattle.std.proofs.Common.{◌≡◌, ◌<◌, ℕ, Bool, true, false, not, ◌&&◌, ◌||◌, List, [], ◌∷◌, ◌++◌, length, map, refl, sym, ◌∙◌, ap, subst, arith}
 use Rattle.std.specs.List.{flat_map, list_any, AllByRecursion, IsDistinct}
 use Rattle.std.specs.List.Sorted.{IsStrictlySortedBy}
 use Rattle.std.specs.Str.{bytes_eq}
@@ -10,11 +10,9 @@ use Rattle.std.specs.declared.cmp.Ordering.TheVariants.{Less, Equal, Greater}
 use Rattle.std.proofs.lemmas.Cmp.{nat_list_cmp_total}
 use Rattle.std.proofs.lemmas.List.{append_assoc}
 use Rattle.cc_names.specs.Formed.{IsWord, IsListOf, path_of_entry}
-use Rattle.cc_names.specs.declared.memory.Or.{Or}
-use Rattle.cc_names.specs.declared.memory.Or.TheVariants.{NoMemory, Is}
 use Rattle.cc_names.specs.declared.rows.ReadOf.{ReadOf}
 use Rattle.row_form.specs.Fields.{word, listed}
-use Rattle.row_form.specs.Reading.{NoneAt, ReadsOr}
+use Rattle.row_form.specs.Reading.{NoneAt}
 use Rattle.row_form.specs.Tested.{are_distinct, ascend, ascend_from}
 use Rattle.row_form.specs.Peeling.{peel_word}
 
@@ -37,11 +35,6 @@ module _ (A : Type 0) (spell : A → List ℕ) (Good : A → Type 0)
       let c = peel_word count (length members) (flat_map spell read ++ mid) (flat_map spell members ++ rest) hc h.0
       (sym is ∙ e ∙ append_assoc (word (length members)) (flat_map spell members) rest) in
       none_next read members mid rest hr h.1 (omega (arith, less, c.0)) c.1 none
-
-  pub list_without : {E : Type 0} (fault : Or E) (count : ℕ) (read : List A) (old mid left : List ℕ) → IsWord count → AllByRecursion Good read → length read < count
-      → old ≡ word count ++ (flat_map spell read ++ mid) → ReadsOr {A = A} spell Good (Err fault) mid left → ReadsOr (listed spell) (IsListOf Good) (Err fault) old left
-  list_without NoMemory count read old mid left hc hr less is none = tt
-  list_without (Is fault) count read old mid left hc hr less is none = none_list count read old mid hc hr less is none
 
   peel_members : (ms ns : List A) (x y : List ℕ) → AllByRecursion Good ms → AllByRecursion Good ns → length ms ≡ length ns
       → flat_map spell ms ++ x ≡ flat_map spell ns ++ y → (ms ≡ ns) × (x ≡ y)

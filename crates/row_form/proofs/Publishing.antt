@@ -1,28 +1,26 @@
 -- A publish: where one of its fields is none, it is none.
-use Rattle.std.proofs.Common.{◌≡◌, ℕ, Err, List, ◌++◌, length, sym, ◌∙◌, ap, arith}
+use Rattle.std.proofs.Common.{◌≡◌, ℕ, List, ◌++◌, length, sym, ◌∙◌, ap, arith}
 use Rattle.std.proofs.lemmas.List.{append_assoc}
 use Rattle.cc_names.specs.Formed.{IsText, IsBelowRoot, IsEntry, IsListOf, AreEntries, IsDeedFormed}
 use Rattle.cc_names.specs.Names.{IsName}
-use Rattle.cc_names.specs.declared.memory.Or.{Or}
-use Rattle.cc_names.specs.declared.memory.Or.TheVariants.{NoMemory, Is}
 use Rattle.cc_names.specs.declared.rows.Deed.{Deed}
 use Rattle.cc_names.specs.declared.rows.Deed.TheVariants as deeds
 use Rattle.cc_names.specs.declared.rows.ReadOf.{ReadOf}
 use Rattle.row_form.specs.Fields.{text, listed, entry}
 use Rattle.row_form.specs.Heads.{IsDeedOf}
-use Rattle.row_form.specs.Reading.{NoneAt, ReadsOr}
+use Rattle.row_form.specs.Reading.{NoneAt}
 use Rattle.row_form.specs.Spelled.{fields_of}
 use Rattle.row_form.specs.Tested.{AreTargetsOf, AreOutputsOf}
 use Rattle.row_form.proofs.Listing.{peel_list}
 use Rattle.row_form.specs.Peeling.{peel_name, peel_path, peel_text, peel_entry}
 
-peel_paths : (ms ns : List (List ℕ)) (x y : List ℕ) → IsListOf IsBelowRoot ms → IsListOf IsBelowRoot ns → listed text ms ++ x ≡ listed text ns ++ y → (ms ≡ ns) × (x ≡ y)
+pub peel_paths : (ms ns : List (List ℕ)) (x y : List ℕ) → IsListOf IsBelowRoot ms → IsListOf IsBelowRoot ns → listed text ms ++ x ≡ listed text ns ++ y → (ms ≡ ns) × (x ≡ y)
 peel_paths = peel_list (List ℕ) text IsBelowRoot peel_path
 
-peel_texts : (ms ns : List (List ℕ)) (x y : List ℕ) → IsListOf IsText ms → IsListOf IsText ns → listed text ms ++ x ≡ listed text ns ++ y → (ms ≡ ns) × (x ≡ y)
+pub peel_texts : (ms ns : List (List ℕ)) (x y : List ℕ) → IsListOf IsText ms → IsListOf IsText ns → listed text ms ++ x ≡ listed text ns ++ y → (ms ≡ ns) × (x ≡ y)
 peel_texts = peel_list (List ℕ) text IsText peel_text
 
-peel_entries : (ms ns : List ReadOf) (x y : List ℕ) → IsListOf IsEntry ms → IsListOf IsEntry ns → listed entry ms ++ x ≡ listed entry ns ++ y → (ms ≡ ns) × (x ≡ y)
+pub peel_entries : (ms ns : List ReadOf) (x y : List ℕ) → IsListOf IsEntry ms → IsListOf IsEntry ns → listed entry ms ++ x ≡ listed entry ns ++ y → (ms ≡ ns) × (x ≡ y)
 peel_entries = peel_list ReadOf entry IsEntry peel_entry
 
 spread : (v t s e o rest : List ℕ) → (v ++ (t ++ (s ++ (e ++ o)))) ++ rest ≡ v ++ (t ++ (s ++ (e ++ (o ++ rest))))
@@ -53,16 +51,11 @@ module _ (form : ℕ) (view : List ℕ) (old one : List ℕ) (hv : IsName view) 
   after_view v ts s es os rest h e =
       (peel_name view v one (listed text ts ++ (text s ++ (listed entry es ++ (listed text os ++ rest)))) hv h.0.0 (sym first ∙ e ∙ publish_spread v ts s es os rest)).1
 
-  no_targets : NoneAt (listed text) (AreTargetsOf form) one → (deed : Deed) (rest : List ℕ) → IsDeedOf form 17 deed → old ≡ fields_of deed ++ rest → ⊥
+  pub no_targets : NoneAt (listed text) (AreTargetsOf form) one → (deed : Deed) (rest : List ℕ) → IsDeedOf form 17 deed → old ≡ fields_of deed ++ rest → ⊥
   no_targets none (deeds.Publish v ts s es os) rest h e = none ts (text s ++ (listed entry es ++ (listed text os ++ rest))) (h.0.0.1, h.2) (after_view v ts s es os rest h.0 e)
   no_targets none (deeds.Mkview v) rest h e = absurd (omega (arith, h.3))
   no_targets none (deeds.Put v p b) rest h e = absurd (omega (arith, h.3))
   no_targets none _ rest h e = absurd h.1
-
-  pub without_targets : {E : Type 0} (fault : Or E) (left : List ℕ) → ReadsOr {A = List (List ℕ)} (listed text) (AreTargetsOf form) (Err fault) one left
-      → ReadsOr fields_of (IsDeedOf form 17) (Err fault) old left
-  without_targets NoMemory left none = tt
-  without_targets (Is fault) left none = λ deed rest h e. no_targets none deed rest h e
 
   module _ (targets : List (List ℕ)) (two : List ℕ) (ht : AreTargetsOf form targets) (second : one ≡ listed text targets ++ two) where
     after_targets : (v : List ℕ) (ts : List (List ℕ)) (s : List ℕ) (es : List ReadOf) (os : List (List ℕ)) (rest : List ℕ) → IsDeedFormed (deeds.Publish v ts s es os)
@@ -70,15 +63,11 @@ module _ (form : ℕ) (view : List ℕ) (old one : List ℕ) (hv : IsName view) 
     after_targets v ts s es os rest h e =
         peel_paths targets ts two (text s ++ (listed entry es ++ (listed text os ++ rest))) ht.0.0 h.0.1.0 (sym second ∙ after_view v ts s es os rest h e)
 
-    no_script : NoneAt text IsText two → (deed : Deed) (rest : List ℕ) → IsDeedOf form 17 deed → old ≡ fields_of deed ++ rest → ⊥
+    pub no_script : NoneAt text IsText two → (deed : Deed) (rest : List ℕ) → IsDeedOf form 17 deed → old ≡ fields_of deed ++ rest → ⊥
     no_script none (deeds.Publish v ts s es os) rest h e = none s (listed entry es ++ (listed text os ++ rest)) h.0.0.2 (after_targets v ts s es os rest h.0 e).1
     no_script none (deeds.Mkview v) rest h e = absurd (omega (arith, h.3))
     no_script none (deeds.Put v p b) rest h e = absurd (omega (arith, h.3))
     no_script none _ rest h e = absurd h.1
-
-    pub without_script : {E : Type 0} (fault : Or E) (left : List ℕ) → ReadsOr {A = List ℕ} text IsText (Err fault) two left → ReadsOr fields_of (IsDeedOf form 17) (Err fault) old left
-    without_script NoMemory left none = tt
-    without_script (Is fault) left none = λ deed rest h e. no_script none deed rest h e
 
     module _ (script : List ℕ) (three : List ℕ) (hs : IsText script) (third : two ≡ text script ++ three) where
       after_script : (v : List ℕ) (ts : List (List ℕ)) (s : List ℕ) (es : List ReadOf) (os : List (List ℕ)) (rest : List ℕ) → IsDeedFormed (deeds.Publish v ts s es os)
@@ -86,19 +75,14 @@ module _ (form : ℕ) (view : List ℕ) (old one : List ℕ) (hv : IsName view) 
       after_script v ts s es os rest h e =
           (peel_text script s three (listed entry es ++ (listed text os ++ rest)) hs h.0.2 (sym third ∙ (after_targets v ts s es os rest h e).1)).1
 
-      no_entries : NoneAt (listed entry) AreEntries three → (deed : Deed) (rest : List ℕ) → IsDeedOf form 17 deed → old ≡ fields_of deed ++ rest → ⊥
+      pub no_entries : NoneAt (listed entry) AreEntries three → (deed : Deed) (rest : List ℕ) → IsDeedOf form 17 deed → old ≡ fields_of deed ++ rest → ⊥
       no_entries none (deeds.Publish v ts s es os) rest h e = none es (listed text os ++ rest) h.0.0.3 (after_script v ts s es os rest h.0 e)
       no_entries none (deeds.Mkview v) rest h e = absurd (omega (arith, h.3))
       no_entries none (deeds.Put v p b) rest h e = absurd (omega (arith, h.3))
       no_entries none _ rest h e = absurd h.1
 
-      pub without_entries : {E : Type 0} (fault : Or E) (left : List ℕ) → ReadsOr {A = List ReadOf} (listed entry) AreEntries (Err fault) three left
-          → ReadsOr fields_of (IsDeedOf form 17) (Err fault) old left
-      without_entries NoMemory left none = tt
-      without_entries (Is fault) left none = λ deed rest h e. no_entries none deed rest h e
-
       module _ (entries : List ReadOf) (four : List ℕ) (he : AreEntries entries) (fourth : three ≡ listed entry entries ++ four) where
-        no_outputs : (count : ℕ) → count ≡ length targets → NoneAt (listed text) (AreOutputsOf count) four → (deed : Deed) (rest : List ℕ) → IsDeedOf form 17 deed → old ≡ fields_of deed ++ rest → ⊥
+        pub no_outputs : (count : ℕ) → count ≡ length targets → NoneAt (listed text) (AreOutputsOf count) four → (deed : Deed) (rest : List ℕ) → IsDeedOf form 17 deed → old ≡ fields_of deed ++ rest → ⊥
         no_outputs count is none (deeds.Publish v ts s es os) rest h e =
             let targets_are = (after_targets v ts s es os rest h.0 e).0 in
             let last = (peel_entries entries es four (listed text os ++ rest) he.0 h.0.0.3.0 (sym fourth ∙ after_script v ts s es os rest h.0 e)).1 in
@@ -106,8 +90,3 @@ module _ (form : ℕ) (view : List ℕ) (old one : List ℕ) (hv : IsName view) 
         no_outputs count is none (deeds.Mkview v) rest h e = absurd (omega (arith, h.3))
         no_outputs count is none (deeds.Put v p b) rest h e = absurd (omega (arith, h.3))
         no_outputs count is none _ rest h e = absurd h.1
-
-        pub without_outputs : {E : Type 0} (fault : Or E) (count : ℕ) (left : List ℕ) → count ≡ length targets → ReadsOr {A = List (List ℕ)} (listed text) (AreOutputsOf count) (Err fault) four left
-            → ReadsOr fields_of (IsDeedOf form 17) (Err fault) old left
-        without_outputs NoMemory count left is none = tt
-        without_outputs (Is fault) count left is none = λ deed rest h e. no_outputs count is none deed rest h e

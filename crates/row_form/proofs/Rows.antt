@@ -7,11 +7,14 @@ use Rattle.cc_names.specs.Names.{IsName}
 use Rattle.cc_names.specs.declared.memory.Or.{Or}
 use Rattle.cc_names.specs.declared.memory.Or.TheVariants.{NoMemory, Is}
 use Rattle.cc_names.specs.declared.rows.Deed.{Deed}
+use Rattle.cc_names.specs.declared.rows.Tag.{Tag}
 use Rattle.cc_names.specs.declared.rows.Deed.TheVariants as deeds
 use Rattle.row_form.specs.Fields.{byte, word, long, text}
 use Rattle.row_form.specs.Heads.{tag_bytes, head_bytes, IsHead, head_of, IsDeedOf}
-use Rattle.row_form.specs.Reading.{NoneAt, ReadsOr, IsKnown, IsReadAs, IsForm, IsByte}
+use Rattle.row_form.specs.Places.{DeedFails, RowFails}
+use Rattle.row_form.specs.Reading.{NoneAt, ReadsAllOr, IsLeftOr, IsKnown, IsForm, IsMoment, IsCodeOf}
 use Rattle.row_form.specs.Spelled.{fields_of, code_of, first_byte, form_of, spelled}
+use Rattle.row_form.specs.declared.cursor.Unread.{Unread}
 use Rattle.row_form.specs.declared.reading.Head.{Head}
 use Rattle.row_form.proofs.Publishing.{same_publish_rest}
 use Rattle.row_form.specs.Peeling.{fronts, peel_byte, peel_word, peel_text, name_short, path_short}
@@ -22,18 +25,42 @@ gives_fault {X} {E} r o fault read is_err is_fault gives =
     let P : Result X (Or E) → Type 0 = λ q. Gives q read in
     subst P both gives
 
--- the third number of a tag
+-- the numbers of a tag
+pub no_phase : (old : List ℕ) → NoneAt word IsWord old → NoneAt tag_bytes IsTag old
+no_phase old none = λ tag rest h e. none tag.phase (word tag.lane ++ (word tag.command ++ rest)) h.0 e
+
+pub no_lane : (phase : ℕ) (old one : List ℕ) → IsWord phase → old ≡ word phase ++ one → NoneAt word IsWord one → NoneAt tag_bytes IsTag old
+no_lane phase old one hp first none = λ tag rest h e.
+    let p = peel_word phase tag.phase one (word tag.lane ++ (word tag.command ++ rest)) hp h.0 (sym first ∙ e) in
+    none tag.lane (word tag.command ++ rest) h.1 p.1
+
 pub no_command : (phase lane : ℕ) (old one two : List ℕ) → IsWord phase → old ≡ word phase ++ one → IsWord lane → one ≡ word lane ++ two → NoneAt word IsWord two → NoneAt tag_bytes IsTag old
 no_command phase lane old one two hp first hl second none = λ tag rest h e.
     let p = peel_word phase tag.phase one (word tag.lane ++ (word tag.command ++ rest)) hp h.0 (sym first ∙ e) in
     let l = peel_word lane tag.lane two (word tag.command ++ rest) hl h.1 (sym second ∙ p.1) in
     none tag.command rest h.2 l.1
 
--- the tag behind the first byte
+-- the parts of what stands before a deed's fields
+pub no_form : (old : List ℕ) → NoneAt byte IsForm old → NoneAt head_bytes IsHead old
+no_form old none = λ head rest h e. none head.form (tag_bytes head.tag ++ (long head.moment ++ (byte head.code ++ rest))) h.0 e
+
 pub no_tag : (form : ℕ) (old new : List ℕ) → old ≡ byte form ++ new → NoneAt tag_bytes IsTag new → NoneAt head_bytes IsHead old
 no_tag form old new first none = λ head rest h e.
     let f = peel_byte form head.form new (tag_bytes head.tag ++ (long head.moment ++ (byte head.code ++ rest))) (sym first ∙ e) in
     none head.tag (long head.moment ++ (byte head.code ++ rest)) h.1 f.1
+
+pub no_moment : (form : ℕ) (tag : Tag) (old one two : List ℕ) → old ≡ byte form ++ one → IsTag tag → one ≡ tag_bytes tag ++ two → NoneAt long IsMoment two → NoneAt head_bytes IsHead old
+no_moment form tag old one two first ht second none = λ head rest h e.
+    let f = fronts (byte form ++ tag_bytes tag) (byte head.form ++ tag_bytes head.tag) two (long head.moment ++ (byte head.code ++ rest)) refl
+    (sym (ap (λ l. byte form ++ l) second) ∙ sym first ∙ e) in
+    none head.moment (byte head.code ++ rest) h.2 f.1
+
+pub no_code : (form : ℕ) (tag : Tag) (moment : ℕ) (old one two three : List ℕ) → old ≡ byte form ++ one → one ≡ tag_bytes tag ++ two → two ≡ long moment ++ three
+    → NoneAt byte (IsCodeOf form) three → NoneAt head_bytes IsHead old
+no_code form tag moment old one two three first second third none = λ head rest h e.
+    let f = fronts (byte form ++ (tag_bytes tag ++ long moment)) (byte head.form ++ (tag_bytes head.tag ++ long head.moment)) three (byte head.code ++ rest) refl
+    (sym (ap (λ l. byte form ++ l) (second ∙ ap (λ l. tag_bytes tag ++ l) third)) ∙ sym first ∙ e) in
+    none head.code rest (subst (λ n. IsCodeOf n head.code) (sym (ap (λ bytes. get_or bytes 0 0) f.0)) h.3) f.1
 
 -- a deed that is read
 is_put : (deed : Deed) → IsKnown deed → code_of deed ≡ 12 → (view path bytes : List ℕ) × (deed ≡ deeds.Put view path bytes)
@@ -42,34 +69,24 @@ is_put (deeds.Mkview view) known code = absurd (omega (arith, code))
 is_put (deeds.Publish view targets script entries outputs) known code = absurd (omega (arith, code))
 is_put _ known code = absurd known
 
-no_put_path : (view : List ℕ) (old new : List ℕ) → IsName view → old ≡ text view ++ new → NoneAt text IsBelowRoot new → (deed : Deed) (rest : List ℕ) → IsDeedOf 1 12 deed
+pub no_put_path : (form : ℕ) (view : List ℕ) (old new : List ℕ) → IsName view → old ≡ text view ++ new → NoneAt text IsBelowRoot new → (deed : Deed) (rest : List ℕ) → IsDeedOf form 12 deed
     → old ≡ fields_of deed ++ rest → ⊥
-no_put_path view old new hv first none (deeds.Put v p b) rest h e =
+no_put_path form view old new hv first none (deeds.Put v p b) rest h e =
     let peeled = peel_text view v new ((text p ++ text b) ++ rest) (name_short view hv) (name_short v h.0.0) (sym first ∙ e ∙ append_assoc (text v) (text p ++ text b) rest) in
     none p (text b ++ rest) h.0.1 (peeled.1 ∙ append_assoc (text p) (text b) rest)
-no_put_path view old new hv first none (deeds.Mkview v) rest h e = absurd (omega (arith, h.3))
-no_put_path view old new hv first none (deeds.Publish v ts s es os) rest h e = absurd (omega (arith, h.3))
-no_put_path view old new hv first none _ rest h e = absurd h.1
+no_put_path form view old new hv first none (deeds.Mkview v) rest h e = absurd (omega (arith, h.3))
+no_put_path form view old new hv first none (deeds.Publish v ts s es os) rest h e = absurd (omega (arith, h.3))
+no_put_path form view old new hv first none _ rest h e = absurd h.1
 
-pub put_without_path : {E : Type 0} (fault : Or E) (view : List ℕ) (old new left : List ℕ) → IsName view → old ≡ text view ++ new
-    → ReadsOr {A = List ℕ} text IsBelowRoot (Err fault) new left → ReadsOr fields_of (IsDeedOf 1 12) (Err fault) old left
-put_without_path NoMemory view old new left hv first none = tt
-put_without_path (Is fault) view old new left hv first none = λ deed rest h e. no_put_path view old new hv first none deed rest h e
-
-no_put_text : (view path : List ℕ) (old one two : List ℕ) → IsName view → old ≡ text view ++ one → IsBelowRoot path → one ≡ text path ++ two → NoneAt text IsText two
-    → (deed : Deed) (rest : List ℕ) → IsDeedOf 1 12 deed → old ≡ fields_of deed ++ rest → ⊥
-no_put_text view path old one two hv first hp second none (deeds.Put v p b) rest h e =
+pub no_put_text : (form : ℕ) (view path : List ℕ) (old one two : List ℕ) → IsName view → old ≡ text view ++ one → IsBelowRoot path → one ≡ text path ++ two → NoneAt text IsText two
+    → (deed : Deed) (rest : List ℕ) → IsDeedOf form 12 deed → old ≡ fields_of deed ++ rest → ⊥
+no_put_text form view path old one two hv first hp second none (deeds.Put v p b) rest h e =
     let peeled = peel_text view v one ((text p ++ text b) ++ rest) (name_short view hv) (name_short v h.0.0) (sym first ∙ e ∙ append_assoc (text v) (text p ++ text b) rest) in
     let more = peel_text path p two (text b ++ rest) (path_short path hp.0) (path_short p h.0.1.0) (sym second ∙ peeled.1 ∙ append_assoc (text p) (text b) rest) in
     none b rest h.0.2 more.1
-no_put_text view path old one two hv first hp second none (deeds.Mkview v) rest h e = absurd (omega (arith, h.3))
-no_put_text view path old one two hv first hp second none (deeds.Publish v ts s es os) rest h e = absurd (omega (arith, h.3))
-no_put_text view path old one two hv first hp second none _ rest h e = absurd h.1
-
-pub put_without_text : {E : Type 0} (fault : Or E) (view path : List ℕ) (old one two left : List ℕ) → IsName view → old ≡ text view ++ one → IsBelowRoot path → one ≡ text path ++ two
-    → ReadsOr {A = List ℕ} text IsText (Err fault) two left → ReadsOr fields_of (IsDeedOf 1 12) (Err fault) old left
-put_without_text NoMemory view path old one two left hv first hp second none = tt
-put_without_text (Is fault) view path old one two left hv first hp second none = λ deed rest h e. no_put_text view path old one two hv first hp second none deed rest h e
+no_put_text form view path old one two hv first hp second none (deeds.Mkview v) rest h e = absurd (omega (arith, h.3))
+no_put_text form view path old one two hv first hp second none (deeds.Publish v ts s es os) rest h e = absurd (omega (arith, h.3))
+no_put_text form view path old one two hv first hp second none _ rest h e = absurd h.1
 
 -- what follows the spelling of a deed is told by it
 pub same_rest : (form code : ℕ) (d e : Deed) (x y : List ℕ) → IsDeedOf form code d → IsDeedOf form code e → fields_of d ++ x ≡ fields_of e ++ y → x ≡ y
@@ -98,10 +115,10 @@ form_known (one ∷ []) = inl refl
 form_known (one ∷ two ∷ more) = inr refl
 
 -- what stands before the fields of a row that is read
-known_form : (deed : Deed) → IsKnown deed → IsForm (first_byte deed) × IsByte (code_of deed)
-known_form (deeds.Mkview view) known = (inl refl, omega arith)
-known_form (deeds.Put view path bytes) known = (inl refl, omega arith)
-known_form (deeds.Publish view targets script entries outputs) known = (form_known targets, omega arith)
+known_form : (deed : Deed) → IsKnown deed → IsForm (first_byte deed) × IsCodeOf (first_byte deed) (code_of deed)
+known_form (deeds.Mkview view) known = (inl refl, inr (refl, inl refl))
+known_form (deeds.Put view path bytes) known = (inl refl, inr (refl, inr refl))
+known_form (deeds.Publish view targets script entries outputs) known = (form_known targets, inl refl)
 known_form _ known = absurd known
 
 pub row_head : (row : Plain) → IsFormed row → IsKnown row.deed → IsHead (head_of row)
@@ -110,7 +127,7 @@ row_head row formed known = let f = known_form row.deed known in (f.0, formed.ta
 pub row_splits : (row : Plain) → spelled row ≡ head_bytes (head_of row) ++ fields_of row.deed
 row_splits row = refl
 
-peel_head : (g h : Head) (x y : List ℕ) → head_bytes g ++ x ≡ head_bytes h ++ y → (g.form ≡ h.form) × (g.code ≡ h.code) × (x ≡ y)
+pub peel_head : (g h : Head) (x y : List ℕ) → head_bytes g ++ x ≡ head_bytes h ++ y → (g.form ≡ h.form) × (g.code ≡ h.code) × (x ≡ y)
 peel_head g h x y e =
     let f = fronts (head_bytes g) (head_bytes h) x y refl e in
     (ap (λ bytes. get_or bytes 0 0) f.0, ap (λ bytes. get_or bytes 21 0) f.0, f.1)
@@ -119,17 +136,16 @@ pub no_head : (bytes : List ℕ) → NoneAt head_bytes IsHead bytes → (row : P
 no_head bytes none row formed known e = none (head_of row) (fields_of row.deed) (row_head row formed known) e
 
 -- the row's deed is one of the head that was read, and its fields are all that follows
-deed_of : (head : Head) (bytes new : List ℕ) → bytes ≡ head_bytes head ++ new → (row : Plain) → IsFormed row → IsKnown row.deed → bytes ≡ spelled row
+pub deed_of : (head : Head) (bytes new : List ℕ) → bytes ≡ head_bytes head ++ new → (row : Plain) → IsFormed row → IsKnown row.deed → bytes ≡ spelled row
     → IsDeedOf head.form head.code row.deed × (new ≡ fields_of row.deed ++ [])
 deed_of head bytes new first row formed known e =
     let peeled = peel_head head (head_of row) new (fields_of row.deed) (sym first ∙ e) in
     ((formed.deed, known, sym peeled.0, sym peeled.1), peeled.2 ∙ sym (append-nil (fields_of row.deed)))
 
-pub no_deed : {E : Type 0} (fault : Or E) (head : Head) (bytes new left : List ℕ) → bytes ≡ head_bytes head ++ new
-    → ReadsOr fields_of (IsDeedOf head.form head.code) (Err fault) new left → IsReadAs (Err fault) bytes
-no_deed NoMemory head bytes new left first none = tt
-no_deed (Is fault) head bytes new left first none = λ row formed known e.
-    let is = deed_of head bytes new first row formed known e in none row.deed [] is.0 is.1
+pub deed_left : (fault : Or Unread) (head : Head) (bytes new left : List ℕ) → IsHead head → bytes ≡ head_bytes head ++ new
+    → ReadsAllOr fields_of (IsDeedOf head.form head.code) (DeedFails head.form head.code) (Err fault) new left → IsLeftOr {A = Plain} RowFails (Err fault) bytes
+deed_left NoMemory head bytes new left good first none = tt
+deed_left (Is unread) head bytes new left good first none = (none.0, inr (head, new, good, first, inl none.1), none.2)
 
 pub too_many : (head : Head) (deed : Deed) (bytes one two : List ℕ) → bytes ≡ head_bytes head ++ one → IsDeedOf head.form head.code deed → one ≡ fields_of deed ++ two → two ≢ []
     → (row : Plain) → IsFormed row → IsKnown row.deed → bytes ≡ spelled row → ⊥

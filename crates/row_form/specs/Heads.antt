@@ -4,7 +4,7 @@ use Rattle.cc_names.specs.Formed.{Plain, IsTag, IsDeedFormed}
 use Rattle.cc_names.specs.declared.rows.Deed.{Deed}
 use Rattle.cc_names.specs.declared.rows.Tag.{Tag}
 use Rattle.row_form.specs.Fields.{byte, word, long}
-use Rattle.row_form.specs.Reading.{IsByte, IsForm, IsMoment, IsKnown}
+use Rattle.row_form.specs.Reading.{IsForm, IsMoment, IsCodeOf, IsKnown}
 use Rattle.row_form.specs.Spelled.{code_of, first_byte}
 use Rattle.row_form.specs.declared.reading.Head.{Head}
 
@@ -15,7 +15,7 @@ abbrev pub head_bytes : Head → List ℕ
 head_bytes head = byte head.form ++ (tag_bytes head.tag ++ (long head.moment ++ byte head.code))
 
 abbrev pub IsHead : Head → Type 0
-IsHead head = IsForm head.form × IsTag head.tag × IsMoment head.moment × IsByte head.code
+IsHead head = IsForm head.form × IsTag head.tag × IsMoment head.moment × IsCodeOf head.form head.code
 
 -- what stands before the fields of a row's deed
 abbrev pub head_of : Plain → Head

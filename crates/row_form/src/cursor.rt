@@ -13,8 +13,9 @@ use cc_names::texts::Text;
 use std::alloc::Global;
 use std::fmt;
 
-/// F1: the bytes spell no row. The number is the place of the first field that cannot be read, or of the first byte left
-/// over.
+/// F1: the bytes spell no row. The number is the place, counted from 0, where the first field that cannot be read begins,
+/// or of the first byte left over. A list whose members can all be read and that breaks its rule fails where its count
+/// begins, and a code that the first byte does not have at the code.
 #[derive(Clone, Copy, Debug, PartialEq, Eq)]
 pub struct NotARow(pub u64);
 
@@ -26,10 +27,15 @@ impl fmt::Display for NotARow {
 
 impl std::error::Error for NotARow {}
 
-/// What is left of so many bytes.
+/// That a field cannot be read, where so many bytes are left from its beginning on.
+#[derive(Clone, Copy)]
+pub(crate) struct Unread {
+    pub(crate) left: usize,
+}
+
+/// The bytes that are left.
 #[derive(Drop)]
 pub(crate) struct Cursor<'a> {
-    whole: usize,
     pub(crate) rest: &'a [u8],
 }
 
@@ -37,22 +43,23 @@ impl<'a> Cursor<'a> {
     pub(crate) fn over(bytes: &'a [u8]) -> Cursor<'a>
         ensures { result.rest.now ≡ bytes.now }
     {
-        Cursor {
-            whole: bytes.len(),
-            rest: bytes,
-        }
+        Cursor { rest: bytes }
     }
 
     /// That the field here cannot be read.
-    pub(crate) fn fault(&self) -> NotARow {
-        NotARow(self.whole.saturating_sub(self.rest.len()) as u64)
+    pub(crate) fn unread(&self) -> Unread
+        ensures { result.left ≡ length self.now.rest.now }
+    {
+        Unread {
+            left: self.rest.len(),
+        }
     }
 
-    pub(crate) fn byte(&mut self) -> Result<u8, NotARow>
+    pub(crate) fn byte(&mut self) -> Result<u8, Unread>
         ensures { Reads byte IsByte result self.old.rest.now self.new.rest.now }
     {
         if self.rest.is_empty() {
-            return Err(self.fault());
+            return Err(self.unread());
         }
         let (front, rest) = self.rest.split_at(1);
         let byte = front[0];
@@ -60,11 +67,11 @@ impl<'a> Cursor<'a> {
         Ok(byte)
     }
 
-    pub(crate) fn word(&mut self) -> Result<u32, NotARow>
+    pub(crate) fn word(&mut self) -> Result<u32, Unread>
         ensures { Reads word IsWord result self.old.rest.now self.new.rest.now }
     {
         if self.rest.len() < 4 {
-            return Err(self.fault());
+            return Err(self.unread());
         }
         let (front, rest) = self.rest.split_at(4);
         let number = u32::from_le_bytes([front[0], front[1], front[2], front[3]]);
@@ -72,11 +79,11 @@ impl<'a> Cursor<'a> {
         Ok(number)
     }
 
-    pub(crate) fn long(&mut self) -> Result<u64, NotARow>
+    pub(crate) fn long(&mut self) -> Result<u64, Unread>
         ensures { Reads long IsLong result self.old.rest.now self.new.rest.now }
     {
         if self.rest.len() < 8 {
-            return Err(self.fault());
+            return Err(self.unread());
         }
         let (front, rest) = self.rest.split_at(8);
         let number = u64::from_le_bytes([
@@ -87,23 +94,23 @@ impl<'a> Cursor<'a> {
     }
 
     /// The bytes of a text.
-    pub(crate) fn bytes(&mut self) -> Result<&'a [u8], NotARow>
+    pub(crate) fn bytes(&mut self) -> Result<&'a [u8], Unread>
         ensures { ReadsSlice text IsText result self.old.rest.now self.new.rest.now }
     {
-        let fault = self.fault();
+        let here = self.unread();
         let size = match self.word() {
             Ok(size) => size as usize,
-            Err(_) => return Err(fault),
+            Err(_) => return Err(here),
         };
         if self.rest.len() < size {
-            return Err(fault);
+            return Err(here);
         }
         let (front, rest) = self.rest.split_at(size);
         self.rest = rest;
         Ok(front)
     }
 
-    pub(crate) fn text(&mut self, alloc: Global) -> Result<Text, Or<NotARow>>
+    pub(crate) fn text(&mut self, alloc: Global) -> Result<Text, Or<Unread>>
         ensures { ReadsOr text IsText result self.old.rest.now self.new.rest.now }
     {
         match self.bytes() {
@@ -111,41 +118,41 @@ impl<'a> Cursor<'a> {
                 Ok(text) => Ok(text),
                 Err(_) => Err(Or::NoMemory),
             },
-            Err(fault) => Err(Or::Is(fault)),
+            Err(unread) => Err(Or::Is(unread)),
         }
     }
 
-    pub(crate) fn name(&mut self, alloc: Global) -> Result<Name, Or<NotARow>>
+    pub(crate) fn name(&mut self, alloc: Global) -> Result<Name, Or<Unread>>
         ensures { ReadsOr text IsName result self.old.rest.now self.new.rest.now }
     {
-        let fault = self.fault();
+        let here = self.unread();
         match self.bytes() {
             Ok(bytes) => match Name::read(alloc, bytes) {
                 Ok(name) => Ok(name),
                 Err(Or::NoMemory) => Err(Or::NoMemory),
-                Err(Or::Is(_)) => Err(Or::Is(fault)),
+                Err(Or::Is(_)) => Err(Or::Is(here)),
             },
-            Err(fault) => Err(Or::Is(fault)),
+            Err(unread) => Err(Or::Is(unread)),
         }
     }
 
     /// A path that is not the root.
-    pub(crate) fn path(&mut self, alloc: Global) -> Result<Path, Or<NotARow>>
+    pub(crate) fn path(&mut self, alloc: Global) -> Result<Path, Or<Unread>>
         ensures { ReadsOr text IsBelowRoot result self.old.rest.now self.new.rest.now }
     {
-        let fault = self.fault();
+        let here = self.unread();
         match self.bytes() {
             Ok(bytes) => match Path::read(alloc, bytes) {
                 Ok(path) => {
                     if path.is_root() {
-                        return Err(Or::Is(fault));
+                        return Err(Or::Is(here));
                     }
                     Ok(path)
                 }
                 Err(Or::NoMemory) => Err(Or::NoMemory),
-                Err(Or::Is(_)) => Err(Or::Is(fault)),
+                Err(Or::Is(_)) => Err(Or::Is(here)),
             },
-            Err(fault) => Err(Or::Is(fault)),
+            Err(unread) => Err(Or::Is(unread)),
         }
     }
 }

@@ -2,11 +2,12 @@
 
 ghost use Rattle.std.specs.Prelude.{◌≡◌, ◌++◌, List, ℕ, length};
 ghost use Rattle.row_form.specs.Fields.{listed, text, entry};
-ghost use Rattle.row_form.specs.Reading.{ReadsOr};
+ghost use Rattle.row_form.specs.Reading.{ReadsAllOr};
+ghost use Rattle.row_form.specs.Places.{FieldFails, EntryFails, MembersFail, TargetsFail, EntriesFail, OutputsFail};
 ghost use Rattle.row_form.specs.Tested.{are_distinct, ascend, AreTargetsOf, AreOutputsOf};
 ghost use Rattle.cc_names.specs.Formed.{IsListOf, IsBelowRoot, IsText, IsEntry, AreEntries};
 
-use crate::cursor::{Cursor, NotARow};
+use crate::cursor::{Cursor, Unread};
 use crate::writing::form_of;
 use cc_names::lists::List;
 use cc_names::memory::Or;
@@ -21,75 +22,69 @@ pub(crate) trait Member: Drop + Sized {
 
     ghost formed: { Self → Type 0 };
 
-    fn read(alloc: Global, cursor: &mut Cursor<'_>) -> Result<Self, Or<NotARow>>
-        ensures { ReadsOr spelled formed result cursor.old.rest.now cursor.new.rest.now };
+    /// Where bytes fail that should begin with a member.
+    ghost fails: { List ℕ → List ℕ → Type 0 };
 
-    /// A member's spelling tells the member and what follows it.
-    ghost peel: { (a b : Self) (x y : List ℕ) → formed a → formed b → spelled a ++ x ≡ spelled b ++ y → (a ≡ b) × (x ≡ y) };
+    fn read(alloc: Global, cursor: &mut Cursor<'_>) -> Result<Self, Or<Unread>>
+        ensures { ReadsAllOr spelled formed fails result cursor.old.rest.now cursor.new.rest.now };
 }
 
 impl Member for Path {
-    ghost use Rattle.row_form.specs.Peeling.{peel_path};
-
     ghost spelled = { text };
 
     ghost formed = { IsBelowRoot };
 
-    ghost peel = { peel_path };
+    ghost fails = { FieldFails text IsBelowRoot };
 
-    fn read(alloc: Global, cursor: &mut Cursor<'_>) -> Result<Path, Or<NotARow>> {
+    fn read(alloc: Global, cursor: &mut Cursor<'_>) -> Result<Path, Or<Unread>> {
         cursor.path(alloc)
     }
 }
 
 impl Member for Text {
-    ghost use Rattle.row_form.specs.Peeling.{peel_text};
-
     ghost spelled = { text };
 
     ghost formed = { IsText };
 
-    ghost peel = { peel_text };
+    ghost fails = { FieldFails text IsText };
 
-    fn read(alloc: Global, cursor: &mut Cursor<'_>) -> Result<Text, Or<NotARow>> {
+    fn read(alloc: Global, cursor: &mut Cursor<'_>) -> Result<Text, Or<Unread>> {
         cursor.text(alloc)
     }
 }
 
 impl Member for ReadOf {
-    ghost use Rattle.row_form.specs.Peeling.{peel_entry};
-
     ghost spelled = { entry };
 
     ghost formed = { IsEntry };
 
-    ghost peel = { peel_entry };
+    ghost fails = { EntryFails };
 
-    fn read(alloc: Global, cursor: &mut Cursor<'_>) -> Result<ReadOf, Or<NotARow>> {
+    fn read(alloc: Global, cursor: &mut Cursor<'_>) -> Result<ReadOf, Or<Unread>> {
         let path = match cursor.path(alloc) {
             Ok(path) => path,
-            Err(fault) => return Err(fault),
+            Err(unread) => return Err(unread),
         };
         match cursor.long() {
             Ok(row) => Ok(ReadOf { path, row }),
-            Err(fault) => Err(Or::Is(fault)),
+            Err(unread) => Err(Or::Is(unread)),
         }
     }
 }
 
 /// A list. Takes memory as its members are read, and none by its count.
-fn read_list<M: Member>(alloc: Global, cursor: &mut Cursor<'_>) -> Result<List<M>, Or<NotARow>>
-    ensures { ReadsOr (listed M.spelled) (IsListOf M.formed) result cursor.old.rest.now cursor.new.rest.now }
+fn read_list<M: Member>(alloc: Global, cursor: &mut Cursor<'_>) -> Result<List<M>, Or<Unread>>
+    ensures { ReadsAllOr (listed M.spelled) (IsListOf M.formed) (MembersFail M.spelled M.formed M.fails) result cursor.old.rest.now cursor.new.rest.now }
 {
     let count = match cursor.word() {
         Ok(count) => count,
-        Err(fault) => return Err(Or::Is(fault)),
+        Err(unread) => return Err(Or::Is(unread)),
     };
     let mut members = Vec::new(alloc);
     for _member in 0..count {
         let member = match M::read(alloc, cursor) {
             Ok(member) => member,
-            Err(fault) => return Err(fault),
+            Err(unread) => return Err(unread),
         };
         if members.push(member).is_err() {
             return Err(Or::NoMemory);
@@ -133,13 +128,13 @@ pub(crate) fn read_targets(
     alloc: Global,
     cursor: &mut Cursor<'_>,
     form: u8,
-) -> Result<List<Path>, Or<NotARow>>
-    ensures { ReadsOr (listed text) (AreTargetsOf form) result cursor.old.rest.now cursor.new.rest.now }
+) -> Result<List<Path>, Or<Unread>>
+    ensures { ReadsAllOr (listed text) (AreTargetsOf form) (TargetsFail form) result cursor.old.rest.now cursor.new.rest.now }
 {
-    let here = cursor.fault();
+    let here = cursor.unread();
     let targets: List<Path> = match read_list(alloc, cursor) {
         Ok(targets) => targets,
-        Err(fault) => return Err(fault),
+        Err(unread) => return Err(unread),
     };
     let paths = targets.as_slice();
     if !paths.is_empty() && form_of(paths) == form && are_distinct(paths) {
@@ -152,13 +147,13 @@ pub(crate) fn read_targets(
 pub(crate) fn read_entries(
     alloc: Global,
     cursor: &mut Cursor<'_>,
-) -> Result<List<ReadOf>, Or<NotARow>>
-    ensures { ReadsOr (listed entry) AreEntries result cursor.old.rest.now cursor.new.rest.now }
+) -> Result<List<ReadOf>, Or<Unread>>
+    ensures { ReadsAllOr (listed entry) AreEntries EntriesFail result cursor.old.rest.now cursor.new.rest.now }
 {
-    let here = cursor.fault();
+    let here = cursor.unread();
     let entries: List<ReadOf> = match read_list(alloc, cursor) {
         Ok(entries) => entries,
-        Err(fault) => return Err(fault),
+        Err(unread) => return Err(unread),
     };
     if ascend(entries.as_slice()) {
         return Ok(entries);
@@ -171,13 +166,13 @@ pub(crate) fn read_outputs(
     alloc: Global,
     cursor: &mut Cursor<'_>,
     count: usize,
-) -> Result<List<Text>, Or<NotARow>>
-    ensures { ReadsOr (listed text) (AreOutputsOf count) result cursor.old.rest.now cursor.new.rest.now }
+) -> Result<List<Text>, Or<Unread>>
+    ensures { ReadsAllOr (listed text) (AreOutputsOf count) (OutputsFail count) result cursor.old.rest.now cursor.new.rest.now }
 {
-    let here = cursor.fault();
+    let here = cursor.unread();
     let outputs: List<Text> = match read_list(alloc, cursor) {
         Ok(outputs) => outputs,
-        Err(fault) => return Err(fault),
+        Err(unread) => return Err(unread),
     };
     if outputs.as_slice().len() == count {
         return Ok(outputs);

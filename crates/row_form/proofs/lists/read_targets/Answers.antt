@@ -1,12 +1,9 @@
 -- The targets keep their rule exactly where the tests say so.
-use Rattle.std.proofs.Common.{◌≡◌, true, false, ◌==◌, arith, ℕ, List, [], ◌∷◌, length, refl, sym, ◌∙◌, ap}
+use Rattle.std.proofs.Common.{◌≡◌, true, false, ◌==◌, arith, ℕ, List, [], ◌∷◌, length, refl, sym, ◌∙◌, ap, inr}
 use Rattle.std.proofs.lemmas.Bool.Decides.{nat_tests}
-use Rattle.cc_names.specs.Formed.{IsBelowRoot}
-use Rattle.row_form.specs.Fields.{text}
-use Rattle.row_form.specs.Peeling.{peel_path}
 use Rattle.row_form.specs.Spelled.{form_of}
 use Rattle.row_form.specs.Tested.{are_distinct, AreTargetsOf}
-use Rattle.row_form.proofs.Listing.{none_of_rule, distinct_if, distinct_only}
+use Rattle.row_form.proofs.Listing.{distinct_if, distinct_only}
 use Rattle.row_form.proofs.lists.read_targets.Goals as goal
 use Rattle.row_form.proofs.lists.read_targets.Goals.{else-not-is_empty-via-then-not-is_empty+then-form_of-form+else-are_distinct, else-not-is_empty-via-then-not-is_empty+else-form_of-form, else-not-is_empty-via-else-not-is_empty}
 
@@ -26,8 +23,7 @@ returns-then-are_distinct c =
 
 pub returns : goal.returns
 returns c =
-    none_of_rule (List ℕ) text IsBelowRoot peel_path (AreTargetsOf c.args.form) c.in-Ok.targets c.args.cursor.now.rest.now c.read_list.new.cursor.rest.now (λ targets rule. rule.0.0) c.in-Ok.ensures.0 c.in-Ok.ensures.1
-    (λ rule.
+    let broken : AreTargetsOf c.args.form c.in-Ok.targets → ⊥ = λ rule.
     elim c.else-not-is_empty.branch [
       | else-not-is_empty-via-then-not-is_empty+then-form_of-form+else-are_distinct w ↦
           let apart : w.are_distinct.result ≡ true = w.are_distinct.ensures ∙ ap are_distinct c.as_slice-paths.ensures ∙ distinct_only c.in-Ok.targets rule.0.2 in
@@ -35,4 +31,5 @@ returns c =
       | else-not-is_empty-via-then-not-is_empty+else-form_of-form w ↦ w.if-form_of-form.false (w.form_of.ensures ∙ ap form_of c.as_slice-paths.ensures ∙ rule.1)
       | else-not-is_empty-via-else-not-is_empty w ↦
           rule.0.1 (empty_if c.in-Ok.targets (ap (λ ts. length ts == 0) (sym c.as_slice-paths.ensures) ∙ sym c.is_empty.ensures ∙ w.if-not-is_empty.false))
-    ])
+    ] in
+    (c.args.cursor.now.rest.now, inr (refl, c.in-Ok.targets, c.read_list.new.cursor.rest.now, c.in-Ok.ensures.0, c.in-Ok.ensures.1, broken), c.unread-here.ensures)
