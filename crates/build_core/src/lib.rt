@@ -11,8 +11,9 @@
 // unit see, and a run and its row are those that the model has for the unit. A reply is the model's.
 //
 // What it stands on: `make_text` for makefiles and the definition of units, `make_graph` for the units of a makefile that
-// was read, `view_lookup` for what a view sees, `build_script` for scripts, `reply_text` for digests, `legal_history` and
-// `fresh_builds` for the model of builds and of their replies, `cc_names` for paths, units and refusals.
+// was read, `view_lookup` for what a view sees, `build_script` for scripts, `session_text` for the form of
+// commands, `reply_text` and `sha2` for digests, `legal_history` and `fresh_builds` for the model of builds and of their replies,
+// `cc_names` for paths, units and refusals.
 #![tactic(auto)]
 
 mod active;

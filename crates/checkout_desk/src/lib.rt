@@ -4,7 +4,8 @@
 //
 // What it promises: the answer is the model's decision on the command, and a row has the command's tag and moment.
 //
-// What it stands on: `view_lookup` for what a view sees, and the definitions of `legal_history`.
+// What it stands on: `view_lookup` for what a view sees, `legal_history` for the definitions, `session_text` for the form of
+// commands, and `cc_names` for plain data.
 #![tactic(auto)]
 
 mod decisions;

@@ -5,7 +5,7 @@
 // What it promises: each answer is that of the model's definition over the rows. `first_rows` gives the rows of an
 // earlier moment, over which every look-up answers as of then.
 //
-// What it stands on: the rows of `cc_names` and the definitions of `legal_history`.
+// What it stands on: `cc_names` for rows, `legal_history` for the definitions, and `spec_text` for the rules of a view.
 #![tactic(auto)]
 
 mod bases;
