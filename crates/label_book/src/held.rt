@@ -54,7 +54,7 @@ impl Held {
     }
 
     /// The place of a label on an element among all, where `newest` is the place of the newest one with its key. Takes time
-    /// linear in those with that key, which mostly is this one alone.
+    /// linear in the label's name, at most once for each with that key, which mostly is this one alone.
     pub fn find(held: &[Held], newest: Option<usize>, label: &Name, element: u64) -> Option<usize>
         requires linked { AreLinked (reverse held.now) }
         requires newest { newest ≡ newest_with (key_of element label.now) (reverse held.now) }

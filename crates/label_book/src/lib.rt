@@ -62,8 +62,8 @@ impl Book {
         })
     }
 
-    /// Makes room for one change of a label on each of these elements. Takes time linear in the elements and in the label's
-    /// name; a list that is full is doubled, in time linear in it.
+    /// Makes room for one change of a label on each of these elements. Takes for each the time to find the label there, as
+    /// `at` does, and to copy its name where it is new there; a list that is full is doubled, in time linear in it.
     pub fn reserve(&mut self, alloc: Global, label: &Name, elements: &[u64]) -> Result<(), NoMemory>
         ensures kept { KeepsAll self.old self.new }
         ensures ready { OnOk result ((k : ℕ) → k < length elements.now → IsTrue (is_ready self.new label.now (slice_index elements.now k))) }
@@ -88,8 +88,9 @@ impl Book {
             }
             None => {
                 let label = label.copy(alloc)?;
+                // Most labels are put once and stay: the first change has room for itself alone.
                 let mut moves = Vec::new(alloc);
-                moves.reserve(1)?;
+                moves.reserve_exact(1)?;
                 self.newest.reserve(1)?;
                 let place = self.held.len();
                 self.held.push(Held {
@@ -107,8 +108,8 @@ impl Book {
         Ok(())
     }
 
-    /// Puts a label on a version of an element. The row is above all rows so far of this label on this element. Takes time
-    /// linear in the label's name.
+    /// Puts a label on a version of an element. The row is above all rows so far of this label on this element. Takes the
+    /// time to find the label there, as `at` does.
     pub fn attach(&mut self, row: u64, label: &Name, element: u64, version: u64)
         requires above { IsAbove row (rows_of_pair label.now element self.old.changes) }
         requires ready { IsTrue (is_ready self.old label.now element) }
@@ -124,8 +125,8 @@ impl Book {
         );
     }
 
-    /// Takes a label off an element. The row is above all rows so far of this label on this element. Takes time linear in
-    /// the label's name.
+    /// Takes a label off an element. The row is above all rows so far of this label on this element. Takes the time to find
+    /// the label there, as `at` does.
     pub fn detach(&mut self, row: u64, label: &Name, element: u64)
         requires above { IsAbove row (rows_of_pair label.now element self.old.changes) }
         requires ready { IsTrue (is_ready self.old label.now element) }
@@ -153,8 +154,9 @@ impl Book {
         }
     }
 
-    /// The version of an element that held a label in the first `rows` rows. Takes time logarithmic in the changes of the
-    /// label on the element, and linear in the label's name.
+    /// The version of an element that held a label in the first `rows` rows. Takes time linear in the label's name to find the
+    /// label there - once for the key of both, and at most once for each label on an element with that key, which mostly is
+    /// this one alone - and time logarithmic in its changes there.
     pub fn at(&self, label: &Name, element: u64, rows: u64) -> Option<u64>
         ensures { result ≡ holder (labels_of_first_rows rows self.now.changes) label.now element }
     {

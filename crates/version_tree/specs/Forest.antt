@@ -1,11 +1,12 @@
 -- What contracts see of a `Tree`: the changes of the trees of all elements, and what their versions hold.
-use Rattle.std.specs.Prelude.{◌≡◌, ◌≢◌, ℕ, ◌+◌, ◌≤◌, ◌==◌, nat_eq, Bool, Option, Some, None, List, [], ◌∷◌, map}
+use Rattle.std.specs.Prelude.{◌≡◌, ◌≢◌, ℕ, ◌+◌, ◌≤◌, ◌==◌, nat_eq, Bool, false, IsTrue, Option, Some, None, List, [], ◌∷◌, map}
 use Rattle.std.specs.Map.{lookup}
 use Rattle.std.specs.List.{list_any}
 use Rattle.std.specs.List.Sorted.{IsStrictlySortedBy}
 use Rattle.std.specs.Cmp.Lexicographic.{slice_cmp}
 use Rattle.std.specs.Ordering.{nat_cmp}
 use Rattle.cc_names.specs.declared.changes.TreeChange.{TreeChange}
+use Rattle.cc_names.specs.declared.changes.TreeChange.TheVariants.{VersionMade}
 use Rattle.cc_names.specs.declared.changes.Entry.{Entry}
 use Rattle.version_tree.specs.declared.contents.Contents.{Contents}
 use Rattle.version_tree.specs.declared.contents.Contents.TheVariants.{Text, Catalog}
@@ -44,19 +45,26 @@ AreInOrder entries = IsStrictlySortedBy (slice_cmp nat_cmp) (map name_of_entry e
 abbrev pub is_ready : Forest → ℕ → Bool
 is_ready forest branch = list_any (λ b. b == branch) forest.ready
 
--- one change more, for which there was room
+-- whether a change uses a branch's room for one more version
+abbrev pub uses_room : TreeChange → ℕ → Bool
+uses_room (VersionMade row moment branch) b = branch == b
+uses_room _ b = false
+
+-- one change more, for which there was room; all branches but its own keep theirs
 pub record AddsChange (old new : Forest) (change : TreeChange) : Type 0 where
   pub changes : new.changes ≡ change ∷ old.changes
   pub contents : new.contents ≡ old.contents
   pub room : old.room ≤ new.room + 1
   pub content_room : new.content_room ≡ old.content_room
+  pub ready : (b : ℕ) → uses_room change b ≡ false → IsTrue (is_ready old b) → IsTrue (is_ready new b)
 
--- what one version holds is set, and nothing else
+-- what one version holds is set, for which there was room, and nothing else
 pub record SetsContents (old new : Forest) (version : ℕ) (contents : Contents) : Type 0 where
   pub here : contents_of new version ≡ Some contents
   pub others : (v : ℕ) → v ≢ version → contents_of new v ≡ contents_of old v
   pub changes : new.changes ≡ old.changes
   pub room : new.room ≡ old.room
+  pub content_room : old.content_room ≤ new.content_room + 1
   pub ready : new.ready ≡ old.ready
 
 -- nothing is changed but room, of which there is no less

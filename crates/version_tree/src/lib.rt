@@ -274,7 +274,8 @@ impl Tree {
         self.branch_at(branch)?.numbered(number, rows)
     }
 
-    /// The element's branch of a name, in the first `rows` rows; `main` is no such branch. Takes time linear in the name.
+    /// The element's branch of a name, in the first `rows` rows; `main` is no such branch. Takes time linear in the name: once
+    /// for its key, and at most once for each change that made a branch with that key, which mostly is this branch alone.
     pub fn branch_named(&self, element: u64, name: &Name, rows: u64) -> Option<u64>
         ensures { result ≡ branch_named (of_first_rows rows self.now.changes) element name.now }
     {

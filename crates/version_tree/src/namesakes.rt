@@ -60,7 +60,7 @@ fn makes_branch_within(change: &TreeChange, rows: u64, element: u64, name: &Name
 }
 
 /// The element's branch of a name among the first `rows` rows, where `newest` is the place of the newest change with
-/// its key. Takes time linear in the changes with that key, which mostly is this branch alone.
+/// its key. Takes time linear in the name, at most once for each change with that key, which mostly is this branch alone.
 pub fn find_branch(
     made: &[Made],
     newest: Option<usize>,

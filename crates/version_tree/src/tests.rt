@@ -1,6 +1,6 @@
 // Worked trees, and trees that look random against the plain definition, written as a slow program over a list of lines.
 
-ghost use Rattle.std.specs.Prelude.{◌≡◌, ◌+◌, ◌≤◌, OnOk, IfSome, map};
+ghost use Rattle.std.specs.Prelude.{◌≡◌, ◌≢◌, ◌+◌, ◌^◌, ◌<◌, ◌≤◌, IfOk, OnOk, IfSome, map};
 ghost use Rattle.cc_names.specs.Versions.{row_of_change};
 ghost use Rattle.cc_names.specs.Falling.{IsAbove};
 
@@ -66,7 +66,9 @@ fn rising(next: u64, row: u64) -> Option<u64>
     if next <= row { Some(row) } else { None }
 }
 
-fn grown(alloc: Global, steps: &[Step]) -> Result<Tree, Fail> {
+fn grown(alloc: Global, steps: &[Step]) -> Result<Tree, Fail>
+    ensures { IfOk result (λ tree. IsAbove (2 ^ 32) (map row_of_change tree.changes)) }
+{
     let mut tree = Tree::new(alloc)?;
     let mut next = 1;
     for step in steps {
@@ -133,7 +135,9 @@ const CLOCK_BACK: [Step; 4] = [
     (4, 70, What::Version { branch: 1 }),
 ];
 
-fn worked_tree(alloc: Global, tree: Worked) -> Result<Tree, Fail> {
+fn worked_tree(alloc: Global, tree: Worked) -> Result<Tree, Fail>
+    ensures { IfOk result (λ tree. IsAbove (2 ^ 32) (map row_of_change tree.changes)) }
+{
     match tree {
         Worked::TwoCheckouts => grown(alloc, &TWO_CHECKOUTS),
         Worked::BranchOfARule => grown(alloc, &BRANCH_OF_A_RULE),
@@ -272,6 +276,57 @@ fn holds_texts_and_catalogs(rt: HostRuntime) -> Result<(), Fail> {
     assert!(rt; tree.entries(9).is_empty());
     assert_eq!(rt; tree.text(9), None);
     assert_eq!(rt; tree.text(17), Some(16));
+    Ok(())
+}
+
+// A row behind those of all steps.
+const LATE: u64 = 4_294_967_296;
+
+// The second of two branches, where it is not the first.
+fn other(one: u64, two: u64) -> Option<u64>
+    ensures { IfSome result (λ found. (found ≡ two) × (one ≢ found)) }
+{
+    if one == two { None } else { Some(two) }
+}
+
+// Adds a version on each of two branches that are there. Room on both is made before the first; behind it, room is made
+// for the change alone.
+fn add_both(alloc: Global, tree: &mut Tree, one: u64, two: u64) -> Result<(), Fail>
+    requires above { IsAbove (2 ^ 32) (map row_of_change tree.old.changes) }
+    requires apart { one ≢ two }
+{
+    tree.latest(one, LATE, None).ok_or("no first branch")?;
+    tree.latest(two, LATE, None).ok_or("no second branch")?;
+    tree.reserve(alloc, Some(one))?;
+    tree.reserve(alloc, Some(two))?;
+    tree.add_version(LATE, 10, one);
+    tree.reserve(alloc, None)?;
+    tree.add_version(LATE + 1, 10, two);
+    Ok(())
+}
+
+// A tree, and two of its branches with the numbers of their next versions.
+const PAIRS: [(Worked, (u64, u64), (u64, u64)); 5] = [
+    (Worked::TwoCheckouts, (6, 3), (3, 2)),
+    (Worked::BranchOfARule, (6, 2), (15, 2)),
+    (Worked::BranchOfARule, (15, 2), (0, 2)),
+    (Worked::TwoMoments, (3, 3), (0, 2)),
+    (Worked::ClockBack, (0, 1), (1, 4)),
+];
+
+#[test]
+fn keeps_the_room_of_other_branches(rt: HostRuntime) -> Result<(), Fail> {
+    for (tree, (one, first), (two, second)) in PAIRS {
+        let mut tree = worked_tree(rt.alloc(), tree)?;
+        let two = other(one, two).ok_or("one branch")?;
+        add_both(rt.alloc(), &mut tree, one, two)?;
+        assert_eq!(rt; tree.numbered(one, first, LATE + 2), Some(LATE), "on {one}");
+        assert_eq!(rt;
+            tree.numbered(two, second, LATE + 2),
+            Some(LATE + 1),
+            "on {two}"
+        );
+    }
     Ok(())
 }
 

@@ -105,7 +105,7 @@ pub invariant_of-self-in-Ok : goal.invariant_of-self-in-Ok
 invariant_of-self-in-Ok c =
     let all = c.self.inside.held.items in
     let label = c.in_ok-label-in-None.label in
-    let held : Held = record { label = label; element = c.args.element; namesake = c.copied-namesake.result; moves = c.reserve-in-None.new.self } in
+    let held : Held = record { label = label; element = c.args.element; namesake = c.copied-namesake.result; moves = c.reserve_exact.new.self } in
     let same_label : label ≡ c.args.label.now = search rules in
     let pushed : c.push.new.self.items ≡ all ++ held ∷ [] = search rules in
     let absent : HasNoPlace c.args.label.now c.args.element all = search rules in
@@ -116,20 +116,20 @@ invariant_of-self-in-Ok c =
     let count : c.len-place.result ≡ length (reverse all) = grind (arith, common_steps, length-reverse all) in
     let newest : (k : ℕ) → get nat_eq c.insert.new.self k ≡ newest_with k (held ∷ reverse all) = λ k.
     c.in-Ok.ensures.updates.0 k
-    ∙ ap (λ q. cond (eqb q k) (Some c.len-place.result) (get nat_eq c.reserve-in-None-2.new.self k)) same_key
-    ∙ ap (λ n. cond (eqb key k) (Some n) (get nat_eq c.reserve-in-None-2.new.self k)) count
-    ∙ ap (λ o. cond (eqb key k) (Some (length (reverse all))) o) (c.reserve-in-None-2.ensures.entries.2 k ∙ c.self.invariant.newest k) in
-    rw pushed (held_added all _ (get nat_eq c.insert.new.self) held c.self.invariant (rw same_label absent) (c.reserve-in-None.ensures.items ∙ c.new-moves.ensures.items) link newest)
+    ∙ ap (λ q. cond (eqb q k) (Some c.len-place.result) (get nat_eq c.reserve-in-None.new.self k)) same_key
+    ∙ ap (λ n. cond (eqb key k) (Some n) (get nat_eq c.reserve-in-None.new.self k)) count
+    ∙ ap (λ o. cond (eqb key k) (Some (length (reverse all))) o) (c.reserve-in-None.ensures.entries.2 k ∙ c.self.invariant.newest k) in
+    rw pushed (held_added all _ (get nat_eq c.insert.new.self) held c.self.invariant (rw same_label absent) (c.reserve_exact.ensures.items ∙ c.new-moves.ensures.items) link newest)
 
 pub returns-in-Ok-clause-kept : goal.returns-in-Ok-clause-kept
 returns-in-Ok-clause-kept c =
     let all = c.self.inside.held.items in
     let label = c.in_ok-label-in-None.label in
-    let held : Held = record { label = label; element = c.args.element; namesake = c.copied-namesake.result; moves = c.reserve-in-None.new.self } in
+    let held : Held = record { label = label; element = c.args.element; namesake = c.copied-namesake.result; moves = c.reserve_exact.new.self } in
     let same_label : label ≡ c.args.label.now = search rules in
     let pushed : c.push.new.self.items ≡ all ++ held ∷ [] = search rules in
     rw (← c.self.view_is, pushed) (record {
-      pairs = λ l e. of_pair_push l e all held (c.reserve-in-None.ensures.items ∙ c.new-moves.ensures.items);
+      pairs = λ l e. of_pair_push l e all held (c.reserve_exact.ensures.items ∙ c.new-moves.ensures.items);
       ready = λ l e is. push_keeps l e all held is;
     })
 
@@ -137,9 +137,9 @@ pub returns-in-Ok-clause-ready : goal.returns-in-Ok-clause-ready
 returns-in-Ok-clause-ready c =
     let all = c.self.inside.held.items in
     let label = c.in_ok-label-in-None.label in
-    let held : Held = record { label = label; element = c.args.element; namesake = c.copied-namesake.result; moves = c.reserve-in-None.new.self } in
+    let held : Held = record { label = label; element = c.args.element; namesake = c.copied-namesake.result; moves = c.reserve_exact.new.self } in
     let same_label : label ≡ c.args.label.now = search rules in
     let pushed : c.push.new.self.items ≡ all ++ held ∷ [] = search rules in
-    let room : has_room held ≡ true = grind (arith, nat_tests, common_steps, c.reserve-in-None.ensures.ok, c.in_ok-reserve-in-None.was) in
+    let room : has_room held ≡ true = grind (arith, nat_tests, common_steps, c.reserve_exact.ensures.ok, c.in_ok-reserve_exact-in-None.was) in
     let is : is_pair c.args.label.now c.args.element held ≡ true = rw same_label (is_itself c.args.label.now c.args.element) in
     rw pushed (push_ready c.args.label.now c.args.element all held is room)

@@ -11,6 +11,7 @@ use Rattle.version_tree.specs.TreeFields.{row_of_made}
 use Rattle.version_tree.specs.declared.namesakes.Made.{Made}
 use Rattle.version_tree.specs.declared.branches.Branch.{Branch}
 use Rattle.version_tree.proofs.Steps.{rows_of_made, branch_added}
+use Rattle.version_tree.proofs.Readiness.{push_keeps}
 use Rattle.version_tree.proofs.Tree.add_branch.Goals as goal
 
 -- the branch with its version 0, linked to its namesakes
@@ -36,3 +37,18 @@ invariant_of-self c =
     ∙ ap (λ o. cond (eqb named k) (Some (length (reverse made))) o) (c.self.invariant.newest k) in
     rw (c.push_within.ensures.items, c.push_within-2.ensures.items, reverse-append made (m ∷ []), reverse-append branches (b ∷ []))
     (branch_added m b (reverse made) (reverse branches) _ _ _ c.self.invariant refl refl refl c.new-later.ensures.items above link newest)
+
+-- branches that have room keep it
+pub returns : goal.returns
+returns c =
+    let made = c.self.inside.made.items in
+    let m : Made = record { change = BranchMade c.args.row c.args.moment c.args.element c.args.origin c.args.name; namesake = c.copied-namesake.result } in
+    let items = c.self.inside.branches.items in
+    let b : Branch = record { row = c.args.row; moment = c.args.moment; later = c.new-later.result } in
+    rw (← c.self.view_is) (record {
+      changes = rw (c.push_within.ensures.items, reverse-append made (m ∷ [])) refl;
+      contents = search rules;
+      room = search rules;
+      content_room = search rules;
+      ready = λ q other is. rw c.push_within-2.ensures.items (push_keeps q items b is);
+    })

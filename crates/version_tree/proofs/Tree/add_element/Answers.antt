@@ -1,4 +1,4 @@
-use Rattle.std.proofs.Common.{[], ◌∷◌, map, reverse, None, refl}
+use Rattle.std.proofs.Common.{[], ◌∷◌, map, reverse, None, refl, rules}
 use Rattle.std.proofs.lemmas.List.{reverse-append}
 use Rattle.cc_names.specs.declared.changes.TreeChange.TheVariants.{ElementMade}
 use Rattle.cc_names.specs.Falling.{IsAbove}
@@ -6,6 +6,7 @@ use Rattle.version_tree.specs.TreeFields.{row_of_made}
 use Rattle.version_tree.specs.declared.namesakes.Made.{Made}
 use Rattle.version_tree.specs.declared.branches.Branch.{Branch}
 use Rattle.version_tree.proofs.Steps.{rows_of_made, branch_added}
+use Rattle.version_tree.proofs.Readiness.{push_keeps}
 use Rattle.version_tree.proofs.Tree.add_element.Goals as goal
 
 -- the element and its branch `main`
@@ -18,3 +19,18 @@ invariant_of-self c =
     let above : IsAbove c.args.row (map row_of_made (reverse made)) = rw (rows_of_made (reverse made)) at (rw (← c.self.view_is) at c.requires.above) in
     rw (c.push_within.ensures.items, c.push_within-2.ensures.items, reverse-append made (m ∷ []), reverse-append branches (b ∷ []))
     (branch_added m b (reverse made) (reverse branches) _ _ _ c.self.invariant refl refl refl c.new-later.ensures.items above (λ key has. cc) c.self.invariant.newest)
+
+-- branches that have room keep it
+pub returns : goal.returns
+returns c =
+    let made = c.self.inside.made.items in
+    let m : Made = record { change = ElementMade c.args.row c.args.moment c.args.kind; namesake = None } in
+    let items = c.self.inside.branches.items in
+    let b : Branch = record { row = c.args.row; moment = c.args.moment; later = c.new-later.result } in
+    rw (← c.self.view_is) (record {
+      changes = rw (c.push_within.ensures.items, reverse-append made (m ∷ [])) refl;
+      contents = search rules;
+      room = search rules;
+      content_room = search rules;
+      ready = λ q other is. rw c.push_within-2.ensures.items (push_keeps q items b is);
+    })

@@ -9,6 +9,7 @@ use Rattle.version_tree.specs.TreeFields.{row_of_made, ready_branches}
 use Rattle.version_tree.specs.declared.namesakes.Made.{Made}
 use Rattle.version_tree.specs.declared.branches.Branch.{Branch}
 use Rattle.version_tree.proofs.Steps.{rows_of_made, version_added, row_there, has_room, not_ready}
+use Rattle.version_tree.proofs.Readiness.{others_keep}
 use Rattle.version_tree.proofs.Tree.add_version.Goals as goal
 
 -- a branch that is ready has room
@@ -53,3 +54,23 @@ unreachable-requires c =
     let unready = not_ready c.args.branch items missed in
     let ready : list_any (λ b. eqb b c.args.branch) (ready_branches items) ≡ true = rw (← c.self.view_is) at c.requires.ready in
     cc
+
+-- other branches that have room keep it
+pub returns : goal.returns
+returns c =
+    let made = c.self.inside.made.items in
+    let m : Made = record { change = VersionMade c.args.row c.args.moment c.args.branch; namesake = None } in
+    let items = c.self.inside.branches.items in
+    let place = c.in-Some.place in
+    let on = c.index_mut-on.result.now in
+    let b : Branch = record { row = on.row; moment = on.moment; later = c.push_within-in-Some.new.items } in
+    let found : slice_get items place ≡ find (λ x. eqb x.row c.args.branch) items = search rules in
+    let within : place < length items = search rules in
+    let there = row_there items c.args.branch place c.self.invariant.branches_fall within found in
+    rw (← c.self.view_is) (record {
+      changes = rw (c.push_within.ensures.items, reverse-append made (m ∷ [])) refl;
+      contents = search rules;
+      room = search rules;
+      content_room = search rules;
+      ready = λ q other is. others_keep q items place b within (λ d. rw (there d) other) is;
+    })
