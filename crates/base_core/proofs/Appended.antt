@@ -75,6 +75,8 @@ is_committed on kept more rows grown phases tag number tick calls row old new li
   formed = formed;
   grows = shown_row on kept more rows grown phases tag number tick row old new h.told e g;
   ticked = rises_more _ tick (omega (arith, h.backed.ticks, at, spent, some));
+  at = at;
+  spent = omega (arith, at, spent, some);
   faults = same;
 }
 
@@ -96,4 +98,7 @@ is_faulted on kept more rows phases tag row earlier found before faults tick end
       ticked = rises_raised _ old.ticks tick h.backed.ticks counted.ticks (omega (arith, at, spent)) (omega (arith, at, counted'.ticks));
       counted = was;
       counts = rose;
+      told = counts;
+      at = at;
+      spent = rises_raised old.ticks old.ticks tick (omega arith) counted.ticks (omega (arith, at, spent)) (omega (arith, at, counted'.ticks));
     }
