@@ -9,7 +9,7 @@ use Rattle.cc_names.specs.declared.steps.Step.TheVariants as steps
 use Rattle.cc_names.specs.declared.steps.Told.{Told}
 use Rattle.cc_names.specs.declared.steps.Told.TheVariants as told
 use Rattle.disk_model.specs.Told.{Sight}
-use Rattle.base_core.specs.Appending.{Appends, IsCommitted, IsFaulted, IsQuiet}
+use Rattle.base_core.specs.Appending.{Appends, IsQuiet}
 use Rattle.base_core.specs.Counted.{CountsStep, CountsSteps, KeepsCount}
 use Rattle.base_core.specs.Faults.{is_fault}
 use Rattle.base_core.specs.Logs.{Logged, with_phase, with_step}
