@@ -1,5 +1,5 @@
 -- What became of a row that was to be committed: the log then, and what it keeps.
-use Rattle.std.proofs.Common.{◌≡◌, ℕ, ◌+◌, ◌<◌, ◌≤◌, ◌^◌, ◌⊎◌, inl, inr, Bool, true, false, Option, Some, None, List, [], ◌∷◌, ◌++◌, length, refl, ap, sym, subst, ◌∙◌, arith}
+use Rattle.std.proofs.Common.{◌≡◌, ℕ, ◌+◌, ◌≤◌, inl, inr, Bool, true, false, Option, Some, None, List, [], ◌∷◌, ◌++◌, refl, ap, sym, subst, ◌∙◌, arith}
 use Rattle.std.proofs.Common.{append_assoc}
 use Rattle.std.specs.Option.{option_to_list}
 use Rattle.std.specs.Prelude.{IfSome}
@@ -8,10 +8,9 @@ use Rattle.cc_names.specs.declared.commands.Phase.{Phase}
 use Rattle.cc_names.specs.declared.rows.Tag.{Tag}
 use Rattle.cc_names.specs.declared.steps.Step.{Step}
 use Rattle.cc_names.specs.declared.steps.Step.TheVariants as steps
-use Rattle.cc_names.specs.declared.steps.Told.TheVariants as told
 use Rattle.disk_model.specs.Counting.{raised}
 use Rattle.disk_model.specs.Told.{Sight, IfTold, Both, IsCounted}
-use Rattle.legal_history.specs.States.{State, start, ticks_of, faults_of, hanging}
+use Rattle.legal_history.specs.States.{State, start, hanging}
 use Rattle.legal_history.specs.Steps.{state_of}
 use Rattle.row_form.specs.Spelled.{spelled}
 use Rattle.vob_journal.specs.Lefts.{loose_after}
@@ -20,9 +19,8 @@ use Rattle.vob_journal.specs.Moves.{Moves}
 use Rattle.vob_journal.specs.declared.left.Left.{Left}
 use Rattle.vob_journal.specs.declared.left.Left.TheVariants as lefts
 use Rattle.base_core.specs.Appending.{IsQuiet, MayLeave, IsCommitted, IsFaulted, with_ending}
-use Rattle.base_core.specs.Backed.{IsBacked}
 use Rattle.base_core.specs.Leaving.{left_in, LeftSo}
-use Rattle.base_core.specs.Logs.{Logged, IsLogged, with_row, with_step_on}
+use Rattle.base_core.specs.Logs.{IsLogged, with_step_on}
 use Rattle.base_core.specs.Telling.{story_of, AreTold}
 use Rattle.base_core.specs.declared.handed.Handed.{Handed}
 use Rattle.base_core.proofs.Leavings.{hanging_is}
@@ -75,6 +73,8 @@ is_committed on kept more rows grown phases tag number tick calls row old new li
   formed = formed;
   grows = shown_row on kept more rows grown phases tag number tick row old new h.told e g;
   ticked = rises_more _ tick (omega (arith, h.backed.ticks, at, spent, some));
+  at = at;
+  spent = omega (arith, at, spent, some);
   faults = same;
 }
 
@@ -96,4 +96,7 @@ is_faulted on kept more rows phases tag row earlier found before faults tick end
       ticked = rises_raised _ old.ticks tick h.backed.ticks counted.ticks (omega (arith, at, spent)) (omega (arith, at, counted'.ticks));
       counted = was;
       counts = rose;
+      told = counts;
+      at = at;
+      spent = rises_raised old.ticks old.ticks tick (omega arith) counted.ticks (omega (arith, at, spent)) (omega (arith, at, counted'.ticks));
     }

@@ -1,10 +1,10 @@
 -- What is kept of the journal after a commit, after a fault, and after the tail was settled.
-use Rattle.std.proofs.Common.{◌≡◌, ℕ, ◌+◌, ◌<◌, ◌≤◌, ◌⊎◌, inl, inr, true, Option, Some, None, List, [], ◌∷◌, ◌++◌, length, refl, ap, sym, subst, ◌∙◌, arith}
+use Rattle.std.proofs.Common.{◌≡◌, ℕ, ◌<◌, ◌≤◌, ◌⊎◌, inl, inr, Option, Some, None, List, [], ◌∷◌, ◌++◌, length, refl, ap, sym, subst, ◌∙◌, arith}
 use Rattle.std.proofs.lemmas.List.{append-nil}
 use Rattle.std.specs.Prelude.{is_some}
 use Rattle.cc_names.specs.Formed.{Plain}
-use Rattle.disk_model.specs.Devices.{Device, Event, Stopped, Leaves, LeavesNow, MayLeave}
-use Rattle.disk_model.specs.Told.{Sight, IfTold, Both}
+use Rattle.disk_model.specs.Devices.{Device, Event, Stopped, Leaves}
+use Rattle.disk_model.specs.Told.{IfTold, Both}
 use Rattle.legal_history.specs.Base.{Base}
 use Rattle.legal_history.specs.States.{Opening, End, Committed, Faulted, ticks_of, hanging}
 use Rattle.row_form.specs.Spelled.{spelled}
@@ -15,7 +15,7 @@ use Rattle.vob_journal.specs.declared.left.Left.{Left}
 use Rattle.vob_journal.specs.declared.left.Left.TheVariants as lefts
 use Rattle.base_core.specs.Backed.{IsCovered}
 use Rattle.base_core.specs.Leaving.{LeftSo}
-use Rattle.base_core.specs.Standing.{payloads, with_left, base_by, tick_of, left_after, left_within, StandsFor, MayBeFound}
+use Rattle.base_core.specs.Standing.{payloads, base_by, tick_of, left_within, StandsFor, MayBeFound}
 
 -- a stop is at one of the calls
 stopped_within : (file : ℕ) (first : List ℕ) (calls : List Event) (k : ℕ) (image : List ℕ) → Stopped file first calls k image → k ≤ length calls

@@ -1,19 +1,18 @@
 -- What a core keeps after a fault of the disk under a command that builds nothing.
-use Rattle.std.proofs.Common.{◌≡◌, ◌≢◌, ℕ, ◌+◌, ◌-◌, ◌≤◌, inl, inr, true, Option, Some, None, Ok, List, [], ◌∷◌, ◌++◌, length, refl, ap, sym, subst, ◌∙◌, arith}
+use Rattle.std.proofs.Common.{◌≡◌, ℕ, ◌-◌, ◌≤◌, inl, inr, true, Option, Some, None, Ok, List, [], ◌∷◌, ◌++◌, length, refl, ap, sym, subst, ◌∙◌, arith}
 use Rattle.std.proofs.lemmas.List.{length-set}
 use Rattle.std.specs.Prelude.{option_and_then}
 use Rattle.cc_names.specs.Formed.{Plain, IsFormed}
 use Rattle.cc_names.specs.declared.replies.Reply.{Reply}
 use Rattle.cc_names.specs.declared.replies.Reply.TheVariants as replies
-use Rattle.cc_names.specs.declared.rows.Tag.{Tag}
 use Rattle.cc_names.specs.declared.steps.Step.TheVariants as steps
 use Rattle.cc_names.specs.declared.steps.Told.{Told}
 use Rattle.cc_names.specs.declared.steps.Told.TheVariants as told
 use Rattle.disk_model.specs.Told.{Sight}
-use Rattle.legal_history.specs.Builds.{Build, build_of, reserved}
+use Rattle.legal_history.specs.Builds.{Build, reserved}
 use Rattle.legal_history.specs.Decisions.{Makes}
 use Rattle.legal_history.specs.Fits.{row_limit}
-use Rattle.legal_history.specs.States.{State, start, done_of, with_done, decided, build_if, build_by, ticks_of, faults_of}
+use Rattle.legal_history.specs.States.{State, start, with_done, decided, build_if, build_by, ticks_of, faults_of}
 use Rattle.legal_history.specs.Steps.{after, state_of, done_by_fault, faulted_in}
 use Rattle.legal_history.specs.Committing.{Leaves, MayCommit, rises}
 use Rattle.view_lookup.specs.Unversioned.{is_plain_deed}

@@ -8,7 +8,7 @@ use Rattle.cc_names.specs.declared.steps.Step.TheVariants as steps
 use Rattle.cc_names.specs.declared.steps.Told.TheVariants as told
 use Rattle.legal_history.specs.States.{State, hanging}
 use Rattle.legal_history.specs.Steps.{after, state_from}
-use Rattle.base_core.specs.Leaving.{left_by, left_in}
+use Rattle.base_core.specs.Leaving.{left_by}
 use Rattle.base_core.specs.Telling.{story_of, AreTold}
 use Rattle.base_core.specs.declared.handed.Handed.{Handed}
 

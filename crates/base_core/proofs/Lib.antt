@@ -43,3 +43,5 @@ pub mod SameDeeds
 pub mod OpenedBases
 mod OpeningStep
 pub mod Appended
+pub mod Counts
+mod CountRows

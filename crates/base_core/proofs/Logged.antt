@@ -1,5 +1,5 @@
 -- What a log keeps, with the steps, the rows and the phases as they are kept.
-use Rattle.std.proofs.Common.{◌≡◌, ℕ, ◌+◌, ◌≤◌, ◌<◌, ◌⊎◌, inl, inr, Bool, true, false, Option, Some, None, List, [], ◌∷◌, ◌++◌, length, refl, ap, sym, subst, ◌∙◌, arith}
+use Rattle.std.proofs.Common.{◌≡◌, ℕ, ◌+◌, Bool, true, false, Option, List, [], ◌∷◌, ◌++◌, length, refl, ap, sym, subst, ◌∙◌}
 use Rattle.cc_names.specs.Formed.{Plain}
 use Rattle.cc_names.specs.declared.commands.Phase.{Phase}
 use Rattle.cc_names.specs.declared.rows.Tag.{Tag}
@@ -7,14 +7,12 @@ use Rattle.cc_names.specs.declared.steps.Step.{Step}
 use Rattle.cc_names.specs.declared.steps.Step.TheVariants as steps
 use Rattle.cc_names.specs.declared.steps.Told.TheVariants as told
 use Rattle.disk_model.specs.Told.{Sight, IfTold, Both, IsCounted}
-use Rattle.legal_history.specs.States.{State, start, ticks_of, hanging}
+use Rattle.legal_history.specs.States.{State, start}
 use Rattle.legal_history.specs.Steps.{after, state_of}
 use Rattle.row_form.specs.Spelled.{spelled}
 use Rattle.vob_journal.specs.Lefts.{loose_after}
 use Rattle.vob_journal.specs.Moves.{Moves}
 use Rattle.vob_journal.specs.declared.left.Left.{Left}
-use Rattle.vob_journal.specs.declared.left.Left.TheVariants as lefts
-use Rattle.base_core.specs.Appending.{IsQuiet}
 use Rattle.base_core.specs.Backed.{IsBacked}
 use Rattle.base_core.specs.Faults.{is_fault}
 use Rattle.base_core.specs.Leaving.{left_in, LeftSo}

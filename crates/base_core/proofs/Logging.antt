@@ -1,34 +1,20 @@
 -- What a log keeps after each kind of step.
-use Rattle.std.proofs.Common.{◌≡◌, ℕ, ◌+◌, ◌<◌, ◌≤◌, ◌^◌, ◌⊎◌, inl, inr, Bool, true, false, Option, Some, None, List, [], ◌∷◌, ◌++◌, length, refl, ap, sym, subst, ◌∙◌, arith}
-use Rattle.std.specs.Prelude.{is_some}
+use Rattle.std.proofs.Common.{◌≡◌, ℕ, ◌≤◌, Bool, true, Option, Some, None, List, [], ◌∷◌, ◌++◌, length, ap, sym, subst, ◌∙◌, arith}
 use Rattle.cc_names.specs.Formed.{Plain}
-use Rattle.cc_names.specs.declared.commands.Phase.{Phase}
 use Rattle.cc_names.specs.declared.rows.Tag.{Tag}
-use Rattle.cc_names.specs.declared.steps.Step.{Step}
-use Rattle.cc_names.specs.declared.steps.Step.TheVariants as steps
-use Rattle.cc_names.specs.declared.steps.Told.{Told}
 use Rattle.cc_names.specs.declared.steps.Told.TheVariants as told
-use Rattle.disk_model.specs.Counting.{raised}
 use Rattle.disk_model.specs.Devices.{Device}
 use Rattle.disk_model.specs.Told.{Sight, IfTold, Both, IsCounted}
-use Rattle.legal_history.specs.States.{State, Opening, End, Committed, Faulted, start, ticks_of, faults_of, hanging}
-use Rattle.legal_history.specs.Steps.{after, state_of, state_from}
+use Rattle.legal_history.specs.States.{State, Opening, Faulted, ticks_of, faults_of, hanging}
+use Rattle.legal_history.specs.Steps.{after}
 use Rattle.row_form.specs.Spelled.{spelled}
 use Rattle.vob_journal.specs.Lefts.{loose_after}
 use Rattle.vob_journal.specs.Moves.{Moves}
 use Rattle.vob_journal.specs.declared.left.Left.{Left}
-use Rattle.vob_journal.specs.declared.left.Left.TheVariants as lefts
 use Rattle.base_core.specs.Backed.{IsCovered, IsBacked}
-use Rattle.base_core.specs.Faults.{is_fault}
 use Rattle.base_core.specs.Leaving.{LeftSo}
-use Rattle.base_core.specs.Logs.{IsLogged}
 use Rattle.base_core.specs.Standing.{base_by}
-use Rattle.base_core.specs.Telling.{story_of, AreTold, stands_alone}
-use Rattle.base_core.specs.declared.handed.Handed.{Handed}
-use Rattle.base_core.proofs.Backing.{still_told, commit_covered, fault_covered, settle_covered}
-use Rattle.base_core.proofs.Growing.{state_from-more}
-use Rattle.base_core.proofs.LogSteps.{told_row, told_phase, is_told_step}
-use Rattle.base_core.proofs.Stories.{story_of-commit, story_of-plan, story_of-step}
+use Rattle.base_core.proofs.Backing.{still_told, commit_covered, fault_covered}
 
 -- what holds where a device is told
 pub if_told : (told : Option Device) (P Q : Device → Type 0) → ((d : Device) → P d → Q d) → IfTold told P → IfTold told Q

@@ -1,5 +1,5 @@
 -- What a core keeps after the row of an object that a unit of a build made.
-use Rattle.std.proofs.Common.{◌≡◌, ◌≢◌, ℕ, suc, ◌-◌, ◌<◌, ◌≤◌, nat_lt, ◌⊎◌, inl, inr, true, Option, Some, List, [], ◌∷◌, ◌++◌, length, length-append, set, refl, ap, sym, subst, ◌∙◌, arith}
+use Rattle.std.proofs.Common.{◌≡◌, ◌≢◌, ℕ, ◌-◌, ◌<◌, ◌≤◌, nat_lt, ◌⊎◌, inl, inr, true, Option, Some, List, [], ◌∷◌, ◌++◌, length, length-append, set, refl, ap, sym, subst, ◌∙◌, arith}
 use Rattle.std.proofs.lemmas.List.{append-nil, length-set, reverse-append, length-reverse}
 use Rattle.std.proofs.lemmas.Bool.Decides.{nat_tests}
 use Rattle.std.specs.Ordering.{nat_cmp}

@@ -1,7 +1,7 @@
 -- What a log keeps after its tail was settled, and what it says of stops.
-use Rattle.std.proofs.Common.{◌≡◌, ℕ, ◌+◌, ◌-◌, ◌<◌, ◌≤◌, ◌^◌, ◌⊎◌, inl, inr, Bool, true, false, Option, Some, None, List, [], ◌∷◌, ◌++◌, length, take, drop, refl, ap, ap₂, sym, subst, ◌∙◌, arith}
+use Rattle.std.proofs.Common.{◌≡◌, ℕ, ◌+◌, ◌-◌, ◌<◌, ◌≤◌, ◌^◌, ◌⊎◌, inl, inr, Bool, true, Option, Some, None, List, [], ◌∷◌, ◌++◌, length, ap, ap₂, sym, subst, ◌∙◌, arith}
 use Rattle.std.proofs.lemmas.List.{append-nil, take_all, drop_all}
-use Rattle.std.specs.Prelude.{is_some, Result, Ok, Err, MatchResult}
+use Rattle.std.specs.Prelude.{Result, Ok, Err, MatchResult}
 use Rattle.cc_names.specs.Formed.{Plain}
 use Rattle.cc_names.specs.declared.commands.Phase.{Phase}
 use Rattle.cc_names.specs.declared.steps.Step.{Step}
@@ -10,7 +10,7 @@ use Rattle.cc_names.specs.declared.steps.Told.TheVariants as told
 use Rattle.disk_model.specs.Counting.{raised}
 use Rattle.disk_model.specs.Devices.{Device, LeavesNow, MayLeave}
 use Rattle.disk_model.specs.Told.{Sight, IfTold, Both, IsCounted}
-use Rattle.legal_history.specs.States.{State, Opening, End, ticks_of, faults_of, hanging}
+use Rattle.legal_history.specs.States.{State, Opening, End, ticks_of, hanging}
 use Rattle.legal_history.specs.Steps.{state_of}
 use Rattle.vob_journal.specs.Frames.{frames}
 use Rattle.vob_journal.specs.Moves.{Moves, Stands}
@@ -22,7 +22,7 @@ use Rattle.base_core.specs.Logs.{IsLogged, opened_log}
 use Rattle.base_core.specs.Standing.{payloads, base_by, StandsFor, MayBeFound}
 use Rattle.base_core.specs.Telling.{story_of, AreTold}
 use Rattle.base_core.specs.declared.handed.Handed.{Handed}
-use Rattle.base_core.proofs.Backing.{after_all, left_within_calls, settle_covered, stands_so, still_told}
+use Rattle.base_core.proofs.Backing.{after_all, settle_covered, stands_so, still_told}
 use Rattle.base_core.proofs.Logging.{if_told, ticks_told}
 use Rattle.base_core.proofs.LogSteps.{shown}
 

@@ -1,5 +1,5 @@
 -- What a lane's next command comes to.
-use Rattle.std.specs.Prelude.{◌≡◌, ℕ, ◌<◌, ◌≤◌, true, Option, Some, Result, Ok, Err, List, [], ◌∷◌, ◌++◌, length}
+use Rattle.std.specs.Prelude.{◌≡◌, ℕ, ◌<◌, ◌≤◌, true, Some, Result, Ok, Err, List, [], ◌∷◌, ◌++◌, length}
 use Rattle.cc_names.specs.Formed.{Plain}
 use Rattle.cc_names.specs.declared.desks.Done.{Done}
 use Rattle.cc_names.specs.declared.desks.Done.TheVariants.{Committed, Refused, Answered, Faulted}
@@ -12,7 +12,7 @@ use Rattle.cc_names.specs.declared.steps.Step.TheVariants as steps
 use Rattle.cc_names.specs.declared.steps.Told.{Told}
 use Rattle.cc_names.specs.declared.steps.Told.TheVariants as told
 use Rattle.legal_history.specs.Base.{size}
-use Rattle.legal_history.specs.Decisions.{Decision, Makes, Answers}
+use Rattle.legal_history.specs.Decisions.{Makes, Answers}
 use Rattle.legal_history.specs.States.{State, decided, next_tag}
 use Rattle.legal_history.specs.Steps.{state_of}
 use Rattle.view_lookup.specs.Unversioned.{is_plain_deed}

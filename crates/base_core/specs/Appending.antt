@@ -1,5 +1,5 @@
 -- What became of a row that was to be committed.
-use Rattle.std.specs.Prelude.{◌≡◌, ℕ, ◌≤◌, ◌⊎◌, true, false, Option, Some, None, List}
+use Rattle.std.specs.Prelude.{◌≡◌, ℕ, ◌<◌, ◌≤◌, ◌⊎◌, true, false, Option, Some, None}
 use Rattle.cc_names.specs.Formed.{Plain, IsFormed}
 use Rattle.cc_names.specs.declared.steps.Step.{Step}
 use Rattle.cc_names.specs.declared.steps.Step.TheVariants as steps
@@ -27,6 +27,8 @@ pub record IsCommitted (old new : Logged) (row : Plain) : Type 0 where
   pub formed : IsFormed row
   pub grows : new ≡ with_row old row tick sight
   pub ticked : rises (ticks_of (state_of old.story).opened (state_of old.story).ends) tick ≡ true
+  pub at : tick ≡ sight.ticks
+  pub spent : old.sight.ticks < tick
   pub faults : sight.faults ≡ old.sight.faults
 
 -- a step that names no row and no phase, and is no fault of the disk
@@ -53,6 +55,9 @@ pub record IsFaulted (old new : Logged) (row : Plain) (ending : Option Step) : T
   pub ticked : rises (ticks_of (state_of old.story).opened (state_of old.story).ends) tick ≡ true
   pub counted : before ≡ old.sight.faults
   pub counts : sight.faults ≡ raised old.sight.faults
+  pub told : faults ≡ sight.faults
+  pub at : tick ≡ sight.ticks
+  pub spent : rises old.sight.ticks tick ≡ true
 
 -- what became of a row
 abbrev pub Appends : Logged → Logged → Plain → Option Step → Appended → Type 0

@@ -1,5 +1,5 @@
 -- What a core keeps of its journal: the disk stands for the base, and each stop since the opening finds what the history says.
-use Rattle.std.specs.Prelude.{◌≡◌, ℕ, ◌<◌, ◌≤◌, ◌⊎◌, Bool, true, Some, None, is_some, List, [], ◌++◌}
+use Rattle.std.specs.Prelude.{◌≡◌, ℕ, ◌<◌, ◌≤◌, Bool, true, Some, None, is_some, List, [], ◌++◌}
 use Rattle.disk_model.specs.Devices.{Device, Leaves, LeavesNow, MayLeave}
 use Rattle.disk_model.specs.Told.{Sight, IfTold}
 use Rattle.legal_history.specs.States.{State, Opening, End, ticks_of, faults_of, hanging}

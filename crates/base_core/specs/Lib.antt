@@ -4,6 +4,7 @@ pub mod Backed
 pub mod BuildCalls
 pub mod Building
 pub mod Carried
+pub mod Counted
 pub mod Faults
 pub mod Founds
 pub mod Going

@@ -93,6 +93,7 @@ impl<D: Disk> Core<D> {
     ghost use Rattle.base_core.specs.Building.{IsNextBuild, PlansNext};
     ghost use Rattle.base_core.specs.BuildCalls.{Begins, IsBuilding, IsTurn, StepsTo, Notes, Noted, MaySettle, MayStart, IsStarted, HasRun, IsObjectRow, IsOver, Settled, Tries, IsCarried, AreAllCarried};
     ghost use Rattle.base_core.specs.Going.{GoesOn, Finishes};
+    ghost use Rattle.base_core.specs.Counted.{KeepsCount};
     ghost use Rattle.std.specs.Prelude.{Ok};
     ghost use Rattle.build_script.specs.Ended.{ran_of};
     ghost use Rattle.legal_history.specs.Turns.{came_by_start};
@@ -115,7 +116,7 @@ impl<D: Disk> Core<D> {
         }
     }
 
-    /// Begins a phase. An `Err` changes nothing. Takes time linear in the number of lanes.
+    /// Begins a phase. An `Err` changes nothing. Makes no device call. Takes time linear in the number of lanes.
     pub fn begin_phase(&mut self, alloc: Global, phase: Phase, moment: u64) -> Result<(), NoMemory>
         requires finished { all_done (state_of self.old.story) ≡ true }
         requires formed { IsPhase command_limit phase }
@@ -124,6 +125,7 @@ impl<D: Disk> Core<D> {
         requires in_time { moment ≤ last_moment }
         ensures ok { OnOk result (self.new.story ≡ self.old.story ++ told.Plan phase moment ∷ []) }
         ensures err { OnErr result (self.new ≡ self.old) }
+        ensures counted { KeepsCount self.old self.new }
     {
         let lanes = phase.lanes.as_slice().len();
         let replies = fresh(alloc, lanes)?;
@@ -188,6 +190,7 @@ impl<D: Disk> Core<D> {
         requires { IsNextRow (state_of self.old.story) row }
         ensures ok { IfOk result (λ done. Acts self.old.story self.new.story row.tag.lane done) }
         ensures err { OnErr result (self.new ≡ self.old) }
+        ensures counted { KeepsCount self.old self.new }
     {
         let lane = row.tag().lane;
         add_reply(&mut self.replies, lane, Reply::Good)?;
@@ -209,6 +212,7 @@ impl<D: Disk> Core<D> {
         requires { IsNextRefusal (state_of self.old.story) tag refusal }
         ensures ok { OnOk result (Acts self.old.story self.new.story tag.lane dones.Refused) }
         ensures err { OnErr result (self.new ≡ self.old) }
+        ensures counted { KeepsCount self.old self.new }
     {
         let told = refusal.copy(alloc)?;
         add_reply(&mut self.replies, tag.lane, Reply::Refused(told))?;
@@ -220,11 +224,14 @@ impl<D: Disk> Core<D> {
     }
 
     /// Carries out a lane's next command, which builds nothing: its row is committed, it is refused, or the disk fails
-    /// under it. An `Err` changes nothing. Takes time linear in the command and in the row, however many rows there are.
+    /// under it. An `Err` changes nothing. A commit has the disk's ticks as this call ends, and no fault was counted. A
+    /// fault has the counts of faults as this call begins and ends, and the ticks as it ends. A refusal and an `Err` make
+    /// no device call. Takes time linear in the command and in the row, however many rows there are.
     pub fn act(&mut self, alloc: Global, lane: u32) -> Result<Done, NoMemory>
         requires { next_of (state_of self.old.story) lane ≡ nexts.Act }
         ensures ok { IfOk result (λ done. Acts self.old.story self.new.story lane done) }
         ensures err { OnErr result (self.new ≡ self.old) }
+        ensures counted { KeepsCount self.old self.new }
     {
         let tag = self.tag(lane);
         match self.decide(alloc, lane) {
@@ -263,6 +270,7 @@ impl<D: Disk> Core<D> {
         requires { IsNextBuild (state_of self.old.story) build }
         ensures ok { OnOk result (Begins self.old.story self.new.story build.tag.lane (begins.Units (length build.units))) }
         ensures err { OnErr result (self.new ≡ self.old) }
+        ensures counted { KeepsCount self.old self.new }
     {
         let tag = build.tag();
         self.log.tell(Step::Begin {
@@ -280,6 +288,7 @@ impl<D: Disk> Core<D> {
         requires { next_of (state_of self.old.story) lane ≡ nexts.Build (next_tag (state_of self.old.story) lane) }
         ensures ok { IfOk result (λ begun. Begins self.old.story self.new.story lane begun) }
         ensures err { OnErr result (self.new ≡ self.old) }
+        ensures counted { KeepsCount self.old self.new }
     {
         if let Some(build) = build_of(self.builds.as_slice(), lane) {
             return Ok(Begun::Units(build.units().len() as u32));
@@ -304,6 +313,7 @@ impl<D: Disk> Core<D> {
         requires { Notes (state_of self.old.story) lane unit step (came_of came) }
         ensures ok { OnOk result (Noted self.old.story self.new.story lane unit (came_of came)) }
         ensures err { OnErr result (self.new ≡ self.old) }
+        ensures counted { KeepsCount self.old self.new }
     {
         self.log.tell(step)?;
         note(&mut self.builds, lane, unit, came);
@@ -315,6 +325,7 @@ impl<D: Disk> Core<D> {
         requires { MaySettle (state_of self.old.story) lane unit end }
         ensures ok { OnOk result (Settled self.old.story self.new.story lane unit) }
         ensures err { OnErr result (self.new ≡ self.old) }
+        ensures counted { KeepsCount self.old self.new }
     {
         let tag = self.tag(lane);
         let outcome = end.copy(alloc)?;
@@ -333,6 +344,7 @@ impl<D: Disk> Core<D> {
         requires { MayStart (state_of self.old.story) lane unit fault }
         ensures ok { OnOk result (Noted self.old.story self.new.story lane unit (came_by_start fault)) }
         ensures err { OnErr result (self.new ≡ self.old) }
+        ensures counted { KeepsCount self.old self.new }
     {
         let tag = self.tag(lane);
         self.note_step(lane, unit, Step::Start { tag, unit }, came_by_start(fault))?;
@@ -357,6 +369,7 @@ impl<D: Disk> Core<D> {
         requires { IsTurn (state_of self.old.story) lane unit }
         ensures ok { IfOk result (λ tried. Tries self.old.story self.new.story lane unit tried) }
         ensures err { OnErr result (self.new ≡ self.old) }
+        ensures counted { KeepsCount self.old self.new }
     {
         match self.step(alloc, lane, unit)? {
             UnitStep::Settled => Ok(Tried::Settled),
@@ -435,6 +448,7 @@ impl<D: Disk> Core<D> {
         requires { IsObjectRow (state_of self.old.story) lane unit row }
         ensures ok { IfOk result (λ carried. IsCarried self.old.story self.new.story lane unit carried) }
         ensures err { OnErr result (self.new ≡ self.old) }
+        ensures counted { KeepsCount self.old self.new }
     {
         a_base_fits();
         a_build_agrees();
@@ -470,6 +484,7 @@ impl<D: Disk> Core<D> {
         requires { HasRun (state_of self.old.story) lane unit (ran_of ended) }
         ensures ok { IfOk result (λ carried. IsCarried self.old.story self.new.story lane unit carried) }
         ensures err { OnErr result (self.new ≡ self.old) }
+        ensures counted { KeepsCount self.old self.new }
     {
         let Ended { result, reads } = ended;
         match result {
@@ -491,6 +506,7 @@ impl<D: Disk> Core<D> {
         requires { IsTurn (state_of self.old.story) lane unit }
         ensures ok { IfOk result (λ carried. IsCarried self.old.story self.new.story lane unit carried) }
         ensures err { OnErr result (GoesOn self.old.story self.new.story lane) }
+        ensures counted { KeepsCount self.old self.new }
     {
         match self.try_unit(alloc, lane, unit)? {
             Tried::Settled => Ok(Carried::Settled),
@@ -507,6 +523,7 @@ impl<D: Disk> Core<D> {
         requires { IsBuilding (state_of self.old.story) lane count }
         ensures ok { IfOk result (λ carried. AreAllCarried self.old.story self.new.story lane carried) }
         ensures err { OnErr result (GoesOn self.old.story self.new.story lane) }
+        ensures counted { KeepsCount self.old self.new }
     {
         for unit in 0..count {
             if let Carried::Faulted = self.carry_out(alloc, lane, unit)? {
@@ -521,6 +538,7 @@ impl<D: Disk> Core<D> {
         requires { IsOver (state_of self.old.story) lane }
         ensures ok { OnOk result (Finishes self.old.story self.new.story lane) }
         ensures err { OnErr result (self.new ≡ self.old) }
+        ensures counted { KeepsCount self.old self.new }
     {
         let tag = self.tag(lane);
         let Some(build) = build_of(self.builds.as_slice(), lane) else {
@@ -537,12 +555,14 @@ impl<D: Disk> Core<D> {
     }
 
     /// Carries out a lane's next command, which builds: it is refused, or its units are carried out one after the other and
-    /// the build ends. After an `Err` the story may have gone on by steps of this build, which is then active. Takes time
-    /// linear in the makefile, and in what the scripts read and write.
+    /// the build ends. After an `Err` the story may have gone on by steps of this build, which is then active. Each commit
+    /// and fault among the steps has the disk's counts as `act` says, of its own turn; beside them no device call is made,
+    /// whatever is answered. Takes time linear in the makefile, and in what the scripts read and write.
     pub fn build(&mut self, alloc: Global, lane: u32) -> Result<(), NoMemory>
         requires { next_of (state_of self.old.story) lane ≡ nexts.Build (next_tag (state_of self.old.story) lane) }
         ensures ok { OnOk result (Finishes self.old.story self.new.story lane) }
         ensures err { OnErr result (GoesOn self.old.story self.new.story lane) }
+        ensures counted { KeepsCount self.old self.new }
     {
         match self.begin(alloc, lane)? {
             Begun::Refused => Ok(()),

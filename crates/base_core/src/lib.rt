@@ -6,8 +6,9 @@
 //
 // What it promises: the story of a `Core` is legal at every moment. `act` adds the one step by which a lane's next command is
 // finished; `build` finishes a lane's clearmake by the steps of its build. After want of memory the story is what it was, or
-// has gone on by steps of that build alone. `replies` gives the replies of the story. A stop at any call of the disk since
-// the base was opened finds the rows committed before it, and besides at most the row that was under way or that a fault
+// has gone on by steps of that build alone. `begin_phase`, `act` and `build` make device calls for commits and faults alone,
+// each of which has the disk's counts as it ended. `replies` gives the replies of the story. A stop at any call of the disk
+// since the base was opened finds the rows committed before it, and besides at most the row that was under way or that a fault
 // left; `finish` leaves the rows and no more.
 //
 // What it stands on: `vob_journal`, `row_form` and `disk_model` for the disk, `checkout_desk` for the decisions on rows,

@@ -1,6 +1,7 @@
 -- a unit is carried out
 use Rattle.std.proofs.Common.{subst}
 use Rattle.base_core.specs.BuildCalls.{Tries}
+use Rattle.base_core.proofs.Counts.{keeps_further}
 use Rattle.base_core.proofs.FoundBuilds.{carried_further}
 use Rattle.base_core.proofs.core_value.Core.carry_out.Goals as goal
 
@@ -8,3 +9,6 @@ pub returns-in_ok-ended-in-Run-clause-ok : goal.returns-in_ok-ended-in-Run-claus
 returns-in_ok-ended-in-Run-clause-ok g c =
     let tried = subst (Tries c.args.self.now.story c.try_unit.new.self.story c.args.lane c.args.unit) c.in-Run.is c.in_ok-try_unit.ensures.ok in
     carried_further c.args.self.now.story c.try_unit.new.self.story c.finish_unit.new.self.story c.args.lane c.args.unit tried.0 c.finish_unit.result c.finish_unit.ensures.ok
+
+pub returns-in_ok-ended-in-Run-clause-counted : goal.returns-in_ok-ended-in-Run-clause-counted
+returns-in_ok-ended-in-Run-clause-counted g c = keeps_further c.args.self.now c.try_unit.new.self c.finish_unit.new.self c.try_unit.ensures.counted c.finish_unit.ensures.counted

@@ -2,19 +2,28 @@
 use Rattle.std.proofs.Common.{arith, subst}
 use Rattle.base_core.specs.BuildCalls.{IsCarried}
 use Rattle.base_core.specs.Going.{GoesOn}
+use Rattle.base_core.proofs.Counts.{keeps_further}
 use Rattle.base_core.proofs.FoundBuilds.{one_carried, carried_over}
 use Rattle.base_core.proofs.Goings.{goes_further, on_err}
 use Rattle.base_core.proofs.core_value.Core.carry_out_all.Goals as goal
 
 pub returns-in_err-carry_out-clause-err : goal.returns-in_err-carry_out-clause-err
 returns-in_err-carry_out-clause-err g c = on_err c.from_residual.result (GoesOn c.args.self.now.story c.carry_out.new.self.story c.args.lane)
-    (goes_further c.args.self.now.story c.loop-unit.self.story c.carry_out.new.self.story c.args.lane c.loop-unit.invariant.goes c.in_err-carry_out.ensures.err)
+    (goes_further c.args.self.now.story c.loop-unit.self.story c.carry_out.new.self.story c.args.lane c.loop-unit.invariant.0.goes c.in_err-carry_out.ensures.err)
 
 pub loop-unit-preserved : goal.loop-unit-preserved
 loop-unit-preserved g c =
-    let settled = subst (IsCarried c.loop-unit.self.story c.carry_out.new.self.story c.args.lane c.loop-unit.unit) c.in_default.is c.in_ok-carry_out.ensures.ok in
-    one_carried c.args.self.now.story c.loop-unit.self.story c.carry_out.new.self.story c.args.lane c.loop-unit.unit c.args.count c.loop-unit.invariant settled.0 settled.1
+    let settled = subst (IsCarried c.loop-unit.self.story c.carry_out.new.self.story c.args.lane c.loop-unit.unit) c.in_default.is c.in_ok-carry_out.ensures.ok in (
+      one_carried c.args.self.now.story c.loop-unit.self.story c.carry_out.new.self.story c.args.lane c.loop-unit.unit c.args.count c.loop-unit.invariant.0 settled.0 settled.1,
+      keeps_further c.args.self.now c.loop-unit.self c.carry_out.new.self c.loop-unit.invariant.1 c.carry_out.ensures.counted,
+    )
 
 pub returns-clause-ok : goal.returns-clause-ok
 returns-clause-ok g c =
-    carried_over c.args.self.now.story c.loop-unit.self.story c.args.lane c.loop-unit.unit c.args.count (omega (arith, c.loop-unit-test.false)) c.loop-unit.invariant
+    carried_over c.args.self.now.story c.loop-unit.self.story c.args.lane c.loop-unit.unit c.args.count (omega (arith, c.loop-unit-test.false)) c.loop-unit.invariant.0
+
+pub returns-in_err-carry_out-clause-counted : goal.returns-in_err-carry_out-clause-counted
+returns-in_err-carry_out-clause-counted g c = keeps_further c.args.self.now c.loop-unit.self c.carry_out.new.self c.loop-unit.invariant.1 c.carry_out.ensures.counted
+
+pub returns-in-Faulted-clause-counted : goal.returns-in-Faulted-clause-counted
+returns-in-Faulted-clause-counted g c = keeps_further c.args.self.now c.loop-unit.self c.carry_out.new.self c.loop-unit.invariant.1 c.carry_out.ensures.counted

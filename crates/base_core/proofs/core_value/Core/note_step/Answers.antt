@@ -8,6 +8,7 @@ use Rattle.base_core.specs.Kept.{IsKept}
 use Rattle.base_core.proofs.Idle.{some_same}
 use Rattle.base_core.proofs.LaneSlots.{lane_slot, slot_there}
 use Rattle.base_core.proofs.UnitNotes.{kept_noted, noted_so}
+use Rattle.base_core.proofs.Counts.{log_stays}
 use Rattle.base_core.proofs.core_value.Core.note_step.Goals as goal
 
 pub note-requires-clause-from : goal.note-requires-clause-from
@@ -32,3 +33,6 @@ pub returns-clause-ok : goal.returns-clause-ok
 returns-clause-ok g c =
     subst (λ log. Noted c.args.self.now.story log.story c.args.lane c.args.unit (came_of c.args.came)) (sym c.in_ok-tell.ensures.ok)
     (noted_so c.self.inside.log c.args.self.now.story c.args.lane c.args.unit c.args.step (came_of c.args.came) (ap (λ v. v.story) c.self.view_is) c.requires)
+
+pub returns-in_err-tell-clause-counted : goal.returns-in_err-tell-clause-counted
+returns-in_err-tell-clause-counted g c = log_stays c.self.inside.log c.tell.new.self c.args.self.now c.self.view_is c.in_err-tell.ensures.err

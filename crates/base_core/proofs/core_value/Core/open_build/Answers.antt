@@ -5,6 +5,7 @@ use Rattle.base_core.specs.BuildCalls.{IsBuilding}
 use Rattle.base_core.specs.Going.{GoesOn}
 use Rattle.base_core.specs.Kept.{IsKept}
 use Rattle.base_core.proofs.OpenSteps.{kept_opened, opened_so}
+use Rattle.base_core.proofs.Counts.{log_stays}
 use Rattle.base_core.proofs.core_value.Core.open_build.Goals as goal
 
 pub invariant_of-self-2 : goal.invariant_of-self-2
@@ -17,3 +18,6 @@ pub returns-clause-ok : goal.returns-clause-ok
 returns-clause-ok g c =
     let so = opened_so c.self.inside.log c.rows.result (length c.units.result.now) c.args.self.now.story c.tag-tag.result c.args.build (ap (λ v. v.story) c.self.view_is) c.requires c.tag-tag.ensures in
     subst (λ log. GoesOn c.args.self.now.story log.story c.args.build.tag.lane × IsBuilding (state_of log.story) c.args.build.tag.lane (length c.args.build.units)) (sym c.in_ok-tell.ensures.ok) so
+
+pub returns-in_err-tell-clause-counted : goal.returns-in_err-tell-clause-counted
+returns-in_err-tell-clause-counted g c = log_stays c.self.inside.log c.tell.new.self c.args.self.now c.self.view_is c.in_err-tell.ensures.err

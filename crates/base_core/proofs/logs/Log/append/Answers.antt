@@ -3,7 +3,6 @@ use Rattle.std.proofs.Common.{◌≡◌, ◌+◌, ◌∷◌, [], ◌++◌, lengt
 use Rattle.std.specs.Option.{option_to_list}
 use Rattle.cc_names.specs.declared.steps.Step.TheVariants as steps
 use Rattle.disk_model.specs.Told.{IfTold}
-use Rattle.row_form.specs.Spelled.{spelled}
 use Rattle.vob_journal.specs.Lefts.{loose_after}
 use Rattle.base_core.specs.Appending.{IsCommitted, IsFaulted}
 use Rattle.base_core.specs.Leaving.{left_in, LeftSo}

@@ -1,0 +1,27 @@
+-- What a story says of the disk's counts.
+use Rattle.std.specs.Prelude.{◌≡◌, ◌<◌, true, List, [], ◌∷◌, ◌++◌}
+use Rattle.cc_names.specs.declared.steps.Step.TheVariants as steps
+use Rattle.cc_names.specs.declared.steps.Told.{Told}
+use Rattle.cc_names.specs.declared.steps.Told.TheVariants as told
+use Rattle.disk_model.specs.Told.{Sight}
+use Rattle.legal_history.specs.Stories.{rises}
+use Rattle.base_core.specs.Shown.{Shown}
+
+-- What a step says of the disk as the call that added it began and ended. A commit's tick is where the disk's ticks stand at
+-- its end; calls were made, and no fault was counted. A fault has the count of faults before and after, which rose, and the
+-- ticks at its end, which rose too. At any other step no call was made.
+abbrev pub CountsStep : Told → Sight → Sight → Type 0
+CountsStep (told.Commit row tick) old new = (tick ≡ new.ticks) × (old.ticks < tick) × (new.faults ≡ old.faults)
+CountsStep (told.Other (steps.Fault tag left before faults tick)) old new = (before ≡ old.faults) × (faults ≡ new.faults) × (rises before faults ≡ true) × (tick ≡ new.ticks) × (rises old.ticks tick ≡ true)
+CountsStep step old new = new ≡ old
+
+-- the steps of a list, one after the other; beside them no call was made
+abbrev pub CountsSteps : List Told → Sight → Sight → Type 0
+CountsSteps [] old new = new ≡ old
+CountsSteps (step ∷ steps) old new = (between : Sight) × CountsStep step old between × CountsSteps steps between new
+
+-- A story went on by steps that say what became of the disk's counts.
+pub record KeepsCount (old new : Shown) : Type 0 where
+  pub steps : List Told
+  pub grows : new.story ≡ old.story ++ steps
+  pub counts : CountsSteps steps old.sight new.sight
