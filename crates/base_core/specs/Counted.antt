@@ -4,7 +4,7 @@ use Rattle.cc_names.specs.declared.steps.Step.TheVariants as steps
 use Rattle.cc_names.specs.declared.steps.Told.{Told}
 use Rattle.cc_names.specs.declared.steps.Told.TheVariants as told
 use Rattle.disk_model.specs.Told.{Sight}
-use Rattle.legal_history.specs.Stories.{rises}
+use Rattle.legal_history.specs.Committing.{rises}
 use Rattle.base_core.specs.Shown.{Shown}
 
 -- What a step says of the disk as the call that added it began and ended. A commit's tick is where the disk's ticks stand at
