@@ -3,6 +3,7 @@ use Rattle.std.proofs.Common.{◌≡◌, refl, subst, ℕ, ◌<◌, ◌≤◌, �
 use Rattle.std.proofs.lemmas.Bool.{ltb-true}
 use Rattle.std.specs.List.{AllByRecursion}
 use Rattle.cc_names.specs.Names.{IsName}
+use Rattle.cc_names.specs.declared.steps.UnitEnd.TheVariants.{Kept}
 use Rattle.cc_names.specs.declared.units.Unit.{Unit}
 use Rattle.cc_names.specs.declared.units.UnitScript.{UnitScript}
 use Rattle.cc_names.specs.declared.units.UnitScript.TheVariants.{Bare, TooLong, Lines}
@@ -30,6 +31,7 @@ base_has_room (row ∷ older) h =
 object_agrees : (b : Base) (unit : Unit) (id : ℕ) (came : Came) (outcome : Outcome) → object_of (Some came) ≡ Some id → Agrees b unit came outcome → id < size b
 object_agrees b unit id (Given other) (Made outputs) is agrees = let same : other ≡ id = cc in subst (λ k. k < size b) same agrees.below
 object_agrees b unit id (Given other) (Without end) is agrees = absurd agrees
+object_agrees b unit id (Ended (Kept other)) (Made outputs) is agrees = let same : other ≡ id = cc in subst (λ k. k < size b) same agrees.below
 object_agrees b unit id (Ended end) (Made outputs) is agrees = absurd agrees
 object_agrees b unit id (Ended end) (Without other) is agrees = absurd (let none = agrees.1 in cc)
 object_agrees b unit id Started outcome is agrees = absurd (cc)

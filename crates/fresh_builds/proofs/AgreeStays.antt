@@ -4,6 +4,7 @@ use Rattle.std.specs.Prelude.{is_some}
 use Rattle.std.specs.Ordering.{nat_cmp}
 use Rattle.std.specs.FinMap.Entries.{find}
 use Rattle.cc_names.specs.Formed.{Plain}
+use Rattle.cc_names.specs.declared.steps.UnitEnd.TheVariants.{Kept}
 use Rattle.cc_names.specs.declared.units.Unit.{Unit}
 use Rattle.legal_history.specs.Base.{Base, size, first_rows, deed_of}
 use Rattle.legal_history.specs.Builds.{Build, Came, Started, Ended, Given, came_to, is_outcome, unit_at}
@@ -29,6 +30,7 @@ agrees_stays : (row : Plain) (b : Base) (unit : Unit) (came : Came) (outcome : O
 agrees_stays row b unit (Given id) (Made outputs) h = has_outputs_stays row b unit id outputs h
 agrees_stays row b unit (Given id) (Without end) h = h
 agrees_stays row b unit (Ended end) (Without other) h = h
+agrees_stays row b unit (Ended (Kept id)) (Made outputs) h = has_outputs_stays row b unit id outputs h
 agrees_stays row b unit (Ended end) (Made outputs) h = h
 agrees_stays row b unit Started (Made outputs) h = h
 agrees_stays row b unit Started (Without end) h = h

@@ -10,6 +10,7 @@ use Rattle.std.specs.Ordering.{nat_cmp, is_eq}
 use Rattle.std.specs.declared.cmp.Ordering.{Ordering}
 use Rattle.std.specs.declared.cmp.Ordering.TheVariants.{Less, Equal, Greater}
 use Rattle.std.specs.FinMap.Entries.{put, by_order}
+use Rattle.cc_names.specs.declared.steps.UnitEnd.TheVariants.{Kept}
 use Rattle.cc_names.specs.declared.units.Unit.{Unit}
 use Rattle.legal_history.specs.Base.{Base, first_rows, deed_at, only_where}
 use Rattle.legal_history.specs.Builds.{Build, Came, Started, Ended, Given, object_of}
@@ -32,6 +33,7 @@ given_has : (b : Base) (p : Pair) (path : List ℕ) (id : ℕ) (came : Came) (ou
 given_has b p path id (Given other) (Made outputs) made is agrees = let same : other ≡ id = cc in ap (is_among path) (subst (λ k. targets_of b k ≡ p.unit.targets) same agrees.targets) ∙ made
 given_has b p path id (Given other) (Without end) made is agrees = absurd agrees
 given_has b p path id (Ended end) (Without other) made is agrees = absurd (let none = agrees.1 in let some = is in cc)
+given_has b p path id (Ended (Kept other)) (Made outputs) made is agrees = let same : other ≡ id = cc in ap (is_among path) (subst (λ k. targets_of b k ≡ p.unit.targets) same agrees.targets) ∙ made
 given_has b p path id (Ended end) (Made outputs) made is agrees = absurd agrees
 given_has b p path id Started outcome made is agrees = absurd (cc)
 

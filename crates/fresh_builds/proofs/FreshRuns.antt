@@ -2,6 +2,7 @@
 use Rattle.std.proofs.Common.{◌≡◌, refl, ap, sym, ◌∙◌, ℕ, Bool, true, false, ◌||◌, Option, Some, None, List, [], ◌∷◌, map}
 use Rattle.std.specs.Option.{option_or}
 use Rattle.std.specs.Prelude.{is_some, bytes_eq, if◌then◌else◌}
+use Rattle.cc_names.specs.declared.steps.UnitEnd.TheVariants.{Kept}
 use Rattle.cc_names.specs.declared.units.Unit.{Unit}
 use Rattle.build_script.specs.Run.{Files, run}
 use Rattle.legal_history.specs.Base.{Base, first_rows, only_where}
@@ -59,6 +60,7 @@ text_same b files path (p ∷ pairs) row h same = by h.0.came p.outcome h.0.is r
     by (Given id) (Made outputs) is out agrees rest = rw (is, out) (given id outputs (makes path p.unit) refl agrees rest)
     by (Given id) (Without end) is out agrees rest = absurd agrees
     by (Ended end) (Without other) is out agrees rest = rw (is, out, agrees.1, nothing (makes path p.unit)) rest
+    by (Ended (Kept id)) (Made outputs) is out agrees rest = rw (is, out) (given id outputs (makes path p.unit) refl agrees rest)
     by (Ended end) (Made outputs) is out agrees rest = absurd agrees
     by Started outcome is out agrees rest = absurd agrees
 

@@ -28,7 +28,7 @@ AllAgree b [] = ⊤
 AllAgree b (pair ∷ pairs) = PairAgrees b pair × AllAgree b pairs
 
 -- a unit that makes one of some paths
-some_made : (u : Unit) (paths : List (List ℕ)) → list_any (λ path. makes path u) paths ≡ true → (path : List ℕ) × (is_among path paths ≡ true) × (makes path u ≡ true)
+pub some_made : (u : Unit) (paths : List (List ℕ)) → list_any (λ path. makes path u) paths ≡ true → (path : List ℕ) × (is_among path paths ≡ true) × (makes path u ≡ true)
 some_made u [] h = absurd (cc)
 some_made u (path ∷ paths) h = by (makes path u) refl h (some_made u paths)
   where
@@ -37,7 +37,7 @@ some_made u (path ∷ paths) h = by (makes path u) refl h (some_made u paths)
     by true is h rest = (path, or_first (bytes_eq path path) (list_any (bytes_eq path) paths) (bytes_itself path), is)
     by false is h rest = let r = rest h in (r.0, or_second (bytes_eq r.0 path) (list_any (bytes_eq r.0) paths) r.1, r.2)
 
-among_both : (path : List ℕ) (xs ys : List (List ℕ)) → is_among path (xs ++ ys) ≡ true → (t : Bool) × (is_among path xs ≡ t) × ((t ≡ false) → is_among path ys ≡ true)
+pub among_both : (path : List ℕ) (xs ys : List (List ℕ)) → is_among path (xs ++ ys) ≡ true → (t : Bool) × (is_among path xs ≡ t) × ((t ≡ false) → is_among path ys ≡ true)
 among_both path [] ys h = (false, refl, λ e. h)
 among_both path (x ∷ xs) ys h = by (bytes_eq path x) h (among_both path xs ys)
   where

@@ -2,6 +2,7 @@
 use Rattle.std.proofs.Common.{◌≡◌, refl, ap, sym, ◌∙◌, ℕ, zero, suc, ◌+◌, Some, None, List, [], ◌∷◌, ◌++◌, append_assoc, length, take, arith}
 use Rattle.std.specs.Prelude.{is_some, slice_get}
 use Rattle.cc_names.specs.declared.replies.UnitLine.{UnitLine}
+use Rattle.cc_names.specs.declared.steps.UnitEnd.TheVariants.{Kept}
 use Rattle.cc_names.specs.declared.units.Unit.{Unit}
 use Rattle.legal_history.specs.Base.{Base}
 use Rattle.legal_history.specs.Builds.{Build, Came, Started, Ended, Given, came_to, object_of}
@@ -15,6 +16,7 @@ same_word : (b : Base) (build : Build) (unit : Unit) (path : List ℕ) (came : C
 same_word b build unit path (Given id) (Made outputs) h = ap (λ o. Some (word_of_object b build (Some (Given id)) (digest_at o))) (sym (h.texts path))
 same_word b build unit path (Given id) (Without end) h = absurd h
 same_word b build unit path (Ended end) (Without other) h = ap (λ e. Some (word_of_end b path e)) (sym h.0)
+same_word b build unit path (Ended (Kept id)) (Made outputs) h = ap (λ o. Some (word_of_object b build (Some (Ended (Kept id))) (digest_at o))) (sym (h.texts path))
 same_word b build unit path (Ended end) (Made outputs) h = absurd h
 same_word b build unit path Started outcome h = absurd h
 
@@ -23,6 +25,7 @@ made_same : (b : Base) (unit : Unit) (came : Came) (outcome : Outcome) → Agree
 made_same b unit (Given id) (Made outputs) h = refl
 made_same b unit (Given id) (Without end) h = absurd h
 made_same b unit (Ended end) (Without other) h = sym (ap is_some h.1)
+made_same b unit (Ended (Kept id)) (Made outputs) h = refl
 made_same b unit (Ended end) (Made outputs) h = absurd h
 made_same b unit Started outcome h = absurd h
 

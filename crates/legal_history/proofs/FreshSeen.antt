@@ -4,7 +4,7 @@ use Rattle.std.proofs.lemmas.Bool.Decides.{nat_tests}
 use Rattle.std.proofs.lemmas.Slice.Eq.{bytes_eq-Decides}
 use Rattle.std.specs.Prelude.{option_map, find, slice_get, bytes_eq}
 use Rattle.std.specs.List.{list_any}
-use Rattle.cc_names.specs.declared.steps.UnitEnd.TheVariants.{Blocked, Failed}
+use Rattle.cc_names.specs.declared.steps.UnitEnd.TheVariants.{Kept, Blocked, Failed}
 use Rattle.cc_names.specs.declared.refusals.UnitFault.TheVariants.{NoRule}
 use Rattle.cc_names.specs.declared.units.Unit.{Unit}
 use Rattle.legal_history.specs.Base.{Base, first_rows}
@@ -118,6 +118,7 @@ agree_standing : (b : Base) (u : Unit) (came : Came) (outcome : Outcome) → Agr
 agree_standing b u (Given id) (Made outputs) h = refl
 agree_standing b u (Given id) (Without end) h = absurd h
 agree_standing b u (Ended end) (Without other) h = ap standing_of_end h.0
+agree_standing b u (Ended (Kept id)) (Made outputs) h = refl
 agree_standing b u (Ended end) (Made outputs) h = absurd h
 agree_standing b u Started outcome h = absurd h
 

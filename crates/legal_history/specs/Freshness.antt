@@ -1,6 +1,7 @@
 -- What the units of an active build come to in a build from nothing, and that what they have come to agrees with it.
 use Rattle.std.specs.Prelude.{◌≡◌, ℕ, ◌<◌, ◌≤◌, true, Option, Some, None, is_some, List, slice_get, take, reverse}
 use Rattle.cc_names.specs.declared.steps.UnitEnd.{UnitEnd}
+use Rattle.cc_names.specs.declared.steps.UnitEnd.TheVariants.{Kept}
 use Rattle.cc_names.specs.declared.units.Unit.{Unit}
 use Rattle.legal_history.specs.Base.{Base, size, first_rows}
 use Rattle.legal_history.specs.Builds.{Build, Came, Started, Ended, Given, came_to, is_outcome, object_of, number_from, unit_at}
@@ -36,10 +37,12 @@ pub record HasOutputs (b : Base) (unit : Unit) (id : ℕ) (outputs : List (List 
   pub texts : (path : List ℕ) → text b id path ≡ output_at path unit.targets outputs
   pub whole : (path : List ℕ) → makes path unit ≡ true → is_some (output_at path unit.targets outputs) ≡ true
 
--- what a unit has come to is an outcome: an object with these outputs, or the same end
+-- what a unit has come to is an outcome: an object with these outputs, which it was given or which its view held and it
+-- kept, or the same end without an object
 abbrev pub Agrees : Base → Unit → Came → Outcome → Type 0
 Agrees b unit (Given id) (Made outputs) = HasOutputs b unit id outputs
 Agrees b unit (Ended end) (Without other) = (end ≡ other) × (object_of (Some (Ended end)) ≡ None)
+Agrees b unit (Ended (Kept id)) (Made outputs) = HasOutputs b unit id outputs
 Agrees b unit came outcome = ⊥
 
 -- each unit that this one has as a prerequisite has its outcome

@@ -1,5 +1,5 @@
 -- An object that a unit may reuse is what the unit comes to in the build from nothing.
-use Rattle.std.proofs.Common.{◌≡◌, refl, ap, sym, ◌∙◌, inl, inr, ℕ, ◌<◌, Option, Some, None, List}
+use Rattle.std.proofs.Common.{◌≡◌, refl, ap, sym, ◌∙◌, inl, inr, ℕ, ◌<◌, true, Option, Some, None, List}
 use Rattle.std.specs.Prelude.{is_some}
 use Rattle.cc_names.specs.declared.rows.Deed.{Deed}
 use Rattle.cc_names.specs.declared.rows.Deed.TheVariants as deeds
@@ -8,11 +8,11 @@ use Rattle.cc_names.specs.declared.steps.Told.{Told}
 use Rattle.cc_names.specs.declared.units.Unit.{Unit}
 use Rattle.legal_history.specs.Base.{Base, size, first_rows, deed_at}
 use Rattle.legal_history.specs.Builds.{Build, build_of}
-use Rattle.legal_history.specs.Changes.{targets_of, targets_of_deed}
+use Rattle.legal_history.specs.Changes.{live, targets_of, targets_of_deed}
 use Rattle.legal_history.specs.Choices.{text_of_row, visible}
 use Rattle.legal_history.specs.Fresh.{outcome_of_run, script_text}
 use Rattle.legal_history.specs.Freshness.{AgreesSoFar, IsReady, early_from_nothing}
-use Rattle.legal_history.specs.Reuse.{reusable}
+use Rattle.legal_history.specs.Reuse.{matches, reusable}
 use Rattle.legal_history.specs.States.{Opening}
 use Rattle.legal_history.specs.Steps.{state_of}
 use Rattle.legal_history.specs.Stories.{Legal}
@@ -66,15 +66,21 @@ run_is_from_nothing b build n unit id agrees ready early r =
       };
     }
 
--- in a legal story over a sound base a reusable object is the run
-pub story_reuse : (story : List Told) (opening : Opening) (lane : ℕ) (build : Build) (n : ℕ) (unit : Unit) (id : ℕ) → Legal story → (state_of story).opened ≡ Some opening → IsSound opening.base → build_of (state_of story).active lane ≡ Some build →
-    reusable (state_of story).base build n unit ≡ Some id → IsTheRun (state_of story).base build n unit id
-story_reuse story opening lane build n unit id legal opened sound is chosen =
+-- in a legal story over a sound base a live object whose record matches is the run
+pub story_match : (story : List Told) (opening : Opening) (lane : ℕ) (build : Build) (n : ℕ) (unit : Unit) (id : ℕ) → Legal story → (state_of story).opened ≡ Some opening → IsSound opening.base → build_of (state_of story).active lane ≡ Some build →
+    is_some (live (state_of story).base id) ≡ true → matches (state_of story).base build n unit id ≡ true → IsTheRun (state_of story).base build n unit id
+story_match story opening lane build n unit id legal opened sound is lives match =
     let b = (state_of story).base in
     let base = base_fits story legal in
     let whole = story_stays_sound story opening legal opened sound in
-    let m = reusable_matches b build n unit id base chosen in
-    match_is_run b build n unit id base (first_are_base b build.rows base) whole (gives_live b build (story_holds story lane build legal is)) (live_is_true b id whole m.lives) m.matches_unit
+    match_is_run b build n unit id base (first_are_base b build.rows base) whole (gives_live b build (story_holds story lane build legal is)) (live_is_true b id whole lives) match
+
+-- so is one that may be reused
+pub story_reuse : (story : List Told) (opening : Opening) (lane : ℕ) (build : Build) (n : ℕ) (unit : Unit) (id : ℕ) → Legal story → (state_of story).opened ≡ Some opening → IsSound opening.base → build_of (state_of story).active lane ≡ Some build →
+    reusable (state_of story).base build n unit ≡ Some id → IsTheRun (state_of story).base build n unit id
+story_reuse story opening lane build n unit id legal opened sound is chosen =
+    let m = reusable_matches (state_of story).base build n unit id (base_fits story legal) chosen in
+    story_match story opening lane build n unit id legal opened sound is m.lives m.matches_unit
 
 pub story_reuse_from_nothing : (story : List Told) (opening : Opening) (tag : Tag) (n : ℕ) (build : Build) (unit : Unit) (id : ℕ) → Legal story → (state_of story).opened ≡ Some opening → IsSound opening.base →
     MayTake (state_of story) tag n build unit → reusable (state_of story).base build n unit ≡ Some id → IsAsFromNothing (state_of story).base build n unit id

@@ -67,7 +67,7 @@ given_by_command row b active lane build fit plain idle is h = record {
 }
 
 -- what a unit has come to after one of them came to something
-came_after : (build : Build) (n m : ℕ) (came : Came) (t : Bool) → (m == n) ≡ t → came_to (with_came build (Some n) came) m ≡ cond t (Some came) (came_to build m)
+pub came_after : (build : Build) (n m : ℕ) (came : Came) (t : Bool) → (m == n) ≡ t → came_to (with_came build (Some n) came) m ≡ cond t (Some came) (came_to build m)
 came_after build n m came t e = find_after_put m n came build.comes ∙ ap (λ b. cond b (Some came) (came_to build m)) e
 
 held_after_came : (b : Base) (build : Build) (n m id : ℕ) (came : Came) → IsHeld b build m id → IsHeld b (with_came build (Some n) came) m id

@@ -21,6 +21,7 @@ pub mod SeenTexts
 pub mod SelectedCovers
 pub mod SoundBases
 pub mod SoundRows
+pub mod TakenObjects
 pub mod TrueObjects
 pub mod ViewsApart
 pub mod WinkedObjects

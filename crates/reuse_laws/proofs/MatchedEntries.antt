@@ -27,7 +27,7 @@ entry_agrees_at b build n unit id path r match is = by (deed_at b id) match is
     by None h is = absurd (cc)
     by (Some deed) h is = by_deed deed h is
 
-pub entry_is_seen : (b : Base) (build : Build) (n : ℕ) (unit : Unit) (id : ℕ) (path : List ℕ) (r : ℕ) → matches b build n unit id ≡ true → row_in (record_of b id) path ≡ Some (suc r) → SeenBy b build path (suc r)
+pub entry_is_seen : (b : Base) (build : Build) (n : ℕ) (unit : Unit) (id : ℕ) (path : List ℕ) (r : ℕ) → matches b build n unit id ≡ true → row_in (record_of b id) path ≡ Some (suc r) → SeenBy b build n unit path (suc r)
 entry_is_seen b build n unit id path r match is = seen_by b build n unit path (suc r) (number_is (suc r) (visible b build n unit path) (entry_agrees_at b build n unit id path (suc r) match is))
 
 pub absent_is_unseen : (b : Base) (build : Build) (n : ℕ) (unit : Unit) (id : ℕ) (path : List ℕ) → matches b build n unit id ≡ true → row_in (record_of b id) path ≡ Some 0 → visible b build n unit path ≡ None

@@ -76,8 +76,8 @@ no_root_file b v path base h = by (at b v path) refl h
 own_agrees : (b : Base) (build : Build) (n : ℕ) (unit : Unit) (path : List ℕ) → is_base (first_rows build.rows b) ≡ true → GivesLive b build → agrees (entry_row (visible b build n unit path)) (visible b build n unit path) ≡ true
 own_agrees b build n unit path base gives = by (visible b build n unit path) refl
   where
-    no_root : SeenBy b build path 0 → ⊥
-    no_root (ByUnit m own) = let above = live_above b 0 (gives.lives m 0 own) in absurd (omega arith)
+    no_root : SeenBy b build n unit path 0 → ⊥
+    no_root (ByUnit g) = let above = live_above b 0 (gives.lives g.m 0 g.given) in absurd (omega arith)
     no_root (ByFile file) = no_root_file (first_rows build.rows b) build.view path base file
 
     by : (o : Option ℕ) → visible b build n unit path ≡ o → agrees (entry_row o) o ≡ true

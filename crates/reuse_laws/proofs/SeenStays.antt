@@ -32,8 +32,8 @@ seen_below b build n unit path row h is = by (seen_by b build n unit path row is
     grown [] rows low = low
     grown (new ∷ more) rows low = let under = grown more rows low in omega arith
 
-    by : SeenBy b build path row → row < size b
-    by (ByUnit m own) = h.objects m row own
+    by : SeenBy b build n unit path row → row < size b
+    by (ByUnit g) = h.objects g.m row g.given
     by (ByFile file) =
         let more = beyond b build.rows in
         subst (λ c. row < size c) (sym more.is) (grown more.more (first_rows build.rows b) (file_is_below (first_rows build.rows b) build.view path row h.base file))

@@ -55,8 +55,8 @@ file_publishes_nothing b build path (suc r) base is publish =
 pub unit_sees_true : (b : Base) (build : Build) (n : ℕ) (unit : Unit) → is_base (first_rows build.rows b) ≡ true → IsSound b → GivesLive b build → SeesTrue b (visible b build n unit)
 unit_sees_true b build n unit base sound gives path id seen publish = by (seen_by b build n unit path id seen)
   where
-    by : SeenBy b build path id → is_true b id ≡ true
-    by (ByUnit m own) = live_is_true b id sound (gives.lives m id own)
+    by : SeenBy b build n unit path id → is_true b id ≡ true
+    by (ByUnit g) = live_is_true b id sound (gives.lives g.m id g.given)
     by (ByFile file) = absurd (file_publishes_nothing b build path id base file publish)
 
 -- the text of an object that an entry names is what is stored

@@ -1,12 +1,13 @@
--- That an object is what a unit comes to in the build from nothing.
-use Rattle.std.specs.Prelude.{◌≡◌, ℕ, ◌⊎◌, List}
+-- That an object is what a unit comes to in the build from nothing, and when a unit may take one.
+use Rattle.std.specs.Prelude.{◌≡◌, ℕ, true, false, ◌⊎◌, Some, None, List}
 use Rattle.cc_names.specs.declared.rows.Tag.{Tag}
 use Rattle.cc_names.specs.declared.units.Unit.{Unit}
 use Rattle.legal_history.specs.Base.{Base, first_rows}
-use Rattle.legal_history.specs.Builds.{Build}
+use Rattle.legal_history.specs.Builds.{Build, Started, came_to, is_outcome}
 use Rattle.legal_history.specs.Freshness.{HasOutputs, outcome_in}
 use Rattle.legal_history.specs.Serials.{Made}
 use Rattle.legal_history.specs.States.{State}
+use Rattle.legal_history.specs.Turns.{early, is_ready}
 use Rattle.legal_history.specs.UnitTurns.{IsOpen, IsRunning}
 
 -- From nothing, at the build's reference rows, unit n is made, and the object has exactly its targets and outputs.
@@ -18,3 +19,9 @@ pub record IsAsFromNothing (b : Base) (build : Build) (n : ℕ) (unit : Unit) (i
 -- a unit may take an object in place of a run: it is open, or it was started and has no outcome
 abbrev pub MayTake : State → Tag → ℕ → Build → Unit → Type 0
 MayTake s tag n build unit = IsOpen s tag n build unit ⊎ IsRunning s tag n build unit
+
+-- Unit n of a build is due: it was started and has no outcome; or it has none, each unit that it has as a prerequisite has
+-- its outcome, and nothing ends it without a run.
+pub data IsDue (b : Base) (build : Build) (n : ℕ) (unit : Unit) : Type 0 where
+  IsStarted : came_to build n ≡ Some Started → IsDue b build n unit
+  IsReadyToStart : is_outcome (came_to build n) ≡ false → is_ready build unit ≡ true → early b build unit ≡ None → IsDue b build n unit

@@ -7,22 +7,24 @@ ghost use Rattle.cc_names.specs.References.{held_at};
 ghost use Rattle.cc_names.specs.declared.rows.Deed.TheVariants as deeds;
 ghost use Rattle.cc_names.specs.declared.rows.Tag.{Tag};
 ghost use Rattle.cc_names.specs.declared.steps.Told.{Told};
+ghost use Rattle.cc_names.specs.declared.steps.UnitEnd.TheVariants as ends;
 ghost use Rattle.cc_names.specs.declared.units.Unit.{Unit};
 ghost use Rattle.legal_history.specs.Base.{Base, deed_at, size};
-ghost use Rattle.legal_history.specs.Builds.{Build, build_of, came_to, is_outcome, unit_at, unit_with_first};
+ghost use Rattle.legal_history.specs.Builds.{Build, Ended, Given, build_of, came_to, is_outcome, unit_at, unit_with_first};
 ghost use Rattle.legal_history.specs.Changes.{held, live, targets_of};
 ghost use Rattle.legal_history.specs.Choices.{entries, here, publish_of, visible};
 ghost use Rattle.legal_history.specs.Closures.{closure, is_publish_deed, source_cmp};
 ghost use Rattle.legal_history.specs.Fits.{is_base};
 ghost use Rattle.legal_history.specs.Fresh.{script_text};
+ghost use Rattle.legal_history.specs.Freshness.{AgreesSoFar};
 ghost use Rattle.legal_history.specs.RecordTexts.{record_of, row_in, uncovered};
 ghost use Rattle.legal_history.specs.Reuse.{held_at_all, matches, reusable};
 ghost use Rattle.legal_history.specs.Serials.{makes};
-ghost use Rattle.legal_history.specs.States.{Opening};
-ghost use Rattle.legal_history.specs.Steps.{after, state_of};
+ghost use Rattle.legal_history.specs.States.{State, Opening};
+ghost use Rattle.legal_history.specs.Steps.{after, state_of, with_came};
 ghost use Rattle.legal_history.specs.Stories.{Lawful, Legal};
 ghost use Rattle.legal_history.specs.Values.{again, is_true, IsSound};
-ghost use Rattle.reuse_laws.specs.FromNothing.{IsAsFromNothing, MayTake};
+ghost use Rattle.reuse_laws.specs.FromNothing.{IsAsFromNothing, IsDue, MayTake};
 ghost use Rattle.reuse_laws.specs.Given.{HoldsGiven, IsHeld, SeenBy};
 ghost use Rattle.reuse_laws.specs.Objects.{GivesLive, IsTheRun, outputs_of};
 ghost use Rattle.reuse_laws.specs.Selected.{IsSelected};
@@ -33,10 +35,11 @@ pub fn a_match_is_the_run()
     ensures { (b : Base) (build : Build) (n : ℕ) (unit : Unit) (id : ℕ) → is_base b ≡ true → IsSound b → GivesLive b build → is_true b id ≡ true → matches b build n unit id ≡ true → IsTheRun b build n unit id }
 {}
 
-/// Each entry of a record that matches a unit names, at its path, an object that the unit's build gave to another unit or the
-/// file of the view at the build's reference rows; and where it says that nothing was there, the unit sees nothing.
+/// Each entry of a record that matches a unit names, at its path, an object that the unit's build gave to an earlier unit that
+/// makes the path and that this one needs, or the file of the view at the build's reference rows; and where it says that
+/// nothing was there, the unit sees nothing.
 pub fn a_matching_entry_is_seen()
-    ensures row { (b : Base) (build : Build) (n : ℕ) (unit : Unit) (id : ℕ) (path : List ℕ) (r : ℕ) → matches b build n unit id ≡ true → row_in (record_of b id) path ≡ Some (suc r) → SeenBy b build path (suc r) }
+    ensures row { (b : Base) (build : Build) (n : ℕ) (unit : Unit) (id : ℕ) (path : List ℕ) (r : ℕ) → matches b build n unit id ≡ true → row_in (record_of b id) path ≡ Some (suc r) → SeenBy b build n unit path (suc r) }
     ensures absent { (b : Base) (build : Build) (n : ℕ) (unit : Unit) (id : ℕ) (path : List ℕ) → matches b build n unit id ≡ true → row_in (record_of b id) path ≡ Some 0 → visible b build n unit path ≡ None }
 {}
 
@@ -100,12 +103,36 @@ pub fn what_a_unit_sees_stays()
     ensures run { (story : List Told) (lane : ℕ) (build : Build) (more : Base) (n : ℕ) (unit : Unit) → Legal story → build_of (state_of story).active lane ≡ Some build → here (more ++ (state_of story).base) build n unit ≡ here (state_of story).base build n unit }
 {}
 
-/// At each moment of a legal story over a base that was sound as it was opened, the object that a unit of an active build
-/// may reuse has stored what a run of the unit's script gives on what the unit sees; and where the unit may take one, that is
-/// what the unit comes to in the build from nothing at the build's reference rows, whatever came between.
+/// At each moment of a legal story over a base that was sound as it was opened, a live object whose record matches a unit of an
+/// active build has stored what a run of the unit's script gives on what the unit sees. Such is the object that the unit may
+/// reuse; and where the unit may take one, it is what the unit comes to in the build from nothing at the build's reference
+/// rows, whatever came between.
 pub fn reuse_is_a_rebuild()
+    ensures matched { (story : List Told) (opening : Opening) (lane : ℕ) (build : Build) (n : ℕ) (unit : Unit) (id : ℕ) → Legal story → (state_of story).opened ≡ Some opening → IsSound opening.base → build_of (state_of story).active lane ≡ Some build → is_some (live (state_of story).base id) ≡ true → matches (state_of story).base build n unit id ≡ true → IsTheRun (state_of story).base build n unit id }
     ensures run { (story : List Told) (opening : Opening) (lane : ℕ) (build : Build) (n : ℕ) (unit : Unit) (id : ℕ) → Legal story → (state_of story).opened ≡ Some opening → IsSound opening.base → build_of (state_of story).active lane ≡ Some build → reusable (state_of story).base build n unit ≡ Some id → IsTheRun (state_of story).base build n unit id }
     ensures from_nothing { (story : List Told) (opening : Opening) (tag : Tag) (n : ℕ) (build : Build) (unit : Unit) (id : ℕ) → Legal story → (state_of story).opened ≡ Some opening → IsSound opening.base → MayTake (state_of story) tag n build unit → reusable (state_of story).base build n unit ≡ Some id → IsAsFromNothing (state_of story).base build n unit id }
+{}
+
+/// A lawful step that reuse takes finds its unit due: where a unit may take an object in place of a run, it was started and has
+/// no outcome, or its prerequisites have theirs and nothing ends it without a run.
+pub fn a_unit_that_may_take_an_object_is_due()
+    ensures { (s : State) (tag : Tag) (n : ℕ) (build : Build) (unit : Unit) → MayTake s tag n build unit → IsDue s.base build n unit }
+{}
+
+/// To keep is to build: in a sound base, where what the units of a build have come to so far agrees with the build from nothing
+/// and the objects that it was given are live, both are still so when a unit that is due keeps the object that it may reuse.
+pub fn a_kept_object_agrees()
+    ensures agrees { (b : Base) (build : Build) (n : ℕ) (unit : Unit) (id : ℕ) → is_base b ≡ true → IsSound b → GivesLive b build → AgreesSoFar b build → unit_at build n ≡ Some unit → IsDue b build n unit → reusable b build n unit ≡ Some id → AgreesSoFar b (with_came build (Some n) (Ended (ends.Kept id))) }
+    ensures lives { (b : Base) (build : Build) (n : ℕ) (unit : Unit) (id : ℕ) → is_base b ≡ true → GivesLive b build → reusable b build n unit ≡ Some id → GivesLive b (with_came build (Some n) (Ended (ends.Kept id))) }
+{}
+
+/// To wink in is to build: in a sound base, where what the units of a build have come to so far agrees with the build from
+/// nothing and the objects that it was given are live, all three are still so over the base with the next row, by which the
+/// view winks in the object that a unit that is due may reuse.
+pub fn a_winked_object_agrees()
+    ensures agrees { (row : Plain) (b : Base) (build : Build) (n : ℕ) (unit : Unit) (id : ℕ) → is_base b ≡ true → IsSound b → GivesLive b build → AgreesSoFar b build → unit_at build n ≡ Some unit → IsDue b build n unit → reusable b build n unit ≡ Some id → row.deed ≡ deeds.Wink build.view id → AgreesSoFar (row ∷ b) (with_came build (Some n) (Given id)) }
+    ensures lives { (row : Plain) (b : Base) (build : Build) (n : ℕ) (unit : Unit) (id : ℕ) → is_base b ≡ true → GivesLive b build → reusable b build n unit ≡ Some id → row.deed ≡ deeds.Wink build.view id → GivesLive (row ∷ b) (with_came build (Some n) (Given id)) }
+    ensures sound { (row : Plain) (b : Base) (view : List ℕ) (id : ℕ) → IsSound b → row.deed ≡ deeds.Wink view id → IsSound (row ∷ b) }
 {}
 
 /// Where what a view sees covers the record of a true object, the record gives the stored outputs when it is run again in
