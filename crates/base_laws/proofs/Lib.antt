@@ -6,9 +6,11 @@ pub mod FirstRowsStay
 pub mod FollowersBelow
 pub mod HeldObjects
 pub mod HeldPaths
+pub mod Listings
 pub mod NamedEdits
 pub mod NamedOnce
 pub mod NewVersions
+pub mod RecordLabels
 pub mod RootRow
 pub mod Values
 pub mod Walks

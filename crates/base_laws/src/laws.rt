@@ -1,18 +1,21 @@
 // The laws of a base, each the contract of a function with an empty body.
 
-ghost use Rattle.std.specs.Prelude.{◌≡◌, ℕ, ◌≤◌, ◌==◌, List, ◌∷◌, ◌++◌, length, Some, Ok, is_some, true, false};
+ghost use Rattle.std.specs.Prelude.{◌≡◌, ℕ, ◌<◌, ◌≤◌, ◌↔◌, ◌==◌, Bool, List, ◌∷◌, ◌++◌, length, map, Contains, Some, Ok, is_some, true, false};
 ghost use Rattle.std.specs.List.{list_any};
+ghost use Rattle.std.specs.List.Sorted.{IsStrictlyIncreasing};
 ghost use Rattle.std.specs.Cmp.Lexicographic.{slice_cmp};
 ghost use Rattle.std.specs.FinMap.Entries.{is_sorted};
 ghost use Rattle.std.specs.Ordering.{nat_cmp};
 ghost use Rattle.cc_names.specs.Formed.{Plain};
 ghost use Rattle.cc_names.specs.References.{Held, place_cmp, held_at, is_held, is_held_by, count};
+ghost use Rattle.cc_names.specs.Versions.{place};
 ghost use Rattle.cc_names.specs.declared.commands.Command.TheVariants as commands;
 ghost use Rattle.cc_names.specs.declared.rows.Deed.TheVariants as deeds;
+ghost use Rattle.cc_names.specs.declared.rows.Placed.{Placed};
 ghost use Rattle.legal_history.specs.Base.{Base, size};
 ghost use Rattle.legal_history.specs.Catalogs.{catalog_of, named, own_of};
-ghost use Rattle.legal_history.specs.Changes.{held, live};
-ghost use Rattle.legal_history.specs.Closures.{is_among, is_version_of};
+ghost use Rattle.legal_history.specs.Changes.{held, live, targets_of, tree};
+ghost use Rattle.legal_history.specs.Closures.{Source, closure, is_among, is_version_of, listed};
 ghost use Rattle.legal_history.specs.Decisions.{Makes, Scene};
 ghost use Rattle.legal_history.specs.Fits.{is_base};
 ghost use Rattle.legal_history.specs.Lines.{decision};
@@ -22,6 +25,7 @@ ghost use Rattle.base_laws.specs.Counts.{AreOnce, holding_views};
 ghost use Rattle.base_laws.specs.Directories.{directory_of};
 ghost use Rattle.base_laws.specs.Dues.{is_due_object};
 ghost use Rattle.base_laws.specs.FirstRows.{SayTheSame};
+ghost use Rattle.base_laws.specs.Listed.{IsListed};
 
 /// What a base says of its first rows never changes when rows are added: versions, labels with their holders, and what each
 /// view sees at each path, with its text.
@@ -43,6 +47,19 @@ pub fn a_scrub_takes_no_held_object()
 /// holds, and that were published at least the age ago, in seconds.
 pub fn a_scrub_lists_what_is_due()
     ensures { (s : Scene) (age : ℕ) (objects : List ℕ) (id : ℕ) → decision s (commands.Scrub age) ≡ Ok (Makes (deeds.Scrub objects)) → list_any (λ object. object == id) objects ≡ is_due_object s.base s.moment age id }
+{}
+
+/// The row that is decided to label the record of the object that a view holds at a path places the label on exactly the
+/// versions that the record lists: of each element the greatest one among the sources of the object's closure, in ascending
+/// order of elements, each element once. A config spec selects the same ones by the record. Each source whose row is above 0 is
+/// a version then.
+pub fn a_record_is_labelled_as_listed()
+    ensures label { (s : Scene) (v path label name : List ℕ) (replace : Bool) (placed : List Placed) → decision s (commands.MklabelConfig v replace path label) ≡ Ok (Makes (deeds.Labels name placed)) → name ≡ label }
+    ensures object { (s : Scene) (v path label name : List ℕ) (replace : Bool) (placed : List Placed) → decision s (commands.MklabelConfig v replace path label) ≡ Ok (Makes (deeds.Labels name placed)) → is_some (held_at (held s.base) v path) ≡ true }
+    ensures exactly { (s : Scene) (v path label name : List ℕ) (replace : Bool) (placed : List Placed) (id : ℕ) (one : Placed) → decision s (commands.MklabelConfig v replace path label) ≡ Ok (Makes (deeds.Labels name placed)) → held_at (held s.base) v path ≡ Some id → Contains placed one ↔ IsListed s.base (closure s.base id) one.element one.version }
+    ensures order { (s : Scene) (v path label name : List ℕ) (replace : Bool) (placed : List Placed) → decision s (commands.MklabelConfig v replace path label) ≡ Ok (Makes (deeds.Labels name placed)) → IsStrictlyIncreasing (map (λ one. one.element) placed) }
+    ensures selected { (s : Scene) (v path label name : List ℕ) (replace : Bool) (placed : List Placed) (id : ℕ) (target : List ℕ) (one : Placed) → decision s (commands.MklabelConfig v replace path label) ≡ Ok (Makes (deeds.Labels name placed)) → held_at (held s.base) v path ≡ Some id → is_among target (targets_of s.base id) ≡ true → Contains placed one ↔ (listed s.base id target one.element ≡ Some one.version) }
+    ensures versions { (s : Scene) (v path label name : List ℕ) (replace : Bool) (placed : List Placed) (id : ℕ) (source : Source × ℕ) → decision s (commands.MklabelConfig v replace path label) ≡ Ok (Makes (deeds.Labels name placed)) → held_at (held s.base) v path ≡ Some id → Contains (closure s.base id) source → 0 < source.1 → is_some (place (tree s.base) source.1) ≡ true }
 {}
 
 /// The references of a base stand in the order of views and paths, each place once; and an object is counted once for each view

@@ -24,3 +24,4 @@ pub mod UnitLines
 pub mod UnitsCome
 pub mod VersionRows
 mod WorkedReplies
+mod WorkedUnitLines

@@ -1,3 +1,4 @@
+pub mod GoingOn
 pub mod Leaving
 pub mod Rising
 pub mod Room

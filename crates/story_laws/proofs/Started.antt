@@ -1,25 +1,23 @@
 -- What a started unit sees, and what its run gives on that, never changes while its build goes on.
-use Rattle.std.proofs.Common.{◌≡◌, ap, sym, subst, ◌∙◌, ℕ, true, Some, List, [], ◌∷◌, ◌++◌, take}
-use Rattle.std.specs.Prelude.{is_some, reverse}
-use Rattle.cc_names.specs.declared.steps.Told.{Told}
+use Rattle.std.proofs.Common.{◌≡◌, refl, ap, sym, subst, ◌∙◌, ℕ, ◌+◌, Bool, true, false, Some, List, [], ◌∷◌, ◌++◌, map, take}
+use Rattle.std.specs.Bool.{⊤}
+use Rattle.std.specs.List.{list_any}
+use Rattle.std.specs.Option.{option_or}
+use Rattle.std.specs.Prelude.{reverse}
 use Rattle.cc_names.specs.declared.units.Unit.{Unit}
 use Rattle.build_script.specs.Run.{Ran, run}
-use Rattle.legal_history.specs.Base.{Base, first_rows}
-use Rattle.legal_history.specs.Builds.{Build, build_of, came_to, is_outcome, number_from, unit_at}
-use Rattle.legal_history.specs.Choices.{here}
+use Rattle.legal_history.specs.Base.{Base, first_rows, only_where}
+use Rattle.legal_history.specs.Builds.{Build, Came, Started, Ended, Given, is_outcome, object_of}
+use Rattle.legal_history.specs.Choices.{Member, unit_of_member, members_from, members_before, object_among, here, visible}
 use Rattle.legal_history.specs.Fresh.{output_or_file, script_text, serial, texts, sees_file, sees_directory}
-use Rattle.legal_history.specs.Freshness.{AgreesSoFar, IsReady}
-use Rattle.legal_history.specs.Growth.{Continues, Goes, Over, On, Extends}
-use Rattle.legal_history.specs.Serials.{unit_of, needed}
-use Rattle.legal_history.specs.States.{State, start}
-use Rattle.legal_history.specs.Steps.{after, state_of}
-use Rattle.legal_history.specs.Stories.{Lawful, Legal}
-use Rattle.legal_history.proofs.Fronts.{both_are_legal, state_goes_on, first_opens}
-use Rattle.legal_history.proofs.Goes.{step_goes}
-use Rattle.legal_history.proofs.Grows.{is_opened, step_extends}
-use Rattle.legal_history.proofs.Stay.{first_rows_stay_all}
+use Rattle.legal_history.specs.Freshness.{Agrees, IsReady, AgreesSoFar}
+use Rattle.legal_history.specs.Growth.{Continues}
+use Rattle.legal_history.specs.Seen.{file_at}
+use Rattle.legal_history.specs.Serials.{Outcome, Made, Without, unit_of, makes, needed}
+use Rattle.legal_history.proofs.Pairs.{Pair, unit_in, member_of, pairs_before, members_paired, needed_mapped}
 use Rattle.fresh_builds.proofs.FreshRuns.{run_same}
-use Rattle.fresh_builds.proofs.SoundStories.{build_agrees}
+use Rattle.fresh_builds.proofs.NeededAgree.{AllAgree, ready_over, needed_agree}
+use Rattle.story_laws.proofs.GoingOn.{GoesOnSo, rows_stay, ready_on}
 
 -- the run of unit n of some units from nothing, in a view at some rows
 abbrev run_from_nothing : Base → List ℕ → List Unit → ℕ → Unit → Ran
@@ -27,50 +25,81 @@ run_from_nothing rows view units n unit =
     run (script_text unit.script) unit.targets
     (output_or_file (texts rows view) (needed unit_of unit.prerequisites (serial (texts rows view) (sees_file rows view) (sees_directory rows view) (reverse (take n units)))))
 
-some_same : {a b : Build} → Some a ≡ Some b → a ≡ b
-some_same h = cc
-
-ready_on : (old new : Build) (unit : Unit) → Continues old new → IsReady old unit → IsReady new unit
-ready_on old new unit c ready = λ m path among is.
-    let over = ready m path among (ap (number_from 0 path) (sym c.units) ∙ is) in
-    ap is_outcome (c.outcomes m over) ∙ over
-
 -- the runs of a ready unit before and after a build went on
-same_run : (b later : Base) (old new : Build) (n : ℕ) (unit : Unit) → Extends b later → Continues old new → AgreesSoFar b old → AgreesSoFar later new → IsReady old unit → here later new n unit ≡ here b old n unit
-same_run b later old new n unit grown c before now ready =
-    let rows : first_rows new.rows later ≡ first_rows old.rows b = ap (λ t. first_rows t later) c.rows ∙ ap (first_rows old.rows) grown.is ∙ first_rows_stay_all grown.more b old.rows before.rows in
-    run_same later new n unit now (ready_on old new unit c ready)
-    ∙ (λ i. run_from_nothing (rows i) (c.view i) (c.units i) n unit)
-    ∙ sym (run_same b old n unit before ready)
+pub same_run : (b later : Base) (old new : Build) (n : ℕ) (unit : Unit) → GoesOnSo b later old new unit → here later new n unit ≡ here b old n unit
+same_run b later old new n unit h =
+    let rows : first_rows new.rows later ≡ first_rows old.rows b = rows_stay b later old new unit h in
+    run_same later new n unit h.agrees_later (ready_on b later old new unit h)
+    ∙ (λ i. run_from_nothing (rows i) (h.on.view i) (h.on.units i) n unit)
+    ∙ sym (run_same b old n unit h.agrees h.ready)
 
-pub sees_the_same : (story : List Told) (x : Told) (lane : ℕ) (old new : Build) (n : ℕ) (unit : Unit) → Legal story → Lawful (state_of story) x → build_of (state_of story).active lane ≡ Some old →
-    build_of (after (state_of story) x).active lane ≡ Some new → unit_at old n ≡ Some unit → is_some (came_to old n) ≡ true → here (after (state_of story) x).base new n unit ≡ here (state_of story).base old n unit
-sees_the_same [] x lane old new n unit legal e is later of_n came = absurd (cc)
-sees_the_same (first ∷ story) x lane old new n unit legal e is later of_n came = by (step_goes s x lane old is e)
+-- a member of a build later: the same unit, with its outcome where it had one
+record GoesOn (old new : Member) : Type 0 where
+  unit : new.unit ≡ old.unit
+  outcome : is_outcome old.came ≡ true → new.came ≡ old.came
+
+abbrev AllGoOn : List Member → List Member → Type 0
+AllGoOn [] [] = ⊤
+AllGoOn (old ∷ olds) (new ∷ news) = GoesOn old new × AllGoOn olds news
+AllGoOn olds news = ⊥
+
+members_go_on : (old new : Build) (n : ℕ) (units : List Unit) (olds news : List Member) → Continues old new → AllGoOn olds news → AllGoOn (members_from old n units olds) (members_from new n units news)
+members_go_on old new n [] olds news c h = h
+members_go_on old new n (unit ∷ units) olds news c h = members_go_on old new (n + 1) units _ _ c (record { unit = refl; outcome = c.outcomes n }, h)
+
+all_go_on : (old new : Build) (n : ℕ) → Continues old new → AllGoOn (members_before old n) (members_before new n)
+all_go_on old new n c = subst (λ units. AllGoOn (members_before old n) (members_from new 0 (take n units) [])) (sym c.units) (members_go_on old new 0 (take n old.units) [] [] c tt)
+
+-- so those that are needed go on
+needed_go_on : (paths : List (List ℕ)) (olds news : List Member) → AllGoOn olds news → AllGoOn (needed unit_of_member paths olds) (needed unit_of_member paths news)
+needed_go_on paths [] [] h = h
+needed_go_on paths [] (new ∷ news) h = absurd h
+needed_go_on paths (old ∷ olds) [] h = absurd h
+needed_go_on paths (old ∷ olds) (new ∷ news) h = subst (λ u. AllGoOn (needed unit_of_member paths (old ∷ olds)) (with_new u)) (sym h.0.unit) (by (list_any (λ path. makes path old.unit) paths) (λ ps. needed_go_on ps olds news h.1))
   where
-    s : State
-    s = state_of (first ∷ story)
+    with_new : Unit → List Member
+    with_new u = elim (list_any (λ path. makes path u) paths) as (λ x. List Member) [ true ↦ new ∷ needed unit_of_member (paths ++ u.prerequisites) news | false ↦ needed unit_of_member paths news ]
 
-    whole : List Told
-    whole = (first ∷ story) ++ x ∷ []
+    by : (t : Bool) → ((ps : List (List ℕ)) → AllGoOn (needed unit_of_member ps olds) (needed unit_of_member ps news)) → AllGoOn
+        (elim t as (λ x. List Member) [ true ↦ old ∷ needed unit_of_member (paths ++ old.unit.prerequisites) olds | false ↦ needed unit_of_member paths olds ])
+        (elim t as (λ x. List Member) [ true ↦ new ∷ needed unit_of_member (paths ++ old.unit.prerequisites) news | false ↦ needed unit_of_member paths news ])
+    by true rest = (h.0, rest (paths ++ old.unit.prerequisites))
+    by false rest = rest paths
 
-    legal_whole : Legal whole
-    legal_whole = both_are_legal start (first ∷ story) (x ∷ []) legal (e, tt)
+-- members that all have their outcomes
+abbrev AllOver : List Member → Type 0
+AllOver [] = ⊤
+AllOver (member ∷ members) = (is_outcome member.came ≡ true) × AllOver members
 
-    leads : state_of whole ≡ after s x
-    leads = state_goes_on start (first ∷ story) (x ∷ [])
+agrees_over : (b : Base) (unit : Unit) (came : Came) (outcome : Outcome) → Agrees b unit came outcome → is_outcome (Some came) ≡ true
+agrees_over b unit (Given id) (Made outputs) h = refl
+agrees_over b unit (Given id) (Without end) h = absurd h
+agrees_over b unit (Ended end) (Without other) h = refl
+agrees_over b unit (Ended end) (Made outputs) h = absurd h
+agrees_over b unit Started outcome h = absurd h
 
-    agrees_later : AgreesSoFar (after s x).base new
-    agrees_later = subst (λ (t : State). AgreesSoFar t.base new) leads (build_agrees whole lane new legal_whole (ap (λ (t : State). build_of t.active lane) leads ∙ later))
+all_over : (b : Base) (pairs : List Pair) → AllAgree b pairs → AllOver (map member_of pairs)
+all_over b [] h = tt
+all_over b (pair ∷ pairs) h = (ap is_outcome h.0.is ∙ agrees_over b pair.unit h.0.came pair.outcome h.0.agrees, all_over b pairs h.1)
 
-    agrees_before : AgreesSoFar s.base old
-    agrees_before = build_agrees (first ∷ story) lane old legal is
+-- what a ready unit needs has its outcomes
+needed_over : (b : Base) (build : Build) (n : ℕ) (unit : Unit) → AgreesSoFar b build → IsReady build unit → AllOver (needed unit_of_member unit.prerequisites (members_before build n))
+needed_over b build n unit h ready =
+    subst AllOver
+    (sym (ap (needed unit_of_member unit.prerequisites) (members_paired (first_rows build.rows b) build n) ∙ needed_mapped member_of unit_of_member unit.prerequisites (pairs_before (first_rows build.rows b) build n)))
+    (all_over b (needed unit_in unit.prerequisites (pairs_before (first_rows build.rows b) build n)) (needed_agree b build n unit.prerequisites h (ready_over b build unit h ready)))
 
-    grown : Extends s.base (after s x).base
-    grown = step_extends s x (is_opened (after start first) story (first_opens first legal.0)) e
+-- the object at a path among such members stays
+object_stays : (path : List ℕ) (olds news : List Member) → AllGoOn olds news → AllOver olds → object_among path news ≡ object_among path olds
+object_stays path [] [] h over = refl
+object_stays path [] (new ∷ news) h over = absurd h
+object_stays path (old ∷ olds) [] h over = absurd h
+object_stays path (old ∷ olds) (new ∷ news) h over = λ i. option_or (only_where (makes path (h.0.unit i)) (object_of (h.0.outcome over.0 i))) (object_stays path olds news h.1 over.1 i)
 
-    by : Goes old (build_of (after s x).active lane) → here (after s x).base new n unit ≡ here s.base old n unit
-    by (Over none) = absurd (cc)
-    by (On on is_on c) =
-        let same : on ≡ new = some_same (sym is_on ∙ later) in
-        same_run s.base (after s x).base old new n unit grown (subst (Continues old) same c) agrees_before agrees_later (agrees_before.ready n unit of_n came)
+-- what a ready unit sees at a path before and after a build went on
+pub same_selection : (b later : Base) (old new : Build) (n : ℕ) (unit : Unit) (path : List ℕ) → GoesOnSo b later old new unit → visible later new n unit path ≡ visible b old n unit path
+same_selection b later old new n unit path h =
+    let rows : first_rows new.rows later ≡ first_rows old.rows b = rows_stay b later old new unit h in
+    let objects = object_stays path (needed unit_of_member unit.prerequisites (members_before old n)) (needed unit_of_member unit.prerequisites (members_before new n))
+    (needed_go_on unit.prerequisites (members_before old n) (members_before new n) (all_go_on old new n h.on)) (needed_over b old n unit h.agrees h.ready) in
+    λ i. option_or (objects i) (file_at (rows i) (h.on.view i) path)

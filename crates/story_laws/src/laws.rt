@@ -5,7 +5,7 @@ ghost use Rattle.cc_names.specs.declared.steps.Told.{Told};
 ghost use Rattle.cc_names.specs.declared.units.Unit.{Unit};
 ghost use Rattle.legal_history.specs.Base.{size};
 ghost use Rattle.legal_history.specs.Builds.{Build, build_of, came_to, unit_at};
-ghost use Rattle.legal_history.specs.Choices.{here};
+ghost use Rattle.legal_history.specs.Choices.{here, visible};
 ghost use Rattle.legal_history.specs.Fits.{row_limit};
 ghost use Rattle.legal_history.specs.States.{State};
 ghost use Rattle.legal_history.specs.Steps.{after, state_of};
@@ -36,8 +36,9 @@ pub fn a_build_is_left_by_its_end()
     ensures { (s : State) (x : Told) (lane : ℕ) (build : Build) → build_of s.active lane ≡ Some build → Lawful s x → build_of (after s x).active lane ≡ None → IsLeft s x lane build }
 {}
 
-/// What the run of a started unit gives on what the unit sees is the same before and after each lawful step, while its
-/// build goes on.
+/// What a started unit sees is the same before and after each lawful step, while its build goes on: the row that stands at
+/// each path, and what the run of its script gives on the texts there.
 pub fn a_started_unit_sees_the_same()
-    ensures { (story : List Told) (x : Told) (lane : ℕ) (old new : Build) (n : ℕ) (unit : Unit) → Legal story → Lawful (state_of story) x → build_of (state_of story).active lane ≡ Some old → build_of (after (state_of story) x).active lane ≡ Some new → unit_at old n ≡ Some unit → is_some (came_to old n) ≡ true → here (after (state_of story) x).base new n unit ≡ here (state_of story).base old n unit }
+    ensures run { (story : List Told) (x : Told) (lane : ℕ) (old new : Build) (n : ℕ) (unit : Unit) → Legal story → Lawful (state_of story) x → build_of (state_of story).active lane ≡ Some old → build_of (after (state_of story) x).active lane ≡ Some new → unit_at old n ≡ Some unit → is_some (came_to old n) ≡ true → here (after (state_of story) x).base new n unit ≡ here (state_of story).base old n unit }
+    ensures seen { (story : List Told) (x : Told) (lane : ℕ) (old new : Build) (n : ℕ) (unit : Unit) (path : List ℕ) → Legal story → Lawful (state_of story) x → build_of (state_of story).active lane ≡ Some old → build_of (after (state_of story) x).active lane ≡ Some new → unit_at old n ≡ Some unit → is_some (came_to old n) ≡ true → visible (after (state_of story) x).base new n unit path ≡ visible (state_of story).base old n unit path }
 {}
