@@ -99,8 +99,7 @@ impl<D: Disk> Core<D> {
     ghost use Rattle.legal_history.specs.Turns.{came_by_start};
 
     /// Opens the base that a disk stands for. Reads its journal once, in time linear in its bytes and the square of the targets of
-    /// one object, and writes nothing. A
-    /// disk whose base cannot be opened comes back with the cause.
+    /// one object, and writes nothing. A disk whose base cannot be opened comes back with the cause.
     pub fn open(alloc: Global, disk: D) -> Result<Core<D>, OpenFault<D>>
         requires { IfTold (D.sight disk).told (λ d. file_of 0 d ≡ stable (bytes_of 0 d)) }
         ensures ok { IfOk result (λ core. Opens (D.sight disk) core.story core.sight) }
@@ -558,8 +557,8 @@ impl<D: Disk> Core<D> {
     /// Carries out a lane's next command, which builds: it is refused, or its units are carried out one after the other and
     /// the build ends. After an `Err` the story may have gone on by steps of this build, which is then active. Each commit
     /// and fault among the steps has the disk's counts as `act` says, of its own turn; beside them no device call is made,
-    /// whatever is answered. Takes time linear in the makefile, in what the scripts read and write, and
-    /// for each read in the units before its own.
+    /// whatever is answered. Takes time linear in the makefile, in what the scripts read and write, and for each read in the
+    /// units before its own.
     pub fn build(&mut self, alloc: Global, lane: u32) -> Result<(), NoMemory>
         requires { next_of (state_of self.old.story) lane ≡ nexts.Build (next_tag (state_of self.old.story) lane) }
         ensures ok { OnOk result (Finishes self.old.story self.new.story lane) }
