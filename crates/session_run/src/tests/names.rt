@@ -1,8 +1,9 @@
-// Which words are names and paths, and where a faulty one is wrong.
+// Which words are names and paths, where a faulty one is wrong, and what they print.
 
 use cc_names::memory::{NoMemory, Or};
 use cc_names::names::{Name, NameFault};
 use cc_names::paths::Path;
+use cc_names::texts::Text;
 use std::test::Fail;
 
 // The fault of what was read, if it has one.
@@ -61,6 +62,32 @@ fn paths_are_read(rt: HostRuntime) -> Result<(), Fail> {
     ];
     for (bytes, want) in cases {
         assert_eq!(rt; fault_of(Path::read(rt.alloc(), bytes))?, want);
+    }
+    Ok(())
+}
+
+#[test]
+fn names_paths_texts_and_faults_print(rt: HostRuntime) -> Result<(), Fail> {
+    let alloc = rt.alloc();
+    let name = Name::read(alloc, b"a-b.c").map_err(|_| "no name")?;
+    let path = Path::read(alloc, b"src/a-b.c").map_err(|_| "no path")?;
+    let text = Text::from_bytes(alloc, b"hi\xe9\n")?;
+    let printed = [
+        (format!(in alloc; "{name}")?, "a-b.c"),
+        (format!(in alloc; "{path}")?, "src/a-b.c"),
+        (format!(in alloc; "{text}")?, "hi\u{e9}\n"),
+        (format!(in alloc; "{}", NameFault::Empty)?, "empty"),
+        (
+            format!(in alloc; "{}", NameFault::BadByte(2))?,
+            "bad byte at 2",
+        ),
+        (
+            format!(in alloc; "{}", NameFault::TooLong(256))?,
+            "too long: 256 bytes",
+        ),
+    ];
+    for (found, wanted) in &printed {
+        assert_eq!(rt; found.as_str(), *wanted);
     }
     Ok(())
 }
