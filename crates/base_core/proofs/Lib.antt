@@ -45,3 +45,4 @@ mod OpeningStep
 pub mod Appended
 pub mod Counts
 mod CountRows
+mod WorkedReplies
