@@ -75,7 +75,7 @@ agrees_over : (b : Base) (unit : Unit) (came : Came) (outcome : Outcome) → Agr
 agrees_over b unit (Given id) (Made outputs) h = refl
 agrees_over b unit (Given id) (Without end) h = absurd h
 agrees_over b unit (Ended end) (Without other) h = refl
-agrees_over b unit (Ended end) (Made outputs) h = absurd h
+agrees_over b unit (Ended end) (Made outputs) h = refl
 agrees_over b unit Started outcome h = absurd h
 
 all_over : (b : Base) (pairs : List Pair) → AllAgree b pairs → AllOver (map member_of pairs)
