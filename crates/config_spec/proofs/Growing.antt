@@ -1,5 +1,5 @@
 -- Lists of changes whose rows are all below the next one.
-use Rattle.std.proofs.Common.{◌≡◌, ℕ, ◌+◌, ◌<◌, true, List, [], ◌∷◌, map, refl, ap, arith, ◌==◌, eq-eqb}
+use Rattle.std.proofs.Common.{◌≡◌, ℕ, ◌+◌, true, List, [], ◌∷◌, map, refl, ap, arith, ◌==◌, eq-eqb}
 use Rattle.std.proofs.lemmas.Bool.{lt-ltb, and_from}
 use Rattle.std.specs.Str.{bytes_eq}
 use Rattle.label_book.specs.Marks.{rows_of_pair}

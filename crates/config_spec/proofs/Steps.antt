@@ -1,5 +1,5 @@
 -- One name of a branch's names, and one rule of a spec.
-use Rattle.std.proofs.Common.{◌≡◌, ℕ, ◌+◌, ◌<◌, Bool, true, false, cond, Option, Some, None, List, [], ◌∷◌, length, get_or, drop, find, refl, sym, ap, ◌∙◌, add-one, drop-cons}
+use Rattle.std.proofs.Common.{◌≡◌, ℕ, ◌+◌, ◌<◌, Bool, true, false, cond, Option, Some, None, List, ◌∷◌, length, get_or, drop, refl, ap, ◌∙◌, add-one, drop-cons}
 use Rattle.std.specs.Option.{option_and_then}
 use Rattle.cc_names.specs.Branches.{branch_from}
 use Rattle.cc_names.specs.declared.changes.TreeChange.{TreeChange}
