@@ -226,7 +226,8 @@ impl<D: Disk> Core<D> {
     /// Carries out a lane's next command, which builds nothing: its row is committed, it is refused, or the disk fails
     /// under it. An `Err` changes nothing. A commit has the disk's ticks as this call ends, and no fault was counted. A
     /// fault has the counts of faults as this call begins and ends, and the ticks as it ends. A refusal and an `Err` make
-    /// no device call. Takes time linear in the command, in the row and in the lanes, however many rows there are.
+    /// no device call. Takes time linear in the command, in the row, in the lanes and in the steps since the last commit or
+    /// fault, however many rows there are.
     pub fn act(&mut self, alloc: Global, lane: u32) -> Result<Done, NoMemory>
         requires { next_of (state_of self.old.story) lane ≡ nexts.Act }
         ensures ok { IfOk result (λ done. Acts self.old.story self.new.story lane done) }
@@ -557,8 +558,8 @@ impl<D: Disk> Core<D> {
     /// Carries out a lane's next command, which builds: it is refused, or its units are carried out one after the other and
     /// the build ends. After an `Err` the story may have gone on by steps of this build, which is then active. Each commit
     /// and fault among the steps has the disk's counts as `act` says, of its own turn; beside them no device call is made,
-    /// whatever is answered. Takes time linear in the makefile, in what the scripts read and write, and for each read in the
-    /// units before its own.
+    /// whatever is answered. Takes time linear in the makefile, in what the scripts read and write, and in the steps since the
+    /// last commit or fault; and for each read in the units before its own.
     pub fn build(&mut self, alloc: Global, lane: u32) -> Result<(), NoMemory>
         requires { next_of (state_of self.old.story) lane ≡ nexts.Build (next_tag (state_of self.old.story) lane) }
         ensures ok { OnOk result (Finishes self.old.story self.new.story lane) }
