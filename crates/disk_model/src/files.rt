@@ -20,7 +20,7 @@ struct Named<F> {
     open: Option<F>,
 }
 
-/// A disk over two files, which it opens, and creates where they are absent, at its first call. A handle whose call
+/// A disk over two files, which it opens, creates where they are absent, and syncs, at its first call. A handle whose call
 /// failed is dropped, and the file is opened anew at the next call.
 #[derive(Drop)]
 pub struct FileDisk<R: Files> {
@@ -33,15 +33,22 @@ pub struct FileDisk<R: Files> {
     ghost faults_fit: { faults < 2 ^ 64 },
 }
 
+/// Opens a file, made where it is absent, and syncs it: what a program that was killed wrote there may not be on the disk yet.
+fn opened<R: Files>(rt: &R, name: &str) -> io::Result<R::File> {
+    let file = OpenOptions::new()
+        .read(true)
+        .write(true)
+        .create(true)
+        .open(rt, name)?;
+    file.sync_data()?;
+    Ok(file)
+}
+
 /// The file's handle, taken out; whoever took it puts it back after a call that succeeded.
 fn take<R: Files>(rt: &R, file: &mut Named<R::File>) -> io::Result<R::File> {
     match file.open.take() {
         Some(open) => Ok(open),
-        None => OpenOptions::new()
-            .read(true)
-            .write(true)
-            .create(true)
-            .open(rt, file.name.as_str()),
+        None => opened(rt, file.name.as_str()),
     }
 }
 

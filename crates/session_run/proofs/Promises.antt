@@ -152,7 +152,7 @@ whole : (intake : Intake) (story : List Told) (phases : List Phase) (outside : O
 whole intake story phases outside failed gives ran =
     record { read = gives.read; session = gives.session; opened = ran.opened; finished = ran.finished }
 
-asked : (intake : Intake) (phases : List Phase) → GivesPhases intake phases → IsAsked intake
+pub asked : (intake : Intake) (phases : List Phase) → GivesPhases intake phases → IsAsked intake
 asked intake phases gives = record { read = gives.read; session = gives.session }
 
 run_cause : (result : Result Bool (Or WriteFault)) (rose : Bool) (story : List Told) (phases : List Phase) (intake : Intake) (outside : Outside) (faults : Change ℕ) (disk : Change Sight) → disk_rose disk ≡ rose → GivesPhases intake phases → HasRunSo result phases story outside → OnWriteFault result (Rose faults.before faults.after) → DiskUndamaged disk → HasCause (run_status result rose) intake faults disk story
@@ -230,7 +230,7 @@ first_is stops.NoMemory intake h e = absurd (cc)
 none_read : (intake : Intake) (error : SessionError) → IfSome intake.text.before (λ bytes. session_of bytes ≡ Err error) → IfSome intake.text.before (λ bytes. is_session bytes ≡ false)
 none_read intake error h = told_so intake.text.before _ (λ bytes. is_session bytes ≡ false) h (λ bytes e. ap is_read e)
 
-untouched : (disk : Sight) → IsUntouched (record { before = disk; after = disk }) []
+pub untouched : (disk : Sight) → IsUntouched (record { before = disk; after = disk }) []
 untouched disk = record { disk_is = refl; story_is = refl }
 
 stop_cause : (stop : Stop) (intake : Intake) (faults : Change ℕ) (disk : Sight) → HasStop stop intake → HasCause (stop_status stop) intake faults (record { before = disk; after = disk }) []

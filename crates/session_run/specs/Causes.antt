@@ -1,5 +1,5 @@
 -- The cause of each status of a call.
-use Rattle.std.specs.Prelude.{◌≡◌, ℕ, ◌+◌, ◌<◌, ◌≤◌, Bool, true, false, Option, is_some, IfSome, List, [], length}
+use Rattle.std.specs.Prelude.{◌≡◌, ℕ, ◌+◌, ◌<◌, ◌≤◌, ◌⊎◌, Bool, true, false, Option, is_some, IfSome, List, [], length}
 use Rattle.std.specs.Io.KnownBytes.{IsAtEnd}
 use Rattle.cc_names.specs.declared.steps.Told.{Told}
 use Rattle.cc_outside.specs.Counts.{raised, Rose, RoseAbove, RoseAtMost}
@@ -108,6 +108,10 @@ pub record IsToldToOpen (intake : Intake) : Type 0 where
 -- the disk's faults did not rise, the status says so with the frame's number, unless the sink fails or memory runs out.
 pub record FindsDamage (status : Status) (intake : Intake) (disk : Change Sight) : Type 0 where
   pub damaged : (row : ℕ) → IsToldToOpen intake → is_some disk.before.told ≡ true → DiskDamaged disk row → disk_rose disk ≡ false → is_cut status ≡ false → status ≡ statuses.Damaged row
+
+-- *The disk of a call that read no session*, whatever the status: no base was opened, and no call was made on the disk.
+pub record LeavesAlone (intake : Intake) (disk : Change Sight) (story : List Told) : Type 0 where
+  pub unless_asked : IsAsked intake ⊎ IsUntouched disk story
 
 -- *How far a source is read*, whatever the status: it gave at most one byte more than a text may have
 pub record TakesNoMore (given : Change ℕ) : Type 0 where

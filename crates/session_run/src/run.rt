@@ -6,7 +6,7 @@ ghost use Rattle.legal_history.specs.Committing.{rises};
 ghost use Rattle.disk_model.specs.Told.{IfTold};
 ghost use Rattle.disk_model.specs.Devices.{file_of, bytes_of};
 ghost use Rattle.disk_model.specs.Files.{stable};
-ghost use Rattle.session_run.specs.Causes.{FindsDamage, HasCause, TakesNoMore};
+ghost use Rattle.session_run.specs.Causes.{FindsDamage, HasCause, LeavesAlone, TakesNoMore};
 ghost use Rattle.session_run.specs.Headline.{IsSession, IsOneHistory, AreFromNothing, ArePrinted, first_step};
 ghost use Rattle.session_run.specs.Outcomes.{RunsOpened, RunsSession};
 ghost use Rattle.session_run.specs.Runs.{IsJustOpened, IsRunnable, run_status};
@@ -150,6 +150,7 @@ pub fn run_words<S: Source, K: Sink, D: Disk, C: Clock>(
     ensures stopped { IsStopped (D.sight disk) (D.sight result.disk) result.history }
     ensures cause { HasCause result.status (record { words = words.now; text = record { before = S.left source.old; after = S.left source.new }; given = record { before = S.given source.old; after = S.given source.new }; faults = record { before = S.faults source.old; after = S.faults source.new } }) (record { before = K.faults sink.old; after = K.faults sink.new }) (record { before = D.sight disk; after = D.sight result.disk }) result.history }
     ensures damaged { FindsDamage result.status (record { words = words.now; text = record { before = S.left source.old; after = S.left source.new }; given = record { before = S.given source.old; after = S.given source.new }; faults = record { before = S.faults source.old; after = S.faults source.new } }) (record { before = D.sight disk; after = D.sight result.disk }) }
+    ensures untouched { LeavesAlone (record { words = words.now; text = record { before = S.left source.old; after = S.left source.new }; given = record { before = S.given source.old; after = S.given source.new }; faults = record { before = S.faults source.old; after = S.faults source.new } }) (record { before = D.sight disk; after = D.sight result.disk }) result.history }
     ensures taken { TakesNoMore (record { before = S.given source.old; after = S.given source.new }) }
 {
     match session_given(alloc, words, source) {

@@ -238,6 +238,7 @@ fn a_journal_is_read_to_its_end(rt: HostRuntime) -> Result<(), Fail> {
     let cut = first_bytes(alloc, &journal, 40)?;
     assert_found(&rt, alloc, &cut, "", 0, 1)?;
     assert_found(&rt, alloc, b"\x01\xff\0\0\0", "", 0, 0)?;
+    assert_found(&rt, alloc, b"", "", 0, 0)?;
     journal[32] = 7;
     assert_found(&rt, alloc, &journal, "", 0, 1)
 }

@@ -67,6 +67,54 @@ fn paths_are_read(rt: HostRuntime) -> Result<(), Fail> {
 }
 
 #[test]
+fn paths_have_a_parent_and_a_last_name(rt: HostRuntime) -> Result<(), Fail> {
+    let alloc = rt.alloc();
+    let cases: [(&[u8], &[u8], &[u8]); 3] = [
+        (b"a", b".", b"a"),
+        (b"a/b", b"a", b"b"),
+        (b"src/lib/a.c", b"src/lib", b"a.c"),
+    ];
+    for (bytes, parent, last) in cases {
+        let path = Path::read(alloc, bytes).map_err(|_| "no path")?;
+        let found = path.parent(alloc)?.ok_or("no parent")?;
+        assert_eq!(rt; found.as_bytes(), parent);
+        let found = path.last(alloc)?.ok_or("no last name")?;
+        assert_eq!(rt; found.as_bytes(), last);
+    }
+    let root = Path::root();
+    assert!(rt; root.parent(alloc)?.is_none());
+    assert!(rt; root.last(alloc)?.is_none());
+    Ok(())
+}
+
+/// A path and a name are joined to a path of 1,024 bytes at most.
+#[test]
+fn paths_are_joined(rt: HostRuntime) -> Result<(), Fail> {
+    let alloc = rt.alloc();
+    let mut long = [b'a'; 1019];
+    for place in [200, 400, 600, 800, 1000] {
+        long[place] = b'/';
+    }
+    let cases: [(&[u8], &[u8], usize, Option<NameFault>); 4] = [
+        (b".", b"a", 1, None),
+        (b"a/b", b"c.o", 7, None),
+        (&long, b"name", 1024, None),
+        (&long, b"names", 0, Some(NameFault::TooLong(1025))),
+    ];
+    for (bytes, last, length, fault) in cases {
+        let path = Path::read(alloc, bytes).map_err(|_| "no path")?;
+        let name = Name::read(alloc, last).map_err(|_| "no name")?;
+        let joined = path.join(alloc, &name);
+        if let Ok(found) = &joined {
+            assert_eq!(rt; found.as_bytes().len(), length);
+            assert!(rt; found.as_bytes().ends_with(last));
+        }
+        assert_eq!(rt; fault_of(joined)?, fault);
+    }
+    Ok(())
+}
+
+#[test]
 fn names_paths_texts_and_faults_print(rt: HostRuntime) -> Result<(), Fail> {
     let alloc = rt.alloc();
     let name = Name::read(alloc, b"a-b.c").map_err(|_| "no name")?;
