@@ -10,7 +10,7 @@ use Rattle.cc_names.specs.declared.steps.Told.{Told}
 use Rattle.cc_names.specs.declared.steps.Told.TheVariants as told
 use Rattle.build_core.specs.Slots.{numbered}
 use Rattle.build_core.specs.SlotLaws.{without_numbered}
-use Rattle.fresh_builds.specs.Replied.{reply_of}
+use Rattle.legal_history.specs.Replied.{reply_of}
 use Rattle.legal_history.specs.Base.{only_where}
 use Rattle.legal_history.specs.Builds.{Build, build_of, reserved}
 use Rattle.legal_history.specs.States.{State, start, with_done, same_tag, next_tag, build_by}

@@ -6,7 +6,7 @@ use Rattle.cc_names.specs.declared.rows.Tag.{Tag}
 use Rattle.cc_names.specs.declared.steps.Step.TheVariants as steps
 use Rattle.cc_names.specs.declared.steps.Told.{Told}
 use Rattle.cc_names.specs.declared.steps.Told.TheVariants as told
-use Rattle.fresh_builds.specs.Replied.{reply_of}
+use Rattle.legal_history.specs.Replied.{reply_of}
 use Rattle.legal_history.specs.Builds.{Build, build_of}
 use Rattle.legal_history.specs.States.{State, start, done_of, with_done, next_tag}
 use Rattle.legal_history.specs.Steps.{state_of, without_build}

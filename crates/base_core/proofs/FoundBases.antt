@@ -19,7 +19,7 @@ use Rattle.base_core.specs.Founds.{OpensAgain, SpellsBase}
 use Rattle.base_core.specs.Opening.{IsUndamaged}
 use Rattle.base_core.specs.Readable.{IsReadable, NamesOnly, TellsOnly}
 use Rattle.base_core.specs.Standing.{payloads, base_by, left_after, left_within, StandsFor, MayBeFound}
-use Rattle.legal_history.proofs.Fronts.{first_opens}
+use Rattle.legal_history.proofs.Stories.Fronts.{first_opens}
 use Rattle.base_core.proofs.Damages.{same_base, undamaged}
 use Rattle.base_core.proofs.Growing.{state_from-more, legal_more}
 use Rattle.base_core.proofs.Idle.{some_same}

@@ -12,10 +12,12 @@ use Rattle.legal_history.specs.Steps.{state_of}
 use Rattle.vob_journal.specs.Answered.{OneMore, OneFault}
 use Rattle.vob_journal.specs.Frames.{frames}
 use Rattle.vob_journal.specs.Moves.{Moves, Stands, Between}
+use Rattle.vob_journal.specs.Reads.{SameFiles}
 use Rattle.vob_journal.specs.Shown.{Shown}
 use Rattle.vob_journal.specs.declared.left.Left.TheVariants as lefts
 use Rattle.vob_journal.proofs.Journals.{stable_image}
 use Rattle.vob_journal.proofs.Passing.{passes_none, passes_call}
+use Rattle.vob_journal.proofs.Staying.{told_then}
 use Rattle.vob_journal.proofs.Telling.{both_from, both_then, told_both, told_back}
 use Rattle.base_core.specs.Backed.{IsCovered, IsBacked}
 use Rattle.base_core.specs.Logs.{Logged, opened_log}
@@ -72,13 +74,15 @@ pub record IsNewOn {D : Type 0} (sight : D → Sight) (first : Sight) (journal :
   pub list : IfTold first.told (λ d. journal.list ≡ frames (bytes_of 0 d))
   pub left : journal.left ≡ lefts.Nothing
   pub keeps : Both (Moves journal.list [] journal.list []) first.told (sight journal.disk).told
+  pub files : Both SameFiles first.told (sight journal.disk).told
   pub counts : OneMore first (sight journal.disk)
 
-pub new_on : {D : Type 0} (sight : D → Sight) (first : Sight) (journal : Shown D) → IfTold first.told (λ d. journal.list ≡ frames (bytes_of 0 d)) → journal.left ≡ lefts.Nothing → journal.loose ≡ [] → Both (Moves journal.list [] journal.list journal.loose) first.told (sight journal.disk).told → OneMore first (sight journal.disk) → IsNewOn sight first journal
-new_on sight first journal list left loose moves counts = record {
+pub new_on : {D : Type 0} (sight : D → Sight) (first : Sight) (journal : Shown D) → IfTold first.told (λ d. journal.list ≡ frames (bytes_of 0 d)) → journal.left ≡ lefts.Nothing → journal.loose ≡ [] → Both (Moves journal.list [] journal.list journal.loose) first.told (sight journal.disk).told → Both SameFiles first.told (sight journal.disk).told → OneMore first (sight journal.disk) → IsNewOn sight first journal
+new_on sight first journal list left loose moves files counts = record {
   list = list;
   left = left;
   keeps = subst (λ l. Both (Moves journal.list [] journal.list l) first.told (sight journal.disk).told) loose moves;
+  files = files;
   counts = counts;
 }
 
@@ -91,6 +95,10 @@ pub keeps_first : {D : Type 0} (sight : D → Sight) (first : Sight) (opened rea
 keeps_first sight first opened read new reads =
     both_from (λ d. opened.list ≡ frames (bytes_of 0 d)) (Moves opened.list [] opened.list []) Keeps first.told (sight read.disk).told
     (λ d e is moves. subst (λ l. Moves l [] l [] d e) is moves) new.list (since_first sight first opened read new reads)
+
+-- both files are as they were handed in
+pub files_first : {D : Type 0} (sight : D → Sight) (first : Sight) (opened read : Shown D) → IsNewOn sight first opened → OnlyReads sight opened read → Both SameFiles first.told (sight read.disk).told
+files_first sight first opened read new reads = told_then first.told (sight opened.disk).told (sight read.disk).told new.files reads.files
 
 -- why reading stopped, told of the disk as it was handed in
 pub stops_first : {D : Type 0} (sight : D → Sight) (first : Sight) (cause : OpenCause) (opened read : Shown D) → IsNewOn sight first opened → StopsBy (sight opened.disk).told (λ _. opened.list) cause (sight opened.disk).faults (sight read.disk).faults → StopsBy first.told (λ d. frames (bytes_of 0 d)) cause first.faults (sight read.disk).faults
@@ -114,17 +122,18 @@ unchanged_told first now ticks keeps = by first.told now ticks keeps
     by (Some d) None same keep = tt
     by (Some d) (Some e) same keep = λ k image later left. may_leave_list (frames (bytes_of 0 d)) d e k image (omega (arith, same, later)) keep left
 
-pub fails_to_open : (first now : Sight) (cause : OpenCause) → IsCounted first → Both Keeps first.told now.told → StopsBy first.told (λ d. frames (bytes_of 0 d)) cause first.faults now.faults → FailsToOpen first cause now
-fails_to_open first now cause counted keeps because = record {
+pub fails_to_open : (first now : Sight) (cause : OpenCause) → IsCounted first → Both Keeps first.told now.told → Both SameFiles first.told now.told → StopsBy first.told (λ d. frames (bytes_of 0 d)) cause first.faults now.faults → FailsToOpen first cause now
+fails_to_open first now cause counted keeps files because = record {
   because = because;
   tells = both_tells Keeps first.told now.told keeps;
   unchanged = unchanged_told first now.told counted.told keeps;
+  files = files;
 }
 
 -- the length of the journal could not be asked
-pub fails_at_once : (first now : Sight) → IsCounted first → IsCounted now → IfTold first.told (λ d. file_of 0 d ≡ stable (bytes_of 0 d)) → Both Idles first.told now.told → OneFault first now → FailsToOpen first causes.DiskFault now
-fails_at_once first now counted after is idles fault =
-    fails_to_open first now causes.DiskFault counted (both_idle first.told now.told is idles) (raised_rises first now counted after fault.1)
+pub fails_at_once : (first now : Sight) → IsCounted first → IsCounted now → IfTold first.told (λ d. file_of 0 d ≡ stable (bytes_of 0 d)) → Both Idles first.told now.told → Both SameFiles first.told now.told → OneFault first now → FailsToOpen first causes.DiskFault now
+fails_at_once first now counted after is idles files fault =
+    fails_to_open first now causes.DiskFault counted (both_idle first.told now.told is idles) files (raised_rises first now counted after fault.1)
 
 -- the journal behind a base that was opened
 covered_opened : (opening : Opening) (list loose : List (List ℕ)) (d e : Device) → opening.counts.ticks ≡ length d.calls → list ≡ payloads opening.base → loose ≡ [] → Moves list [] list [] d e → IsCovered opening [] list loose lefts.Nothing e
@@ -184,4 +193,5 @@ module _ {D : Type 0} (sight : D → Sight) (first : Sight) (handed : Handed) (r
     on = base_on;
     is = is ∙ ap (opened_log rows handed) (sym (ap (λ l. l.sight) is));
     sound = ap (λ l. l.sight.faults) is ∙ sound ∙ new.counts.1;
+    files = subst (λ s. Both SameFiles first.told s.told) (sym (ap (λ l. l.sight) is)) (files_first sight first opened read new reads);
   }

@@ -13,18 +13,19 @@ use Rattle.cc_names.specs.declared.replies.UnitWord.{UnitWord}
 use Rattle.cc_names.specs.declared.replies.UnitWord.TheVariants as words
 use Rattle.cc_names.specs.declared.rows.Deed.{Deed}
 use Rattle.cc_names.specs.declared.rows.Deed.TheVariants as deeds
+use Rattle.cc_names.specs.declared.rows.Kind.TheVariants.{File}
 use Rattle.cc_names.specs.declared.rows.Out.TheVariants as outs
 use Rattle.cc_names.specs.declared.rows.TypeKind.TheVariants as type_kinds
 use Rattle.cc_names.specs.declared.steps.Step.TheVariants as steps
 use Rattle.cc_names.specs.declared.steps.Told.{Told}
 use Rattle.cc_names.specs.declared.steps.Told.TheVariants as told
-use Rattle.fresh_builds.specs.Replied.{digest_of}
+use Rattle.legal_history.specs.Replied.{digest_of}
 use Rattle.legal_history.specs.Base.{Base}
 use Rattle.legal_history.specs.States.{all_done}
 use Rattle.legal_history.specs.Steps.{state_of}
 use Rattle.legal_history.specs.VersionNames.{line}
 use Rattle.legal_history.specs.Worked.{tag, row, base_of}
-use Rattle.legal_history.proofs.TwoViews.{v, w, hi, script, first_commands, first_deeds, all_deeds, two_views, clearmake, publish}
+use Rattle.legal_history.proofs.Worked.TwoViews.{v, w, hi, script, first_commands, first_deeds, all_deeds, two_views, clearmake, publish}
 use Rattle.base_core.specs.Replying.{reply_to_row, reply_to_answer, replies_of}
 
 -- the replies to the rows of a base, newest first; a row of a build has none
@@ -76,6 +77,25 @@ checkouts_name_their_versions :
     ≡ ok_version (codes "/main/1") ∷ ok_version (codes "/main/1") ∷ ok ∷ ok ∷ ok_version (codes "/main/2") ∷ ok ∷ ok_version (codes "/main/2") ∷ []
 unfolding digits
 checkouts_name_their_versions = refl
+
+-- a view takes an element out of which another builds
+a_checkout_names_its_version : replies_behind (deeds.Checkout w 6 8 true ∷ []) ≡ ok_version (codes "/main/1") ∷ []
+unfolding digits
+a_checkout_names_its_version = refl
+
+-- a second version, and a view that selects by time
+a_second_version_is_named :
+    reverse (newest_first (base_of (deeds.Mkview v ∷ deeds.Checkout v 0 0 true ∷ deeds.Mkelem v 0 a_file File true ∷ deeds.Save v 3 foo ∷ deeds.Checkin v 3
+    ∷ deeds.Checkin v 0 ∷ deeds.Checkout v 3 5 true ∷ deeds.Save v 3 bar ∷ deeds.Checkin v 3 ∷ deeds.Mkview w
+    ∷ deeds.Setcs w (line (codes "element in /main/LATEST -time 14-Nov-2023.22:13:21")) ∷ [])))
+    ≡ ok ∷ ok_version (codes "/main/0") ∷ ok ∷ ok ∷ ok_version (codes "/main/1") ∷ ok_version (codes "/main/1") ∷ ok_version (codes "/main/1") ∷ ok
+    ∷ ok_version (codes "/main/2") ∷ ok ∷ ok ∷ []
+unfolding digits
+a_second_version_is_named = refl
+
+-- a view that selects by a record
+a_spec_is_well : replies_behind (deeds.Mkview (codes "x") ∷ deeds.Setcs (codes "x") (line (codes "element in -config out@@10")) ∷ []) ≡ ok ∷ ok ∷ []
+a_spec_is_well = refl
 
 -- a config spec whose third rule makes a branch
 abbrev branching : List ℕ

@@ -4,7 +4,7 @@ use Rattle.cc_names.specs.Formed.{Plain, IsFormed}
 use Rattle.cc_names.specs.declared.steps.Told.{Told}
 use Rattle.cc_names.specs.declared.steps.Told.TheVariants as told
 use Rattle.disk_model.specs.Devices.{Device, MayLeave, bytes_of}
-use Rattle.disk_model.specs.Told.{Sight, IfTold}
+use Rattle.disk_model.specs.Told.{Sight, IfTold, Both}
 use Rattle.legal_history.specs.Base.{Base, size}
 use Rattle.legal_history.specs.Fits.{fits, is_base}
 use Rattle.legal_history.specs.Committing.{rises}
@@ -12,6 +12,7 @@ use Rattle.row_form.specs.Reading.{IsKnown}
 use Rattle.row_form.specs.Spelled.{spelled}
 use Rattle.view_lookup.specs.Unversioned.{is_unversioned}
 use Rattle.vob_journal.specs.Frames.{frames}
+use Rattle.vob_journal.specs.Reads.{SameFiles}
 use Rattle.base_core.specs.Logs.{Logged, opened_log}
 use Rattle.base_core.specs.Readable.{AreReadable}
 use Rattle.base_core.specs.Standing.{payloads}
@@ -30,13 +31,14 @@ pub record IsBaseOn (old : Sight) (rows : List Plain) (handed : Handed) : Type 0
   pub readable : AreReadable (reverse rows)
   pub unversioned : is_unversioned (reverse rows) ≡ true
 
--- a log of such a base, under which no disk failed
+-- a log of such a base, under which no disk failed, and both files as they were
 pub record IsOpened (old : Sight) (log : Logged) : Type 0 where
   pub rows : List Plain
   pub handed : Handed
   pub on : IsBaseOn old rows handed
   pub is : log ≡ opened_log rows handed log.sight
   pub sound : log.sight.faults ≡ old.faults
+  pub files : Both SameFiles old.told log.sight.told
 
 -- no readable row that fits the base has this spelling
 abbrev pub IsUnfit : Base → List ℕ → Type 0
@@ -57,7 +59,7 @@ pub record IsDamaged (list : List (List ℕ)) (n : ℕ) : Type 0 where
 abbrev pub IsUndamaged : List (List ℕ) → Type 0
 IsUndamaged list = (n : ℕ) → IsDamaged list n → ⊥
 
--- a base was opened: the one that the disk stands for, whose journal is not damaged
+-- A base was opened: the one that the disk stands for, whose journal is not damaged. Both files are as they were.
 pub record Opens (old : Sight) (story : List Told) (new : Sight) : Type 0 where
   pub rows : List Plain
   pub handed : Handed
@@ -65,6 +67,7 @@ pub record Opens (old : Sight) (story : List Told) (new : Sight) : Type 0 where
   pub undamaged : IfTold old.told (λ d. IsUndamaged (frames (bytes_of 0 d)))
   pub story_is : story ≡ told.Opened rows handed.counts handed.tells ∷ []
   pub sound : new.faults ≡ old.faults
+  pub files : Both SameFiles old.told new.told
 
 -- why a journal with this list was not read through, with the disk's counts of faults before and after
 abbrev pub StopsBy : Option Device → (Device → List (List ℕ)) → OpenCause → ℕ → ℕ → Type 0
@@ -72,8 +75,9 @@ StopsBy told list (causes.Damaged n) old new = (new ≡ old) × IfTold told (λ 
 StopsBy told list causes.DiskFault old new = rises old new ≡ true
 StopsBy told list causes.NoMemory old new = new ≡ old
 
--- No base was opened, and nothing was written: each stop since finds the frames that were there.
+-- No base was opened: each stop since finds the frames that were there, and both files are as they were.
 pub record FailsToOpen (old : Sight) (cause : OpenCause) (new : Sight) : Type 0 where
   pub because : StopsBy old.told (λ d. frames (bytes_of 0 d)) cause old.faults new.faults
   pub tells : is_some new.told ≡ is_some old.told
   pub unchanged : IfTold old.told (λ d. IfTold new.told (λ e. (k : ℕ) (image : List ℕ) → old.ticks < k → MayLeave 0 e k image → frames image ≡ frames (bytes_of 0 d)))
+  pub files : Both SameFiles old.told new.told

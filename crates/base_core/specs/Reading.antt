@@ -12,6 +12,7 @@ use Rattle.view_lookup.specs.Unversioned.{is_unversioned_deed, is_unversioned}
 use Rattle.vob_journal.specs.Answered.{Gives}
 use Rattle.vob_journal.specs.Frames.{frames}
 use Rattle.vob_journal.specs.Moves.{Moves}
+use Rattle.vob_journal.specs.Reads.{SameFiles}
 use Rattle.vob_journal.specs.Shown.{Shown}
 use Rattle.base_core.specs.Opening.{IsUnfit}
 use Rattle.base_core.specs.Readable.{AreReadable}
@@ -19,12 +20,13 @@ use Rattle.base_core.specs.Standing.{payloads}
 use Rattle.base_core.specs.declared.opening.OpenCause.{OpenCause}
 use Rattle.base_core.specs.declared.opening.OpenCause.TheVariants as causes
 
--- What reading leaves of a journal with nothing loose: its list, which each stop since finds.
+-- What reading leaves of a journal with nothing loose: its list, which each stop since finds, and both files as they were.
 pub record OnlyReads {D : Type 0} (sight : D → Sight) (old new : Shown D) : Type 0 where
   pub list : new.list ≡ old.list
   pub left : new.left ≡ old.left
   pub ticks : (sight old.disk).ticks ≤ (sight new.disk).ticks
   pub stops : Both (Moves old.list [] old.list []) (sight old.disk).told (sight new.disk).told
+  pub files : Both SameFiles (sight old.disk).told (sight new.disk).told
 
 -- the end of a list was read where nothing was found
 abbrev pub EndsAt : Option (List ℕ) → Bool → Type 0

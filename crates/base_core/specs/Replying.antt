@@ -10,7 +10,7 @@ use Rattle.cc_names.specs.declared.rows.Tag.{Tag}
 use Rattle.cc_names.specs.declared.steps.Step.TheVariants as steps
 use Rattle.cc_names.specs.declared.steps.Told.{Told}
 use Rattle.cc_names.specs.declared.steps.Told.TheVariants as told
-use Rattle.fresh_builds.specs.Replied.{reply_of}
+use Rattle.legal_history.specs.Replied.{reply_of}
 use Rattle.legal_history.specs.Base.{Base}
 use Rattle.legal_history.specs.Builds.{Build}
 use Rattle.legal_history.specs.States.{State, next_command, build_by, start}

@@ -30,7 +30,8 @@ use cc_names::steps::{Counts, Step, UnitEnd};
 use cc_names::texts::Text;
 use checkout_desk::{ROW_LIMIT, Stamp, decide};
 use disk_model::{Disk, DiskFault};
-use fresh_builds::laws::{a_base_fits, a_build_agrees};
+use legal_history::laws::builds::a_build_agrees;
+use legal_history::laws::stories::a_base_fits;
 use std::alloc::Global;
 use std::marker::Model;
 

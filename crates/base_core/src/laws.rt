@@ -12,7 +12,7 @@ ghost use Rattle.base_core.specs.Opening.{IsDamaged, IsUndamaged};
 ghost use Rattle.base_core.specs.Readable.{AreReadable, IsReadable, TellsOnly};
 ghost use Rattle.base_core.specs.Standing.{MayBeFound, payloads};
 
-use fresh_builds::laws::a_base_fits;
+use legal_history::laws::stories::a_base_fits;
 
 /// Whatever a stop may find of a legal story spells the rows of a base, each of which fits those before it: that of the
 /// commits so far, or that and a row which a command would have committed there.

@@ -12,7 +12,7 @@
 // left; `finish` leaves the rows and no more.
 //
 // What it stands on: `vob_journal`, `row_form` and `disk_model` for the disk, `checkout_desk` for the decisions on rows,
-// `build_core` for builds, `fresh_builds` for the laws of builds in legal stories, the definitions of `legal_history`,
+// `build_core` for builds, `legal_history` for the model and the laws of builds in legal stories,
 // `view_lookup` and `session_text`, `build_script` and `make_text` for scripts and units, and `cc_names` for plain data.
 #![tactic(auto)]
 

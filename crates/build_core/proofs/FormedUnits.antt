@@ -5,13 +5,14 @@ use Rattle.std.specs.Bool.{⊤}
 use Rattle.std.specs.Prelude.{bytes_eq, find, map, flat_map, is_some, nat_lt, IfOk, if◌then◌else◌}
 use Rattle.std.specs.List.{list_any, before_first, after_first, AllByRecursion, IsDistinct}
 use Rattle.std.specs.Result.{result_ok}
+use Rattle.cc_names.specs.Cuts.{lines_of, words_of}
 use Rattle.cc_names.specs.Formed.{AreTargets, IsBelowRoot}
 use Rattle.cc_names.specs.Names.{unless_fault}
 use Rattle.cc_names.specs.Paths.{path_fault, is_root}
 use Rattle.cc_names.specs.declared.commands.Macro.{Macro}
 use Rattle.cc_names.specs.declared.names.NameFault.{NameFault}
 use Rattle.cc_names.specs.declared.units.Unit.{Unit}
-use Rattle.make_text.specs.Lines.{is_script_line, is_blank_line, lines_of, words}
+use Rattle.make_text.specs.Lines.{is_script_line, is_blank_line}
 use Rattle.make_text.specs.Makefiles.{is_colon, may_be_target, each_once, rule_from, rule_of, may_be_rule, is_beyond, has_script, below_rule, with_script, rules_from, contents_of, unless_root, path_in, path_before, paths_of}
 use Rattle.make_text.specs.Units.{Files, unit_of, wanted, goals_of, missing_goal, unless_source, unless_missing, made_by, unless_refused, units_of, units_at, units, main_file, expanded, expansion, script_of_unit}
 use Rattle.make_text.specs.declared.rules.MakeRule.{MakeRule}
@@ -58,8 +59,8 @@ formed_rule_from (Some (target ∷ [])) (Some prerequisites) below = by (may_be_
 formed_rule : (line : List ℕ) → IfSome (rule_of line) IsRule
 formed_rule line = by (may_be_rule line)
   where
-    by : (t : Bool) → IfSome (if t then rule_from (paths_of (words (before_first is_colon line))) (paths_of (words (after_first is_colon line))) else None) IsRule
-    by true = formed_rule_from (paths_of (words (before_first is_colon line))) (paths_of (words (after_first is_colon line))) (all_below (words (before_first is_colon line)))
+    by : (t : Bool) → IfSome (if t then rule_from (paths_of (words_of (before_first is_colon line))) (paths_of (words_of (after_first is_colon line))) else None) IsRule
+    by true = formed_rule_from (paths_of (words_of (before_first is_colon line))) (paths_of (words_of (after_first is_colon line))) (all_below (words_of (before_first is_colon line)))
     by false = tt
 
 -- no rule, or one

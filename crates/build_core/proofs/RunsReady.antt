@@ -13,7 +13,7 @@ use Rattle.legal_history.specs.Fits.{row_limit, deed_fits, is_base}
 use Rattle.legal_history.specs.Fresh.{script_text}
 use Rattle.legal_history.specs.Freshness.{Agrees, AgreesSoFar, outcome_in}
 use Rattle.legal_history.specs.Serials.{Outcome, Made, Without}
-use Rattle.legal_history.proofs.Owned.{and_first}
+use Rattle.legal_history.proofs.Bases.Owned.{and_first}
 use Rattle.build_core.proofs.RunsEach.{each_at}
 use Rattle.build_core.proofs.RunsSeen.{makes_no_root}
 use Rattle.build_core.specs.BuildForms.{IsShort, IsUnitFormed}

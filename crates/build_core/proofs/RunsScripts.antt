@@ -4,11 +4,12 @@ use Rattle.std.proofs.lemmas.List.{length-reverse}
 use Rattle.std.specs.List.{AllByRecursion, flat_map, slice_split}
 use Rattle.std.specs.Result.{result_ok}
 use Rattle.std.specs.Str.{bytes_eq}
+use Rattle.cc_names.specs.Cuts.{is_newline}
 use Rattle.cc_names.specs.Names.{unless_fault}
 use Rattle.cc_names.specs.Paths.{IsPath, path_fault}
 use Rattle.cc_names.specs.declared.names.NameFault.{NameFault}
 use Rattle.cc_names.specs.declared.refusals.ScriptFault.{ScriptFault}
-use Rattle.build_script.specs.Lines.{path_in, path_before, paths_of, cat_of, work_of, appends_of, makes, line_of, line_of_reversed, line_before, lines_from, is_newline, script_of}
+use Rattle.build_script.specs.Lines.{path_in, path_before, paths_of, cat_of, work_of, appends_of, makes, line_of, line_of_reversed, line_before, lines_from, script_of}
 use Rattle.build_script.specs.Run.{TextOf, parts_of}
 use Rattle.build_script.specs.Words.{words, without_at}
 use Rattle.build_script.specs.declared.lines.Line.{Line}

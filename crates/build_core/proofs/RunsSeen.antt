@@ -17,9 +17,9 @@ use Rattle.legal_history.specs.Closures.{is_among}
 use Rattle.legal_history.specs.Fits.{is_base}
 use Rattle.legal_history.specs.Seen.{as_seen, file_at, file_seen, row_of_file, selected}
 use Rattle.legal_history.specs.Serials.{makes, needed}
-use Rattle.legal_history.proofs.FilesBelow.{beyond, file_is_below}
-use Rattle.legal_history.proofs.Pairs.{member_of, pairs_before, with_pair, members_paired}
-use Rattle.legal_history.proofs.VersionsStay.{kind_stays}
+use Rattle.legal_history.proofs.Bases.FilesBelow.{beyond, file_is_below}
+use Rattle.legal_history.proofs.Builds.Pairs.{member_of, pairs_before, with_pair, members_paired}
+use Rattle.legal_history.proofs.Bases.VersionsStay.{kind_stays}
 use Rattle.build_core.specs.Publishing.{HasObjects}
 
 -- the root is a directory, so a view sees no file there

@@ -4,6 +4,7 @@ use Rattle.std.proofs.lemmas.Bool.{ltb-false}
 use Rattle.std.specs.List.{AllByRecursion, IsDistinct, list_any, before_first, after_first}
 use Rattle.std.specs.Result.{result_ok}
 use Rattle.std.specs.Str.{bytes_eq}
+use Rattle.cc_names.specs.Cuts.{lines_of, words_of}
 use Rattle.cc_names.specs.Formed.{IsBelowRoot, AreTargets}
 use Rattle.cc_names.specs.Names.{unless_fault}
 use Rattle.cc_names.specs.Paths.{is_root, path_fault}
@@ -11,7 +12,7 @@ use Rattle.cc_names.specs.declared.commands.Macro.{Macro}
 use Rattle.cc_names.specs.declared.names.NameFault.{NameFault}
 use Rattle.cc_names.specs.declared.refusals.GraphFault.{GraphFault}
 use Rattle.cc_names.specs.declared.units.Unit.{Unit}
-use Rattle.make_text.specs.Lines.{lines_of, words, is_script_line, is_blank_line}
+use Rattle.make_text.specs.Lines.{is_script_line, is_blank_line}
 use Rattle.make_text.specs.Makefiles.{path_in, unless_root, path_before, paths_of, is_colon, may_be_rule, may_be_target, each_once, rule_from, rule_of, is_beyond, has_script, below_rule, with_script, rules_from, contents_of}
 use Rattle.make_text.specs.Units.{Files, script_limit, expanded, script_of_unit, unit_of, wanted, goals_of, missing_goal, unless_source, unless_missing, graph_of, made_by, unless_refused, units_of, units_at, units, main_file}
 use Rattle.make_text.specs.declared.makefiles.Expanded.TheVariants as expansions
@@ -62,8 +63,8 @@ rule_formed None prerequisites rule below h = absurd (cc)
 line_formed : (line : List ℕ) (rule : MakeRule) → rule_of line ≡ Some rule → AreTargets rule.targets
 line_formed line rule h = by (may_be_rule line) h
   where
-    by : (t : Bool) → (if t then rule_from (paths_of (words (before_first is_colon line))) (paths_of (words (after_first is_colon line))) else None) ≡ Some rule → AreTargets rule.targets
-    by true h = rule_formed _ (paths_of (words (after_first is_colon line))) rule (words_below (words (before_first is_colon line))) h
+    by : (t : Bool) → (if t then rule_from (paths_of (words_of (before_first is_colon line))) (paths_of (words_of (after_first is_colon line))) else None) ≡ Some rule → AreTargets rule.targets
+    by true h = rule_formed _ (paths_of (words_of (after_first is_colon line))) rule (words_below (words_of (before_first is_colon line))) h
     by false h = absurd (cc)
 
 abbrev AreRules : List MakeRule → Type 0

@@ -1,7 +1,8 @@
 -- A line has no more words than bytes, and the lines of a text no more bytes than the text.
 use Rattle.std.proofs.Common.{◌≡◌, refl, ap, ◌∙◌, ℕ, suc, ◌+◌, ◌==◌, ◌≤◌, Bool, true, false, cond, List, [], ◌∷◌, length, if◌then◌else◌, arith, length-append}
 use Rattle.std.specs.List.{flat_map, slice_split, onto_first}
-use Rattle.build_script.specs.Words.{is_alike, is_arrow, is_blank, before_runs, runs, arrows, words_of_run, words, without_at}
+use Rattle.cc_names.specs.Cuts.{is_blank}
+use Rattle.build_script.specs.Words.{is_alike, is_arrow, before_runs, runs, arrows, words_of_run, words, without_at}
 
 -- how many bytes some texts have in all
 abbrev pub total : List (List ℕ) → ℕ

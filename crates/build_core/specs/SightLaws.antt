@@ -16,6 +16,7 @@ of_row : (b : Base) (path : List ℕ) (row : Option ℕ) → option_map text_of 
 of_row b path None = refl
 of_row b path (Some row) = with_row row (text b row path)
 
+-- what a script reads at a path is the text of the row that its unit sees there
 pub texts_seen : (b : Base) (build : Build) (n : ℕ) (unit : Unit) (path : List ℕ) →
     texts (stands b build n unit) path ≡ text_of_row b path (visible b build n unit path)
 texts_seen b build n unit path = of_row b path (visible b build n unit path)

@@ -12,8 +12,8 @@
 //
 // What it stands on: `make_text` for makefiles and the definition of units, `make_graph` for the units of a makefile that
 // was read, `view_lookup` for what a view sees, `build_script` for scripts, `session_text` for the form of
-// commands, `reply_text` and `sha2` for digests, `legal_history` and `fresh_builds` for the model of builds and of their replies,
-// `cc_names` for paths, units and refusals.
+// commands, `reply_text` and `sha2` for digests, `legal_history` for the model of builds and of their replies, `cc_names` for
+// paths, units and refusals.
 #![tactic(auto)]
 
 mod active;

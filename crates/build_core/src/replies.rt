@@ -1,7 +1,7 @@
 // The reply of a build that has ended: its units with objects at each of their targets, the others at their first.
 
 ghost use Rattle.std.specs.Prelude.{◌≡◌, ◌++◌, ◌<◌, ◌^◌, [], true, Some, length, reverse, option_copied, IfOk, OnOk};
-ghost use Rattle.fresh_builds.specs.Replied.{digest_at, is_of_tag, is_own, word_of_object, word_of_end, word_of_came, told_targets, line_before, lines_of, lines_from, reply_of};
+ghost use Rattle.legal_history.specs.Replied.{digest_at, is_of_tag, is_own, word_of_object, word_of_end, word_of_came, told_targets, line_before, lines_of, lines_from, reply_of};
 ghost use Rattle.legal_history.specs.Builds.{came_to, Given};
 ghost use Rattle.legal_history.specs.Texts.{text};
 ghost use Rattle.view_lookup.specs.Unversioned.{is_unversioned};

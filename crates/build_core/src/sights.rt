@@ -1,6 +1,6 @@
 // What the script of a unit sees.
 
-ghost use Rattle.std.specs.Prelude.{◌≡◌, ◌<◌, ◌≤◌, ◌^◌, ◌++◌, Some, true, length, reverse, option_and_then, option_copied, IfOk, OnOk, IsSome};
+ghost use Rattle.std.specs.Prelude.{◌≡◌, ◌<◌, ◌≤◌, ◌^◌, Some, true, length, reverse, option_and_then, option_copied, IfOk, IsSome};
 ghost use Rattle.std.specs.List.{list_any};
 ghost use Rattle.cc_names.specs.declared.units.Unit as units;
 ghost use Rattle.legal_history.specs.Base.{first_rows, only_where};
@@ -15,6 +15,7 @@ ghost use Rattle.build_core.specs.Sights.{standing_of, stands, IsFetched};
 use crate::active::ActiveBuild;
 use crate::ends::makes;
 use build_script::files::Got;
+use cc_names::copies::push_paths;
 use cc_names::memory::NoMemory;
 use cc_names::paths::Path;
 use cc_names::texts::Text;
@@ -27,15 +28,6 @@ fn makes_any(unit: &Unit, paths: &[Path]) -> bool
     ensures { result ≡ list_any (λ path. is_among path unit.now.targets) paths.now }
 {
     paths.iter().any(|path| makes(unit, path))
-}
-
-fn push_paths(alloc: Global, wanted: &mut Vec<Path>, paths: &[Path]) -> Result<(), NoMemory>
-    ensures { OnOk result (wanted.new.items ≡ wanted.old.items ++ paths.now) }
-{
-    for path in paths {
-        wanted.push(path.copy(alloc)?)?;
-    }
-    Ok(())
 }
 
 /// The object that a unit was given or kept, where the unit makes the path.

@@ -1,8 +1,9 @@
 -- What a script is: lines of words, each of a kind of its own.
-use Rattle.std.specs.Prelude.{ℕ, ◌+◌, Bool, true, false, ◌==◌, Option, Some, None, Result, Ok, Err, List, [], ◌∷◌, length, reverse, if◌then◌else◌, codes}
+use Rattle.std.specs.Prelude.{ℕ, ◌+◌, Bool, true, false, Option, Some, None, Result, Ok, Err, List, [], ◌∷◌, length, reverse, if◌then◌else◌, codes}
 use Rattle.std.specs.List.{slice_split}
 use Rattle.std.specs.Result.{result_ok}
 use Rattle.std.specs.Str.{bytes_eq}
+use Rattle.cc_names.specs.Cuts.{is_newline}
 use Rattle.cc_names.specs.Paths.{path_of}
 use Rattle.cc_names.specs.declared.refusals.ScriptFault.{ScriptFault}
 use Rattle.cc_names.specs.declared.refusals.ScriptFault.TheVariants as faults
@@ -68,10 +69,6 @@ line_before n (Some line) (Err fault) = Err fault
 abbrev pub lines_from : ℕ → List (List ℕ) → Result (List Line) ScriptFault
 lines_from n [] = Ok []
 lines_from n (bytes ∷ more) = line_before n (line_of bytes) (lines_from (n + 1) more)
-
--- a newline
-abbrev pub is_newline : ℕ → Bool
-is_newline b = b == 10
 
 -- the lines of what is left of a text, if anything is
 abbrev pub pieces : Option (List ℕ) → List (List ℕ)

@@ -7,6 +7,7 @@ pub record Standing : Type 0 where
   pub row : ℕ
   pub text : List ℕ
 
+-- the text of what stands at a path
 abbrev pub text_of : Standing → List ℕ
 text_of standing = standing.text
 

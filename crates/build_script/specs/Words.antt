@@ -1,10 +1,7 @@
 -- The words of a line.
 use Rattle.std.specs.Prelude.{ℕ, Bool, ◌&&◌, ◌||◌, ◌==◌, not, List, [], ◌∷◌, if◌then◌else◌}
 use Rattle.std.specs.List.{flat_map}
-
--- a space or a tab
-abbrev pub is_blank : ℕ → Bool
-is_blank b = (b == 32) || (b == 9)
+use Rattle.cc_names.specs.Cuts.{is_blank}
 
 -- a `>`
 abbrev pub is_arrow : ℕ → Bool

@@ -7,7 +7,8 @@
 // it; a run gives the outputs or the first fault that the definition of a run gives, and lists each path that it asked
 // the files for, once, in the order of first asking. A run depends on the files at those paths alone.
 //
-// What it stands on: `cc_names` for paths, texts and faults; `indexmap` for reads in the order of first asking.
+// What it stands on: `cc_names` for paths, texts and faults, and for newlines and blanks; `indexmap` for reads in the
+// order of first asking.
 #![tactic(auto)]
 
 pub mod files;

@@ -1,11 +1,13 @@
 // Scripts, read from their texts.
 
-ghost use Rattle.std.specs.Prelude.{◌≡◌, ◌+◌, ◌<◌, ◌^◌, ◌∷◌, length, option_copied, IfSome};
-ghost use Rattle.std.specs.List.{position, slice_split};
+ghost use Rattle.std.specs.Prelude.{◌≡◌, ◌+◌, ◌<◌, ◌^◌, ◌∷◌, length, option_copied};
+ghost use Rattle.std.specs.List.{slice_split};
 ghost use Rattle.cc_names.specs.Answers.{Gives};
-ghost use Rattle.build_script.specs.Lines.{is_newline, pieces, size_of, script_of};
+ghost use Rattle.cc_names.specs.Cuts.{is_newline};
+ghost use Rattle.build_script.specs.Lines.{pieces, size_of, script_of};
 
 use crate::lines::{Line, read_line};
+use cc_names::cuts::first_newline;
 use cc_names::memory::Or;
 use cc_names::refusals::ScriptFault;
 use std::alloc::Global;
@@ -24,13 +26,6 @@ impl Model for Script {
     ghost Value = { List Line };
 
     ghost view = { λ script. script.lines.items };
-}
-
-fn first_newline(text: &[u8]) -> Option<usize>
-    ensures place { result ≡ position is_newline text.now }
-    ensures within { IfSome result (λ index. index < length text.now) }
-{
-    text.iter().position(|byte| *byte == b'\n')
 }
 
 /// The first line of a text, and what is behind its newline, if it has one.

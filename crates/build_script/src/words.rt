@@ -1,15 +1,10 @@
 // The words of a line.
 
-ghost use Rattle.std.specs.Prelude.{◌≡◌, ◌+◌, ◌++◌, IfOk, OnOk, map, not};
-ghost use Rattle.build_script.specs.Words.{is_blank, is_arrow, is_alike, arrows, words_of_run, words, without_at};
+ghost use Rattle.std.specs.Prelude.{◌≡◌, ◌+◌, ◌++◌, IfOk, OnOk, map};
+ghost use Rattle.build_script.specs.Words.{is_arrow, is_alike, arrows, words_of_run, words, without_at};
 
+use cc_names::cuts::is_blank;
 use std::alloc::{AllocError, Global};
-
-fn is_blank(byte: u8) -> bool
-    ensures { result ≡ is_blank byte }
-{
-    matches!(byte, b' ' | b'\t')
-}
 
 fn is_arrow(byte: u8) -> bool
     ensures { result ≡ is_arrow byte }

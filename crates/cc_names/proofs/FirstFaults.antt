@@ -5,7 +5,7 @@ use Rattle.std.proofs.lemmas.List.{length-take}
 use Rattle.cc_names.specs.Names.{fault_at}
 use Rattle.cc_names.specs.Paths.{fault_or, first_fault, is_slash}
 use Rattle.cc_names.specs.declared.names.NameFault.{NameFault}
-use Rattle.cc_names.proofs.Cuts.{slice_split-at, slice_split-none}
+use Rattle.cc_names.proofs.Splits.{slice_split-at, slice_split-none}
 
 fault_or-some : (fault later : Option NameFault) → is_some fault ≡ true → fault_or fault later ≡ fault
 fault_or-some (Some fault) later h = refl

@@ -8,7 +8,7 @@ use Rattle.cc_names.specs.declared.names.NameFault.{NameFault}
 use Rattle.cc_names.specs.declared.names.NameFault.TheVariants.{Empty, BadByte, TooLong}
 use Rattle.cc_names.specs.Names.{is_name_byte, begins_wrong, fault_of_bytes, fault_at, name_fault, IsName}
 use Rattle.cc_names.specs.Paths.{is_slash, root, is_root, fault_or, first_fault, IsPath}
-use Rattle.cc_names.proofs.Cuts.{each-fails}
+use Rattle.cc_names.proofs.Splits.{each-fails}
 
 -- what it takes that a name has no fault
 no_fault-parts : (wrong : Bool) (bad : Option ℕ) (place len : ℕ) → (if wrong then Some (BadByte place) else fault_of_bytes bad place len) ≡ None → (wrong ≡ false) × (bad ≡ None) × (nat_lt 255 len ≡ false)

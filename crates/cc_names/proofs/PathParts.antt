@@ -8,7 +8,7 @@ use Rattle.std.proofs.lemmas.List.Splits.{slice_split_none, length-slice_split, 
 use Rattle.cc_names.specs.Names.{IsName}
 use Rattle.cc_names.specs.Paths.{is_slash, root, is_root, IsPath, names_of, joined, without_last}
 use Rattle.cc_names.specs.PathBytes.{PartsAre}
-use Rattle.cc_names.proofs.Cuts.{slice_split-last}
+use Rattle.cc_names.proofs.Splits.{slice_split-last}
 use Rattle.cc_names.proofs.NamesOfPaths.{slice_split-join, path-names, path-short, path-of_names, not_root-of_names, is_root-root}
 
 pub names_of-below : (path : List ℕ) → is_root path ≡ false → names_of path ≡ slice_split is_slash path

@@ -1,5 +1,5 @@
 -- A worked label, put, moved, taken and put again, checked by computation.
-use Rattle.std.proofs.Common.{◌≡◌, ℕ, Option, Some, None, List, [], ◌∷◌, refl}
+use Rattle.std.proofs.Common.{◌≡◌, ℕ, Some, None, List, [], ◌∷◌, refl}
 use Rattle.std.specs.Prelude.{codes}
 use Rattle.cc_names.specs.Labels.{labels_of_first_rows, holder}
 use Rattle.cc_names.specs.declared.changes.LabelChange.{LabelChange}

@@ -1,7 +1,7 @@
 -- Worked trees of versions, checked by computation.
-use Rattle.std.proofs.Common.{◌≡◌, ℕ, Option, Some, None, List, [], ◌∷◌, refl}
+use Rattle.std.proofs.Common.{◌≡◌, Some, None, List, [], ◌∷◌, refl}
 use Rattle.std.specs.Prelude.{codes, map}
-use Rattle.cc_names.specs.Versions.{Version, of_first_rows, versions_on, versions_of, row_of_version, place, latest, numbered, kind_of}
+use Rattle.cc_names.specs.Versions.{of_first_rows, versions_on, versions_of, row_of_version, place, latest, numbered, kind_of}
 use Rattle.cc_names.specs.Branches.{origin_of, name_of_branch, branch_named, branch_behind, names_of_branch}
 use Rattle.cc_names.specs.declared.rows.Kind.TheVariants.{File, Directory}
 use Rattle.cc_names.specs.declared.changes.TreeChange.{TreeChange}

@@ -4,7 +4,7 @@ use Rattle.std.specs.Option.{option_map_or}
 use Rattle.std.specs.Str.{bytes_eq}
 use Rattle.cc_names.specs.Versions.{row_of_change, branch_of_change, change_at, is_number}
 use Rattle.cc_names.specs.declared.changes.TreeChange.{TreeChange}
-use Rattle.cc_names.specs.declared.changes.TreeChange.TheVariants.{ElementMade, BranchMade, VersionMade}
+use Rattle.cc_names.specs.declared.changes.TreeChange.TheVariants.{BranchMade}
 
 -- the version at which a row's branch leaves
 abbrev pub origin_by : TreeChange → Option ℕ

@@ -25,11 +25,13 @@ use Rattle.cc_names.specs.declared.replies.UnitWord.{UnitWord}
 use Rattle.cc_names.specs.declared.replies.UnitWord.TheVariants as unit_word
 use Rattle.cc_names.specs.contracts.replies.UnitWordClone.TheImpl.{by_variants as IsUnitWordClone}
 
+-- an output
 pub stored_same : (source copy : Stored) → IsStoredClone source copy → copy ≡ source
 stored_same (stored.Here _) (stored.Here _) same = λ i. stored.Here (same i)
 stored_same (stored.There _) (stored.There _) same = λ i. stored.There (same i)
 stored_same _ _ same = absurd same
 
+-- a deed
 pub deed_same : (source copy : Deed) → IsDeedClone source copy → copy ≡ source
 deed_same (deed.Mkview _) (deed.Mkview _) same = λ i. deed.Mkview (same i)
 deed_same (deed.Rmview _) (deed.Rmview _) same = λ i. deed.Rmview (same i)
@@ -56,12 +58,14 @@ deed_same (deed.Arrow _ _ _) (deed.Arrow _ _ _) same = λ i. deed.Arrow (same.0 
 deed_same (deed.PublishAt _ _ _ _ _) (deed.PublishAt _ _ _ _ _) same = λ i. deed.PublishAt (same.0 i) (same.1.0 i) (same.1.1.0 i) (same.1.1.1.0 i) (same.1.1.1.1 i)
 deed_same _ _ same = absurd same
 
+-- the script of a unit
 pub unit_script_same : (source copy : UnitScript) → IsUnitScriptClone source copy → copy ≡ source
 unit_script_same unit_script.Bare unit_script.Bare same = refl
 unit_script_same unit_script.TooLong unit_script.TooLong same = refl
 unit_script_same (unit_script.Lines _) (unit_script.Lines _) same = λ i. unit_script.Lines (same i)
 unit_script_same _ _ same = absurd same
 
+-- the fault of a script
 pub script_fault_same : (source copy : ScriptFault) → IsScriptFaultClone source copy → copy ≡ source
 script_fault_same (script_fault.Absent _) (script_fault.Absent _) same = λ i. script_fault.Absent (same i)
 script_fault_same (script_fault.BadLine _) (script_fault.BadLine _) same = λ i. script_fault.BadLine (same i)
@@ -72,6 +76,7 @@ script_fault_same (script_fault.StrayWrite _) (script_fault.StrayWrite _) same =
 script_fault_same (script_fault.NotWritten _) (script_fault.NotWritten _) same = λ i. script_fault.NotWritten (same i)
 script_fault_same _ _ same = absurd same
 
+-- the fault of a unit
 pub unit_fault_same : (source copy : UnitFault) → IsUnitFaultClone source copy → copy ≡ source
 unit_fault_same (unit_fault.NoRule _) (unit_fault.NoRule _) same = λ i. unit_fault.NoRule (same i)
 unit_fault_same (unit_fault.NoDirectory _) (unit_fault.NoDirectory _) same = λ i. unit_fault.NoDirectory (same i)
@@ -79,6 +84,7 @@ unit_fault_same (unit_fault.ScriptTooLong _) (unit_fault.ScriptTooLong _) same =
 unit_fault_same (unit_fault.Script _) (unit_fault.Script _) same = λ i. unit_fault.Script (script_fault_same _ _ same i)
 unit_fault_same _ _ same = absurd same
 
+-- a refusal
 pub refusal_same : (source copy : Refusal) → IsRefusalClone source copy → copy ≡ source
 refusal_same refusal.NoView refusal.NoView same = refl
 refusal_same refusal.ViewExists refusal.ViewExists same = refl
@@ -116,6 +122,7 @@ refusal_same (refusal.Cycle _) (refusal.Cycle _) same = λ i. refusal.Cycle (sam
 refusal_same (refusal.TargetIsSource _) (refusal.TargetIsSource _) same = λ i. refusal.TargetIsSource (same i)
 refusal_same _ _ same = absurd same
 
+-- the end of a unit without a row
 pub unit_end_same : (source copy : UnitEnd) → IsUnitEndClone source copy → copy ≡ source
 unit_end_same (unit_end.Kept _) (unit_end.Kept _) same = λ i. unit_end.Kept (same i)
 unit_end_same (unit_end.Failed _) (unit_end.Failed _) same = λ i. unit_end.Failed (unit_fault_same _ _ same i)
@@ -123,6 +130,7 @@ unit_end_same (unit_end.Blocked _) (unit_end.Blocked _) same = λ i. unit_end.Bl
 unit_end_same unit_end.Bare unit_end.Bare same = refl
 unit_end_same _ _ same = absurd same
 
+-- what a unit came to
 pub unit_word_same : (source copy : UnitWord) → IsUnitWordClone source copy → copy ≡ source
 unit_word_same (unit_word.Kept _) (unit_word.Kept _) same = λ i. unit_word.Kept (same i)
 unit_word_same (unit_word.Winked _) (unit_word.Winked _) same = λ i. unit_word.Winked (same i)

@@ -21,10 +21,11 @@ pub record Plain : Type 0 where
   pub moment : ℕ
   pub deed : Deed
 
--- a number of eight bytes, and one of four
+-- a number of eight bytes
 abbrev pub IsLong : ℕ → Type 0
 IsLong n = n < 2 ^ 64
 
+-- a number of four bytes
 abbrev pub IsWord : ℕ → Type 0
 IsWord n = n < 2 ^ 32
 
@@ -69,6 +70,7 @@ AreTargets targets = IsListOf IsBelowRoot targets × (targets ≢ []) × IsDisti
 abbrev pub element_of : Placed → ℕ
 element_of placed = placed.element
 
+-- an element and a version, each a number of eight bytes
 abbrev pub IsPlaced : Placed → Type 0
 IsPlaced placed = IsLong placed.element × IsLong placed.version
 

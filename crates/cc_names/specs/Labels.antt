@@ -1,5 +1,5 @@
 -- Which version a label stands on, told by the list of changes of labels, the newest first.
-use Rattle.std.specs.Prelude.{ℕ, Bool, ◌==◌, ◌&&◌, nat_lt, Option, List, [], ◌∷◌, filter}
+use Rattle.std.specs.Prelude.{ℕ, ◌==◌, ◌&&◌, nat_lt, Option, List, filter}
 use Rattle.std.specs.Str.{bytes_eq}
 use Rattle.cc_names.specs.Last.{Effect, Ends, Sets, only_if, last}
 use Rattle.cc_names.specs.declared.changes.LabelChange.{LabelChange}

@@ -1,6 +1,7 @@
 pub mod Answers
 pub mod Branches
 pub mod CopyLaws
+pub mod Cuts
 pub mod Falling
 pub mod Formed
 pub mod Keys

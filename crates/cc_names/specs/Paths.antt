@@ -13,6 +13,7 @@ is_slash b = b == 47
 abbrev pub root : List ℕ
 root = 46 ∷ []
 
+-- whether a path is the root
 abbrev pub is_root : List ℕ → Bool
 is_root (b ∷ []) = b == 46
 is_root _ = false

@@ -1,5 +1,5 @@
 -- The references that views hold to objects, by view and path, from the list of their changes, newest first.
-use Rattle.std.specs.Prelude.{ℕ, ◌+◌, Bool, true, false, cond, not, ◌&&◌, ◌==◌, Option, List, [], ◌∷◌, bytes_eq}
+use Rattle.std.specs.Prelude.{ℕ, ◌+◌, Bool, true, false, not, ◌&&◌, ◌==◌, Option, List, [], ◌∷◌, bytes_eq}
 use Rattle.std.specs.List.{list_any}
 use Rattle.std.specs.declared.cmp.Ordering.{Ordering}
 use Rattle.std.specs.Ordering.{nat_cmp, on, then_cmp}
@@ -25,6 +25,7 @@ abbrev pub won : List ℕ → ℕ → List (List ℕ) → Held → Held
 won v id [] held = held
 won v id (target ∷ targets) held = won v id targets (put place_cmp (v, target) id held)
 
+-- whether two places are one: the same view and the same path
 abbrev pub is_place : Place → Place → Bool
 is_place one two = bytes_eq one.0 two.0 && bytes_eq one.1 two.1
 

@@ -5,6 +5,7 @@ use Rattle.cc_names.specs.declared.replies.Reply.TheVariants as reply
 use Rattle.cc_names.specs.contracts.replies.ReplyClone.TheImpl.{by_variants as IsReplyClone}
 use Rattle.cc_names.specs.CopyLaws.{refusal_same}
 
+-- a reply
 pub reply_same : (source copy : Reply) → IsReplyClone source copy → copy ≡ source
 reply_same reply.Good reply.Good same = refl
 reply_same (reply.Version _) (reply.Version _) same = λ i. reply.Version (same i)

@@ -8,7 +8,9 @@ use crate::texts::Text;
 /// A version by its place in its element's tree: the branches behind `main`, and the number on the last of them.
 #[derive(Clone, Debug, Drop, PartialEq, Eq)]
 pub struct VersionName {
+    /// The branches behind `main`, from the root of the tree on.
     pub branches: List<Name>,
+    /// The number of the version on the last of them, from 0.
     pub number: u64,
 }
 
@@ -22,89 +24,109 @@ pub struct Macro {
 /// One command of a lane, as its line says it.
 #[derive(Debug, Drop, PartialEq, Eq)]
 pub enum Command {
+    /// Makes a view; its config spec is the default one.
     Mkview {
         view: Name,
     },
+    /// Ends a view, with its checkouts, private files and references. Where it has checkouts it needs `-force`.
     Rmview {
         view: Name,
         force: bool,
     },
+    /// Sets the config spec of a view to the text of the body.
     Setcs {
         view: Name,
         text: Text,
     },
+    /// Makes a file element and checks it out, unless `-nco`. Its directory must be checked out.
     Mkelem {
         view: Name,
         nco: bool,
         path: Path,
     },
+    /// Makes a directory element and checks it out, unless `-nco`. Its directory must be checked out.
     Mkdir {
         view: Name,
         nco: bool,
         path: Path,
     },
+    /// Checks out the version that the view selects, reserved unless `-unreserved`.
     Checkout {
         view: Name,
         unreserved: bool,
         path: Path,
     },
+    /// Makes a branch at the version that the view selects, and checks it out reserved, unless `-nco`.
     Mkbranch {
         view: Name,
         nco: bool,
         branch: Name,
         path: Path,
     },
+    /// Writes the text of the body to a checkout or to a private file.
     Save {
         view: Name,
         path: Path,
         text: Text,
     },
+    /// Removes a private file.
     Rm {
         view: Name,
         path: Path,
     },
+    /// Makes a version of a checkout. A file that equals its origin needs `-identical`.
     Checkin {
         view: Name,
         identical: bool,
         path: Path,
     },
+    /// Gives up a checkout.
     Uncheckout {
         view: Name,
         path: Path,
     },
+    /// Takes a name out of a checked-out directory.
     Rmname {
         view: Name,
         path: Path,
     },
+    /// Gives an element another name in its checked-out directory.
     Mv {
         view: Name,
         path: Path,
         name: Name,
     },
+    /// Makes a label type.
     Mklbtype {
         name: Name,
     },
+    /// Makes a branch type.
     Mkbrtype {
         name: Name,
     },
+    /// Puts a label on the version that the view selects; where it stands on another of the element, with `-replace`.
     Mklabel {
         view: Name,
         replace: bool,
         label: Name,
         path: Path,
     },
+    /// Takes a label off an element.
     Rmlabel {
         view: Name,
         label: Name,
         path: Path,
     },
+    /// Gives up the reference of a view to its object at a path.
     Rmdo {
         view: Name,
         path: Path,
     },
+    /// Removes each object that no view refers to and that was published at least `age` seconds ago.
     Scrub {
         age: u64,
     },
+    /// Builds goals in a view; without goals the first target of the makefile.
     Clearmake {
         view: Name,
         file: Option<Path>,
@@ -114,59 +136,72 @@ pub enum Command {
         macros: List<Macro>,
         goals: List<Path>,
     },
+    /// Asks for the config spec of a view.
     Catcs {
         view: Name,
     },
+    /// Asks for the objects that a view refers to.
     Lsdo {
         view: Name,
     },
+    /// Asks what stands in a directory of a view; without a path, in its root.
     Ls {
         view: Name,
         path: Option<Path>,
     },
+    /// Asks for the text at a path of a view, or for that of a version of the element there.
     Cat {
         view: Name,
         path: Path,
         version: Option<VersionName>,
     },
+    /// Asks about what stands at a path of a view.
     Describe {
         view: Name,
         path: Path,
     },
+    /// Asks for the branches and versions of an element.
     Lsvtree {
         view: Name,
         path: Path,
     },
+    /// Asks for the rows that made an element what it is, the newest first.
     Lshistory {
         view: Name,
         path: Path,
     },
+    /// Asks for the record of the object at a path of a view.
     Catcr {
         view: Name,
         path: Path,
     },
+    /// Asks where the records of two views' objects differ.
     Diffcr {
         view: Name,
         path: Path,
         other: Name,
         second: Path,
     },
+    /// Puts a label on each version that the record of an object lists.
     MklabelConfig {
         view: Name,
         replace: bool,
         path: Path,
         label: Name,
     },
+    /// Asks whether what `seer` sees covers the record of the object of `view` at a path.
     Covers {
         seer: Name,
         view: Name,
         path: Path,
     },
+    /// Records that a version was merged into the version that the view selects.
     Mkarrow {
         view: Name,
         path: Path,
         version: VersionName,
     },
+    /// Asks which versions at a path and below it the last version on the element's branch of a type has not reached.
     Findmerge {
         view: Name,
         path: Path,

@@ -1,6 +1,6 @@
 // Copies of plain data, each equal to what it was made of.
 
-ghost use Rattle.std.specs.Prelude.{◌≡◌, IfOk};
+ghost use Rattle.std.specs.Prelude.{◌≡◌, ◌++◌, IfOk, OnOk};
 
 use crate::commands::{Macro, VersionName};
 use crate::lists::List;
@@ -25,6 +25,16 @@ pub trait Copied: Clone {
     {
         Ok(self.clone()?)
     }
+}
+
+/// Puts copies of paths behind others, in time linear in their bytes.
+pub fn push_paths(alloc: Global, onto: &mut Vec<Path>, paths: &[Path]) -> Result<(), NoMemory>
+    ensures { OnOk result (onto.new.items ≡ onto.old.items ++ paths.now) }
+{
+    for path in paths {
+        onto.push(path.copy(alloc)?)?;
+    }
+    Ok(())
 }
 
 impl Copied for u64 {

@@ -16,9 +16,13 @@ pub enum Next {
 /// What became of a command, by the kind of step that finished it.
 #[derive(Clone, Copy, Debug, PartialEq, Eq)]
 pub enum Done {
+    /// A row was committed.
     Committed,
+    /// It was refused.
     Refused,
+    /// A query was answered, or there was nothing to scrub or to label.
     Answered,
+    /// The disk failed under it.
     Faulted,
 }
 
@@ -27,5 +31,6 @@ pub enum Done {
 pub enum Begun {
     /// The build is active and has this many units.
     Units(u32),
+    /// The build was refused.
     Refused,
 }

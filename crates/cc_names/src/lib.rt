@@ -1,7 +1,8 @@
 // The names, texts and plain data that every other crate speaks of.
 //
-// What it is for: one place for the types that cross crate borders. A `Text`, a `Name` and a `Path` are seen by
-// contracts as their bytes, a `List` as its items; everything else here is plain data, whole from the first day: the
+// What it is for: one place for the types that cross crate borders, and for how a text is cut into lines and a line into
+// words. A `Text`, a `Name` and a `Path` are seen by contracts as their bytes, a `List` as its items, what is left of a
+// text or a line as the list of its lines or words; everything else here is plain data, whole from the first day: the
 // rows of a base and their deeds, the commands of a session, refusals and causes, replies, the steps of a story, the
 // units of a build, and the three kinds of change that the indexes above keep.
 //
@@ -16,6 +17,7 @@ pub mod changes;
 pub mod commands;
 mod comparisons;
 pub mod copies;
+pub mod cuts;
 pub mod desks;
 pub mod keys;
 pub mod lists;

@@ -5,7 +5,7 @@ ghost use Rattle.std.specs.Prelude.{◌≡◌};
 use std::alloc::{AllocError, AllocFailed};
 use std::fmt;
 
-/// There was no memory for what the call had to make. The call left everything as it was.
+/// There was no memory for what the call had to make. Each call's contract says what it left.
 #[derive(Clone, Copy, Debug, PartialEq, Eq)]
 pub struct NoMemory;
 
@@ -32,7 +32,7 @@ impl<T: Drop> From<AllocFailed<T>> for NoMemory {
 /// Want of memory, or a fault of the call's own.
 #[derive(Clone, Copy, Debug, PartialEq, Eq, Drop)]
 pub enum Or<E> {
-    /// There was no memory. The call left everything as it was.
+    /// There was no memory.
     NoMemory,
     /// The call's own fault.
     Is(E),

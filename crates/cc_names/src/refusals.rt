@@ -7,11 +7,17 @@ use crate::rows::Tag;
 /// Why a line of a config spec is none, in the order in which the causes are tested.
 #[derive(Clone, Copy, Debug, PartialEq, Eq)]
 pub enum SpecCause {
+    /// Its words are no rule.
     BadRule,
+    /// Its pattern is none.
     BadPattern,
+    /// Its selector is none.
     BadSelector,
+    /// A date in it is none.
     BadDate,
+    /// Behind `-mkbranch` stands no name of a type.
     BadType,
+    /// `end time` where no block is open.
     NoBlock,
 }
 
@@ -25,22 +31,34 @@ pub struct SpecError {
 /// Why a makefile cannot be read.
 #[derive(Clone, Copy, Debug, PartialEq, Eq)]
 pub enum MakeCause {
+    /// What this line asks for is not carried out yet.
     NotBuilt,
+    /// It is no line of a makefile.
     BadLine,
+    /// A `$` that begins no macro, or a macro without a proper name.
     BadMacro,
+    /// A word that should be a path is none.
     BadPath,
+    /// It is longer than 65,536 bytes.
     LineTooLong,
+    /// A macro whose expansion needs itself.
     MacroLoop,
+    /// A target that has a script already.
     TwoScripts,
+    /// An included file is not there.
     IncludeAbsent,
+    /// An include deeper than 16 files.
     IncludeDepth,
+    /// It is one line, rule or included file too many.
     TooMany,
+    /// A target of `.PHONY` has a script.
     PhonyScript,
 }
 
 /// Where a makefile cannot be read: the file, the line counted from 1, and why.
 #[derive(Clone, Debug, Drop, PartialEq, Eq)]
 pub struct MakeError {
+    /// The makefile or the file that it includes.
     pub file: Path,
     pub line: u32,
     pub cause: MakeCause,
@@ -49,13 +67,21 @@ pub struct MakeError {
 /// Why a line of a session is none, in the order in which the causes are tested.
 #[derive(Clone, Copy, Debug, PartialEq, Eq)]
 pub enum SessionCause {
+    /// It stands before the first phase.
     NoPhase,
+    /// It stands before the first lane of its phase.
     NoLane,
+    /// A body line under a line that takes none.
     NoBody,
+    /// The phase has a lane of this name already.
     TwoLanes,
+    /// It begins the 65th lane of the phase.
     TooManyLanes,
+    /// Its first word is no command.
     UnknownCommand,
+    /// What it asks for is not carried out yet.
     NotBuilt,
+    /// A word too few or too many, or one outside its rule.
     BadWord,
 }
 
@@ -112,72 +138,72 @@ pub enum GraphFault {
 /// Why a command was refused.
 #[derive(Clone, Debug, Drop, PartialEq, Eq)]
 pub enum Refusal {
-    /// C1
+    /// C1: there is no such view.
     NoView,
-    /// C2
+    /// C2: a view of this name exists.
     ViewExists,
-    /// C3
+    /// C3: what the command needs at the path is not there.
     NoPath(Path),
-    /// C4
+    /// C4: what stands at the path is no directory.
     NotDirectory(Path),
-    /// C5
+    /// C5: the name is taken at the path: by the catalog, a private file or an object of the view.
     NameTaken(Path),
-    /// C6
+    /// C6: a private file stands at the path.
     NotElement(Path),
-    /// C7
+    /// C7: the view has not the element checked out.
     NotCheckedOut(Path),
-    /// C8, with the row that made the checkout
+    /// C8: the view has the element checked out already, by this row.
     AlreadyOut(u64),
-    /// C9, with the view that holds the reserved checkout
+    /// C9: this other view has a reserved checkout on the branch.
     Reserved(Name),
-    /// C10, with the latest version
+    /// C10: the checkout does not come from the latest version of the branch, which is this.
     NotLatest(u64),
-    /// C11, with the origin
+    /// C11: the text is that of the origin, which is this.
     Identical(u64),
-    /// C12
+    /// C12: the view has not the directory checked out.
     ParentNotOut(Path),
-    /// C13
+    /// C13: there is no type of this name and kind.
     NoType(Name),
-    /// C14
+    /// C14: the name is taken by a type, or stands for something else.
     TypeExists(Name),
-    /// C15, with the branch
+    /// C15: the element has a branch of this type, which is this.
     BranchExists(u64),
-    /// C16, with the version that holds the label
+    /// C16: the label stands on this other version of the element.
     LabelElsewhere(u64),
-    /// C17, with the line of the deciding rule
+    /// C17: the rule on this line of the config spec has `-nocheckout`.
     NoCheckoutRule(u32),
-    /// C18, with the command of the running build
+    /// C18: the view is building, by this command.
     Building(Tag),
-    /// C19
+    /// C19: the view holds an object at the path.
     IsDerived(Path),
-    /// C20
+    /// C20: the view holds no object at the path.
     NoObject(Path),
-    /// C21, with the row that made the oldest checkout
+    /// C21: the view has checkouts, the oldest by this row.
     HasCheckouts(u64),
-    /// C22, with the line and the cause
+    /// C22: this line of the text is no line of a config spec, for this cause.
     BadSpec(u32, SpecCause),
-    /// C23, with the rows of the base and those reserved
+    /// C23: there is no room for the rows that are needed: so many are there or reserved by builds, at most 4,000,000.
     Full(u64),
-    /// C24
+    /// C24: the label stands on no version of the element.
     NoLabel(Path),
-    /// C25
+    /// C25: a directory stands at the path.
     IsDirectory(Path),
-    /// C26
+    /// C26: what the object rests on at the path is no version.
     NotVersion(Path),
-    /// C27
+    /// C27: the element at the path has no such version.
     NoVersion(Path),
-    /// C28, with the row of the same arrow
+    /// C28: this row made the same arrow.
     ArrowExists(u64),
-    /// C29, with the version
+    /// C29: both ends of the arrow would be this version.
     SameVersion(u64),
-    /// B1
+    /// B1: the view has no makefile at the path.
     NoMakefile(Path),
-    /// M1, with the file, the line and the cause
+    /// M1: this line of the makefile cannot be read, for this cause.
     MakeError(Path, u32, MakeCause),
-    /// G1
+    /// G1: this goal is neither a unit nor a file.
     NoGoal(Path),
-    /// G2
+    /// G2: this path is met again on the walk.
     Cycle(Path),
-    /// G3
+    /// G3: this target, which has a script, is a file of the view.
     TargetIsSource(Path),
 }

@@ -8,7 +8,9 @@ use crate::texts::Text;
 /// The length and the SHA-256 of an output.
 #[derive(Clone, Copy, Debug, PartialEq, Eq)]
 pub struct Digest {
+    /// In bytes.
     pub length: u64,
+    /// The SHA-256 (FIPS 180-4).
     pub sha256: [u8; 32],
 }
 
@@ -23,15 +25,18 @@ pub enum UnitWord {
     Made(Digest),
     /// A unit without a script; printed `made`.
     Bare,
+    /// It failed, for this reason.
     Failed(UnitFault),
     /// A prerequisite failed or was blocked.
     Blocked(Path),
 }
 
-/// The line of a unit, or of one target of a unit that has several.
+/// The line of a unit that has no object, or of one target of a unit that has one.
 #[derive(Clone, Debug, Drop, PartialEq, Eq)]
 pub struct UnitLine {
+    /// The target.
     pub path: Path,
+    /// What the unit came to.
     pub word: UnitWord,
 }
 
@@ -42,12 +47,14 @@ pub enum Reply {
     Good,
     /// A row was committed that made or took out this version, named in full.
     Version(Text),
-    /// A row was committed, or none was due, with this number of things.
+    /// A row was committed, or none was needed, with this number of things.
     Count(u64),
+    /// The command was refused, and changed nothing.
     Refused(Refusal),
+    /// The disk failed under the command.
     DiskFault,
     /// The text of a query.
     Answer(Text),
-    /// A build that ended, with a line for each target.
+    /// A build that ended: a line for each target of a unit that has an object, and one for each other unit.
     Built(List<UnitLine>),
 }

@@ -73,5 +73,6 @@ pub enum Seen {
     Element(u64, Picked),
     /// An element whose name is in the catalog and of which no version is selected.
     Unselected(u64),
+    /// Nothing stands there.
     Nothing,
 }

@@ -12,6 +12,7 @@ use crate::texts::Text;
 pub enum UnitEnd {
     /// The view's object at the target was kept.
     Kept(u64),
+    /// It failed, for this reason.
     Failed(UnitFault),
     /// A prerequisite failed or was blocked.
     Blocked(Path),
@@ -22,7 +23,9 @@ pub enum UnitEnd {
 /// The number of device calls that a disk has made, and of faults that it has met. Each ends at 2^64 - 1.
 #[derive(Clone, Copy, Debug, PartialEq, Eq)]
 pub struct Counts {
+    /// The device calls.
     pub ticks: u64,
+    /// The calls that failed.
     pub faults: u64,
 }
 
@@ -44,11 +47,12 @@ pub enum Step {
         number: u64,
         tick: u64,
     },
+    /// A command was refused.
     Refused {
         tag: Tag,
         refusal: Refusal,
     },
-    /// A query was answered, or a scrub found nothing due.
+    /// A query was answered, or there was nothing to scrub or to label.
     Answer {
         tag: Tag,
         text: Text,
@@ -64,6 +68,7 @@ pub enum Step {
         tag: Tag,
         unit: u32,
     },
+    /// A unit came to its outcome without a row.
     Settled {
         tag: Tag,
         unit: u32,
@@ -92,10 +97,12 @@ pub enum Told {
         counts: Counts,
         tells: bool,
     },
+    /// A phase began, at this moment.
     Plan {
         phase: Phase,
         moment: u64,
     },
+    /// A row was committed, acknowledged at this tick of the disk.
     Commit {
         row: Row,
         tick: u64,

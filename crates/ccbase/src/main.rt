@@ -10,7 +10,7 @@
 
 use cc_names::memory::NoMemory;
 use cc_names::texts::Text;
-use cc_outside::{StdSink, StdSource, SystemClock};
+use cc_outside::{StdSink, StdSource, SystemClock, write_whole};
 use disk_model::FileDisk;
 use session_run::{Status, run_words};
 use std::alloc::Global;
@@ -52,6 +52,15 @@ fn answer_to(words: &[String]) -> Option<&'static str> {
         [word] if word.as_str() == "--help" => Some(HELP),
         [word] if word.as_str() == "--version" => Some(VERSION),
         _ => None,
+    }
+}
+
+/// Writes an answer, and says whether that failed.
+fn write_answer(rt: &HostRuntime, answer: &str) -> Status {
+    let mut sink = StdSink::new(io::writer(rt));
+    match write_whole(&mut sink, answer.as_bytes()) {
+        Ok(()) => Status::Good,
+        Err(_) => Status::WriteFault,
     }
 }
 
@@ -100,10 +109,9 @@ fn main(rt: HostRuntime) -> io::Result<ExitCode> {
         Err(error) if error.kind() == io::ErrorKind::InvalidData => Vec::new(rt.alloc()),
         Err(_) => return Ok(ExitCode::from(Status::NoMemory.code())),
     };
-    if let Some(answer) = answer_to(words.as_slice()) {
-        print!(rt; "{answer}")?;
-        return Ok(ExitCode::from(0));
-    }
-    let status = run(rt, words.as_slice()).unwrap_or(Status::NoMemory);
+    let status = match answer_to(words.as_slice()) {
+        Some(answer) => write_answer(&rt, answer),
+        None => run(rt, words.as_slice()).unwrap_or(Status::NoMemory),
+    };
     Ok(ExitCode::from(status.code()))
 }

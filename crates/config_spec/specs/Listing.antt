@@ -12,6 +12,7 @@ pub record Enrolled : Type 0 where
   pub rolls : List Roll
   pub room : ℕ
 
+-- the object whose record it is
 abbrev pub object_of : Roll → ℕ
 object_of roll = roll.object
 
@@ -19,6 +20,7 @@ object_of roll = roll.object
 abbrev pub has_target : List ℕ → Roll → Bool
 has_target target roll = list_any (bytes_eq target) roll.targets
 
+-- the version that the record lists
 abbrev pub version_of : Listed → ℕ
 version_of listed = listed.version
 

@@ -12,6 +12,7 @@ use Rattle.config_spec.specs.declared.picks.Sight.{Sight}
 abbrev pub sources_in : ℕ → Forest → Marks → Enrolled → Option ℕ → Sources
 sources_in rows tree labels rolls out = sources_at rows tree.changes labels.changes (listed_in rolls.rolls rows) out
 
+-- the sources in the rows that are seen
 abbrev pub sources_of : Sight → Sources
 sources_of sight = sources_in sight.rows sight.tree.now sight.labels.now sight.rolls.now sight.out
 

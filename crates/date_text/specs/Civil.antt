@@ -38,9 +38,11 @@ within lengths zero whole days = record { whole = whole; days = days }
 within lengths (suc more) whole days =
     here_or_next (nat_lt days (lengths whole)) (lengths whole) whole days (within lengths more (whole + 1))
 
+-- the days of a year, counted from 0
 abbrev pub length_of_year : ℕ → ℕ
 length_of_year year = days_in_year (pos year)
 
+-- the days of a month, counted from 0
 abbrev pub length_of_month : ℕ → ℕ → ℕ
 length_of_month year month = days_in_month (pos year) month
 

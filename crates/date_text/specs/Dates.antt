@@ -31,17 +31,20 @@ is_number count low high bytes =
 abbrev pub month_place : List ℕ → Option ℕ
 month_place bytes = position (bytes_eq bytes) month_names
 
--- a field that is one sign, one that is a number, and the end of the text
+-- a field that is one sign
 abbrev pub sign_field : List ℕ → ℕ → ℕ → Field
 sign_field text place sign = record { place = place; right = bytes_eq (piece text place 1) (sign ∷ []) }
 
+-- a field that is a number of so many digits, within bounds
 abbrev pub number_field : List ℕ → ℕ → ℕ → ℕ → ℕ → Field
 number_field text place count low high =
     record { place = place; right = is_number count low high (piece text place count) }
 
+-- a field that is a month's name
 abbrev pub month_field : List ℕ → ℕ → Field
 month_field text place = record { place = place; right = is_some (month_place (piece text place 3)) }
 
+-- the end of the text
 abbrev pub end_field : List ℕ → ℕ → Field
 end_field text place = record { place = place; right = nat_le (length text) place }
 
@@ -58,12 +61,15 @@ fields_from text day =
     ∷ number_field text (day + 13) 2 0 59 ∷ sign_field text (day + 15) 58
     ∷ number_field text (day + 16) 2 0 59 ∷ end_field text (day + 18) ∷ []
 
+-- the fields of a text, whose day has one digit or two
 abbrev pub fields : List ℕ → List Field
 fields text = fields_from text (day_length text)
 
+-- whether a field is wrong
 abbrev pub is_wrong : Field → Bool
 is_wrong field = not field.right
 
+-- where a field begins
 abbrev pub place_of : Field → ℕ
 place_of field = field.place
 
@@ -98,10 +104,11 @@ unless_wrong None civil = moment_of_day civil
 abbrev pub date_of : List ℕ → Result ℕ BadDate
 date_of text = unless_wrong (first_wrong (fields text)) (parts_from text (day_length text))
 
--- two digits, and one or two
+-- two digits
 abbrev pub two_digits : ℕ → List ℕ
 two_digits n = (48 + n / 10) ∷ (48 + n % 10) ∷ []
 
+-- one digit where the number is below 10, else two
 abbrev pub short_digits : ℕ → List ℕ
 short_digits n = if nat_lt n 10 then (48 + n) ∷ [] else two_digits n
 

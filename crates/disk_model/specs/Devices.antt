@@ -89,12 +89,15 @@ MayLeave file d k image = Leaves file d k image ⊎ ((k ≡ length d.calls + 1) 
 abbrev pub Measures : ℕ → Device → Device → Type 0
 Measures file d e = e ≡ added (Measured file) d
 
+-- bytes are fetched
 abbrev pub Fetches : ℕ → ℕ → ℕ → Device → Device → Type 0
 Fetches file place size d e = e ≡ added (Fetched file place size) d
 
+-- a piece is written over what stood at its place
 abbrev pub Writes : ℕ → ℕ → List ℕ → Device → Device → Type 0
 Writes file place piece d e = e ≡ added (Wrote file place (length piece) (overwritten place piece (bytes_of file d))) d
 
+-- a file is synced
 abbrev pub Syncs : ℕ → Device → Device → Type 0
 Syncs file d e = e ≡ added (Synced file) d
 

@@ -9,6 +9,7 @@ use Rattle.disk_model.specs.declared.memory.MemoryDisk.{MemoryDisk}
 abbrev pub told_by : MemoryDisk → Device
 told_by disk = device_of disk.first.journal.items disk.first.objects.items disk.entries.items disk.failed
 
+-- what contracts see of it
 abbrev pub sight_of : MemoryDisk → Sight
 sight_of disk = record { told = Some (told_by disk); ticks = disk.ticks; faults = disk.faults }
 

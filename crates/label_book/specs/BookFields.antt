@@ -19,5 +19,6 @@ pub record InStep (held : List Held) (heads : ℕ → Option ℕ) : Type 0 where
       → is_pair (slice_index_or held p d).label (slice_index_or held p d).element (slice_index_or held q d) ≡ true → p ≡ q
   pub fall : (p : ℕ) (d : Held) → p < length held → Falls (map row_of_move (reverse (slice_index_or held p d).moves.items))
 
+-- the fields of a book are in step
 abbrev pub IsInStep : Inside → Type 0
 IsInStep inside = InStep inside.held.items (get nat_eq inside.newest)

@@ -18,6 +18,7 @@ abbrev pub change_by : List ℕ → ℕ → ℕ → Option ℕ → LabelChange
 change_by l e row (Some version) = Put row l e version
 change_by l e row None = Taken row l e
 
+-- the change that a move was
 abbrev pub change_of_move : List ℕ → ℕ → Move → LabelChange
 change_of_move l e move = change_by l e move.row move.version
 

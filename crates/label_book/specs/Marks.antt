@@ -29,6 +29,7 @@ of_pair l e changes = filter (is_about l e) changes
 abbrev pub rows_of_pair : List ℕ → ℕ → List LabelChange → List ℕ
 rows_of_pair l e changes = map row_of_label_change (of_pair l e changes)
 
+-- whether a pair is this label and this element
 abbrev pub is_that : List ℕ → ℕ → Pair → Bool
 is_that l e pair = bytes_eq l pair.label && (e == pair.element)
 

@@ -132,6 +132,6 @@ abbrev pub mkarrow_to : Scene → List ℕ → List ℕ → Seen → Option ℕ 
 mkarrow_to s v path seen tail =
     makes s (mkarrow_tests s v path seen tail) (deeds.Arrow (element_of seen) (unwrap_or tail 0) (picked_of seen).row)
 
--- `mkarrow V P@@VERSION`: an arrow from that version to the one that the view selects
+-- `mkarrow V P VERSION`: an arrow from that version to the one that the view selects
 abbrev pub mkarrow : Scene → List ℕ → List ℕ → VersionName → Result Decision Refusal
 mkarrow s v path name = mkarrow_to s v path (at s.base v path) (version_named s.base (element_of (at s.base v path)) name)

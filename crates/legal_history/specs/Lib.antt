@@ -7,6 +7,7 @@ pub mod CheckoutTests
 pub mod Checkouts
 pub mod Choices
 pub mod Closures
+pub mod Commanded
 pub mod Committing
 pub mod Conditions
 pub mod Decisions
@@ -19,12 +20,14 @@ pub mod Freshness
 pub mod Growth
 pub mod HistoryTexts
 pub mod LabelLines
+pub mod Laws
 pub mod Lines
 pub mod ListingTexts
 pub mod Merges
 pub mod ObjectLines
 pub mod QueryLines
 pub mod RecordTexts
+pub mod Replied
 pub mod Reuse
 pub mod Seen
 pub mod Serials

@@ -119,11 +119,11 @@ covers s seer v path =
 abbrev pub needs_branch : Base → List ℕ → Option Refusal
 needs_branch b name = refused_unless (bytes_eq name (codes "main") || is_branch_type b name) (refusals.NoType name)
 
--- the tests of `findmerge V P B`
+-- the tests of `findmerge V P -fversion .../B/LATEST`
 abbrev pub findmerge_tests : Scene → List ℕ → List ℕ → List ℕ → Seen → List (Option Refusal)
 findmerge_tests s v path name seen =
     needs_view s.base v ∷ needs_selected path seen ∷ needs_element path seen ∷ needs_branch s.base name ∷ []
 
--- `findmerge V P B`: what is on the branch and has not reached the selected versions at the path and below
+-- `findmerge V P -fversion .../B/LATEST`: what is on the branch and has not reached the selected versions at the path and below
 abbrev pub findmerge : Scene → List ℕ → List ℕ → List ℕ → Result Decision Refusal
 findmerge s v path name = answers (findmerge_tests s v path name (at s.base v path)) (findmerge_text s.base v path name)

@@ -1,10 +1,11 @@
 -- The texts of records: what an object was made from, how two records differ, and whether a view covers one.
-use Rattle.std.specs.Prelude.{ℕ, zero, suc, Bool, true, false, not, ◌==◌, Option, Some, None, List, [], ◌∷◌, ◌++◌, codes, map, find, option_map, reverse, bytes_eq}
-use Rattle.std.specs.List.{concat, slice_split}
+use Rattle.std.specs.Prelude.{ℕ, zero, suc, Bool, true, false, not, Option, Some, None, List, [], ◌∷◌, ◌++◌, codes, map, find, option_map, bytes_eq}
+use Rattle.std.specs.List.{concat}
 use Rattle.std.specs.Option.{option_or}
 use Rattle.std.specs.Ordering.{nat_cmp}
 use Rattle.std.specs.Cmp.Lexicographic.{slice_cmp}
 use Rattle.std.specs.FinMap.Entries.{put}
+use Rattle.cc_names.specs.Cuts.{lines_of}
 use Rattle.cc_names.specs.Versions.{is_number}
 use Rattle.cc_names.specs.declared.rows.Deed.{Deed}
 use Rattle.cc_names.specs.declared.rows.Deed.TheVariants as deeds
@@ -29,19 +30,6 @@ script_of_deed _ = []
 abbrev pub script_of : Base → ℕ → List ℕ
 script_of b id = script_of_deed (deed_at b id)
 
--- whether a byte is a newline
-abbrev pub ends_line : ℕ → Bool
-ends_line byte = byte == 10
-
--- lines, the last first, without an empty one behind the last newline
-abbrev pub without_empty : List (List ℕ) → List (List ℕ)
-without_empty ([] ∷ lines) = lines
-without_empty lines = lines
-
--- the lines of a text; a last one without a newline counts
-abbrev pub lines_in : List ℕ → List (List ℕ)
-lines_in text = reverse (without_empty (reverse (slice_split ends_line text)))
-
 -- one read of a record; row 0 says that nothing was there
 abbrev pub read_line : Base → List ℕ → ℕ → List ℕ
 read_line b path zero = line (codes "absent " ++ path)
@@ -51,7 +39,7 @@ read_line b path (suc row) = line (codes "read " ++ row_name b path (suc row))
 abbrev pub catcr_text : Base → ℕ → List ℕ
 catcr_text b id =
     concat (map (λ target. line (codes "target " ++ target)) (targets_of b id))
-    ++ concat (map (λ text. line (codes "script " ++ text)) (lines_in (script_of b id)))
+    ++ concat (map (λ text. line (codes "script " ++ text)) (lines_of (script_of b id)))
     ++ concat (map (λ entry. read_line b entry.path entry.row) (record_of b id))
 
 -- the row of a path in a record

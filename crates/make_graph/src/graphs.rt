@@ -1,12 +1,13 @@
 // The graph of a build.
 
-ghost use Rattle.std.specs.Prelude.{◌≡◌, ◌<◌, ◌^◌, ◌||◌, [], ◌∷◌, ◌≤◌, ◌++◌, not, find, length, take, reverse, IfOk, OnOk};
+ghost use Rattle.std.specs.Prelude.{◌≡◌, ◌<◌, ◌^◌, ◌||◌, [], ◌∷◌, ◌≤◌, not, find, length, take, reverse, IfOk};
 ghost use Rattle.cc_names.specs.Answers.{Gives};
 ghost use Rattle.make_text.specs.Units.{graph_of, missing_goal, unless_missing, wanted};
 ghost use Rattle.make_graph.specs.Standing.{ClosureStands};
 ghost use Rattle.make_graph.specs.Waits.{makes_any, needed, closure_of, are_done, is_ready};
 
 use crate::goals::{Exists, default_goal, first_source, missing, wanted};
+use cc_names::copies::push_paths;
 use cc_names::memory::{NoMemory, Or};
 use cc_names::paths::Path;
 use cc_names::refusals::GraphFault;
@@ -86,15 +87,6 @@ fn needed(alloc: Global, units: &[Unit], below: u32, paths: &[Path]) -> Result<V
         }
     }
     Ok(numbers)
-}
-
-fn push_paths(alloc: Global, wanted: &mut Vec<Path>, paths: &[Path]) -> Result<(), NoMemory>
-    ensures { OnOk result (wanted.new.items ≡ wanted.old.items ++ paths.now) }
-{
-    for path in paths {
-        wanted.push(path.copy(alloc)?)?;
-    }
-    Ok(())
 }
 
 /// Whether each unit that makes one of these paths is done.

@@ -1,5 +1,5 @@
 -- Makefiles and builds worked out by hand, checked by computation.
-use Rattle.std.proofs.Common.{◌≡◌, ℕ, Bool, true, nat_lt, if◌then◌else◌, Option, Some, None, Result, Ok, Err, List, [], ◌∷◌, ◌++◌, refl, length}
+use Rattle.std.proofs.Common.{◌≡◌, ℕ, true, nat_lt, if◌then◌else◌, Some, None, Result, Ok, Err, List, [], ◌∷◌, ◌++◌, refl, length}
 use Rattle.std.specs.Prelude.{codes}
 use Rattle.std.specs.Str.{bytes_eq}
 use Rattle.cc_names.specs.declared.refusals.MakeCause.TheVariants.{NotBuilt}

@@ -1,26 +1,8 @@
--- The lines of a makefile, and what each of them is by itself.
-use Rattle.std.specs.Prelude.{ℕ, Bool, true, false, ◌-◌, ◌||◌, ◌==◌, not, Option, Some, None, List, [], ◌∷◌, length, filter, find, slice_get, codes}
-use Rattle.std.specs.List.{list_all, slice_split}
+-- What each line of a makefile is by itself.
+use Rattle.std.specs.Prelude.{ℕ, Bool, false, ◌-◌, ◌==◌, not, Option, Some, None, List, [], ◌∷◌, length, find, slice_get, codes}
+use Rattle.std.specs.List.{list_all}
 use Rattle.std.specs.Str.{bytes_eq}
-
--- a space or a tab
-abbrev pub is_blank : ℕ → Bool
-is_blank b = (b == 32) || (b == 9)
-
--- the byte that ends a line
-abbrev pub is_newline : ℕ → Bool
-is_newline b = b == 10
-
--- lines without an empty one at the end
-abbrev pub without_empty_end : List (List ℕ) → List (List ℕ)
-without_empty_end [] = []
-without_empty_end ([] ∷ []) = []
-without_empty_end ((b ∷ bs) ∷ []) = (b ∷ bs) ∷ []
-without_empty_end (line ∷ next ∷ more) = line ∷ without_empty_end (next ∷ more)
-
--- the lines of a text, each ended by a newline, which the last may lack
-abbrev pub lines_of : List ℕ → List (List ℕ)
-lines_of text = without_empty_end (slice_split is_newline text)
+use Rattle.cc_names.specs.Cuts.{is_blank}
 
 -- whether there is a byte at all, and it is this one
 abbrev pub is_byte : ℕ → Option ℕ → Bool
@@ -46,15 +28,6 @@ is_joined line = is_byte 92 (slice_get line (length line - 1))
 -- a `$` begins a macro
 abbrev pub is_dollar : ℕ → Bool
 is_dollar b = b == 36
-
--- whether there is anything in it
-abbrev pub is_filled : List ℕ → Bool
-is_filled [] = false
-is_filled (b ∷ bs) = true
-
--- what blanks part
-abbrev pub words : List ℕ → List (List ℕ)
-words bytes = filter is_filled (slice_split is_blank bytes)
 
 -- whether there is a first word, and it is `include`
 abbrev pub begins_with_include : List (List ℕ) → Bool

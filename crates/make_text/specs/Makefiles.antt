@@ -1,23 +1,25 @@
 -- What a makefile says. So far a makefile is plain: it has one rule at most, with one target and a script, and no macro,
 -- comment, joined line or included file. Any other line is not built yet.
-use Rattle.std.specs.Prelude.{◌≡◌, ℕ, ◌+◌, Bool, true, false, ◌&&◌, ◌||◌, ◌==◌, not, nat_lt, Option, Some, None, Result, Ok, Err, List, [], ◌∷◌, ◌++◌, length, drop, fold, count_by, slice_get, if◌then◌else◌}
-use Rattle.std.specs.List.{list_any, list_all, before_first, after_first}
+use Rattle.std.specs.Prelude.{ℕ, ◌+◌, Bool, true, false, ◌&&◌, ◌||◌, ◌==◌, not, nat_lt, Option, Some, None, Result, Ok, Err, List, [], ◌∷◌, ◌++◌, length, drop, fold, count_by, slice_get, if◌then◌else◌}
+use Rattle.std.specs.List.{list_any, before_first, after_first}
 use Rattle.std.specs.Result.{result_ok}
 use Rattle.std.specs.Str.{bytes_eq}
+use Rattle.cc_names.specs.Cuts.{lines_of, words_of}
 use Rattle.cc_names.specs.Paths.{path_of, is_root}
 use Rattle.cc_names.specs.declared.refusals.MakeCause.TheVariants.{NotBuilt}
 use Rattle.cc_names.specs.declared.refusals.MakeError.{MakeError}
-use Rattle.make_text.specs.Lines.{is_blank, is_byte, lines_of, is_script_line, is_blank_line, is_comment, is_joined, is_dollar, words, begins_with_include}
+use Rattle.make_text.specs.Lines.{is_byte, is_script_line, is_blank_line, is_comment, is_joined, is_dollar, begins_with_include}
 use Rattle.make_text.specs.declared.rules.MakeRule.{MakeRule}
 
 -- what a makefile says
 pub record Contents : Type 0 where
   pub rules : List MakeRule
 
--- the most lines of a makefile, and the most bytes of a rule line
+-- the most lines of a makefile
 abbrev pub line_limit : ℕ
 line_limit = 100000
 
+-- the most bytes of a rule line
 abbrev pub rule_limit : ℕ
 rule_limit = 65536
 
@@ -35,7 +37,7 @@ has_rule_bytes line = not (nat_lt rule_limit (length line)) && ((count_by is_col
 
 -- whether a line may be a rule: by its bytes, and it is no `include`
 abbrev pub may_be_rule : List ℕ → Bool
-may_be_rule line = has_rule_bytes line && not (begins_with_include (words line))
+may_be_rule line = has_rule_bytes line && not (begins_with_include (words_of line))
 
 -- a path that is not the root
 abbrev pub unless_root : Option (List ℕ) → Option (List ℕ)
@@ -84,7 +86,7 @@ rule_from _ _ = None
 abbrev pub rule_of : List ℕ → Option MakeRule
 rule_of line =
     if may_be_rule line
-    then rule_from (paths_of (words (before_first is_colon line))) (paths_of (words (after_first is_colon line)))
+    then rule_from (paths_of (words_of (before_first is_colon line))) (paths_of (words_of (after_first is_colon line)))
     else None
 
 -- what no line of a plain makefile has: a number past the limit, a macro, or a line joined to it

@@ -1,5 +1,5 @@
 -- The units of a build, in their order, or the refusal in their place.
-use Rattle.std.specs.Prelude.{◌≡◌, ℕ, Bool, true, false, ◌||◌, not, is_some, nat_lt, Option, Some, None, Result, Ok, Err, List, [], ◌∷◌, length, map, filter, find, flat_map, if◌then◌else◌, codes}
+use Rattle.std.specs.Prelude.{ℕ, Bool, true, false, ◌||◌, not, is_some, nat_lt, Option, Some, None, Result, Ok, Err, List, [], ◌∷◌, length, map, filter, find, flat_map, if◌then◌else◌, codes}
 use Rattle.std.specs.List.{list_any}
 use Rattle.std.specs.Str.{bytes_eq}
 use Rattle.cc_names.specs.Paths.{root}
@@ -43,6 +43,7 @@ expanded (Some script) = script_of_unit (expansion script)
 abbrev pub unit_of : MakeRule → Unit
 unit_of rule = record { targets = rule.targets; prerequisites = rule.prerequisites; script = expanded rule.script }
 
+-- the targets of a rule
 abbrev pub targets_of : MakeRule → List (List ℕ)
 targets_of rule = rule.targets
 

@@ -6,7 +6,8 @@
 // What it promises: a text is read as a makefile exactly where its grammar says so, with the first line that is outside
 // it and the cause.
 //
-// What it stands on: `cc_names` for paths, texts, units and causes; `indexmap` for prerequisites in order, each once.
+// What it stands on: `cc_names` for paths, texts, units and causes, and for the lines of a text and their words;
+// `indexmap` for prerequisites in order, each once.
 #![tactic(auto)]
 
 pub mod makefiles;

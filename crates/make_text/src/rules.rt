@@ -3,7 +3,7 @@
 ghost use Rattle.std.specs.Prelude.{◌≡◌, ◌==◌, IfOk, map, count_by, option_map, length, ◌<◌, IfSome, position, Some};
 ghost use Rattle.std.specs.List.{before_first, after_first, list_any};
 ghost use Rattle.make_text.specs.Makefiles.{is_colon, is_mark, has_rule_bytes, may_be_rule, path_in, paths_of, each_once, begins_with_period, may_be_target, rule_from, rule_of, is_beyond};
-ghost use Rattle.make_text.specs.Lines.{is_dollar, words};
+ghost use Rattle.make_text.specs.Lines.{is_dollar};
 
 use crate::words::{begins_with_include, is_joined, words};
 use cc_names::lists::List;

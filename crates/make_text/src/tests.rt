@@ -22,11 +22,9 @@ impl Texts for OneText<'_> {
     }
 }
 
-fn read(alloc: Global, text: &str) -> Result<Makefile, Or<(u32, String)>> {
+fn read(alloc: Global, text: &[u8]) -> Result<Makefile, Or<(u32, String)>> {
     let file = Path::read(alloc, b"Makefile").map_err(|_| Or::NoMemory)?;
-    let texts = OneText {
-        text: text.as_bytes(),
-    };
+    let texts = OneText { text };
     match Makefile::read(alloc, &file, &texts, &[]) {
         Ok(make) => Ok(make),
         Err(Or::Is(error)) => Err(Or::Is((
@@ -67,7 +65,7 @@ fn plain_makefiles_are_read(rt: HostRuntime) -> Result<(), Fail> {
         ),
     ];
     for (text, want) in table {
-        let Ok(make) = read(rt.alloc(), text) else {
+        let Ok(make) = read(rt.alloc(), text.as_bytes()) else {
             panic!(&rt; "{text:?} is a makefile");
         };
         let said = words_of(rt.alloc(), &make)?;
@@ -91,11 +89,15 @@ fn the_first_line_that_is_not_built_yet_is_named(rt: HostRuntime) -> Result<(), 
         ("a b: c\n\techo > a\n", 1),
         ("a: .\n\techo > a\n", 1),
         ("a: b a\n\techo > a\n", 1),
+        ("a: b # c\n\techo > a\n", 1),
+        ("a: b ; c\n\techo > a\n", 1),
+        ("a//b: c\n\techo > a\n", 1),
+        ("a: b//c\n\techo > a\n", 1),
         (".PHONY: a\n\techo > a\n", 1),
         ("include : a\n\techo > a\n", 1),
     ];
     for (text, line) in table {
-        let Err(Or::Is((at, said))) = read(rt.alloc(), text) else {
+        let Err(Or::Is((at, said))) = read(rt.alloc(), text.as_bytes()) else {
             panic!(&rt; "{text:?} is not built yet");
         };
         assert_eq!(rt; at, line, "of {text:?}");
@@ -106,7 +108,7 @@ fn the_first_line_that_is_not_built_yet_is_named(rt: HostRuntime) -> Result<(), 
 
 #[test]
 fn a_script_ends_at_its_limit(rt: HostRuntime) -> Result<(), Fail> {
-    let Ok(make) = read(rt.alloc(), "out:\n\techo > out\n") else {
+    let Ok(make) = read(rt.alloc(), b"out:\n\techo > out\n") else {
         panic!(&rt; "a makefile");
     };
     let target = Path::read(rt.alloc(), b"out")?;
@@ -118,6 +120,39 @@ fn a_script_ends_at_its_limit(rt: HostRuntime) -> Result<(), Fail> {
             Expanded::TooLong => false,
         };
         assert_eq!(rt; lines, fits, "at {length}");
+    }
+    Ok(())
+}
+
+#[test]
+fn a_rule_line_ends_at_its_limit(rt: HostRuntime) -> Result<(), Fail> {
+    for (length, fits) in [(65_536, true), (65_537, false)] {
+        let mut text = Vec::new(rt.alloc());
+        text.extend_from_slice(b"a:")?;
+        text.resize(length, b' ')?;
+        text.extend_from_slice(b"\n\techo > a\n")?;
+        match read(rt.alloc(), text.as_slice()) {
+            Ok(make) => assert!(&rt; fits && make.rules().len() == 1, "at {length}"),
+            Err(Or::Is((line, _said))) => assert!(&rt; !fits && line == 1, "at {length}"),
+            Err(Or::NoMemory) => panic!(&rt; "no memory"),
+        }
+    }
+    Ok(())
+}
+
+#[test]
+fn a_makefile_has_its_most_lines(rt: HostRuntime) -> Result<(), Fail> {
+    for (above, fits) in [(99_998, true), (99_999, false)] {
+        let mut text = vec![in rt.alloc(); b'\n'; above]?;
+        text.extend_from_slice(b"a:\n\techo > a\n")?;
+        match read(rt.alloc(), text.as_slice()) {
+            Ok(make) => assert!(&rt; fits && make.rules().len() == 1, "below {above} lines"),
+            Err(Or::Is((line, _said))) => assert!(&rt;
+                !fits && line == 100_001,
+                "below {above} lines"
+            ),
+            Err(Or::NoMemory) => panic!(&rt; "no memory"),
+        }
     }
     Ok(())
 }

@@ -1,54 +1,32 @@
 // The lines of a makefile and the words of a line, and what each of them is by itself.
 
 ghost use Rattle.std.specs.Prelude.{◌≡◌, IfOk, map, find, not};
-ghost use Rattle.std.specs.List.{slice_split};
-ghost use Rattle.make_text.specs.Lines.{is_newline, is_blank, without_empty_end, lines_of, is_script_line, is_blank_line, is_comment, is_joined, is_filled, words, begins_with_include};
+ghost use Rattle.cc_names.specs.Cuts.{is_blank, lines_of, words_of};
+ghost use Rattle.make_text.specs.Lines.{is_script_line, is_blank_line, is_comment, is_joined, begins_with_include};
 
+use cc_names::cuts::{Lines, Words, is_blank};
 use std::alloc::{AllocError, Global};
 
-pub(crate) fn is_blank(byte: u8) -> bool
-    ensures { result ≡ is_blank byte }
-{
-    matches!(byte, b' ' | b'\t')
-}
-
-fn pieces_at_newlines<'a>(alloc: Global, text: &'a [u8]) -> Result<Vec<&'a [u8]>, AllocError>
-    ensures { IfOk result (λ pieces. map (λ piece. piece.now) pieces.items ≡ slice_split is_newline text.now) }
-{
-    text.split(|byte| *byte == b'\n').collect(alloc)
-}
-
-fn pieces_at_blanks<'a>(alloc: Global, bytes: &'a [u8]) -> Result<Vec<&'a [u8]>, AllocError>
-    ensures { IfOk result (λ pieces. map (λ piece. piece.now) pieces.items ≡ slice_split is_blank bytes.now) }
-{
-    bytes.split(|byte| is_blank(*byte)).collect(alloc)
-}
-
-/// The lines of a text, each ended by a newline, which the last may lack. Takes time linear in the text.
+/// The lines of a text. Takes time linear in the text.
 pub(crate) fn lines<'a>(alloc: Global, text: &'a [u8]) -> Result<Vec<&'a [u8]>, AllocError>
     ensures { IfOk result (λ lines. map (λ line. line.now) lines.items ≡ lines_of text.now) }
 {
-    let mut lines = pieces_at_newlines(alloc, text)?;
-    let Some(last) = lines.pop() else {
-        return Ok(lines);
-    };
-    if last.is_empty() {
-        return Ok(lines);
+    let mut found = Vec::new(alloc);
+    let mut left = Lines::of(text);
+    while let Some(line) = left.next() {
+        found.push(line)?;
     }
-    lines.push(last)?;
-    Ok(lines)
+    Ok(found)
 }
 
-/// The words of some bytes: what blanks part. Takes time linear in the bytes.
+/// The words of some bytes. Takes time linear in the bytes.
 pub(crate) fn words<'a>(alloc: Global, bytes: &'a [u8]) -> Result<Vec<&'a [u8]>, AllocError>
-    ensures { IfOk result (λ found. map (λ word. word.now) found.items ≡ words bytes.now) }
+    ensures { IfOk result (λ found. map (λ word. word.now) found.items ≡ words_of bytes.now) }
 {
     let mut found = Vec::new(alloc);
-    for piece in pieces_at_blanks(alloc, bytes)? {
-        if piece.is_empty() {
-            continue;
-        }
-        found.push(piece)?;
+    let mut left = Words::of(bytes);
+    while let Some(word) = left.next() {
+        found.push(word)?;
     }
     Ok(found)
 }

@@ -38,6 +38,7 @@ is_made (words.Failed fault) = false
 is_made (words.Blocked path) = false
 is_made _ = true
 
+-- whether the unit of a line is made
 abbrev pub is_made_line : UnitLine → Bool
 is_made_line unit = is_made unit.word
 

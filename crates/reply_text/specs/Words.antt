@@ -1,9 +1,9 @@
 -- How lines are put together from words.
 use Rattle.std.specs.Prelude.{ℕ, List, [], ◌∷◌, ◌++◌, codes}
 use Rattle.std.specs.List.{flat_map}
+use Rattle.cc_names.specs.Cuts.{lines_of}
 use Rattle.cc_names.specs.declared.commands.Command.{Command}
 use Rattle.cc_names.specs.declared.commands.Command.TheVariants as commands
-use Rattle.session_text.specs.Cuts.{lines_of}
 
 -- a word behind another one, with one space between
 abbrev pub spaced_word : List ℕ → List ℕ

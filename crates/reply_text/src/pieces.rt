@@ -4,8 +4,8 @@ ghost use Rattle.std.specs.Prelude.{◌≡◌, ◌++◌, ◌∷◌, [], OnOk};
 ghost use Rattle.std.specs.Fmt.{decimal};
 ghost use Rattle.reply_text.specs.Words.{spaced_word, spaced, shown};
 
+use cc_names::cuts::Lines;
 use cc_names::memory::NoMemory;
-use session_text::cuts::Lines;
 use std::alloc::Global;
 
 /// Writes bytes as they are.

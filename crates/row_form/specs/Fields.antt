@@ -13,10 +13,11 @@ use Rattle.cc_names.specs.declared.rows.Placed.{Placed}
 use Rattle.cc_names.specs.declared.rows.Stored.{Stored}
 use Rattle.cc_names.specs.declared.rows.Stored.TheVariants.{Here, There}
 
--- a number of four bytes, and one of eight
+-- a number of four bytes
 abbrev pub word : ℕ → List ℕ
 word n = to_le_bytes w32 n
 
+-- a number of eight bytes
 abbrev pub long : ℕ → List ℕ
 long n = to_le_bytes w64 n
 
@@ -32,18 +33,22 @@ text bytes = word (length bytes) ++ bytes
 abbrev pub listed : {A : Type 0} → (A → List ℕ) → List A → List ℕ
 listed spelled xs = word (length xs) ++ flat_map spelled xs
 
+-- a flag
 abbrev pub flag : Bool → List ℕ
 flag false = 0 ∷ []
 flag true = 1 ∷ []
 
+-- an element's kind
 abbrev pub kind : Kind → List ℕ
 kind kinds.File = 1 ∷ []
 kind kinds.Directory = 2 ∷ []
 
+-- what a type is a type of
 abbrev pub type_kind : TypeKind → List ℕ
 type_kind type_kinds.Label = 1 ∷ []
 type_kind type_kinds.Branch = 2 ∷ []
 
+-- whether a branch is checked out, and how
 abbrev pub out_byte : Out → List ℕ
 out_byte outs.No = 0 ∷ []
 out_byte outs.Reserved = 1 ∷ []

@@ -8,12 +8,15 @@ use Rattle.row_form.specs.Reading.{IsForm, IsMoment, IsCodeOf, IsKnown}
 use Rattle.row_form.specs.Spelled.{code_of, first_byte}
 use Rattle.row_form.specs.declared.reading.Head.{Head}
 
+-- a tag
 abbrev pub tag_bytes : Tag → List ℕ
 tag_bytes tag = word tag.phase ++ (word tag.lane ++ word tag.command)
 
+-- a head: the first byte, the tag, the moment and the code of the deed
 abbrev pub head_bytes : Head → List ℕ
 head_bytes head = byte head.form ++ (tag_bytes head.tag ++ (long head.moment ++ byte head.code))
 
+-- each part of a head is in its form
 abbrev pub IsHead : Head → Type 0
 IsHead head = IsForm head.form × IsTag head.tag × IsMoment head.moment × IsCodeOf head.form head.code
 

@@ -60,22 +60,27 @@ RuleFails {A} spell Good Rule bytes at =
 abbrev pub ListFails : {A : Type 0} → (A → List ℕ) → (A → Type 0) → (List ℕ → List ℕ → Type 0) → (List A → Type 0) → List ℕ → List ℕ → Type 0
 ListFails spell Good Fails Rule bytes at = MembersFail spell Good Fails bytes at ⊎ RuleFails spell Good Rule bytes at
 
+-- the targets of a publish in a row of this first byte
 abbrev pub TargetsFail : ℕ → List ℕ → List ℕ → Type 0
 TargetsFail form = ListFails text IsBelowRoot (FieldFails text IsBelowRoot) (AreTargetsOf form)
 
+-- its entries
 abbrev pub EntriesFail : List ℕ → List ℕ → Type 0
 EntriesFail = ListFails entry IsEntry EntryFails AreEntries
 
+-- its outputs, as many as it has targets
 abbrev pub OutputsFail : ℕ → List ℕ → List ℕ → Type 0
 OutputsFail count = ListFails text IsText (FieldFails text IsText) (AreOutputsOf count)
 
--- the fields of a put, and those of a publish in a row of this first byte
+-- the fields of a put
 abbrev pub PutFails : List ℕ → List ℕ → Type 0
 PutFails = FieldThen text IsName (λ view. FieldThen text IsBelowRoot (λ path. FieldFails text IsText))
 
+-- the fields of a publish of so many targets behind them
 abbrev pub RecordFails : ℕ → List ℕ → List ℕ → Type 0
 RecordFails count = FieldThen text IsText (λ script bytes at. EntriesFail bytes at ⊎ Behind (listed entry) AreEntries (λ entries. OutputsFail count) bytes at)
 
+-- the fields of a publish in a row of this first byte
 abbrev pub PublishFails : ℕ → List ℕ → List ℕ → Type 0
 PublishFails form = FieldThen text IsName (λ view bytes at.
     TargetsFail form bytes at ⊎ Behind (listed text) (AreTargetsOf form) (λ targets. RecordFails (length targets)) bytes at)

@@ -9,6 +9,7 @@ use Rattle.cc_names.specs.declared.rows.Deed.TheVariants as deeds
 use Rattle.row_form.specs.Spelled.{spelled}
 use Rattle.row_form.specs.declared.cursor.Unread.{Unread}
 
+-- a byte
 abbrev pub IsByte : ℕ → Type 0
 IsByte b = b < 256
 
@@ -54,6 +55,7 @@ abbrev pub ReadsAll : {A : Type 0} → (A → List ℕ) → (A → Type 0) → (
 ReadsAll spell Good Fails (Ok value) old new = Good value × (old ≡ spell value ++ new)
 ReadsAll spell Good Fails (Err unread) old new = IsLeft Fails old unread.left
 
+-- the same, unless memory was wanting
 abbrev pub ReadsAllOr : {A : Type 0} → (A → List ℕ) → (A → Type 0) → (List ℕ → List ℕ → Type 0) → Result A (Or Unread) → List ℕ → List ℕ → Type 0
 ReadsAllOr spell Good Fails (Ok value) old new = Good value × (old ≡ spell value ++ new)
 ReadsAllOr spell Good Fails (Err NoMemory) old new = Unit {0}

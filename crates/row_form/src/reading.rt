@@ -12,11 +12,8 @@ ghost use Rattle.cc_names.specs.Names.{IsName};
 use crate::cursor::{Cursor, NotARow, Unread};
 use crate::lists::{read_entries, read_outputs, read_targets};
 use cc_names::memory::Or;
-use cc_names::rows::{Deed, Row, Tag};
+use cc_names::rows::{Deed, LAST_MOMENT, Row, Tag};
 use std::alloc::Global;
-
-/// The end of the year 9999.
-const LAST_MOMENT: u64 = 253_402_300_799;
 
 /// What stands before the fields of a deed: the first byte, the tag, the moment and the deed's code.
 #[derive(Clone, Copy)]

@@ -9,8 +9,8 @@ use Rattle.cc_names.specs.declared.steps.Told.{Told}
 use Rattle.cc_names.specs.declared.steps.Told.TheVariants as told
 use Rattle.base_core.proofs.Growing.{state_from-more, legal_more}
 use Rattle.base_core.specs.Replying.{in_lane, reply_to_end, no_replies, replies_after}
-use Rattle.fresh_builds.specs.Commanded.{IsOfCommand}
-use Rattle.fresh_builds.specs.Replied.{reply_of, reply_from_nothing}
+use Rattle.legal_history.specs.Commanded.{IsOfCommand}
+use Rattle.legal_history.specs.Replied.{reply_of, reply_from_nothing}
 use Rattle.legal_history.specs.Base.{only_where}
 use Rattle.legal_history.specs.Builds.{Build, build_of}
 use Rattle.legal_history.specs.States.{State, start, same_tag, build_if, build_by}

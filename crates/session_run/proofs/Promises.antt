@@ -318,7 +318,7 @@ promised_closed : (because : OpenCause) (status : Status) (intake : Intake) (out
 promised_closed because status intake outside faults disk asked fails wrote =
     stops_so (open_stop because (disk_rose disk)) status intake outside faults disk (open_first because (disk_rose disk) intake)
     (open_cause because (disk_rose disk) intake faults disk refl asked fails.because) wrote
-    (stays_closed disk.before disk.after [] refl fails.tells fails.unchanged)
+    (stays_closed disk.before disk.after [] refl fails.tells fails.unchanged fails.files)
 
 -- The promises where the source gave a session
 pub promised_run : (phases : List Phase) (status : Status) (story : List Told) (intake : Intake) (outside : Outside) (faults : Change ℕ) (disk : Change Sight) → GivesPhases intake phases → RunsSession phases status story outside faults disk → Promised status story intake outside faults disk

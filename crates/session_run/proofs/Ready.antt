@@ -7,6 +7,7 @@ use Rattle.cc_outside.specs.Counts.{raised}
 use Rattle.session_run.specs.Asked.{is_run}
 use Rattle.session_run.specs.Stops.{GivesPhases}
 use Rattle.std.specs.List.{AllByRecursion}
+use Rattle.cc_names.specs.Cuts.{lines_of}
 use Rattle.cc_names.specs.declared.commands.Command.{Command}
 use Rattle.cc_names.specs.declared.commands.Command.TheVariants as commands
 use Rattle.cc_names.specs.declared.commands.Macro.{Macro}
@@ -19,7 +20,6 @@ use Rattle.session_text.specs.declared.verbs.Verb.{Verb}
 use Rattle.session_text.specs.declared.verbs.Verb.TheVariants as verbs
 use Rattle.session_text.specs.declared.kinds.Kind.{Kind}
 use Rattle.session_text.specs.declared.kinds.Kind.TheVariants.{Skipped, Body, Says}
-use Rattle.session_text.specs.Cuts.{lines_of}
 use Rattle.session_text.specs.Kinds.{kind_of}
 use Rattle.session_text.specs.Commands.{one_name, command_of, save, mkview, clearmake}
 use Rattle.session_text.specs.Causes.{Above, cause_of, above_next, first_error, error_or, nothing}

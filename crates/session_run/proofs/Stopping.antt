@@ -9,13 +9,15 @@ use Rattle.cc_names.specs.declared.steps.Told.{Told}
 use Rattle.cc_names.specs.declared.steps.Told.TheVariants as told
 use Rattle.disk_model.specs.Devices.{Device, MayLeave, bytes_of, file_of}
 use Rattle.disk_model.specs.Files.{IsImage, stable}
-use Rattle.disk_model.specs.Told.{Sight, IfTold, IsCounted}
+use Rattle.disk_model.specs.Told.{Sight, Both, IfTold, IsCounted}
 use Rattle.legal_history.specs.States.{State, Opening, start, faults_of, hanging}
 use Rattle.legal_history.specs.Steps.{after, state_from, state_of}
 use Rattle.legal_history.specs.Committing.{rises}
 use Rattle.legal_history.specs.Stories.{Legal, LegalFrom}
 use Rattle.vob_journal.specs.Frames.{frames}
+use Rattle.vob_journal.specs.Reads.{SameFiles}
 use Rattle.vob_journal.proofs.Journals.{stable_image}
+use Rattle.vob_journal.proofs.Staying.{told_stay}
 use Rattle.base_core.specs.Backed.{IsAccounted, IsSettled}
 use Rattle.base_core.specs.Founds.{OpensAgain}
 use Rattle.base_core.specs.Standing.{MayBeFound}
@@ -115,6 +117,7 @@ keeps_prefix before now story begins legal accounted mended again = record {
         (subst (λ n. AreApart n (rises_of story) (faults_of (state_of story).opened (state_of story).ends)) begins.on.faults begun.apart) accounted.faults;
   };
   on_none = λ closed. absurd (not_closed story begins.first closed);
+  files = λ closed. absurd (not_closed story begins.first closed);
 }
   where
     begun : IsBegun story begins.rows begins.handed.counts begins.handed.tells
@@ -148,13 +151,15 @@ stays_untouched disk counted handed = record {
   tells = refl;
   on_base = λ opened. absurd (cc);
   on_none = λ closed. frames_stay disk.told disk.ticks counted.told (journal_stable disk handed);
+  files = λ closed. told_stay disk.told;
 }
 
-pub stays_closed : (before now : Sight) (story : List Told) → story ≡ [] → is_some now.told ≡ is_some before.told → KeepsFrames before now → IsStopped before now story
-stays_closed before now story empty tells frames = record {
+pub stays_closed : (before now : Sight) (story : List Told) → story ≡ [] → is_some now.told ≡ is_some before.told → KeepsFrames before now → Both SameFiles before.told now.told → IsStopped before now story
+stays_closed before now story empty tells frames files = record {
   tells = tells;
   on_base = λ opened. absurd (not_opened story empty opened);
   on_none = λ closed. frames;
+  files = λ closed. files;
 }
   where
     not_opened : (xs : List Told) → xs ≡ [] → is_opened xs ≡ true → ⊥

@@ -20,6 +20,7 @@ abbrev pub phases_read : Result Session SessionError → List Phase
 phases_read (Ok session) = session.phases
 phases_read (Err error) = []
 
+-- the phases of a text
 abbrev pub phases_spelled : List ℕ → List Phase
 phases_spelled text = phases_read (session_of text)
 
@@ -28,5 +29,6 @@ abbrev pub is_read : Result Session SessionError → Bool
 is_read (Ok session) = true
 is_read (Err error) = false
 
+-- whether a text is a session
 abbrev pub is_session : List ℕ → Bool
 is_session text = is_read (session_of text)

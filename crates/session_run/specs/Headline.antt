@@ -25,8 +25,8 @@ use Rattle.disk_model.specs.Told.{Sight}
 use Rattle.base_core.specs.Opening.{IsBaseOn}
 use Rattle.base_core.specs.declared.handed.Handed.{Handed}
 use Rattle.session_text.specs.Sessions.{session_of}
-use Rattle.fresh_builds.specs.Commanded.{IsOfCommand}
-use Rattle.fresh_builds.specs.Replied.{reply_of, reply_from_nothing}
+use Rattle.legal_history.specs.Commanded.{IsOfCommand}
+use Rattle.legal_history.specs.Replied.{reply_of, reply_from_nothing}
 use Rattle.legal_history.specs.Builds.{Build}
 use Rattle.legal_history.specs.States.{State, all_done, build_by}
 use Rattle.legal_history.specs.Steps.{state_of}
@@ -55,12 +55,13 @@ is_through statuses.SomeFailed story = true
 is_through statuses.DiskFault story = is_opened story
 is_through status story = false
 
--- the phases that began, and their moments
+-- the phases that began
 abbrev pub phases_begun : List Told → List Phase
 phases_begun [] = []
 phases_begun (told.Plan phase moment ∷ story) = phase ∷ phases_begun story
 phases_begun (x ∷ story) = phases_begun story
 
+-- the moments at which they began
 abbrev pub moments_begun : List Told → List ℕ
 moments_begun [] = []
 moments_begun (told.Plan phase moment ∷ story) = moment ∷ moments_begun story

@@ -16,10 +16,11 @@ abbrev pub count_of : Option Lane → ℕ
 count_of None = 0
 count_of (Some lane) = length lane.commands
 
--- a lane has not finished more commands than it has; it has finished all
+-- a lane has not finished more commands than it has
 abbrev pub IsWithin : State → ℕ → Type 0
 IsWithin s lane = done_of s.done lane ≤ count_of (lane_at s.phase lane)
 
+-- a lane has finished all of its commands
 abbrev pub IsFinished : State → ℕ → Type 0
 IsFinished s lane = done_of s.done lane ≡ count_of (lane_at s.phase lane)
 

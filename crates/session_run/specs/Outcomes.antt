@@ -46,5 +46,6 @@ pub record StaysClosed (status : Status) (story : List Told) (outside : Outside)
   pub empty : story ≡ []
   pub wrote : WritesStop (open_stop because (disk_rose disk)) status outside.held outside.holds faults
 
+-- A session was run: its base was opened and the phases carried out, or it could not be opened.
 abbrev pub RunsSession : List Phase → Status → List Told → Outside → Change ℕ → Change Sight → Type 0
 RunsSession phases status story outside faults disk = RunsOn phases status story outside faults disk ⊎ StaysClosed status story outside faults disk

@@ -79,6 +79,7 @@ phase_line number = codes "phase " ++ decimal number ++ 10 ∷ []
 abbrev pub transcript : ℕ → Phase → Replies → List ℕ
 transcript number phase replies = phase_line number ++ lanes_text phase 1 phase.lanes replies
 
+-- the transcript of a phase that ended
 abbrev pub transcript_of : EndedPhase → List ℕ
 transcript_of ended = transcript ended.number ended.phase ended.replies
 
@@ -105,6 +106,7 @@ abbrev pub lanes_fail : ℕ → List Lane → Replies → Bool
 lanes_fail n [] replies = false
 lanes_fail n (lane ∷ lanes) replies = list_any is_failure (replies n) || lanes_fail (n + 1) lanes replies
 
+-- whether a command of the phase failed
 abbrev pub phase_fails : EndedPhase → Bool
 phase_fails ended = lanes_fail 1 ended.phase.lanes ended.replies
 

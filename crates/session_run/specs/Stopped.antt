@@ -5,11 +5,12 @@ use Rattle.cc_names.specs.declared.steps.Told.{Told}
 use Rattle.cc_names.specs.declared.steps.Told.TheVariants as told
 use Rattle.disk_model.specs.Devices.{MayLeave, bytes_of, file_of}
 use Rattle.disk_model.specs.Files.{stable}
-use Rattle.disk_model.specs.Told.{Sight, IfTold}
+use Rattle.disk_model.specs.Told.{Sight, Both, IfTold}
 use Rattle.legal_history.specs.States.{State, Opening, faults_of, ticks_of}
 use Rattle.legal_history.specs.Steps.{state_of}
 use Rattle.legal_history.specs.Committing.{rises}
 use Rattle.vob_journal.specs.Frames.{frames}
+use Rattle.vob_journal.specs.Reads.{SameFiles}
 use Rattle.base_core.specs.Backed.{IsSettled}
 use Rattle.base_core.specs.Founds.{OpensAgain}
 use Rattle.base_core.specs.Standing.{MayBeFound}
@@ -59,8 +60,10 @@ KeepsFrames before after = IfTold before.told (λ d. IfTold after.told (λ e. (k
 abbrev pub AllOpenAgain : List Told → Type 0
 AllOpenAgain story = (opening : Opening) (k : ℕ) (found : List (List ℕ)) → (state_of story).opened ≡ Some opening → MayBeFound opening (state_of story).ends k found → OpensAgain found
 
--- *Stopped*: what a stop at each device call finds, from what the disk told as it was handed in and as it came back.
+-- *Stopped*: what a stop at each device call finds, from what the disk told as it was handed in and as it came back. Where no
+-- base was opened both files are as they were.
 pub record IsStopped (before after : Sight) (story : List Told) : Type 0 where
   pub tells : is_some after.told ≡ is_some before.told
   pub on_base : is_opened story ≡ true → KeepsPrefix before after story
   pub on_none : is_opened story ≡ false → KeepsFrames before after
+  pub files : is_opened story ≡ false → Both SameFiles before.told after.told

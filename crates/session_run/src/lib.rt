@@ -7,7 +7,7 @@
 // order, every clearmake is replied as building from nothing is, and a stop at any device call finds what was acknowledged.
 //
 // What it stands on: `base_core` for the history, `disk_model` and `vob_journal` for the disk and what a stop finds there,
-// `build_core`, `fresh_builds` and `legal_history` for what a history means, `checkout_desk` for decisions, `session_text` and
+// `build_core` and `legal_history` for what a history means, `checkout_desk` for decisions, `session_text` and
 // `reply_text` for the texts, `cc_outside` for the source, the sink and the clock, and `cc_names` for plain data.
 #![tactic(auto)]
 

@@ -20,12 +20,10 @@ use crate::transcripts::transcript;
 use base_core::Core;
 use cc_names::commands::Phase;
 use cc_names::memory::{NoMemory, Or};
+use cc_names::rows::LAST_MOMENT;
 use cc_outside::{Clock, Sink, WriteFault, write_whole};
 use disk_model::Disk;
 use std::alloc::Global;
-
-// The last moment of the year 9999.
-const LAST_MOMENT: u64 = 253_402_300_799;
 
 /// The moment now, none above the last one of the year 9999.
 fn moment_of<C: Clock>(clock: &mut C) -> u64

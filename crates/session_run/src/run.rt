@@ -24,7 +24,7 @@ use cc_names::memory::Or;
 use cc_names::texts::Text;
 use cc_outside::{Clock, Sink, Source, WriteFault};
 use disk_model::Disk;
-use fresh_builds::laws::{a_build_is_as_from_nothing, a_build_is_of_its_command};
+use legal_history::laws::builds::{a_build_is_as_from_nothing, a_build_is_of_its_command};
 use std::alloc::Global;
 
 /// How a call ended: its status, the disk, and the history of the base that it opened, which is empty where it opened none.

@@ -4,6 +4,7 @@ use Rattle.std.specs.Prelude.{nat_le, not, is_none, ◌==◌}
 use Rattle.std.specs.List.{AllByRecursion, IsDistinct}
 use Rattle.std.specs.List.{slice_split, onto_first}
 use Rattle.std.proofs.lemmas.Bool.{leb-false}
+use Rattle.cc_names.specs.Cuts.{lines_of, ended, is_newline, words_of}
 use Rattle.cc_names.specs.Names.{IsName, name_of, name_fault, unless_fault}
 use Rattle.cc_names.specs.Paths.{IsPath, path_of, path_fault, is_root}
 use Rattle.cc_names.specs.Formed.{IsBelowRoot}
@@ -18,13 +19,12 @@ use Rattle.session_text.specs.declared.verbs.Verb.{Verb}
 use Rattle.session_text.specs.declared.verbs.Verb.TheVariants as verbs
 use Rattle.session_text.specs.declared.kinds.Kind.{Kind}
 use Rattle.session_text.specs.declared.kinds.Kind.TheVariants.{Skipped, Body, Says}
-use Rattle.session_text.specs.Cuts.{lines_of, ended, is_newline, words_of}
 use Rattle.session_text.specs.Kinds.{kind_of, said}
 use Rattle.session_text.specs.Commands.{ok_of, one_name, below_root, command_of, save, mkview, clearmake}
 use Rattle.session_text.specs.Causes.{Above, is_empty, lane_causes, first_cause, where_so, is_taken, cause_of, above_next, with_lane, first_error, error_or, nothing}
 use Rattle.session_text.specs.Sessions.{ends_lane, before_text, body_of, before_commands, commands_before, commands_of, before_lanes, lanes_before, lanes_of, phases_before, phases_of}
 use Rattle.session_text.specs.Formed.{IsCommand, IsLane, IsPhase, IsSession, AreAtMost}
-use Rattle.session_text.proofs.Parts.{length-lines_of}
+use Rattle.cc_names.proofs.LinesAndWords.{length-lines_of}
 
 -- a word that was read as a name is one
 named : (word : List ℕ) (fault : Option NameFault) → name_fault word ≡ fault → IfSome (ok_of (unless_fault fault word)) IsName

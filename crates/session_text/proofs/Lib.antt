@@ -1,4 +1,3 @@
-pub mod Parts
 pub mod FormedReading
 pub mod Steps
 mod Worked

@@ -1,5 +1,6 @@
 -- What a session is, and why a text is none.
 use Rattle.std.specs.Prelude.{◌≡◌, ℕ, Bool, true, false, Option, Some, None, Result, Ok, Err, List, [], ◌∷◌, ◌++◌, if◌then◌else◌}
+use Rattle.cc_names.specs.Cuts.{lines_of}
 use Rattle.cc_names.specs.declared.commands.Command.{Command}
 use Rattle.cc_names.specs.declared.commands.Lane.{Lane}
 use Rattle.cc_names.specs.declared.commands.Phase.{Phase}
@@ -11,7 +12,6 @@ use Rattle.session_text.specs.declared.verbs.Verb.{Verb}
 use Rattle.session_text.specs.declared.verbs.Verb.TheVariants as verbs
 use Rattle.session_text.specs.declared.kinds.Kind.{Kind}
 use Rattle.session_text.specs.declared.kinds.Kind.TheVariants.{Skipped, Body, Says}
-use Rattle.session_text.specs.Cuts.{lines_of}
 use Rattle.session_text.specs.Kinds.{kind_of}
 use Rattle.session_text.specs.Commands.{command_of, one_name}
 use Rattle.session_text.specs.Causes.{first_error, nothing}
@@ -49,6 +49,7 @@ abbrev pub commands_said : Verb → List (List ℕ) → List ℕ → List Comman
 commands_said verb words text commands =
     if ends_lane verb then [] else before_commands (command_of verb words text) commands
 
+-- the commands of the lane, with that of this line before them
 abbrev pub commands_before : Kind → List ℕ → List Command → List Command
 commands_before (Says verb words) text commands = commands_said verb words text commands
 commands_before _ text commands = commands
@@ -69,6 +70,7 @@ lanes_said verbs.Phase words commands lanes = []
 lanes_said verbs.Lane words commands lanes = before_lanes (one_name words) commands lanes
 lanes_said _ words commands lanes = lanes
 
+-- the lanes of the phase, with the one that this line begins before them
 abbrev pub lanes_before : Kind → List Command → List Lane → List Lane
 lanes_before (Says verb words) commands lanes = lanes_said verb words commands lanes
 lanes_before _ commands lanes = lanes
@@ -83,6 +85,7 @@ abbrev pub phases_said : Verb → List Lane → List Phase → List Phase
 phases_said verbs.Phase lanes phases = record { lanes = lanes } ∷ phases
 phases_said _ lanes phases = phases
 
+-- the phases, with the one that this line begins before them
 abbrev pub phases_before : Kind → List Lane → List Phase → List Phase
 phases_before (Says verb words) lanes phases = phases_said verb lanes phases
 phases_before _ lanes phases = phases

@@ -6,9 +6,9 @@ ghost use Rattle.std.specs.Str.{bytes_eq};
 ghost use Rattle.session_text.specs.Causes.{nothing, is_taken, first_cause, body_causes, phase_causes, lane_causes, command_causes, word_causes, is_empty, cause_of, with_lane, above_words, above_next};
 
 use crate::commands::{is_later, is_no_command, one_name, takes_body};
-use crate::cuts::Words;
 use crate::kinds::Kind;
 use crate::verbs::Verb;
+use cc_names::cuts::Words;
 use cc_names::memory::NoMemory;
 use cc_names::refusals::SessionCause;
 use cc_names::texts::Text;

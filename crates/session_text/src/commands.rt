@@ -7,9 +7,9 @@ ghost use Rattle.cc_names.specs.Paths.{path_of, is_root};
 ghost use Rattle.session_text.specs.Commands.{ok_of, one_name, below_root, command_of, takes_body, is_equals, is_option, is_later};
 ghost use Rattle.session_text.specs.declared.verbs.Verb.TheVariants as verbs;
 
-use crate::cuts::Words;
 use crate::verbs::Verb;
 use cc_names::commands::Command;
+use cc_names::cuts::Words;
 use cc_names::lists::List;
 use cc_names::memory::{NoMemory, Or};
 use cc_names::names::Name;

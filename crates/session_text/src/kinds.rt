@@ -1,11 +1,47 @@
 // The kinds of lines.
 
 ghost use Rattle.std.specs.Prelude.{◌≡◌};
-ghost use Rattle.session_text.specs.Cuts.{words_of};
+ghost use Rattle.cc_names.specs.Cuts.{words_of};
 ghost use Rattle.session_text.specs.Kinds.{kind_of, said};
 
-use crate::cuts::{Bytes, Words};
 use crate::verbs::{Verb, verb_of};
+use cc_names::cuts::Words;
+use std::marker::Model;
+
+/// The bytes of a body line. Contracts see them as a list.
+pub struct Bytes<'a> {
+    bytes: &'a [u8],
+}
+
+impl<'a> Model for Bytes<'a> {
+    ghost use Rattle.std.specs.Prelude.{List, ℕ};
+
+    ghost Value = { List ℕ };
+
+    ghost view = { λ s. s.bytes.now };
+}
+
+impl Drop for Bytes<'_> {
+    fn drop(self) {
+        let Bytes { bytes: _ } = self;
+    }
+}
+
+impl<'a> Bytes<'a> {
+    /// These bytes.
+    pub(crate) fn of(bytes: &'a [u8]) -> Bytes<'a>
+        ensures { result ≡ bytes.now }
+    {
+        Bytes { bytes }
+    }
+
+    /// The bytes.
+    pub(crate) fn as_slice(&self) -> &'a [u8]
+        ensures { result.now ≡ self.now }
+    {
+        self.bytes
+    }
+}
 
 /// A kind of line.
 #[derive(Drop)]

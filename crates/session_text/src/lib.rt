@@ -6,12 +6,11 @@
 // What it promises: a text is read as a session exactly where its grammar says so, and else its first wrong line is
 // answered with the cause; what is read is well formed. Reading takes time linear in the text.
 //
-// What it stands on: `cc_names` for the data, names and paths.
+// What it stands on: `cc_names` for the data, names and paths, and for the lines of a text and their words.
 #![tactic(auto)]
 
 mod above;
 mod commands;
-pub mod cuts;
 mod kinds;
 mod sessions;
 #[cfg(test)]

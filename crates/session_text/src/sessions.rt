@@ -2,7 +2,7 @@
 
 ghost use Rattle.std.specs.Prelude.{◌≡◌, ◌<◌, ◌^◌, ◌++◌, [], length, IfOk, OnOk};
 ghost use Rattle.cc_names.specs.Answers.{Gives};
-ghost use Rattle.session_text.specs.Cuts.{lines_of};
+ghost use Rattle.cc_names.specs.Cuts.{lines_of};
 ghost use Rattle.session_text.specs.Causes.{first_error, nothing};
 ghost use Rattle.session_text.specs.Commands.{command_of, one_name};
 ghost use Rattle.session_text.specs.Formed.{IsSession};
@@ -10,10 +10,10 @@ ghost use Rattle.session_text.specs.Sessions.{body_of, commands_of, lanes_of, ph
 
 use crate::above::Above;
 use crate::commands::{command_of, one_name};
-use crate::cuts::{Lines, Words};
 use crate::kinds::{Kind, kind_of};
 use crate::verbs::Verb;
 use cc_names::commands::{Command, Lane, Phase, Session};
+use cc_names::cuts::{Lines, Words};
 use cc_names::lists::List;
 use cc_names::memory::{NoMemory, Or};
 use cc_names::refusals::SessionError;

@@ -1,14 +1,13 @@
 -- The first rule that decides.
-use Rattle.std.proofs.Common.{◌≡◌, ◌↔◌, ℕ, Bool, true, false, cond, ◌&&◌, ◌||◌, inl, inr, Option, Some, None, is_some, IsSome, IfSome, List, [], ◌∷◌, ◌++◌, find, refl, sym, ap, ◌∙◌}
+use Rattle.std.proofs.Common.{◌≡◌, ◌↔◌, ℕ, Bool, true, false, cond, ◌||◌, Option, Some, None, is_some, IsSome, IfSome, List, [], ◌∷◌, ◌++◌, find, refl, ap}
 use Rattle.std.specs.Option.{option_map, option_and_then}
-use Rattle.std.proofs.lemmas.Bool.{and_parts, or_cases}
-use Rattle.cc_names.specs.declared.selection.Picked.{Picked}
+use Rattle.std.proofs.lemmas.Bool.{and_parts}
 use Rattle.cc_names.specs.declared.selection.Rule.{Rule}
 use Rattle.cc_names.specs.declared.selection.Selector.{Selector}
 use Rattle.cc_names.specs.declared.selection.Selector.TheVariants.{CheckedOut, Label, Latest, Wherever, Numbered, Config, Nothing}
 use Rattle.spec_text.specs.Laws.{FirstDecides, PicksNothing}
 use Rattle.spec_text.specs.Patterns.{matches}
-use Rattle.spec_text.specs.Rules.{Sources, finds, found_by, ends_scan, is_checkout, decides, deciding, picked_by, pick}
+use Rattle.spec_text.specs.Rules.{Sources, finds, found_by, ends_scan, decides, deciding, picked_by}
 
 found_before : {A : Type 0} (test : A → Bool) (xs ys : List A) → IsSome (find test xs) → find test (xs ++ ys) ≡ find test xs
 found_before test [] ys h = cc

@@ -1,11 +1,11 @@
 -- Patterns without wild cards.
-use Rattle.std.proofs.Common.{◌≡◌, ◌↔◌, ℕ, Bool, true, false, not, ◌==◌, ◌&&◌, ◌||◌, ◌⊎◌, inl, inr, List, [], ◌∷◌, ◌++◌, map, refl, sym, ap, ◌∙◌, eq-eqb}
+use Rattle.std.proofs.Common.{◌≡◌, ℕ, Bool, true, false, not, ◌==◌, ◌&&◌, ◌||◌, inl, inr, List, [], ◌∷◌, ◌++◌, map, refl, sym, ap, ◌∙◌, eq-eqb}
 use Rattle.std.specs.List.{list_all, list_any}
 use Rattle.std.proofs.lemmas.Bool.{eqb-true, and_parts, and_from, or_cases, or_left, or_right}
 use Rattle.cc_names.specs.declared.selection.Segment.TheVariants.{OneName}
-use Rattle.spec_text.specs.Covers.{tails, has_none, covers}
-use Rattle.spec_text.specs.Laws.{is_plain, pattern_of_names, MatchesOwnPath, MatchesEndsOfPaths}
-use Rattle.spec_text.specs.Patterns.{is_star, is_question_mark, fits_byte, matches_name, matches_names, matches, is_lone_star}
+use Rattle.spec_text.specs.Covers.{tails, has_none}
+use Rattle.spec_text.specs.Laws.{is_plain, MatchesOwnPath, MatchesEndsOfPaths}
+use Rattle.spec_text.specs.Patterns.{is_star, is_question_mark, fits_byte, matches_name, matches_names, is_lone_star}
 
 negated : (b : Bool) → not b ≡ true → b ≡ false
 negated true h = cc

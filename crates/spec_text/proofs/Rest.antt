@@ -1,5 +1,5 @@
 -- The rules of a text by what has been read of it and what is left.
-use Rattle.std.proofs.Common.{◌≡◌, ℕ, ◌+◌, Option, Result, Ok, Err, List, [], ◌∷◌, ◌++◌, refl, sym, ap, ◌∙◌, append_assoc, slice_get}
+use Rattle.std.proofs.Common.{◌≡◌, ℕ, ◌+◌, Result, Ok, Err, List, [], ◌∷◌, ◌++◌, refl, sym, ap, ◌∙◌, append_assoc, slice_get}
 use Rattle.cc_names.specs.Answers.{FaultIs}
 use Rattle.cc_names.specs.declared.memory.Or.{Or}
 use Rattle.cc_names.specs.declared.memory.Or.TheVariants.{NoMemory, Is}
@@ -7,7 +7,7 @@ use Rattle.cc_names.specs.declared.refusals.SpecCause.{SpecCause}
 use Rattle.cc_names.specs.declared.refusals.SpecError.{SpecError}
 use Rattle.cc_names.specs.declared.selection.Rule.{Rule}
 use Rattle.spec_text.specs.Lines.{line_of}
-use Rattle.spec_text.specs.Reading.{State, after_line, after_read, at_line}
+use Rattle.spec_text.specs.Reading.{State, nothing_read, after_line, after_read, at_line}
 use Rattle.spec_text.specs.Specs.{before_rules, with_line, rules_from}
 use Rattle.spec_text.specs.declared.lines.Line.{Line}
 use Rattle.spec_text.specs.declared.lines.Line.TheVariants.{Skipped, Opens, Closes, Gives}
@@ -24,6 +24,14 @@ followed_one rules rule (Err error) = refl
 -- what follows the rules so far, in what is left
 abbrev pub rest_of : State → List (List ℕ) → ℕ → Result (List Rule) SpecError
 rest_of state lines number = followed state.rules (rules_from lines number state.blocks)
+
+-- before anything is read, that is all
+pub rest_at_first : (lines : List (List ℕ)) → rules_from lines 1 [] ≡ rest_of nothing_read lines 1
+rest_at_first lines = by (rules_from lines 1 [])
+  where
+    by : (all : Result (List Rule) SpecError) → all ≡ followed [] all
+    by (Ok rules) = refl
+    by (Err error) = refl
 
 goes_by : (line : Line) (rules : List Rule) (blocks : List ℕ) (after : State) (number : ℕ) (behind : List ℕ → Result (List Rule) SpecError) → after_line line (record { rules = rules; blocks = blocks }) ≡ Ok after → followed rules (with_line number blocks (Ok line) behind) ≡ followed after.rules (behind after.blocks)
 goes_by Skipped rules blocks after number behind e = let same : record { rules = rules; blocks = blocks } ≡ after = cc in ap (λ (state : State). followed state.rules (behind state.blocks)) same

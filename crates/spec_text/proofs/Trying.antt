@@ -1,10 +1,10 @@
 -- Why trying the last wild card again is enough.
-use Rattle.std.proofs.Common.{◌≡◌, ◌≢◌, ℕ, zero, suc, ◌+◌, ◌*◌, ◌<◌, ◌≤◌, ◌⊎◌, inl, inr, Bool, true, false, ◌||◌, ◌&&◌, Option, Some, None, List, [], ◌∷◌, length, refl, sym, ap, ◌∙◌, arith, Bor, mul-le-mul_right}
+use Rattle.std.proofs.Common.{◌≡◌, ℕ, ◌+◌, ◌*◌, ◌<◌, ◌≤◌, inl, inr, Bool, true, false, ◌||◌, ◌&&◌, Option, Some, None, List, [], ◌∷◌, length, refl, sym, ap, ◌∙◌, arith, Bor, mul-le-mul_right}
 use Rattle.std.specs.Option.{option_map, option_copied}
-use Rattle.spec_text.specs.Words.{parts_left}
+use Rattle.spec_text.specs.Parts.{parts_left}
 use Rattle.std.proofs.lemmas.Bool.{and_parts, or_cases, or_left, or_right}
 use Rattle.std.specs.List.{list_any}
-use Rattle.spec_text.specs.Covers.{tails, has_none, first_fits, covers_from, covers}
+use Rattle.spec_text.specs.Covers.{tails, first_fits, covers_from, covers}
 
 or_nothing : (b : Bool) → b ≡ (b || false)
 or_nothing true = refl

@@ -1,5 +1,5 @@
 -- Patterns and paths worked out by hand, by computation.
-use Rattle.std.specs.Prelude.{◌≡◌, refl, ℕ, Bool, true, false, List, [], ◌∷◌, Result, Ok, Err, codes}
+use Rattle.std.specs.Prelude.{◌≡◌, refl, ℕ, Bool, true, false, List, [], ◌∷◌, Ok, Err, codes}
 use Rattle.cc_names.specs.Paths.{names_of}
 use Rattle.cc_names.specs.declared.refusals.SpecCause.TheVariants.{BadPattern}
 use Rattle.spec_text.specs.Patterns.{matches, pattern_of}

@@ -1,10 +1,9 @@
 -- Config specs worked out by hand, by computation.
-use Rattle.std.specs.Prelude.{◌≡◌, refl, ◌++◌, ℕ, true, false, List, [], ◌∷◌, Option, Some, None, Ok, Err, codes}
-use Rattle.cc_names.specs.declared.refusals.SpecCause.{SpecCause}
+use Rattle.std.specs.Prelude.{◌≡◌, refl, ◌++◌, ℕ, false, [], ◌∷◌, Option, Some, None, Ok, Err, codes}
 use Rattle.cc_names.specs.declared.refusals.SpecCause.TheVariants.{BadRule, BadSelector, NoBlock}
 use Rattle.cc_names.specs.declared.selection.Rule.{Rule}
 use Rattle.cc_names.specs.declared.selection.Selector.{Selector}
-use Rattle.cc_names.specs.declared.selection.Selector.TheVariants.{CheckedOut, Label, Latest, Wherever, Numbered, Config, Nothing}
+use Rattle.cc_names.specs.declared.selection.Selector.TheVariants.{CheckedOut, Latest, Wherever}
 use Rattle.cc_names.specs.declared.selection.Segment.TheVariants.{OneName}
 use Rattle.date_text.proofs.OnLiterals.{dates_on_literals}
 use Rattle.spec_text.specs.Specs.{rules_of}

@@ -1,5 +1,5 @@
 -- What config specs keep to, in the words of those who write them.
-use Rattle.std.specs.Prelude.{◌≡◌, ◌≤◌, ◌↔◌, ℕ, Bool, true, false, not, ◌&&◌, Option, Some, None, IsSome, IfSome, List, ◌∷◌, ◌++◌, map}
+use Rattle.std.specs.Prelude.{◌≡◌, ◌≤◌, ◌↔◌, ℕ, Bool, true, false, not, ◌&&◌, Option, None, IsSome, IfSome, List, ◌∷◌, ◌++◌, map}
 use Rattle.std.specs.List.{list_all}
 use Rattle.cc_names.specs.Labels.{row_of_label_change}
 use Rattle.cc_names.specs.Versions.{row_of_change}

@@ -1,7 +1,8 @@
 pub mod Covers
 pub mod Patterns
 pub mod Steps
-pub mod Words
+pub mod Numbers
+pub mod Parts
 pub mod Selectors
 pub mod Lines
 pub mod Specs

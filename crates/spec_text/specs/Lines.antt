@@ -2,13 +2,12 @@
 use Rattle.std.specs.Prelude.{ℕ, Bool, true, false, ◌==◌, Option, Some, None, is_some, Result, Ok, Err, List, [], ◌∷◌, codes, if◌then◌else◌}
 use Rattle.std.specs.Option.{option_and_then, option_copied}
 use Rattle.std.specs.Str.{bytes_eq}
+use Rattle.cc_names.specs.Cuts.{words_of}
 use Rattle.cc_names.specs.declared.refusals.SpecCause.{SpecCause}
 use Rattle.cc_names.specs.declared.refusals.SpecCause.TheVariants.{BadRule, BadDate}
-use Rattle.cc_names.specs.declared.selection.Rule.{Rule}
 use Rattle.date_text.specs.Dates.{date_of}
 use Rattle.spec_text.specs.Patterns.{pattern_of}
 use Rattle.spec_text.specs.Selectors.{selector_of, branch_type_of}
-use Rattle.spec_text.specs.Words.{words_of}
 use Rattle.spec_text.specs.declared.options.Named.{Named}
 use Rattle.spec_text.specs.declared.options.Named.TheVariants.{Time, NoCheckout, MkBranch, Unknown}
 use Rattle.spec_text.specs.declared.options.Options.{Options as OptionWords}

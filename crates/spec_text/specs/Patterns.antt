@@ -1,5 +1,5 @@
 -- Which paths a pattern of a config spec matches, and which bytes spell a pattern.
-use Rattle.std.specs.Prelude.{ℕ, Bool, true, false, not, ◌&&◌, ◌||◌, ◌==◌, Option, Some, None, Result, Ok, Err, List, [], ◌∷◌, map, if◌then◌else◌}
+use Rattle.std.specs.Prelude.{ℕ, Bool, true, false, not, ◌&&◌, ◌||◌, ◌==◌, Result, Ok, Err, List, [], ◌∷◌, map, if◌then◌else◌}
 use Rattle.std.specs.List.{list_any, list_all, slice_split}
 use Rattle.cc_names.specs.Names.{is_name_byte, is_dot}
 use Rattle.cc_names.specs.Paths.{is_slash}

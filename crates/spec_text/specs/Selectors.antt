@@ -1,5 +1,5 @@
 -- Which words spell a selector of a config spec.
-use Rattle.std.specs.Prelude.{ℕ, Bool, true, false, ◌&&◌, ◌==◌, Option, Some, None, ok_or, Result, Ok, Err, is_ok, List, [], ◌∷◌, ◌++◌, codes, if◌then◌else◌}
+use Rattle.std.specs.Prelude.{ℕ, Bool, true, false, ◌&&◌, ◌==◌, Option, Some, None, ok_or, Result, Ok, is_ok, List, [], ◌∷◌, ◌++◌, codes, if◌then◌else◌}
 use Rattle.std.specs.List.{slice_split}
 use Rattle.std.specs.Option.{option_map, option_and_then, option_or}
 use Rattle.std.specs.Result.{result_ok}
@@ -12,7 +12,7 @@ use Rattle.cc_names.specs.declared.refusals.SpecCause.TheVariants.{BadSelector, 
 use Rattle.cc_names.specs.declared.selection.Selector.{Selector}
 use Rattle.cc_names.specs.declared.selection.Selector.TheVariants.{CheckedOut, Label, Latest, Wherever, Numbered, Config, Nothing}
 use Rattle.spec_text.specs.Covers.{has_none}
-use Rattle.spec_text.specs.Words.{number_of}
+use Rattle.spec_text.specs.Numbers.{number_of}
 
 -- whether bytes are the name of a label type or a branch type
 abbrev pub is_type_name : List ℕ → Bool

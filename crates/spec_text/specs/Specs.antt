@@ -1,11 +1,11 @@
 -- The rules that a text spells, or its first line that fails and why.
-use Rattle.std.specs.Prelude.{ℕ, ◌+◌, Option, Some, None, Result, Ok, Err, List, [], ◌∷◌, slice_get}
+use Rattle.std.specs.Prelude.{ℕ, ◌+◌, Result, Ok, Err, List, [], ◌∷◌, slice_get}
+use Rattle.cc_names.specs.Cuts.{lines_of}
 use Rattle.cc_names.specs.declared.refusals.SpecCause.{SpecCause}
 use Rattle.cc_names.specs.declared.refusals.SpecCause.TheVariants.{NoBlock}
 use Rattle.cc_names.specs.declared.refusals.SpecError.{SpecError}
 use Rattle.cc_names.specs.declared.selection.Rule.{Rule}
 use Rattle.spec_text.specs.Lines.{line_of}
-use Rattle.spec_text.specs.Words.{lines_of}
 use Rattle.spec_text.specs.declared.lines.Line.{Line}
 use Rattle.spec_text.specs.declared.lines.Line.TheVariants.{Skipped, Opens, Closes, Gives}
 

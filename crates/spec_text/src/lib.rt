@@ -6,18 +6,19 @@
 // What it promises: a text is read as rules exactly where its grammar says so, and else its first wrong line is answered
 // with the cause; a pattern matches exactly the paths of its definition.
 //
-// What it stands on: `cc_names` for patterns and rules as data, `date_text` for dates.
+// What it stands on: `cc_names` for patterns and rules as data, and for the lines of a text and their words; `date_text`
+// for dates.
 #![tactic(auto)]
 
 pub mod laws;
 mod lines;
 mod matching;
+mod numbers;
 mod options;
 mod parts;
 mod patterns;
 mod selectors;
 mod specs;
-mod words;
 
 pub use patterns::Matches;
 pub use specs::Spec;

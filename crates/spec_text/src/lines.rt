@@ -1,15 +1,14 @@
 // What one line of a config spec says.
 
 ghost use Rattle.std.specs.Prelude.{◌≡◌, ◌<◌, ◌^◌, IfOk};
-ghost use Rattle.std.specs.Option.{option_copied, option_map};
+ghost use Rattle.std.specs.Option.{option_copied};
 ghost use Rattle.cc_names.specs.Answers.{Gives};
 ghost use Rattle.spec_text.specs.Lines.{plain_options, moment_of_word, before_of, rule_of, with_options, no_options, options_from, object_line, element_line, time_line, end_line, is_comment, line_of_words, line_of};
-ghost use Rattle.spec_text.specs.Words.{words_left};
 
 use crate::options::{Options, read_options};
 use crate::patterns::read_pattern;
 use crate::selectors::{read_branch_type, read_selector};
-use crate::words::split_word;
+use cc_names::cuts::Words;
 use cc_names::memory::Or;
 use cc_names::refusals::SpecCause;
 use cc_names::selection::Rule;
@@ -83,10 +82,10 @@ fn rule_with_options(
     pattern: &[u8],
     behind_config: bool,
     selector: &[u8],
-    words: Option<&[u8]>,
+    words: Words<'_>,
 ) -> Result<Line, Or<SpecCause>>
     ensures { Gives result (with_options place.line place.block pattern.now behind_config selector.now
-        (options_from (words_left (option_copied words.entry)) no_options)) }
+        (options_from words.entry no_options)) }
 {
     match read_options(words) {
         None => Err(Or::Is(SpecCause::BadRule)),
@@ -98,50 +97,50 @@ fn object_line(
     alloc: Global,
     place: Place,
     pattern: &[u8],
-    words: Option<&[u8]>,
+    mut words: Words<'_>,
 ) -> Result<Line, Or<SpecCause>>
-    ensures { Gives result (object_line place.line place.block pattern.now (words_left (option_copied words.entry))) }
+    ensures { Gives result (object_line place.line place.block pattern.now words.entry) }
 {
-    match split_word(words) {
+    match words.next() {
         None => Err(Or::Is(SpecCause::BadRule)),
-        Some((object, rest)) => rule_with_options(alloc, place, pattern, true, object, rest),
+        Some(object) => rule_with_options(alloc, place, pattern, true, object, words),
     }
 }
 
-fn element_line(alloc: Global, place: Place, words: Option<&[u8]>) -> Result<Line, Or<SpecCause>>
-    ensures { Gives result (element_line place.line place.block (words_left (option_copied words.entry))) }
+fn element_line(alloc: Global, place: Place, mut words: Words<'_>) -> Result<Line, Or<SpecCause>>
+    ensures { Gives result (element_line place.line place.block words.entry) }
 {
-    let Some((pattern, rest)) = split_word(words) else {
+    let Some(pattern) = words.next() else {
         return Err(Or::Is(SpecCause::BadRule));
     };
-    let Some((selector, rest)) = split_word(rest) else {
+    let Some(selector) = words.next() else {
         return Err(Or::Is(SpecCause::BadRule));
     };
     if selector == b"-config".as_slice() {
-        return object_line(alloc, place, pattern, rest);
+        return object_line(alloc, place, pattern, words);
     }
-    rule_with_options(alloc, place, pattern, false, selector, rest)
+    rule_with_options(alloc, place, pattern, false, selector, words)
 }
 
-fn time_line(words: Option<&[u8]>) -> Result<Line, Or<SpecCause>>
-    ensures { Gives result (time_line (words_left (option_copied words.entry))) }
+fn time_line(mut words: Words<'_>) -> Result<Line, Or<SpecCause>>
+    ensures { Gives result (time_line words.entry) }
 {
-    let Some((date, rest)) = split_word(words) else {
+    let Some(date) = words.next() else {
         return Err(Or::Is(SpecCause::BadRule));
     };
-    match split_word(rest) {
+    match words.next() {
         Some(_) => Err(Or::Is(SpecCause::BadRule)),
         None => Ok(Line::Opens(moment(date)?)),
     }
 }
 
-fn end_line(words: Option<&[u8]>) -> Result<Line, Or<SpecCause>>
-    ensures { Gives result (end_line (words_left (option_copied words.entry))) }
+fn end_line(mut words: Words<'_>) -> Result<Line, Or<SpecCause>>
+    ensures { Gives result (end_line words.entry) }
 {
-    let Some((word, rest)) = split_word(words) else {
+    let Some(word) = words.next() else {
         return Err(Or::Is(SpecCause::BadRule));
     };
-    match split_word(rest) {
+    match words.next() {
         None if word == b"time".as_slice() => Ok(Line::Closes),
         _ => Err(Or::Is(SpecCause::BadRule)),
     }
@@ -157,17 +156,18 @@ fn is_comment(word: &[u8]) -> bool
 pub(crate) fn read_line(alloc: Global, place: Place, bytes: &[u8]) -> Result<Line, Or<SpecCause>>
     ensures { Gives result (line_of place.line place.block bytes.now) }
 {
-    let Some((word, rest)) = split_word(Some(bytes)) else {
+    let mut words = Words::of(bytes);
+    let Some(word) = words.next() else {
         return Ok(Line::Skipped);
     };
     if is_comment(word) {
         Ok(Line::Skipped)
     } else if word == b"element".as_slice() {
-        element_line(alloc, place, rest)
+        element_line(alloc, place, words)
     } else if word == b"time".as_slice() {
-        time_line(rest)
+        time_line(words)
     } else if word == b"end".as_slice() {
-        end_line(rest)
+        end_line(words)
     } else {
         Err(Or::Is(SpecCause::BadRule))
     }

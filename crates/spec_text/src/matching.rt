@@ -8,7 +8,7 @@ ghost use Rattle.std.specs.Prelude.{◌≡◌};
 ghost use Rattle.std.specs.Option.{option_copied};
 ghost use Rattle.spec_text.specs.Patterns.{matches_name, matches_where, fits_byte, fits_name, is_dots};
 ghost use Rattle.spec_text.specs.Steps.{IsStep};
-ghost use Rattle.spec_text.specs.Words.{parts_left};
+ghost use Rattle.spec_text.specs.Parts.{parts_left};
 
 use crate::parts::split_part;
 use cc_names::selection::Segment;

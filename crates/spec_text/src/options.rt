@@ -1,12 +1,11 @@
 // The options of a rule.
 
-ghost use Rattle.std.specs.Prelude.{◌≡◌, ◌≤◌, ◌∷◌, length, MatchOption, None};
-ghost use Rattle.std.specs.Option.{option_copied, option_map};
+ghost use Rattle.std.specs.Prelude.{◌≡◌};
+ghost use Rattle.std.specs.Option.{option_map};
 ghost use Rattle.spec_text.specs.Lines.{plain_options, no_options, option_named, with_time, with_nocheckout, with_mkbranch, options_from};
 ghost use Rattle.spec_text.specs.OptionSteps.{IsNextOption};
-ghost use Rattle.spec_text.specs.Words.{words_left};
 
-use crate::words::split_word;
+use cc_names::cuts::Words;
 
 /// Which option a word names.
 #[derive(Clone, Copy)]
@@ -75,42 +74,29 @@ fn with_mkbranch<'a>(options: Options<'a>, word: &'a [u8]) -> Option<Options<'a>
     }
 }
 
-/// The option that a word names with the word behind it that it takes, beside others, and what is left then.
-fn next_option<'a>(
-    options: Options<'a>,
-    word: &[u8],
-    rest: Option<&'a [u8]>,
-) -> Option<(Options<'a>, Option<&'a [u8]>)>
-    ensures { IsNextOption word.now (words_left (option_copied rest.entry)) (plain_options options.entry) result }
+/// The option that a word names with the word behind it that it takes, beside others.
+fn next_option<'a>(options: Options<'a>, word: &[u8], words: &mut Words<'a>) -> Option<Options<'a>>
+    ensures { IsNextOption word.now words.old (plain_options options.entry) words.new (option_map plain_options result) }
 {
     match option_named(word) {
-        Named::NoCheckout => Some((with_nocheckout(options)?, rest)),
-        Named::Time => {
-            let (value, rest) = split_word(rest)?;
-            Some((with_time(options, value)?, rest))
-        }
-        Named::MkBranch => {
-            let (value, rest) = split_word(rest)?;
-            Some((with_mkbranch(options, value)?, rest))
-        }
+        Named::NoCheckout => with_nocheckout(options),
+        Named::Time => with_time(options, words.next()?),
+        Named::MkBranch => with_mkbranch(options, words.next()?),
         Named::Unknown => None,
     }
 }
 
 /// The options that the words that are left spell, or nothing where one of them spells none.
-pub(crate) fn read_options<'a>(words: Option<&'a [u8]>) -> Option<Options<'a>>
-    ensures { option_map plain_options result ≡ options_from (words_left (option_copied words.entry)) no_options }
+pub(crate) fn read_options<'a>(mut words: Words<'a>) -> Option<Options<'a>>
+    ensures { option_map plain_options result ≡ options_from words.entry no_options }
 {
     let mut options = Options {
         time: None,
         nocheckout: false,
         mkbranch: None,
     };
-    let mut left = words;
-    'words: while let Some((word, rest)) = split_word(left) {
-        let (more, behind) = next_option(options, word, rest)?;
-        options = more;
-        left = behind;
+    while let Some(word) = words.next() {
+        options = next_option(options, word, &mut words)?;
     }
     Some(options)
 }

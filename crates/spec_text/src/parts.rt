@@ -3,7 +3,7 @@
 ghost use Rattle.std.specs.Prelude.{◌≡◌, ◌==◌, ◌<◌, ◌+◌, [], ◌∷◌, length, drop, MatchOption, IfSome};
 ghost use Rattle.std.specs.List.{position};
 ghost use Rattle.std.specs.Option.{option_copied};
-ghost use Rattle.spec_text.specs.Words.{parts_left};
+ghost use Rattle.spec_text.specs.Parts.{parts_left};
 
 fn end_of_part(bytes: &[u8], at: u8) -> Option<usize>
     ensures place { result ≡ position (λ b. b == at) bytes.now }
@@ -13,7 +13,7 @@ fn end_of_part(bytes: &[u8], at: u8) -> Option<usize>
 }
 
 /// The bytes behind a place.
-pub(crate) fn behind(bytes: &[u8], place: usize) -> &[u8]
+fn behind(bytes: &[u8], place: usize) -> &[u8]
     requires { place < length bytes.now }
     ensures { result.now ≡ drop (place + 1) bytes.now }
 {

@@ -7,7 +7,7 @@ ghost use Rattle.cc_names.specs.Answers.{Gives};
 ghost use Rattle.cc_names.specs.Paths.{is_slash, names_of};
 ghost use Rattle.spec_text.specs.Covers.{has_none};
 ghost use Rattle.spec_text.specs.Patterns.{matches, is_lone_star, is_segment_byte, is_segment, are_three_dots, segment_of, pattern_of_segments, pattern_of};
-ghost use Rattle.spec_text.specs.Words.{parts_left};
+ghost use Rattle.spec_text.specs.Parts.{parts_left};
 
 use crate::matching::matches_where;
 use crate::parts::split_part;

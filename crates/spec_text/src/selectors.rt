@@ -6,10 +6,10 @@ ghost use Rattle.std.specs.List.{slice_split};
 ghost use Rattle.cc_names.specs.Answers.{Gives};
 ghost use Rattle.cc_names.specs.Formed.{begins_with_letter};
 ghost use Rattle.spec_text.specs.Selectors.{is_at, type_name_of, on_branch, behind_main, behind_dots, selector_of_parts, selector_of_word, of_object, object_of_parts, selector_of, branch_type_of};
-ghost use Rattle.spec_text.specs.Words.{parts_left};
+ghost use Rattle.spec_text.specs.Parts.{parts_left};
 
+use crate::numbers::number;
 use crate::parts::split_part;
-use crate::words::number;
 use cc_names::lists::List;
 use cc_names::memory::{NoMemory, Or};
 use cc_names::names::Name;

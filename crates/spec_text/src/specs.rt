@@ -1,13 +1,11 @@
 // Whole config specs.
 
-ghost use Rattle.std.specs.Prelude.{◌≡◌, ◌<◌, ◌^◌, [], ◌∷◌, length, IfSome, MatchOption, slice_get};
-ghost use Rattle.std.specs.List.{position};
+ghost use Rattle.std.specs.Prelude.{◌≡◌, ◌<◌, ◌^◌, length, slice_get};
 ghost use Rattle.cc_names.specs.Answers.{Gives};
 ghost use Rattle.spec_text.specs.Reading.{at_line};
-ghost use Rattle.spec_text.specs.Words.{lines_of, is_newline};
 
 use crate::lines::{Line, Place, read_line};
-use crate::parts::behind;
+use cc_names::cuts::Lines;
 use cc_names::memory::Or;
 use cc_names::refusals::{SpecCause, SpecError};
 use cc_names::selection::Rule;
@@ -27,27 +25,6 @@ impl Model for Spec {
     ghost Value = { List Rule };
 
     ghost view = { λ spec. spec.rules.items };
-}
-
-fn first_newline(bytes: &[u8]) -> Option<usize>
-    ensures place { result ≡ position is_newline bytes.now }
-    ensures within { IfSome result (λ place. place < length bytes.now) }
-{
-    bytes.iter().position(|byte| *byte == b'\n')
-}
-
-/// The first line of a text, and what is left behind it.
-fn split_line(text: &[u8]) -> Option<(&[u8], &[u8])>
-    ensures line { MatchOption result (lines_of text.now ≡ []) (λ line. lines_of text.now ≡ line.0.now ∷ lines_of line.1.now) }
-    ensures less { IfSome result (λ line. length line.1.now < length text.now) }
-{
-    if text.is_empty() {
-        return None;
-    }
-    match first_newline(text) {
-        Some(end) => Some((&text[..end], behind(text, end))),
-        None => Some((text, &[])),
-    }
 }
 
 /// What has been read of a config spec.
@@ -149,14 +126,13 @@ impl Spec {
     {
         let mut reader = Reader::new(alloc);
         let mut number: u32 = 0;
-        let mut left = text;
-        'lines: while let Some((bytes, rest)) = split_line(left) {
+        let mut lines = Lines::of(text);
+        while let Some(bytes) = lines.next() {
             number += 1;
             reader = match reader.next(alloc, number, bytes) {
                 Ok(reader) => reader,
                 Err(fault) => return Err(at_line(number, fault)),
             };
-            left = rest;
         }
         Ok(Spec {
             rules: reader.into_rules(),

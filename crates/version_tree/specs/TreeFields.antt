@@ -11,10 +11,11 @@ use Rattle.version_tree.specs.declared.branches.Branch.{Branch}
 use Rattle.version_tree.specs.declared.contents.Contents.{Contents}
 use Rattle.version_tree.specs.declared.Tree.TheInside.{Inside}
 
--- the row of a change, and of a branch
+-- the row of a change
 abbrev pub row_of_made : Made → ℕ
 row_of_made made = row_of_change made.change
 
+-- the row of a branch
 abbrev pub row_of_branch : Branch → ℕ
 row_of_branch branch = branch.row
 
@@ -48,6 +49,7 @@ pub record InStep (made : List Made) (branches : List Branch) (heads : ℕ → O
   pub kept : (b : ℕ) → versions_on (changes_of made) b ≡ versions_by (branch_at branches b)
   pub in_order : (v : ℕ) → AreInOrder (entries_in (held v))
 
+-- the fields of a tree are in step
 abbrev pub IsInStep : Inside → Type 0
 IsInStep inside =
     InStep (reverse inside.made.items) (reverse inside.branches.items) (get nat_eq inside.newest) (get nat_eq inside.contents)

@@ -13,6 +13,7 @@ bears (View v) deed = bears_on_view v.now deed
 bears (File v path) deed = bears_on_file v.now path.now deed
 bears (Object v path) deed = bears_on_object v.now path.now deed
 
+-- the key of a thing
 abbrev pub key_of_thing : Thing → ℕ
 key_of_thing (View v) = key_of_view v.now
 key_of_thing (File v path) = key_of_file v.now path.now

@@ -5,12 +5,15 @@ use Rattle.cc_names.specs.Keys.{hash_step, key_of}
 use Rattle.cc_names.specs.declared.rows.Deed.{Deed}
 use Rattle.cc_names.specs.declared.rows.Deed.TheVariants as deeds
 
+-- the key of a view
 abbrev pub key_of_view : List ℕ → ℕ
 key_of_view v = key_of 0 v
 
+-- the key of a private file of a view
 abbrev pub key_of_file : List ℕ → List ℕ → ℕ
 key_of_file v path = fold hash_step (key_of 1 v) path
 
+-- the key of the object of a view at a path
 abbrev pub key_of_object : List ℕ → List ℕ → ℕ
 key_of_object v path = fold hash_step (key_of 2 v) path
 

@@ -4,6 +4,7 @@ use Rattle.cc_names.specs.Formed.{Plain}
 use Rattle.cc_names.specs.declared.rows.Deed.{Deed}
 use Rattle.view_lookup.specs.Keyed.{keys_of}
 
+-- Rows, and for how many more marks there is room.
 pub record Shown : Type 0 where
   pub rows : List Plain
   pub room : ℕ

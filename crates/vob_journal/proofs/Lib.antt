@@ -4,4 +4,5 @@ pub mod Journals
 pub mod Passing
 pub mod Phasing
 pub mod Settling
+pub mod Staying
 pub mod Telling

@@ -22,9 +22,10 @@ SettledAtEnd None false settled tail d = settled ≡ is_shut (drop tail (bytes_o
 SettledAtEnd None true settled tail d = Unit {0}
 SettledAtEnd (Some payload) ended settled tail d = Unit {0}
 
--- one device call that succeeded, and one that failed
+-- one device call that succeeded
 abbrev pub OneMore : Sight → Sight → Type 0
 OneMore old new = (new.ticks ≡ old.ticks + 1) × (new.faults ≡ old.faults)
 
+-- one device call that failed
 abbrev pub OneFault : Sight → Sight → Type 0
 OneFault old new = (new.ticks ≡ raised old.ticks) × (new.faults ≡ raised old.faults)

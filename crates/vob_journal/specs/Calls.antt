@@ -8,10 +8,11 @@ use Rattle.vob_journal.specs.Lefts.{settled_after, loose_after}
 use Rattle.vob_journal.specs.Moves.{Moves}
 use Rattle.vob_journal.specs.Tails.{list_at, loose_at, IsTail}
 
--- a piece was written to the journal, and the journal was synced
+-- a piece was written to the journal
 abbrev pub put : ℕ → List ℕ → Device → Device
 put place piece d = added (Wrote 0 place (length piece) (overwritten place piece (bytes_of 0 d))) d
 
+-- a piece was written to the journal, and the journal was synced
 abbrev pub put_down : ℕ → List ℕ → Device → Device
 put_down place piece d = added (Synced 0) (put place piece d)
 

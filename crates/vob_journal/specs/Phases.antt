@@ -25,6 +25,7 @@ pub record IsStaged (list : List (List ℕ)) (payload : List ℕ) (tail : ℕ) (
   pub shut : IsShut list tail file
   pub frame : (rest : List ℕ) × (drop (tail + 1) file.bytes ≡ written payload ++ rest)
 
+-- the same of the journal of a device
 abbrev pub IsStagedAt : ℕ → List ℕ → Device → Type 0
 IsStagedAt tail payload d = IsStaged (list_at tail d) payload tail (file_of 0 d)
 

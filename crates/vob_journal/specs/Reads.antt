@@ -7,6 +7,11 @@ use Rattle.cc_names.specs.declared.memory.Or.{Or}
 use Rattle.cc_names.specs.declared.memory.Or.TheVariants.{NoMemory, Is}
 use Rattle.vob_journal.specs.Moves.{Passes}
 
+-- both files are as they were
+pub record SameFiles (d e : Device) : Type 0 where
+  pub journal : file_of 0 e ≡ file_of 0 d
+  pub objects : file_of 1 e ≡ file_of 1 d
+
 -- the journal stays as it is, and stops leave what a stop before would have left
 pub record Rests (d e : Device) : Type 0 where
   pub same : file_of 0 e ≡ file_of 0 d

@@ -26,10 +26,12 @@ abbrev pub rest_at : Bool → ℕ → Device → List (List ℕ)
 rest_at true tail d = []
 rest_at false tail d = frames (drop tail (bytes_of 0 d))
 
+-- the whole list, where the device is told
 abbrev pub told_list : Option Device → Bool → ℕ → List (List ℕ)
 told_list None ended tail = []
 told_list (Some d) ended tail = list_at tail d ++ rest_at ended tail d
 
+-- what is still to be read, where the device is told
 abbrev pub told_rest : Option Device → Bool → ℕ → List (List ℕ)
 told_rest None ended tail = []
 told_rest (Some d) ended tail = rest_at ended tail d
@@ -39,6 +41,7 @@ abbrev pub loose_of : Bool → Bool → ℕ → Device → List (List ℕ)
 loose_of true settled tail d = loose_at settled tail d
 loose_of false settled tail d = []
 
+-- what a fault left loose, where the device is told
 abbrev pub told_loose : Option Device → Bool → Bool → ℕ → List (List ℕ)
 told_loose None ended settled tail = []
 told_loose (Some d) ended settled tail = loose_of ended settled tail d

@@ -31,10 +31,11 @@ pub record IsAjar (list loose : List (List ℕ)) (tail : ℕ) (file : File) : Ty
   pub untouched : (i : ℕ) → i ≢ tail → covers file.written i ≡ false
   pub behind : frames (1 ∷ drop (tail + 1) file.bytes) ≡ loose
 
--- the list that ends at this tail, and what may be found behind it
+-- the list that ends at this tail
 abbrev pub list_at : ℕ → Device → List (List ℕ)
 list_at tail d = frames (take tail (bytes_of 0 d))
 
+-- what may be found behind this tail, unless it is settled
 abbrev pub loose_at : Bool → ℕ → Device → List (List ℕ)
 loose_at true tail d = []
 loose_at false tail d = frames (1 ∷ drop (tail + 1) (bytes_of 0 d))

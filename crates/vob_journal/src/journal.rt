@@ -60,16 +60,17 @@ impl<D: Disk> Journal<D> {
     ghost use Rattle.vob_journal.specs.Lefts.{loose_after, settled_after};
     ghost use Rattle.vob_journal.specs.Moves.{Moves, Stands};
     ghost use Rattle.vob_journal.specs.Phases.{Spends, calls_of};
-    ghost use Rattle.vob_journal.specs.Reads.{CountsReads};
+    ghost use Rattle.vob_journal.specs.Reads.{SameFiles, CountsReads};
 
     /// The journal of a disk that was handed in. Asks its length, and reads nothing yet. Where that fails the disk
-    /// comes back.
+    /// comes back. Either way both files are as they were.
     pub fn open(disk: D) -> Result<Journal<D>, D>
         requires { IfTold (D.sight disk).told (λ d. file_of 0 d ≡ stable (bytes_of 0 d)) }
         ensures list { IfOk result (λ journal. IfTold (D.sight disk).told (λ d. journal.list ≡ frames (bytes_of 0 d))) }
         ensures begins { IfOk result (λ journal. (journal.rest ≡ journal.list) × (journal.loose ≡ []) × (journal.tail ≡ 0) × (journal.ended ≡ false) × (journal.left ≡ lefts.Nothing)) }
         ensures told { MatchResult result (λ journal. Both (Measures 0) (D.sight disk).told (D.sight journal.disk).told) (λ back. Both Idles (D.sight disk).told (D.sight back).told) }
         ensures moves { IfOk result (λ journal. Both (Moves journal.list [] journal.list journal.loose) (D.sight disk).told (D.sight journal.disk).told) }
+        ensures files { MatchResult result (λ journal. Both SameFiles (D.sight disk).told (D.sight journal.disk).told) (λ back. Both SameFiles (D.sight disk).told (D.sight back).told) }
         ensures counts { MatchResult result (λ journal. OneMore (D.sight disk) (D.sight journal.disk)) (λ back. OneFault (D.sight disk) (D.sight back)) }
     {
         let mut disk = disk;
@@ -88,7 +89,7 @@ impl<D: Disk> Journal<D> {
     }
 
     /// The next payload, or None at the end of the list. Reads in pieces of at least 64 KiB, so that all payloads take
-    /// time linear in the journal.
+    /// time linear in the journal. Whatever it answers, both files are as they were.
     pub fn next(&mut self, alloc: Global) -> Result<Option<Text>, Or<DiskFault>>
         ensures gives { IfOk result (λ found. IfTold (D.sight self.old.disk).told (λ _. Gives found self.old.rest self.new.rest)) }
         ensures ends { Ends result self.old.ended self.new.ended }
@@ -98,6 +99,7 @@ impl<D: Disk> Journal<D> {
         ensures err { OnErr result (self.new.rest ≡ self.old.rest) }
         ensures left { self.new.left ≡ self.old.left }
         ensures moves { Both (Moves self.old.list self.old.loose self.new.list self.new.loose) (D.sight self.old.disk).told (D.sight self.new.disk).told }
+        ensures files { Both SameFiles (D.sight self.old.disk).told (D.sight self.new.disk).told }
         ensures counts { CountsReads 2 result (D.sight self.old.disk) (D.sight self.new.disk) }
     {
         if self.ended {

@@ -2,12 +2,12 @@
 use Rattle.std.proofs.Common.{sym, ◌∙◌, ap, subst}
 use Rattle.base_core.specs.Opening.{FailsToOpen}
 use Rattle.base_core.specs.declared.opening.OpenCause.TheVariants as causes
-use Rattle.base_core.proofs.OpenedBases.{new_on, fails_at_once, fails_to_open, keeps_first, stops_first, opened_backed, is_opened}
+use Rattle.base_core.proofs.OpenedBases.{new_on, fails_at_once, fails_to_open, keeps_first, files_first, stops_first, opened_backed, is_opened}
 use Rattle.base_core.proofs.opening.open_log.Goals as goal
 
 pub returns-in-Err-clause-err : goal.returns-in-Err-clause-err
 returns-in-Err-clause-err g c =
-    fails_at_once (g.D.Disk.sight c.args.disk) (g.D.Disk.sight c.in-Err.disk) (g.met.D.Disk.counted c.args.disk) (g.met.D.Disk.counted c.in-Err.disk) c.requires c.in-Err.ensures.told c.in-Err.ensures.counts
+    fails_at_once (g.D.Disk.sight c.args.disk) (g.D.Disk.sight c.in-Err.disk) (g.met.D.Disk.counted c.args.disk) (g.met.D.Disk.counted c.in-Err.disk) c.requires c.in-Err.ensures.told c.in-Err.ensures.files c.in-Err.ensures.counts
 
 pub returns-in-Err-read_rows-clause-err : goal.returns-in-Err-read_rows-clause-err
 returns-in-Err-read_rows-clause-err g c =
@@ -16,9 +16,9 @@ returns-in-Err-read_rows-clause-err g c =
     let opened = c.in-Ok.journal in
     let read = c.read_rows.new.journal in
     let begins = c.in-Ok.ensures.begins in
-    let new = new_on sight first opened c.in-Ok.ensures.list begins.4 begins.1 c.in-Ok.ensures.moves c.in-Ok.ensures.counts in
+    let new = new_on sight first opened c.in-Ok.ensures.list begins.4 begins.1 c.in-Ok.ensures.moves c.in-Ok.ensures.files c.in-Ok.ensures.counts in
     subst (λ disk. FailsToOpen first c.in-Err-read_rows.cause (sight disk)) (sym c.into_disk.ensures)
-    (fails_to_open first (sight read.disk) c.in-Err-read_rows.cause (g.met.D.Disk.counted c.args.disk) (keeps_first sight first opened read new c.in-Err-read_rows.ensures.reads)
+    (fails_to_open first (sight read.disk) c.in-Err-read_rows.cause (g.met.D.Disk.counted c.args.disk) (keeps_first sight first opened read new c.in-Err-read_rows.ensures.reads) (files_first sight first opened read new c.in-Err-read_rows.ensures.reads)
     (stops_first sight first c.in-Err-read_rows.cause opened read new c.in-Err-read_rows.ensures.err))
 
 pub open-requires-2-clause-backed : goal.open-requires-2-clause-backed
@@ -27,7 +27,7 @@ open-requires-2-clause-backed g c =
     let first = sight c.args.disk in
     let opened = c.in-Ok.journal in
     let begins = c.in-Ok.ensures.begins in
-    let new = new_on sight first opened c.in-Ok.ensures.list begins.4 begins.1 c.in-Ok.ensures.moves c.in-Ok.ensures.counts in
+    let new = new_on sight first opened c.in-Ok.ensures.list begins.4 begins.1 c.in-Ok.ensures.moves c.in-Ok.ensures.files c.in-Ok.ensures.counts in
     let rows = c.in-Ok-read_rows.ensures in
     opened_backed sight first (record { counts = c.counts.result; tells = c.tells.result }) c.in-Ok-read_rows.rows.rows opened c.read_rows.new.journal
     (g.met.D.Disk.counted c.args.disk) c.counts.ensures.ticks c.counts.ensures.faults c.tells.ensures new rows.reads rows.sound rows.ok
@@ -38,7 +38,7 @@ returns-in-Ok-open-clause-ok g c =
     let first = sight c.args.disk in
     let opened = c.in-Ok.journal in
     let begins = c.in-Ok.ensures.begins in
-    let new = new_on sight first opened c.in-Ok.ensures.list begins.4 begins.1 c.in-Ok.ensures.moves c.in-Ok.ensures.counts in
+    let new = new_on sight first opened c.in-Ok.ensures.list begins.4 begins.1 c.in-Ok.ensures.moves c.in-Ok.ensures.files c.in-Ok.ensures.counts in
     let rows = c.in-Ok-read_rows.ensures in
     is_opened sight first (record { counts = c.counts.result; tells = c.tells.result }) c.in-Ok-read_rows.rows.rows opened c.read_rows.new.journal
     (g.met.D.Disk.counted c.args.disk) c.counts.ensures.ticks c.counts.ensures.faults c.tells.ensures new rows.reads rows.sound rows.ok c.in-Ok-open.log c.in-Ok-open.ensures.ok
@@ -50,6 +50,6 @@ returns-in-Err-open-clause-err g c =
     let opened = c.in-Ok.journal in
     let read = c.read_rows.new.journal in
     let begins = c.in-Ok.ensures.begins in
-    let new = new_on sight first opened c.in-Ok.ensures.list begins.4 begins.1 c.in-Ok.ensures.moves c.in-Ok.ensures.counts in
+    let new = new_on sight first opened c.in-Ok.ensures.list begins.4 begins.1 c.in-Ok.ensures.moves c.in-Ok.ensures.files c.in-Ok.ensures.counts in
     subst (λ disk. FailsToOpen first causes.NoMemory (sight disk)) (sym (c.into_disk-in-Err-open.ensures ∙ ap (λ journal. journal.disk) c.in-Err-open.ensures.err))
-    (fails_to_open first (sight read.disk) causes.NoMemory (g.met.D.Disk.counted c.args.disk) (keeps_first sight first opened read new c.in-Ok-read_rows.ensures.reads) (c.in-Ok-read_rows.ensures.sound ∙ new.counts.1))
+    (fails_to_open first (sight read.disk) causes.NoMemory (g.met.D.Disk.counted c.args.disk) (keeps_first sight first opened read new c.in-Ok-read_rows.ensures.reads) (files_first sight first opened read new c.in-Ok-read_rows.ensures.reads) (c.in-Ok-read_rows.ensures.sound ∙ new.counts.1))

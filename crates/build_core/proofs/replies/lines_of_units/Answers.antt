@@ -5,7 +5,7 @@ use Rattle.cc_names.specs.declared.replies.UnitLine.{UnitLine}
 use Rattle.cc_names.specs.declared.units.Unit.{Unit}
 use Rattle.legal_history.specs.Base.{Base}
 use Rattle.legal_history.specs.Builds.{Build, came_to, object_of}
-use Rattle.fresh_builds.specs.Replied.{lines_from, lines_of, told_targets, word_of_came}
+use Rattle.legal_history.specs.Replied.{lines_from, lines_of, told_targets, word_of_came}
 use Rattle.build_core.proofs.replies.lines_of_units.Goals as goal
 
 one_more : (b : Base) (build : Build) (n : ℕ) (unit : Unit) (targets : List (List ℕ)) (rest more : List Unit) (all before next : List UnitLine) →

@@ -1,5 +1,5 @@
 use Rattle.std.proofs.Common.{◌≡◌, ◌+◌, ◌++◌, length, reverse}
-use Rattle.fresh_builds.specs.Replied.{lines_from}
+use Rattle.legal_history.specs.Replied.{lines_from}
 use Rattle.build_core.proofs.replies.lines_of_units.Given as goal
 
 abbrev pub invariant-loop-unit : goal.invariant-loop-unit

@@ -1,6 +1,6 @@
 use Rattle.std.proofs.Common.{◌≡◌, ◌++◌, length, reverse}
 use Rattle.legal_history.specs.Builds.{came_to}
-use Rattle.fresh_builds.specs.Replied.{lines_of, word_of_came}
+use Rattle.legal_history.specs.Replied.{lines_of, word_of_came}
 use Rattle.build_core.proofs.replies.push_lines.Given as goal
 
 abbrev pub invariant-loop-path : goal.invariant-loop-path

@@ -1,8 +1,8 @@
 use Rattle.std.proofs.Common.{◌≡◌, ◌+◌, ◌-◌, ◌∷◌, ℕ, List, length, take, drop, ap, sym, ◌∙◌, arith}
 use Rattle.std.specs.List.{slice_split}
 use Rattle.std.proofs.lemmas.Grind.{common_steps}
-use Rattle.cc_names.proofs.Cuts.{slice_split-at, slice_split-none}
-use Rattle.build_script.specs.Lines.{is_newline}
+use Rattle.cc_names.specs.Cuts.{is_newline}
+use Rattle.cc_names.proofs.Splits.{slice_split-at, slice_split-none}
 use Rattle.build_script.proofs.scripts.split_line.Goals as goal
 
 -- what `&xs[n..]` is

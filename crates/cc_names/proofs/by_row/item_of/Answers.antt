@@ -1,6 +1,5 @@
-use Rattle.std.proofs.Common.{◌≡◌, ◌<◌, length, get_or, slice_get, eqb, Some, None, sym, ap, ◌∙◌, arith, rules}
+use Rattle.std.proofs.Common.{◌≡◌, ◌<◌, length, get_or, slice_get, eqb, Some, None, sym, ap, ◌∙◌, rules}
 use Rattle.std.specs.Prelude.{find, option_copied}
-use Rattle.std.proofs.lemmas.Grind.{common_steps}
 use Rattle.std.proofs.lemmas.Option.{slice_get-get_or}
 use Rattle.cc_names.proofs.ByRows.{find-reverse}
 use Rattle.cc_names.proofs.by_row.item_of.Goals as goal

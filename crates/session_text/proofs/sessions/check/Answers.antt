@@ -1,5 +1,5 @@
 use Rattle.std.proofs.Common.{length, refl, ap, arith}
-use Rattle.session_text.proofs.Parts.{length-lines_of}
+use Rattle.cc_names.proofs.LinesAndWords.{length-lines_of}
 use Rattle.session_text.proofs.sessions.check.Goals as goal
 
 pub loop-line-init : goal.loop-line-init

@@ -1,6 +1,6 @@
 use Rattle.std.proofs.Common.{◌≡◌, ◌≤◌, ◌+◌, length}
+use Rattle.cc_names.specs.Cuts.{lines_of}
 use Rattle.session_text.specs.Causes.{first_error, nothing}
-use Rattle.session_text.specs.Cuts.{lines_of}
 use Rattle.session_text.proofs.sessions.check.Given as goal
 
 abbrev pub invariant-loop-line : goal.invariant-loop-line

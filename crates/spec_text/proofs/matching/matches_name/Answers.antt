@@ -1,4 +1,4 @@
-use Rattle.std.proofs.Common.{◌≡◌, sym, ◌∙◌, eq-eqb}
+use Rattle.std.proofs.Common.{sym, ◌∙◌, eq-eqb}
 use Rattle.std.proofs.lemmas.Bool.{ne_eqb}
 use Rattle.spec_text.proofs.Trying.{meets, stands, held_by}
 use Rattle.spec_text.proofs.matching.matches_name.Goals as goal

@@ -1,5 +1,5 @@
 use Rattle.std.specs.Option.{option_copied}
-use Rattle.spec_text.specs.Words.{parts_left}
+use Rattle.spec_text.specs.Parts.{parts_left}
 use Rattle.spec_text.proofs.Trying.{meets, stands, names_held_by}
 use Rattle.spec_text.proofs.matching.matches_where.Goals as goal
 

@@ -1,8 +1,5 @@
-use Rattle.std.proofs.Common.{◌≡◌, ◌∷◌, ◌==◌, ℕ, take, sym, ◌∙◌, ap}
-use Rattle.std.specs.Option.{option_copied}
-use Rattle.std.specs.List.{slice_split}
-use Rattle.spec_text.specs.Words.{parts_left}
-use Rattle.spec_text.proofs.Cuts.{slice_split-at, slice_split-none}
+use Rattle.std.proofs.Common.{◌==◌, ℕ, sym, ◌∙◌}
+use Rattle.cc_names.proofs.Splits.{slice_split-at, slice_split-none}
 use Rattle.spec_text.proofs.parts.split_part.Goals as goal
 
 pub returns-in-Some-end_of_part : goal.returns-in-Some-end_of_part

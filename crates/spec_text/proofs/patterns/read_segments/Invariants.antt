@@ -1,8 +1,8 @@
-use Rattle.std.proofs.Common.{◌≡◌, ◌++◌, ℕ, List, length, map}
+use Rattle.std.proofs.Common.{◌≡◌, ◌++◌, length, map}
 use Rattle.std.specs.List.{list_all}
 use Rattle.std.specs.Option.{option_copied}
 use Rattle.spec_text.specs.Patterns.{is_segment, segment_of}
-use Rattle.spec_text.specs.Words.{parts_left}
+use Rattle.spec_text.specs.Parts.{parts_left}
 use Rattle.spec_text.proofs.patterns.read_segments.Given as goal
 
 -- the parts so far are segments, and these are kept

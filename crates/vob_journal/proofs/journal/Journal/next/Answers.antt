@@ -6,8 +6,10 @@ use Rattle.vob_journal.specs.Answered.{Gives}
 use Rattle.vob_journal.specs.Found.{Finds, IsWithin, ShowsOn}
 use Rattle.vob_journal.specs.Frames.{head, is_shut}
 use Rattle.vob_journal.specs.Moves.{Moves}
+use Rattle.vob_journal.specs.Reads.{SameFiles}
 use Rattle.vob_journal.specs.Shown.{told_list, told_rest, told_loose, IsKept}
 use Rattle.vob_journal.proofs.Journals.{kept_now, same_moves, reading_of, missed_list, rest_moves, told_more, more_list, more_rest, ended_list, ended_loose, ended_rest, nothing_loose}
+use Rattle.vob_journal.proofs.Staying.{told_stay, told_rests}
 use Rattle.vob_journal.proofs.journal.Journal.next.Goals as goal
 
 pub returns-then-self-clause-moves : goal.returns-then-self-clause-moves
@@ -169,3 +171,18 @@ returns-in-Err-clause-moves g c =
     (subst (λ b. Both (Moves (told_list old b tail) (told_loose old b settled tail) (told_list new b tail) (told_loose new b settled tail)) old new) (sym c.if-self.false)
     (subst (λ l. Both (Moves (told_list old false tail) l (told_list new false tail) (told_loose new false settled tail)) old new) (sym (nothing_loose old settled tail))
     (subst (λ l. Both (Moves (told_list old false tail) [] (told_list new false tail) l) old new) (sym (nothing_loose new settled tail)) moves)))
+
+pub returns-then-self-clause-files : goal.returns-then-self-clause-files
+returns-then-self-clause-files g c = told_stay _
+
+pub returns-in-Ok-Payload-clause-files : goal.returns-in-Ok-Payload-clause-files
+returns-in-Ok-Payload-clause-files g c =
+    subst (λ s. Both SameFiles (g.D.Disk.sight s.disk).told (g.D.Disk.sight c.read_frame.new.disk).told) c.self.view_is (told_rests _ _ c.in-Ok-Payload.ensures.rests)
+
+pub returns-in-Ok-End-clause-files : goal.returns-in-Ok-End-clause-files
+returns-in-Ok-End-clause-files g c =
+    subst (λ s. Both SameFiles (g.D.Disk.sight s.disk).told (g.D.Disk.sight c.read_frame.new.disk).told) c.self.view_is (told_rests _ _ c.in-Ok-End.ensures.rests)
+
+pub returns-in-Err-clause-files : goal.returns-in-Err-clause-files
+returns-in-Err-clause-files g c =
+    subst (λ s. Both SameFiles (g.D.Disk.sight s.disk).told (g.D.Disk.sight c.read_frame.new.disk).told) c.self.view_is (told_rests _ _ c.in-Err.ensures.rests)

@@ -1,5 +1,6 @@
 use Rattle.std.proofs.Common.{refl, arith}
 use Rattle.vob_journal.proofs.Journals.{opened_reading, opened_list, opened_rest, nothing_loose, opened_moves}
+use Rattle.vob_journal.proofs.Staying.{told_measured, told_idle}
 use Rattle.vob_journal.proofs.journal.Journal.open.Goals as goal
 
 pub invariant_of-result : goal.invariant_of-result
@@ -14,3 +15,9 @@ returns-in-Ok-clause-begins g c = (opened_rest _, nothing_loose _ _ _, refl, ref
 
 pub returns-in-Ok-clause-moves : goal.returns-in-Ok-clause-moves
 returns-in-Ok-clause-moves g c = opened_moves _ _ c.requires c.in-Ok.ensures.told
+
+pub returns-in-Ok-clause-files : goal.returns-in-Ok-clause-files
+returns-in-Ok-clause-files g c = told_measured _ _ c.in-Ok.ensures.told
+
+pub returns-in-Err-clause-files : goal.returns-in-Err-clause-files
+returns-in-Err-clause-files g c = told_idle _ _ c.in-Err.ensures.told

@@ -1,5 +1,0 @@
-use Rattle.base_laws.proofs.laws.a_checkout_is_made_from_a_version.Goals as goal
-use Rattle.legal_history.proofs.Origins.{out_is_version}
-
-pub returns : goal.returns
-returns c = out_is_version

@@ -1,5 +1,0 @@
-use Rattle.base_laws.proofs.laws.a_held_object_is_live.Goals as goal
-use Rattle.base_laws.proofs.HeldObjects.{held_is_live}
-
-pub returns : goal.returns
-returns c = held_is_live

@@ -1,9 +1,0 @@
-use Rattle.base_laws.proofs.laws.reaching_is_by_a_walk.Goals as goal
-use Rattle.base_laws.proofs.Walks.{reached_by_walk}
-use Rattle.base_laws.proofs.WalksFound.{walk_is_found}
-
-pub returns-clause-walk : goal.returns-clause-walk
-returns-clause-walk c = reached_by_walk
-
-pub returns-clause-found : goal.returns-clause-found
-returns-clause-found c = walk_is_found

@@ -1,2 +1,0 @@
-pub mod Commanded
-pub mod Replied

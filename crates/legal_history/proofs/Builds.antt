@@ -1,0 +1,21 @@
+-- What holds of active builds: they agree with the build from nothing.
+pub mod AgreeStays
+pub mod AllBuilds
+pub mod BuildSteps
+pub mod CommandStays
+pub mod CommandSteps
+pub mod EntriesFit
+pub mod FineBuilds
+pub mod FreshRuns
+pub mod FreshSeen
+pub mod NeededAgree
+pub mod Pairs
+pub mod PlainRules
+pub mod PlainUnits
+pub mod Published
+pub mod ReadyUnits
+pub mod RepliesAgree
+pub mod Room
+pub mod RoomSteps
+pub mod UnitLines
+pub mod UnitsCome

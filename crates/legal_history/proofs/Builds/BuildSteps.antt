@@ -1,0 +1,105 @@
+-- A lawful step leaves every active build agreeing with the build from nothing, in a view that exists.
+use Rattle.std.proofs.Common.{◌≡◌, refl, sym, subst, ◌∙◌, ℕ, true, Some, None, Ok, List, ◌∷◌}
+use Rattle.std.specs.Prelude.{is_some}
+use Rattle.cc_names.specs.Formed.{Plain}
+use Rattle.cc_names.specs.Last.{left}
+use Rattle.cc_names.specs.declared.refusals.UnitFault.TheVariants as unit_faults
+use Rattle.cc_names.specs.declared.rows.Deed.{Deed}
+use Rattle.cc_names.specs.declared.rows.Deed.TheVariants as deeds
+use Rattle.cc_names.specs.declared.rows.Tag.{Tag}
+use Rattle.cc_names.specs.declared.steps.Step.{Step}
+use Rattle.cc_names.specs.declared.steps.Step.TheVariants as steps
+use Rattle.cc_names.specs.declared.steps.Told.{Told}
+use Rattle.cc_names.specs.declared.steps.Told.TheVariants as told
+use Rattle.cc_names.specs.declared.steps.UnitEnd.{UnitEnd}
+use Rattle.cc_names.specs.declared.steps.UnitEnd.TheVariants as ends
+use Rattle.cc_names.specs.declared.units.Unit.{Unit}
+use Rattle.legal_history.specs.Base.{size}
+use Rattle.legal_history.specs.Builds.{Build, Ended, Given, build_of, object_of, unit_with_first}
+use Rattle.legal_history.specs.Decisions.{Makes, Begins}
+use Rattle.legal_history.specs.Fits.{is_base}
+use Rattle.legal_history.specs.Fresh.{texts}
+use Rattle.legal_history.specs.States.{State, decided, build_by}
+use Rattle.legal_history.specs.Steps.{after, after_step, noted, came_by_starting, active_after, begun}
+use Rattle.legal_history.specs.Committing.{MakesRow}
+use Rattle.legal_history.specs.Stories.{Lawful, LawfulStep}
+use Rattle.legal_history.specs.UnitTurns.{Settles, EndsEarly, Starts}
+use Rattle.legal_history.specs.Turns.{came_by_start, unreadable}
+use Rattle.legal_history.proofs.Builds.FreshSeen.{early_same}
+use Rattle.legal_history.proofs.Stories.Goes.{of_lane}
+use Rattle.legal_history.proofs.Builds.AgreeStays.{begins_so}
+use Rattle.legal_history.proofs.Builds.AllBuilds.{Each, each_without, each_begun, each_faulted}
+use Rattle.legal_history.proofs.Builds.PlainUnits.{units_in_order}
+use Rattle.legal_history.proofs.Builds.Published.{is_publish}
+use Rattle.legal_history.proofs.Builds.ReadyUnits.{ready_by}
+use Rattle.legal_history.proofs.Stories.DecidedSteps.{decided_of, says_of, none_chosen, begun_by, begun_is}
+use Rattle.legal_history.proofs.Builds.UnitsCome.{start_came, start_may, early_may, fails_may, given_may}
+use Rattle.legal_history.proofs.Builds.FineBuilds.{IsFine, fine_stays, some_same, waited_fine, faulted_agrees}
+
+early_fine : (s : State) (tag : Tag) (n : ℕ) (end : UnitEnd) → Each (λ lane. IsFine s.base) s.active → EndsEarly s tag n end → object_of (Some (Ended end)) ≡ None →
+    Each (λ lane. IsFine s.base) (noted s.active tag.lane (λ b. Some n) (Ended end))
+early_fine s tag n end h e plain =
+    let agrees = (h.holds tag.lane e.build (of_lane s tag e.build e.waits.active)).agrees in
+    waited_fine s s.base tag n e.build e.unit (λ b. Some n) (Ended end) h e.waits refl
+    (early_may s.base e.build n e.unit end agrees e.waits.is_unit e.waits.waits (ready_by e.build e.unit e.ready) e.ends plain)
+
+settled_fine : (s : State) (tag : Tag) (n : ℕ) (end : UnitEnd) → Each (λ lane. IsFine s.base) s.active → Settles s tag n end → Each (λ lane. IsFine s.base) (noted s.active tag.lane (λ b. Some n) (Ended end))
+settled_fine s tag n (ends.Kept id) h e = absurd (none_chosen id e.chosen)
+settled_fine s tag n (ends.Failed (unit_faults.Script fault)) h e =
+    let agrees = (h.holds tag.lane e.build (of_lane s tag e.build e.running.waits.active)).agrees in
+    waited_fine s s.base tag n e.build e.unit (λ b. Some n) (Ended (ends.Failed (unit_faults.Script fault))) h e.running.waits refl
+    (fails_may s.base e.build n e.unit fault agrees e.running.waits.is_unit e.running.waits.waits e.running.started e.fails)
+settled_fine s tag n (ends.Failed fault) h e = early_fine s tag n (ends.Failed fault) h e refl
+settled_fine s tag n (ends.Blocked path) h e = early_fine s tag n (ends.Blocked path) h e refl
+settled_fine s tag n ends.Bare h e = early_fine s tag n ends.Bare h e refl
+
+started_fine : (s : State) (tag : Tag) (n : ℕ) → Each (λ lane. IsFine s.base) s.active → Starts s tag n → Each (λ lane. IsFine s.base) (noted s.active tag.lane (λ b. Some n) (came_by_starting (build_of s.active tag.lane) n))
+started_fine s tag n h e =
+    let waits = e.open_unit.waits in
+    let there = of_lane s tag e.build waits.active in
+    let agrees = (h.holds tag.lane e.build there).agrees in
+    let ready = ready_by e.build e.unit e.open_unit.ready in
+    subst (λ came. Each (λ lane. IsFine s.base) (noted s.active tag.lane (λ b. Some n) came)) (sym (start_came s tag n e.build e.unit there waits.is_unit))
+    (waited_fine s s.base tag n e.build e.unit (λ b. Some n) (came_by_start (unreadable e.unit)) h waits refl
+    (start_may s.base e.build n e.unit agrees waits.is_unit waits.waits ready (sym (early_same s.base e.build n e.unit agrees waits.is_unit ready) ∙ e.open_unit.runs)))
+
+begun_fine : (s : State) (tag : Tag) (us : List Unit) → is_base s.base ≡ true → decided s tag ≡ Some (Ok (Begins us)) → (build : Build) → begun s tag ≡ Some build → IsFine s.base build
+begun_fine s tag us base h build is =
+    let says = says_of s tag (Begins us) (decided_of s tag (Begins us) h) in
+    let made : Some (begun_by s tag us says.view says.own_only says.rebuild) ≡ Some build = sym (begun_is s tag us h) ∙ is in
+    subst (IsFine s.base) (some_same made) (record {
+      agrees = begins_so s.base (begun_by s tag us says.view says.own_only says.rebuild)
+          (record { rows = refl; base = base; in_order = units_in_order (texts s.base says.view) says.file says.macros says.goals us says.of_makefile; nothing = refl });
+      there = says.there;
+    })
+
+told_fine : (s : State) (step : Step) → is_base s.base ≡ true → Each (λ lane. IsFine s.base) s.active → LawfulStep s step → Each (λ lane. IsFine (after_step s step).base) (after_step s step).active
+told_fine s (steps.Refused tag refusal) base h e = h
+told_fine s (steps.Answer tag text) base h e = h
+told_fine s (steps.Begin tag rows count) base h e = each_begun (λ lane. IsFine s.base) s.active tag.lane (begun s tag) h (begun_fine s tag e.units base e.chosen)
+told_fine s (steps.Start tag n) base h e = started_fine s tag n h e
+told_fine s (steps.Settled tag n end) base h e = settled_fine s tag n end h e
+told_fine s (steps.End tag) base h e = each_without (λ lane. IsFine s.base) (λ lane. IsFine s.base) s.active tag.lane h (λ lane build apart fine. fine)
+told_fine s (steps.Fault tag left before faults tick) base h e = each_faulted (λ lane. IsFine s.base) s.active tag.lane (build_by s tag) h (λ build is.
+    let fine = h.holds tag.lane build (of_lane s tag build is) in
+    record { agrees = faulted_agrees s.base build fine.agrees; there = fine.there })
+told_fine s step base h e = absurd e
+
+committed_fine : (s : State) (tag : Tag) (moment : ℕ) (deed : Deed) → Each (λ lane. IsFine s.base) s.active → MakesRow s (record { tag = tag; moment = moment; deed = deed }) deed →
+    Each (λ lane. IsFine (record { tag = tag; moment = moment; deed = deed } ∷ s.base)) (active_after s.base s.active tag.lane deed)
+committed_fine s tag moment (deeds.Publish view targets script entries outputs) h e =
+    let row : Plain = record { tag = tag; moment = moment; deed = deeds.Publish view targets script entries outputs } in
+    let agrees = (h.holds tag.lane e.build (of_lane s tag e.build e.running.waits.active)).agrees in
+    waited_fine s (row ∷ s.base) tag e.n e.build e.unit (λ build. unit_with_first build targets) (Given (size s.base)) (fine_stays s row tt h) e.running.waits e.place
+    (given_may row s.base e.build e.n e.unit agrees e.running.waits.is_unit e.running.waits.waits e.running.started
+    (is_publish s.base e.build e.n e.unit (deeds.Publish view targets script entries outputs) e.made))
+committed_fine s tag moment (deeds.Wink view id) h e = absurd (none_chosen id e.chosen)
+committed_fine s tag moment deed h e =
+    fine_stays s (record { tag = tag; moment = moment; deed = deed }) (says_of s tag (Makes deed) (decided_of s tag (Makes deed) e)).spares h
+
+-- Each lawful step leaves each active build fine.
+pub step_fine : (s : State) (x : Told) → is_base s.base ≡ true → is_some s.opened ≡ true → Each (λ lane. IsFine s.base) s.active → Lawful s x → Each (λ lane. IsFine (after s x).base) (after s x).active
+step_fine s (told.Opened rows counts tells) base o h e = absurd (let first = e.first in cc)
+step_fine s (told.Plan phase moment) base o h e = h
+step_fine s (told.Commit row tick) base o h e = committed_fine s row.tag row.moment row.deed h e.may.made
+step_fine s (told.Other step) base o h e = told_fine s step base h e

@@ -1,0 +1,10 @@
+-- What holds of what is decided of a command.
+pub mod CheckoutFits
+pub mod Decided
+pub mod DecidedFits
+pub mod DecidedIdle
+pub mod DecidedSays
+pub mod DirectoryFits
+pub mod ElementFits
+pub mod FileFits
+pub mod Passed

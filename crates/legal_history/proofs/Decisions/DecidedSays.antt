@@ -1,0 +1,129 @@
+-- What it says of a command that something was decided on it: of a row that there is room for one more and that no view
+-- goes in which a build is active; of a build what its units are.
+use Rattle.std.proofs.Common.{◌≡◌, refl, subst, ℕ, ◌+◌, ◌≤◌, Bool, true, false, Option, Some, None, Result, Ok, Err, List, [], ◌∷◌, ◌++◌, length}
+use Rattle.std.proofs.lemmas.Bool.{ltb-false}
+use Rattle.std.specs.Bool.{⊤}
+use Rattle.std.specs.Prelude.{if◌then◌else◌, option_map}
+use Rattle.cc_names.specs.declared.commands.Command.{Command}
+use Rattle.cc_names.specs.declared.commands.Command.TheVariants as commands
+use Rattle.cc_names.specs.declared.commands.Macro.{Macro}
+use Rattle.cc_names.specs.declared.refusals.Refusal.{Refusal}
+use Rattle.cc_names.specs.declared.refusals.Refusal.TheVariants.{Building}
+use Rattle.cc_names.specs.declared.rows.Deed.{Deed}
+use Rattle.cc_names.specs.declared.rows.Deed.TheVariants as deeds
+use Rattle.cc_names.specs.declared.rows.Placed.{Placed}
+use Rattle.cc_names.specs.declared.rows.Tag.{Tag}
+use Rattle.cc_names.specs.declared.selection.Seen.{Seen}
+use Rattle.cc_names.specs.declared.selection.Seen.TheVariants.{Private, Element, Unselected, Nothing}
+use Rattle.cc_names.specs.declared.units.Unit.{Unit}
+use Rattle.make_text.specs.Units.{units}
+use Rattle.legal_history.specs.Base.{size}
+use Rattle.legal_history.specs.Builds.{Active, building, reserved}
+use Rattle.legal_history.specs.CheckoutLines.{checkout_deed}
+use Rattle.legal_history.specs.Conditions.{exists}
+use Rattle.legal_history.specs.Decisions.{Decision, Makes, Answers, Begins, Scene, first_refusal, unless_refused, needs_room, makes, answers}
+use Rattle.legal_history.specs.FileLines.{save_deed}
+use Rattle.legal_history.specs.Fits.{row_limit}
+use Rattle.legal_history.specs.Fresh.{texts}
+use Rattle.legal_history.specs.LabelLines.{labels_or_nothing}
+use Rattle.legal_history.specs.ObjectLines.{scrub_of, clearmake_tests, build_unless}
+use Rattle.legal_history.proofs.Decisions.Passed.{AllPass, all_pass, front_passes, rest_passes, unless_passes}
+
+-- a view that goes is none in which a build is active
+abbrev pub Spares : Active → Deed → Type 0
+Spares active (deeds.Rmview v) = building active v ≡ None
+Spares active deed = ⊤
+
+-- a row that was decided
+pub record IsMade (s : Scene) (deed : Deed) : Type 0 where
+  pub room : size s.base + reserved s.active + 1 ≤ row_limit
+  pub spares : Spares s.active deed
+
+-- a build that was decided: by a command that builds, in a view that exists, of the units of its makefile
+pub record BeginsBy (s : Scene) (command : Command) (us : List Unit) : Type 0 where
+  pub view : List ℕ
+  pub file : Option (List ℕ)
+  pub own_only : Bool
+  pub rebuild : Bool
+  pub jobs : ℕ
+  pub macros : List Macro
+  pub goals : List (List ℕ)
+  pub is : command ≡ commands.Clearmake view file own_only rebuild jobs macros goals
+  pub there : exists s.base view ≡ true
+  pub of_makefile : units (texts s.base view) file macros goals ≡ Ok us
+  pub room : size s.base + reserved s.active + length us ≤ row_limit
+
+abbrev pub Says : Scene → Command → Decision → Type 0
+Says s command (Makes deed) = IsMade s deed
+Says s command (Answers text) = ⊤
+Says s command (Begins us) = BeginsBy s command us
+
+-- a decision that no test refused
+passed : (refusal : Option Refusal) (decided d : Decision) → unless_refused refusal decided ≡ Ok d → (refusal ≡ None) × (decided ≡ d)
+passed (Some refusal) decided d h = absurd (cc)
+passed None decided d h = (refl, cc)
+
+not_refused : (b : Bool) (refusal : Refusal) → (if b then Some refusal else None) ≡ None → b ≡ false
+not_refused true refusal h = absurd (cc)
+not_refused false refusal h = refl
+
+has_room : (s : Scene) (rows : ℕ) → needs_room s rows ≡ None → size s.base + reserved s.active + rows ≤ row_limit
+has_room s rows h = ltb-false _ _ (not_refused _ _ h)
+
+pub by_row : (s : Scene) (command : Command) (tests : List (Option Refusal)) (deed : Deed) (d : Decision) → (AllPass tests → Spares s.active deed) → makes s tests deed ≡ Ok d → Says s command d
+by_row s command tests deed d spares h =
+    let p = passed (first_refusal (tests ++ needs_room s 1 ∷ [])) (Makes deed) d h in
+    let all = all_pass (tests ++ needs_room s 1 ∷ []) p.0 in
+    subst (Says s command) p.1 (record {
+      room = has_room s 1 (rest_passes tests (needs_room s 1 ∷ []) all).0;
+      spares = spares (front_passes tests (needs_room s 1 ∷ []) all);
+    })
+
+pub by_answer : (s : Scene) (command : Command) (tests : List (Option Refusal)) (text : List ℕ) (d : Decision) → answers tests text ≡ Ok d → Says s command d
+by_answer s command tests text d h = subst (Says s command) (passed (first_refusal tests) (Answers text) d h).1 tt
+
+pub was_idle : (o : Option Tag) → option_map Building o ≡ None → o ≡ None
+was_idle None h = refl
+was_idle (Some tag) h = absurd (cc)
+
+pub saved_spares : (active : Active) (v path text : List ℕ) (seen : Seen) → Spares active (save_deed v path text seen)
+saved_spares active v path text (Element e picked) = tt
+saved_spares active v path text (Unselected e) = tt
+saved_spares active v path text (Private row) = tt
+saved_spares active v path text Nothing = tt
+
+pub checkout_spares : (active : Active) (v : List ℕ) (unreserved : Bool) (seen : Seen) (o : Option (List ℕ)) → Spares active (checkout_deed v unreserved seen o)
+checkout_spares active v unreserved seen None = tt
+checkout_spares active v unreserved seen (Some name) = tt
+
+pub by_labels : (s : Scene) (command : Command) (tests : List (Option Refusal)) (label : List ℕ) (placed : List Placed) (d : Decision) → labels_or_nothing s tests label placed ≡ Ok d → Says s command d
+by_labels s command tests label [] d h = by_answer s command tests [] d h
+by_labels s command tests label (one ∷ more) d h = by_row s command tests (deeds.Labels label (one ∷ more)) d (λ p. tt) h
+
+pub by_scrub : (s : Scene) (command : Command) (objects : List ℕ) (d : Decision) → scrub_of s objects ≡ Ok d → Says s command d
+by_scrub s command [] d h = by_answer s command [] [] d h
+by_scrub s command (id ∷ ids) d h = by_row s command [] (deeds.Scrub (id ∷ ids)) d (λ p. tt) h
+
+pub by_build : (s : Scene) (v : List ℕ) (file : Option (List ℕ)) (own_only rebuild : Bool) (jobs : ℕ) (macros : List Macro) (goals : List (List ℕ)) (d : Decision) →
+    build_unless s (first_refusal (clearmake_tests s v)) (units (texts s.base v) file macros goals) ≡ Ok d → Says s (commands.Clearmake v file own_only rebuild jobs macros goals) d
+by_build s v file own_only rebuild jobs macros goals d h = by (first_refusal (clearmake_tests s v)) (units (texts s.base v) file macros goals) refl refl h
+  where
+    by : (o : Option Refusal) (r : Result (List Unit) Refusal) → first_refusal (clearmake_tests s v) ≡ o → units (texts s.base v) file macros goals ≡ r → build_unless s o r ≡ Ok d →
+        Says s (commands.Clearmake v file own_only rebuild jobs macros goals) d
+    by (Some refusal) r passes is h = absurd (cc)
+    by None (Err refusal) passes is h = absurd (cc)
+    by None (Ok us) passes is h =
+        let p = passed (needs_room s (length us)) (Begins us) d h in
+        subst (Says s (commands.Clearmake v file own_only rebuild jobs macros goals)) p.1 (record {
+          view = v;
+          file = file;
+          own_only = own_only;
+          rebuild = rebuild;
+          jobs = jobs;
+          macros = macros;
+          goals = goals;
+          is = refl;
+          there = unless_passes _ _ (all_pass (clearmake_tests s v) passes).0;
+          of_makefile = is;
+          room = has_room s (length us) p.0;
+        })

@@ -1,0 +1,103 @@
+-- The rows of the commands on views and private files fit.
+use Rattle.std.proofs.Common.{◌≡◌, refl, ap, subst, ◌∙◌, ℕ, Bool, true, false, not, Option, Some, None, Result, Ok, Err, List, [], ◌∷◌}
+use Rattle.std.proofs.lemmas.List.{reverse-reverse}
+use Rattle.std.specs.Prelude.{is_ok, reverse}
+use Rattle.cc_names.specs.declared.refusals.Refusal.{Refusal}
+use Rattle.cc_names.specs.declared.refusals.SpecError.{SpecError}
+use Rattle.cc_names.specs.declared.rows.Deed.{Deed}
+use Rattle.cc_names.specs.declared.rows.Deed.TheVariants as deeds
+use Rattle.cc_names.specs.declared.rows.TypeKind.{TypeKind}
+use Rattle.cc_names.specs.declared.selection.Rule.{Rule}
+use Rattle.cc_names.specs.declared.selection.Seen.{Seen}
+use Rattle.cc_names.specs.declared.selection.Seen.TheVariants.{Private, Element, Unselected, Nothing}
+use Rattle.spec_text.specs.Specs.{rules_of}
+use Rattle.cc_names.specs.Paths.{joined, names_of}
+use Rattle.cc_names.proofs.PathParts.{joined-names_of}
+use Rattle.cc_names.specs.declared.selection.Picked.{Picked}
+use Rattle.legal_history.specs.Base.{Base}
+use Rattle.legal_history.specs.Catalogs.{Catalog, named}
+use Rattle.legal_history.specs.Views.{private}
+use Rattle.legal_history.specs.Conditions.{exists}
+use Rattle.legal_history.specs.Decisions.{Decision, Makes, Scene}
+use Rattle.legal_history.specs.FileLines.{mkview, mkview_tests, rmview, rmview_tests, setcs, setcs_tests, rm, rm_tests}
+use Rattle.legal_history.specs.Fits.{fits}
+use Rattle.legal_history.specs.Seen.{at, at_names, below, private_or, as_seen, element_at, entries_of, selected}
+use Rattle.legal_history.specs.LabelLines.{mktype}
+use Rattle.legal_history.specs.ObjectLines.{rmdo, rmdo_tests}
+use Rattle.legal_history.specs.Tests.{needs_rules, needs_private, needs_free_type}
+use Rattle.legal_history.proofs.Decisions.Passed.{made_by, where_passes, unless_passes, fits_by}
+
+-- Fits s decided: whatever row is decided fits
+abbrev pub RowFits : Scene → Result Decision Refusal → Type 0
+RowFits s decided = (made : Deed) → decided ≡ Ok (Makes made) → fits s.base made ≡ true
+
+pub mkview_fits : (s : Scene) (v : List ℕ) → RowFits s (mkview s v)
+mkview_fits s v made h =
+    let m = made_by s (mkview_tests s v) (deeds.Mkview v) made h in
+    let new : exists s.base v ≡ false = where_passes _ _ m.pass.0 in
+    fits_by s.base (deeds.Mkview v) made m.room m.is (ap not new)
+
+pub rmview_fits : (s : Scene) (v : List ℕ) (force : Bool) → RowFits s (rmview s v force)
+rmview_fits s v force made h =
+    let m = made_by s (rmview_tests s v force) (deeds.Rmview v) made h in
+    fits_by s.base (deeds.Rmview v) made m.room m.is (unless_passes _ _ m.pass.0)
+
+were_read : (rules : Result (List Rule) SpecError) → needs_rules rules ≡ None → is_ok rules ≡ true
+were_read (Ok rules) e = refl
+were_read (Err error) e = absurd (cc)
+
+pub setcs_fits : (s : Scene) (v text : List ℕ) → RowFits s (setcs s v text)
+setcs_fits s v text made h =
+    let m = made_by s (setcs_tests s v text) (deeds.Setcs v text) made h in
+    let there : exists s.base v ≡ true = unless_passes _ _ m.pass.0 in
+    let ok : is_ok (rules_of text) ≡ true = were_read _ m.pass.1.1.0 in
+    fits_by s.base (deeds.Setcs v text) made m.room m.is (rw (there, ok) refl)
+
+-- a private file that stands somewhere is the view's
+private_of_or : (o : Option ℕ) (seen : Seen) (row : ℕ) → ((r : ℕ) → seen ≡ Private r → ⊥) → private_or o seen ≡ Private row → o ≡ Some row
+private_of_or None seen row never e = absurd (never row e)
+private_of_or (Some r) seen row never e = cc
+
+no_private : (e : ℕ) (picked : Option Picked) (r : ℕ) → as_seen e picked ≡ Private r → ⊥
+no_private e None r h = cc
+no_private e (Some picked) r h = cc
+
+no_private_element : (b : Base) (v : List ℕ) (names : List (List ℕ)) (e : Option ℕ) (r : ℕ) → element_at b v names e ≡ Private r → ⊥
+no_private_element b v names None r h = cc
+no_private_element b v names (Some e) r h = no_private e (selected b v e names) r h
+
+private_below : (b : Base) (v : List ℕ) (names : List (List ℕ)) (name : List ℕ) (entries : Option Catalog) (row : ℕ) →
+    below b v names name entries ≡ Private row → private b v (joined names) ≡ Some row
+private_below b v names name None row h = absurd (cc)
+private_below b v names name (Some entries) row h =
+    private_of_or (private b v (joined names)) (element_at b v names (named name entries)) row (no_private_element b v names (named name entries)) h
+
+pub private_at : (b : Base) (v : List ℕ) (back : List (List ℕ)) (row : ℕ) → at_names b v back ≡ Private row → private b v (joined (reverse back)) ≡ Some row
+private_at b v [] row h = absurd (no_private 0 (selected b v 0 []) row h)
+private_at b v (name ∷ above) row h = private_below b v (reverse (name ∷ above)) name (entries_of b v (at_names b v above)) row h
+
+was_private : (path : List ℕ) (seen : Seen) → needs_private path seen ≡ None → (row : ℕ) × (seen ≡ Private row)
+was_private path (Private row) e = (row, refl)
+was_private path (Element e picked) h = absurd (cc)
+was_private path (Unselected e) h = absurd (cc)
+was_private path Nothing h = absurd (cc)
+
+pub rm_fits : (s : Scene) (v path : List ℕ) → RowFits s (rm s v path)
+rm_fits s v path made h =
+    let m = made_by s (rm_tests s v path) (deeds.Rm v path) made h in
+    let seen = was_private path (at s.base v path) m.pass.1.1.0 in
+    let there : private s.base v path ≡ Some seen.0 = subst (λ p. private s.base v p ≡ Some seen.0) back (private_at s.base v (reverse (names_of path)) seen.0 seen.1) in
+    fits_by s.base (deeds.Rm v path) made m.room m.is (rw there refl)
+  where
+    back : joined (reverse (reverse (names_of path))) ≡ path
+    back = ap joined (reverse-reverse (names_of path)) ∙ joined-names_of path
+
+pub mktype_fits : (s : Scene) (kind : TypeKind) (name : List ℕ) → RowFits s (mktype s kind name)
+mktype_fits s kind name made h =
+    let m = made_by s (needs_free_type s.base name ∷ []) (deeds.Mktype kind name) made h in
+    fits_by s.base (deeds.Mktype kind name) made m.room m.is (ap not (where_passes _ _ m.pass.0))
+
+pub rmdo_fits : (s : Scene) (v path : List ℕ) → RowFits s (rmdo s v path)
+rmdo_fits s v path made h =
+    let m = made_by s (rmdo_tests s v path) (deeds.Drop v path) made h in
+    fits_by s.base (deeds.Drop v path) made m.room m.is (unless_passes _ _ m.pass.1.1.0)

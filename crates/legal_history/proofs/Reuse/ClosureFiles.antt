@@ -1,0 +1,114 @@
+-- What the closure of an object lists are texts of files.
+use Rattle.std.proofs.Common.{◌≡◌, refl, ap, sym, subst, ◌∙◌, ℕ, ◌<◌, Bool, true, false, cond, ◌||◌, ◌==◌, Option, Some, None, List, [], ◌∷◌, arith}
+use Rattle.std.proofs.lemmas.Bool.Decides.{nat_tests}
+use Rattle.std.specs.Bool.{⊤}
+use Rattle.std.specs.FinMap.Entries.{put, find, by_order}
+use Rattle.std.specs.List.{list_all}
+use Rattle.std.specs.Ordering.{eq_by_cmp}
+use Rattle.std.specs.Prelude.{is_some}
+use Rattle.std.specs.declared.cmp.Ordering.{Ordering}
+use Rattle.std.specs.declared.cmp.Ordering.TheVariants.{Less, Equal, Greater}
+use Rattle.cc_names.specs.Formed.{Plain}
+use Rattle.cc_names.specs.Versions.{kind_of}
+use Rattle.cc_names.specs.declared.rows.Deed.{Deed}
+use Rattle.cc_names.specs.declared.rows.Deed.TheVariants as deeds
+use Rattle.cc_names.specs.declared.rows.Kind.{Kind}
+use Rattle.cc_names.specs.declared.rows.Kind.TheVariants.{File, Directory}
+use Rattle.cc_names.specs.declared.rows.ReadOf.{ReadOf}
+use Rattle.legal_history.specs.Base.{Base, size, deed_at}
+use Rattle.legal_history.specs.Changes.{targets_of_deed, tree}
+use Rattle.legal_history.specs.Closures.{Source, Sources, source_cmp, joined_sources, sources_of_entry, sources_of, closure, entries_of_deed, is_among, is_publish, is_publish_deed, is_version_of}
+use Rattle.legal_history.specs.Conditions.{element_of_text, is_file_kind, is_some_file, makes_file_text, is_entry}
+use Rattle.legal_history.specs.Fits.{is_base}
+use Rattle.legal_history.proofs.Bases.Owned.{and_first, and_second, row_fits, rows_below}
+use Rattle.legal_history.proofs.Bases.FileRows.{FileText, file_text_stays}
+use Rattle.legal_history.proofs.Bases.VersionRows.{version_text}
+use Rattle.legal_history.proofs.Reuse.Covered.{one_source}
+use Rattle.legal_history.proofs.Reuse.EntriesBelow.{entry_below, entries_fit}
+
+-- each source made the text of a file, where it is not row 0
+abbrev OfFiles : Base → Sources → Type 0
+OfFiles b [] = ⊤
+OfFiles b (source ∷ sources) = (0 < source.0.1 → FileText b source.0.1) × OfFiles b sources
+
+put_of_files : (b : Base) (s : Source) (row : ℕ) (sources : Sources) → (0 < s.1 → FileText b s.1) → OfFiles b sources → OfFiles b (put source_cmp s row sources)
+put_of_files b s row [] own h = (own, tt)
+put_of_files b s row (source ∷ sources) own h = by (source_cmp s source.0) (put_of_files b s row sources own h.1)
+  where
+    by : (o : Ordering) → OfFiles b (put source_cmp s row sources) → OfFiles b (by_order o ((s, row) ∷ source ∷ sources) ((source.0, row) ∷ sources) (source ∷ put source_cmp s row sources))
+    by Less rest = (own, h)
+    by Equal rest = h
+    by Greater rest = (h.0, rest)
+
+joined_of_files : (b : Base) (one others : Sources) → OfFiles b one → OfFiles b others → OfFiles b (joined_sources one others)
+joined_of_files b [] others h g = g
+joined_of_files b (source ∷ one) others h g = joined_of_files b one (put source_cmp source.0 source.1 others) h.1 (put_of_files b source.0 source.1 others h.0 g)
+
+of_files_stay : (row : Plain) (b : Base) (sources : Sources) → OfFiles b sources → OfFiles (row ∷ b) sources
+of_files_stay row b [] h = tt
+of_files_stay row b (source ∷ sources) h = (λ above. file_text_stays row b source.0.1 (h.0 above), of_files_stay row b sources h.1)
+
+-- only an object has targets
+no_targets : (o : Option Deed) → is_publish_deed o ≡ false → targets_of_deed o ≡ []
+no_targets None h = refl
+no_targets (Some (deeds.Publish v targets script entries outputs)) h = absurd (cc)
+no_targets (Some deed) h = refl
+
+middle : (t u : Bool) → t ≡ false → (t || u || false) ≡ true → u ≡ true
+middle true u apart h = absurd (cc)
+middle false true apart h = refl
+middle false false apart h = h
+
+-- an entry that fits and names no object
+entry_of_file : (b : Base) (entry : ReadOf) → is_entry b entry ≡ true → is_publish b entry.row ≡ false → 0 < entry.row → FileText b entry.row
+entry_of_file b entry fit other above = record {
+  low = entry_below b entry fit;
+  makes = middle (entry.row == 0) (makes_file_text b entry.row (deed_at b entry.row)) (grind (arith, nat_tests))
+      (ap (λ targets. (entry.row == 0) || makes_file_text b entry.row (deed_at b entry.row) || is_among entry.path targets) (sym (no_targets (deed_at b entry.row) other)) ∙ fit);
+}
+
+entry_of_files : (b : Base) (t : Bool) (of_object : ℕ → Sources) (entry : ReadOf) → is_publish b entry.row ≡ t → is_entry b entry ≡ true → ((id : ℕ) → OfFiles b (of_object id)) → OfFiles b (sources_of_entry t of_object entry)
+entry_of_files b true of_object entry is fit h = h entry.row
+entry_of_files b false of_object entry is fit h = (entry_of_file b entry fit is, tt)
+
+entries_of_files : (b : Base) (of_object : ℕ → Sources) (entries : List ReadOf) → list_all (is_entry b) entries ≡ true → ((id : ℕ) → OfFiles b (of_object id)) → OfFiles b (sources_of b of_object entries)
+entries_of_files b of_object [] fit h = tt
+entries_of_files b of_object (entry ∷ entries) fit h =
+    joined_of_files b (sources_of_entry (is_publish b entry.row) of_object entry) (sources_of b of_object entries)
+    (entry_of_files b (is_publish b entry.row) of_object entry refl (and_first (is_entry b entry) (list_all (is_entry b) entries) fit) h)
+    (entries_of_files b of_object entries (and_second (is_entry b entry) (list_all (is_entry b) entries) fit) h)
+
+closure_of_files : (b : Base) (id : ℕ) → is_base b ≡ true → OfFiles b (closure b id)
+closure_of_files [] id base = tt
+closure_of_files (row ∷ older) id base = of_files_stay row older (closure (row ∷ older) id) (by (size older == id) (λ id. closure_of_files older id (rows_below row older base)))
+  where
+    by : (t : Bool) → ((id : ℕ) → OfFiles older (closure older id)) → OfFiles older (elim t as (λ x. Sources) [ true ↦ sources_of older (closure older) (entries_of_deed (Some row.deed)) | false ↦ closure older id ])
+    by true before = entries_of_files older (closure older) (entries_of_deed (Some row.deed)) (entries_fit older row.deed (row_fits row older base)) before
+    by false before = before id
+
+found_of_file : (b : Base) (sources : Sources) (q : Source) → OfFiles b sources → is_some (find source_cmp q sources) ≡ true → 0 < q.1 → FileText b q.1
+found_of_file b [] q h has above = absurd (cc)
+found_of_file b (source ∷ sources) q h has above = by (eq_by_cmp source_cmp q source.0) refl has (λ rest. found_of_file b sources q h.1 rest above)
+  where
+    by : (t : Bool) → eq_by_cmp source_cmp q source.0 ≡ t → is_some (cond t (Some source.1) (find source_cmp q sources)) ≡ true → (is_some (find source_cmp q sources) ≡ true → FileText b q.1) → FileText b q.1
+    by true e has rest =
+        let same : q.1 ≡ source.0.1 = (one_source q source.0 e).row in
+        subst (FileText b) (sym same) (h.0 (subst (λ r. 0 < r) same above))
+    by false e has rest = rest has
+
+file_kind : (k : Option Kind) → is_file_kind k ≡ true → k ≡ Some File
+file_kind None h = absurd (cc)
+file_kind (Some Directory) h = absurd (cc)
+file_kind (Some File) h = refl
+
+-- an element is a file where a row that made a text of it made the text of a file
+element_is_file : (b : Base) (r e : ℕ) (deed : Deed) → element_of_text b r deed ≡ Some e → makes_file_text b r (Some deed) ≡ true → is_some_file b (Some e) ≡ true
+element_is_file b r e (deeds.Put v path text) is h = absurd (cc)
+element_is_file b r e deed is h = ap (is_some_file b) (sym is) ∙ h
+
+-- An element of which the closure of an object lists a version is a file.
+pub listed_is_file : (b : Base) (id e : ℕ) (source : Source) → is_base b ≡ true → is_some (find source_cmp source (closure b id)) ≡ true → is_version_of b e source.1 ≡ true → 0 < source.1 → kind_of (tree b) e ≡ Some File
+listed_is_file b id e source base has version above =
+    let made = version_text b e source.1 base version above in
+    let file = found_of_file b (closure b id) source (closure_of_files b id base) has above in
+    file_kind (kind_of (tree b) e) (element_is_file b source.1 e made.deed made.of_element (ap (makes_file_text b source.1) (sym made.made) ∙ file.makes))

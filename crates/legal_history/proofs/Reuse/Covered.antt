@@ -1,0 +1,158 @@
+-- What it means that a view covers the closure of an object: each source agrees with what the view sees.
+use Rattle.std.proofs.Common.{◌≡◌, refl, ap, sym, subst, ◌∙◌, ℕ, Bool, true, false, not, cond, ◌&&◌, ◌==◌, Option, Some, None, List, [], ◌∷◌}
+use Rattle.std.proofs.lemmas.Cmp.{then_total, on_total, nat_list_cmp_total, nat_cmp_total}
+use Rattle.std.proofs.lemmas.Map.Text.{is_eq-slice_cmp}
+use Rattle.std.proofs.lemmas.Slice.Eq.{bytes_eq-Decides}
+use Rattle.std.specs.Bool.{⊤}
+use Rattle.std.specs.Cmp.{IsTotalOrder, unsigned_tied, tied_itself}
+use Rattle.std.specs.Cmp.Lexicographic.{slice_cmp}
+use Rattle.std.specs.FinMap.Entries.{put, find, find-put, by_order}
+use Rattle.std.specs.Option.{option_or}
+use Rattle.std.specs.Ordering.{nat_cmp, is_eq, ordering_then, eq_by_cmp}
+use Rattle.std.specs.Prelude.{is_some, bytes_eq, option_map, find as find_in}
+use Rattle.std.specs.declared.cmp.Ordering.{Ordering}
+use Rattle.std.specs.declared.cmp.Ordering.TheVariants.{Less, Equal, Greater}
+use Rattle.cc_names.specs.declared.rows.ReadOf.{ReadOf}
+use Rattle.legal_history.specs.Base.{Base, size, only_where}
+use Rattle.legal_history.specs.Closures.{Source, Sources, source_cmp, joined_sources, sources_of_entry, sources_of, closure, entries_of_deed, is_publish}
+use Rattle.legal_history.specs.RecordTexts.{row_in, uncovered_among}
+use Rattle.legal_history.specs.Reuse.{agrees}
+use Rattle.legal_history.specs.Seen.{file_at}
+use Rattle.legal_history.proofs.Stories.Goes.{same_number}
+use Rattle.legal_history.proofs.Bases.Owned.{and_first, and_second}
+
+sources_total : IsTotalOrder source_cmp
+sources_total = then_total (on_total (λ (source : Source). source.0) nat_list_cmp_total) (on_total (λ (source : Source). source.1) nat_cmp_total)
+
+-- each source agrees with what is seen at its path
+abbrev pub Covers : (List ℕ → Option ℕ) → Sources → Type 0
+Covers rows sources = (q : Source) → is_some (find source_cmp q sources) ≡ true → agrees q.1 (rows q.0) ≡ true
+
+-- sources that are joined to others are among them all, and so are the others
+others_among : (one others : Sources) (q : Source) → is_some (find source_cmp q others) ≡ true → is_some (find source_cmp q (joined_sources one others)) ≡ true
+others_among [] others q h = h
+others_among (source ∷ one) others q h =
+    others_among one (put source_cmp source.0 source.1 others) q
+    (ap is_some (find-put source_cmp sources_total q source.0 source.1 others) ∙ by (eq_by_cmp source_cmp q source.0))
+  where
+    by : (t : Bool) → is_some (cond t (Some source.1) (find source_cmp q others)) ≡ true
+    by true = refl
+    by false = h
+
+one_among : (one others : Sources) (q : Source) → is_some (find source_cmp q one) ≡ true → is_some (find source_cmp q (joined_sources one others)) ≡ true
+one_among [] others q h = absurd (cc)
+one_among (source ∷ one) others q h = by (eq_by_cmp source_cmp q source.0) refl h (one_among one (put source_cmp source.0 source.1 others) q)
+  where
+    by : (t : Bool) → eq_by_cmp source_cmp q source.0 ≡ t → is_some (cond t (Some source.1) (find source_cmp q one)) ≡ true →
+        (is_some (find source_cmp q one) ≡ true → is_some (find source_cmp q (joined_sources (source ∷ one) others)) ≡ true) → is_some (find source_cmp q (joined_sources (source ∷ one) others)) ≡ true
+    by true e h rest =
+        others_among one (put source_cmp source.0 source.1 others) q
+        (ap is_some (find-put source_cmp sources_total q source.0 source.1 others) ∙ ap (λ t. is_some (cond t (Some source.1) (find source_cmp q others))) e)
+    by false e h rest = rest h
+
+-- the sources of the entry at a path are among those of its record
+pub entry_covered : (rows : List ℕ → Option ℕ) (b : Base) (of_object : ℕ → Sources) (entries : List ReadOf) (path : List ℕ) (r : ℕ) → Covers rows (sources_of b of_object entries) → row_in entries path ≡ Some r →
+    Covers rows (sources_of_entry (is_publish b r) of_object (record { path = path; row = r }))
+entry_covered rows b of_object [] path r h is = absurd (cc)
+entry_covered rows b of_object (entry ∷ entries) path r h is =
+    by (bytes_eq entry.path path) refl is
+    (entry_covered rows b of_object entries path r (λ q has. h q (others_among (sources_of_entry (is_publish b entry.row) of_object entry) (sources_of b of_object entries) q has)))
+  where
+    by : (t : Bool) → bytes_eq entry.path path ≡ t → option_map (λ (entry : ReadOf). entry.row) (cond t (Some entry) (find_in (λ entry. bytes_eq entry.path path) entries)) ≡ Some r →
+        (row_in entries path ≡ Some r → Covers rows (sources_of_entry (is_publish b r) of_object (record { path = path; row = r }))) → Covers rows (sources_of_entry (is_publish b r) of_object (record { path = path; row = r }))
+    by true e is rest =
+        let number : entry.row ≡ r = cc in
+        let same : entry.path ≡ path = (bytes_eq-Decides entry.path path).0 e in
+        subst (λ k. Covers rows (sources_of_entry (is_publish b k) of_object (record { path = path; row = k }))) number
+        (subst (λ p. Covers rows (sources_of_entry (is_publish b entry.row) of_object (record { path = p; row = entry.row }))) same
+        (λ q has. h q (one_among (sources_of_entry (is_publish b entry.row) of_object entry) (sources_of b of_object entries) q has)))
+    by false e is rest = rest is
+
+-- both of two orders tie
+ties : (one two : Ordering) → is_eq (ordering_then one two) ≡ (is_eq one && is_eq two)
+ties Less two = refl
+ties Equal two = refl
+ties Greater two = refl
+
+-- sources that tie are one
+pub record OneSource (q s : Source) : Type 0 where
+  pub path : q.0 ≡ s.0
+  pub row : q.1 ≡ s.1
+
+pub one_source : (q s : Source) → eq_by_cmp source_cmp q s ≡ true → OneSource q s
+one_source q s h =
+    let both = sym (ties (slice_cmp nat_cmp q.0 s.0) (nat_cmp q.1 s.1)) ∙ h in
+    record {
+      path = (bytes_eq-Decides q.0 s.0).0 (sym (is_eq-slice_cmp q.0 s.0) ∙ and_first (is_eq (slice_cmp nat_cmp q.0 s.0)) (is_eq (nat_cmp q.1 s.1)) both);
+      row = same_number q.1 s.1 (sym (unsigned_tied q.1 s.1) ∙ and_second (is_eq (slice_cmp nat_cmp q.0 s.0)) (is_eq (nat_cmp q.1 s.1)) both);
+    }
+
+-- each source is kept under its own row
+abbrev pub Keyed : Sources → Type 0
+Keyed [] = ⊤
+Keyed (source ∷ sources) = (source.1 ≡ source.0.1) × Keyed sources
+
+put_keyed : (s : Source) (row : ℕ) (sources : Sources) → row ≡ s.1 → Keyed sources → Keyed (put source_cmp s row sources)
+put_keyed s row [] own h = (own, tt)
+put_keyed s row (source ∷ sources) own h = by (source_cmp s source.0) refl (put_keyed s row sources own h.1)
+  where
+    by : (o : Ordering) → source_cmp s source.0 ≡ o → Keyed (put source_cmp s row sources) → Keyed (by_order o ((s, row) ∷ source ∷ sources) ((source.0, row) ∷ sources) (source ∷ put source_cmp s row sources))
+    by Less e rest = (own, h)
+    by Equal e rest = (own ∙ (one_source s source.0 (ap is_eq e)).row, h.1)
+    by Greater e rest = (h.0, rest)
+
+joined_keyed : (one others : Sources) → Keyed one → Keyed others → Keyed (joined_sources one others)
+joined_keyed [] others h g = g
+joined_keyed (source ∷ one) others h g = joined_keyed one (put source_cmp source.0 source.1 others) h.1 (put_keyed source.0 source.1 others h.0 g)
+
+entry_keyed : (t : Bool) (of_object : ℕ → Sources) (entry : ReadOf) → ((id : ℕ) → Keyed (of_object id)) → Keyed (sources_of_entry t of_object entry)
+entry_keyed true of_object entry h = h entry.row
+entry_keyed false of_object entry h = (refl, tt)
+
+entries_keyed : (b : Base) (of_object : ℕ → Sources) (entries : List ReadOf) → ((id : ℕ) → Keyed (of_object id)) → Keyed (sources_of b of_object entries)
+entries_keyed b of_object [] h = tt
+entries_keyed b of_object (entry ∷ entries) h =
+    joined_keyed (sources_of_entry (is_publish b entry.row) of_object entry) (sources_of b of_object entries) (entry_keyed (is_publish b entry.row) of_object entry h) (entries_keyed b of_object entries h)
+
+pub closure_keyed : (b : Base) (id : ℕ) → Keyed (closure b id)
+closure_keyed [] id = tt
+closure_keyed (row ∷ older) id = by (size older == id) (closure_keyed older)
+  where
+    by : (t : Bool) → ((id : ℕ) → Keyed (closure older id)) → Keyed (elim t as (λ x. Sources) [ true ↦ sources_of older (closure older) (entries_of_deed (Some row.deed)) | false ↦ closure older id ])
+    by true before = entries_keyed older (closure older) (entries_of_deed (Some row.deed)) before
+    by false before = before id
+
+none_uncovered : (b : Base) (v : List ℕ) (sources : Sources) → Keyed sources → uncovered_among b v sources ≡ None → Covers (file_at b v) sources
+none_uncovered b v [] keyed h q has = absurd (cc)
+none_uncovered b v (source ∷ sources) keyed h q has = by (agrees source.1 (file_at b v source.0.0)) refl h (λ rest. none_uncovered b v sources keyed.1 rest q)
+  where
+    by_source : (t : Bool) → eq_by_cmp source_cmp q source.0 ≡ t → agrees source.1 (file_at b v source.0.0) ≡ true → (is_some (find source_cmp q sources) ≡ true → agrees q.1 (file_at b v q.0) ≡ true) → is_some (cond t (Some source.1) (find source_cmp q sources)) ≡ true →
+        agrees q.1 (file_at b v q.0) ≡ true
+    by_source true e agree rest has =
+        let one = one_source q source.0 e in
+        ap (λ k. agrees k (file_at b v q.0)) (one.row ∙ sym keyed.0) ∙ ap (λ p. agrees source.1 (file_at b v p)) one.path ∙ agree
+    by_source false e agree rest has = rest has
+
+    by : (t : Bool) → agrees source.1 (file_at b v source.0.0) ≡ t → option_or (only_where (not t) (Some source.0.0)) (uncovered_among b v sources) ≡ None →
+        (uncovered_among b v sources ≡ None → is_some (find source_cmp q sources) ≡ true → agrees q.1 (file_at b v q.0) ≡ true) → agrees q.1 (file_at b v q.0) ≡ true
+    by true agree h rest = by_source (eq_by_cmp source_cmp q source.0) refl agree (rest h) has
+    by false agree h rest = absurd (cc)
+
+-- a view that covers an object's record covers its closure
+pub closure_covered : (b : Base) (v : List ℕ) (id : ℕ) → uncovered_among b v (closure b id) ≡ None → Covers (file_at b v) (closure b id)
+closure_covered b v id h = none_uncovered b v (closure b id) (closure_keyed b id) h
+
+-- a source that stands alone is found
+pub own_source : (path : List ℕ) (row : ℕ) → is_some (find source_cmp (path, row) (((path, row), row) ∷ [])) ≡ true
+own_source path row = ap (λ o. is_some (cond (is_eq o) (Some row) None)) (tied_itself sources_total (path, row))
+
+-- the first source of a list is found, and so is each that is found behind it
+pub front_found : (source : Source × ℕ) (rest : Sources) → is_some (find source_cmp source.0 (source ∷ rest)) ≡ true
+front_found source rest = ap (λ o. is_some (cond (is_eq o) (Some source.1) (find source_cmp source.0 rest))) (tied_itself sources_total source.0)
+
+pub later_found : (q : Source) (source : Source × ℕ) (rest : Sources) → is_some (find source_cmp q rest) ≡ true → is_some (find source_cmp q (source ∷ rest)) ≡ true
+later_found q source rest h = by (eq_by_cmp source_cmp q source.0)
+  where
+    by : (t : Bool) → is_some (cond t (Some source.1) (find source_cmp q rest)) ≡ true
+    by true = refl
+    by false = h

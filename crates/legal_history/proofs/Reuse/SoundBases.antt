@@ -1,0 +1,125 @@
+-- Along a legal story a base that was sound as it was opened stays sound.
+use Rattle.std.proofs.Common.{◌≡◌, refl, ap, sym, subst, ◌∙◌, ℕ, true, Some, List, [], ◌∷◌}
+use Rattle.std.specs.Prelude.{reverse}
+use Rattle.cc_names.specs.declared.rows.Deed.{Deed}
+use Rattle.cc_names.specs.declared.rows.Deed.TheVariants as deeds
+use Rattle.cc_names.specs.declared.rows.Tag.{Tag}
+use Rattle.cc_names.specs.declared.steps.Step.TheVariants as steps
+use Rattle.cc_names.specs.declared.steps.Told.{Told}
+use Rattle.cc_names.specs.declared.steps.Told.TheVariants as told
+use Rattle.legal_history.specs.Base.{Base, size}
+use Rattle.legal_history.specs.Builds.{Build, build_of}
+use Rattle.legal_history.specs.Closures.{is_publish_deed}
+use Rattle.legal_history.specs.States.{State, Opening, start}
+use Rattle.legal_history.specs.Steps.{after, state_from, state_of}
+use Rattle.legal_history.specs.Committing.{MakesRow}
+use Rattle.legal_history.specs.Stories.{Lawful, LegalFrom, Legal}
+use Rattle.legal_history.specs.Values.{is_true}
+use Rattle.legal_history.specs.Values as values
+use Rattle.legal_history.proofs.Stories.Goes.{of_lane}
+use Rattle.legal_history.proofs.Builds.Published.{is_publish}
+use Rattle.legal_history.proofs.Stories.SoundStories.{IsSound, sound_step, sound_first, none_active}
+use Rattle.legal_history.specs.Laws.Given.{HoldsGiven}
+use Rattle.legal_history.specs.Laws.Objects.{GivesLive}
+use Rattle.legal_history.proofs.Reuse.GivenCommits.{AllHeld}
+use Rattle.legal_history.proofs.Reuse.GivenSteps.{held_step}
+use Rattle.legal_history.proofs.Reuse.PublishedTrue.{published_is_true}
+use Rattle.legal_history.proofs.Reuse.SoundRows.{sound_row}
+
+pub gives_live : (b : Base) (build : Build) → HoldsGiven b build → GivesLive b build
+gives_live b build h = record { lives = λ n id own. (h.given n id own).lives }
+
+new_is_true : (s : State) (tag : Tag) (moment : ℕ) (deed : Deed) → IsSound s → AllHeld s → values.IsSound s.base → MakesRow s (record { tag = tag; moment = moment; deed = deed }) deed → is_publish_deed (Some deed) ≡ true →
+    is_true (record { tag = tag; moment = moment; deed = deed } ∷ s.base) (size s.base) ≡ true
+new_is_true s tag moment (deeds.Publish view targets script entries outputs) sound h true_base e publish =
+    let there = of_lane s tag e.build e.running.waits.active in
+    published_is_true (record { tag = tag; moment = moment; deed = deeds.Publish view targets script entries outputs }) s.base e.build e.n e.unit
+    (sound.fine.holds tag.lane e.build there).agrees.base true_base (gives_live s.base e.build (h.given.holds tag.lane e.build there))
+    (is_publish s.base e.build e.n e.unit (deeds.Publish view targets script entries outputs) e.made)
+new_is_true s tag moment deed sound h true_base e publish = absurd (cc)
+
+base_step : (s : State) (x : Told) → IsSound s → AllHeld s → values.IsSound s.base → Lawful s x → values.IsSound (after s x).base
+base_step s (told.Opened rows counts tells) sound h true_base e = absurd (let first = e.first in let opened = sound.opened in cc)
+base_step s (told.Plan phase moment) sound h true_base e = true_base
+base_step s (told.Commit row tick) sound h true_base e = sound_row row s.base true_base (new_is_true s row.tag row.moment row.deed sound h true_base e.may.made)
+base_step s (told.Other (steps.Refused tag refusal)) sound h true_base e = true_base
+base_step s (told.Other (steps.Answer tag text)) sound h true_base e = true_base
+base_step s (told.Other (steps.Begin tag rows count)) sound h true_base e = true_base
+base_step s (told.Other (steps.Start tag n)) sound h true_base e = true_base
+base_step s (told.Other (steps.Settled tag n end)) sound h true_base e = true_base
+base_step s (told.Other (steps.End tag)) sound h true_base e = true_base
+base_step s (told.Other (steps.Fault tag left before faults tick)) sound h true_base e = true_base
+base_step s (told.Other step) sound h true_base e = true_base
+
+opened_step : (s : State) (x : Told) → IsSound s → Lawful s x → (after s x).opened ≡ s.opened
+opened_step s (told.Opened rows counts tells) sound e = absurd (let first = e.first in let opened = sound.opened in cc)
+opened_step s (told.Plan phase moment) sound e = refl
+opened_step s (told.Commit row tick) sound e = refl
+opened_step s (told.Other (steps.Refused tag refusal)) sound e = refl
+opened_step s (told.Other (steps.Answer tag text)) sound e = refl
+opened_step s (told.Other (steps.Begin tag rows count)) sound e = refl
+opened_step s (told.Other (steps.Start tag n)) sound e = refl
+opened_step s (told.Other (steps.Settled tag n end)) sound e = refl
+opened_step s (told.Other (steps.End tag)) sound e = refl
+opened_step s (told.Other (steps.Fault tag left before faults tick)) sound e = refl
+opened_step s (told.Other step) sound e = refl
+
+held_from : (s : State) (story : List Told) → IsSound s → AllHeld s → LegalFrom s story → AllHeld (state_from s story)
+held_from s [] sound h e = h
+held_from s (x ∷ story) sound h e = held_from (after s x) story (sound_step s x sound e.0) (held_step s x sound h e.0) e.1
+
+base_from : (s : State) (story : List Told) → IsSound s → AllHeld s → values.IsSound s.base → LegalFrom s story → values.IsSound (state_from s story).base
+base_from s [] sound h true_base e = true_base
+base_from s (x ∷ story) sound h true_base e = base_from (after s x) story (sound_step s x sound e.0) (held_step s x sound h e.0) (base_step s x sound h true_base e.0) e.1
+
+opened_from : (s : State) (story : List Told) → IsSound s → LegalFrom s story → (state_from s story).opened ≡ s.opened
+opened_from s [] sound e = refl
+opened_from s (x ∷ story) sound e = opened_from (after s x) story (sound_step s x sound e.0) e.1 ∙ opened_step s x sound e.0
+
+-- after the first step
+held_first : (x : Told) → Lawful start x → AllHeld (after start x)
+held_first x e =
+    let none = none_active x e in
+    record {
+      given = record { holds = λ lane build is. absurd (let nothing : build_of [] lane ≡ Some build = sym (ap (λ active. build_of active lane) none) ∙ is in cc) };
+      apart = record { one_lane = λ lane other one two is_one is_two same. absurd (let nothing : build_of [] lane ≡ Some one = sym (ap (λ active. build_of active lane) none) ∙ is_one in cc) };
+    }
+
+opened_is_base : (x : Told) (o : Opening) → Lawful start x → (after start x).opened ≡ Some o → o.base ≡ (after start x).base
+opened_is_base (told.Opened rows counts tells) o e is = let same : record { base = reverse rows; counts = counts; tells = tells } ≡ o = cc in ap (λ (o : Opening). o.base) (sym same)
+opened_is_base (told.Plan phase moment) o e is = absurd (cc)
+opened_is_base (told.Commit row tick) o e is = absurd (cc)
+opened_is_base (told.Other (steps.Refused tag refusal)) o e is = absurd (cc)
+opened_is_base (told.Other (steps.Answer tag text)) o e is = absurd (cc)
+opened_is_base (told.Other (steps.Begin tag rows count)) o e is = absurd (cc)
+opened_is_base (told.Other (steps.Start tag n)) o e is = absurd (cc)
+opened_is_base (told.Other (steps.Settled tag n end)) o e is = absurd (cc)
+opened_is_base (told.Other (steps.End tag)) o e is = absurd (cc)
+opened_is_base (told.Other (steps.Fault tag left before faults tick)) o e is = absurd (cc)
+opened_is_base (told.Other step) o e is = absurd (cc)
+
+-- The laws of whole stories.
+pub story_all_held : (x : Told) (story : List Told) → Legal (x ∷ story) → AllHeld (state_of (x ∷ story))
+story_all_held x story legal = held_from (after start x) story (sound_first x legal.0) (held_first x legal.0) legal.1
+
+pub story_holds : (story : List Told) (lane : ℕ) (build : Build) → Legal story → build_of (state_of story).active lane ≡ Some build → HoldsGiven (state_of story).base build
+story_holds [] lane build legal is = absurd (cc)
+story_holds (x ∷ story) lane build legal is = (story_all_held x story legal).given.holds lane build is
+
+pub one_build : (story : List Told) (lane other : ℕ) (one two : Build) → Legal story → build_of (state_of story).active lane ≡ Some one → build_of (state_of story).active other ≡ Some two → one.view ≡ two.view → lane ≡ other
+one_build [] lane other one two legal is_one is_two same = absurd (cc)
+one_build (x ∷ story) lane other one two legal is_one is_two same = (story_all_held x story legal).apart.one_lane lane other one two is_one is_two same
+
+pub story_stays_sound : (story : List Told) (o : Opening) → Legal story → (state_of story).opened ≡ Some o → values.IsSound o.base → values.IsSound (state_of story).base
+story_stays_sound [] o legal is true_base = absurd (cc)
+story_stays_sound (x ∷ story) o legal is true_base =
+    let sound = sound_first x legal.0 in
+    let opened : (after start x).opened ≡ Some o = sym (opened_from (after start x) story sound legal.1) ∙ is in
+    base_from (after start x) story sound (held_first x legal.0) (subst values.IsSound (opened_is_base x o legal.0 opened) true_base) legal.1
+
+-- a base without rows is sound
+none_sound : values.IsSound []
+none_sound id = refl
+
+pub sound_from_nothing : (story : List Told) (o : Opening) → Legal story → (state_of story).opened ≡ Some o → o.base ≡ [] → values.IsSound (state_of story).base
+sound_from_nothing story o legal is none = story_stays_sound story o legal is (subst values.IsSound (sym none) none_sound)

@@ -1,0 +1,13 @@
+-- What holds along legal stories.
+pub mod DecidedSteps
+pub mod Finishing
+pub mod Fronts
+pub mod Goes
+pub mod GoingOn
+pub mod Grows
+pub mod Leaving
+pub mod Rising
+pub mod Room
+pub mod SoundStories
+pub mod Started
+pub mod Tables

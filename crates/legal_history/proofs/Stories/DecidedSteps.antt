@@ -1,0 +1,47 @@
+-- The command of a step that decides something, and the build that it begins.
+use Rattle.std.proofs.Common.{◌≡◌, refl, ap, ◌∙◌, ℕ, Bool, false, Option, Some, None, Ok, List, []}
+use Rattle.std.specs.Prelude.{option_and_then, option_map}
+use Rattle.cc_names.specs.declared.commands.Command.{Command}
+use Rattle.cc_names.specs.declared.commands.Command.TheVariants as commands
+use Rattle.cc_names.specs.declared.rows.Tag.{Tag}
+use Rattle.cc_names.specs.declared.units.Unit.{Unit}
+use Rattle.legal_history.specs.Base.{size}
+use Rattle.legal_history.specs.Builds.{Build}
+use Rattle.legal_history.specs.Decisions.{Decision, Begins}
+use Rattle.legal_history.specs.Lines.{decision}
+use Rattle.legal_history.specs.States.{State, scene, decided, next_command}
+use Rattle.legal_history.specs.Steps.{begun, new_build, units_begun}
+use Rattle.legal_history.proofs.Decisions.Decided.{decided_says}
+use Rattle.legal_history.proofs.Decisions.DecidedSays.{Says}
+
+-- the command on which something was decided
+pub record DecidedOf (s : State) (tag : Tag) (d : Decision) : Type 0 where
+  pub command : Command
+  pub next : next_command s tag ≡ Some command
+  pub is : decision (scene s) command ≡ Ok d
+
+pub decided_of : (s : State) (tag : Tag) (d : Decision) → decided s tag ≡ Some (Ok d) → DecidedOf s tag d
+decided_of s tag d h = by (next_command s tag) refl h
+  where
+    by : (o : Option Command) → next_command s tag ≡ o → option_map (decision (scene s)) o ≡ Some (Ok d) → DecidedOf s tag d
+    by None next h = absurd (cc)
+    by (Some command) next h = record { command = command; next = next; is = cc }
+
+pub says_of : (s : State) (tag : Tag) (d : Decision) (h : DecidedOf s tag d) → Says (scene s) h.command d
+says_of s tag d h = decided_says (scene s) h.command d h.is
+
+-- no object is chosen so far
+pub none_chosen : (id : ℕ) → None ≡ Some id → ⊥
+none_chosen id e = cc
+
+-- the build that a command begins
+abbrev pub begun_by : (s : State) (tag : Tag) (us : List Unit) (view : List ℕ) (own_only rebuild : Bool) → Build
+begun_by s tag us view own_only rebuild = record { tag = tag; view = view; rows = size s.base; own_only = own_only; rebuild = rebuild; units = us; comes = []; faulted = false }
+
+pub begun_is : (s : State) (tag : Tag) (us : List Unit) (h : decided s tag ≡ Some (Ok (Begins us))) → let says = says_of s tag (Begins us) (decided_of s tag (Begins us) h) in
+    begun s tag ≡ Some (begun_by s tag us says.view says.own_only says.rebuild)
+begun_is s tag us h =
+    let d = decided_of s tag (Begins us) h in
+    let says = says_of s tag (Begins us) d in
+    ap (λ o. option_and_then (new_build tag (size s.base) (units_begun (decided s tag))) o) (d.next ∙ ap Some says.is)
+    ∙ ap (λ o. new_build tag (size s.base) (units_begun o) (commands.Clearmake says.view says.file says.own_only says.rebuild says.jobs says.macros says.goals)) h

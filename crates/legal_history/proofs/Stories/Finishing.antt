@@ -1,0 +1,185 @@
+-- A command that builds is finished by its refusal, or by the end of its build.
+use Rattle.std.proofs.Common.{◌≡◌, refl, ap, sym, subst, ◌∙◌, inl, inr, ℕ, ◌+◌, Bool, true, false, ◌==◌, Option, Some, None, Result, Ok, Err, List, length, arith}
+use Rattle.std.specs.Prelude.{option_map}
+use Rattle.cc_names.specs.Formed.{Plain}
+use Rattle.cc_names.specs.declared.commands.Command.{Command}
+use Rattle.cc_names.specs.declared.commands.Command.TheVariants as commands
+use Rattle.cc_names.specs.declared.refusals.Refusal.{Refusal}
+use Rattle.cc_names.specs.declared.rows.Deed.{Deed}
+use Rattle.cc_names.specs.declared.rows.Deed.TheVariants as deeds
+use Rattle.cc_names.specs.declared.rows.Tag.{Tag}
+use Rattle.cc_names.specs.declared.steps.Step.{Step}
+use Rattle.cc_names.specs.declared.steps.Step.TheVariants as steps
+use Rattle.cc_names.specs.declared.steps.Told.{Told}
+use Rattle.cc_names.specs.declared.steps.Told.TheVariants as told
+use Rattle.cc_names.specs.declared.units.Unit.{Unit}
+use Rattle.make_text.specs.Units.{units}
+use Rattle.legal_history.specs.Builds.{Build, build_of}
+use Rattle.legal_history.specs.Committing.{FaultsAt, MakesRow}
+use Rattle.legal_history.specs.Decisions.{Answers, Begins, Decision, Makes, Scene, first_refusal, needs_room, unless_refused}
+use Rattle.legal_history.specs.Fresh.{texts}
+use Rattle.legal_history.specs.Lines.{decision}
+use Rattle.legal_history.specs.ObjectLines.{build_unless, clearmake_tests}
+use Rattle.legal_history.specs.States.{State, build_by, decided, done_of, next_command, next_tag, scene, with_done}
+use Rattle.legal_history.specs.Steps.{after, after_step, done_after, done_by_fault}
+use Rattle.legal_history.specs.Stories.{Lawful, LawfulStep}
+use Rattle.legal_history.specs.Laws.Ends.{IsLeft, IsRefused, builds}
+use Rattle.legal_history.proofs.Builds.CommandStays.{next_is, other_done}
+use Rattle.legal_history.proofs.Builds.FineBuilds.{some_same}
+use Rattle.legal_history.proofs.Decisions.DecidedIdle.{builds_nothing}
+use Rattle.legal_history.proofs.Stories.Goes.{decided_is_idle, of_lane, same_number}
+use Rattle.legal_history.proofs.Stories.Leaving.{ends_so}
+
+-- a lane that finishes a command has one more
+not_more : (n : ℕ) → n ≡ n + 1 → ⊥
+not_more n h = omega (arith, h)
+
+none_before : (n : ℕ) → 0 ≡ n + 1 → ⊥
+none_before n h = omega (arith, h)
+
+finished_lane : (done : List (ℕ × ℕ)) (lane other : ℕ) → done_of (with_done done other) lane ≡ done_of done lane + 1 → lane ≡ other
+finished_lane done lane other h = by (lane == other) refl
+  where
+    by : (t : Bool) → (lane == other) ≡ t → lane ≡ other
+    by true e = same_number lane other e
+    by false e = absurd (not_more (done_of done lane) (sym (other_done done lane other e) ∙ h))
+
+-- a lane has one next command
+one_next : (s : State) (tag other : Tag) (command given : Command) → next_command s tag ≡ Some command → next_command s other ≡ Some given → tag.lane ≡ other.lane → tag ≡ other
+one_next s tag other command given next behind number = (next_is s tag command next).tag_is ∙ ap (next_tag s) number ∙ sym (next_is s other given behind).tag_is
+
+record NextOf (s : State) (tag : Tag) (r : Result Decision Refusal) : Type 0 where
+  command : Command
+  next : next_command s tag ≡ Some command
+  is : decision (scene s) command ≡ r
+
+next_of : (s : State) (tag : Tag) (r : Result Decision Refusal) → decided s tag ≡ Some r → NextOf s tag r
+next_of s tag r h = by (next_command s tag) refl h
+  where
+    by : (o : Option Command) → next_command s tag ≡ o → option_map (decision (scene s)) o ≡ Some r → NextOf s tag r
+    by None next h = absurd (cc)
+    by (Some command) next h = record { command = command; next = next; is = some_same h }
+
+-- what is decided of a command of the lane is decided of its next one
+same_decision : (s : State) (tag other : Tag) (command : Command) (r : Result Decision Refusal) → next_command s tag ≡ Some command → decided s other ≡ Some r → tag.lane ≡ other.lane → decision (scene s) command ≡ r
+same_decision s tag other command r next h number =
+    let o = next_of s other r h in
+    let same : tag ≡ other = one_next s tag other command o.command next o.next number in
+    let one : o.command ≡ command = some_same (sym o.next ∙ ap (next_command s) (sym same) ∙ next) in
+    subst (λ c. decision (scene s) c ≡ r) one o.is
+
+-- a command that builds makes no row by itself, and is answered nothing
+makes_none : (s : Scene) (command : Command) (deed : Deed) → builds command ≡ true → decision s command ≡ Ok (Makes deed) → ⊥
+makes_none s (commands.Clearmake v file own_only rebuild jobs macros goals) deed b h = builds_nothing s (first_refusal (clearmake_tests s v)) (units (texts s.base v) file macros goals) deed h
+makes_none s command deed b h = cc
+
+begins_unless : (o : Option Refusal) (us : List Unit) (text : List ℕ) → unless_refused o (Begins us) ≡ Ok (Answers text) → ⊥
+begins_unless (Some refusal) us text h = cc
+begins_unless None us text h = cc
+
+answers_nothing : (s : Scene) (o : Option Refusal) (us : Result (List Unit) Refusal) (text : List ℕ) → build_unless s o us ≡ Ok (Answers text) → ⊥
+answers_nothing s (Some refusal) us text h = cc
+answers_nothing s None (Err refusal) text h = cc
+answers_nothing s None (Ok us) text h = begins_unless (needs_room s (length us)) us text h
+
+answers_none : (s : Scene) (command : Command) (text : List ℕ) → builds command ≡ true → decision s command ≡ Ok (Answers text) → ⊥
+answers_none s (commands.Clearmake v file own_only rebuild jobs macros goals) text b h = answers_nothing s (first_refusal (clearmake_tests s v)) (units (texts s.base v) file macros goals) text h
+answers_none s command text b h = cc
+
+-- a lane in which nothing builds has no active build
+no_build : (s : State) (tag other : Tag) (build : Build) → build_of s.active tag.lane ≡ None → build_by s other ≡ Some build → tag.lane ≡ other.lane → ⊥
+no_build s tag other build idle active number = let some : build_of s.active tag.lane ≡ Some build = ap (build_of s.active) number ∙ of_lane s other build active in cc
+
+-- the lane of a command that is next is idle
+idle_next : (s : State) (tag : Tag) (command : Command) → next_command s tag ≡ Some command → build_of s.active tag.lane ≡ None
+idle_next s tag command next = decided_is_idle s tag (ap (option_map (decision (scene s))) next)
+
+-- a row is committed for no command that builds, where that has not begun
+no_row : (s : State) (tag : Tag) (command : Command) (row : Plain) (deed : Deed) → next_command s tag ≡ Some command → builds command ≡ true → MakesRow s row deed → tag.lane ≡ row.tag.lane → ⊥
+no_row s tag command row (deeds.Publish view targets script entries outputs) next b e number = no_build s tag row.tag e.build (idle_next s tag command next) e.running.waits.active number
+no_row s tag command row (deeds.Wink view id) next b e number = elim e.may [
+  | inl o ↦ no_build s tag row.tag e.build (idle_next s tag command next) o.waits.active number
+  | inr r ↦ no_build s tag row.tag e.build (idle_next s tag command next) r.waits.active number
+]
+no_row s tag command row deed next b e number = makes_none (scene s) command row.deed b (same_decision s tag row.tag command (Ok (Makes row.deed)) next e number)
+
+committed_none : (s : State) (tag : Tag) (command : Command) (row : Plain) (deed : Deed) → next_command s tag ≡ Some command → builds command ≡ true → MakesRow s row deed →
+    done_of (done_after s.done row.tag.lane deed) tag.lane ≡ done_of s.done tag.lane + 1 → ⊥
+committed_none s tag command row (deeds.Publish view targets script entries outputs) next b e h = not_more (done_of s.done tag.lane) h
+committed_none s tag command row (deeds.Wink view id) next b e h = not_more (done_of s.done tag.lane) h
+committed_none s tag command row deed next b e h = no_row s tag command row deed next b e (finished_lane s.done tag.lane row.tag.lane h)
+
+faulted_none : (s : State) (tag other : Tag) (command : Command) (left : Option Plain) (before faults tick : ℕ) (o : Option Build) → next_command s tag ≡ Some command → builds command ≡ true → FaultsAt s other left before faults tick →
+    done_of (done_by_fault s.done other.lane o) tag.lane ≡ done_of s.done tag.lane + 1 → ⊥
+faulted_none s tag other command left before faults tick (Some build) next b e h = not_more (done_of s.done tag.lane) h
+faulted_none s tag other command left before faults tick None next b e h =
+    let wanted = e.wanted in
+    no_row s tag command wanted.row wanted.row.deed next b wanted.may.made (finished_lane s.done tag.lane other.lane h ∙ ap (λ (t : Tag). t.lane) (sym wanted.of_tag))
+
+ended_none : (s : State) (tag other : Tag) (command : Command) (build : Build) → next_command s tag ≡ Some command → build_by s other ≡ Some build → done_of (with_done s.done other.lane) tag.lane ≡ done_of s.done tag.lane + 1 → ⊥
+ended_none s tag other command build next active h = no_build s tag other build (idle_next s tag command next) active (finished_lane s.done tag.lane other.lane h)
+
+refused_so : (s : State) (tag other : Tag) (refusal : Refusal) (command : Command) → next_command s tag ≡ Some command → decided s other ≡ Some (Err refusal) → tag.lane ≡ other.lane → IsRefused s (told.Other (steps.Refused other refusal)) tag
+refused_so s tag other refusal command next e number =
+    let o = next_of s other (Err refusal) e in
+    let same : tag ≡ other = one_next s tag other command o.command next o.next number in
+    record { refusal = refusal; is = ap (λ t. told.Other (steps.Refused t refusal)) (sym same); decided_so = ap (decided s) same ∙ e }
+
+told_refused : (s : State) (step : Step) (tag : Tag) (command : Command) → next_command s tag ≡ Some command → builds command ≡ true → LawfulStep s step →
+    done_of (after_step s step).done tag.lane ≡ done_of s.done tag.lane + 1 → IsRefused s (told.Other step) tag
+told_refused s (steps.Refused other refusal) tag command next b e h = refused_so s tag other refusal command next e (finished_lane s.done tag.lane other.lane h)
+told_refused s (steps.Answer other text) tag command next b e h =
+    absurd (answers_none (scene s) command text b (same_decision s tag other command (Ok (Answers text)) next e (finished_lane s.done tag.lane other.lane h)))
+told_refused s (steps.Begin other rows count) tag command next b e h = absurd (not_more (done_of s.done tag.lane) h)
+told_refused s (steps.Start other n) tag command next b e h = absurd (not_more (done_of s.done tag.lane) h)
+told_refused s (steps.Settled other n end) tag command next b e h = absurd (not_more (done_of s.done tag.lane) h)
+told_refused s (steps.End other) tag command next b e h = absurd (ended_none s tag other command e.build next e.active h)
+told_refused s (steps.Fault other left before faults tick) tag command next b e h = absurd (faulted_none s tag other command left before faults tick (build_by s other) next b e h)
+told_refused s step tag command next b e h = absurd e
+
+pub is_refused : (s : State) (x : Told) (tag : Tag) (command : Command) → next_command s tag ≡ Some command → builds command ≡ true → Lawful s x → done_of (after s x).done tag.lane ≡ done_of s.done tag.lane + 1 → IsRefused s x tag
+is_refused s (told.Opened rows counts tells) tag command next b e h = absurd (not_more (done_of s.done tag.lane) h)
+is_refused s (told.Plan phase moment) tag command next b e h = absurd (none_before (done_of s.done tag.lane) h)
+is_refused s (told.Commit row tick) tag command next b e h = absurd (committed_none s tag command row row.deed next b e.may.made h)
+is_refused s (told.Other step) tag command next b e h = told_refused s step tag command next b e h
+
+-- In a lane with an active build no command is decided.
+not_decided : (s : State) (lane : ℕ) (build : Build) (other : Tag) (r : Result Decision Refusal) → build_of s.active lane ≡ Some build → decided s other ≡ Some r → lane ≡ other.lane → ⊥
+not_decided s lane build other r is e number = let idle : build_of s.active lane ≡ None = ap (build_of s.active) number ∙ decided_is_idle s other e in cc
+
+committed_ends : (s : State) (lane : ℕ) (build : Build) (row : Plain) (deed : Deed) → build_of s.active lane ≡ Some build → MakesRow s row deed → done_of (done_after s.done row.tag.lane deed) lane ≡ done_of s.done lane + 1 → ⊥
+committed_ends s lane build row (deeds.Publish view targets script entries outputs) is e h = not_more (done_of s.done lane) h
+committed_ends s lane build row (deeds.Wink view id) is e h = not_more (done_of s.done lane) h
+committed_ends s lane build row deed is e h = not_decided s lane build row.tag (Ok (Makes row.deed)) is e (finished_lane s.done lane row.tag.lane h)
+
+-- the command of a row that a build makes has that build
+built_row : (s : State) (lane : ℕ) (build : Build) (row : Plain) (deed : Deed) → build_of s.active lane ≡ Some build → MakesRow s row deed → build_by s row.tag ≡ None → lane ≡ row.tag.lane → ⊥
+built_row s lane build row (deeds.Publish view targets script entries outputs) is e none number = let some = e.running.waits.active in cc
+built_row s lane build row (deeds.Wink view id) is e none number = elim e.may [
+  | inl o ↦ let some = o.waits.active in cc
+  | inr r ↦ let some = r.waits.active in cc
+]
+built_row s lane build row deed is e none number = not_decided s lane build row.tag (Ok (Makes row.deed)) is e number
+
+faulted_ends : (s : State) (lane : ℕ) (build : Build) (other : Tag) (left : Option Plain) (before faults tick : ℕ) (o : Option Build) → build_by s other ≡ o → build_of s.active lane ≡ Some build → FaultsAt s other left before faults tick →
+    done_of (done_by_fault s.done other.lane o) lane ≡ done_of s.done lane + 1 → ⊥
+faulted_ends s lane build other left before faults tick (Some own) by_tag is e h = not_more (done_of s.done lane) h
+faulted_ends s lane build other left before faults tick None by_tag is e h =
+    let wanted = e.wanted in
+    built_row s lane build wanted.row wanted.row.deed is wanted.may.made (ap (build_by s) wanted.of_tag ∙ by_tag) (finished_lane s.done lane other.lane h ∙ ap (λ (t : Tag). t.lane) (sym wanted.of_tag))
+
+told_ended : (s : State) (step : Step) (lane : ℕ) (build : Build) → build_of s.active lane ≡ Some build → LawfulStep s step → done_of (after_step s step).done lane ≡ done_of s.done lane + 1 → IsLeft s (told.Other step) lane build
+told_ended s (steps.Refused other refusal) lane build is e h = absurd (not_decided s lane build other (Err refusal) is e (finished_lane s.done lane other.lane h))
+told_ended s (steps.Answer other text) lane build is e h = absurd (not_decided s lane build other (Ok (Answers text)) is e (finished_lane s.done lane other.lane h))
+told_ended s (steps.Begin other rows count) lane build is e h = absurd (not_more (done_of s.done lane) h)
+told_ended s (steps.Start other n) lane build is e h = absurd (not_more (done_of s.done lane) h)
+told_ended s (steps.Settled other n end) lane build is e h = absurd (not_more (done_of s.done lane) h)
+told_ended s (steps.End other) lane build is e h = ends_so s other lane build is e (finished_lane s.done lane other.lane h)
+told_ended s (steps.Fault other left before faults tick) lane build is e h = absurd (faulted_ends s lane build other left before faults tick (build_by s other) refl is e h)
+told_ended s step lane build is e h = absurd e
+
+pub is_ended : (s : State) (x : Told) (lane : ℕ) (build : Build) → build_of s.active lane ≡ Some build → Lawful s x → done_of (after s x).done lane ≡ done_of s.done lane + 1 → IsLeft s x lane build
+is_ended s (told.Opened rows counts tells) lane build is e h = absurd (not_more (done_of s.done lane) h)
+is_ended s (told.Plan phase moment) lane build is e h = absurd (none_before (done_of s.done lane) h)
+is_ended s (told.Commit row tick) lane build is e h = absurd (committed_ends s lane build row row.deed is e.may.made h)
+is_ended s (told.Other step) lane build is e h = told_ended s step lane build is e h

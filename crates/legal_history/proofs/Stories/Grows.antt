@@ -1,0 +1,68 @@
+-- Along a legal story the base only grows, and an active build goes on until it ends.
+use Rattle.std.proofs.Common.{◌≡◌, refl, ap, sym, subst, ◌∙◌, true, List, [], ◌∷◌, ◌++◌, append_assoc}
+use Rattle.std.proofs.lemmas.List.{append-nil}
+use Rattle.std.specs.Prelude.{is_some}
+use Rattle.cc_names.specs.declared.steps.Step.{Step}
+use Rattle.cc_names.specs.declared.steps.Step.TheVariants as steps
+use Rattle.cc_names.specs.declared.steps.Told.{Told}
+use Rattle.cc_names.specs.declared.steps.Told.TheVariants as told
+use Rattle.legal_history.specs.Base.{Base}
+use Rattle.legal_history.specs.Growth.{Extends}
+use Rattle.legal_history.specs.States.{State, start}
+use Rattle.legal_history.specs.Steps.{after, after_step, state_from, state_of}
+use Rattle.legal_history.specs.Stories.{Lawful, LegalFrom, Legal}
+use Rattle.legal_history.proofs.Stories.Fronts.{state_goes_on, rest_is_legal, first_opens}
+
+pub extends_itself : (b : Base) → Extends b b
+extends_itself b = record { more = []; is = refl }
+
+pub extends_on : {a b c : Base} → Extends a b → Extends b c → Extends a c
+extends_on h g = record { more = g.more ++ h.more; is = g.is ∙ ap (λ b. g.more ++ b) h.is ∙ sym (append_assoc g.more h.more _) }
+
+-- a step that is told as it stands leaves the base
+base_stays : (s : State) (step : Step) → (after_step s step).base ≡ s.base
+base_stays s (steps.Refused tag refusal) = refl
+base_stays s (steps.Answer tag text) = refl
+base_stays s (steps.Begin tag rows units) = refl
+base_stays s (steps.Start tag n) = refl
+base_stays s (steps.Settled tag n outcome) = refl
+base_stays s (steps.End tag) = refl
+base_stays s (steps.Fault tag left before faults tick) = refl
+base_stays s step = refl
+
+pub step_extends : (s : State) (x : Told) → is_some s.opened ≡ true → Lawful s x → Extends s.base (after s x).base
+step_extends s (told.Opened rows counts tells) o h = absurd (let e = h.first in cc)
+step_extends s (told.Plan phase moment) o h = extends_itself s.base
+step_extends s (told.Commit row tick) o h = record { more = row ∷ []; is = refl }
+step_extends s (told.Other step) o h = record { more = []; is = base_stays s step }
+
+opened_stays_told : (s : State) (step : Step) → (after_step s step).opened ≡ s.opened
+opened_stays_told s (steps.Refused tag refusal) = refl
+opened_stays_told s (steps.Answer tag text) = refl
+opened_stays_told s (steps.Begin tag rows units) = refl
+opened_stays_told s (steps.Start tag n) = refl
+opened_stays_told s (steps.Settled tag n outcome) = refl
+opened_stays_told s (steps.End tag) = refl
+opened_stays_told s (steps.Fault tag left before faults tick) = refl
+opened_stays_told s step = refl
+
+pub stays_opened : (s : State) (x : Told) → is_some s.opened ≡ true → is_some (after s x).opened ≡ true
+stays_opened s (told.Opened rows counts tells) o = refl
+stays_opened s (told.Plan phase moment) o = o
+stays_opened s (told.Commit row tick) o = o
+stays_opened s (told.Other step) o = rw (opened_stays_told s step) o
+
+pub story_extends : (s : State) (story : List Told) → is_some s.opened ≡ true → LegalFrom s story → Extends s.base (state_from s story).base
+story_extends s [] o h = extends_itself s.base
+story_extends s (x ∷ story) o h = extends_on (step_extends s x o h.0) (story_extends (after s x) story (stays_opened s x o) h.1)
+
+-- a state to which a legal story has led by a first step is opened
+pub is_opened : (s : State) (story : List Told) → is_some s.opened ≡ true → is_some (state_from s story).opened ≡ true
+is_opened s [] o = o
+is_opened s (x ∷ story) o = is_opened (after s x) story (stays_opened s x o)
+
+pub base_grows : (front rest : List Told) → Legal (front ++ rest) → Extends (state_of front).base (state_of (front ++ rest)).base
+base_grows [] rest h = record { more = (state_of rest).base; is = sym (append-nil _) }
+base_grows (x ∷ front) rest h =
+    subst (λ s. Extends (state_of (x ∷ front)).base s.base) (sym (state_goes_on (after start x) front rest))
+    (story_extends (state_of (x ∷ front)) rest (is_opened (after start x) front (first_opens x h.0)) (rest_is_legal (after start x) front rest h.1))

@@ -1,0 +1,132 @@
+-- Along a legal story the rows stay a base, and every active build agrees with the build from nothing.
+use Rattle.std.proofs.Common.{◌≡◌, refl, ap, sym, subst, ◌∙◌, ℕ, ◌<◌, ◌≤◌, true, ◌&&◌, Some, List, [], ◌∷◌, arith, nat_lt}
+use Rattle.std.proofs.lemmas.Bool.{ltb-true}
+use Rattle.std.specs.Bool.{⊤}
+use Rattle.std.specs.Prelude.{is_some, reverse}
+use Rattle.std.specs.List.{list_all}
+use Rattle.cc_names.specs.declared.rows.Deed.{Deed}
+use Rattle.cc_names.specs.declared.rows.Deed.TheVariants as deeds
+use Rattle.cc_names.specs.declared.rows.Tag.{Tag}
+use Rattle.cc_names.specs.declared.steps.Step.TheVariants as steps
+use Rattle.cc_names.specs.declared.steps.Told.{Told}
+use Rattle.cc_names.specs.declared.steps.Told.TheVariants as told
+use Rattle.cc_names.specs.declared.units.Unit.{Unit}
+use Rattle.legal_history.specs.Base.{Base, size}
+use Rattle.legal_history.specs.Builds.{Build, build_of}
+use Rattle.legal_history.specs.Choices.{here, visible, entries}
+use Rattle.legal_history.specs.Conditions.{exists, is_entry}
+use Rattle.legal_history.specs.Decisions.{Makes}
+use Rattle.legal_history.specs.Fits.{fits, is_base, row_limit}
+use Rattle.legal_history.specs.Freshness.{AgreesSoFar, IsReady}
+use Rattle.legal_history.specs.States.{State, scene, start}
+use Rattle.legal_history.specs.Steps.{after, active_after, state_from, state_of}
+use Rattle.legal_history.specs.Committing.{MakesRow}
+use Rattle.legal_history.specs.Stories.{Lawful, LegalFrom, Legal}
+use Rattle.legal_history.proofs.Decisions.DecidedFits.{decided_fits}
+use Rattle.legal_history.proofs.Stories.Fronts.{first_opens}
+use Rattle.legal_history.proofs.Stories.Goes.{of_lane}
+use Rattle.legal_history.proofs.Stories.Grows.{stays_opened}
+use Rattle.legal_history.proofs.Bases.Owned.{and_first}
+use Rattle.legal_history.proofs.Builds.AllBuilds.{Each}
+use Rattle.legal_history.proofs.Builds.BuildSteps.{step_fine}
+use Rattle.legal_history.proofs.Stories.DecidedSteps.{decided_of, none_chosen}
+use Rattle.legal_history.proofs.Builds.FineBuilds.{IsFine}
+use Rattle.legal_history.proofs.Builds.EntriesFit.{entries_fit}
+use Rattle.legal_history.proofs.Builds.Published.{IsPublish, is_publish}
+use Rattle.legal_history.proofs.Builds.RoomSteps.{HasRoom, step_room, room_for}
+
+-- A state is sound where a base was opened, its rows are a base, each active build agrees in a view that exists, and there
+-- is room for a row of each unit that waits.
+pub record IsSound (s : State) : Type 0 where
+  pub opened : is_some s.opened ≡ true
+  pub base : is_base s.base ≡ true
+  pub fine : Each (λ lane. IsFine s.base) s.active
+  pub room : HasRoom s.base s.active
+
+publish_fits : (b : Base) (build : Build) (n : ℕ) (unit : Unit) (deed : Deed) → IsFine b build → IsReady build unit → nat_lt (size b) row_limit ≡ true → IsPublish b build n unit deed → fits b deed ≡ true
+publish_fits b build n unit deed h ready room p =
+    subst (λ d. fits b d ≡ true) (sym p.is)
+    (ap (λ t. t && (exists b build.view && list_all (is_entry b) (entries (visible b build n unit) (here b build n unit).reads))) room
+    ∙ ap (λ t. t && list_all (is_entry b) (entries (visible b build n unit) (here b build n unit).reads)) h.there
+    ∙ entries_fit b build n unit (here b build n unit).reads h.agrees ready)
+
+committed_fits : (s : State) (tag : Tag) (moment : ℕ) (deed : Deed) → IsSound s → MakesRow s (record { tag = tag; moment = moment; deed = deed }) deed →
+    HasRoom (record { tag = tag; moment = moment; deed = deed } ∷ s.base) (active_after s.base s.active tag.lane deed) → fits s.base deed ≡ true
+committed_fits s tag moment (deeds.Publish view targets script entries outputs) h e room =
+    let fine = h.fine.holds tag.lane e.build (of_lane s tag e.build e.running.waits.active) in
+    publish_fits s.base e.build e.n e.unit (deeds.Publish view targets script entries outputs) fine (fine.agrees.ready e.n e.unit e.running.waits.is_unit (ap is_some e.running.started))
+    (room_for s.base (record { tag = tag; moment = moment; deed = deeds.Publish view targets script entries outputs }) _ room)
+    (is_publish s.base e.build e.n e.unit (deeds.Publish view targets script entries outputs) e.made)
+committed_fits s tag moment (deeds.Wink view id) h e room = absurd (none_chosen id e.chosen)
+committed_fits s tag moment deed h e room = let d = decided_of s tag (Makes deed) e in decided_fits (scene s) d.command h.base deed d.is
+
+step_base : (s : State) (x : Told) → IsSound s → Lawful s x → HasRoom (after s x).base (after s x).active → is_base (after s x).base ≡ true
+step_base s (told.Opened rows counts tells) h e room = e.fits
+step_base s (told.Plan phase moment) h e room = h.base
+step_base s (told.Commit row tick) h e room = ap (λ t. t && is_base s.base) (committed_fits s row.tag row.moment row.deed h e.may.made room) ∙ h.base
+step_base s (told.Other (steps.Refused tag refusal)) h e room = h.base
+step_base s (told.Other (steps.Answer tag text)) h e room = h.base
+step_base s (told.Other (steps.Begin tag rows count)) h e room = h.base
+step_base s (told.Other (steps.Start tag n)) h e room = h.base
+step_base s (told.Other (steps.Settled tag n end)) h e room = h.base
+step_base s (told.Other (steps.End tag)) h e room = h.base
+step_base s (told.Other (steps.Fault tag left before faults tick)) h e room = h.base
+step_base s (told.Other step) h e room = h.base
+
+pub sound_step : (s : State) (x : Told) → IsSound s → Lawful s x → IsSound (after s x)
+sound_step s x h e =
+    let room = step_room s x h.opened h.room e in
+    record { opened = stays_opened s x h.opened; base = step_base s x h e room; fine = step_fine s x h.base h.opened h.fine e; room = room }
+
+sound_from : (s : State) (story : List Told) → IsSound s → LegalFrom s story → IsSound (state_from s story)
+sound_from s [] h e = h
+sound_from s (x ∷ story) h e = sound_from (after s x) story (sound_step s x h e.0) e.1
+
+-- a base has no more rows than the limit
+base_within : (b : Base) → is_base b ≡ true → size b ≤ row_limit
+base_within [] h = omega arith
+base_within (row ∷ older) h = let low : size older < row_limit = ltb-true _ _ (and_first _ _ (and_first _ _ h)) in omega arith
+
+-- the first step of a legal story is that one
+abbrev IsOpening : Told → Type 0
+IsOpening (told.Opened rows counts tells) = ⊤
+IsOpening x = ⊥
+
+opens_first : (x : Told) → Lawful start x → IsOpening x
+opens_first (told.Opened rows counts tells) e = tt
+opens_first (told.Plan phase moment) e = let opened = first_opens (told.Plan phase moment) e in cc
+opens_first (told.Commit row tick) e = let opened = first_opens (told.Commit row tick) e in cc
+opens_first (told.Other (steps.Refused tag refusal)) e = let opened = first_opens (told.Other (steps.Refused tag refusal)) e in cc
+opens_first (told.Other (steps.Answer tag text)) e = let opened = first_opens (told.Other (steps.Answer tag text)) e in cc
+opens_first (told.Other (steps.Begin tag rows count)) e = let opened = first_opens (told.Other (steps.Begin tag rows count)) e in cc
+opens_first (told.Other (steps.Start tag n)) e = let opened = first_opens (told.Other (steps.Start tag n)) e in cc
+opens_first (told.Other (steps.Settled tag n end)) e = let opened = first_opens (told.Other (steps.Settled tag n end)) e in cc
+opens_first (told.Other (steps.End tag)) e = let opened = first_opens (told.Other (steps.End tag)) e in cc
+opens_first (told.Other (steps.Fault tag left before faults tick)) e = let opened = first_opens (told.Other (steps.Fault tag left before faults tick)) e in cc
+opens_first (told.Other step) e = e
+
+-- after it nothing builds
+pub none_active : (x : Told) → Lawful start x → (after start x).active ≡ []
+none_active (told.Opened rows counts tells) e = refl
+none_active x e = absurd (opens_first x e)
+
+pub sound_first : (x : Told) → Lawful start x → IsSound (after start x)
+sound_first (told.Opened rows counts tells) e = record {
+  opened = refl;
+  base = e.fits;
+  fine = record { holds = λ lane build is. absurd (cc) };
+  room = record { sorted = tt; room = let within = base_within (reverse rows) e.fits in omega arith };
+}
+sound_first x e = absurd (opens_first x e)
+
+-- A legal story with a step leads to a sound state.
+pub story_is_sound : (x : Told) (story : List Told) → Legal (x ∷ story) → IsSound (state_of (x ∷ story))
+story_is_sound x story h = sound_from (after start x) story (sound_first x h.0) h.1
+
+pub base_fits : (story : List Told) → Legal story → is_base (state_of story).base ≡ true
+base_fits [] h = refl
+base_fits (x ∷ story) h = (story_is_sound x story h).base
+
+pub build_agrees : (story : List Told) (lane : ℕ) (build : Build) → Legal story → build_of (state_of story).active lane ≡ Some build → AgreesSoFar (state_of story).base build
+build_agrees [] lane build h is = absurd (cc)
+build_agrees (x ∷ story) lane build h is = ((story_is_sound x story h).fine.holds lane build is).agrees

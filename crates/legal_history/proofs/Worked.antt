@@ -1,0 +1,20 @@
+-- Worked rows: what closed bases, stories and sessions come to, by computation.
+mod BranchRows
+mod CheckoutRows
+mod FaultRows
+mod FirstBuild
+mod LabelRows
+mod MergeRows
+mod NoSteps
+mod QueryRows
+mod RecordRows
+mod Replies
+mod ReuseRows
+mod ScrubRows
+mod Selection
+mod StoryRows
+mod TimeRows
+pub mod TwoViews
+mod UnitLines
+mod UnlawfulBuilds
+mod UnlawfulRows

@@ -1,0 +1,62 @@
+-- A branch is made by a rule of the config spec, and another rule lets nothing be checked out.
+use Rattle.std.proofs.Common.{◌≡◌, refl, ℕ, true, false, Some, Ok, Err, List, [], ◌∷◌, ◌++◌, map}
+use Rattle.std.specs.Prelude.{codes}
+use Rattle.std.specs.Fmt.{digits}
+use Rattle.cc_names.specs.declared.commands.Command.TheVariants as commands
+use Rattle.cc_names.specs.declared.refusals.Refusal.TheVariants as refusals
+use Rattle.cc_names.specs.declared.rows.Deed.TheVariants as deeds
+use Rattle.cc_names.specs.declared.rows.Out.TheVariants as outs
+use Rattle.cc_names.specs.declared.rows.TypeKind.TheVariants as type_kinds
+use Rattle.legal_history.specs.Base.{Base}
+use Rattle.legal_history.specs.Decisions.{Makes}
+use Rattle.legal_history.specs.Fits.{is_base}
+use Rattle.legal_history.specs.Seen.{file_at}
+use Rattle.legal_history.specs.VersionNames.{line, version_name}
+use Rattle.legal_history.specs.Worked.{base_of, decisions}
+use Rattle.legal_history.proofs.Worked.TwoViews.{v, w, two_views, all_deeds}
+
+abbrev a_file : List ℕ
+a_file = codes "in"
+
+-- the config spec, whose third rule makes the branch
+abbrev spec : List ℕ
+spec =
+    line (codes "element * CHECKEDOUT") ++ line (codes "element in .../fix/LATEST")
+    ++ line (codes "element in /main/LATEST -mkbranch fix") ++ line (codes "element * /main/LATEST -nocheckout")
+
+a_rule_makes_a_branch :
+    decisions two_views (
+    commands.Mkbrtype (codes "fix")
+    ∷ commands.Setcs w spec
+    ∷ commands.Checkout w false a_file
+    ∷ commands.Save w a_file (line (codes "foo"))
+    ∷ commands.Checkin w false a_file
+    ∷ commands.Checkout w false (codes "Makefile")
+    ∷ commands.Checkout w false a_file ∷ [])
+    ≡
+    Ok (Makes (deeds.Mktype type_kinds.Branch (codes "fix")))
+    ∷ Ok (Makes (deeds.Setcs w spec))
+    ∷ Ok (Makes (deeds.Branch w 6 8 (codes "fix") outs.Reserved))
+    ∷ Ok (Makes (deeds.Save w 6 (line (codes "foo"))))
+    ∷ Ok (Makes (deeds.Checkin w 6))
+    ∷ Err (refusals.NoCheckoutRule 4)
+    ∷ Ok (Makes (deeds.Checkout w 6 17 true))
+    ∷ []
+a_rule_makes_a_branch = refl
+
+-- the rows that were made of this
+abbrev branched : Base
+branched = base_of (all_deeds ++ (deeds.Mktype type_kinds.Branch (codes "fix") ∷ deeds.Setcs w spec
+    ∷ deeds.Branch w 6 8 (codes "fix") outs.Reserved ∷ deeds.Save w 6 (line (codes "foo")) ∷ deeds.Checkin w 6
+    ∷ deeds.Checkout w 6 17 true ∷ []))
+
+the_branch_fits : is_base branched ≡ true
+the_branch_fits = refl
+
+versions_on_the_branch_have_names :
+    map (version_name branched) (15 ∷ 17 ∷ []) ≡ codes "/main/fix/0" ∷ codes "/main/fix/1" ∷ []
+unfolding digits
+versions_on_the_branch_have_names = refl
+
+each_view_sees_its_own : map (λ view. file_at branched view a_file) (v ∷ w ∷ []) ≡ Some 8 ∷ Some 18 ∷ []
+each_view_sees_its_own = refl

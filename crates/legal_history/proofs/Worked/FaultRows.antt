@@ -1,0 +1,109 @@
+-- A whole story: a build under which the disk fails, and the same command once more.
+use Rattle.std.proofs.Common.{◌≡◌, refl, inl, ℕ, true, false, Some, None, List, [], ◌∷◌, ◌++◌}
+use Rattle.std.specs.Prelude.{codes, option_map}
+use native.Mathlib.Bridge.{le_by_compare, IsLe}
+use Rattle.cc_names.specs.Formed.{Plain}
+use Rattle.cc_names.specs.declared.commands.Command.{Command}
+use Rattle.cc_names.specs.declared.commands.Command.TheVariants as commands
+use Rattle.cc_names.specs.declared.rows.Deed.TheVariants as deeds
+use Rattle.cc_names.specs.declared.steps.Step.TheVariants as steps
+use Rattle.cc_names.specs.declared.steps.Told.{Told}
+use Rattle.cc_names.specs.declared.steps.Told.TheVariants as told
+use Rattle.legal_history.specs.Builds.{Given}
+use Rattle.legal_history.specs.States.{all_done, build_by}
+use Rattle.legal_history.specs.Steps.{state_of}
+use Rattle.legal_history.specs.Stories.{Legal}
+use Rattle.legal_history.specs.Worked.{tag, row}
+use Rattle.legal_history.proofs.Worked.StoryRows.{one_lane, opened, comes_after}
+use Rattle.legal_history.proofs.Worked.TwoViews.{v, hi, makefile, script}
+
+abbrev build : Command
+build = commands.Clearmake v None false false 1 [] (codes "out" ∷ [])
+
+-- the row that the first of two builds of private files publishes, and that of the second
+abbrev pub published : ℕ → Plain
+published n = row n (deeds.Publish v (codes "out" ∷ []) script (record { path = codes "in"; row = 3 } ∷ []) (hi ∷ []))
+
+-- the files that are built
+abbrev pub before_build : List Told
+before_build =
+    opened
+    ∷ told.Plan (one_lane (commands.Mkview v ∷ commands.Save v (codes "Makefile") makefile ∷ commands.Save v (codes "in") hi
+    ∷ build ∷ build ∷ [])) 1700000000
+    ∷ told.Commit (row 1 (deeds.Mkview v)) 7
+    ∷ told.Commit (row 2 (deeds.Put v (codes "Makefile") makefile)) 11
+    ∷ told.Commit (row 3 (deeds.Put v (codes "in") hi)) 15
+    ∷ []
+
+abbrev pub before_fault : List Told
+before_fault = before_build ++ (told.Other (steps.Begin (tag 1 1 4) 4 1) ∷ told.Other (steps.Start (tag 1 1 4) 0) ∷ [])
+
+-- the disk fails at the first build's last sync, so that its row may be found
+abbrev fault : Told
+fault = told.Other (steps.Fault (tag 1 1 4) (Some (published 4)) 0 1 19)
+
+the_first_build_meets_it : option_map (λ build. build.faulted) (build_by (state_of (before_fault ++ (fault ∷ []))) (tag 1 1 4)) ≡ Some true
+the_first_build_meets_it = refl
+
+-- the second build makes the row anew, two calls of the disk settle what the fault left, and four commit the row
+abbrev fails_once : List Told
+fails_once =
+    before_fault ++ (fault
+    ∷ told.Other (steps.End (tag 1 1 4))
+    ∷ told.Other (steps.Begin (tag 1 1 5) 4 1)
+    ∷ told.Other (steps.Start (tag 1 1 5) 0)
+    ∷ told.Commit (published 5) 25
+    ∷ told.Other (steps.End (tag 1 1 5))
+    ∷ [])
+
+fails_once_is_legal : Legal fails_once
+unfolding IsLe
+fails_once_is_legal = (
+  record { first = refl; fits = refl },
+  (
+    record { opened = refl; finished = refl; in_time = le_by_compare 1700000000 253402300799 tt },
+    (
+      record { may = record { moment = refl; made = refl }; ticked = refl },
+      (
+        record { may = record { moment = refl; made = refl }; ticked = refl },
+        (
+          record { may = record { moment = refl; made = refl }; ticked = refl },
+          (
+            record { units = _; chosen = refl; at_rows = refl; of_units = refl },
+            (
+              record { build = _; unit = _; open_unit = record { waits = record { active = refl; is_unit = refl; waits = refl }; sound = refl; ready = refl; runs = refl }; nothing = refl },
+              (
+                record { wanted = record { row = published 4; of_tag = refl; may = record { moment = refl; made = record { n = 0; build = _; unit = _; place = refl; running = record { waits = record { active = refl; is_unit = refl; waits = refl }; started = refl }; nothing = refl; made = refl } } }; rose = refl; later = le_by_compare 0 0 tt; leaves = inl (refl, record { moment = refl; made = record { n = 0; build = _; unit = _; place = refl; running = record { waits = record { active = refl; is_unit = refl; waits = refl }; started = refl }; nothing = refl; made = refl } }); ticked = refl },
+                (
+                  record { build = _; active = refl; over = refl },
+                  (
+                    record { units = _; chosen = refl; at_rows = refl; of_units = refl },
+                    (
+                      record { build = _; unit = _; open_unit = record { waits = record { active = refl; is_unit = refl; waits = refl }; sound = refl; ready = refl; runs = refl }; nothing = refl },
+                      (
+                        record { may = record { moment = refl; made = record { n = 0; build = _; unit = _; place = refl; running = record { waits = record { active = refl; is_unit = refl; waits = refl }; started = refl }; nothing = refl; made = refl } }; ticked = refl },
+                        (record { build = _; active = refl; over = refl }, tt),
+                      ),
+                    ),
+                  ),
+                ),
+              ),
+            ),
+          ),
+        ),
+      ),
+    ),
+  ),
+)
+
+both_are_finished : all_done (state_of fails_once) ≡ true
+both_are_finished = refl
+
+the_second_build_has_its_object : comes_after 12 5 fails_once ≡ Some ((0, Given 4) ∷ [])
+the_second_build_has_its_object = refl
+
+-- the base has the row of the second build alone
+one_object_is_published :
+    (state_of fails_once).base
+    ≡ published 5 ∷ row 3 (deeds.Put v (codes "in") hi) ∷ row 2 (deeds.Put v (codes "Makefile") makefile) ∷ row 1 (deeds.Mkview v) ∷ []
+one_object_is_published = refl

@@ -1,0 +1,128 @@
+-- A whole story: two views that build, the second one by its own run.
+use Rattle.std.proofs.Common.{◌≡◌, refl, ℕ, true, Option, Some, List, [], ◌∷◌, ◌++◌}
+use Rattle.std.specs.Prelude.{codes, take, option_map}
+use native.Mathlib.Bridge.{le_by_compare, IsLe}
+use Rattle.cc_names.specs.declared.commands.Command.{Command}
+use Rattle.cc_names.specs.declared.commands.Command.TheVariants as commands
+use Rattle.cc_names.specs.declared.commands.Phase.{Phase}
+use Rattle.cc_names.specs.declared.rows.Deed.TheVariants as deeds
+use Rattle.cc_names.specs.declared.rows.Kind.TheVariants.{File}
+use Rattle.cc_names.specs.declared.steps.Step.TheVariants as steps
+use Rattle.cc_names.specs.declared.steps.Told.{Told}
+use Rattle.cc_names.specs.declared.steps.Told.TheVariants as told
+use Rattle.legal_history.specs.Builds.{Came, Given}
+use Rattle.legal_history.specs.States.{all_done, build_by}
+use Rattle.legal_history.specs.Steps.{state_of}
+use Rattle.legal_history.specs.Stories.{Legal}
+use Rattle.legal_history.specs.Worked.{tag, row, base_of}
+use Rattle.legal_history.proofs.Worked.ReuseRows.{publish_in}
+use Rattle.legal_history.proofs.Worked.TwoViews.{v, w, hi, makefile, first_commands, first_deeds, clearmake, publish}
+
+-- a phase of one lane
+abbrev pub one_lane : List Command → Phase
+one_lane commands = record { lanes = record { name = codes "a"; commands = commands } ∷ [] }
+
+abbrev pub opened : Told
+opened = told.Opened [] (record { ticks = 0; faults = 0 }) true
+
+-- each row takes four calls of the disk, and the three before them open it
+abbrev both_build : List Told
+both_build =
+    opened
+    ∷ told.Plan (one_lane (first_commands ++ (clearmake v ∷ commands.Mkview w ∷ clearmake w ∷ []))) 1700000000
+    ∷ told.Commit (row 1 (deeds.Mkview v)) 7
+    ∷ told.Commit (row 2 (deeds.Checkout v 0 0 true)) 11
+    ∷ told.Commit (row 3 (deeds.Mkelem v 0 (codes "Makefile") File true)) 15
+    ∷ told.Commit (row 4 (deeds.Save v 3 makefile)) 19
+    ∷ told.Commit (row 5 (deeds.Checkin v 3)) 23
+    ∷ told.Commit (row 6 (deeds.Mkelem v 0 (codes "in") File true)) 27
+    ∷ told.Commit (row 7 (deeds.Save v 6 hi)) 31
+    ∷ told.Commit (row 8 (deeds.Checkin v 6)) 35
+    ∷ told.Commit (row 9 (deeds.Checkin v 0)) 39
+    ∷ told.Other (steps.Begin (tag 1 1 10) 10 1)
+    ∷ told.Other (steps.Start (tag 1 1 10) 0)
+    ∷ told.Commit (row 10 publish) 43
+    ∷ told.Other (steps.End (tag 1 1 10))
+    ∷ told.Commit (row 11 (deeds.Mkview w)) 47
+    ∷ told.Other (steps.Begin (tag 1 1 12) 12 1)
+    ∷ told.Other (steps.Start (tag 1 1 12) 0)
+    ∷ told.Commit (row 12 (publish_in w)) 51
+    ∷ told.Other (steps.End (tag 1 1 12))
+    ∷ []
+
+both_build_is_legal : Legal both_build
+unfolding IsLe
+both_build_is_legal = (
+  record { first = refl; fits = refl },
+  (
+    record { opened = refl; finished = refl; in_time = le_by_compare 1700000000 253402300799 tt },
+    (
+      record { may = record { moment = refl; made = refl }; ticked = refl },
+      (
+        record { may = record { moment = refl; made = refl }; ticked = refl },
+        (
+          record { may = record { moment = refl; made = refl }; ticked = refl },
+          (
+            record { may = record { moment = refl; made = refl }; ticked = refl },
+            (
+              record { may = record { moment = refl; made = refl }; ticked = refl },
+              (
+                record { may = record { moment = refl; made = refl }; ticked = refl },
+                (
+                  record { may = record { moment = refl; made = refl }; ticked = refl },
+                  (
+                    record { may = record { moment = refl; made = refl }; ticked = refl },
+                    (
+                      record { may = record { moment = refl; made = refl }; ticked = refl },
+                      (
+                        record { units = _; chosen = refl; at_rows = refl; of_units = refl },
+                        (
+                          record { build = _; unit = _; open_unit = record { waits = record { active = refl; is_unit = refl; waits = refl }; sound = refl; ready = refl; runs = refl }; nothing = refl },
+                          (
+                            record { may = record { moment = refl; made = record { n = 0; build = _; unit = _; place = refl; running = record { waits = record { active = refl; is_unit = refl; waits = refl }; started = refl }; nothing = refl; made = refl } }; ticked = refl },
+                            (
+                              record { build = _; active = refl; over = refl },
+                              (
+                                record { may = record { moment = refl; made = refl }; ticked = refl },
+                                (
+                                  record { units = _; chosen = refl; at_rows = refl; of_units = refl },
+                                  (
+                                    record { build = _; unit = _; open_unit = record { waits = record { active = refl; is_unit = refl; waits = refl }; sound = refl; ready = refl; runs = refl }; nothing = refl },
+                                    (
+                                      record { may = record { moment = refl; made = record { n = 0; build = _; unit = _; place = refl; running = record { waits = record { active = refl; is_unit = refl; waits = refl }; started = refl }; nothing = refl; made = refl } }; ticked = refl },
+                                      (record { build = _; active = refl; over = refl }, tt),
+                                    ),
+                                  ),
+                                ),
+                              ),
+                            ),
+                          ),
+                        ),
+                      ),
+                    ),
+                  ),
+                ),
+              ),
+            ),
+          ),
+        ),
+      ),
+    ),
+  ),
+)
+
+both_are_finished : all_done (state_of both_build) ≡ true
+both_are_finished = refl
+
+-- what the units of a command's build have come to after so many steps
+abbrev pub comes_after : ℕ → ℕ → List Told → Option (List (ℕ × Came))
+comes_after steps command story = option_map (λ build. build.comes) (build_by (state_of (take steps story)) (tag 1 1 command))
+
+the_first_has_its_own_object : comes_after 14 10 both_build ≡ Some ((0, Given 10) ∷ [])
+the_first_has_its_own_object = refl
+
+the_second_has_its_own_object : comes_after 19 12 both_build ≡ Some ((0, Given 12) ∷ [])
+the_second_has_its_own_object = refl
+
+both_have_their_objects : (state_of both_build).base ≡ base_of (first_deeds ++ (publish ∷ deeds.Mkview w ∷ publish_in w ∷ []))
+both_have_their_objects = refl

@@ -1,5 +1,0 @@
-use Rattle.legal_history.proofs.laws.a_build_goes_on.Goals as goal
-use Rattle.legal_history.proofs.Goes.{step_goes}
-
-pub returns : goal.returns
-returns c = step_goes

@@ -1,0 +1,5 @@
+use Rattle.legal_history.proofs.laws.bases.a_scrub_takes_no_held_object.Goals as goal
+use Rattle.legal_history.proofs.Bases.HeldObjects.{scrub_takes}
+
+pub returns : goal.returns
+returns c = scrub_takes

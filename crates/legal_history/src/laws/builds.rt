@@ -1,0 +1,87 @@
+// The laws of builds in legal stories. Each is the contract of a function with an empty body.
+
+ghost use Rattle.std.specs.Prelude.{◌≡◌, ℕ, ◌+◌, List, ◌++◌, Some, None, is_some, true, false};
+ghost use Rattle.cc_names.specs.References.{held_at};
+ghost use Rattle.cc_names.specs.declared.commands.Command.{Command};
+ghost use Rattle.cc_names.specs.declared.rows.Tag.{Tag};
+ghost use Rattle.cc_names.specs.declared.steps.Told.{Told};
+ghost use Rattle.cc_names.specs.declared.units.Unit.{Unit};
+ghost use Rattle.legal_history.specs.Base.{Base};
+ghost use Rattle.legal_history.specs.Builds.{Build, build_of, came_to, unit_at, is_outcome};
+ghost use Rattle.legal_history.specs.Changes.{held};
+ghost use Rattle.legal_history.specs.Choices.{here, visible};
+ghost use Rattle.legal_history.specs.Commanded.{IsOfCommand};
+ghost use Rattle.legal_history.specs.Freshness.{AgreesSoFar};
+ghost use Rattle.legal_history.specs.Growth.{Goes};
+ghost use Rattle.legal_history.specs.Laws.Ends.{IsLeft, IsRefused, builds};
+ghost use Rattle.legal_history.specs.Laws.Given.{HoldsGiven};
+ghost use Rattle.legal_history.specs.Replied.{reply_of, reply_from_nothing};
+ghost use Rattle.legal_history.specs.Serials.{makes};
+ghost use Rattle.legal_history.specs.States.{State, done_of, next_command};
+ghost use Rattle.legal_history.specs.Steps.{after, state_of};
+ghost use Rattle.legal_history.specs.Stories.{Lawful, Legal};
+ghost use Rattle.legal_history.specs.Turns.{is_complete};
+
+/// After a lawful step an active build is over, or it goes on: it is the same build of the same units, and no outcome of a
+/// unit has changed.
+pub fn a_build_goes_on()
+    ensures { (s : State) (x : Told) (lane : ℕ) (build : Build) → build_of s.active lane ≡ Some build → Lawful s x → Goes build (build_of (after s x).active lane) }
+{}
+
+/// After a lawful step a build that was active and is no more was left by its own end.
+pub fn a_build_is_left_by_its_end()
+    ensures { (s : State) (x : Told) (lane : ℕ) (build : Build) → build_of s.active lane ≡ Some build → Lawful s x → build_of (after s x).active lane ≡ None → IsLeft s x lane build }
+{}
+
+/// A command that builds is finished by its refusal, or by the end of its build, and by nothing else: neither by a row, nor by
+/// an answer, nor by a fault of the disk.
+pub fn a_build_is_finished_by_its_refusal_or_its_end()
+    ensures refusal { (s : State) (x : Told) (tag : Tag) (command : Command) → next_command s tag ≡ Some command → builds command ≡ true → Lawful s x → done_of (after s x).done tag.lane ≡ done_of s.done tag.lane + 1 → IsRefused s x tag }
+    ensures end { (s : State) (x : Told) (lane : ℕ) (build : Build) → build_of s.active lane ≡ Some build → Lawful s x → done_of (after s x).done lane ≡ done_of s.done lane + 1 → IsLeft s x lane build }
+{}
+
+/// An active build is the one of its lane's command, and its units are those that the command's build from nothing has at
+/// the build's reference rows.
+pub fn a_build_is_of_its_command()
+    ensures { (story : List Told) (lane : ℕ) (build : Build) → Legal story → build_of (state_of story).active lane ≡ Some build → IsOfCommand (state_of story) lane build }
+{}
+
+/// What a started unit sees is the same before and after each lawful step, while its build goes on: the row that stands at
+/// each path, and what the run of its script gives on the texts there.
+pub fn a_started_unit_sees_the_same()
+    ensures run { (story : List Told) (x : Told) (lane : ℕ) (old new : Build) (n : ℕ) (unit : Unit) → Legal story → Lawful (state_of story) x → build_of (state_of story).active lane ≡ Some old → build_of (after (state_of story) x).active lane ≡ Some new → unit_at old n ≡ Some unit → is_some (came_to old n) ≡ true → here (after (state_of story) x).base new n unit ≡ here (state_of story).base old n unit }
+    ensures seen { (story : List Told) (x : Told) (lane : ℕ) (old new : Build) (n : ℕ) (unit : Unit) (path : List ℕ) → Legal story → Lawful (state_of story) x → build_of (state_of story).active lane ≡ Some old → build_of (after (state_of story) x).active lane ≡ Some new → unit_at old n ≡ Some unit → is_some (came_to old n) ≡ true → visible (after (state_of story) x).base new n unit path ≡ visible (state_of story).base old n unit path }
+{}
+
+/// What a unit of an active build of a legal story sees at a path, and what its run gives on that, never changes when rows
+/// are added.
+pub fn what_a_unit_sees_stays()
+    ensures seen { (story : List Told) (lane : ℕ) (build : Build) (more : Base) (n : ℕ) (unit : Unit) (path : List ℕ) → Legal story → build_of (state_of story).active lane ≡ Some build → visible (more ++ (state_of story).base) build n unit path ≡ visible (state_of story).base build n unit path }
+    ensures run { (story : List Told) (lane : ℕ) (build : Build) (more : Base) (n : ℕ) (unit : Unit) → Legal story → build_of (state_of story).active lane ≡ Some build → here (more ++ (state_of story).base) build n unit ≡ here (state_of story).base build n unit }
+{}
+
+/// What a build's view holds at a target of a unit is the same before and after each lawful step, until the unit has its
+/// outcome: no other lane changes it under the unit.
+pub fn the_place_of_a_unit_stays()
+    ensures { (story : List Told) (x : Told) (lane : ℕ) (old new : Build) (n : ℕ) (unit : Unit) (path : List ℕ) → Legal story → Lawful (state_of story) x → build_of (state_of story).active lane ≡ Some old → build_of (after (state_of story) x).active lane ≡ Some new → unit_at old n ≡ Some unit → is_outcome (came_to new n) ≡ false → makes path unit ≡ true → held_at (held (after (state_of story) x).base) old.view path ≡ held_at (held (state_of story).base) old.view path }
+{}
+
+/// Along a legal story each object that an active build has given to a unit is live, and the build's view holds it at every
+/// target of the unit, whatever rows other lanes have committed since.
+pub fn a_given_object_is_held()
+    ensures { (story : List Told) (lane : ℕ) (build : Build) → Legal story → build_of (state_of story).active lane ≡ Some build → HoldsGiven (state_of story).base build }
+{}
+
+/// What each unit of an active build has come to so far agrees with the build from nothing at the build's reference rows,
+/// whatever rows were committed since. So far no step reuses an object; what one that does leaves, in a sound base, is told by
+/// `a_kept_object_agrees` and `a_winked_object_agrees`.
+pub fn a_build_agrees()
+    ensures { (story : List Told) (lane : ℕ) (build : Build) → Legal story → build_of (state_of story).active lane ≡ Some build → AgreesSoFar (state_of story).base build }
+{}
+
+/// A build whose units all have their outcomes is replied as the build from nothing at its reference rows: unit by unit the
+/// same success, fault or block, and the same length and digest. Where the disk failed under a build this holds as well, but
+/// the build is replied a fault of the disk in place of these lines.
+pub fn a_build_is_as_from_nothing()
+    ensures { (story : List Told) (lane : ℕ) (build : Build) → Legal story → build_of (state_of story).active lane ≡ Some build → is_complete build ≡ true → reply_of (state_of story).base build ≡ reply_from_nothing (state_of story).base build }
+{}

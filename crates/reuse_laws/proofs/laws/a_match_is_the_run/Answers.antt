@@ -1,6 +1,0 @@
-use Rattle.reuse_laws.proofs.laws.a_match_is_the_run.Goals as goal
-use Rattle.reuse_laws.proofs.Matched.{match_is_run}
-use Rattle.reuse_laws.proofs.Reusables.{first_are_base}
-
-pub returns : goal.returns
-returns c = λ b build n unit id base sound gives is match. match_is_run b build n unit id base (first_are_base b build.rows base) sound gives is match

@@ -1,8 +1,0 @@
-use Rattle.reuse_laws.proofs.laws.a_matching_entry_is_seen.Goals as goal
-use Rattle.reuse_laws.proofs.MatchedEntries.{absent_is_unseen, entry_is_seen}
-
-pub returns-clause-row : goal.returns-clause-row
-returns-clause-row c = entry_is_seen
-
-pub returns-clause-absent : goal.returns-clause-absent
-returns-clause-absent c = absent_is_unseen

@@ -1,9 +1,0 @@
-use Rattle.reuse_laws.proofs.laws.no_match_is_passed_over.Goals as goal
-use Rattle.reuse_laws.proofs.OwnRecords.{no_second_record}
-use Rattle.reuse_laws.proofs.PassedOver.{nothing_passed_over}
-
-pub returns-clause-live : goal.returns-clause-live
-returns-clause-live c = nothing_passed_over
-
-pub returns-clause-record_is_new : goal.returns-clause-record_is_new
-returns-clause-record_is_new c = no_second_record

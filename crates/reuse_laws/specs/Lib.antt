@@ -1,4 +1,0 @@
-pub mod FromNothing
-pub mod Given
-pub mod Objects
-pub mod Selected

@@ -1,5 +1,0 @@
-pub mod GoingOn
-pub mod Leaving
-pub mod Rising
-pub mod Room
-pub mod Started

@@ -1,0 +1,39 @@
+-- Calls that leave both files as they were.
+use Rattle.std.proofs.Common.{Option, Some, None, refl, sym, ◌∙◌, subst, inl, inr}
+use Rattle.disk_model.specs.Devices.{Device, Measures, Idles}
+use Rattle.disk_model.specs.Told.{Both}
+use Rattle.vob_journal.specs.Reads.{Rests, SameFiles}
+use Rattle.vob_journal.proofs.Telling.{both_map, both_then}
+
+pub files_stay : (d : Device) → SameFiles d d
+files_stay d = record { journal = refl; objects = refl }
+
+pub files_then : (d e f : Device) → SameFiles d e → SameFiles e f → SameFiles d f
+files_then d e f one two = record { journal = two.journal ∙ one.journal; objects = two.objects ∙ one.objects }
+
+measured_files : (d e : Device) → Measures 0 d e → SameFiles d e
+measured_files d e is = subst (SameFiles d) (sym is) (record { journal = refl; objects = refl })
+
+idle_files : (d e : Device) → Idles d e → SameFiles d e
+idle_files d e (inl same) = subst (SameFiles d) (sym same) (files_stay d)
+idle_files d e (inr missed) = subst (SameFiles d) (sym missed) (record { journal = refl; objects = refl })
+
+rests_files : (d e : Device) → Rests d e → SameFiles d e
+rests_files d e rests = record { journal = rests.same; objects = rests.passes.objects }
+
+-- the same of what is told before and after
+pub told_stay : (told : Option Device) → Both SameFiles told told
+told_stay None = tt
+told_stay (Some d) = files_stay d
+
+pub told_then : (old mid new : Option Device) → Both SameFiles old mid → Both SameFiles mid new → Both SameFiles old new
+told_then old mid new one two = both_then SameFiles SameFiles SameFiles old mid new files_then one two
+
+pub told_measured : (old new : Option Device) → Both (Measures 0) old new → Both SameFiles old new
+told_measured old new is = both_map (Measures 0) SameFiles old new measured_files is
+
+pub told_idle : (old new : Option Device) → Both Idles old new → Both SameFiles old new
+told_idle old new idles = both_map Idles SameFiles old new idle_files idles
+
+pub told_rests : (old new : Option Device) → Both Rests old new → Both SameFiles old new
+told_rests old new rests = both_map Rests SameFiles old new rests_files rests
