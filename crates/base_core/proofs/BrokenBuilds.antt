@@ -21,7 +21,7 @@ use Rattle.legal_history.specs.Steps.{after, state_of, done_by_fault, faulted_in
 use Rattle.legal_history.specs.Committing.{FaultsAt, Leaves, MayCommit, rises}
 use Rattle.legal_history.specs.Stories.{EndsBuild, Legal}
 use Rattle.legal_history.specs.Turns.{is_complete}
-use Rattle.legal_history.specs.Freshness.{AgreesSoFar}
+use Rattle.legal_history.specs.Consistency.{IsConsistent}
 use Rattle.base_core.specs.Appending.{MayLeave}
 use Rattle.base_core.specs.BuildCalls.{IsObjectRow}
 use Rattle.base_core.specs.Building.{IsBuildKept}
@@ -183,15 +183,15 @@ broken_finishes log story lane build tag left before faults tick sight same is t
         ∙ ap (λ t. record s1 { done = with_done s.done t.lane; active = without_build s1.active t.lane }) tagged
 
 -- what is kept where the row of what a unit's run gave was not committed
-pub kept_broken_object : (log : Logged) (lanes : List (List Reply)) (builds : List (Option Build)) (now : ℕ) (story : List Told) (lane n : ℕ) (row : Plain) (tag : Tag) (left : Option Plain) (before faults tick : ℕ) (sight : Sight) → rises before faults ≡ true → faults_of (state_of log.story).opened (state_of log.story).ends ≤ before → MayLeave (state_of log.story) row left → rises (ticks_of (state_of log.story).opened (state_of log.story).ends) tick ≡ true → log.story ≡ story → IsKept log lanes builds now → IsObjectRow (state_of story) lane n row → tag ≡ next_tag (state_of story) lane → ((told : List Told) (l : ℕ) (b : Build) → Legal told → build_of (state_of told).active l ≡ Some b → AgreesSoFar (state_of told).base b) → IsFormed row → IsKept (with_step (with_step_on log (steps.Fault row.tag left before faults tick) sight) (steps.End tag)) (with_reply lanes lane replies.DiskFault) (set builds (lane - 1) None) now
-kept_broken_object log lanes builds now story lane n row tag left before faults tick sight rose later leaves ticked same h object tagged agree formed =
+pub kept_broken_object : (log : Logged) (lanes : List (List Reply)) (builds : List (Option Build)) (now : ℕ) (story : List Told) (lane n : ℕ) (row : Plain) (tag : Tag) (left : Option Plain) (before faults tick : ℕ) (sight : Sight) → rises before faults ≡ true → faults_of (state_of log.story).opened (state_of log.story).ends ≤ before → MayLeave (state_of log.story) row left → rises (ticks_of (state_of log.story).opened (state_of log.story).ends) tick ≡ true → log.story ≡ story → IsKept log lanes builds now → IsObjectRow (state_of story) lane n row → tag ≡ next_tag (state_of story) lane → ((told : List Told) (l : ℕ) (b : Build) → Legal told → build_of (state_of told).active l ≡ Some b → IsConsistent (state_of told).base b) → IsFormed row → IsKept (with_step (with_step_on log (steps.Fault row.tag left before faults tick) sight) (steps.End tag)) (with_reply lanes lane replies.DiskFault) (set builds (lane - 1) None) now
+kept_broken_object log lanes builds now story lane n row tag left before faults tick sight rose later leaves ticked same h object tagged consistent formed =
     let s = state_of log.story in
     let here : IsObjectRow s lane n row = subst (λ t. IsObjectRow (state_of t) lane n row) (sym same) object in
     let slot = lane_slot log lanes builds now lane here.build h here.active in
     let of_tag : tag ≡ next_tag s lane = tagged ∙ ap (λ t. next_tag (state_of t) lane) (sym same) in
     subst (λ t. IsKept (with_step (with_step_on log (steps.Fault row.tag left before faults tick) sight) (steps.End t)) (with_reply lanes lane replies.DiskFault) (set builds (lane - 1) None) now) (sym of_tag)
     (subst (λ t. IsKept (with_step (with_step_on log (steps.Fault t left before faults tick) sight) (steps.End (next_tag s lane))) (with_reply lanes lane replies.DiskFault) (set builds (lane - 1) None) now) (sym here.of_tag)
-    (kept_broken log lanes builds now lane here.build row left before faults tick sight rose later leaves ticked h slot.from (omega (arith, slot.upto, h.count)) here.active here.of_tag (object_may log lanes builds now lane n row h here agree)
+    (kept_broken log lanes builds now lane here.build row left before faults tick sight rose later leaves ticked h slot.from (omega (arith, slot.upto, h.count)) here.active here.of_tag (object_may log lanes builds now lane n row h here consistent)
     (record { formed = formed; known = object_known s lane n row here })))
 
 -- how the story went on

@@ -15,14 +15,14 @@ use Rattle.build_core.specs.declared.steps.UnitStep.{UnitStep}
 use Rattle.build_script.specs.Run.{Ran}
 use Rattle.build_script.specs.declared.lines.Line.{Line}
 use Rattle.legal_history.specs.Base.{Base, first_rows}
-use Rattle.legal_history.specs.Builds.{Build, Came, Started, build_of, came_to, is_outcome}
-use Rattle.legal_history.specs.Freshness.{AgreesSoFar}
+use Rattle.legal_history.specs.Builds.{Build, Started, build_of, came_to, is_outcome}
+use Rattle.legal_history.specs.Consistency.{IsConsistent}
 use Rattle.legal_history.specs.States.{State}
 use Rattle.legal_history.specs.Steps.{state_of}
 use Rattle.legal_history.specs.Stories.{Legal}
 use Rattle.legal_history.specs.Turns.{all_over}
 use Rattle.legal_history.specs.Views.{view_row}
-use Rattle.base_core.specs.BuildCalls.{IsCarried, IsBuilding, IsTurn, StepsTo, MaySettle, HasScript, IsStarted, HasRun, IsOver, Noted}
+use Rattle.base_core.specs.BuildCalls.{IsCarried, IsTurn, StepsTo, MaySettle, HasScript, IsStarted, HasRun, IsOver, Noted}
 use Rattle.base_core.specs.Building.{IsBuildKept}
 use Rattle.base_core.specs.declared.tried.Carried.{Carried}
 use Rattle.base_core.specs.declared.tried.Carried.TheVariants as carries
@@ -30,7 +30,7 @@ use Rattle.base_core.specs.Going.{StillBuilds, GoesOn, HasOutcome}
 use Rattle.base_core.specs.Kept.{IsKept}
 use Rattle.base_core.specs.Logs.{Logged}
 use Rattle.base_core.proofs.Closing.{build_is_by}
-use Rattle.base_core.proofs.Goings.{goes_nowhere, goes_further, finishes_further}
+use Rattle.base_core.proofs.Goings.{goes_further, finishes_further}
 use Rattle.base_core.proofs.Idle.{some_same}
 use Rattle.base_core.proofs.Lanes.{one_or_two}
 use Rattle.base_core.proofs.StepsSo.{steps_so}
@@ -67,14 +67,10 @@ pub view_there : (story : List Told) (lane : ℕ) (build : Build) (b : Base) →
 view_there story lane build b h e = subst (λ b. IsSome (view_row (first_rows build.rows b) build.view)) e h.kept.view
 
 -- what comes next for a unit whose turn it is
-pub turn_steps : (story : List Told) (b : Base) (lane n : ℕ) (build : Build) (step : UnitStep) → IsTurn (state_of story) lane n → IsFound story lane build → AgreesSoFar (state_of story).base build → (state_of story).base ≡ b → IsStep b build n step → StepsTo (state_of story) lane n step
-turn_steps story b lane n build step turn h agrees same so =
+pub turn_steps : (story : List Told) (b : Base) (lane n : ℕ) (build : Build) (step : UnitStep) → IsTurn (state_of story) lane n → IsFound story lane build → IsConsistent (state_of story).base build → (state_of story).base ≡ b → IsStep b build n step → StepsTo (state_of story) lane n step
+turn_steps story b lane n build step turn h consistent same so =
     let is : turn.build ≡ build = some_same turn.build build (sym turn.active ∙ h.active) in
-    steps_so (state_of story) b lane n build step h.kept h.active (subst (λ t. n < length t.units) is turn.within) (subst (λ t. (k : ℕ) → k < n → is_outcome (came_to t k) ≡ true) is turn.earlier) agrees same so
-
--- a unit that came to an end has its outcome
-pub ended_has : (old new : List Told) (lane n : ℕ) (came : Came) → is_outcome (Some came) ≡ true → Noted old new lane n came → GoesOn old new lane × HasOutcome (state_of new) lane n
-ended_has old new lane n came over noted = (noted.goes, record { build = noted.build; active = noted.active; outcome = ap is_outcome noted.came_to_it ∙ over })
+    steps_so (state_of story) b lane n build step h.kept h.active (subst (λ t. n < length t.units) is turn.within) (subst (λ t. (k : ℕ) → k < n → is_outcome (came_to t k) ≡ true) is turn.earlier) consistent same so
 
 -- a unit whose script was started has it still
 pub started_has : (old new : List Told) (lane n : ℕ) (script : List Line) (targets : List (List ℕ)) → HasScript (state_of old) lane n script targets → Noted old new lane n Started → GoesOn old new lane × IsStarted (state_of new) lane n script targets
@@ -111,20 +107,6 @@ pub record AreCarried (old new : List Told) (lane n count : ℕ) : Type 0 where
   pub active : build_of (state_of new).active lane ≡ Some build
   pub of_units : length build.units ≡ count
   pub earlier : (m : ℕ) → m < n → is_outcome (came_to build m) ≡ true
-
--- at first none
-pub none_carried : (story : List Told) (lane count : ℕ) → IsBuilding (state_of story) lane count → AreCarried story story lane 0 count
-none_carried story lane count h = record {
-  goes = goes_nowhere story lane;
-  build = h.build;
-  active = h.active;
-  of_units = h.of_units;
-  earlier = λ m less. absurd (omega (arith, less));
-}
-
--- then it is the turn of the next one
-pub next_turn : (old new : List Told) (lane n count : ℕ) → n < count → AreCarried old new lane n count → IsTurn (state_of new) lane n
-next_turn old new lane n count less h = record { build = h.build; active = h.active; within = omega (arith, less, h.of_units); earlier = h.earlier }
 
 -- and then one more was carried out
 pub one_carried : (old mid new : List Told) (lane n count : ℕ) → AreCarried old mid lane n count → GoesOn mid new lane → HasOutcome (state_of new) lane n → AreCarried old new lane (n + 1) count

@@ -22,7 +22,7 @@ use Rattle.legal_history.specs.Builds.{Build, Given, build_of, is_outcome, unit_
 use Rattle.legal_history.specs.Choices.{entries, here, publish_by, visible}
 use Rattle.legal_history.specs.Closures.{is_among}
 use Rattle.legal_history.specs.Fits.{is_base}
-use Rattle.legal_history.specs.Freshness.{AgreesSoFar}
+use Rattle.legal_history.specs.Consistency.{IsConsistent}
 use Rattle.legal_history.specs.Fresh.{script_text}
 use Rattle.legal_history.specs.States.{State, Committed, start, next_tag, ticks_of}
 use Rattle.legal_history.specs.Steps.{active_after, done_after, noted_in, state_of, with_came}
@@ -47,11 +47,11 @@ all_at P (y ∷ ys) zero x all e = subst P (some_same y x e) all.0
 all_at P (y ∷ ys) (suc n) x all e = all_at P ys n x all.1 e
 
 -- the unit with a unit's first target is that unit
-pub first_place : (b : Base) (build : Build) (n : ℕ) (unit : Unit) (targets : List (List ℕ)) → AgreesSoFar b build → unit_at build n ≡ Some unit → targets ≡ unit.targets → targets ≢ [] → unit_with_first build targets ≡ Some n
-first_place b build n unit [] agrees is same some = absurd (some refl)
-first_place b build n unit (target ∷ targets) agrees is same some =
+pub first_place : (b : Base) (build : Build) (n : ℕ) (unit : Unit) (targets : List (List ℕ)) → IsConsistent b build → unit_at build n ≡ Some unit → targets ≡ unit.targets → targets ≢ [] → unit_with_first build targets ≡ Some n
+first_place b build n unit [] consistent is same some = absurd (some refl)
+first_place b build n unit (target ∷ targets) consistent is same some =
     let first : is_among target (target ∷ targets) ≡ true = ap (λ c. c || is_among target targets) ((bytes_eq-Decides target target).1 refl) in
-    agrees.in_order.one n unit target is (ap (is_among target) (sym same) ∙ first)
+    consistent.in_order.one n unit target is (ap (is_among target) (sym same) ∙ first)
 
 -- the deed that a unit's run makes is one of its targets
 pub record IsDeedOf (build : Build) (unit : Unit) (deed : Deed) : Type 0 where
@@ -78,24 +78,24 @@ pub object_known : (s : State) (lane n : ℕ) (row : Plain) → IsObjectRow s la
 object_known s lane n row h = subst IsKnown (sym (row_told s lane n row h).is) tt
 
 -- the row may be committed
-pub object_may : (log : Logged) (lanes : List (List Reply)) (builds : List (Option Build)) (now lane n : ℕ) (row : Plain) → IsKept log lanes builds now → (here : IsObjectRow (state_of log.story) lane n row) → ((told : List Told) (l : ℕ) (b : Build) → Legal told → build_of (state_of told).active l ≡ Some b → AgreesSoFar (state_of told).base b) → MayCommit (state_of log.story) row
-object_may log lanes builds now lane n row h here agree =
+pub object_may : (log : Logged) (lanes : List (List Reply)) (builds : List (Option Build)) (now lane n : ℕ) (row : Plain) → IsKept log lanes builds now → (here : IsObjectRow (state_of log.story) lane n row) → ((told : List Told) (l : ℕ) (b : Build) → Legal told → build_of (state_of told).active l ≡ Some b → IsConsistent (state_of told).base b) → MayCommit (state_of log.story) row
+object_may log lanes builds now lane n row h here consistent =
     let s = state_of log.story in
     let told = row_told s lane n row here in
     let formed : IsUnitFormed here.unit = all_at IsUnitFormed here.build.units n here.unit (h.building lane here.build here.active).formed.units here.is_unit in
-    let place : unit_with_first here.build told.targets ≡ Some n = first_place s.base here.build n here.unit told.targets (agree log.story lane here.build h.legal here.active) here.is_unit told.of_unit (λ e. formed.0.1 (sym told.of_unit ∙ e)) in
+    let place : unit_with_first here.build told.targets ≡ Some n = first_place s.base here.build n here.unit told.targets (consistent log.story lane here.build h.legal here.active) here.is_unit told.of_unit (λ e. formed.0.1 (sym told.of_unit ∙ e)) in
     subst (MayCommit s) (sym (row_is s lane n now row here told h.agrees.moment))
     (may_publish log lanes builds now lane n here.build here.unit here.build.view told.targets told.script told.reads told.outputs h here.active here.is_unit here.started place (here.made ∙ ap Some told.is))
 
 -- what is kept then
-pub kept_object : (log : Logged) (lanes : List (List Reply)) (builds more : List (Option Build)) (now : ℕ) (story : List Told) (lane n number : ℕ) (row : Plain) (tick : ℕ) (sight : Sight) → rises (ticks_of (state_of log.story).opened (state_of log.story).ends) tick ≡ true → log.story ≡ story → IsKept log lanes builds now → IsObjectRow (state_of story) lane n row → number ≡ suc (length log.rows) → ((told : List Told) → Legal told → is_base (state_of told).base ≡ true) → ((told : List Told) (l : ℕ) (b : Build) → Legal told → build_of (state_of told).active l ≡ Some b → AgreesSoFar (state_of told).base b) → ((build : Build) → held_in builds (lane - 1) ≡ Some build → more ≡ set builds (lane - 1) (Some (with_came build (Some n) (Given number)))) → IsFormed row → IsKept (with_row log row tick sight) lanes more now
-kept_object log lanes builds more now story lane n number row tick sight ticked same h object counted based agree set_so formed_row =
+pub kept_object : (log : Logged) (lanes : List (List Reply)) (builds more : List (Option Build)) (now : ℕ) (story : List Told) (lane n number : ℕ) (row : Plain) (tick : ℕ) (sight : Sight) → rises (ticks_of (state_of log.story).opened (state_of log.story).ends) tick ≡ true → log.story ≡ story → IsKept log lanes builds now → IsObjectRow (state_of story) lane n row → number ≡ suc (length log.rows) → ((told : List Told) → Legal told → is_base (state_of told).base ≡ true) → ((told : List Told) (l : ℕ) (b : Build) → Legal told → build_of (state_of told).active l ≡ Some b → IsConsistent (state_of told).base b) → ((build : Build) → held_in builds (lane - 1) ≡ Some build → more ≡ set builds (lane - 1) (Some (with_came build (Some n) (Given number)))) → IsFormed row → IsKept (with_row log row tick sight) lanes more now
+kept_object log lanes builds more now story lane n number row tick sight ticked same h object counted based consistent set_so formed_row =
     let s = state_of log.story in
     let here : IsObjectRow s lane n row = subst (λ t. IsObjectRow (state_of t) lane n row) (sym same) object in
     let slot = lane_slot log lanes builds now lane here.build h here.active in
     let told = row_told s lane n row here in
     let formed : IsUnitFormed here.unit = all_at IsUnitFormed here.build.units n here.unit (h.building lane here.build here.active).formed.units here.is_unit in
-    let place : unit_with_first here.build told.targets ≡ Some n = first_place s.base here.build n here.unit told.targets (agree log.story lane here.build h.legal here.active) here.is_unit told.of_unit (λ e. formed.0.1 (sym told.of_unit ∙ e)) in
+    let place : unit_with_first here.build told.targets ≡ Some n = first_place s.base here.build n here.unit told.targets (consistent log.story lane here.build h.legal here.active) here.is_unit told.of_unit (λ e. formed.0.1 (sym told.of_unit ∙ e)) in
     let newest : number ≡ size s.base = omega (arith, counted, ap length h.agrees.base, length-reverse log.rows) in
     subst (λ bs. IsKept (with_row log row tick sight) lanes bs now) (sym (set_so here.build slot.held))
     (subst (λ k. IsKept (with_row log row tick sight) lanes (set builds (lane - 1) (Some (with_came here.build (Some n) (Given k)))) now) (sym newest)
@@ -104,8 +104,8 @@ kept_object log lanes builds more now story lane n number row tick sight ticked 
     (subst IsFormed (row_is s lane n now row here told h.agrees.moment) formed_row))))
 
 -- how the story went on
-pub object_so : (log : Logged) (lanes : List (List Reply)) (builds : List (Option Build)) (now : ℕ) (story : List Told) (lane n : ℕ) (row : Plain) (tick : ℕ) (sight : Sight) → log.story ≡ story → IsKept log lanes builds now → IsObjectRow (state_of story) lane n row → ((told : List Told) (l : ℕ) (b : Build) → Legal told → build_of (state_of told).active l ≡ Some b → AgreesSoFar (state_of told).base b) → GoesOn story (with_row log row tick sight).story lane × HasOutcome (state_of (with_row log row tick sight).story) lane n
-object_so log lanes builds now story lane n row tick sight same h object agree = (
+pub object_so : (log : Logged) (lanes : List (List Reply)) (builds : List (Option Build)) (now : ℕ) (story : List Told) (lane n : ℕ) (row : Plain) (tick : ℕ) (sight : Sight) → log.story ≡ story → IsKept log lanes builds now → IsObjectRow (state_of story) lane n row → ((told : List Told) (l : ℕ) (b : Build) → Legal told → build_of (state_of told).active l ≡ Some b → IsConsistent (state_of told).base b) → GoesOn story (with_row log row tick sight).story lane × HasOutcome (state_of (with_row log row tick sight).story) lane n
+object_so log lanes builds now story lane n row tick sight same h object consistent = (
   record {
     steps = x ∷ [];
     grows = ap (λ t. t ++ x ∷ []) same;
@@ -132,7 +132,7 @@ object_so log lanes builds now story lane n row tick sight same h object agree =
     formed = all_at IsUnitFormed object.build.units n object.unit (h.building lane object.build (ap (λ t. build_of (state_of t).active lane) same ∙ object.active)).formed.units object.is_unit
 
     place : unit_with_first object.build deed.targets ≡ Some n
-    place = first_place s.base object.build n object.unit deed.targets (subst (λ t. AgreesSoFar (state_of t).base object.build) same (agree log.story lane object.build h.legal (ap (λ t. build_of (state_of t).active lane) same ∙ object.active))) object.is_unit deed.of_unit (λ e. formed.0.1 (sym deed.of_unit ∙ e))
+    place = first_place s.base object.build n object.unit deed.targets (subst (λ t. IsConsistent (state_of t).base object.build) same (consistent log.story lane object.build h.legal (ap (λ t. build_of (state_of t).active lane) same ∙ object.active))) object.is_unit deed.of_unit (λ e. formed.0.1 (sym deed.of_unit ∙ e))
 
     grown : State
     grown = record s { base = row ∷ s.base; active = put nat_cmp lane noted s.active; ends = Committed row tick ∷ s.ends }

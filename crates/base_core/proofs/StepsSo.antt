@@ -10,7 +10,7 @@ use Rattle.build_script.specs.Lines.{script_of}
 use Rattle.legal_history.specs.Base.{Base, first_rows}
 use Rattle.legal_history.specs.Builds.{Build, build_of, came_to, is_outcome, unit_at}
 use Rattle.legal_history.specs.Fresh.{script_text, sees_file, sees_directory}
-use Rattle.legal_history.specs.Freshness.{AgreesSoFar}
+use Rattle.legal_history.specs.Consistency.{IsConsistent}
 use Rattle.legal_history.specs.Serials.{standing_or_file}
 use Rattle.legal_history.specs.States.{State, next_tag}
 use Rattle.legal_history.specs.UnitTurns.{Waits}
@@ -37,12 +37,12 @@ starts s lane n build unit fault kept active within is waits runs fault_is = rec
 }
 
 -- what comes next, in the words of the calls
-pub steps_so : (s : State) (b : Base) (lane n : ℕ) (build : Build) (step : UnitStep) → IsBuildKept s lane build → build_of s.active lane ≡ Some build → n < length build.units → ((k : ℕ) → k < n → is_outcome (came_to build k) ≡ true) → AgreesSoFar s.base build → s.base ≡ b → IsStep b build n step → StepsTo s lane n step
-steps_so s b lane n build step kept active within earlier agrees same h = here step (subst (λ c. IsStep c build n step) (sym same) h)
+pub steps_so : (s : State) (b : Base) (lane n : ℕ) (build : Build) (step : UnitStep) → IsBuildKept s lane build → build_of s.active lane ≡ Some build → n < length build.units → ((k : ℕ) → k < n → is_outcome (came_to build k) ≡ true) → IsConsistent s.base build → s.base ≡ b → IsStep b build n step → StepsTo s lane n step
+steps_so s b lane n build step kept active within earlier consistent same h = here step (subst (λ c. IsStep c build n step) (sym same) h)
   where
     here : (step : UnitStep) → IsStep s.base build n step → StepsTo s lane n step
     here next.Settled h = record { build = build; active = active; outcome = h }
-    here (next.NotReady m) h = waits_for_none s.base build n m h.unit agrees h.is_unit earlier h.next
+    here (next.NotReady m) h = waits_for_none s.base build n m h.unit consistent h.is_unit earlier h.next
     here (next.Settle end) h = record {
       build = build;
       active = active;

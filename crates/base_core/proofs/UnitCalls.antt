@@ -1,17 +1,13 @@
 -- What the calls on a unit of a lane's build rest on.
 use Rattle.std.proofs.Common.{◌≡◌, ℕ, ◌<◌, ◌||◌, Bool, true, false, Option, Some, None, List, [], ◌∷◌, refl, ap, sym, subst, ◌∙◌}
 use Rattle.std.specs.Bool.{⊤}
-use Rattle.std.specs.Ordering.{nat_cmp}
-use Rattle.std.specs.FinMap.Entries.{put}
 use Rattle.std.specs.Option.{option_or}
 use Rattle.std.specs.Prelude.{IsSome, bytes_eq, find, option_map}
 use Rattle.std.proofs.lemmas.Slice.Eq.{bytes_eq-Decides}
 use Rattle.cc_names.specs.declared.commands.Command.{Command}
 use Rattle.cc_names.specs.declared.desks.Next.TheVariants as nexts
-use Rattle.cc_names.specs.declared.refusals.ScriptFault.{ScriptFault}
 use Rattle.cc_names.specs.declared.refusals.UnitFault.TheVariants as faults
 use Rattle.cc_names.specs.declared.rows.Tag.{Tag}
-use Rattle.cc_names.specs.declared.steps.Step.TheVariants as steps
 use Rattle.cc_names.specs.declared.steps.UnitEnd.{UnitEnd}
 use Rattle.cc_names.specs.declared.steps.UnitEnd.TheVariants as ends
 use Rattle.cc_names.specs.declared.units.Unit.{Unit}
@@ -19,15 +15,13 @@ use Rattle.cc_names.specs.declared.units.UnitScript.{UnitScript}
 use Rattle.cc_names.specs.declared.units.UnitScript.TheVariants as scripts
 use Rattle.build_core.specs.UnitSteps.{Awaits, awaited, first_awaited, unless_over}
 use Rattle.legal_history.specs.Base.{Base}
-use Rattle.legal_history.specs.Builds.{Build, Ended, came_to, is_outcome, unit_at, unit_with}
+use Rattle.legal_history.specs.Builds.{Build, came_to, is_outcome, unit_at, unit_with}
 use Rattle.legal_history.specs.Closures.{is_among}
-use Rattle.legal_history.specs.Freshness.{AgreesSoFar}
+use Rattle.legal_history.specs.Consistency.{IsConsistent}
 use Rattle.legal_history.specs.Serials.{Standing, early_end, first_end, no_directory, no_script, outside, is_missing, is_bad}
 use Rattle.legal_history.specs.States.{State, next_tag}
-use Rattle.legal_history.specs.Steps.{came_of_unit, came_by_starting, noted_in, with_came}
 use Rattle.legal_history.specs.UnitTurns.{Settles, EndsEarly}
-use Rattle.legal_history.specs.Turns.{came_by_start, early}
-use Rattle.base_core.specs.BuildCalls.{MaySettle, MayStart, Notes}
+use Rattle.legal_history.specs.Turns.{early}
 use Rattle.base_core.specs.Nexts.{next_of, next_by, waiting}
 use Rattle.base_core.proofs.Idle.{some_same}
 
@@ -39,51 +33,11 @@ builds_waits s lane tag e = by (waiting s lane) refl e
     by None is e = absurd (cc)
     by (Some command) is e = subst IsSome (sym is) refl
 
--- the step of a settled unit notes its end
-pub settle_notes : (s : State) (lane n : ℕ) (tag : Tag) (end outcome : UnitEnd) → MaySettle s lane n end → tag ≡ next_tag s lane → outcome ≡ end → Notes s lane n (steps.Settled tag n outcome) (Ended end)
-settle_notes s lane n tag end outcome may tagged same =
-    subst (λ t. Notes s lane n (steps.Settled t n outcome) (Ended end)) (sym tagged)
-    (subst (λ o. Notes s lane n (steps.Settled (next_tag s lane) n o) (Ended end)) (sym same)
-    (record {
-      build = may.build;
-      active = may.active;
-      within = may.within;
-      waits = may.waits;
-      alone = refl;
-      sound = refl;
-      lawful = may.settles;
-      leaves = ap (λ o. record s { active = noted_in s.active lane o (λ b. Some n) (Ended end) }) may.active;
-      silent = λ other. refl;
-    }))
-
--- the step of a started unit notes what it comes to by its start
-pub start_notes : (s : State) (lane n : ℕ) (tag : Tag) (fault : Option ScriptFault) → MayStart s lane n fault → tag ≡ next_tag s lane → Notes s lane n (steps.Start tag n) (came_by_start fault)
-start_notes s lane n tag fault may tagged =
-    subst (λ t. Notes s lane n (steps.Start t n) (came_by_start fault)) (sym tagged)
-    (record {
-      build = may.build;
-      active = may.active;
-      within = may.within;
-      waits = may.open_unit.waits.waits;
-      alone = refl;
-      sound = refl;
-      lawful = record { build = may.build; unit = may.unit; open_unit = may.open_unit; nothing = refl };
-      leaves = ap (λ o. record s { active = noted_in s.active lane o (λ b. Some n) (came_by_starting o n) }) may.active
-          ∙ ap (λ c. record s { active = put nat_cmp lane (with_came may.build (Some n) c) s.active }) came;
-      silent = λ other. refl;
-    })
-  where
-    came : came_of_unit (unit_at may.build n) ≡ came_by_start fault
-    came = ap came_of_unit may.open_unit.waits.is_unit ∙ ap came_by_start (sym may.fault_is)
-
 -- an end without a run is that of no object and of no script
 abbrev IsEarly : UnitEnd → Type 0
 IsEarly (ends.Kept id) = ⊥
 IsEarly (ends.Failed (faults.Script fault)) = ⊥
 IsEarly end = ⊤
-
-early_none : (end : UnitEnd) → None ≡ Some end → IsEarly end
-early_none end e = absurd (cc)
 
 -- of two ends in order, each of which is early, the first is early
 one_or_rest : (found : Option UnitEnd) (rest : List (Option UnitEnd)) (end : UnitEnd) → ((e : UnitEnd) → found ≡ Some e → IsEarly e) → ((e : UnitEnd) → first_end rest ≡ Some e → IsEarly e) → first_end (found ∷ rest) ≡ Some end → IsEarly end
@@ -145,10 +99,10 @@ awaited_is build [] m e = absurd (cc)
 awaited_is build (path ∷ paths) m e = awaited_or build path paths m (unit_with build path) refl (awaited_is build paths m) e
 
 -- where the units before it have their outcomes, a unit waits for none
-pub waits_for_none : (b : Base) (build : Build) (n m : ℕ) (unit : Unit) → AgreesSoFar b build → unit_at build n ≡ Some unit → ((k : ℕ) → k < n → is_outcome (came_to build k) ≡ true) → Awaits build unit m → ⊥
-waits_for_none b build n m unit agrees is earlier awaits =
+pub waits_for_none : (b : Base) (build : Build) (n m : ℕ) (unit : Unit) → IsConsistent b build → unit_at build n ≡ Some unit → ((k : ℕ) → k < n → is_outcome (came_to build k) ≡ true) → Awaits build unit m → ⊥
+waits_for_none b build n m unit consistent is earlier awaits =
     let r = awaited_is build unit.prerequisites m awaits.first in
-    let over : is_outcome (came_to build m) ≡ true = earlier m (agrees.in_order.earlier n m unit r.0 is r.1 r.2) in
+    let over : is_outcome (came_to build m) ≡ true = earlier m (consistent.in_order.earlier n m unit r.0 is r.1 r.2) in
     true_and_false (is_outcome (came_to build m)) over awaits.waits
   where
     true_and_false : (b : Bool) → b ≡ true → b ≡ false → ⊥

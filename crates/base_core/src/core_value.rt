@@ -30,7 +30,7 @@ use cc_names::steps::{Counts, Step, UnitEnd};
 use cc_names::texts::Text;
 use checkout_desk::{ROW_LIMIT, Stamp, decide};
 use disk_model::{Disk, DiskFault};
-use legal_history::laws::builds::a_build_agrees;
+use legal_history::laws::builds::a_build_is_consistent;
 use legal_history::laws::stories::a_base_fits;
 use std::alloc::Global;
 use std::marker::Model;
@@ -358,7 +358,7 @@ impl<D: Disk> Core<D> {
         requires { IsTurn (state_of self.now.story) lane unit }
         ensures { IfOk result (λ next. StepsTo (state_of self.now.story) lane unit next) }
     {
-        a_build_agrees();
+        a_build_is_consistent();
         let Some(build) = build_of(self.builds.as_slice(), lane) else {
             unreachable!()
         };
@@ -422,7 +422,7 @@ impl<D: Disk> Core<D> {
         ensures { IfOk result (λ row. IsObjectRow (state_of self.now.story) lane unit row) }
     {
         a_base_fits();
-        a_build_agrees();
+        a_build_is_consistent();
         a_unit_may_publish();
         let Some(build) = build_of(self.builds.as_slice(), lane) else {
             unreachable!()
@@ -453,7 +453,7 @@ impl<D: Disk> Core<D> {
         ensures counted { KeepsCount self.old self.new }
     {
         a_base_fits();
-        a_build_agrees();
+        a_build_is_consistent();
         let tag = self.tag(lane);
         let number = self.log.rows().len() as u64 + 1;
         add_reply(&mut self.replies, lane, Reply::DiskFault)?;

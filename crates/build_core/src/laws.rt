@@ -8,14 +8,14 @@ ghost use Rattle.cc_names.specs.declared.units.Unit.{Unit};
 ghost use Rattle.legal_history.specs.Base.{Base};
 ghost use Rattle.legal_history.specs.Builds.{Build, unit_at};
 ghost use Rattle.legal_history.specs.Fits.{is_base};
-ghost use Rattle.legal_history.specs.Freshness.{AgreesSoFar};
+ghost use Rattle.legal_history.specs.Consistency.{IsConsistent};
 ghost use Rattle.make_text.specs.Units.{Files, units};
 ghost use Rattle.build_core.specs.BuildForms.{IsUnitFormed};
 ghost use Rattle.build_core.specs.Publishing.{CanPublish};
 
-/// Each unit of a build of formed units, whose outcomes so far agree with the build from nothing, may publish.
+/// Each unit of a consistent build of formed units may publish.
 pub fn a_unit_may_publish()
-    ensures { (b : Base) (build : Build) (n : ℕ) (unit : Unit) → IsName build.view → AllByRecursion IsUnitFormed build.units → is_base b ≡ true → AgreesSoFar b build → unit_at build n ≡ Some unit → CanPublish b build unit }
+    ensures { (b : Base) (build : Build) (n : ℕ) (unit : Unit) → IsName build.view → AllByRecursion IsUnitFormed build.units → is_base b ≡ true → IsConsistent b build → unit_at build n ≡ Some unit → CanPublish b build unit }
 {}
 
 /// The units of a build are formed, over any files, makefile, macros and goals.

@@ -1,9 +1,10 @@
--- What holds of active builds: they agree with the build from nothing.
+-- What holds of active builds: they are consistent, and what they have come to agrees with the build from nothing.
 pub mod AgreeStays
 pub mod AllBuilds
 pub mod BuildSteps
 pub mod CommandStays
 pub mod CommandSteps
+pub mod ConsistentStays
 pub mod EntriesFit
 pub mod FineBuilds
 pub mod FreshRuns

@@ -1,4 +1,6 @@
 -- What holds of objects and their records: to reuse one is to build it.
+pub mod AgreeSteps
+pub mod AgreedStories
 pub mod ClosureFiles
 pub mod Covered
 pub mod CoveredRuns
@@ -15,6 +17,7 @@ pub mod OwnRecords
 pub mod PassedOver
 pub mod PlaceStays
 pub mod PublishedTrue
+pub mod Rebuilds
 pub mod Reruns
 pub mod Reusables
 pub mod SeenStays
@@ -24,5 +27,6 @@ pub mod SoundBases
 pub mod SoundRows
 pub mod TakenObjects
 pub mod TrueObjects
+pub mod TrustedBases
 pub mod ViewsApart
 pub mod WinkedObjects

@@ -12,6 +12,7 @@ mod Replies
 mod ReuseRows
 mod ScrubRows
 mod Selection
+mod StoryParts
 mod StoryRows
 mod TimeRows
 pub mod TwoViews

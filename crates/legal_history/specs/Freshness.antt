@@ -1,21 +1,14 @@
 -- What the units of an active build come to in a build from nothing, and that what they have come to agrees with it.
-use Rattle.std.specs.Prelude.{◌≡◌, ℕ, ◌<◌, ◌≤◌, true, Option, Some, None, is_some, List, slice_get, take, reverse}
+use Rattle.std.specs.Prelude.{◌≡◌, ℕ, true, Option, Some, None, is_some, List, take, reverse}
 use Rattle.cc_names.specs.declared.steps.UnitEnd.{UnitEnd}
 use Rattle.cc_names.specs.declared.steps.UnitEnd.TheVariants.{Kept}
 use Rattle.cc_names.specs.declared.units.Unit.{Unit}
-use Rattle.legal_history.specs.Base.{Base, size, first_rows}
-use Rattle.legal_history.specs.Builds.{Build, Came, Started, Ended, Given, came_to, is_outcome, object_of, number_from, unit_at}
-use Rattle.legal_history.specs.Changes.{targets_of}
-use Rattle.legal_history.specs.Closures.{is_among}
-use Rattle.legal_history.specs.Fits.{is_base}
+use Rattle.legal_history.specs.Base.{Base, first_rows}
+use Rattle.legal_history.specs.Builds.{Build, Came, Started, Ended, Given, came_to, is_outcome, object_of, unit_at}
 use Rattle.legal_history.specs.Fresh.{serial, serial_of, texts, sees_file, sees_directory}
 use Rattle.legal_history.specs.Serials.{Outcome, Made, Without, Finished, makes, early_end, standing_in}
 use Rattle.legal_history.specs.Texts.{text, output_at}
-
--- units in order: a target is of one unit, and a prerequisite that is a unit's target is one of an earlier unit
-pub record InOrder (units : List Unit) : Type 0 where
-  pub one : (n : ℕ) (unit : Unit) (path : List ℕ) → slice_get units n ≡ Some unit → makes path unit ≡ true → number_from 0 path units ≡ Some n
-  pub earlier : (n m : ℕ) (unit : Unit) (path : List ℕ) → slice_get units n ≡ Some unit → is_among path unit.prerequisites ≡ true → number_from 0 path units ≡ Some m → m < n
+use Rattle.legal_history.specs.Consistency.{IsObjectOf, IsConsistent}
 
 -- the first n units of a build, finished from nothing at its reference rows, the last first
 abbrev pub done_in : Base → Build → ℕ → List Finished
@@ -32,8 +25,7 @@ early_from_nothing rows build n unit = early_end (sees_directory rows build.view
 
 -- an object of the base has exactly these outputs for a unit's targets
 pub record HasOutputs (b : Base) (unit : Unit) (id : ℕ) (outputs : List (List ℕ)) : Type 0 where
-  pub below : id < size b
-  pub targets : targets_of b id ≡ unit.targets
+  pub is_object : IsObjectOf b unit id
   pub texts : (path : List ℕ) → text b id path ≡ output_at path unit.targets outputs
   pub whole : (path : List ℕ) → makes path unit ≡ true → is_some (output_at path unit.targets outputs) ≡ true
 
@@ -45,16 +37,9 @@ Agrees b unit (Ended end) (Without other) = (end ≡ other) × (object_of (Some 
 Agrees b unit (Ended (Kept id)) (Made outputs) = HasOutputs b unit id outputs
 Agrees b unit came outcome = ⊥
 
--- each unit that this one has as a prerequisite has its outcome
-abbrev pub IsReady : Build → Unit → Type 0
-IsReady build unit = (m : ℕ) (path : List ℕ) → is_among path unit.prerequisites ≡ true → number_from 0 path build.units ≡ Some m → is_outcome (came_to build m) ≡ true
-
--- What each unit of a build has come to so far agrees with the build from nothing at its reference rows.
+-- What each unit of a consistent build has come to so far agrees with the build from nothing at its reference rows.
 pub record AgreesSoFar (b : Base) (build : Build) : Type 0 where
-  pub rows : build.rows ≤ size b
-  pub base : is_base (first_rows build.rows b) ≡ true
-  pub in_order : InOrder build.units
-  pub ready : (n : ℕ) (unit : Unit) → unit_at build n ≡ Some unit → is_some (came_to build n) ≡ true → IsReady build unit
+  pub consistent : IsConsistent b build
   pub runs : (n : ℕ) (unit : Unit) → unit_at build n ≡ Some unit → came_to build n ≡ Some Started → early_from_nothing (first_rows build.rows b) build n unit ≡ None
   pub agrees : (n : ℕ) (unit : Unit) (came : Came) → unit_at build n ≡ Some unit → came_to build n ≡ Some came → is_outcome (Some came) ≡ true →
       Agrees b unit came (outcome_in (first_rows build.rows b) build n unit)

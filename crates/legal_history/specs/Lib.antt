@@ -10,6 +10,7 @@ pub mod Closures
 pub mod Commanded
 pub mod Committing
 pub mod Conditions
+pub mod Consistency
 pub mod Decisions
 pub mod DirectoryLines
 pub mod ElementTexts

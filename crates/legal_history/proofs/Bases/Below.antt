@@ -39,11 +39,6 @@ found_change (change ∷ older) r c e = elim (row_of_change change == r) as (λ 
 pub older_change : (change : TreeChange) (before : List TreeChange) (r : ℕ) → (row_of_change change == r) ≡ false → change_at (change ∷ before) r ≡ change_at before r
 older_change change before r e = ap (λ b. cond b (Some change) (change_at before r)) e
 
--- the branch of each change of a base lies below its size, and so does its number
-pub record InBase (b : Base) : Type 0 where
-  pub numbers : (r : ℕ) (c : TreeChange) → change_at (tree b) r ≡ Some c → r < size b
-  pub branches : (r : ℕ) (c : TreeChange) → change_at (tree b) r ≡ Some c → branch_of_change c < size b
-
 -- the same of any changes below a number
 pub record Within (n : ℕ) (changes : List TreeChange) : Type 0 where
   pub numbers : (r : ℕ) (c : TreeChange) → change_at changes r ≡ Some c → r < n
@@ -88,6 +83,3 @@ row_within older moment deed before h = none_more_within (size older) before h
 pub within : (b : Base) → Within (size b) (tree b)
 within [] = one_more_within 0 (ElementMade 0 0 Directory) [] refl (omega arith) (record { numbers = λ r c e. absurd (cc); branches = λ r c e. absurd (cc) })
 within (row ∷ older) = row_within older row.moment row.deed (tree older) (within older)
-
-pub in_base : (b : Base) → InBase b
-in_base b = record { numbers = (within b).numbers; branches = (within b).branches }

@@ -23,7 +23,7 @@ text_stays row b r path h = grind (arith, nat_tests)
 pub catalog_stays : (row : Plain) (b : Base) (r : ℕ) → r < size b → catalog_of (row ∷ b) r ≡ catalog_of b r
 catalog_stays row b r h = grind (arith, nat_tests)
 
-more_below : (more b : Base) (n : ℕ) → n < size b → n < size (more ++ b)
+pub more_below : (more b : Base) (n : ℕ) → n < size b → n < size (more ++ b)
 more_below [] b n h = h
 more_below (row ∷ more) b n h = let below = more_below more b n h in omega arith
 

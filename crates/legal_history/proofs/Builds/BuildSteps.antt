@@ -1,5 +1,5 @@
--- A lawful step leaves every active build agreeing with the build from nothing, in a view that exists.
-use Rattle.std.proofs.Common.{◌≡◌, refl, sym, subst, ◌∙◌, ℕ, true, Some, None, Ok, List, ◌∷◌}
+-- A lawful step leaves every active build consistent, in a view that exists.
+use Rattle.std.proofs.Common.{◌≡◌, refl, ap, sym, subst, ◌∙◌, ℕ, true, Some, None, Ok, List, ◌∷◌}
 use Rattle.std.specs.Prelude.{is_some}
 use Rattle.cc_names.specs.Formed.{Plain}
 use Rattle.cc_names.specs.Last.{left}
@@ -16,6 +16,7 @@ use Rattle.cc_names.specs.declared.steps.UnitEnd.TheVariants as ends
 use Rattle.cc_names.specs.declared.units.Unit.{Unit}
 use Rattle.legal_history.specs.Base.{size}
 use Rattle.legal_history.specs.Builds.{Build, Ended, Given, build_of, object_of, unit_with_first}
+use Rattle.legal_history.specs.Changes.{targets_of}
 use Rattle.legal_history.specs.Decisions.{Makes, Begins}
 use Rattle.legal_history.specs.Fits.{is_base}
 use Rattle.legal_history.specs.Fresh.{texts}
@@ -25,51 +26,58 @@ use Rattle.legal_history.specs.Committing.{MakesRow}
 use Rattle.legal_history.specs.Stories.{Lawful, LawfulStep}
 use Rattle.legal_history.specs.UnitTurns.{Settles, EndsEarly, Starts}
 use Rattle.legal_history.specs.Turns.{came_by_start, unreadable}
-use Rattle.legal_history.proofs.Builds.FreshSeen.{early_same}
 use Rattle.legal_history.proofs.Stories.Goes.{of_lane}
-use Rattle.legal_history.proofs.Builds.AgreeStays.{begins_so}
+use Rattle.legal_history.proofs.Builds.ConsistentStays.{IsBegun, begins_consistent, consistent_faulted, is_object_stays, keeps_with, keeps_without}
 use Rattle.legal_history.proofs.Builds.AllBuilds.{Each, each_without, each_begun, each_faulted}
 use Rattle.legal_history.proofs.Builds.PlainUnits.{units_in_order}
-use Rattle.legal_history.proofs.Builds.Published.{is_publish}
+use Rattle.legal_history.proofs.Builds.Published.{is_publish, published_object}
 use Rattle.legal_history.proofs.Builds.ReadyUnits.{ready_by}
-use Rattle.legal_history.proofs.Stories.DecidedSteps.{decided_of, says_of, none_chosen, begun_by, begun_is}
-use Rattle.legal_history.proofs.Builds.UnitsCome.{start_came, start_may, early_may, fails_may, given_may}
-use Rattle.legal_history.proofs.Builds.FineBuilds.{IsFine, fine_stays, some_same, waited_fine, faulted_agrees}
+use Rattle.legal_history.proofs.Stories.DecidedSteps.{decided_of, says_of, begun_by, begun_is}
+use Rattle.legal_history.proofs.Builds.UnitsCome.{start_came, start_without}
+use Rattle.legal_history.proofs.Builds.FineBuilds.{IsFine, fine_stays, some_same, waited_fine, takes_for}
+use Rattle.legal_history.proofs.Reuse.KeptObjects.{chosen_object}
 
 early_fine : (s : State) (tag : Tag) (n : ℕ) (end : UnitEnd) → Each (λ lane. IsFine s.base) s.active → EndsEarly s tag n end → object_of (Some (Ended end)) ≡ None →
     Each (λ lane. IsFine s.base) (noted s.active tag.lane (λ b. Some n) (Ended end))
 early_fine s tag n end h e plain =
-    let agrees = (h.holds tag.lane e.build (of_lane s tag e.build e.waits.active)).agrees in
-    waited_fine s s.base tag n e.build e.unit (λ b. Some n) (Ended end) h e.waits refl
-    (early_may s.base e.build n e.unit end agrees e.waits.is_unit e.waits.waits (ready_by e.build e.unit e.ready) e.ends plain)
+    waited_fine s s.base tag n e.build e.unit (λ b. Some n) (Ended end) h (of_lane s tag e.build e.waits.active) refl
+    (keeps_without s.base e.build n e.unit (Ended end) e.waits.is_unit e.waits.waits (ready_by e.build e.unit e.ready) plain)
 
-settled_fine : (s : State) (tag : Tag) (n : ℕ) (end : UnitEnd) → Each (λ lane. IsFine s.base) s.active → Settles s tag n end → Each (λ lane. IsFine s.base) (noted s.active tag.lane (λ b. Some n) (Ended end))
-settled_fine s tag n (ends.Kept id) h e = absurd (none_chosen id e.chosen)
-settled_fine s tag n (ends.Failed (unit_faults.Script fault)) h e =
-    let agrees = (h.holds tag.lane e.build (of_lane s tag e.build e.running.waits.active)).agrees in
-    waited_fine s s.base tag n e.build e.unit (λ b. Some n) (Ended (ends.Failed (unit_faults.Script fault))) h e.running.waits refl
-    (fails_may s.base e.build n e.unit fault agrees e.running.waits.is_unit e.running.waits.waits e.running.started e.fails)
-settled_fine s tag n (ends.Failed fault) h e = early_fine s tag n (ends.Failed fault) h e refl
-settled_fine s tag n (ends.Blocked path) h e = early_fine s tag n (ends.Blocked path) h e refl
-settled_fine s tag n ends.Bare h e = early_fine s tag n ends.Bare h e refl
+settled_fine : (s : State) (tag : Tag) (n : ℕ) (end : UnitEnd) → is_base s.base ≡ true → Each (λ lane. IsFine s.base) s.active → Settles s tag n end → Each (λ lane. IsFine s.base) (noted s.active tag.lane (λ b. Some n) (Ended end))
+settled_fine s tag n (ends.Kept id) base h e =
+    let waits = e.open_unit.waits in
+    waited_fine s s.base tag n e.build e.unit (λ b. Some n) (Ended (ends.Kept id)) h (of_lane s tag e.build waits.active) refl
+    (keeps_with s.base e.build n id e.unit (Ended (ends.Kept id)) waits.is_unit waits.waits (ready_by e.build e.unit e.open_unit.ready) refl (chosen_object s.base e.build n e.unit id base e.chosen))
+settled_fine s tag n (ends.Failed (unit_faults.Script fault)) base h e =
+    let there = of_lane s tag e.build e.running.waits.active in
+    let ready = (h.holds tag.lane e.build there).consistent.ready n e.unit e.running.waits.is_unit (ap is_some e.running.started) in
+    waited_fine s s.base tag n e.build e.unit (λ b. Some n) (Ended (ends.Failed (unit_faults.Script fault))) h there refl
+    (keeps_without s.base e.build n e.unit (Ended (ends.Failed (unit_faults.Script fault))) e.running.waits.is_unit e.running.waits.waits ready refl)
+settled_fine s tag n (ends.Failed fault) base h e = early_fine s tag n (ends.Failed fault) h e refl
+settled_fine s tag n (ends.Blocked path) base h e = early_fine s tag n (ends.Blocked path) h e refl
+settled_fine s tag n ends.Bare base h e = early_fine s tag n ends.Bare h e refl
 
 started_fine : (s : State) (tag : Tag) (n : ℕ) → Each (λ lane. IsFine s.base) s.active → Starts s tag n → Each (λ lane. IsFine s.base) (noted s.active tag.lane (λ b. Some n) (came_by_starting (build_of s.active tag.lane) n))
 started_fine s tag n h e =
     let waits = e.open_unit.waits in
     let there = of_lane s tag e.build waits.active in
-    let agrees = (h.holds tag.lane e.build there).agrees in
-    let ready = ready_by e.build e.unit e.open_unit.ready in
     subst (λ came. Each (λ lane. IsFine s.base) (noted s.active tag.lane (λ b. Some n) came)) (sym (start_came s tag n e.build e.unit there waits.is_unit))
-    (waited_fine s s.base tag n e.build e.unit (λ b. Some n) (came_by_start (unreadable e.unit)) h waits refl
-    (start_may s.base e.build n e.unit agrees waits.is_unit waits.waits ready (sym (early_same s.base e.build n e.unit agrees waits.is_unit ready) ∙ e.open_unit.runs)))
+    (waited_fine s s.base tag n e.build e.unit (λ b. Some n) (came_by_start (unreadable e.unit)) h there refl
+    (keeps_without s.base e.build n e.unit (came_by_start (unreadable e.unit)) waits.is_unit waits.waits (ready_by e.build e.unit e.open_unit.ready) (start_without (unreadable e.unit))))
+
+-- the build that a command begins, before any of its units came to anything
+pub begun_begins : (s : State) (tag : Tag) (us : List Unit) → is_base s.base ≡ true → (h : decided s tag ≡ Some (Ok (Begins us))) → let says = says_of s tag (Begins us) (decided_of s tag (Begins us) h) in
+    IsBegun s.base (begun_by s tag us says.view says.own_only says.rebuild)
+begun_begins s tag us base h =
+    let says = says_of s tag (Begins us) (decided_of s tag (Begins us) h) in
+    record { rows = refl; base = base; in_order = units_in_order (texts s.base says.view) says.file says.macros says.goals us says.of_makefile; nothing = refl }
 
 begun_fine : (s : State) (tag : Tag) (us : List Unit) → is_base s.base ≡ true → decided s tag ≡ Some (Ok (Begins us)) → (build : Build) → begun s tag ≡ Some build → IsFine s.base build
 begun_fine s tag us base h build is =
     let says = says_of s tag (Begins us) (decided_of s tag (Begins us) h) in
     let made : Some (begun_by s tag us says.view says.own_only says.rebuild) ≡ Some build = sym (begun_is s tag us h) ∙ is in
     subst (IsFine s.base) (some_same made) (record {
-      agrees = begins_so s.base (begun_by s tag us says.view says.own_only says.rebuild)
-          (record { rows = refl; base = base; in_order = units_in_order (texts s.base says.view) says.file says.macros says.goals us says.of_makefile; nothing = refl });
+      consistent = begins_consistent s.base (begun_by s tag us says.view says.own_only says.rebuild) (begun_begins s tag us base h);
       there = says.there;
     })
 
@@ -78,28 +86,34 @@ told_fine s (steps.Refused tag refusal) base h e = h
 told_fine s (steps.Answer tag text) base h e = h
 told_fine s (steps.Begin tag rows count) base h e = each_begun (λ lane. IsFine s.base) s.active tag.lane (begun s tag) h (begun_fine s tag e.units base e.chosen)
 told_fine s (steps.Start tag n) base h e = started_fine s tag n h e
-told_fine s (steps.Settled tag n end) base h e = settled_fine s tag n end h e
+told_fine s (steps.Settled tag n end) base h e = settled_fine s tag n end base h e
 told_fine s (steps.End tag) base h e = each_without (λ lane. IsFine s.base) (λ lane. IsFine s.base) s.active tag.lane h (λ lane build apart fine. fine)
 told_fine s (steps.Fault tag left before faults tick) base h e = each_faulted (λ lane. IsFine s.base) s.active tag.lane (build_by s tag) h (λ build is.
     let fine = h.holds tag.lane build (of_lane s tag build is) in
-    record { agrees = faulted_agrees s.base build fine.agrees; there = fine.there })
+    record { consistent = consistent_faulted s.base build fine.consistent; there = fine.there })
 told_fine s step base h e = absurd e
 
-committed_fine : (s : State) (tag : Tag) (moment : ℕ) (deed : Deed) → Each (λ lane. IsFine s.base) s.active → MakesRow s (record { tag = tag; moment = moment; deed = deed }) deed →
+committed_fine : (s : State) (tag : Tag) (moment : ℕ) (deed : Deed) → is_base s.base ≡ true → Each (λ lane. IsFine s.base) s.active → MakesRow s (record { tag = tag; moment = moment; deed = deed }) deed →
     Each (λ lane. IsFine (record { tag = tag; moment = moment; deed = deed } ∷ s.base)) (active_after s.base s.active tag.lane deed)
-committed_fine s tag moment (deeds.Publish view targets script entries outputs) h e =
+committed_fine s tag moment (deeds.Publish view targets script entries outputs) base h e =
     let row : Plain = record { tag = tag; moment = moment; deed = deeds.Publish view targets script entries outputs } in
-    let agrees = (h.holds tag.lane e.build (of_lane s tag e.build e.running.waits.active)).agrees in
-    waited_fine s (row ∷ s.base) tag e.n e.build e.unit (λ build. unit_with_first build targets) (Given (size s.base)) (fine_stays s row tt h) e.running.waits e.place
-    (given_may row s.base e.build e.n e.unit agrees e.running.waits.is_unit e.running.waits.waits e.running.started
-    (is_publish s.base e.build e.n e.unit (deeds.Publish view targets script entries outputs) e.made))
-committed_fine s tag moment (deeds.Wink view id) h e = absurd (none_chosen id e.chosen)
-committed_fine s tag moment deed h e =
+    let there = of_lane s tag e.build e.running.waits.active in
+    let ready = (h.holds tag.lane e.build there).consistent.ready e.n e.unit e.running.waits.is_unit (ap is_some e.running.started) in
+    waited_fine s (row ∷ s.base) tag e.n e.build e.unit (λ build. unit_with_first build targets) (Given (size s.base)) (fine_stays s row tt h) there e.place
+    (keeps_with (row ∷ s.base) e.build e.n (size s.base) e.unit (Given (size s.base)) e.running.waits.is_unit e.running.waits.waits ready refl
+    (published_object row s.base e.build e.n e.unit (is_publish s.base e.build e.n e.unit (deeds.Publish view targets script entries outputs) e.made)))
+committed_fine s tag moment (deeds.Wink view id) base h e =
+    let row : Plain = record { tag = tag; moment = moment; deed = deeds.Wink view id } in
+    let w = takes_for s tag e.n e.build e.unit e.may in
+    waited_fine s (row ∷ s.base) tag e.n e.build e.unit (λ build. unit_with_first build (targets_of s.base id)) (Given id) (fine_stays s row tt h) w.there e.place
+    (keeps_with (row ∷ s.base) e.build e.n id e.unit (Given id) w.is_unit w.waits (w.ready (h.holds tag.lane e.build w.there).consistent) refl
+    (is_object_stays row s.base e.unit id (chosen_object s.base e.build e.n e.unit id base e.chosen)))
+committed_fine s tag moment deed base h e =
     fine_stays s (record { tag = tag; moment = moment; deed = deed }) (says_of s tag (Makes deed) (decided_of s tag (Makes deed) e)).spares h
 
 -- Each lawful step leaves each active build fine.
 pub step_fine : (s : State) (x : Told) → is_base s.base ≡ true → is_some s.opened ≡ true → Each (λ lane. IsFine s.base) s.active → Lawful s x → Each (λ lane. IsFine (after s x).base) (after s x).active
 step_fine s (told.Opened rows counts tells) base o h e = absurd (let first = e.first in cc)
 step_fine s (told.Plan phase moment) base o h e = h
-step_fine s (told.Commit row tick) base o h e = committed_fine s row.tag row.moment row.deed h e.may.made
+step_fine s (told.Commit row tick) base o h e = committed_fine s row.tag row.moment row.deed base h e.may.made
 step_fine s (told.Other step) base o h e = told_fine s step base h e

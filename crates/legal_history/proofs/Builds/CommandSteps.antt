@@ -1,5 +1,5 @@
 -- Along a legal story each active build is the one of its lane's command.
-use Rattle.std.proofs.Common.{◌≡◌, refl, ap, sym, subst, ℕ, Option, Some, None, List, [], ◌∷◌}
+use Rattle.std.proofs.Common.{◌≡◌, refl, ap, sym, subst, inl, inr, ℕ, Option, Some, None, List, [], ◌∷◌}
 use Rattle.cc_names.specs.Formed.{Plain}
 use Rattle.cc_names.specs.declared.rows.Deed.{Deed}
 use Rattle.cc_names.specs.declared.rows.Deed.TheVariants as deeds
@@ -10,6 +10,7 @@ use Rattle.cc_names.specs.declared.steps.Told.{Told}
 use Rattle.cc_names.specs.declared.steps.Told.TheVariants as told
 use Rattle.legal_history.specs.Base.{size}
 use Rattle.legal_history.specs.Builds.{Active, Build, Came, Given, Ended, build_of, unit_with_first}
+use Rattle.legal_history.specs.Changes.{targets_of}
 use Rattle.legal_history.specs.States.{State, End, Committed, Faulted, build_by, done_of, start, with_done}
 use Rattle.legal_history.specs.Steps.{after, after_step, active_after, begun, came_by_starting, done_after, done_by_fault, faulted_in, noted, state_from, state_of, with_build, without_build}
 use Rattle.legal_history.specs.Committing.{MakesRow}
@@ -19,7 +20,6 @@ use Rattle.legal_history.proofs.Bases.Stay.{first_rows_stay}
 use Rattle.legal_history.specs.Commanded.{IsOfCommand}
 use Rattle.legal_history.proofs.Builds.AllBuilds.{Each, each_as, each_begun, each_faulted, each_noted, each_without}
 use Rattle.legal_history.proofs.Builds.CommandStays.{apart_from_idle, begun_commanded, came_commanded, command_stays, faulted_commanded, none_left, other_done}
-use Rattle.legal_history.proofs.Stories.DecidedSteps.{none_chosen}
 use Rattle.legal_history.proofs.Stories.SoundStories.{IsSound, none_active, sound_first, sound_step}
 
 -- each active build is the one of its lane's command
@@ -47,7 +47,15 @@ row_commanded : (s : State) (row : Plain) (done : List (ℕ × ℕ)) (active : A
     Each (IsOfCommand (record s { base = row ∷ s.base; done = done; active = active; ends = ends })) s.active
 row_commanded s row done active ends sound h same = each_as (IsOfCommand s) (IsOfCommand (record s { base = row ∷ s.base; done = done; active = active; ends = ends })) s.active h (λ lane build is own.
     command_stays s (record s { base = row ∷ s.base; done = done; active = active; ends = ends }) lane build
-    (record { number = refl; phase = refl; done = same lane build is; base = sym (first_rows_stay row s.base build.rows (sound.fine.holds lane build is).agrees.rows) }) own)
+    (record { number = refl; phase = refl; done = same lane build is; base = sym (first_rows_stay row s.base build.rows (sound.fine.holds lane build is).consistent.rows) }) own)
+
+-- a row by which a unit is given an object
+given_commanded : (s : State) (row : Plain) (number : Build → Option ℕ) (id : ℕ) (ends : List End) → IsSound s → AllCommanded s →
+    AllCommanded (record s { base = row ∷ s.base; active = noted s.active row.tag.lane number (Given id); ends = ends })
+given_commanded s row number id ends sound h =
+    let t : State = record s { base = row ∷ s.base; active = noted s.active row.tag.lane number (Given id); ends = ends } in
+    let all = row_commanded s row s.done (noted s.active row.tag.lane number (Given id)) ends sound h (λ lane build is. refl) in
+    each_noted (IsOfCommand t) s.active row.tag.lane number (Given id) all (λ build is. came_commanded t row.tag.lane build (number build) (Given id) (all.holds row.tag.lane build is))
 
 committed_commanded : (s : State) (tag : Tag) (moment : ℕ) (deed : Deed) (ends : List End) → IsSound s → AllCommanded s → MakesRow s (record { tag = tag; moment = moment; deed = deed }) deed →
     AllCommanded (record s {
@@ -57,13 +65,9 @@ committed_commanded : (s : State) (tag : Tag) (moment : ℕ) (deed : Deed) (ends
       ends = ends;
     })
 committed_commanded s tag moment (deeds.Publish view targets script entries outputs) ends sound h e =
-    let row : Plain = record { tag = tag; moment = moment; deed = deeds.Publish view targets script entries outputs } in
-    let active : Active = noted s.active tag.lane (λ build. unit_with_first build targets) (Given (size s.base)) in
-    let t : State = record s { base = row ∷ s.base; active = active; ends = ends } in
-    let all = row_commanded s row s.done active ends sound h (λ lane build is. refl) in
-    each_noted (IsOfCommand t) s.active tag.lane (λ build. unit_with_first build targets) (Given (size s.base)) all
-    (λ build is. came_commanded t tag.lane build (unit_with_first build targets) (Given (size s.base)) (all.holds tag.lane build is))
-committed_commanded s tag moment (deeds.Wink view id) ends sound h e = absurd (none_chosen id e.chosen)
+    given_commanded s (record { tag = tag; moment = moment; deed = deeds.Publish view targets script entries outputs }) (λ build. unit_with_first build targets) (size s.base) ends sound h
+committed_commanded s tag moment (deeds.Wink view id) ends sound h e =
+    given_commanded s (record { tag = tag; moment = moment; deed = deeds.Wink view id }) (λ build. unit_with_first build (targets_of s.base id)) id ends sound h
 committed_commanded s tag moment deed ends sound h e =
     row_commanded s (record { tag = tag; moment = moment; deed = deed }) (with_done s.done tag.lane) s.active ends sound h (λ lane build is.
     sym (other_done s.done lane tag.lane (apart_from_idle s lane tag.lane build is (decided_is_idle s tag e))))
@@ -71,7 +75,7 @@ committed_commanded s tag moment deed ends sound h e =
 -- a command that is not building, under which the disk fails, has an idle lane
 fault_idle : (s : State) (row : Plain) (deed : Deed) → MakesRow s row deed → build_by s row.tag ≡ None → build_of s.active row.tag.lane ≡ None
 fault_idle s row (deeds.Publish view targets script entries outputs) e none = absurd (let some = e.running.waits.active in cc)
-fault_idle s row (deeds.Wink view id) e none = absurd (none_chosen id e.chosen)
+fault_idle s row (deeds.Wink view id) e none = absurd (elim e.may [ inl o ↦ let some = o.waits.active in cc | inr r ↦ let some = r.waits.active in cc ])
 fault_idle s row deed e none = decided_is_idle s row.tag e
 
 faulted_all : (s : State) (tag : Tag) (ends : List End) (o : Option Build) → AllCommanded s → build_by s tag ≡ o → (build_by s tag ≡ None → build_of s.active tag.lane ≡ None) →

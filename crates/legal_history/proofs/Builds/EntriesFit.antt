@@ -5,46 +5,40 @@ use Rattle.std.proofs.lemmas.Slice.Eq.{bytes_eq-Decides}
 use Rattle.std.specs.Bool.{⊤}
 use Rattle.std.specs.Option.{option_or}
 use Rattle.std.specs.Cmp.Lexicographic.{slice_cmp}
-use Rattle.std.specs.List.{list_all}
+use Rattle.std.specs.List.{AllByRecursion, list_all}
 use Rattle.std.specs.Ordering.{nat_cmp, is_eq}
 use Rattle.std.specs.declared.cmp.Ordering.{Ordering}
 use Rattle.std.specs.declared.cmp.Ordering.TheVariants.{Less, Equal, Greater}
 use Rattle.std.specs.FinMap.Entries.{put, by_order}
-use Rattle.cc_names.specs.declared.steps.UnitEnd.TheVariants.{Kept}
 use Rattle.cc_names.specs.declared.units.Unit.{Unit}
 use Rattle.legal_history.specs.Base.{Base, first_rows, deed_at, only_where}
-use Rattle.legal_history.specs.Builds.{Build, Came, Started, Ended, Given, object_of}
+use Rattle.legal_history.specs.Builds.{Build, object_of}
 use Rattle.legal_history.specs.Changes.{targets_of}
 use Rattle.legal_history.specs.Choices.{unit_of_member, members_before, object_among, visible, entry_row, in_order, as_entry, entries}
 use Rattle.legal_history.specs.Closures.{is_among}
 use Rattle.legal_history.specs.Conditions.{is_entry, makes_file_text}
-use Rattle.legal_history.specs.Freshness.{Agrees, IsReady, AgreesSoFar}
+use Rattle.legal_history.specs.Consistency.{IsObjectOf, IsReady, IsConsistent}
 use Rattle.legal_history.specs.Seen.{file_at}
-use Rattle.legal_history.specs.Serials.{Outcome, Made, Without, makes, needed}
+use Rattle.legal_history.specs.Serials.{makes, needed}
 use Rattle.legal_history.proofs.Bases.FilesBelow.{beyond}
 use Rattle.legal_history.proofs.Builds.FreshSeen.{or_first, or_second}
 use Rattle.legal_history.proofs.Builds.Pairs.{Pair, unit_in, member_of, pairs_before, members_paired, needed_mapped}
 use Rattle.legal_history.proofs.Bases.FileRows.{FileText, file_is_text, file_text_stays_all}
-use Rattle.legal_history.proofs.Builds.NeededAgree.{AllAgree, needed_agree, ready_over}
+use Rattle.legal_history.proofs.Builds.NeededAgree.{needed_each, ready_over}
 
--- an object that one of some agreeing units was given at a path has this path as a target
-given_has : (b : Base) (p : Pair) (path : List ℕ) (id : ℕ) (came : Came) (outcome : Outcome) → makes path p.unit ≡ true → object_of (Some came) ≡ Some id → Agrees b p.unit came outcome →
-    is_among path (targets_of b id) ≡ true
-given_has b p path id (Given other) (Made outputs) made is agrees = let same : other ≡ id = cc in ap (is_among path) (subst (λ k. targets_of b k ≡ p.unit.targets) same agrees.targets) ∙ made
-given_has b p path id (Given other) (Without end) made is agrees = absurd agrees
-given_has b p path id (Ended end) (Without other) made is agrees = absurd (let none = agrees.1 in let some = is in cc)
-given_has b p path id (Ended (Kept other)) (Made outputs) made is agrees = let same : other ≡ id = cc in ap (is_among path) (subst (λ k. targets_of b k ≡ p.unit.targets) same agrees.targets) ∙ made
-given_has b p path id (Ended end) (Made outputs) made is agrees = absurd agrees
-given_has b p path id Started outcome made is agrees = absurd (cc)
+-- the object that a unit was given has the unit's targets
+abbrev HasItsTargets : Base → Pair → Type 0
+HasItsTargets b p = (id : ℕ) → object_of p.came ≡ Some id → IsObjectOf b p.unit id
 
-object_has : (b : Base) (path : List ℕ) (id : ℕ) (pairs : List Pair) → AllAgree b pairs → object_among path (map member_of pairs) ≡ Some id → is_among path (targets_of b id) ≡ true
+-- an object that one of some such units was given at a path has this path as a target
+object_has : (b : Base) (path : List ℕ) (id : ℕ) (pairs : List Pair) → AllByRecursion (HasItsTargets b) pairs → object_among path (map member_of pairs) ≡ Some id → is_among path (targets_of b id) ≡ true
 object_has b path id [] all is = absurd (cc)
 object_has b path id (p ∷ pairs) all is = by (makes path p.unit) refl is (object_has b path id pairs all.1)
   where
     by_object : (o : Option ℕ) → makes path p.unit ≡ true → object_of p.came ≡ o → option_or o (object_among path (map member_of pairs)) ≡ Some id →
         (object_among path (map member_of pairs) ≡ Some id → is_among path (targets_of b id) ≡ true) → is_among path (targets_of b id) ≡ true
     by_object None made of_pair is rest = rest is
-    by_object (Some other) made of_pair is rest = given_has b p path id all.0.came p.outcome made (sym (ap object_of all.0.is) ∙ of_pair ∙ is) all.0.agrees
+    by_object (Some other) made of_pair is rest = ap (is_among path) (all.0 id (of_pair ∙ is)).targets ∙ made
 
     by : (t : Bool) → makes path p.unit ≡ t → option_or (only_where t (object_of p.came)) (object_among path (map member_of pairs)) ≡ Some id →
         (object_among path (map member_of pairs) ≡ Some id → is_among path (targets_of b id) ≡ true) → is_among path (targets_of b id) ≡ true
@@ -52,7 +46,7 @@ object_has b path id (p ∷ pairs) all is = by (makes path p.unit) refl is (obje
     by false made is rest = rest is
 
 -- the entry of what a ready unit sees
-entry_fits : (b : Base) (build : Build) (n : ℕ) (u : Unit) (path : List ℕ) → AgreesSoFar b build → IsReady build u →
+entry_fits : (b : Base) (build : Build) (n : ℕ) (u : Unit) (path : List ℕ) → IsConsistent b build → IsReady build u →
     is_entry b (record { path = path; row = entry_row (visible b build n u path) }) ≡ true
 entry_fits b build n u path h ready = by (object_among path (needed unit_of_member u.prerequisites (members_before build n))) (file_at (first_rows build.rows b) build.view path) refl refl
   where
@@ -72,7 +66,7 @@ entry_fits b build n u path h ready = by (object_among path (needed unit_of_memb
     by (Some id) file of_object of_path =
         or_second ((id == 0) || makes_file_text b id (deed_at b id)) (is_among path (targets_of b id))
         (object_has b path id (needed unit_in u.prerequisites (pairs_before (first_rows build.rows b) build n))
-        (needed_agree b build n u.prerequisites h (ready_over b build u h ready)) (sym (ap (object_among path) paired) ∙ of_object))
+        (needed_each (HasItsTargets b) b build n u.prerequisites h (λ m unit is outcome id own. h.objects m unit id is own) (ready_over b build u h ready)) (sym (ap (object_among path) paired) ∙ of_object))
     by None None of_object of_path = refl
     by None (Some r) of_object of_path = of_file r of_path
 
@@ -103,5 +97,5 @@ all_entries b [] h = refl
 all_entries b (pair ∷ pairs) h = ap (λ t. t && list_all (is_entry b) (map as_entry pairs)) h.0 ∙ all_entries b pairs h.1
 
 -- Each entry of a ready unit's record fits.
-pub entries_fit : (b : Base) (build : Build) (n : ℕ) (u : Unit) (reads : List (List ℕ)) → AgreesSoFar b build → IsReady build u → list_all (is_entry b) (entries (visible b build n u) reads) ≡ true
+pub entries_fit : (b : Base) (build : Build) (n : ℕ) (u : Unit) (reads : List (List ℕ)) → IsConsistent b build → IsReady build u → list_all (is_entry b) (entries (visible b build n u) reads) ≡ true
 entries_fit b build n u reads h ready = all_entries b (in_order (visible b build n u) reads) (in_order_fits b (visible b build n u) reads (λ path. entry_fits b build n u path h ready))

@@ -10,14 +10,15 @@ use Rattle.legal_history.specs.Builds.{Build, Came, Started, Ended, Given, objec
 use Rattle.legal_history.specs.Choices.{unit_of_member, object_among, text_of_row, visible, here}
 use Rattle.legal_history.specs.Closures.{is_among}
 use Rattle.legal_history.specs.Fresh.{output_of, output_or_file, texts, script_text}
-use Rattle.legal_history.specs.Freshness.{Agrees, HasOutputs, IsReady, AgreesSoFar, done_in}
+use Rattle.legal_history.specs.Freshness.{Agrees, HasOutputs, AgreesSoFar, done_in}
+use Rattle.legal_history.specs.Consistency.{IsReady}
 use Rattle.legal_history.specs.Seen.{file_at}
 use Rattle.legal_history.specs.Serials.{Outcome, Made, Without, unit_of, makes, needed}
 use Rattle.legal_history.specs.Texts.{output_at}
 use Rattle.legal_history.proofs.Bases.FilesBelow.{file_text}
 use Rattle.legal_history.proofs.Builds.FreshSeen.{bytes_turned}
 use Rattle.legal_history.proofs.Builds.Pairs.{Pair, unit_in, member_of, finished_of, pairs_before, members_paired, done_paired, needed_mapped}
-use Rattle.legal_history.proofs.Builds.NeededAgree.{AllAgree, ready_over, needed_agree}
+use Rattle.legal_history.proofs.Builds.NeededAgree.{PairsAgree, ready_over, needed_agree}
 
 -- no output stands at a path that is no target
 output_none : (path : List ℕ) (targets outputs : List (List ℕ)) → is_among path targets ≡ false → output_at path targets outputs ≡ None
@@ -35,7 +36,7 @@ output_none path (target ∷ targets) (output ∷ outputs) h = by (bytes_eq path
     by false e h rest = ap (λ c. if c then Some output else output_at path targets outputs) (turned (bytes_eq target path) refl e) ∙ rest h
 
 -- what such units leave at a path is what their objects have there
-text_same : (b : Base) (files : Files) (path : List ℕ) (pairs : List Pair) (row : Option ℕ) → AllAgree b pairs → text_of_row b path row ≡ files path →
+text_same : (b : Base) (files : Files) (path : List ℕ) (pairs : List Pair) (row : Option ℕ) → PairsAgree b pairs → text_of_row b path row ≡ files path →
     text_of_row b path (option_or (object_among path (map member_of pairs)) row) ≡ output_or_file files (map finished_of pairs) path
 text_same b files path [] row h same = same
 text_same b files path (p ∷ pairs) row h same = by h.0.came p.outcome h.0.is refl h.0.agrees (text_same b files path pairs row h.1 same)
@@ -72,7 +73,7 @@ seen_same b build n u path h ready =
     ap (λ ms. text_of_row b path (option_or (object_among path ms) (file_at rows build.view path)))
     (ap (needed unit_of_member u.prerequisites) (members_paired rows build n) ∙ needed_mapped member_of unit_of_member u.prerequisites (pairs_before rows build n))
     ∙ text_same b (texts rows build.view) path (needed unit_in u.prerequisites (pairs_before rows build n)) (file_at rows build.view path)
-    (needed_agree b build n u.prerequisites h (ready_over b build u h ready)) (file_text b build.rows build.view path h.base)
+    (needed_agree b build n u.prerequisites h (ready_over b build u h.consistent ready)) (file_text b build.rows build.view path h.consistent.base)
     ∙ ap (λ fs. output_or_file (texts rows build.view) fs path)
     (sym (ap (needed unit_of u.prerequisites) (done_paired rows build n) ∙ needed_mapped finished_of unit_of u.prerequisites (pairs_before rows build n)))
   where

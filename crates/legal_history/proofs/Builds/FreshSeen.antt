@@ -11,7 +11,8 @@ use Rattle.legal_history.specs.Base.{Base, first_rows}
 use Rattle.legal_history.specs.Builds.{Build, Came, Started, Ended, Given, came_to, is_outcome, number_from, unit_at}
 use Rattle.legal_history.specs.Closures.{is_among}
 use Rattle.legal_history.specs.Fresh.{sees_file, sees_directory}
-use Rattle.legal_history.specs.Freshness.{InOrder, Agrees, IsReady, AgreesSoFar, done_in, outcome_in, early_from_nothing}
+use Rattle.legal_history.specs.Freshness.{Agrees, AgreesSoFar, done_in, outcome_in, early_from_nothing}
+use Rattle.legal_history.specs.Consistency.{InOrder, IsReady}
 use Rattle.legal_history.specs.Serials.{Outcome, Made, Without, Standing, standing_of_end, standing_of_outcome, standing_or_file, standing_in, is_missing, is_bad, makes, first_end, no_directory, no_script}
 use Rattle.legal_history.specs.Turns.{standing_of_came, standing_of_unit, early_in}
 use Rattle.legal_history.proofs.Builds.Pairs.{Pair, finished_of, with_pair, pairs_before, done_paired}
@@ -123,7 +124,7 @@ agree_standing b u (Ended end) (Made outputs) h = absurd h
 agree_standing b u Started outcome h = absurd h
 
 -- an outcome that is there
-outcome_there : (o : Option Came) → is_outcome o ≡ true → (came : Came) × (o ≡ Some came)
+pub outcome_there : (o : Option Came) → is_outcome o ≡ true → (came : Came) × (o ≡ Some came)
 outcome_there None h = absurd (cc)
 outcome_there (Some came) h = (came, refl)
 
@@ -143,10 +144,10 @@ standing_same b build n u path h is ready among = ap (standing_or_file (sees_fil
 
     by : (o : Option ℕ) → number_from 0 path build.units ≡ o → option_map (λ m. standing_of_came (came_to build m)) o
         ≡ option_map (λ f. standing_of_outcome f.outcome) (find (λ f. makes path f.unit) (done_in (first_rows build.rows b) build n))
-    by None e = sym (paired ∙ ap (λ o. option_map (λ f. standing_of_outcome f.outcome) (option_map finished_of o)) (find_none (first_rows build.rows b) build n path h.in_order e))
+    by None e = sym (paired ∙ ap (λ o. option_map (λ f. standing_of_outcome f.outcome) (option_map finished_of o)) (find_none (first_rows build.rows b) build n path h.consistent.in_order e))
     by (Some m) e =
         let um = unit_numbered m path build.units e in
-        let found = find_some (first_rows build.rows b) build n m um.0 path h.in_order um.1 um.2 (h.in_order.earlier n m u path is among e) in
+        let found = find_some (first_rows build.rows b) build n m um.0 path h.consistent.in_order um.1 um.2 (h.consistent.in_order.earlier n m u path is among e) in
         let there = outcome_there (came_to build m) (ready m path among e) in
         let over : is_outcome (Some there.0) ≡ true = subst (λ o. is_outcome o ≡ true) there.1 (ready m path among e) in
         let same = agree_standing b um.0 there.0 (outcome_in (first_rows build.rows b) build m um.0) (h.agrees m um.0 there.0 um.1 there.1 over) in

@@ -1,21 +1,16 @@
--- All units that a ready unit needs, directly or through others, have outcomes that agree.
+-- What holds of each unit of a build that has its outcome holds of all units that a ready unit needs, directly or through others.
 use Rattle.std.proofs.Common.{◌≡◌, refl, ap, subst, ℕ, zero, suc, Bool, true, false, ◌||◌, Option, Some, None, List, [], ◌∷◌, ◌++◌}
-use Rattle.std.specs.Bool.{⊤}
 use Rattle.std.specs.Prelude.{is_some, bytes_eq}
-use Rattle.std.specs.List.{list_any}
+use Rattle.std.specs.List.{AllByRecursion, list_any}
 use Rattle.cc_names.specs.declared.units.Unit.{Unit}
 use Rattle.legal_history.specs.Base.{Base, first_rows}
 use Rattle.legal_history.specs.Builds.{Build, Came, came_to, is_outcome, unit_at}
 use Rattle.legal_history.specs.Closures.{is_among}
-use Rattle.legal_history.specs.Freshness.{Agrees, IsReady, AgreesSoFar, outcome_in}
+use Rattle.legal_history.specs.Freshness.{Agrees, AgreesSoFar, outcome_in}
+use Rattle.legal_history.specs.Consistency.{IsReady, IsConsistent}
 use Rattle.legal_history.specs.Serials.{makes, needed}
-use Rattle.legal_history.proofs.Builds.FreshSeen.{or_first, or_second, bytes_itself}
+use Rattle.legal_history.proofs.Builds.FreshSeen.{or_first, or_second, bytes_itself, outcome_there}
 use Rattle.legal_history.proofs.Builds.Pairs.{Pair, unit_in, with_pair, pairs_before}
-
--- an outcome that is there
-pub outcome_there : (o : Option Came) → is_outcome o ≡ true → (came : Came) × (o ≡ Some came)
-outcome_there None h = absurd (cc)
-outcome_there (Some came) h = (came, refl)
 
 -- a pair whose unit has an outcome that agrees
 pub record PairAgrees (b : Base) (pair : Pair) : Type 0 where
@@ -23,9 +18,8 @@ pub record PairAgrees (b : Base) (pair : Pair) : Type 0 where
   pub is : pair.came ≡ Some came
   pub agrees : Agrees b pair.unit came pair.outcome
 
-abbrev pub AllAgree : Base → List Pair → Type 0
-AllAgree b [] = ⊤
-AllAgree b (pair ∷ pairs) = PairAgrees b pair × AllAgree b pairs
+abbrev pub PairsAgree : Base → List Pair → Type 0
+PairsAgree b pairs = AllByRecursion (PairAgrees b) pairs
 
 -- a unit that makes one of some paths
 pub some_made : (u : Unit) (paths : List (List ℕ)) → list_any (λ path. makes path u) paths ≡ true → (path : List ℕ) × (is_among path paths ≡ true) × (makes path u ≡ true)
@@ -60,17 +54,23 @@ over_both build xs ys h g = λ m u path among is made. by m u path (among_both p
     by : (m : ℕ) (u : Unit) (path : List ℕ) → (t : Bool) × (is_among path xs ≡ t) × ((t ≡ false) → is_among path ys ≡ true) → unit_at build m ≡ Some u → makes path u ≡ true → is_outcome (came_to build m) ≡ true
     by m u path r is made = by_test m u path r.0 r.1 r.2 is made
 
-pub ready_over : (b : Base) (build : Build) (u : Unit) → AgreesSoFar b build → IsReady build u → AreOver build u.prerequisites
+pub ready_over : (b : Base) (build : Build) (u : Unit) → IsConsistent b build → IsReady build u → AreOver build u.prerequisites
 ready_over b build u h ready = λ m v path among is made. ready m path among (h.in_order.one m v path is made)
 
--- all that is needed for such paths agrees
-pub needed_agree : (b : Base) (build : Build) (n : ℕ) (paths : List (List ℕ)) → AgreesSoFar b build → AreOver build paths → AllAgree b (needed unit_in paths (pairs_before (first_rows build.rows b) build n))
-needed_agree b build zero paths h over = tt
-needed_agree b build (suc n) paths h over = by (unit_at build n) refl (λ more over. needed_agree b build n more h over)
+-- what holds of each unit of a build that has its outcome, as a pair
+abbrev EachOver : (Pair → Type 0) → Base → Build → Type 0
+EachOver P b build = (m : ℕ) (u : Unit) → unit_at build m ≡ Some u → is_outcome (came_to build m) ≡ true →
+    P (record { unit = u; came = came_to build m; outcome = outcome_in (first_rows build.rows b) build m u })
+
+-- holds of all that is needed for paths whose units have their outcomes
+pub needed_each : (P : Pair → Type 0) (b : Base) (build : Build) (n : ℕ) (paths : List (List ℕ)) → IsConsistent b build → EachOver P b build → AreOver build paths →
+    AllByRecursion P (needed unit_in paths (pairs_before (first_rows build.rows b) build n))
+needed_each P b build zero paths h each over = tt
+needed_each P b build (suc n) paths h each over = by (unit_at build n) refl (λ more over. needed_each P b build n more h each over)
   where
     by_unit : (u : Unit) (t : Bool) → unit_at build n ≡ Some u → list_any (λ path. makes path u) paths ≡ t →
-        ((more : List (List ℕ)) → AreOver build more → AllAgree b (needed unit_in more (pairs_before (first_rows build.rows b) build n))) →
-        AllAgree b (elim t as (λ x. List Pair) [
+        ((more : List (List ℕ)) → AreOver build more → AllByRecursion P (needed unit_in more (pairs_before (first_rows build.rows b) build n))) →
+        AllByRecursion P (elim t as (λ x. List Pair) [
           | true ↦ record { unit = u; came = came_to build n; outcome = outcome_in (first_rows build.rows b) build n u } ∷ needed unit_in (paths ++ u.prerequisites) (pairs_before (first_rows build.rows b) build n)
           | false ↦ needed unit_in paths (pairs_before (first_rows build.rows b) build n)
         ])
@@ -78,13 +78,17 @@ needed_agree b build (suc n) paths h over = by (unit_at build n) refl (λ more o
         let made = some_made u paths test in
         let outcome : is_outcome (came_to build n) ≡ true = over n u made.0 made.1 is made.2 in
         let there = outcome_there (came_to build n) outcome in
-        let ready : IsReady build u = h.ready n u is (ap is_some there.1) in (
-          record { came = there.0; is = there.1; agrees = h.agrees n u there.0 is there.1 (subst (λ o. is_outcome o ≡ true) there.1 outcome) },
-          rest (paths ++ u.prerequisites) (over_both build paths u.prerequisites over (ready_over b build u h ready)),
-        )
+        let ready : IsReady build u = h.ready n u is (ap is_some there.1) in
+        (each n u is outcome, rest (paths ++ u.prerequisites) (over_both build paths u.prerequisites over (ready_over b build u h ready)))
     by_unit u false is test rest = rest paths over
 
-    by : (o : Option Unit) → unit_at build n ≡ o → ((more : List (List ℕ)) → AreOver build more → AllAgree b (needed unit_in more (pairs_before (first_rows build.rows b) build n))) →
-        AllAgree b (needed unit_in paths (with_pair (first_rows build.rows b) build n o (pairs_before (first_rows build.rows b) build n)))
+    by : (o : Option Unit) → unit_at build n ≡ o → ((more : List (List ℕ)) → AreOver build more → AllByRecursion P (needed unit_in more (pairs_before (first_rows build.rows b) build n))) →
+        AllByRecursion P (needed unit_in paths (with_pair (first_rows build.rows b) build n o (pairs_before (first_rows build.rows b) build n)))
     by None is rest = rest paths over
     by (Some u) is rest = by_unit u (list_any (λ path. makes path u) paths) is refl rest
+
+-- all that is needed for such paths agrees
+pub needed_agree : (b : Base) (build : Build) (n : ℕ) (paths : List (List ℕ)) → AgreesSoFar b build → AreOver build paths → PairsAgree b (needed unit_in paths (pairs_before (first_rows build.rows b) build n))
+needed_agree b build n paths h over = needed_each (PairAgrees b) b build n paths h.consistent (λ m u is outcome.
+    let there = outcome_there (came_to build m) outcome in
+    record { came = there.0; is = there.1; agrees = h.agrees m u there.0 is there.1 (subst (λ o. is_outcome o ≡ true) there.1 outcome) }) over

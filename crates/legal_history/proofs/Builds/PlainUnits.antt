@@ -12,7 +12,7 @@ use Rattle.make_text.specs.Units.{Files, unit_of, wanted, goals_of, missing_goal
 use Rattle.make_text.specs.declared.rules.MakeRule.{MakeRule}
 use Rattle.legal_history.specs.Builds.{number_from}
 use Rattle.legal_history.specs.Closures.{is_among}
-use Rattle.legal_history.specs.Freshness.{InOrder}
+use Rattle.legal_history.specs.Consistency.{InOrder}
 use Rattle.legal_history.specs.Serials.{makes}
 use Rattle.legal_history.proofs.Builds.PlainRules.{IsPlain, AllPlain, plain_rules}
 

@@ -13,7 +13,8 @@ use Rattle.legal_history.specs.Builds.{Build, Given}
 use Rattle.legal_history.specs.Changes.{targets_of_deed}
 use Rattle.legal_history.specs.Choices.{here, visible, entries, publish_of, publish_by, text_of_row}
 use Rattle.legal_history.specs.Fresh.{outcome_of_run, script_text}
-use Rattle.legal_history.specs.Freshness.{Agrees, HasOutputs, IsReady, AgreesSoFar, outcome_in, early_from_nothing}
+use Rattle.legal_history.specs.Freshness.{Agrees, HasOutputs, AgreesSoFar, outcome_in, early_from_nothing}
+use Rattle.legal_history.specs.Consistency.{IsObjectOf, IsReady}
 use Rattle.legal_history.specs.Serials.{makes}
 use Rattle.legal_history.specs.Texts.{Bytes, OfRow, NoText, of_output, output_at, text}
 use Rattle.legal_history.proofs.Bases.Owned.{same_is_same}
@@ -47,13 +48,25 @@ newest_text tag moment v targets script reads outputs b path =
     by None = refl
     by (Some output) = refl
 
+newest_object : (tag : Tag) (moment : ℕ) (v : List ℕ) (unit : Unit) (script : List ℕ) (reads : List ReadOf) (outputs : List (List ℕ)) (b : Base) →
+    IsObjectOf (record { tag = tag; moment = moment; deed = deeds.Publish v unit.targets script reads outputs } ∷ b) unit (size b)
+newest_object tag moment v unit script reads outputs b = record {
+  below = omega arith;
+  targets = ap (λ t. targets_of_deed (deed_of (elim t as (λ x. Option Plain) [ true ↦ Some (record { tag = tag; moment = moment; deed = deeds.Publish v unit.targets script reads outputs }) | false ↦ row_at b (size b) ])))
+      (same_is_same (size b));
+}
+
+-- the object that a publish makes is one of its unit
+pub published_object : (row : Plain) (b : Base) (build : Build) (n : ℕ) (unit : Unit) → IsPublish b build n unit row.deed → IsObjectOf (row ∷ b) unit (size b)
+published_object row b build n unit p =
+    subst (λ deed. IsObjectOf (record { tag = row.tag; moment = row.moment; deed = deed } ∷ b) unit (size b)) (sym p.is)
+    (newest_object row.tag row.moment build.view unit (script_text unit.script) (entries (visible b build n unit) (here b build n unit).reads) p.outputs b)
+
 newest_has : (tag : Tag) (moment : ℕ) (v : List ℕ) (unit : Unit) (script : List ℕ) (reads : List ReadOf) (outputs : List (List ℕ)) (b : Base) →
     ((path : List ℕ) → makes path unit ≡ true → is_some (output_at path unit.targets outputs) ≡ true) →
     HasOutputs (record { tag = tag; moment = moment; deed = deeds.Publish v unit.targets script reads outputs } ∷ b) unit (size b) outputs
 newest_has tag moment v unit script reads outputs b whole = record {
-  below = omega arith;
-  targets = ap (λ t. targets_of_deed (deed_of (elim t as (λ x. Option Plain) [ true ↦ Some (record { tag = tag; moment = moment; deed = deeds.Publish v unit.targets script reads outputs }) | false ↦ row_at b (size b) ])))
-      (same_is_same (size b));
+  is_object = newest_object tag moment v unit script reads outputs b;
   texts = newest_text tag moment v unit.targets script reads outputs b;
   whole = whole;
 }
@@ -62,7 +75,7 @@ pub given_agrees : (row : Plain) (b : Base) (build : Build) (n : ℕ) (unit : Un
     IsPublish b build n unit row.deed → Agrees (row ∷ b) unit (Given (size b)) (outcome_in (first_rows build.rows (row ∷ b)) build n unit)
 given_agrees row b build n unit h ready early p =
     subst (Agrees (row ∷ b) unit (Given (size b)))
-    (sym (ap (λ rows. outcome_in rows build n unit) (first_rows_stay row b build.rows h.rows) ∙ outcome_by_run b build n unit h ready early ∙ ap outcome_of_run p.ran))
+    (sym (ap (λ rows. outcome_in rows build n unit) (first_rows_stay row b build.rows h.consistent.rows) ∙ outcome_by_run b build n unit h ready early ∙ ap outcome_of_run p.ran))
     (subst (λ deed. HasOutputs (record { tag = row.tag; moment = row.moment; deed = deed } ∷ b) unit (size b) p.outputs) (sym p.is)
     (newest_has row.tag row.moment build.view unit (script_text unit.script) (entries (visible b build n unit) (here b build n unit).reads) p.outputs b
     (outputs_whole (script_text unit.script) unit.targets p.outputs (λ path. text_of_row b path (visible b build n unit path)) p.ran)))

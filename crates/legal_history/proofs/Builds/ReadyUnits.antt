@@ -15,7 +15,8 @@ use Rattle.legal_history.specs.Builds.{Build, came_to, is_outcome, number_from, 
 use Rattle.legal_history.specs.Choices.{here}
 use Rattle.legal_history.specs.Closures.{is_among}
 use Rattle.legal_history.specs.Fresh.{outcome_of_run, end_or_run, output_or_file, texts}
-use Rattle.legal_history.specs.Freshness.{IsReady, AgreesSoFar, done_in, outcome_in, early_from_nothing}
+use Rattle.legal_history.specs.Freshness.{AgreesSoFar, done_in, outcome_in, early_from_nothing}
+use Rattle.legal_history.specs.Consistency.{IsReady}
 use Rattle.legal_history.specs.Serials.{Without, unit_of, needed}
 use Rattle.legal_history.specs.Texts.{output_at}
 use Rattle.legal_history.specs.Turns.{is_over, is_ready}

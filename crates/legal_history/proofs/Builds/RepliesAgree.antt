@@ -1,20 +1,24 @@
--- A build whose units all have outcomes that agree is replied as the build from nothing.
-use Rattle.std.proofs.Common.{◌≡◌, refl, ap, sym, subst, ◌∙◌, ℕ, zero, suc, ◌+◌, true, Option, Some, None, List, [], ◌∷◌, ◌++◌, length, length-append, map, take, arith}
+-- A build whose units all have outcomes that agree has those of the build from nothing, and is replied as it.
+use Rattle.std.proofs.Common.{◌≡◌, refl, ap, sym, subst, ◌∙◌, ℕ, zero, suc, ◌+◌, Bool, true, false, ◌||◌, Option, Some, None, List, [], ◌∷◌, ◌++◌, length, length-append, map, take, arith}
 use Rattle.std.proofs.lemmas.List.{reverse-append}
 use Rattle.std.proofs.Math.Seq.{take-length}
 use Rattle.std.specs.Prelude.{reverse, slice_get}
 use Rattle.cc_names.specs.declared.replies.Reply.TheVariants.{Built}
+use Rattle.cc_names.specs.declared.steps.Told.{Told}
 use Rattle.cc_names.specs.declared.units.Unit.{Unit}
 use Rattle.legal_history.specs.Base.{Base, first_rows}
 use Rattle.legal_history.specs.Builds.{Build, Came, came_to, is_outcome, unit_at}
 use Rattle.legal_history.specs.Fresh.{all_finished, serial, texts, sees_file, sees_directory}
 use Rattle.legal_history.specs.Freshness.{Agrees, AgreesSoFar, outcome_in}
+use Rattle.legal_history.specs.Laws.Ends.{IsLeft}
+use Rattle.legal_history.specs.Laws.FromNothing.{EndsAsFromNothing}
 use Rattle.legal_history.specs.Serials.{Finished}
+use Rattle.legal_history.specs.States.{State}
 use Rattle.legal_history.specs.Turns.{all_over, is_complete}
 use Rattle.legal_history.proofs.Bases.Owned.{and_first, and_second}
 use Rattle.legal_history.proofs.Builds.Pairs.{finished_of, with_pair, pairs_before, done_paired}
 use Rattle.legal_history.specs.Replied.{lines_from, finished_from, reply_of, reply_from_nothing}
-use Rattle.legal_history.proofs.Builds.NeededAgree.{outcome_there}
+use Rattle.legal_history.proofs.Builds.FreshSeen.{outcome_there}
 use Rattle.legal_history.proofs.Builds.UnitLines.{same_lines, finished_behind, lines_behind, take_next, take_none, length_taken}
 
 -- the first n units, finished from nothing in their order
@@ -79,12 +83,22 @@ over_at build k zero u (v ∷ us) n place h is =
     subst (λ m. is_outcome (came_to build m) ≡ true) number (and_first (is_outcome (came_to build k)) (all_over build (k + 1) us) h)
 over_at build k (suc j) u (v ∷ us) n place h is = over_at build (k + 1) j u us n (omega arith) (and_second (is_outcome (came_to build k)) (all_over build (k + 1) us) h) is
 
+-- Each unit of a complete build that agrees has the outcome of the build from nothing.
+pub complete_outcome : (b : Base) (build : Build) (n : ℕ) (u : Unit) → AgreesSoFar b build → is_complete build ≡ true → unit_at build n ≡ Some u → EndsAsFromNothing b build n u
+complete_outcome b build n u h complete is =
+    let has = over_at build 0 n u build.units n (omega arith) complete is in
+    let there = outcome_there (came_to build n) has in
+    record { came = there.0; is = there.1; agrees = h.agrees n u there.0 is there.1 (subst (λ o. is_outcome o ≡ true) there.1 has) }
+
+-- a build is left complete, unless the disk failed under it
+left_complete : (complete faulted : Bool) → (complete || faulted) ≡ true → faulted ≡ false → complete ≡ true
+left_complete true faulted over sound = refl
+left_complete false faulted over sound = absurd (let clash : true ≡ false = sym over ∙ sound in cc)
+
+-- so a build that is left without a fault has them
+pub left_outcome : (s : State) (x : Told) (lane : ℕ) (build : Build) (n : ℕ) (u : Unit) → AgreesSoFar s.base build → IsLeft s x lane build → build.faulted ≡ false → unit_at build n ≡ Some u → EndsAsFromNothing s.base build n u
+left_outcome s x lane build n u h left sound is = complete_outcome s.base build n u h (left_complete (is_complete build) build.faulted left.over sound) is
+
 -- A complete build that agrees is replied as the build from nothing.
 pub complete_reply : (b : Base) (build : Build) → AgreesSoFar b build → is_complete build ≡ true → reply_of b build ≡ reply_from_nothing b build
-complete_reply b build h complete = same_reply b build (record { over = λ n u is. over n u is })
-  where
-    over : (n : ℕ) (u : Unit) → unit_at build n ≡ Some u → (came : Came) × (came_to build n ≡ Some came) × (Agrees b u came (outcome_in (first_rows build.rows b) build n u))
-    over n u is =
-        let has = over_at build 0 n u build.units n (omega arith) complete is in
-        let there = outcome_there (came_to build n) has in
-        (there.0, there.1, h.agrees n u there.0 is there.1 (subst (λ o. is_outcome o ≡ true) there.1 has))
+complete_reply b build h complete = same_reply b build (record { over = λ n u is. let o = complete_outcome b build n u h complete is in (o.came, o.is, o.agrees) })

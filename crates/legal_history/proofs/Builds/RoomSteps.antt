@@ -1,5 +1,5 @@
 -- A lawful step leaves room for a row of each unit that waits.
-use Rattle.std.proofs.Common.{◌≡◌, refl, ap, sym, subst, ◌∙◌, ℕ, ◌+◌, ◌≤◌, true, not, ◌==◌, T, Option, Some, None, Ok, List, [], ◌∷◌, length, arith, nat_lt}
+use Rattle.std.proofs.Common.{◌≡◌, refl, ap, sym, subst, ◌∙◌, inl, inr, ℕ, ◌+◌, ◌≤◌, true, not, ◌==◌, T, Option, Some, None, Ok, List, [], ◌∷◌, length, arith, nat_lt}
 use Rattle.std.proofs.lemmas.Bool.{lt-ltb}
 use Rattle.std.proofs.lemmas.Cmp.{nat_cmp_total}
 use Rattle.std.specs.Prelude.{is_some}
@@ -19,6 +19,7 @@ use Rattle.cc_names.specs.declared.steps.UnitEnd.TheVariants as ends
 use Rattle.cc_names.specs.declared.units.Unit.{Unit}
 use Rattle.legal_history.specs.Base.{Base, size}
 use Rattle.legal_history.specs.Builds.{Active, Build, Came, Given, Ended, build_of, is_outcome, unit_with_first}
+use Rattle.legal_history.specs.Changes.{targets_of}
 use Rattle.legal_history.specs.Decisions.{Makes, Begins}
 use Rattle.legal_history.specs.Fits.{row_limit}
 use Rattle.legal_history.specs.States.{State, decided, build_by}
@@ -27,7 +28,7 @@ use Rattle.legal_history.specs.Committing.{MakesRow}
 use Rattle.legal_history.specs.Stories.{Lawful, LawfulStep}
 use Rattle.legal_history.specs.UnitTurns.{Settles, Waits}
 use Rattle.legal_history.proofs.Stories.Goes.{of_lane, decided_is_idle}
-use Rattle.legal_history.proofs.Stories.DecidedSteps.{decided_of, says_of, begun_by, begun_is, none_chosen}
+use Rattle.legal_history.proofs.Stories.DecidedSteps.{decided_of, says_of, begun_by, begun_is}
 use Rattle.legal_history.proofs.Builds.Room.{waiting, all_waiting, all_reserved, no_more_wait, fewer_wait, few_wait, put_waiting, put_new_waiting, without_waiting}
 
 -- there is room for a row of each unit that waits
@@ -129,7 +130,9 @@ committed_room : (s : State) (tag : Tag) (moment : ℕ) (deed : Deed) → HasRoo
 committed_room s tag moment (deeds.Publish view targets script entries outputs) h e =
     row_room s (record { tag = tag; moment = moment; deed = deeds.Publish view targets script entries outputs }) tag e.n e.build e.unit (λ build. unit_with_first build targets) (Given (size s.base))
     h e.running.waits e.place refl
-committed_room s tag moment (deeds.Wink view id) h e = absurd (none_chosen id e.chosen)
+committed_room s tag moment (deeds.Wink view id) h e =
+    row_room s (record { tag = tag; moment = moment; deed = deeds.Wink view id }) tag e.n e.build e.unit (λ build. unit_with_first build (targets_of s.base id)) (Given id)
+    h (elim e.may [ inl o ↦ o.waits | inr r ↦ r.waits ]) e.place refl
 committed_room s tag moment deed h e =
     let says = says_of s tag (Makes deed) (decided_of s tag (Makes deed) e) in
     record { sorted = h.sorted; room = let all = all_reserved s.active in let room = says.room in omega arith }

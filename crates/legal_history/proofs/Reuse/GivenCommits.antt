@@ -1,5 +1,5 @@
 -- A committed row keeps each object that an active build has given live and held by the build's view.
-use Rattle.std.proofs.Common.{◌≡◌, refl, ap, sym, subst, ◌∙◌, inl, inr, ℕ, Bool, true, false, ◌&&◌, ◌⊎◌, Some, Ok, List, [], ◌∷◌}
+use Rattle.std.proofs.Common.{◌≡◌, refl, ap, sym, subst, ◌∙◌, ℕ, Bool, true, false, ◌&&◌, Some, Ok, List, [], ◌∷◌}
 use Rattle.std.proofs.lemmas.Slice.Eq.{bytes_eq-Decides}
 use Rattle.std.specs.Prelude.{bytes_eq}
 use Rattle.cc_names.specs.Formed.{Plain}
@@ -19,18 +19,17 @@ use Rattle.legal_history.specs.Serials.{makes}
 use Rattle.legal_history.specs.States.{State, scene, decided}
 use Rattle.legal_history.specs.Steps.{noted, active_after, with_came}
 use Rattle.legal_history.specs.Committing.{MakesRow}
-use Rattle.legal_history.specs.UnitTurns.{Winks, Publishes, IsOpen, IsRunning}
+use Rattle.legal_history.specs.UnitTurns.{Winks, Publishes}
 use Rattle.legal_history.proofs.Stories.Goes.{of_lane}
 use Rattle.legal_history.proofs.Builds.AllBuilds.{Each, each_noted}
 use Rattle.legal_history.proofs.Stories.DecidedSteps.{decided_of}
-use Rattle.legal_history.proofs.Builds.FineBuilds.{some_same}
+use Rattle.legal_history.proofs.Builds.FineBuilds.{TakesFor, some_same, takes_for}
 use Rattle.legal_history.proofs.Builds.Published.{IsPublish, is_publish}
 use Rattle.legal_history.proofs.Stories.SoundStories.{IsSound}
 use Rattle.legal_history.specs.Laws.Given.{IsHeld, HoldsGiven}
 use Rattle.legal_history.proofs.Decisions.DecidedIdle.{decided_idle}
 use Rattle.legal_history.proofs.Reuse.GivenRows.{IsOfCommand, given_stays, given_by_command, came_given, object_is_outcome, publish_held, wink_held}
-use Rattle.legal_history.proofs.Reuse.KeptObjects.{chosen_is_reusable}
-use Rattle.legal_history.proofs.Reuse.Matched.{match_targets}
+use Rattle.legal_history.proofs.Reuse.KeptObjects.{chosen_is_reusable, chosen_object}
 use Rattle.legal_history.proofs.Reuse.Reusables.{reusable_matches}
 use Rattle.legal_history.proofs.Reuse.ViewsApart.{ViewsApart, apart_noted}
 
@@ -65,9 +64,9 @@ leaves_given s tag view targets build other lane n m id unit of_m path sound h t
     not_waiting : build ≡ other → is_among path targets ≡ true → ⊥
     not_waiting same among =
         let fine = sound.fine.holds tag.lane build there in
-        let of_n : number_from 0 path build.units ≡ Some n = fine.agrees.in_order.one n unit path is_unit (ap (is_among path) p.same_targets ∙ among) in
+        let of_n : number_from 0 path build.units ≡ Some n = fine.consistent.in_order.one n unit path is_unit (ap (is_among path) p.same_targets ∙ among) in
         let m_is : unit_at build m ≡ Some of_m = ap (λ (x : Build). unit_at x m) same ∙ is_m in
-        let of_m_too : number_from 0 path build.units ≡ Some m = fine.agrees.in_order.one m of_m path m_is made in
+        let of_m_too : number_from 0 path build.units ≡ Some m = fine.consistent.in_order.one m of_m path m_is made in
         let number : n ≡ m = some_same (sym of_n ∙ of_m_too) in
         let over : is_outcome (came_to other m) ≡ true = object_is_outcome (came_to other m) id own in
         let waiting : is_outcome (came_to other m) ≡ false = sym (ap (λ (x : Build). is_outcome (came_to x m)) same) ∙ sym (ap (λ k. is_outcome (came_to build k)) number) ∙ waits in
@@ -122,21 +121,10 @@ published_given s tag moment view targets script entries outputs sound h fit e =
         (publish_held tag moment view targets script entries outputs s.base e.build e.n e.unit p.same_view p.same_targets e.running.waits.is_unit e.place))
         (before.holds tag.lane e.build there)))
 
--- the unit that winks an object in has no outcome yet
-pub record WinksFor (s : State) (tag : Tag) (n : ℕ) (build : Build) (unit : Unit) : Type 0 where
-  pub there : build_of s.active tag.lane ≡ Some build
-  pub is_unit : unit_at build n ≡ Some unit
-  pub waits : is_outcome (came_to build n) ≡ false
-
-pub winks_for : (s : State) (tag : Tag) (n : ℕ) (build : Build) (unit : Unit) → IsOpen s tag n build unit ⊎ IsRunning s tag n build unit → WinksFor s tag n build unit
-winks_for s tag n build unit (inl o) = record { there = of_lane s tag build o.waits.active; is_unit = o.waits.is_unit; waits = o.waits.waits }
-winks_for s tag n build unit (inr r) = record { there = of_lane s tag build r.waits.active; is_unit = r.waits.is_unit; waits = r.waits.waits }
-
--- the object that is chosen is live and has the unit's targets
+-- a wink is of its build's view and its unit's targets
 pub wink_is : (b : Base) (build : Build) (n : ℕ) (unit : Unit) (view : List ℕ) (id : ℕ) → is_base b ≡ true → build.view ≡ view → choice b build n unit ≡ Some id → PublishIs build unit view (targets_of b id)
 wink_is b build n unit view id base of_view chosen =
-    let m = reusable_matches b build n unit id base (chosen_is_reusable b build n unit id chosen) in
-    record { same_view = of_view; same_targets = sym (match_targets b build n unit id m.matches_unit) }
+    record { same_view = of_view; same_targets = sym (chosen_object b build n unit id base chosen).targets }
 
 winked_given : (s : State) (tag : Tag) (moment : ℕ) (view : List ℕ) (id : ℕ) → IsSound s → AllHeld s → deed_fits s.base (deeds.Wink view id) ≡ true → Winks s (record { tag = tag; moment = moment; deed = deeds.Wink view id }) view id →
     Each (λ lane. HoldsGiven (record { tag = tag; moment = moment; deed = deeds.Wink view id } ∷ s.base)) (noted s.active tag.lane (λ build. unit_with_first build (targets_of s.base id)) (Given id))
@@ -145,8 +133,8 @@ winked_given s tag moment view id sound h fit e = each_noted (λ lane. HoldsGive
     row : Plain
     row = record { tag = tag; moment = moment; deed = deeds.Wink view id }
 
-    w : WinksFor s tag e.n e.build e.unit
-    w = winks_for s tag e.n e.build e.unit e.may
+    w : TakesFor s tag e.n e.build e.unit
+    w = takes_for s tag e.n e.build e.unit e.may
 
     p : PublishIs e.build e.unit view (targets_of s.base id)
     p = wink_is s.base e.build e.n e.unit view id sound.base e.of_view e.chosen

@@ -21,7 +21,7 @@ use Rattle.legal_history.specs.Steps.{with_came}
 use Rattle.legal_history.proofs.Builds.FreshSeen.{or_first, bytes_itself}
 use Rattle.legal_history.proofs.Stories.Goes.{same_number}
 use Rattle.legal_history.proofs.Bases.Owned.{same_is_same}
-use Rattle.legal_history.proofs.Stories.Tables.{find_after_put}
+use Rattle.legal_history.proofs.Builds.ConsistentStays.{came_now}
 use Rattle.legal_history.proofs.Builds.AllBuilds.{builds_there}
 use Rattle.legal_history.proofs.Bases.HeldObjects.{is_held_there, held_lives_on}
 use Rattle.legal_history.proofs.Bases.HeldPaths.{Leaves, held_after_won, path_stays}
@@ -66,10 +66,6 @@ given_by_command row b active lane build fit plain idle is h = record {
   given = λ n id own. given_stays row b build n id fit (λ unit path at made. idle_leaves b active lane build path row.deed is plain idle) (h.given n id own);
 }
 
--- what a unit has come to after one of them came to something
-pub came_after : (build : Build) (n m : ℕ) (came : Came) (t : Bool) → (m == n) ≡ t → came_to (with_came build (Some n) came) m ≡ cond t (Some came) (came_to build m)
-came_after build n m came t e = find_after_put m n came build.comes ∙ ap (λ b. cond b (Some came) (came_to build m)) e
-
 held_after_came : (b : Base) (build : Build) (n m id : ℕ) (came : Came) → IsHeld b build m id → IsHeld b (with_came build (Some n) came) m id
 held_after_came b build n m id came h = record { unit = h.unit; is_unit = h.is_unit; lives = h.lives; target = h.target; is_target = h.is_target; holds = h.holds }
 
@@ -79,10 +75,10 @@ came_given b build n came own h = record { given = λ m id is. by m id (m == n) 
   where
     by : (m id : ℕ) (t : Bool) → (m == n) ≡ t → object_of (came_to (with_came build (Some n) came) m) ≡ Some id → IsHeld b (with_came build (Some n) came) m id
     by m id true e is =
-        let object : object_of (Some came) ≡ Some id = sym (ap object_of (came_after build n m came true e)) ∙ is in
+        let object : object_of (Some came) ≡ Some id = sym (ap object_of (came_now build n m came true e)) ∙ is in
         held_after_came b build n m id came (subst (λ k. IsHeld b build k id) (sym (same_number m n e)) (own id object))
     by m id false e is =
-        let object : object_of (came_to build m) ≡ Some id = sym (ap object_of (came_after build n m came false e)) ∙ is in
+        let object : object_of (came_to build m) ≡ Some id = sym (ap object_of (came_now build n m came false e)) ∙ is in
         held_after_came b build n m id came (h.given m id object)
 
 pub came_without : (b : Base) (build : Build) (o : Option ℕ) (came : Came) → object_of (Some came) ≡ None → HoldsGiven b build → HoldsGiven b (with_came build o came)

@@ -1,6 +1,5 @@
 -- Each lawful step keeps each object that an active build has given live and held by the build's view.
 use Rattle.std.proofs.Common.{◌≡◌, refl, sym, subst, ◌∙◌, ℕ, true, Option, Some, None, Ok, List}
-use Rattle.cc_names.specs.declared.refusals.ScriptFault.{ScriptFault}
 use Rattle.cc_names.specs.declared.rows.Tag.{Tag}
 use Rattle.cc_names.specs.declared.steps.Step.{Step}
 use Rattle.cc_names.specs.declared.steps.Step.TheVariants as steps
@@ -16,12 +15,13 @@ use Rattle.legal_history.specs.States.{State, decided, build_by}
 use Rattle.legal_history.specs.Steps.{after, after_step, noted, came_by_starting, came_of_unit, begun, with_came}
 use Rattle.legal_history.specs.Stories.{Lawful, LawfulStep}
 use Rattle.legal_history.specs.UnitTurns.{Settles, Keeps}
-use Rattle.legal_history.specs.Turns.{came_by_start, unreadable}
+use Rattle.legal_history.specs.Turns.{unreadable}
 use Rattle.legal_history.proofs.Stories.Goes.{of_lane}
 use Rattle.legal_history.proofs.Bases.Owned.{row_fits}
 use Rattle.legal_history.proofs.Builds.AllBuilds.{Each, each_noted, each_without, each_begun, each_faulted}
 use Rattle.legal_history.proofs.Stories.DecidedSteps.{decided_of, says_of, begun_by, begun_is}
 use Rattle.legal_history.proofs.Builds.FineBuilds.{some_same}
+use Rattle.legal_history.proofs.Builds.UnitsCome.{start_without}
 use Rattle.legal_history.proofs.Stories.SoundStories.{IsSound, sound_step}
 use Rattle.legal_history.specs.Laws.Given.{IsHeld, HoldsGiven}
 use Rattle.legal_history.proofs.Reuse.GivenRows.{came_given, came_without}
@@ -29,11 +29,7 @@ use Rattle.legal_history.proofs.Reuse.KeptObjects.{kept_held}
 use Rattle.legal_history.proofs.Reuse.ViewsApart.{ViewsApart, apart_noted, apart_without, apart_faulted, apart_begun, begun_idle}
 use Rattle.legal_history.proofs.Reuse.GivenCommits.{AllHeld, committed_given, committed_apart}
 
--- what a start, and an end without an object, come to
-start_without : (fault : Option ScriptFault) → object_of (Some (came_by_start fault)) ≡ None
-start_without None = refl
-start_without (Some fault) = refl
-
+-- what a start comes to
 unit_without : (o : Option Unit) → object_of (Some (came_of_unit o)) ≡ None
 unit_without None = start_without None
 unit_without (Some unit) = start_without (unreadable unit)

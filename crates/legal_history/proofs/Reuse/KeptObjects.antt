@@ -10,12 +10,15 @@ use Rattle.legal_history.specs.Builds.{Build, unit_at}
 use Rattle.legal_history.specs.Changes.{held}
 use Rattle.legal_history.specs.Closures.{is_among}
 use Rattle.legal_history.specs.Fits.{is_base}
+use Rattle.legal_history.specs.Consistency.{IsObjectOf}
 use Rattle.legal_history.specs.Reuse.{choice, held_at_all, held_at_each, held_at_others, reusable, reuses}
 use Rattle.legal_history.proofs.Builds.FreshSeen.{or_first, bytes_itself}
 use Rattle.legal_history.proofs.Bases.Owned.{and_first, and_second}
 use Rattle.legal_history.specs.Laws.Given.{IsHeld}
-use Rattle.legal_history.proofs.Reuse.Reusables.{held_lives, only_one}
+use Rattle.legal_history.proofs.Reuse.Matched.{match_targets}
+use Rattle.legal_history.proofs.Reuse.Reusables.{held_lives, only_one, reusable_matches}
 use Rattle.legal_history.proofs.Reuse.SeenTexts.{number_is}
+use Rattle.legal_history.proofs.Reuse.SoundRows.{live_below}
 
 -- the object of which the steps of a build speak is a reusable one, whether or not builds reuse objects
 pub chosen_is_reusable : (b : Base) (build : Build) (n : ℕ) (unit : Unit) (id : ℕ) → choice b build n unit ≡ Some id → reusable b build n unit ≡ Some id
@@ -24,6 +27,12 @@ chosen_is_reusable b build n unit id h = by reuses h
     by : (t : Bool) → elim t as (λ x. Option ℕ) [ true ↦ reusable b build n unit | false ↦ None ] ≡ Some id → reusable b build n unit ≡ Some id
     by true h = h
     by false h = absurd (cc)
+
+-- so it is one of the unit
+pub chosen_object : (b : Base) (build : Build) (n : ℕ) (unit : Unit) (id : ℕ) → is_base b ≡ true → choice b build n unit ≡ Some id → IsObjectOf b unit id
+chosen_object b build n unit id base h =
+    let m = reusable_matches b build n unit id base (chosen_is_reusable b build n unit id h) in
+    record { below = live_below b id m.lives; targets = match_targets b build n unit id m.matches_unit }
 
 -- at the first of some paths, or at each of the others
 among_others : (b : Base) (v path target : List ℕ) (targets : List (List ℕ)) (id : ℕ) → held_at (held b) v target ≡ Some id → (is_among path targets ≡ true → held_at (held b) v path ≡ Some id) → is_among path (target ∷ targets) ≡ true →

@@ -23,13 +23,13 @@ use Rattle.legal_history.specs.Stories.{Lawful, Legal}
 use Rattle.legal_history.proofs.Stories.Goes.{of_lane}
 use Rattle.legal_history.proofs.Stories.Tables.{find_put_same}
 use Rattle.legal_history.proofs.Stories.DecidedSteps.{decided_of}
-use Rattle.legal_history.proofs.Builds.FineBuilds.{some_same}
+use Rattle.legal_history.proofs.Builds.FineBuilds.{some_same, takes_for}
 use Rattle.legal_history.proofs.Builds.Published.{is_publish}
 use Rattle.legal_history.proofs.Stories.SoundStories.{IsSound, story_is_sound}
 use Rattle.legal_history.proofs.Bases.HeldPaths.{Leaves, path_stays}
 use Rattle.legal_history.proofs.Decisions.DecidedIdle.{decided_idle}
 use Rattle.legal_history.proofs.Reuse.GivenRows.{IsOfCommand, idle_leaves}
-use Rattle.legal_history.proofs.Reuse.GivenCommits.{AllHeld, PublishIs, publish_is, wink_is, winks_for}
+use Rattle.legal_history.proofs.Reuse.GivenCommits.{AllHeld, PublishIs, publish_is, wink_is}
 use Rattle.legal_history.proofs.Reuse.SoundBases.{story_all_held}
 
 -- a unit of a lane's build without an outcome after a step, at one of its targets
@@ -60,9 +60,9 @@ given_leaves s tag view targets object lane old new n unit path build m of_m sou
     finished : lane ≡ tag.lane → build ≡ old → is_among path targets ≡ true → ⊥
     finished lanes same among =
         let fine = sound.fine.holds tag.lane build there in
-        let of_its : number_from 0 path build.units ≡ Some m = fine.agrees.in_order.one m of_m path is_m (ap (is_among path) p.same_targets ∙ among) in
+        let of_its : number_from 0 path build.units ≡ Some m = fine.consistent.in_order.one m of_m path is_m (ap (is_among path) p.same_targets ∙ among) in
         let n_is : unit_at build n ≡ Some unit = ap (λ (b : Build). unit_at b n) same ∙ u.is_unit in
-        let of_n : number_from 0 path build.units ≡ Some n = fine.agrees.in_order.one n unit path n_is u.made in
+        let of_n : number_from 0 path build.units ≡ Some n = fine.consistent.in_order.one n unit path n_is u.made in
         let number : m ≡ n = some_same (sym of_its ∙ of_n) in
         let over : is_outcome (came_to new n) ≡ true = ap (λ k. is_outcome (came_to new k)) (sym number) ∙ ap is_outcome (came_by_it lanes) in
         let clash : true ≡ false = sym over ∙ u.waits in
@@ -91,7 +91,7 @@ committed_leaves s tag moment (deeds.Publish view targets script entries outputs
     given_leaves s tag view targets (size s.base) lane old new n unit path e.build e.n e.unit sound h (of_lane s tag e.build e.running.waits.active) e.running.waits.is_unit e.place
     (publish_is s.base e.build e.n e.unit view targets script entries outputs (is_publish s.base e.build e.n e.unit (deeds.Publish view targets script entries outputs) e.made)) u
 committed_leaves s tag moment (deeds.Wink view id) lane old new n unit path sound h e u =
-    let w = winks_for s tag e.n e.build e.unit e.may in
+    let w = takes_for s tag e.n e.build e.unit e.may in
     given_leaves s tag view (targets_of s.base id) id lane old new n unit path e.build e.n e.unit sound h w.there w.is_unit e.place
     (wink_is s.base e.build e.n e.unit view id sound.base e.of_view e.chosen) u
 committed_leaves s tag moment deed lane old new n unit path sound h e u = commanded_leaves s tag deed lane old path tt e u.was

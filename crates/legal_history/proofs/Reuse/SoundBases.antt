@@ -34,11 +34,11 @@ new_is_true : (s : State) (tag : Tag) (moment : ℕ) (deed : Deed) → IsSound s
 new_is_true s tag moment (deeds.Publish view targets script entries outputs) sound h true_base e publish =
     let there = of_lane s tag e.build e.running.waits.active in
     published_is_true (record { tag = tag; moment = moment; deed = deeds.Publish view targets script entries outputs }) s.base e.build e.n e.unit
-    (sound.fine.holds tag.lane e.build there).agrees.base true_base (gives_live s.base e.build (h.given.holds tag.lane e.build there))
+    (sound.fine.holds tag.lane e.build there).consistent.base true_base (gives_live s.base e.build (h.given.holds tag.lane e.build there))
     (is_publish s.base e.build e.n e.unit (deeds.Publish view targets script entries outputs) e.made)
 new_is_true s tag moment deed sound h true_base e publish = absurd (cc)
 
-base_step : (s : State) (x : Told) → IsSound s → AllHeld s → values.IsSound s.base → Lawful s x → values.IsSound (after s x).base
+pub base_step : (s : State) (x : Told) → IsSound s → AllHeld s → values.IsSound s.base → Lawful s x → values.IsSound (after s x).base
 base_step s (told.Opened rows counts tells) sound h true_base e = absurd (let first = e.first in let opened = sound.opened in cc)
 base_step s (told.Plan phase moment) sound h true_base e = true_base
 base_step s (told.Commit row tick) sound h true_base e = sound_row row s.base true_base (new_is_true s row.tag row.moment row.deed sound h true_base e.may.made)
@@ -72,12 +72,12 @@ base_from : (s : State) (story : List Told) → IsSound s → AllHeld s → valu
 base_from s [] sound h true_base e = true_base
 base_from s (x ∷ story) sound h true_base e = base_from (after s x) story (sound_step s x sound e.0) (held_step s x sound h e.0) (base_step s x sound h true_base e.0) e.1
 
-opened_from : (s : State) (story : List Told) → IsSound s → LegalFrom s story → (state_from s story).opened ≡ s.opened
+pub opened_from : (s : State) (story : List Told) → IsSound s → LegalFrom s story → (state_from s story).opened ≡ s.opened
 opened_from s [] sound e = refl
 opened_from s (x ∷ story) sound e = opened_from (after s x) story (sound_step s x sound e.0) e.1 ∙ opened_step s x sound e.0
 
 -- after the first step
-held_first : (x : Told) → Lawful start x → AllHeld (after start x)
+pub held_first : (x : Told) → Lawful start x → AllHeld (after start x)
 held_first x e =
     let none = none_active x e in
     record {
@@ -85,7 +85,7 @@ held_first x e =
       apart = record { one_lane = λ lane other one two is_one is_two same. absurd (let nothing : build_of [] lane ≡ Some one = sym (ap (λ active. build_of active lane) none) ∙ is_one in cc) };
     }
 
-opened_is_base : (x : Told) (o : Opening) → Lawful start x → (after start x).opened ≡ Some o → o.base ≡ (after start x).base
+pub opened_is_base : (x : Told) (o : Opening) → Lawful start x → (after start x).opened ≡ Some o → o.base ≡ (after start x).base
 opened_is_base (told.Opened rows counts tells) o e is = let same : record { base = reverse rows; counts = counts; tells = tells } ≡ o = cc in ap (λ (o : Opening). o.base) (sym same)
 opened_is_base (told.Plan phase moment) o e is = absurd (cc)
 opened_is_base (told.Commit row tick) o e is = absurd (cc)

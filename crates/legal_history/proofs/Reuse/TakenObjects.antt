@@ -12,7 +12,8 @@ use Rattle.legal_history.specs.Builds.{Build, Came, Started, Ended, Given, came_
 use Rattle.legal_history.specs.Changes.{live}
 use Rattle.legal_history.specs.Closures.{is_publish_deed}
 use Rattle.legal_history.specs.Fits.{is_base}
-use Rattle.legal_history.specs.Freshness.{Agrees, HasOutputs, AgreesSoFar, IsReady, early_from_nothing}
+use Rattle.legal_history.specs.Freshness.{Agrees, HasOutputs, AgreesSoFar, early_from_nothing}
+use Rattle.legal_history.specs.Consistency.{IsReady}
 use Rattle.legal_history.specs.Reuse.{reusable}
 use Rattle.legal_history.specs.Serials.{Made}
 use Rattle.legal_history.specs.States.{State}
@@ -20,12 +21,12 @@ use Rattle.legal_history.specs.Steps.{with_came}
 use Rattle.legal_history.specs.Values.{IsSound}
 use Rattle.legal_history.proofs.Builds.FreshSeen.{early_same}
 use Rattle.legal_history.proofs.Builds.AgreeStays.{came_so, row_added}
+use Rattle.legal_history.proofs.Builds.ConsistentStays.{came_now, keeps_with}
 use Rattle.legal_history.proofs.Builds.FineBuilds.{some_same}
 use Rattle.legal_history.proofs.Builds.ReadyUnits.{ready_by}
 use Rattle.legal_history.specs.Laws.FromNothing.{IsAsFromNothing, MayTake, IsDue, IsStarted, IsReadyToStart}
 use Rattle.legal_history.specs.Laws.Objects.{GivesLive}
 use Rattle.legal_history.proofs.Reuse.FromNothing.{run_is_from_nothing}
-use Rattle.legal_history.proofs.Reuse.GivenRows.{came_after}
 use Rattle.legal_history.proofs.Reuse.Matched.{match_is_run}
 use Rattle.legal_history.proofs.Reuse.Reusables.{reusable_matches}
 use Rattle.legal_history.proofs.Reuse.SoundRows.{sound_row}
@@ -39,49 +40,47 @@ may_take_due s tag n build unit may = elim may [
 ]
 
 -- what a due unit has: no outcome, prerequisites that are over, and nothing that ends it without a run from nothing
-record Due (b : Base) (build : Build) (n : ℕ) (unit : Unit) : Type 0 where
-  waits : is_outcome (came_to build n) ≡ false
-  ready : IsReady build unit
-  runs : early_from_nothing (first_rows build.rows b) build n unit ≡ None
+pub record Due (b : Base) (build : Build) (n : ℕ) (unit : Unit) : Type 0 where
+  pub waits : is_outcome (came_to build n) ≡ false
+  pub ready : IsReady build unit
+  pub runs : early_from_nothing (first_rows build.rows b) build n unit ≡ None
 
-due : (b : Base) (build : Build) (n : ℕ) (unit : Unit) → AgreesSoFar b build → unit_at build n ≡ Some unit → IsDue b build n unit → Due b build n unit
+pub due : (b : Base) (build : Build) (n : ℕ) (unit : Unit) → AgreesSoFar b build → unit_at build n ≡ Some unit → IsDue b build n unit → Due b build n unit
 due b build n unit h is (IsStarted started) = record {
   waits = ap is_outcome started;
-  ready = h.ready n unit is (ap is_some started);
+  ready = h.consistent.ready n unit is (ap is_some started);
   runs = h.runs n unit is started;
 }
 due b build n unit h is (IsReadyToStart waits ready runs) =
     let over = ready_by build unit ready in
     record { waits = waits; ready = over; runs = sym (early_same b build n unit h is over) ∙ runs }
 
-as_from_nothing : (b : Base) (build : Build) (n : ℕ) (unit : Unit) (id : ℕ) → is_base b ≡ true → IsSound b → GivesLive b build → AgreesSoFar b build → Due b build n unit → reusable b build n unit ≡ Some id →
+pub as_from_nothing : (b : Base) (build : Build) (n : ℕ) (unit : Unit) (id : ℕ) → is_base b ≡ true → IsSound b → GivesLive b build → AgreesSoFar b build → Due b build n unit → reusable b build n unit ≡ Some id →
     IsAsFromNothing b build n unit id
 as_from_nothing b build n unit id base sound gives h d chosen =
     let m = reusable_matches b build n unit id base chosen in
-    run_is_from_nothing b build n unit id h d.ready d.runs (match_is_run b build n unit id base h.base sound gives (live_is_true b id sound m.lives) m.matches_unit)
+    run_is_from_nothing b build n unit id h d.ready d.runs (match_is_run b build n unit id base h.consistent.base sound gives (live_is_true b id sound m.lives) m.matches_unit)
 
 -- a due unit comes to the object that it may reuse, in a way that agrees where the object has the outputs
-taken_agrees : (b : Base) (build : Build) (n : ℕ) (unit : Unit) (id : ℕ) (came : Came) → ((outputs : List (List ℕ)) → HasOutputs b unit id outputs → Agrees b unit came (Made outputs)) → (came ≡ Started → ⊥) →
+taken_agrees : (b : Base) (build : Build) (n : ℕ) (unit : Unit) (id : ℕ) (came : Came) → ((outputs : List (List ℕ)) → HasOutputs b unit id outputs → Agrees b unit came (Made outputs)) → object_of (Some came) ≡ Some id → (came ≡ Started → ⊥) →
     is_base b ≡ true → IsSound b → GivesLive b build → AgreesSoFar b build → unit_at build n ≡ Some unit → IsDue b build n unit → reusable b build n unit ≡ Some id → AgreesSoFar b (with_came build (Some n) came)
-taken_agrees b build n unit id came agree over base sound gives h is is_due chosen =
+taken_agrees b build n unit id came agree own over base sound gives h is is_due chosen =
     let d = due b build n unit h is is_due in
     let r = as_from_nothing b build n unit id base sound gives h d chosen in
     came_so b build n unit came h (record {
-      is_unit = is;
-      waits = d.waits;
-      ready = d.ready;
+      keeps = keeps_with b build n id unit came is d.waits d.ready own r.has.is_object;
       runs = λ started. absurd (over started);
       agrees = λ outcome. subst (Agrees b unit came) (sym r.made) (agree r.outputs r.has);
     })
 
 pub kept_agrees : (b : Base) (build : Build) (n : ℕ) (unit : Unit) (id : ℕ) → is_base b ≡ true → IsSound b → GivesLive b build → AgreesSoFar b build → unit_at build n ≡ Some unit → IsDue b build n unit →
     reusable b build n unit ≡ Some id → AgreesSoFar b (with_came build (Some n) (Ended (Kept id)))
-kept_agrees b build n unit id = taken_agrees b build n unit id (Ended (Kept id)) (λ outputs has. has) (λ e. cc)
+kept_agrees b build n unit id = taken_agrees b build n unit id (Ended (Kept id)) (λ outputs has. has) refl (λ e. cc)
 
 pub winked_agrees : (row : Plain) (b : Base) (build : Build) (n : ℕ) (unit : Unit) (id : ℕ) → is_base b ≡ true → IsSound b → GivesLive b build → AgreesSoFar b build → unit_at build n ≡ Some unit → IsDue b build n unit →
     reusable b build n unit ≡ Some id → row.deed ≡ deeds.Wink build.view id → AgreesSoFar (row ∷ b) (with_came build (Some n) (Given id))
 winked_agrees row b build n unit id base sound gives h is is_due chosen wink =
-    row_added row b (with_came build (Some n) (Given id)) (taken_agrees b build n unit id (Given id) (λ outputs has. has) (λ e. cc) base sound gives h is is_due chosen)
+    row_added row b (with_came build (Some n) (Given id)) (taken_agrees b build n unit id (Given id) (λ outputs has. has) refl (λ e. cc) base sound gives h is is_due chosen)
 
 -- a unit comes to something: where that is an object that lives, the objects given live still
 came_lives : (b : Base) (build : Build) (n id : ℕ) (came : Came) → object_of (Some came) ≡ Some id → is_some (live b id) ≡ true → GivesLive b build → GivesLive b (with_came build (Some n) came)
@@ -89,9 +88,9 @@ came_lives b build n id came own lives gives = record { lives = λ m other is. b
   where
     by : (m other : ℕ) (t : Bool) → (m == n) ≡ t → object_of (came_to (with_came build (Some n) came) m) ≡ Some other → is_some (live b other) ≡ true
     by m other true e is =
-        let same : id ≡ other = some_same (sym own ∙ sym (ap object_of (came_after build n m came true e)) ∙ is) in
+        let same : id ≡ other = some_same (sym own ∙ sym (ap object_of (came_now build n m came true e)) ∙ is) in
         subst (λ k. is_some (live b k) ≡ true) same lives
-    by m other false e is = gives.lives m other (sym (ap object_of (came_after build n m came false e)) ∙ is)
+    by m other false e is = gives.lives m other (sym (ap object_of (came_now build n m came false e)) ∙ is)
 
 pub kept_lives : (b : Base) (build : Build) (n : ℕ) (unit : Unit) (id : ℕ) → is_base b ≡ true → GivesLive b build → reusable b build n unit ≡ Some id → GivesLive b (with_came build (Some n) (Ended (Kept id)))
 kept_lives b build n unit id base gives chosen = came_lives b build n id (Ended (Kept id)) refl (reusable_matches b build n unit id base chosen).lives gives

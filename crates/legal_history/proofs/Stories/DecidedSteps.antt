@@ -30,10 +30,6 @@ decided_of s tag d h = by (next_command s tag) refl h
 pub says_of : (s : State) (tag : Tag) (d : Decision) (h : DecidedOf s tag d) → Says (scene s) h.command d
 says_of s tag d h = decided_says (scene s) h.command d h.is
 
--- no object is chosen so far
-pub none_chosen : (id : ℕ) → None ≡ Some id → ⊥
-none_chosen id e = cc
-
 -- the build that a command begins
 abbrev pub begun_by : (s : State) (tag : Tag) (us : List Unit) (view : List ℕ) (own_only rebuild : Bool) → Build
 begun_by s tag us view own_only rebuild = record { tag = tag; view = view; rows = size s.base; own_only = own_only; rebuild = rebuild; units = us; comes = []; faulted = false }

@@ -1,38 +1,31 @@
--- What is known where a build goes on by a lawful step of a legal story: it agrees before and after with the build from nothing.
-use Rattle.std.proofs.Common.{◌≡◌, ap, sym, subst, ◌∙◌, ℕ, true, Some, List, [], ◌∷◌, ◌++◌}
+-- What is known where a build goes on by a lawful step of a legal story.
+use Rattle.std.proofs.Common.{◌≡◌, ap, sym, subst, ◌∙◌, ℕ, true, Some, List, [], ◌∷◌}
 use Rattle.std.specs.Prelude.{is_some}
 use Rattle.cc_names.specs.declared.steps.Told.{Told}
 use Rattle.cc_names.specs.declared.units.Unit.{Unit}
 use Rattle.legal_history.specs.Base.{Base, first_rows}
-use Rattle.legal_history.specs.Builds.{Build, build_of, came_to, is_outcome, number_from, unit_at}
-use Rattle.legal_history.specs.Freshness.{AgreesSoFar, IsReady}
+use Rattle.legal_history.specs.Builds.{Build, build_of, came_to, unit_at}
+use Rattle.legal_history.specs.Consistency.{IsReady, IsConsistent}
 use Rattle.legal_history.specs.Growth.{Continues, Goes, Over, On, Extends}
 use Rattle.legal_history.specs.States.{State, start}
 use Rattle.legal_history.specs.Steps.{after, state_of}
 use Rattle.legal_history.specs.Stories.{Lawful, Legal}
-use Rattle.legal_history.proofs.Stories.Fronts.{both_are_legal, state_goes_on, first_opens}
+use Rattle.legal_history.proofs.Stories.Fronts.{first_opens}
 use Rattle.legal_history.proofs.Stories.Goes.{step_goes}
 use Rattle.legal_history.proofs.Stories.Grows.{is_opened, step_extends}
 use Rattle.legal_history.proofs.Bases.Stay.{first_rows_stay_all}
-use Rattle.legal_history.proofs.Stories.SoundStories.{build_agrees}
+use Rattle.legal_history.proofs.Stories.SoundStories.{build_is_consistent}
 
--- a build goes on while its base grows, it agrees in both bases, and a unit of it is ready
+-- a consistent build goes on while its base grows, and a unit of it is ready
 pub record GoesOnSo (b later : Base) (old new : Build) (unit : Unit) : Type 0 where
   pub grown : Extends b later
   pub on : Continues old new
-  pub agrees : AgreesSoFar b old
-  pub agrees_later : AgreesSoFar later new
+  pub consistent : IsConsistent b old
   pub ready : IsReady old unit
 
 -- the reference rows stay
 pub rows_stay : (b later : Base) (old new : Build) (unit : Unit) → GoesOnSo b later old new unit → first_rows new.rows later ≡ first_rows old.rows b
-rows_stay b later old new unit h = ap (λ t. first_rows t later) h.on.rows ∙ ap (first_rows old.rows) h.grown.is ∙ first_rows_stay_all h.grown.more b old.rows h.agrees.rows
-
--- the unit is ready later too
-pub ready_on : (b later : Base) (old new : Build) (unit : Unit) → GoesOnSo b later old new unit → IsReady new unit
-ready_on b later old new unit h = λ m path among is.
-    let over = h.ready m path among (ap (number_from 0 path) (sym h.on.units) ∙ is) in
-    ap is_outcome (h.on.outcomes m over) ∙ over
+rows_stay b later old new unit h = ap (λ t. first_rows t later) h.on.rows ∙ ap (first_rows old.rows) h.grown.is ∙ first_rows_stay_all h.grown.more b old.rows h.consistent.rows
 
 some_same : {a b : Build} → Some a ≡ Some b → a ≡ b
 some_same h = cc
@@ -46,24 +39,14 @@ goes_on_so (first ∷ story) x lane old new n unit legal e is later of_n came = 
     s : State
     s = state_of (first ∷ story)
 
-    whole : List Told
-    whole = (first ∷ story) ++ x ∷ []
-
-    legal_whole : Legal whole
-    legal_whole = both_are_legal start (first ∷ story) (x ∷ []) legal (e, tt)
-
-    leads : state_of whole ≡ after s x
-    leads = state_goes_on start (first ∷ story) (x ∷ [])
-
-    agrees_before : AgreesSoFar s.base old
-    agrees_before = build_agrees (first ∷ story) lane old legal is
+    consistent : IsConsistent s.base old
+    consistent = build_is_consistent (first ∷ story) lane old legal is
 
     by : Goes old (build_of (after s x).active lane) → GoesOnSo s.base (after s x).base old new unit
     by (Over none) = absurd (cc)
     by (On on is_on c) = record {
       grown = step_extends s x (is_opened (after start first) story (first_opens first legal.0)) e;
       on = subst (Continues old) (some_same (sym is_on ∙ later)) c;
-      agrees = agrees_before;
-      agrees_later = subst (λ (t : State). AgreesSoFar t.base new) leads (build_agrees whole lane new legal_whole (ap (λ (t : State). build_of t.active lane) leads ∙ later));
-      ready = agrees_before.ready n unit of_n came;
+      consistent = consistent;
+      ready = consistent.ready n unit of_n came;
     }

@@ -1,4 +1,4 @@
--- Along a legal story the rows stay a base, and every active build agrees with the build from nothing.
+-- Along a legal story the rows stay a base, and every active build is consistent.
 use Rattle.std.proofs.Common.{◌≡◌, refl, ap, sym, subst, ◌∙◌, ℕ, ◌<◌, ◌≤◌, true, ◌&&◌, Some, List, [], ◌∷◌, arith, nat_lt}
 use Rattle.std.proofs.lemmas.Bool.{ltb-true}
 use Rattle.std.specs.Bool.{⊤}
@@ -13,11 +13,12 @@ use Rattle.cc_names.specs.declared.steps.Told.TheVariants as told
 use Rattle.cc_names.specs.declared.units.Unit.{Unit}
 use Rattle.legal_history.specs.Base.{Base, size}
 use Rattle.legal_history.specs.Builds.{Build, build_of}
+use Rattle.legal_history.specs.Changes.{live}
 use Rattle.legal_history.specs.Choices.{here, visible, entries}
 use Rattle.legal_history.specs.Conditions.{exists, is_entry}
 use Rattle.legal_history.specs.Decisions.{Makes}
 use Rattle.legal_history.specs.Fits.{fits, is_base, row_limit}
-use Rattle.legal_history.specs.Freshness.{AgreesSoFar, IsReady}
+use Rattle.legal_history.specs.Consistency.{IsReady, IsConsistent}
 use Rattle.legal_history.specs.States.{State, scene, start}
 use Rattle.legal_history.specs.Steps.{after, active_after, state_from, state_of}
 use Rattle.legal_history.specs.Committing.{MakesRow}
@@ -29,14 +30,16 @@ use Rattle.legal_history.proofs.Stories.Grows.{stays_opened}
 use Rattle.legal_history.proofs.Bases.Owned.{and_first}
 use Rattle.legal_history.proofs.Builds.AllBuilds.{Each}
 use Rattle.legal_history.proofs.Builds.BuildSteps.{step_fine}
-use Rattle.legal_history.proofs.Stories.DecidedSteps.{decided_of, none_chosen}
-use Rattle.legal_history.proofs.Builds.FineBuilds.{IsFine}
+use Rattle.legal_history.proofs.Stories.DecidedSteps.{decided_of}
+use Rattle.legal_history.proofs.Builds.FineBuilds.{IsFine, takes_for}
 use Rattle.legal_history.proofs.Builds.EntriesFit.{entries_fit}
 use Rattle.legal_history.proofs.Builds.Published.{IsPublish, is_publish}
 use Rattle.legal_history.proofs.Builds.RoomSteps.{HasRoom, step_room, room_for}
+use Rattle.legal_history.proofs.Reuse.KeptObjects.{chosen_is_reusable}
+use Rattle.legal_history.proofs.Reuse.Reusables.{reusable_matches}
 
--- A state is sound where a base was opened, its rows are a base, each active build agrees in a view that exists, and there
--- is room for a row of each unit that waits.
+-- A state is sound where a base was opened, its rows are a base, each active build is consistent in a view that exists, and
+-- there is room for a row of each unit that waits.
 pub record IsSound (s : State) : Type 0 where
   pub opened : is_some s.opened ≡ true
   pub base : is_base s.base ≡ true
@@ -48,16 +51,21 @@ publish_fits b build n unit deed h ready room p =
     subst (λ d. fits b d ≡ true) (sym p.is)
     (ap (λ t. t && (exists b build.view && list_all (is_entry b) (entries (visible b build n unit) (here b build n unit).reads))) room
     ∙ ap (λ t. t && list_all (is_entry b) (entries (visible b build n unit) (here b build n unit).reads)) h.there
-    ∙ entries_fit b build n unit (here b build n unit).reads h.agrees ready)
+    ∙ entries_fit b build n unit (here b build n unit).reads h.consistent ready)
 
 committed_fits : (s : State) (tag : Tag) (moment : ℕ) (deed : Deed) → IsSound s → MakesRow s (record { tag = tag; moment = moment; deed = deed }) deed →
     HasRoom (record { tag = tag; moment = moment; deed = deed } ∷ s.base) (active_after s.base s.active tag.lane deed) → fits s.base deed ≡ true
 committed_fits s tag moment (deeds.Publish view targets script entries outputs) h e room =
     let fine = h.fine.holds tag.lane e.build (of_lane s tag e.build e.running.waits.active) in
-    publish_fits s.base e.build e.n e.unit (deeds.Publish view targets script entries outputs) fine (fine.agrees.ready e.n e.unit e.running.waits.is_unit (ap is_some e.running.started))
+    publish_fits s.base e.build e.n e.unit (deeds.Publish view targets script entries outputs) fine (fine.consistent.ready e.n e.unit e.running.waits.is_unit (ap is_some e.running.started))
     (room_for s.base (record { tag = tag; moment = moment; deed = deeds.Publish view targets script entries outputs }) _ room)
     (is_publish s.base e.build e.n e.unit (deeds.Publish view targets script entries outputs) e.made)
-committed_fits s tag moment (deeds.Wink view id) h e room = absurd (none_chosen id e.chosen)
+committed_fits s tag moment (deeds.Wink view id) h e room =
+    let w = takes_for s tag e.n e.build e.unit e.may in
+    let there : exists s.base view ≡ true = subst (λ v. exists s.base v ≡ true) e.of_view (h.fine.holds tag.lane e.build w.there).there in
+    ap (λ t. t && (exists s.base view && is_some (live s.base id))) (room_for s.base (record { tag = tag; moment = moment; deed = deeds.Wink view id }) _ room)
+    ∙ ap (λ t. t && is_some (live s.base id)) there
+    ∙ (reusable_matches s.base e.build e.n e.unit id h.base (chosen_is_reusable s.base e.build e.n e.unit id e.chosen)).lives
 committed_fits s tag moment deed h e room = let d = decided_of s tag (Makes deed) e in decided_fits (scene s) d.command h.base deed d.is
 
 step_base : (s : State) (x : Told) → IsSound s → Lawful s x → HasRoom (after s x).base (after s x).active → is_base (after s x).base ≡ true
@@ -127,6 +135,6 @@ pub base_fits : (story : List Told) → Legal story → is_base (state_of story)
 base_fits [] h = refl
 base_fits (x ∷ story) h = (story_is_sound x story h).base
 
-pub build_agrees : (story : List Told) (lane : ℕ) (build : Build) → Legal story → build_of (state_of story).active lane ≡ Some build → AgreesSoFar (state_of story).base build
-build_agrees [] lane build h is = absurd (cc)
-build_agrees (x ∷ story) lane build h is = ((story_is_sound x story h).fine.holds lane build is).agrees
+pub build_is_consistent : (story : List Told) (lane : ℕ) (build : Build) → Legal story → build_of (state_of story).active lane ≡ Some build → IsConsistent (state_of story).base build
+build_is_consistent [] lane build h is = absurd (cc)
+build_is_consistent (x ∷ story) lane build h is = ((story_is_sound x story h).fine.holds lane build is).consistent

@@ -14,7 +14,7 @@ use Rattle.legal_history.specs.States.{all_done, build_by}
 use Rattle.legal_history.specs.Steps.{state_of}
 use Rattle.legal_history.specs.Stories.{Legal}
 use Rattle.legal_history.specs.Worked.{tag, row}
-use Rattle.legal_history.proofs.Worked.StoryRows.{one_lane, opened, comes_after}
+use Rattle.legal_history.proofs.Worked.StoryParts.{one_lane, opened, comes_after}
 use Rattle.legal_history.proofs.Worked.TwoViews.{v, hi, makefile, script}
 
 abbrev build : Command

@@ -1,29 +1,21 @@
 -- A whole story: two views that build, the second one by its own run.
-use Rattle.std.proofs.Common.{◌≡◌, refl, ℕ, true, Option, Some, List, [], ◌∷◌, ◌++◌}
-use Rattle.std.specs.Prelude.{codes, take, option_map}
+use Rattle.std.proofs.Common.{◌≡◌, refl, true, Some, List, [], ◌∷◌, ◌++◌}
+use Rattle.std.specs.Prelude.{codes}
 use native.Mathlib.Bridge.{le_by_compare, IsLe}
-use Rattle.cc_names.specs.declared.commands.Command.{Command}
 use Rattle.cc_names.specs.declared.commands.Command.TheVariants as commands
-use Rattle.cc_names.specs.declared.commands.Phase.{Phase}
 use Rattle.cc_names.specs.declared.rows.Deed.TheVariants as deeds
 use Rattle.cc_names.specs.declared.rows.Kind.TheVariants.{File}
 use Rattle.cc_names.specs.declared.steps.Step.TheVariants as steps
 use Rattle.cc_names.specs.declared.steps.Told.{Told}
 use Rattle.cc_names.specs.declared.steps.Told.TheVariants as told
-use Rattle.legal_history.specs.Builds.{Came, Given}
-use Rattle.legal_history.specs.States.{all_done, build_by}
+use Rattle.legal_history.specs.Builds.{Given}
+use Rattle.legal_history.specs.States.{all_done}
 use Rattle.legal_history.specs.Steps.{state_of}
 use Rattle.legal_history.specs.Stories.{Legal}
 use Rattle.legal_history.specs.Worked.{tag, row, base_of}
 use Rattle.legal_history.proofs.Worked.ReuseRows.{publish_in}
+use Rattle.legal_history.proofs.Worked.StoryParts.{comes_after, one_lane, opened}
 use Rattle.legal_history.proofs.Worked.TwoViews.{v, w, hi, makefile, first_commands, first_deeds, clearmake, publish}
-
--- a phase of one lane
-abbrev pub one_lane : List Command → Phase
-one_lane commands = record { lanes = record { name = codes "a"; commands = commands } ∷ [] }
-
-abbrev pub opened : Told
-opened = told.Opened [] (record { ticks = 0; faults = 0 }) true
 
 -- each row takes four calls of the disk, and the three before them open it
 abbrev both_build : List Told
@@ -113,10 +105,6 @@ both_build_is_legal = (
 
 both_are_finished : all_done (state_of both_build) ≡ true
 both_are_finished = refl
-
--- what the units of a command's build have come to after so many steps
-abbrev pub comes_after : ℕ → ℕ → List Told → Option (List (ℕ × Came))
-comes_after steps command story = option_map (λ build. build.comes) (build_by (state_of (take steps story)) (tag 1 1 command))
 
 the_first_has_its_own_object : comes_after 14 10 both_build ≡ Some ((0, Given 10) ∷ [])
 the_first_has_its_own_object = refl

@@ -18,7 +18,7 @@ use Rattle.legal_history.specs.Stories.{Lawful}
 use Rattle.legal_history.specs.Worked.{tag, row, base_of}
 use Rattle.legal_history.proofs.Worked.FaultRows.{before_fault, published}
 use Rattle.legal_history.proofs.Worked.NoSteps.{apart, published_is, no_second, no_second_row, no_start, no_end, no_failure, no_early_end, no_keep, no_wink}
-use Rattle.legal_history.proofs.Worked.StoryRows.{one_lane}
+use Rattle.legal_history.proofs.Worked.StoryParts.{one_lane}
 use Rattle.legal_history.proofs.Worked.TwoViews.{v, w, hi, makefile, script, clearmake, publish, first_deeds}
 
 -- the build of private files has begun, and its unit was started

@@ -16,7 +16,7 @@ use Rattle.legal_history.specs.VersionNames.{line}
 use Rattle.legal_history.specs.Worked.{tag, row, base_of}
 use Rattle.legal_history.proofs.Worked.FaultRows.{before_build, before_fault}
 use Rattle.legal_history.proofs.Worked.NoSteps.{apart, units_are, no_row}
-use Rattle.legal_history.proofs.Worked.StoryRows.{opened, one_lane}
+use Rattle.legal_history.proofs.Worked.StoryParts.{opened, one_lane}
 use Rattle.legal_history.proofs.Worked.TwoViews.{v, w, publish, all_deeds}
 
 -- the build of private files has begun, and its unit was started

@@ -1,10 +1,10 @@
--- That an object is what a unit comes to in the build from nothing, and when a unit may take one.
+-- That a unit, or an object, has what the unit comes to in the build from nothing, and when a unit may take an object.
 use Rattle.std.specs.Prelude.{◌≡◌, ℕ, true, false, ◌⊎◌, Some, None, List}
 use Rattle.cc_names.specs.declared.rows.Tag.{Tag}
 use Rattle.cc_names.specs.declared.units.Unit.{Unit}
 use Rattle.legal_history.specs.Base.{Base, first_rows}
-use Rattle.legal_history.specs.Builds.{Build, Started, came_to, is_outcome}
-use Rattle.legal_history.specs.Freshness.{HasOutputs, outcome_in}
+use Rattle.legal_history.specs.Builds.{Build, Came, Started, came_to, is_outcome}
+use Rattle.legal_history.specs.Freshness.{Agrees, HasOutputs, outcome_in}
 use Rattle.legal_history.specs.Serials.{Made}
 use Rattle.legal_history.specs.States.{State}
 use Rattle.legal_history.specs.Turns.{early, is_ready}
@@ -15,6 +15,12 @@ pub record IsAsFromNothing (b : Base) (build : Build) (n : ℕ) (unit : Unit) (i
   pub outputs : List (List ℕ)
   pub made : outcome_in (first_rows build.rows b) build n unit ≡ Made outputs
   pub has : HasOutputs b unit id outputs
+
+-- Unit n of a build has its outcome, and it is that of the build from nothing at the build's reference rows.
+pub record EndsAsFromNothing (b : Base) (build : Build) (n : ℕ) (unit : Unit) : Type 0 where
+  pub came : Came
+  pub is : came_to build n ≡ Some came
+  pub agrees : Agrees b unit came (outcome_in (first_rows build.rows b) build n unit)
 
 -- a unit may take an object in place of a run: it is open, or it was started and has no outcome
 abbrev pub MayTake : State → Tag → ℕ → Build → Unit → Type 0

@@ -14,13 +14,17 @@ ghost use Rattle.legal_history.specs.Commanded.{IsOfCommand};
 ghost use Rattle.legal_history.specs.Freshness.{AgreesSoFar};
 ghost use Rattle.legal_history.specs.Growth.{Goes};
 ghost use Rattle.legal_history.specs.Laws.Ends.{IsLeft, IsRefused, builds};
+ghost use Rattle.legal_history.specs.Laws.FromNothing.{EndsAsFromNothing};
 ghost use Rattle.legal_history.specs.Laws.Given.{HoldsGiven};
 ghost use Rattle.legal_history.specs.Replied.{reply_of, reply_from_nothing};
 ghost use Rattle.legal_history.specs.Serials.{makes};
-ghost use Rattle.legal_history.specs.States.{State, done_of, next_command};
+ghost use Rattle.legal_history.specs.Reuse.{reuses};
+ghost use Rattle.legal_history.specs.States.{State, Opening, done_of, next_command};
 ghost use Rattle.legal_history.specs.Steps.{after, state_of};
 ghost use Rattle.legal_history.specs.Stories.{Lawful, Legal};
 ghost use Rattle.legal_history.specs.Turns.{is_complete};
+ghost use Rattle.legal_history.specs.Values.{IsSound};
+ghost use Rattle.legal_history.specs.Consistency.{IsConsistent};
 
 /// After a lawful step an active build is over, or it goes on: it is the same build of the same units, and no outcome of a
 /// unit has changed.
@@ -72,16 +76,34 @@ pub fn a_given_object_is_held()
     ensures { (story : List Told) (lane : ℕ) (build : Build) → Legal story → build_of (state_of story).active lane ≡ Some build → HoldsGiven (state_of story).base build }
 {}
 
+/// An active build is consistent with the base, whatever base was opened: its reference rows are a base within the rows of now,
+/// its units are in order, each unit that has come to anything has its prerequisites over, and each object that a unit was given
+/// or kept is a row with the unit's targets.
+pub fn a_build_is_consistent()
+    ensures { (story : List Told) (lane : ℕ) (build : Build) → Legal story → build_of (state_of story).active lane ≡ Some build → IsConsistent (state_of story).base build }
+{}
+
 /// What each unit of an active build has come to so far agrees with the build from nothing at the build's reference rows,
-/// whatever rows were committed since. So far no step reuses an object; what one that does leaves, in a sound base, is told by
-/// `a_kept_object_agrees` and `a_winked_object_agrees`.
+/// whatever rows were committed since and whatever objects it reused. This holds where the base was sound as it was opened;
+/// while builds reuse nothing, as so far, it holds over any base.
 pub fn a_build_agrees()
-    ensures { (story : List Told) (lane : ℕ) (build : Build) → Legal story → build_of (state_of story).active lane ≡ Some build → AgreesSoFar (state_of story).base build }
+    ensures over_sound { (story : List Told) (opening : Opening) (lane : ℕ) (build : Build) → Legal story → (state_of story).opened ≡ Some opening → IsSound opening.base → build_of (state_of story).active lane ≡ Some build → AgreesSoFar (state_of story).base build }
+    ensures without_reuse { (story : List Told) (lane : ℕ) (build : Build) → reuses ≡ false → Legal story → build_of (state_of story).active lane ≡ Some build → AgreesSoFar (state_of story).base build }
+{}
+
+/// A build that ends without a fault of the disk has, unit by unit, the outcome of the build from nothing at its reference rows:
+/// an object with exactly the outputs of the run, or the same end without one. This holds where the base was sound as it was
+/// opened; while builds reuse nothing, over any base.
+pub fn an_ended_build_has_its_outcomes_from_nothing()
+    ensures over_sound { (story : List Told) (opening : Opening) (x : Told) (lane : ℕ) (build : Build) (n : ℕ) (unit : Unit) → Legal story → (state_of story).opened ≡ Some opening → IsSound opening.base → build_of (state_of story).active lane ≡ Some build → IsLeft (state_of story) x lane build → build.faulted ≡ false → unit_at build n ≡ Some unit → EndsAsFromNothing (state_of story).base build n unit }
+    ensures without_reuse { (story : List Told) (x : Told) (lane : ℕ) (build : Build) (n : ℕ) (unit : Unit) → reuses ≡ false → Legal story → build_of (state_of story).active lane ≡ Some build → IsLeft (state_of story) x lane build → build.faulted ≡ false → unit_at build n ≡ Some unit → EndsAsFromNothing (state_of story).base build n unit }
 {}
 
 /// A build whose units all have their outcomes is replied as the build from nothing at its reference rows: unit by unit the
 /// same success, fault or block, and the same length and digest. Where the disk failed under a build this holds as well, but
-/// the build is replied a fault of the disk in place of these lines.
+/// the build is replied a fault of the disk in place of these lines. This holds where the base was sound as it was opened; while
+/// builds reuse nothing, over any base.
 pub fn a_build_is_as_from_nothing()
-    ensures { (story : List Told) (lane : ℕ) (build : Build) → Legal story → build_of (state_of story).active lane ≡ Some build → is_complete build ≡ true → reply_of (state_of story).base build ≡ reply_from_nothing (state_of story).base build }
+    ensures over_sound { (story : List Told) (opening : Opening) (lane : ℕ) (build : Build) → Legal story → (state_of story).opened ≡ Some opening → IsSound opening.base → build_of (state_of story).active lane ≡ Some build → is_complete build ≡ true → reply_of (state_of story).base build ≡ reply_from_nothing (state_of story).base build }
+    ensures without_reuse { (story : List Told) (lane : ℕ) (build : Build) → reuses ≡ false → Legal story → build_of (state_of story).active lane ≡ Some build → is_complete build ≡ true → reply_of (state_of story).base build ≡ reply_from_nothing (state_of story).base build }
 {}

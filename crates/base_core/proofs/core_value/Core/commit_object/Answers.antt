@@ -76,7 +76,7 @@ invariant_of-self-in-Ok-Committed g c =
     subst (λ log. IsKept log c.take_reply_back.new.lanes.items c.note.new.builds.items c.self.inside.moment) (sym done.grows)
     (subst (λ lanes. IsKept (with_row c.self.inside.log c.args.row done.tick done.sight) lanes c.note.new.builds.items c.self.inside.moment) (sym (c.take_reply_back.ensures c.self.inside.replies.items replies.DiskFault c.in_ok-add_reply.ensures.ok))
     (kept_object c.self.inside.log c.self.inside.replies.items c.self.inside.builds.items c.note.new.builds.items c.self.inside.moment c.args.self.now.story c.args.lane c.args.unit (c.len.result + 1) c.args.row done.tick done.sight done.ticked
-    (ap (λ v. v.story) c.self.view_is) c.self.invariant c.requires (omega (arith, c.len.ensures, ap length c.rows.ensures)) c.a_base_fits.ensures c.a_build_agrees.ensures (λ build e. c.note.ensures build e) done.formed))
+    (ap (λ v. v.story) c.self.view_is) c.self.invariant c.requires (omega (arith, c.len.ensures, ap length c.rows.ensures)) c.a_base_fits.ensures c.a_build_is_consistent.ensures (λ build e. c.note.ensures build e) done.formed))
 
 pub invariant_of-self-in-Ok-Faulted : goal.invariant_of-self-in-Ok-Faulted
 invariant_of-self-in-Ok-Faulted g c =
@@ -84,13 +84,13 @@ invariant_of-self-in-Ok-Faulted g c =
     subst (λ log. IsKept log c.add_reply.new.lanes.items (set c.self.inside.builds.items (c.args.lane - 1) None) c.self.inside.moment) (sym done.grows)
     (subst (λ lanes. IsKept (with_step (with_step_on c.self.inside.log (steps.Fault c.args.row.tag done.left done.before done.faults done.tick) done.sight) (steps.End c.tag-tag.result)) lanes (set c.self.inside.builds.items (c.args.lane - 1) None) c.self.inside.moment) (sym c.in_ok-add_reply.ensures.ok)
     (kept_broken_object c.self.inside.log c.self.inside.replies.items c.self.inside.builds.items c.self.inside.moment c.args.self.now.story c.args.lane c.args.unit c.args.row c.tag-tag.result done.left done.before done.faults done.tick done.sight done.rose done.later done.leaves done.ticked
-    (ap (λ v. v.story) c.self.view_is) c.self.invariant c.requires c.tag-tag.ensures c.a_build_agrees.ensures done.formed))
+    (ap (λ v. v.story) c.self.view_is) c.self.invariant c.requires c.tag-tag.ensures c.a_build_is_consistent.ensures done.formed))
 
 pub returns-in-Ok-Committed-clause-ok : goal.returns-in-Ok-Committed-clause-ok
 returns-in-Ok-Committed-clause-ok g c =
     let done : IsCommitted c.self.inside.log c.append.new.self c.args.row = subst (Appends c.self.inside.log c.append.new.self c.args.row (Some (steps.End c.tag-tag.result))) c.in-Ok-Committed.field-0-is c.in-Ok-Committed.ensures.ok in
     subst (λ log. GoesOn c.args.self.now.story log.story c.args.lane × HasOutcome (state_of log.story) c.args.lane c.args.unit) (sym done.grows)
-    (object_so c.self.inside.log c.self.inside.replies.items c.self.inside.builds.items c.self.inside.moment c.args.self.now.story c.args.lane c.args.unit c.args.row done.tick done.sight (ap (λ v. v.story) c.self.view_is) c.self.invariant c.requires c.a_build_agrees.ensures)
+    (object_so c.self.inside.log c.self.inside.replies.items c.self.inside.builds.items c.self.inside.moment c.args.self.now.story c.args.lane c.args.unit c.args.row done.tick done.sight (ap (λ v. v.story) c.self.view_is) c.self.invariant c.requires c.a_build_is_consistent.ensures)
 
 pub returns-in-Ok-Faulted-clause-ok : goal.returns-in-Ok-Faulted-clause-ok
 returns-in-Ok-Faulted-clause-ok g c =

@@ -4,7 +4,7 @@ use Rattle.build_core.specs.Publishing.{IsPublishOf}
 use Rattle.legal_history.specs.Builds.{came_to, unit_at}
 use Rattle.legal_history.specs.Choices.{publish_of}
 use Rattle.legal_history.specs.Fits.{is_base}
-use Rattle.legal_history.specs.Freshness.{AgreesSoFar}
+use Rattle.legal_history.specs.Consistency.{IsConsistent}
 use Rattle.legal_history.specs.Steps.{state_of}
 use Rattle.base_core.specs.BuildCalls.{IsObjectRow}
 use Rattle.base_core.proofs.FoundBuilds.{if_ok, found, base_of_rows}
@@ -17,7 +17,7 @@ publish_row-requires-clause-formed g c =
     let base = base_of_rows c.self.inside.log c.self.inside.replies.items c.self.inside.builds.items c.self.inside.moment c.args.self.now.story c.rows.result (ap (λ v. v.story) c.self.view_is) c.self.invariant c.rows.ensures in
     λ it is. c.a_unit_may_publish.ensures (reverse c.rows.result) c.in-Some.build.now c.args.unit it h.kept.formed.named h.kept.formed.units
     (subst (λ b. is_base b ≡ true) base (c.a_base_fits.ensures c.args.self.now.story h.legal))
-    (subst (λ b. AgreesSoFar b c.in-Some.build.now) base (c.a_build_agrees.ensures c.args.self.now.story c.args.lane c.in-Some.build.now h.legal h.active)) is
+    (subst (λ b. IsConsistent b c.in-Some.build.now) base (c.a_build_is_consistent.ensures c.args.self.now.story c.args.lane c.in-Some.build.now h.legal h.active)) is
 
 pub returns : goal.returns
 returns g c =

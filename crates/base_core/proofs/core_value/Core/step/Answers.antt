@@ -17,5 +17,5 @@ returns g c =
     let h = found c.self.inside.log c.self.inside.replies.items c.self.inside.builds.items c.as_slice.result.now c.self.inside.moment c.args.self.now.story c.args.lane c.in-Some.build.now (ap (λ v. v.story) c.self.view_is) c.self.invariant c.as_slice.ensures.value c.in-Some.ensures in
     if_ok c.step.result (IsStep (reverse c.rows.result) c.in-Some.build.now c.args.unit) (StepsTo (state_of c.args.self.now.story) c.args.lane c.args.unit)
     (λ next so. turn_steps c.args.self.now.story (reverse c.rows.result) c.args.lane c.args.unit c.in-Some.build.now next c.requires h
-    (c.a_build_agrees.ensures c.args.self.now.story c.args.lane c.in-Some.build.now h.legal h.active) (base_of_rows c.self.inside.log c.self.inside.replies.items c.self.inside.builds.items c.self.inside.moment c.args.self.now.story c.rows.result (ap (λ v. v.story) c.self.view_is) c.self.invariant c.rows.ensures) so)
+    (c.a_build_is_consistent.ensures c.args.self.now.story c.args.lane c.in-Some.build.now h.legal h.active) (base_of_rows c.self.inside.log c.self.inside.replies.items c.self.inside.builds.items c.self.inside.moment c.args.self.now.story c.rows.result (ap (λ v. v.story) c.self.view_is) c.self.invariant c.rows.ensures) so)
     c.step.ensures

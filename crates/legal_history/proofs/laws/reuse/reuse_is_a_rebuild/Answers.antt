@@ -1,5 +1,5 @@
 use Rattle.legal_history.proofs.laws.reuse.reuse_is_a_rebuild.Goals as goal
-use Rattle.legal_history.proofs.Reuse.FromNothing.{story_match, story_reuse, story_reuse_from_nothing}
+use Rattle.legal_history.proofs.Reuse.Rebuilds.{story_match, story_reuse, story_reuse_from_nothing}
 
 pub returns-clause-matched : goal.returns-clause-matched
 returns-clause-matched c = story_match
