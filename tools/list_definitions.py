@@ -1,5 +1,5 @@
 #!/usr/bin/env python3
-"""Writes the last section of docs/MODEL.md anew: every definition of the model, by the file in which it stands.
+"""Writes docs/DEFINITIONS.md anew: every definition of the model, by the file in which it stands.
 
 Usage: list_definitions.py, at the top of the repository.
 
@@ -10,9 +10,9 @@ import pathlib
 import re
 import textwrap
 
-MODEL = pathlib.Path("docs/MODEL.md")
+INDEX = pathlib.Path("docs/DEFINITIONS.md")
 CRATES = ["cc_names", "spec_text", "legal_history"]
-HEAD = "## Every definition by its file"
+HEAD = "# Every definition by its file"
 ABOUT = "Of the three crates in which the model stands. Made by `tools/list_definitions.py`; each definition has its comment there."
 ALONE = re.compile(r"(?:abbrev (?:pub )?|pub record |pub data |pub (?=\S+ : ))(\S+)")
 MUTUAL = re.compile(r"  pub (\S+) : ")
@@ -53,14 +53,13 @@ def entries(crate):
 def section():
     lines = [HEAD, "", ABOUT]
     for crate in CRATES:
-        lines += ["", f"### {crate}", ""]
+        lines += ["", f"## {crate}", ""]
         lines += entries(crate)
     return "\n".join(lines) + "\n"
 
 
 def main():
-    told = MODEL.read_text().split(HEAD)[0].rstrip("\n")
-    MODEL.write_text(told + "\n\n" + section())
+    INDEX.write_text(section())
 
 
 if __name__ == "__main__":

@@ -9,20 +9,23 @@ use Rattle.cc_names.specs.declared.rows.Tag.{Tag}
 use Rattle.cc_names.specs.declared.steps.Step.{Step}
 use Rattle.cc_names.specs.declared.steps.Step.TheVariants as steps
 use Rattle.disk_model.specs.Counting.{raised}
+use Rattle.disk_model.specs.Devices.{Device}
 use Rattle.disk_model.specs.Told.{Sight, IfTold, Both, IsCounted}
-use Rattle.legal_history.specs.States.{State, start, hanging}
-use Rattle.legal_history.specs.Steps.{state_of}
+use Rattle.legal_history.specs.Base.Rows.{Base}
+use Rattle.legal_history.specs.Stories.States.{State, start, hanging}
+use Rattle.legal_history.specs.Stories.Steps.{state_of}
 use Rattle.row_form.specs.Spelled.{spelled}
 use Rattle.vob_journal.specs.Lefts.{loose_after}
 use Rattle.vob_journal.specs.Phases.{calls_of}
 use Rattle.vob_journal.specs.Moves.{Moves}
+use Rattle.vob_journal.specs.Reads.{SameObjects}
 use Rattle.vob_journal.specs.declared.left.Left.{Left}
 use Rattle.vob_journal.specs.declared.left.Left.TheVariants as lefts
 use Rattle.base_core.specs.Appending.{IsQuiet, MayLeave, IsCommitted, IsFaulted, with_ending}
 use Rattle.base_core.specs.Leaving.{left_in, LeftSo}
 use Rattle.base_core.specs.Logs.{IsLogged, with_step_on}
-use Rattle.base_core.specs.Telling.{story_of, AreTold}
-use Rattle.base_core.specs.declared.handed.Handed.{Handed}
+use Rattle.base_core.specs.Telling.{oldest_first, story_of, AreTold}
+use Rattle.base_core.specs.Handed.{Handed}
 use Rattle.base_core.proofs.Leavings.{hanging_is}
 use Rattle.base_core.proofs.Logged.{logged_fault, logged_step}
 use Rattle.base_core.proofs.LogSteps.{shown, shown_row, shown_step, shown_step_on, is_told_step}
@@ -33,21 +36,21 @@ abbrev pub fault_step : Tag → Option Plain → ℕ → ℕ → ℕ → Step
 fault_step tag found before faults tick = steps.Fault tag found before faults tick
 
 -- what the log shows after a fault and the step that it brings with it
-pub shown_faulted : (on : Handed) (kept more : List Step) (rows : List Plain) (phases : List Phase) (tag : Tag) (found : Option Plain) (before faults tick : ℕ) (ending : Option Step) (old new : Sight) → AreTold 1 0 kept rows phases → IfSome ending IsQuiet → more ≡ kept ++ fault_step tag found before faults tick ∷ option_to_list ending → shown on more rows phases new ≡ with_ending (with_step_on (shown on kept rows phases old) (fault_step tag found before faults tick) new) ending
-shown_faulted on kept more rows phases tag found before faults tick None old new h quiet e = shown_step_on on kept more rows phases (fault_step tag found before faults tick) old new h refl e
-shown_faulted on kept more rows phases tag found before faults tick (Some step) old new h quiet e =
+pub shown_faulted : (on : Handed) (kept more : List Step) (base : Base) (phases : List Phase) (tag : Tag) (found : Option Plain) (before faults tick : ℕ) (ending : Option Step) (old new : Sight) → AreTold 1 0 kept (oldest_first base) phases → IfSome ending IsQuiet → more ≡ kept ++ fault_step tag found before faults tick ∷ option_to_list ending → shown on more base phases new ≡ with_ending (with_step_on (shown on kept base phases old) (fault_step tag found before faults tick) new) ending
+shown_faulted on kept more base phases tag found before faults tick None old new h quiet e = shown_step_on on kept more base phases (fault_step tag found before faults tick) old new h refl e
+shown_faulted on kept more base phases tag found before faults tick (Some step) old new h quiet e =
     let fault = fault_step tag found before faults tick in
-    shown_step on (kept ++ fault ∷ []) more rows phases step new (is_told_step kept (kept ++ fault ∷ []) rows phases fault h refl refl) quiet.0 (e ∙ sym (append_assoc kept (fault ∷ []) (step ∷ [])))
-    ∙ ap (λ log. with_ending log (Some step)) (shown_step_on on kept (kept ++ fault ∷ []) rows phases fault old new h refl refl)
+    shown_step on (kept ++ fault ∷ []) more base phases step new (is_told_step kept (kept ++ fault ∷ []) base phases fault h refl refl) quiet.0 (e ∙ sym (append_assoc kept (fault ∷ []) (step ∷ [])))
+    ∙ ap (λ log. with_ending log (Some step)) (shown_step_on on kept (kept ++ fault ∷ []) base phases fault old new h refl refl)
 
 -- and what it keeps
-pub logged_faulted : (on : Handed) (kept more : List Step) (rows : List Plain) (phases : List Phase) (tag : Tag) (row : Plain) (earlier found : Option Plain) (before faults tick : ℕ) (ending : Option Step) (old new : Sight) (list loose list' loose' : List (List ℕ)) (ended ended' : Bool) (left left' : Left) → IfSome ending IsQuiet → IsLogged on kept rows phases old list loose ended left → more ≡ kept ++ fault_step tag found before faults tick ∷ option_to_list ending → Both (Moves list loose list' loose') old.told new.told → IfTold old.told (λ _. (list' ≡ list) × (loose' ≡ loose_after left' loose (spelled row))) → earlier ≡ left_in kept → LeftSo earlier row left' found → tick ≡ new.ticks → faults ≡ new.faults → IsCounted old → IsCounted new → ended' ≡ true → IsLogged on more rows phases new list' loose' ended' left'
-logged_faulted on kept more rows phases tag row earlier found before faults tick None old new list loose list' loose' ended ended' left left' quiet h e moves stays copied so at counts was counted end =
-    logged_fault on kept more rows phases tag row earlier found before faults tick old new list loose list' loose' ended ended' left left' h e moves stays copied so at counts was counted end
-logged_faulted on kept more rows phases tag row earlier found before faults tick (Some step) old new list loose list' loose' ended ended' left left' quiet h e moves stays copied so at counts was counted end =
+pub logged_faulted : (on : Handed) (kept more : List Step) (base : Base) (phases : List Phase) (tag : Tag) (row : Plain) (earlier found : Option Plain) (before faults tick : ℕ) (ending : Option Step) (old new : Sight) (list loose list' loose' : List (List ℕ)) (ended ended' : Bool) (left left' : Left) → IfSome ending IsQuiet → IsLogged on kept base phases old list loose ended left → more ≡ kept ++ fault_step tag found before faults tick ∷ option_to_list ending → Both (Moves list loose list' loose') old.told new.told → IfTold old.told (λ _. (list' ≡ list) × (loose' ≡ loose_after left' loose (spelled row))) → earlier ≡ left_in kept → LeftSo earlier row left' found → tick ≡ new.ticks → faults ≡ new.faults → IsCounted old → IsCounted new → ended' ≡ true → IsLogged on more base phases new list' loose' ended' left'
+logged_faulted on kept more base phases tag row earlier found before faults tick None old new list loose list' loose' ended ended' left left' quiet h e moves stays copied so at counts was counted end =
+    logged_fault on kept more base phases tag row earlier found before faults tick old new list loose list' loose' ended ended' left left' h e moves stays copied so at counts was counted end
+logged_faulted on kept more base phases tag row earlier found before faults tick (Some step) old new list loose list' loose' ended ended' left left' quiet h e moves stays copied so at counts was counted end =
     let fault = fault_step tag found before faults tick in
-    logged_step on (kept ++ fault ∷ []) more rows phases step new list' loose' ended' left'
-    (logged_fault on kept (kept ++ fault ∷ []) rows phases tag row earlier found before faults tick old new list loose list' loose' ended ended' left left' h refl moves stays copied so at counts was counted end)
+    logged_step on (kept ++ fault ∷ []) more base phases step new list' loose' ended' left'
+    (logged_fault on kept (kept ++ fault ∷ []) base phases tag row earlier found before faults tick old new list loose list' loose' ended ended' left left' h refl moves stays copied so at counts was counted end)
     quiet.0 quiet.1 (e ∙ sym (append_assoc kept (fault ∷ []) (step ∷ [])))
 
 -- what was left is what a fault may leave
@@ -66,37 +69,46 @@ some_calls true = omega arith
 some_calls false = omega arith
 
 -- the row was committed
-pub is_committed : (on : Handed) (kept more : List Step) (rows grown : List Plain) (phases : List Phase) (tag : Tag) (number tick calls : ℕ) (row : Plain) (old new : Sight) (list loose : List (List ℕ)) (ended : Bool) (left : Left) → IsLogged on kept rows phases old list loose ended left → more ≡ kept ++ steps.Commit tag number tick ∷ [] → grown ≡ rows ++ row ∷ [] → tick ≡ new.ticks → new.ticks ≡ old.ticks + calls → 1 ≤ calls → new.faults ≡ old.faults → IsFormed row → IsCommitted (shown on kept rows phases old) (shown on more grown phases new) row
-is_committed on kept more rows grown phases tag number tick calls row old new list loose ended left h e g at spent some same formed = record {
+pub is_committed : (on : Handed) (kept more : List Step) (base grown : Base) (phases : List Phase) (tag : Tag) (number tick calls : ℕ) (row : Plain) (old new : Sight) (list loose : List (List ℕ)) (ended : Bool) (left : Left) → IsLogged on kept base phases old list loose ended left → more ≡ kept ++ steps.Commit tag number tick ∷ [] → grown ≡ row ∷ base → tick ≡ new.ticks → new.ticks ≡ old.ticks + calls → 1 ≤ calls → new.faults ≡ old.faults → IsFormed row → Both SameObjects old.told new.told → IsCommitted (shown on kept base phases old) (shown on more grown phases new) row
+is_committed on kept more base grown phases tag number tick calls row old new list loose ended left h e g at spent some same formed objects = record {
   tick = tick;
   sight = new;
   formed = formed;
-  grows = shown_row on kept more rows grown phases tag number tick row old new h.told e g;
+  grows = shown_row on kept more base grown phases tag number tick row old new h.told e g;
   ticked = rises_more _ tick (omega (arith, h.backed.ticks, at, spent, some));
   at = at;
   spent = omega (arith, at, spent, some);
   faults = same;
+  objects = objects;
 }
 
 -- the disk failed
-pub is_faulted : (on : Handed) (kept more : List Step) (rows : List Plain) (phases : List Phase) (tag : Tag) (row : Plain) (earlier found : Option Plain) (before faults tick : ℕ) (ending : Option Step) (old new : Sight) (list loose : List (List ℕ)) (ended : Bool) (left left' : Left) → tag ≡ row.tag → IfSome ending IsQuiet → IsLogged on kept rows phases old list loose ended left → more ≡ kept ++ fault_step tag found before faults tick ∷ option_to_list ending → earlier ≡ left_in kept → LeftSo earlier row left' found → tick ≡ new.ticks → faults ≡ new.faults → before ≡ old.faults → raised old.ticks ≤ new.ticks → new.faults ≡ raised old.faults → IsCounted old → IsCounted new → IsFormed row → IsFaulted (shown on kept rows phases old) (shown on more rows phases new) row ending
-is_faulted on kept more rows phases tag row earlier found before faults tick ending old new list loose ended left left' tagged quiet h e copied so at counts was spent rose counted counted' formed =
-    let s = state_of (story_of on kept rows phases) in record {
+pub is_faulted : (on : Handed) (kept more : List Step) (base : Base) (phases : List Phase) (tag : Tag) (row : Plain) (earlier found : Option Plain) (before faults tick : ℕ) (ending : Option Step) (old new : Sight) (list loose : List (List ℕ)) (ended : Bool) (left left' : Left) → tag ≡ row.tag → IfSome ending IsQuiet → IsLogged on kept base phases old list loose ended left → more ≡ kept ++ fault_step tag found before faults tick ∷ option_to_list ending → earlier ≡ left_in kept → LeftSo earlier row left' found → tick ≡ new.ticks → faults ≡ new.faults → before ≡ old.faults → raised old.ticks ≤ new.ticks → new.faults ≡ raised old.faults → IsCounted old → IsCounted new → IsFormed row → Both SameObjects old.told new.told → IsFaulted (shown on kept base phases old) (shown on more base phases new) row ending
+is_faulted on kept more base phases tag row earlier found before faults tick ending old new list loose ended left left' tagged quiet h e copied so at counts was spent rose counted counted' formed objects =
+    let s = state_of (story_of on kept (oldest_first base) phases) in record {
       left = found;
       before = before;
       faults = faults;
       tick = tick;
       sight = new;
       formed = formed;
-      grows = shown_faulted on kept more rows phases tag found before faults tick ending old new h.told quiet e
-          ∙ ap (λ t. with_ending (with_step_on (shown on kept rows phases old) (fault_step t found before faults tick) new) ending) tagged;
+      grows = shown_faulted on kept more base phases tag found before faults tick ending old new h.told quiet e
+          ∙ ap (λ t. with_ending (with_step_on (shown on kept base phases old) (fault_step t found before faults tick) new) ending) tagged;
       rose = rises_raised before old.faults faults (omega (arith, was)) counted.faults (omega (arith, counts, rose)) (omega (arith, counts, counted'.faults));
       later = omega (arith, h.backed.faults, was);
-      leaves = may_leave_so s row left' found (subst (λ o. LeftSo o row left' found) (copied ∙ sym (hanging_is on 1 0 kept rows phases start h.told)) so);
+      leaves = may_leave_so s row left' found (subst (λ o. LeftSo o row left' found) (copied ∙ sym (hanging_is on 1 0 kept (oldest_first base) phases start h.told)) so);
       ticked = rises_raised _ old.ticks tick h.backed.ticks counted.ticks (omega (arith, at, spent)) (omega (arith, at, counted'.ticks));
       counted = was;
       counts = rose;
       told = counts;
       at = at;
       spent = rises_raised old.ticks old.ticks tick (omega arith) counted.ticks (omega (arith, at, spent)) (omega (arith, at, counted'.ticks));
+      objects = objects;
     }
+
+-- the file of objects is as it was after calls that write the journal alone
+pub objects_stay : (list loose list' loose' : List (List ℕ)) (old new : Option Device) → Both (Moves list loose list' loose') old new → Both SameObjects old new
+objects_stay list loose list' loose' None None moves = tt
+objects_stay list loose list' loose' None (Some e) moves = absurd moves
+objects_stay list loose list' loose' (Some d) None moves = absurd moves
+objects_stay list loose list' loose' (Some d) (Some e) moves = moves.passes.objects

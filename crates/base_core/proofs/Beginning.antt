@@ -5,12 +5,12 @@ use Rattle.cc_names.specs.declared.commands.Phase.{Phase}
 use Rattle.cc_names.specs.declared.replies.Reply.{Reply}
 use Rattle.cc_names.specs.declared.steps.Told.TheVariants as told
 use Rattle.session_text.specs.Formed.{IsPhase}
-use Rattle.base_core.specs.Carried.{AreCarriedOut}
+use Rattle.carried_out.specs.CarriedOut.{AreCarriedOut}
 use Rattle.build_core.specs.Slots.{numbered}
-use Rattle.legal_history.specs.Builds.{Build, build_of, reserved}
-use Rattle.legal_history.specs.States.{start, all_done, done_of}
-use Rattle.legal_history.specs.Steps.{state_of}
-use Rattle.legal_history.specs.Stories.{last_moment}
+use Rattle.legal_history.specs.Builds.Active.{Build, build_of, reserved}
+use Rattle.legal_history.specs.Stories.States.{start, all_done, done_of}
+use Rattle.legal_history.specs.Stories.Steps.{state_of}
+use Rattle.legal_history.specs.Stories.Lawful.{last_moment}
 use Rattle.base_core.specs.Kept.{last_phase, replies_at, command_limit, Agrees, IsKept}
 use Rattle.base_core.specs.Logs.{Logged, with_phase}
 use Rattle.base_core.specs.Readable.{IsReadable}
@@ -34,7 +34,7 @@ kept_plan log lanes fresh builds none now moment phase h finished formed carried
     let active : (state_of (story ++ x ∷ [])).active ≡ [] = ap (λ s. s.active) (state_from-more start story x) ∙ nobody in
     record {
       legal = legal_more start story x h.legal (record { opened = h.agrees.opened; finished = finished; in_time = in_time });
-      agrees = subst (λ s. Agrees s log.rows (log.phases ++ phase ∷ []) none moment) (sym (state_from-more start story x))
+      agrees = subst (λ s. Agrees s log.base (log.phases ++ phase ∷ []) none moment) (sym (state_from-more start story x))
           (record {
             opened = h.agrees.opened;
             base = h.agrees.base;
@@ -51,11 +51,11 @@ kept_plan log lanes fresh builds none now moment phase h finished formed carried
       count = slots ∙ sym count;
       building = λ lane build is. absurd (let none : build_of (state_of (story ++ x ∷ [])).active lane ≡ None = ap (λ a. build_of a lane) active in cc);
       reserves = omega (arith, ap reserved active);
-      formed = subst (IsPhase command_limit) (sym last) formed;
-      carried_out = subst AreCarriedOut (sym last) carried;
-      unversioned = h.unversioned;
+      phase = record {
+        formed = subst (IsPhase command_limit) (sym last) formed;
+        carried_out = subst AreCarriedOut (sym last) carried;
+        few = omega (arith, few, length-append log.phases (phase ∷ []));
+        in_time = in_time;
+      };
       readable = names_more IsReadable story x h.readable tt;
-      room = h.room;
-      few = omega (arith, few, length-append log.phases (phase ∷ []));
-      in_time = in_time;
     }

@@ -15,13 +15,14 @@ use Rattle.cc_names.specs.declared.steps.Told.TheVariants as told
 use Rattle.build_core.specs.Slots.{numbered}
 use Rattle.build_core.specs.SlotLaws.{put_numbered, without_numbered}
 use Rattle.disk_model.specs.Told.{Sight}
-use Rattle.legal_history.specs.Builds.{Build, build_of, reserved}
-use Rattle.legal_history.specs.States.{State, Faulted, start, done_of, with_done, next_tag, build_by, ticks_of, faults_of}
-use Rattle.legal_history.specs.Steps.{after, state_of, done_by_fault, faulted_in, without_build}
-use Rattle.legal_history.specs.Committing.{FaultsAt, Leaves, MayCommit, rises}
-use Rattle.legal_history.specs.Stories.{EndsBuild, Legal}
-use Rattle.legal_history.specs.Turns.{is_complete}
-use Rattle.legal_history.specs.Consistency.{IsConsistent}
+use Rattle.legal_history.specs.Builds.Active.{Build, build_of, reserved}
+use Rattle.legal_history.specs.Stories.States.{State, Faulted, start, done_of, with_done, next_tag, build_by, ticks_of, faults_of}
+use Rattle.legal_history.specs.Stories.Steps.{after, state_of, done_by_fault, faulted_in, without_build}
+use Rattle.cc_names.specs.Counts.{rises}
+use Rattle.legal_history.specs.Stories.Committing.{FaultsAt, Leaves, MayCommit}
+use Rattle.legal_history.specs.Stories.Lawful.{EndsBuild, Legal}
+use Rattle.legal_history.specs.Builds.Turns.{is_complete}
+use Rattle.legal_history.specs.Builds.Consistency.{IsConsistent}
 use Rattle.base_core.specs.Appending.{MayLeave}
 use Rattle.base_core.specs.BuildCalls.{IsObjectRow}
 use Rattle.base_core.specs.Building.{IsBuildKept}
@@ -40,7 +41,7 @@ use Rattle.base_core.proofs.Lanes.{one_or_two, done_same, done_other}
 use Rattle.base_core.proofs.LaneSlots.{found_put, lane_slot}
 use Rattle.base_core.proofs.Naming.{left_named, names_more}
 use Rattle.base_core.proofs.Noting.{same_replies}
-use Rattle.base_core.proofs.ObjectSteps.{object_known, object_may}
+use Rattle.base_core.proofs.ObjectSteps.{object_made, object_may}
 use Rattle.base_core.proofs.Reserving.{found_set, found_other, reserved_set}
 use Rattle.base_core.proofs.Staying.{build_stays}
 
@@ -81,13 +82,8 @@ kept_broken log lanes builds now lane build row left before faults tick sight ro
   count = length-set builds (lane - 1) None ∙ h.count ∙ sym (length-set lanes (lane - 1) (replies_at lanes lane ++ replies.DiskFault ∷ []));
   building = λ other found e. by other found (one_or_two other lane) e;
   reserves = omega (arith, h.reserves, ap reserved active, ap reserved h.agrees.active, reserved_set 1 (lane - 1) builds None (omega (arith, h.count)));
-  formed = h.formed;
-  carried_out = h.carried_out;
-  unversioned = h.unversioned;
+  phase = h.phase;
   readable = names_more IsReadable story' end (names_more IsReadable story fault h.readable (left_named IsReadable story row left leaves readable h.readable)) tt;
-  room = h.room;
-  few = h.few;
-  in_time = h.in_time;
 }
   where
     story : List Told
@@ -192,7 +188,7 @@ kept_broken_object log lanes builds now story lane n row tag left before faults 
     subst (λ t. IsKept (with_step (with_step_on log (steps.Fault row.tag left before faults tick) sight) (steps.End t)) (with_reply lanes lane replies.DiskFault) (set builds (lane - 1) None) now) (sym of_tag)
     (subst (λ t. IsKept (with_step (with_step_on log (steps.Fault t left before faults tick) sight) (steps.End (next_tag s lane))) (with_reply lanes lane replies.DiskFault) (set builds (lane - 1) None) now) (sym here.of_tag)
     (kept_broken log lanes builds now lane here.build row left before faults tick sight rose later leaves ticked h slot.from (omega (arith, slot.upto, h.count)) here.active here.of_tag (object_may log lanes builds now lane n row h here consistent)
-    (record { formed = formed; known = object_known s lane n row here })))
+    (record { formed = formed; made = object_made s lane n row here })))
 
 -- how the story went on
 pub broken_object_finishes : (log : Logged) (lanes : List (List Reply)) (builds : List (Option Build)) (now : ℕ) (story : List Told) (lane n : ℕ) (row : Plain) (tag : Tag) (left : Option Plain) (before faults tick : ℕ) (sight : Sight) → log.story ≡ story → IsKept log lanes builds now → IsObjectRow (state_of story) lane n row → tag ≡ next_tag (state_of story) lane → Finishes story (with_step (with_step_on log (steps.Fault row.tag left before faults tick) sight) (steps.End tag)).story lane

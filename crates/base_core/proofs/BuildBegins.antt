@@ -11,12 +11,12 @@ use Rattle.cc_names.specs.declared.steps.Told.{Told}
 use Rattle.cc_names.specs.declared.steps.Told.TheVariants as told
 use Rattle.build_core.specs.Slots.{numbered, held_in}
 use Rattle.build_core.specs.SlotLaws.{put_numbered}
-use Rattle.legal_history.specs.Base.{size}
-use Rattle.legal_history.specs.Builds.{Build, build_of, reserved}
-use Rattle.legal_history.specs.Decisions.{Begins}
-use Rattle.legal_history.specs.Fits.{row_limit}
-use Rattle.legal_history.specs.States.{State, start, decided}
-use Rattle.legal_history.specs.Steps.{begun, state_of, with_build}
+use Rattle.legal_history.specs.Base.Rows.{size}
+use Rattle.legal_history.specs.Builds.Active.{Build, build_of, reserved}
+use Rattle.legal_history.specs.Commands.Decisions.{Begins}
+use Rattle.legal_history.specs.Base.Fits.{row_limit}
+use Rattle.legal_history.specs.Stories.States.{State, start, decided}
+use Rattle.legal_history.specs.Stories.Steps.{begun, state_of, with_build}
 use Rattle.base_core.specs.Building.{IsBuildKept}
 use Rattle.base_core.specs.Kept.{IsKept}
 use Rattle.base_core.specs.Logs.{Logged, with_step}
@@ -46,13 +46,8 @@ kept_begin log lanes builds now tag build h low high made begins kept room = rec
   count = length-set builds (lane - 1) (Some build) ∙ h.count;
   building = λ other found e. by other found (one_or_two other lane) e;
   reserves = omega (arith, room, ap reserved active, ap reserved h.agrees.active, reserved_set 1 (lane - 1) builds (Some build) (omega (arith, h.count)), ap rows_for empty);
-  formed = h.formed;
-  carried_out = h.carried_out;
-  unversioned = h.unversioned;
+  phase = h.phase;
   readable = names_more IsReadable story x h.readable tt;
-  room = h.room;
-  few = h.few;
-  in_time = h.in_time;
 }
   where
     lane : ℕ

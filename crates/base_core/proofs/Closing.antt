@@ -10,12 +10,12 @@ use Rattle.cc_names.specs.declared.steps.Told.{Told}
 use Rattle.cc_names.specs.declared.steps.Told.TheVariants as told
 use Rattle.build_core.specs.Slots.{numbered}
 use Rattle.build_core.specs.SlotLaws.{without_numbered}
-use Rattle.legal_history.specs.Replied.{reply_of}
-use Rattle.legal_history.specs.Base.{only_where}
-use Rattle.legal_history.specs.Builds.{Build, build_of, reserved}
-use Rattle.legal_history.specs.States.{State, start, with_done, same_tag, next_tag, build_by}
-use Rattle.legal_history.specs.Steps.{state_of, without_build}
-use Rattle.legal_history.specs.Turns.{is_complete}
+use Rattle.legal_history.specs.Builds.Replied.{reply_of}
+use Rattle.legal_history.specs.Base.Rows.{only_where}
+use Rattle.legal_history.specs.Builds.Active.{Build, build_of, reserved}
+use Rattle.legal_history.specs.Stories.States.{State, start, with_done, same_tag, next_tag, build_by}
+use Rattle.legal_history.specs.Stories.Steps.{state_of, without_build}
+use Rattle.legal_history.specs.Builds.Turns.{is_complete}
 use Rattle.base_core.specs.Building.{IsBuildKept}
 use Rattle.base_core.specs.Kept.{last_phase, replies_at, with_reply, IsKept}
 use Rattle.base_core.specs.Logs.{Logged, with_step}
@@ -53,13 +53,8 @@ kept_end log lanes builds now lane build h low high is over = record {
   count = length-set builds (lane - 1) None ∙ h.count ∙ sym (length-set lanes (lane - 1) (replies_at lanes lane ++ reply ∷ []));
   building = λ other found e. by other found (one_or_two other lane) e;
   reserves = omega (arith, h.reserves, ap reserved active, ap reserved h.agrees.active, reserved_set 1 (lane - 1) builds None (omega (arith, h.count)));
-  formed = h.formed;
-  carried_out = h.carried_out;
-  unversioned = h.unversioned;
+  phase = h.phase;
   readable = names_more IsReadable story x h.readable tt;
-  room = h.room;
-  few = h.few;
-  in_time = h.in_time;
 }
   where
     story : List Told

@@ -1,5 +1,5 @@
 -- The command that a lane has next is one of the phase: it has the form of one, and is carried out.
-use Rattle.std.proofs.Common.{◌≡◌, ℕ, zero, suc, true, Option, Some, None, List, length, refl, ap, sym, ◌∙◌}
+use Rattle.std.proofs.Common.{◌≡◌, ℕ, zero, suc, true, false, Option, Some, None, List, length, refl, ap, sym, ◌∙◌}
 use Rattle.std.specs.Prelude.{option_and_then, slice_get}
 use Rattle.std.specs.List.{AllByRecursion}
 use Rattle.cc_names.specs.declared.commands.Command.{Command}
@@ -11,12 +11,12 @@ use Rattle.cc_names.specs.declared.replies.Reply.{Reply}
 use Rattle.cc_names.specs.declared.rows.Tag.{Tag}
 use Rattle.cc_names.specs.declared.steps.Told.{Told}
 use Rattle.session_text.specs.Formed.{IsCommand, IsLane, IsPhase}
-use Rattle.legal_history.specs.Builds.{Build}
-use Rattle.legal_history.specs.States.{lane_at, command_behind, next_tag}
-use Rattle.legal_history.specs.Steps.{state_of}
-use Rattle.build_core.specs.Plans.{is_clearmake}
-use Rattle.checkout_desk.specs.Deciding.{is_carried_out}
-use Rattle.base_core.specs.Carried.{IsLaneCarriedOut, AreCarriedOut, is_carried_out as is_carried_out_here}
+use Rattle.legal_history.specs.Builds.Active.{Build}
+use Rattle.legal_history.specs.Stories.States.{lane_at, command_behind, next_tag}
+use Rattle.legal_history.specs.Stories.Steps.{state_of}
+use Rattle.build_core.specs.Plans.{is_clearmake, view_of as build_view}
+use Rattle.checkout_desk.specs.Commands.{builds, view_of}
+use Rattle.carried_out.specs.CarriedOut.{AreCarriedOut, IsLaneCarriedOut, is_carried_out}
 use Rattle.base_core.specs.Kept.{command_limit, last_phase, replies_at, IsKept}
 use Rattle.base_core.specs.Logs.{Logged}
 use Rattle.base_core.specs.Nexts.{next_by, next_of, waiting}
@@ -36,15 +36,13 @@ in_lane Q P each phase (suc n) done command all e = by (slice_get phase.lanes n)
 pub next_is_formed : (phase : Phase) (lane done : ℕ) (command : Command) → IsPhase command_limit phase → option_and_then (command_behind done) (lane_at phase lane) ≡ Some command → IsCommand command_limit command
 next_is_formed phase lane done command formed e = in_lane (IsLane command_limit) (IsCommand command_limit) (λ l is. is.1.1) phase lane done command formed.1 e
 
-next_is_carried_out : (phase : Phase) (lane done : ℕ) (command : Command) → AreCarriedOut phase → option_and_then (command_behind done) (lane_at phase lane) ≡ Some command → is_carried_out_here command ≡ true
-next_is_carried_out phase lane done command carried e = in_lane IsLaneCarriedOut (λ c. is_carried_out_here c ≡ true) (λ l is. is) phase lane done command carried e
+pub next_is_carried_out : (phase : Phase) (lane done : ℕ) (command : Command) → AreCarriedOut phase → option_and_then (command_behind done) (lane_at phase lane) ≡ Some command → is_carried_out command ≡ true
+next_is_carried_out phase lane done command carried e = in_lane IsLaneCarriedOut (λ c. is_carried_out c ≡ true) (λ l is. is) phase lane done command carried e
 
--- one that builds nothing is one that the desk decides
-acting : (command : Command) (tag : Tag) → is_carried_out_here command ≡ true → next_by (Some command) tag ≡ nexts.Act → is_carried_out command ≡ true
-acting (commands.Mkview view) tag carried act = refl
-acting (commands.Save view path text) tag carried act = refl
-acting (commands.Clearmake view file own_only rebuild jobs macros goals) tag carried act = cc
-acting command tag carried act = cc
+-- one that is acted on builds nothing
+acting : (command : Command) (tag : Tag) → next_by (Some command) tag ≡ nexts.Act → builds command ≡ false
+acting (commands.Clearmake view file own_only rebuild jobs macros goals) tag act = absurd (cc)
+acting command tag act = refl
 
 building : (command : Command) (tag : Tag) → next_by (Some command) tag ≡ nexts.Build tag → is_clearmake command ≡ true
 building (commands.Clearmake view file own_only rebuild jobs macros goals) tag builds = refl
@@ -55,13 +53,18 @@ waiting_is : (log : Logged) (lanes : List (List Reply)) (builds : List (Option B
     → option_and_then (command_behind (length (replies_at lanes lane))) (lane_at (last_phase log.phases) lane) ≡ Some command → waiting (state_of story) lane ≡ Some command
 waiting_is log lanes builds now lane story command is h e = ap (λ told. waiting (state_of told) lane) (sym is) ∙ waits log lanes builds now lane command h e
 
-pub acts : (log : Logged) (lanes : List (List Reply)) (builds : List (Option Build)) (now lane : ℕ) (story : List Told) (command : Command) → log.story ≡ story → IsKept log lanes builds now
-    → next_of (state_of story) lane ≡ nexts.Act → option_and_then (command_behind (length (replies_at lanes lane))) (lane_at (last_phase log.phases) lane) ≡ Some command → is_carried_out command ≡ true
-acts log lanes builds now lane story command is h act e =
-    acting command (next_tag (state_of story) lane) (next_is_carried_out (last_phase log.phases) lane (length (replies_at lanes lane)) command h.carried_out e)
-    (ap (λ found. next_by found (next_tag (state_of story) lane)) (sym (waiting_is log lanes builds now lane story command is h e)) ∙ act)
+pub acts : (log : Logged) (lanes : List (List Reply)) (builds_of : List (Option Build)) (now lane : ℕ) (story : List Told) (command : Command) → log.story ≡ story → IsKept log lanes builds_of now
+    → next_of (state_of story) lane ≡ nexts.Act → option_and_then (command_behind (length (replies_at lanes lane))) (lane_at (last_phase log.phases) lane) ≡ Some command → builds command ≡ false
+acts log lanes builds_of now lane story command is h act e =
+    acting command (next_tag (state_of story) lane)
+    (ap (λ found. next_by found (next_tag (state_of story) lane)) (sym (waiting_is log lanes builds_of now lane story command is h e)) ∙ act)
 
 pub builds_next : (log : Logged) (lanes : List (List Reply)) (builds : List (Option Build)) (now lane : ℕ) (story : List Told) (command : Command) → log.story ≡ story → IsKept log lanes builds now
     → next_of (state_of story) lane ≡ nexts.Build (next_tag (state_of story) lane) → option_and_then (command_behind (length (replies_at lanes lane))) (lane_at (last_phase log.phases) lane) ≡ Some command → is_clearmake command ≡ true
 builds_next log lanes builds now lane story command is h build e =
     building command (next_tag (state_of story) lane) (ap (λ found. next_by found (next_tag (state_of story) lane)) (sym (waiting_is log lanes builds now lane story command is h e)) ∙ build)
+
+-- the view in which a command builds is the one that it names
+pub same_view : (command : Command) → is_clearmake command ≡ true → view_of command ≡ build_view command
+same_view (commands.Clearmake view file own_only rebuild jobs macros goals) builds_it = refl
+same_view command builds_it = absurd (cc)

@@ -14,22 +14,22 @@ counted ticks faults = record { told = None; ticks = ticks; faults = faults }
 
 -- a commit of four calls at the seventh tick ends at the eleventh, and not at the tenth
 commit_row : (row : Plain) → CountsStep (told.Commit row 11) (counted 7 2) (counted 11 2)
-commit_row row = (refl, omega arith, refl)
+commit_row row = (refl, omega arith, refl, tt)
 
 commit_early : (row : Plain) → CountsStep (told.Commit row 10) (counted 7 2) (counted 11 2) → ⊥
 commit_early row h = absurd (omega (arith, h.0))
 
 -- a fault at the third call of a commit
 fault_row : (tag : Tag) (left : Option Plain) → CountsStep (told.Other (steps.Fault tag left 2 3 10)) (counted 7 2) (counted 10 3)
-fault_row tag left = (refl, refl, refl, refl, refl)
+fault_row tag left = (refl, refl, refl, refl, refl, tt)
 
 -- a count that stands at its last number is there before and after
 fault_last : (tag : Tag) → CountsStep (told.Other (steps.Fault tag None 18446744073709551615 18446744073709551615 10)) (counted 7 18446744073709551615) (counted 10 18446744073709551615)
-fault_last tag = (refl, refl, refl, refl, refl)
+fault_last tag = (refl, refl, refl, refl, refl, tt)
 
 -- a refusal, a commit and a fault, one after the other
 three_rows : (tag : Tag) (refusal : Refusal) (row : Plain) → CountsSteps (told.Other (steps.Refused tag refusal) ∷ told.Commit row 11 ∷ told.Other (steps.Fault tag None 2 3 12) ∷ []) (counted 7 2) (counted 12 3)
-three_rows tag refusal row = (counted 7 2, refl, (counted 11 2, (refl, omega arith, refl), (counted 12 3, (refl, refl, refl, refl, refl), refl)))
+three_rows tag refusal row = (counted 7 2, refl, (counted 11 2, (refl, omega arith, refl, tt), (counted 12 3, (refl, refl, refl, refl, refl, tt), refl)))
 
 -- no call is made under a refusal
 refusal_idle : (tag : Tag) (refusal : Refusal) → CountsStep (told.Other (steps.Refused tag refusal)) (counted 7 2) (counted 8 2) → ⊥

@@ -1,38 +1,23 @@
 -- The journal of a base of readable rows is damaged nowhere, and is that of no other base.
 use Rattle.std.proofs.Common.{◌≡◌, ℕ, ◌⊎◌, inl, inr, true, List, [], ◌∷◌, ◌++◌, length, length-append, refl, sym, ap, ap₂, subst, ◌∙◌, arith}
-use Rattle.std.specs.Prelude.{reverse}
-use Rattle.cc_names.specs.Formed.{Plain, IsLong}
+use Rattle.cc_names.specs.Formed.{Plain}
 use Rattle.disk_model.specs.Devices.{bytes_of}
 use Rattle.disk_model.specs.Told.{Sight, IfTold}
-use Rattle.legal_history.specs.Base.{Base, size}
-use Rattle.legal_history.specs.Fits.{fits, is_base}
-use Rattle.row_form.specs.Fields.{word, long}
-use Rattle.row_form.specs.Peeling.{peel_byte, peel_word, peel_long}
-use Rattle.row_form.specs.Spelled.{spelled, first_byte, code_of, fields_of}
+use Rattle.legal_history.specs.Base.Rows.{Base, size}
+use Rattle.legal_history.specs.Base.Fits.{fits, is_base}
+use Rattle.row_form.specs.Spelled.{spelled}
+use Rattle.row_form.proofs.ExactRow.{one_spelling}
 use Rattle.vob_journal.specs.Frames.{frames}
 use Rattle.vob_journal.proofs.Telling.{told_map}
 use Rattle.base_core.specs.Opening.{IsBaseOn, IsDamaged, IsUndamaged}
 use Rattle.base_core.specs.Readable.{IsReadable, AreReadable}
 use Rattle.base_core.specs.Standing.{payloads}
-use Rattle.base_core.specs.declared.handed.Handed.{Handed}
+use Rattle.base_core.specs.Handed.{Handed}
 use Rattle.base_core.proofs.Idle.{both}
-use Rattle.base_core.proofs.SameDeeds.{deed_told}
 
 -- a readable row is told by its spelling
-abbrev behind_word : Plain → List ℕ
-behind_word row = long row.moment ++ (code_of row.deed ∷ fields_of row.deed)
-
 row_told : (one two : Plain) → IsReadable one → IsReadable two → spelled one ≡ spelled two → one ≡ two
-row_told one two h k is =
-    let b = peel_byte (first_byte one.deed) (first_byte two.deed) (word one.tag.phase ++ (word one.tag.lane ++ (word one.tag.command ++ behind_word one))) (word two.tag.phase ++ (word two.tag.lane ++ (word two.tag.command ++ behind_word two))) is in
-    let p = peel_word one.tag.phase two.tag.phase (word one.tag.lane ++ (word one.tag.command ++ behind_word one)) (word two.tag.lane ++ (word two.tag.command ++ behind_word two)) h.formed.tag.0 k.formed.tag.0 b.1 in
-    let l = peel_word one.tag.lane two.tag.lane (word one.tag.command ++ behind_word one) (word two.tag.command ++ behind_word two) h.formed.tag.1 k.formed.tag.1 p.1 in
-    let c = peel_word one.tag.command two.tag.command (behind_word one) (behind_word two) h.formed.tag.2 k.formed.tag.2 l.1 in
-    let first : IsLong one.moment = omega (arith, h.formed.moment) in
-    let second : IsLong two.moment = omega (arith, k.formed.moment) in
-    let m = peel_long one.moment two.moment (code_of one.deed ∷ fields_of one.deed) (code_of two.deed ∷ fields_of two.deed) first second c.1 in
-    let d = deed_told one two h.formed k.formed h.known k.known is in
-    λ i. record { tag = record { phase = p.0 i; lane = l.0 i; command = c.0 i }; moment = m.0 i; deed = d i }
+row_told one two h k is = one_spelling one two h.formed k.formed is
 
 -- where two lists that go on are the same, their fronts are, or one front is a part of the other
 abbrev Goes : List (List ℕ) → List ℕ → List (List ℕ) → Type 0
@@ -107,7 +92,7 @@ pub undamaged : (b : Base) → is_base b ≡ true → AreReadable b → IsUndama
 undamaged b good h n damaged =
     let at = goes_on b (payloads damaged.base) damaged.rest damaged.payload good h damaged.list_is in
     let same : at.older ≡ damaged.base = same_base at.older damaged.base at.earlier damaged.readable at.found in
-    damaged.unfit at.row at.readable.formed at.readable.known at.spells (subst (λ c. fits c at.row.deed ≡ true) same at.fit)
+    damaged.unfit at.row at.readable at.spells (subst (λ c. fits c at.row.deed ≡ true) same at.fit)
 
 -- and a journal is damaged once
 pub damaged_once : (list : List (List ℕ)) (m n : ℕ) → IsDamaged list m → IsDamaged list n → m ≡ n
@@ -137,7 +122,7 @@ damaged_once list m n one two = by (which_front (payloads one.base) (payloads tw
     }))
 
 -- nor is that of a disk on which a base was opened
-pub undamaged_on : (old : Sight) (rows : List Plain) (handed : Handed) → IsBaseOn old rows handed → IfTold old.told (λ d. IsUndamaged (frames (bytes_of 0 d)))
-undamaged_on old rows handed on =
-    told_map (λ d. frames (bytes_of 0 d) ≡ payloads (reverse rows)) (λ d. IsUndamaged (frames (bytes_of 0 d))) old.told
-    (λ d is. subst IsUndamaged (sym is) (undamaged (reverse rows) on.fits on.readable)) on.found
+pub undamaged_on : (old : Sight) (base : Base) (handed : Handed) → IsBaseOn old base handed → IfTold old.told (λ d. IsUndamaged (frames (bytes_of 0 d)))
+undamaged_on old base handed on =
+    told_map (λ d. frames (bytes_of 0 d) ≡ payloads base) (λ d. IsUndamaged (frames (bytes_of 0 d))) old.told
+    (λ d is. subst IsUndamaged (sym is) (undamaged base on.fits on.readable)) on.found

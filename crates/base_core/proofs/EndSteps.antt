@@ -1,16 +1,16 @@
 -- What is kept, and how the story went on, after the end of a build.
-use Rattle.std.proofs.Common.{◌≡◌, ℕ, ◌-◌, true, Option, Some, None, List, [], ◌∷◌, ◌++◌, reverse, set, ap, sym, subst, ◌∙◌, arith}
-use Rattle.cc_names.specs.Formed.{Plain}
+use Rattle.std.proofs.Common.{◌≡◌, ℕ, ◌-◌, true, Option, Some, None, List, [], ◌∷◌, ◌++◌, set, ap, sym, subst, ◌∙◌, arith}
 use Rattle.cc_names.specs.declared.replies.Reply.{Reply}
 use Rattle.cc_names.specs.declared.rows.Tag.{Tag}
 use Rattle.cc_names.specs.declared.steps.Step.TheVariants as steps
 use Rattle.cc_names.specs.declared.steps.Told.{Told}
 use Rattle.cc_names.specs.declared.steps.Told.TheVariants as told
-use Rattle.legal_history.specs.Replied.{reply_of}
-use Rattle.legal_history.specs.Builds.{Build, build_of}
-use Rattle.legal_history.specs.States.{State, start, done_of, with_done, next_tag}
-use Rattle.legal_history.specs.Steps.{state_of, without_build}
-use Rattle.legal_history.specs.Turns.{is_complete}
+use Rattle.legal_history.specs.Builds.Replied.{reply_of}
+use Rattle.legal_history.specs.Base.Rows.{Base}
+use Rattle.legal_history.specs.Builds.Active.{Build, build_of}
+use Rattle.legal_history.specs.Stories.States.{State, start, done_of, with_done, next_tag}
+use Rattle.legal_history.specs.Stories.Steps.{state_of, without_build}
+use Rattle.legal_history.specs.Builds.Turns.{is_complete}
 use Rattle.base_core.specs.BuildCalls.{IsOver}
 use Rattle.base_core.specs.Going.{Finishes}
 use Rattle.base_core.specs.Kept.{with_reply, IsKept}
@@ -23,7 +23,7 @@ use Rattle.base_core.proofs.Lanes.{done_same, done_other}
 use Rattle.base_core.proofs.LaneSlots.{lane_slot}
 
 -- what is kept
-pub kept_ended : (log : Logged) (lanes : List (List Reply)) (builds : List (Option Build)) (now lane : ℕ) (story : List Told) (rows : List Plain) (tag : Tag) (build : Build) (reply : Reply) → log.story ≡ story → IsKept log lanes builds now → IsOver (state_of story) lane → IsFound story lane build → (state_of story).base ≡ reverse rows → tag ≡ next_tag (state_of story) lane → reply ≡ reply_of (reverse rows) build → IsKept (with_step log (steps.End tag)) (with_reply lanes lane reply) (set builds (lane - 1) None) now
+pub kept_ended : (log : Logged) (lanes : List (List Reply)) (builds : List (Option Build)) (now lane : ℕ) (story : List Told) (rows : Base) (tag : Tag) (build : Build) (reply : Reply) → log.story ≡ story → IsKept log lanes builds now → IsOver (state_of story) lane → IsFound story lane build → (state_of story).base ≡ rows → tag ≡ next_tag (state_of story) lane → reply ≡ reply_of rows build → IsKept (with_step log (steps.End tag)) (with_reply lanes lane reply) (set builds (lane - 1) None) now
 kept_ended log lanes builds now lane story rows tag build reply same h over f base tagged replied =
     let active : build_of (state_of log.story).active lane ≡ Some build = ap (λ t. build_of (state_of t).active lane) same ∙ f.active in
     let slot = lane_slot log lanes builds now lane build h active in

@@ -9,15 +9,15 @@ use Rattle.cc_names.specs.declared.steps.Step.TheVariants as steps
 use Rattle.cc_names.specs.declared.steps.Told.{Told}
 use Rattle.cc_names.specs.declared.steps.Told.TheVariants as told
 use Rattle.disk_model.specs.Told.{Sight}
-use Rattle.legal_history.specs.Builds.{Build, reserved}
-use Rattle.legal_history.specs.Decisions.{Makes}
-use Rattle.legal_history.specs.Fits.{row_limit}
-use Rattle.legal_history.specs.States.{State, start, with_done, decided, build_if, build_by, ticks_of, faults_of}
-use Rattle.legal_history.specs.Steps.{after, state_of, done_by_fault, faulted_in}
-use Rattle.legal_history.specs.Committing.{Leaves, MayCommit, rises}
-use Rattle.view_lookup.specs.Unversioned.{is_plain_deed}
+use Rattle.legal_history.specs.Builds.Active.{Build, reserved}
+use Rattle.legal_history.specs.Commands.Decisions.{Makes}
+use Rattle.legal_history.specs.Base.Fits.{row_limit}
+use Rattle.legal_history.specs.Stories.States.{State, start, with_done, decided, build_if, build_by, ticks_of, faults_of}
+use Rattle.legal_history.specs.Stories.Steps.{after, state_of, done_by_fault, faulted_in}
+use Rattle.legal_history.specs.Stories.Committing.{Leaves, MayCommit}
+use Rattle.cc_names.specs.Counts.{rises}
 use Rattle.cc_names.specs.declared.desks.Done.TheVariants.{Faulted}
-use Rattle.base_core.specs.Acting.{Acts, IsNextRow}
+use Rattle.base_core.specs.Acting.{Acts, IsNextRow, FinishesCommand}
 use Rattle.base_core.specs.Appending.{MayLeave}
 use Rattle.base_core.specs.Kept.{last_phase, replies_at, with_reply, Agrees, IsKept}
 use Rattle.base_core.specs.Logs.{Logged, with_step_on}
@@ -26,8 +26,7 @@ use Rattle.base_core.specs.Replying.{in_lane, reply_to_fault, replies_of}
 use Rattle.base_core.proofs.Finishing.{finished, others_kept}
 use Rattle.base_core.proofs.Growing.{state_from-more, legal_more}
 use Rattle.base_core.proofs.Idle.{decided_is_free}
-use Rattle.base_core.proofs.Naming.{left_named, names_more, readable_plain}
-use Rattle.base_core.proofs.PlainRows.{makes_row}
+use Rattle.base_core.proofs.Naming.{left_named, names_more}
 
 -- what a fault left is what it may leave
 pub leaves_so : (s : State) (row : Plain) (left : Option Plain) → MayCommit s row → MayLeave s row left → Leaves s row.tag left
@@ -36,11 +35,11 @@ leaves_so s row (Some left) may (inl e) = inl (ap (λ r. r.tag) e, subst (MayCom
 leaves_so s row (Some left) may (inr e) = inr e
 
 -- what is kept then
-pub kept_fault : (log : Logged) (lanes : List (List Reply)) (builds : List (Option Build)) (now : ℕ) (row : Plain) (left : Option Plain) (before faults tick : ℕ) (sight : Sight) → rises before faults ≡ true → faults_of (state_of log.story).opened (state_of log.story).ends ≤ before → MayLeave (state_of log.story) row left → rises (ticks_of (state_of log.story).opened (state_of log.story).ends) tick ≡ true → IsKept log lanes builds now → is_plain_deed row.deed ≡ true → row.moment ≡ now → decided (state_of log.story) row.tag ≡ Some (Ok (Makes row.deed)) → 1 ≤ row.tag.lane → row.tag.lane ≤ length lanes → IsFormed row → IsKept (with_step_on log (steps.Fault row.tag left before faults tick) sight) (with_reply lanes row.tag.lane replies.DiskFault) builds now
-kept_fault log lanes builds now row left before faults tick sight rose later leaves ticked h plain in_time made low high formed =
+pub kept_fault : (log : Logged) (lanes : List (List Reply)) (builds : List (Option Build)) (now : ℕ) (row : Plain) (left : Option Plain) (before faults tick : ℕ) (sight : Sight) → rises before faults ≡ true → faults_of (state_of log.story).opened (state_of log.story).ends ≤ before → MayLeave (state_of log.story) row left → rises (ticks_of (state_of log.story).opened (state_of log.story).ends) tick ≡ true → IsKept log lanes builds now → FinishesCommand row.deed → row.moment ≡ now → decided (state_of log.story) row.tag ≡ Some (Ok (Makes row.deed)) → 1 ≤ row.tag.lane → row.tag.lane ≤ length lanes → IsReadable row → IsKept (with_step_on log (steps.Fault row.tag left before faults tick) sight) (with_reply lanes row.tag.lane replies.DiskFault) builds now
+kept_fault log lanes builds now row left before faults tick sight rose later leaves ticked h finishes in_time made low high readable =
     record {
       legal = legal_more start story x h.legal (record { wanted = record { row = row; of_tag = refl; may = may }; rose = rose; later = later; leaves = leaves_so s row left may leaves; ticked = ticked });
-      agrees = subst (λ t. Agrees t log.rows log.phases builds now) (sym (state_from-more start story x))
+      agrees = subst (λ t. Agrees t log.base log.phases builds now) (sym (state_from-more start story x))
           (record {
             opened = h.agrees.opened;
             base = h.agrees.base;
@@ -54,13 +53,8 @@ kept_fault log lanes builds now row left before faults tick sight rose later lea
       count = h.count ∙ sym (length-set lanes (row.tag.lane - 1) (replies_at lanes row.tag.lane ++ replies.DiskFault ∷ []));
       building = others_kept log lanes builds now x row.tag h (decided_is_free s row.tag (Ok (Makes row.deed)) made) active refl refl done (λ t within. refl) (omega arith);
       reserves = subst (λ t. reserved t.active ≤ row_limit) (sym (state_from-more start story x)) (subst (λ a. reserved a ≤ row_limit) (sym active) h.reserves);
-      formed = h.formed;
-      carried_out = h.carried_out;
-      unversioned = h.unversioned;
-      readable = names_more IsReadable story x h.readable (left_named IsReadable story row left leaves (readable_plain row formed plain) h.readable);
-      room = h.room;
-      few = h.few;
-      in_time = h.in_time;
+      phase = h.phase;
+      readable = names_more IsReadable story x h.readable (left_named IsReadable story row left leaves readable h.readable);
     }
   where
     story : List Told
@@ -73,7 +67,7 @@ kept_fault log lanes builds now row left before faults tick sight rose later lea
     x = told.Other (steps.Fault row.tag left before faults tick)
 
     may : MayCommit s row
-    may = record { moment = in_time ∙ sym h.agrees.moment; made = makes_row s row row.deed plain made }
+    may = record { moment = in_time ∙ sym h.agrees.moment; made = finishes.made s row made }
 
     no_build : build_by s row.tag ≡ None
     no_build = ap (option_and_then (build_if row.tag)) (decided_is_free s row.tag (Ok (Makes row.deed)) made)
@@ -89,8 +83,8 @@ pub kept_next_fault : (log : Logged) (lanes : List (List Reply)) (builds : List 
 kept_next_fault log lanes builds now story row lane left before faults tick sight rose later leaves ticked same at_lane h next formed =
     let here : IsNextRow (state_of log.story) row = subst (λ t. IsNextRow (state_of t) row) (sym same) next in
     subst (λ l. IsKept (with_step_on log (steps.Fault row.tag left before faults tick) sight) (with_reply lanes l replies.DiskFault) builds now) (sym at_lane)
-    (kept_fault log lanes builds now row left before faults tick sight rose later leaves ticked h here.plain (here.at_moment ∙ h.agrees.moment) here.made here.of_next.from
-    (omega (arith, here.of_next.upto, h.replies.count, ap (λ p. length p.lanes) h.agrees.phase)) formed)
+    (kept_fault log lanes builds now row left before faults tick sight rose later leaves ticked h here.finishes (here.at_moment ∙ h.agrees.moment) here.made here.of_next.from
+    (omega (arith, here.of_next.upto, h.replies.count, ap (λ p. length p.lanes) h.agrees.phase)) (record { formed = formed; made = here.carried_out }))
 
 -- how the story went on
 pub next_faults : (old new : List Told) (row : Plain) (left : Option Plain) (before faults tick : ℕ) → new ≡ old ++ told.Other (steps.Fault row.tag left before faults tick) ∷ [] → IsNextRow (state_of old) row → Acts old new row.tag.lane Faulted

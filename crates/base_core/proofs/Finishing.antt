@@ -1,6 +1,6 @@
 -- What a core keeps after a step that finishes a command of a lane.
-use Rattle.std.proofs.Common.{◌≡◌, ◌≢◌, ℕ, ◌+◌, ◌-◌, ◌<◌, ◌≤◌, inl, inr, true, false, Option, Some, None, Result, Ok, Err, List, [], ◌∷◌, ◌++◌, length, length-append, refl, ap, sym, subst, ◌∙◌, arith}
-use Rattle.std.proofs.lemmas.List.{append-nil, reverse-append, length-set, length-reverse}
+use Rattle.std.proofs.Common.{◌≡◌, ◌≢◌, ℕ, ◌+◌, ◌-◌, ◌≤◌, inl, inr, true, false, Option, Some, None, Result, Ok, Err, List, [], ◌∷◌, ◌++◌, length, length-append, refl, ap, sym, subst, ◌∙◌, arith}
+use Rattle.std.proofs.lemmas.List.{append-nil, length-set}
 use Rattle.std.specs.Prelude.{OnOk, is_err}
 use Rattle.cc_names.specs.declared.memory.NoMemory.{NoMemory}
 use Rattle.cc_names.specs.Formed.{Plain, IsFormed}
@@ -12,18 +12,17 @@ use Rattle.cc_names.specs.declared.rows.Tag.{Tag}
 use Rattle.cc_names.specs.declared.steps.Step.TheVariants as steps
 use Rattle.cc_names.specs.declared.steps.Told.{Told}
 use Rattle.cc_names.specs.declared.steps.Told.TheVariants as told
-use Rattle.legal_history.specs.Decisions.{Makes}
-use Rattle.legal_history.specs.Base.{size, first_rows}
-use Rattle.legal_history.specs.Builds.{Build, build_of, reserved}
-use Rattle.legal_history.specs.Fits.{row_limit}
-use Rattle.legal_history.specs.States.{State, start, done_of, with_done, decided, ticks_of}
-use Rattle.legal_history.specs.Steps.{after, state_of}
+use Rattle.legal_history.specs.Commands.Decisions.{Makes}
+use Rattle.legal_history.specs.Base.Rows.{size, first_rows}
+use Rattle.legal_history.specs.Builds.Active.{Build, build_of, reserved}
+use Rattle.legal_history.specs.Base.Fits.{row_limit}
+use Rattle.legal_history.specs.Stories.States.{State, start, done_of, with_done, decided, ticks_of}
+use Rattle.legal_history.specs.Stories.Steps.{after, state_of}
 use Rattle.disk_model.specs.Told.{Sight}
-use Rattle.legal_history.specs.Committing.{rises}
-use Rattle.legal_history.specs.Stories.{Lawful}
-use Rattle.view_lookup.specs.Unversioned.{is_plain_deed}
+use Rattle.cc_names.specs.Counts.{rises}
+use Rattle.legal_history.specs.Stories.Lawful.{Lawful}
 use Rattle.base_core.specs.Building.{IsBuildKept}
-use Rattle.base_core.specs.Acting.{IsNextRow, IsNextRefusal}
+use Rattle.base_core.specs.Acting.{FinishesCommand, IsNextRow, IsNextRefusal}
 use Rattle.base_core.specs.Kept.{last_phase, replies_at, with_reply, Agrees, AreReplies, IsKept}
 use Rattle.base_core.specs.Logs.{Logged, with_row, with_step}
 use Rattle.base_core.specs.Readable.{IsReadable}
@@ -32,8 +31,7 @@ use Rattle.base_core.proofs.Idle.{decided_is_free, not_both}
 use Rattle.base_core.proofs.Staying.{first_stay, build_stays}
 use Rattle.base_core.proofs.Growing.{state_from-more, legal_more, replies_from-more}
 use Rattle.base_core.proofs.Lanes.{done_same, done_other, in_same, in_other, one_or_two, replies_same, replies_other}
-use Rattle.base_core.proofs.Naming.{names_more, readable_plain}
-use Rattle.base_core.proofs.PlainRows.{good_reply, finishes, builds_nothing, makes_row, plain_unversioned, newest_too}
+use Rattle.base_core.proofs.Naming.{names_more}
 
 -- the replies after a step with which one lane finishes a command
 pub finished : (story : List Told) (x : Told) (lanes : List (List Reply)) (phase : Phase) (tag : Tag) (reply : Reply) → AreReplies story lanes phase → 1 ≤ tag.lane → tag.lane ≤ length lanes → ((l : ℕ) → replies_after (state_of story) x (replies_of story) l ≡ replies_of story l ++ in_lane l tag (Some reply)) → (after (state_of story) x).done ≡ with_done (state_of story).done tag.lane → AreReplies (story ++ x ∷ []) (with_reply lanes tag.lane reply) phase
@@ -77,40 +75,35 @@ others_kept log lanes builds now x tag h free active phase number done rows grow
     differs = λ e. not_both (build_of s.active lane) build (ap (build_of s.active) e ∙ free) was
 
 -- what is kept after a commit
-pub kept_commit : (log : Logged) (lanes : List (List Reply)) (builds : List (Option Build)) (now : ℕ) (row : Plain) (tick : ℕ) (sight : Sight) → rises (ticks_of (state_of log.story).opened (state_of log.story).ends) tick ≡ true → IsKept log lanes builds now → is_plain_deed row.deed ≡ true → row.moment ≡ now → decided (state_of log.story) row.tag ≡ Some (Ok (Makes row.deed)) → 1 ≤ row.tag.lane → row.tag.lane ≤ length lanes → length log.rows + 1 < row_limit → IsFormed row → IsKept (with_row log row tick sight) (with_reply lanes row.tag.lane replies.Good) builds now
-kept_commit log lanes builds now row tick sight ticked h plain in_time made low high room formed =
+pub kept_commit : (log : Logged) (lanes : List (List Reply)) (builds : List (Option Build)) (now : ℕ) (row : Plain) (tick : ℕ) (sight : Sight) → rises (ticks_of (state_of log.story).opened (state_of log.story).ends) tick ≡ true → IsKept log lanes builds now → FinishesCommand row.deed → row.moment ≡ now → decided (state_of log.story) row.tag ≡ Some (Ok (Makes row.deed)) → 1 ≤ row.tag.lane → row.tag.lane ≤ length lanes → IsReadable row → IsKept (with_row log row tick sight) (with_reply lanes row.tag.lane replies.Good) builds now
+kept_commit log lanes builds now row tick sight ticked h finishes in_time made low high readable =
     let story = log.story in
     let x = told.Commit row tick in
-    let done : (after (state_of story) x).done ≡ with_done (state_of story).done row.tag.lane = finishes (state_of story).done row.tag.lane row.deed plain in
-    let active : (after (state_of story) x).active ≡ (state_of story).active = builds_nothing (state_of story).base (state_of story).active row.tag.lane row.deed plain in
+    let done : (after (state_of story) x).done ≡ with_done (state_of story).done row.tag.lane = finishes.done (state_of story).done row.tag.lane in
+    let active : (after (state_of story) x).active ≡ (state_of story).active = finishes.active (state_of story).base (state_of story).active row.tag.lane in
     let lawful : Lawful (state_of story) x = record {
-      may = record { moment = in_time ∙ sym h.agrees.moment; made = makes_row (state_of story) row row.deed plain made };
+      may = record { moment = in_time ∙ sym h.agrees.moment; made = finishes.made (state_of story) row made };
       ticked = ticked;
     } in
     record {
       legal = legal_more start story x h.legal lawful;
-      agrees = subst (λ s. Agrees s (log.rows ++ row ∷ []) log.phases builds now) (sym (state_from-more start story x))
+      agrees = subst (λ s. Agrees s (row ∷ log.base) log.phases builds now) (sym (state_from-more start story x))
           (record {
             opened = h.agrees.opened;
-            base = ap (λ b. row ∷ b) h.agrees.base ∙ sym (reverse-append log.rows (row ∷ []));
+            base = ap (λ b. row ∷ b) h.agrees.base;
             phase = h.agrees.phase;
             number = h.agrees.number;
             moment = h.agrees.moment;
             active = active ∙ h.agrees.active;
           });
       replies = finished story x lanes (last_phase log.phases) row.tag replies.Good h.replies low high
-          (λ l. ap (λ r. replies_of story l ++ in_lane l row.tag r) (good_reply (row ∷ (state_of story).base) row.deed plain)) done;
+          (λ l. ap (λ r. replies_of story l ++ in_lane l row.tag r) (finishes.reply (row ∷ (state_of story).base))) done;
       count = h.count ∙ sym (length-set lanes (row.tag.lane - 1) (replies_at lanes row.tag.lane ++ replies.Good ∷ []));
       building = others_kept log lanes builds now x row.tag h (decided_is_free (state_of story) row.tag (Ok (Makes row.deed)) made) active refl refl done
           (λ t within. first_stay row (state_of story).base t within) (omega arith);
       reserves = subst (λ s. reserved s.active ≤ row_limit) (sym (state_from-more start story x)) (subst (λ a. reserved a ≤ row_limit) (sym active) h.reserves);
-      formed = h.formed;
-      carried_out = h.carried_out;
-      unversioned = newest_too row log.rows (plain_unversioned row.deed plain) h.unversioned;
-      readable = names_more IsReadable story x h.readable (readable_plain row formed plain);
-      room = omega (arith, room, length-append log.rows (row ∷ []));
-      few = h.few;
-      in_time = h.in_time;
+      phase = h.phase;
+      readable = names_more IsReadable story x h.readable readable;
     }
 
 -- what is kept after a refusal
@@ -120,7 +113,7 @@ kept_refusal log lanes builds now tag refusal h made low high =
     let x = told.Other (steps.Refused tag refusal) in
     record {
       legal = legal_more start story x h.legal made;
-      agrees = subst (λ s. Agrees s log.rows log.phases builds now) (sym (state_from-more start story x))
+      agrees = subst (λ s. Agrees s log.base log.phases builds now) (sym (state_from-more start story x))
           (record {
             opened = h.agrees.opened;
             base = h.agrees.base;
@@ -133,13 +126,8 @@ kept_refusal log lanes builds now tag refusal h made low high =
       count = h.count ∙ sym (length-set lanes (tag.lane - 1) (replies_at lanes tag.lane ++ replies.Refused refusal ∷ []));
       building = others_kept log lanes builds now x tag h (decided_is_free (state_of story) tag (Err refusal) made) refl refl refl refl (λ t within. refl) (omega arith);
       reserves = subst (λ s. reserved s.active ≤ row_limit) (sym (state_from-more start story x)) h.reserves;
-      formed = h.formed;
-      carried_out = h.carried_out;
-      unversioned = h.unversioned;
+      phase = h.phase;
       readable = names_more IsReadable story x h.readable tt;
-      room = h.room;
-      few = h.few;
-      in_time = h.in_time;
     }
 
 -- what a call that answered no error has done
@@ -152,9 +140,9 @@ pub kept_next_row : (log : Logged) (lanes : List (List Reply)) (builds : List (O
 kept_next_row log lanes builds now story row lane tick sight ticked same at_lane h next formed =
     let here : IsNextRow (state_of log.story) row = subst (λ t. IsNextRow (state_of t) row) (sym same) next in
     subst (λ l. IsKept (with_row log row tick sight) (with_reply lanes l replies.Good) builds now) (sym at_lane)
-    (kept_commit log lanes builds now row tick sight ticked h here.plain (here.at_moment ∙ h.agrees.moment) here.made here.of_next.from
+    (kept_commit log lanes builds now row tick sight ticked h here.finishes (here.at_moment ∙ h.agrees.moment) here.made here.of_next.from
     (omega (arith, here.of_next.upto, h.replies.count, ap (λ p. length p.lanes) h.agrees.phase))
-    (omega (arith, here.room, ap length h.agrees.base, length-reverse log.rows)) formed)
+    (record { formed = formed; made = here.carried_out }))
 
 -- what is kept after the refusal of a lane's next command
 pub kept_next_refusal : (log : Logged) (lanes : List (List Reply)) (builds : List (Option Build)) (now : ℕ) (story : List Told) (tag : Tag) (refusal : Refusal) → log.story ≡ story → IsKept log lanes builds now → IsNextRefusal (state_of story) tag refusal → IsKept (with_step log (steps.Refused tag refusal)) (with_reply lanes tag.lane (replies.Refused refusal)) builds now

@@ -9,12 +9,12 @@ use Rattle.cc_names.specs.Formed.{Plain}
 use Rattle.cc_names.specs.declared.steps.Step.TheVariants as steps
 use Rattle.cc_names.specs.declared.steps.Told.{Told}
 use Rattle.cc_names.specs.declared.steps.Told.TheVariants as told
-use Rattle.legal_history.specs.Base.{Base}
-use Rattle.legal_history.specs.Fits.{is_base}
-use Rattle.legal_history.specs.States.{State, Opening, End, Committed, Faulted, start, ticks_of, hanging}
-use Rattle.legal_history.specs.Steps.{after, state_of}
-use Rattle.legal_history.specs.Committing.{MayCommit, Leaves}
-use Rattle.legal_history.specs.Stories.{Legal, LegalFrom, Lawful}
+use Rattle.legal_history.specs.Base.Rows.{Base}
+use Rattle.legal_history.specs.Base.Fits.{is_base}
+use Rattle.legal_history.specs.Stories.States.{State, Opening, End, Committed, Faulted, start, ticks_of, hanging}
+use Rattle.legal_history.specs.Stories.Steps.{after, state_of}
+use Rattle.legal_history.specs.Stories.Committing.{MayCommit, Leaves}
+use Rattle.legal_history.specs.Stories.Lawful.{Legal, LegalFrom, Lawful}
 use Rattle.base_core.specs.Founds.{OpensAgain, SpellsBase}
 use Rattle.base_core.specs.Opening.{IsUndamaged}
 use Rattle.base_core.specs.Readable.{IsReadable, NamesOnly, TellsOnly}

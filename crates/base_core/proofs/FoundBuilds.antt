@@ -1,8 +1,7 @@
 -- The build that is found in a lane's slot: what is kept of it, and how a unit of it goes on.
-use Rattle.std.proofs.Common.{◌≡◌, ◌≢◌, ℕ, ◌+◌, ◌<◌, ◌≤◌, ◌&&◌, ◌⊎◌, inl, inr, true, Option, Some, Result, Ok, Err, List, [], ◌∷◌, length, reverse, refl, ap, sym, subst, ◌∙◌, arith}
+use Rattle.std.proofs.Common.{◌≡◌, ◌≢◌, ℕ, ◌+◌, ◌<◌, ◌≤◌, ◌&&◌, ◌⊎◌, inl, inr, true, Option, Some, Result, Ok, Err, List, [], ◌∷◌, length, refl, ap, sym, subst, ◌∙◌, arith}
 use Rattle.std.specs.Prelude.{IfOk, IsSome, slice_get}
 use Rattle.std.proofs.lemmas.Option.{slice_get_within}
-use Rattle.cc_names.specs.Formed.{Plain}
 use Rattle.cc_names.specs.declared.refusals.ScriptFault.{ScriptFault}
 use Rattle.cc_names.specs.declared.refusals.UnitFault.TheVariants as faults
 use Rattle.cc_names.specs.declared.replies.Reply.{Reply}
@@ -14,14 +13,14 @@ use Rattle.build_core.specs.UnitSteps.{IsStep}
 use Rattle.build_core.specs.declared.steps.UnitStep.{UnitStep}
 use Rattle.build_script.specs.Run.{Ran}
 use Rattle.build_script.specs.declared.lines.Line.{Line}
-use Rattle.legal_history.specs.Base.{Base, first_rows}
-use Rattle.legal_history.specs.Builds.{Build, Started, build_of, came_to, is_outcome}
-use Rattle.legal_history.specs.Consistency.{IsConsistent}
-use Rattle.legal_history.specs.States.{State}
-use Rattle.legal_history.specs.Steps.{state_of}
-use Rattle.legal_history.specs.Stories.{Legal}
-use Rattle.legal_history.specs.Turns.{all_over}
-use Rattle.legal_history.specs.Views.{view_row}
+use Rattle.legal_history.specs.Base.Rows.{Base, first_rows}
+use Rattle.legal_history.specs.Builds.Active.{Build, Started, build_of, came_to, is_outcome}
+use Rattle.legal_history.specs.Builds.Consistency.{IsConsistent}
+use Rattle.legal_history.specs.Stories.States.{State}
+use Rattle.legal_history.specs.Stories.Steps.{state_of}
+use Rattle.legal_history.specs.Stories.Lawful.{Legal}
+use Rattle.legal_history.specs.Builds.Turns.{all_over}
+use Rattle.legal_history.specs.Base.Views.{view_row}
 use Rattle.base_core.specs.BuildCalls.{IsCarried, IsTurn, StepsTo, MaySettle, HasScript, IsStarted, HasRun, IsOver, Noted}
 use Rattle.base_core.specs.Building.{IsBuildKept}
 use Rattle.base_core.specs.declared.tried.Carried.{Carried}
@@ -58,9 +57,9 @@ found log lanes builds slots now story lane build same h e is =
     is_found log lanes builds now story lane build same h
     (ap (λ t. build_of (state_of t).active lane) (sym same) ∙ ap (λ a. build_of a lane) h.agrees.active ∙ ap (λ bs. build_of (numbered 1 bs) lane) (sym e) ∙ sym is)
 
--- the base is that of the rows that are kept
-pub base_of_rows : (log : Logged) (lanes : List (List Reply)) (builds : List (Option Build)) (now : ℕ) (story : List Told) (rows : List Plain) → log.story ≡ story → IsKept log lanes builds now → rows ≡ log.rows → (state_of story).base ≡ reverse rows
-base_of_rows log lanes builds now story rows same h e = ap (λ t. (state_of t).base) (sym same) ∙ h.agrees.base ∙ ap reverse (sym e)
+-- the base is the one that is kept
+pub base_of_rows : (log : Logged) (lanes : List (List Reply)) (builds : List (Option Build)) (now : ℕ) (story : List Told) (rows : Base) → log.story ≡ story → IsKept log lanes builds now → rows ≡ log.base → (state_of story).base ≡ rows
+base_of_rows log lanes builds now story rows same h e = ap (λ t. (state_of t).base) (sym same) ∙ h.agrees.base ∙ sym e
 
 -- a build's view was there in its reference rows
 pub view_there : (story : List Told) (lane : ℕ) (build : Build) (b : Base) → IsFound story lane build → (state_of story).base ≡ b → IsSome (view_row (first_rows build.rows b) build.view)

@@ -4,9 +4,9 @@ use Rattle.std.specs.Prelude.{OnErr}
 use Rattle.std.proofs.lemmas.List.{append-nil}
 use Rattle.std.proofs.Common.{append_assoc}
 use Rattle.cc_names.specs.declared.steps.Told.{Told}
-use Rattle.legal_history.specs.Builds.{Build}
-use Rattle.legal_history.specs.States.{done_of}
-use Rattle.legal_history.specs.Steps.{state_of}
+use Rattle.legal_history.specs.Builds.Active.{Build}
+use Rattle.legal_history.specs.Stories.States.{done_of}
+use Rattle.legal_history.specs.Stories.Steps.{state_of}
 use Rattle.base_core.specs.Going.{StillBuilds, GoesOn, Finishes}
 use Rattle.base_core.specs.Shown.{Shown}
 

@@ -2,9 +2,9 @@
 use Rattle.std.proofs.Common.{◌≡◌, ℕ, List, [], ◌∷◌, ◌++◌, refl}
 use Rattle.cc_names.specs.declared.replies.Reply.{Reply}
 use Rattle.cc_names.specs.declared.steps.Told.{Told}
-use Rattle.legal_history.specs.States.{State}
-use Rattle.legal_history.specs.Steps.{after, state_from}
-use Rattle.legal_history.specs.Stories.{Lawful, LegalFrom}
+use Rattle.legal_history.specs.Stories.States.{State}
+use Rattle.legal_history.specs.Stories.Steps.{after, state_from}
+use Rattle.legal_history.specs.Stories.Lawful.{Lawful, LegalFrom}
 use Rattle.base_core.specs.Replying.{replies_after, replies_from}
 
 -- the state after one more step

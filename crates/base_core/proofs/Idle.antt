@@ -11,12 +11,12 @@ use Rattle.cc_names.specs.declared.replies.Reply.{Reply}
 use Rattle.cc_names.specs.declared.rows.Tag.{Tag}
 use Rattle.build_core.specs.Slots.{numbered, held_in}
 use Rattle.build_core.specs.SlotLaws.{find_numbered}
-use Rattle.legal_history.specs.Base.{only_where}
-use Rattle.legal_history.specs.Builds.{Build, build_of}
-use Rattle.legal_history.specs.Decisions.{Decision}
-use Rattle.legal_history.specs.Lines.{decision}
-use Rattle.legal_history.specs.States.{State, scene, done_of, lane_at, command_behind, lanes_done, all_done, same_tag, next_tag, decided}
-use Rattle.legal_history.specs.Steps.{state_of}
+use Rattle.legal_history.specs.Base.Rows.{only_where}
+use Rattle.legal_history.specs.Builds.Active.{Build, build_of}
+use Rattle.legal_history.specs.Commands.Decisions.{Decision}
+use Rattle.legal_history.specs.Commands.Lines.{decision}
+use Rattle.legal_history.specs.Stories.States.{State, scene, done_of, lane_at, command_behind, lanes_done, all_done, same_tag, next_tag, decided}
+use Rattle.legal_history.specs.Stories.Steps.{state_of}
 use Rattle.base_core.specs.Kept.{IsKept}
 use Rattle.base_core.specs.Logs.{Logged}
 use Rattle.base_core.specs.Nexts.{waiting, next_by, next_of}

@@ -10,7 +10,7 @@ use Rattle.std.proofs.lemmas.Bool.{eqb-true}
 use Rattle.std.proofs.lemmas.Bool.Decides.{nat_tests}
 use Rattle.cc_names.specs.declared.replies.Reply.{Reply}
 use Rattle.cc_names.specs.declared.rows.Tag.{Tag}
-use Rattle.legal_history.specs.States.{done_of, with_done}
+use Rattle.legal_history.specs.Stories.States.{done_of, with_done}
 use Rattle.base_core.specs.Kept.{replies_at, with_reply}
 use Rattle.base_core.specs.Replying.{in_lane}
 

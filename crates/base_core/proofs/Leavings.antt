@@ -6,11 +6,11 @@ use Rattle.cc_names.specs.declared.rows.Tag.{Tag}
 use Rattle.cc_names.specs.declared.steps.Step.{Step}
 use Rattle.cc_names.specs.declared.steps.Step.TheVariants as steps
 use Rattle.cc_names.specs.declared.steps.Told.TheVariants as told
-use Rattle.legal_history.specs.States.{State, hanging}
-use Rattle.legal_history.specs.Steps.{after, state_from}
+use Rattle.legal_history.specs.Stories.States.{State, hanging}
+use Rattle.legal_history.specs.Stories.Steps.{after, state_from}
 use Rattle.base_core.specs.Leaving.{left_by}
 use Rattle.base_core.specs.Telling.{story_of, AreTold}
-use Rattle.base_core.specs.declared.handed.Handed.{Handed}
+use Rattle.base_core.specs.Handed.{Handed}
 
 -- the newest step decides
 pub left_by-last : (left : Option Plain) (earlier : List Step) (step : Step) → left_by left (earlier ++ step ∷ []) ≡ left_by (left_by left earlier) (step ∷ [])

@@ -3,6 +3,7 @@ pub mod Closing
 pub mod Commanded
 pub mod EndSteps
 pub mod Finishing
+pub mod Fitting
 pub mod FoundBuilds
 pub mod Goings
 pub mod Growing
@@ -39,7 +40,7 @@ pub mod FoundBases
 pub mod Naming
 pub mod Damages
 pub mod ReadRows
-pub mod SameDeeds
+pub mod Unfit
 pub mod OpenedBases
 mod OpeningStep
 pub mod Appended

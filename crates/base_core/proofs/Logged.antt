@@ -7,27 +7,29 @@ use Rattle.cc_names.specs.declared.steps.Step.{Step}
 use Rattle.cc_names.specs.declared.steps.Step.TheVariants as steps
 use Rattle.cc_names.specs.declared.steps.Told.TheVariants as told
 use Rattle.disk_model.specs.Told.{Sight, IfTold, Both, IsCounted}
-use Rattle.legal_history.specs.States.{State, start}
-use Rattle.legal_history.specs.Steps.{after, state_of}
+use Rattle.legal_history.specs.Base.Rows.{Base}
+use Rattle.legal_history.specs.Stories.States.{State, start}
+use Rattle.legal_history.specs.Stories.Steps.{after, state_of}
 use Rattle.row_form.specs.Spelled.{spelled}
 use Rattle.vob_journal.specs.Lefts.{loose_after}
 use Rattle.vob_journal.specs.Moves.{Moves}
 use Rattle.vob_journal.specs.declared.left.Left.{Left}
+use Rattle.vob_journal.specs.declared.left.Left.TheVariants as lefts
 use Rattle.base_core.specs.Backed.{IsBacked}
 use Rattle.base_core.specs.Faults.{is_fault}
 use Rattle.base_core.specs.Leaving.{left_in, LeftSo}
 use Rattle.base_core.specs.Logs.{IsLogged}
-use Rattle.base_core.specs.Telling.{story_of, AreTold, stands_alone}
-use Rattle.base_core.specs.declared.handed.Handed.{Handed}
+use Rattle.base_core.specs.Telling.{oldest_first, story_of, AreTold, stands_alone}
+use Rattle.base_core.specs.Handed.{Handed}
 use Rattle.base_core.proofs.Growing.{state_from-more}
 use Rattle.base_core.proofs.Leavings.{hanging_is}
 use Rattle.base_core.proofs.Logging.{backed_same, backed_commit, backed_fault}
-use Rattle.base_core.proofs.LogSteps.{told_row, told_phase, is_told_step}
+use Rattle.base_core.proofs.LogSteps.{oldest_more, told_row, told_phase, is_told_step}
 use Rattle.base_core.proofs.Stories.{story_of-commit, story_of-plan, story_of-step}
 
 -- the state of the story of what is kept
 abbrev pub state_kept : Handed → List Step → List Plain → List Phase → State
-state_kept on kept rows phases = state_of (story_of on kept rows phases)
+state_kept on kept base phases = state_of (story_of on kept (oldest_first base) phases)
 
 -- a step that is neither a commit nor a fault leaves the opening, the base and the ends
 quiet_opened : (s : State) (step : Step) → stands_alone step ≡ true → is_fault (told.Other step) ≡ false → (after s (told.Other step)).opened ≡ s.opened
@@ -43,52 +45,53 @@ quiet_ends s (steps.Fault tag left before faults tick) alone quiet = absurd (cc)
 quiet_ends s step alone quiet = refl
 
 -- a row was committed
-pub logged_row : (on : Handed) (kept more : List Step) (rows grown : List Plain) (phases : List Phase) (tag : Tag) (number tick : ℕ) (row : Plain) (old new : Sight) (list loose list' loose' : List (List ℕ)) (ended ended' : Bool) (left left' : Left) → IsLogged on kept rows phases old list loose ended left → more ≡ kept ++ steps.Commit tag number tick ∷ [] → grown ≡ rows ++ row ∷ [] → row.tag ≡ tag → number ≡ length rows + 1 → Both (Moves list loose list' loose') old.told new.told → IfTold old.told (λ _. (list' ≡ list ++ spelled row ∷ []) × (loose' ≡ [])) → tick ≡ new.ticks → new.faults ≡ old.faults → IsCounted old → IsCounted new → ended' ≡ true → IsLogged on more grown phases new list' loose' ended' left'
-logged_row on kept more rows grown phases tag number tick row old new list loose list' loose' ended ended' left left' h e g t n moves appended at same was counted end = record {
-  told = told_row kept more rows grown phases tag number tick row h.told e g t n;
+pub logged_row : (on : Handed) (kept more : List Step) (base grown : Base) (phases : List Phase) (tag : Tag) (number tick : ℕ) (row : Plain) (old new : Sight) (list loose list' loose' : List (List ℕ)) (ended ended' : Bool) (left left' : Left) → IsLogged on kept base phases old list loose ended left → more ≡ kept ++ steps.Commit tag number tick ∷ [] → grown ≡ row ∷ base → row.tag ≡ tag → number ≡ length base + 1 → Both (Moves list loose list' loose') old.told new.told → IfTold old.told (λ _. (list' ≡ list ++ spelled row ∷ []) × (loose' ≡ [])) → tick ≡ new.ticks → new.faults ≡ old.faults → IsCounted old → IsCounted new → ended' ≡ true → left' ≡ lefts.Nothing → IsLogged on more grown phases new list' loose' ended' left'
+logged_row on kept more base grown phases tag number tick row old new list loose list' loose' ended ended' left left' h e g t n moves appended at same was counted end none = record {
+  told = told_row kept more base grown phases tag number tick row h.told e g t n;
   backed = subst (λ s. IsBacked s new list' loose' ended' left') (sym state)
-      (backed_commit (state_kept on kept rows phases) row tick old new list loose list' loose' ended ended' left left' h.backed moves appended at same was counted end);
+      (backed_commit (state_kept on kept base phases) row tick old new list loose list' loose' ended ended' left left' h.backed moves appended at same was counted end none);
 }
   where
-    state : state_kept on more grown phases ≡ after (state_kept on kept rows phases) (told.Commit row tick)
+    state : state_kept on more grown phases ≡ after (state_kept on kept base phases) (told.Commit row tick)
     state = ap (λ xs. state_kept on xs grown phases) e ∙ ap (λ ys. state_kept on (kept ++ steps.Commit tag number tick ∷ []) ys phases) g
-        ∙ ap state_of (story_of-commit on kept rows phases tag number tick row h.told)
-        ∙ state_from-more start (story_of on kept rows phases) (told.Commit row tick)
+        ∙ ap (λ rows. state_of (story_of on (kept ++ steps.Commit tag number tick ∷ []) rows phases)) (oldest_more row base)
+        ∙ ap state_of (story_of-commit on kept (oldest_first base) phases tag number tick row h.told)
+        ∙ state_from-more start (story_of on kept (oldest_first base) phases) (told.Commit row tick)
 
 -- a phase began
-pub logged_phase : (on : Handed) (kept more : List Step) (rows : List Plain) (phases grown : List Phase) (number moment : ℕ) (phase : Phase) (sight : Sight) (list loose : List (List ℕ)) (ended : Bool) (left : Left) → IsLogged on kept rows phases sight list loose ended left → more ≡ kept ++ steps.Plan number moment ∷ [] → grown ≡ phases ++ phase ∷ [] → number ≡ length phases + 1 → IsLogged on more rows grown sight list loose ended left
-logged_phase on kept more rows phases grown number moment phase sight list loose ended left h e g n = record {
-  told = told_phase kept more rows phases grown number moment phase h.told e g n;
+pub logged_phase : (on : Handed) (kept more : List Step) (base : Base) (phases grown : List Phase) (number moment : ℕ) (phase : Phase) (sight : Sight) (list loose : List (List ℕ)) (ended : Bool) (left : Left) → IsLogged on kept base phases sight list loose ended left → more ≡ kept ++ steps.Plan number moment ∷ [] → grown ≡ phases ++ phase ∷ [] → number ≡ length phases + 1 → IsLogged on more base grown sight list loose ended left
+logged_phase on kept more base phases grown number moment phase sight list loose ended left h e g n = record {
+  told = told_phase kept more base phases grown number moment phase h.told e g n;
   backed = subst (λ s. IsBacked s sight list loose ended left) (sym state)
-      (backed_same (state_kept on kept rows phases) (after (state_kept on kept rows phases) (told.Plan phase moment)) sight list loose ended left refl refl refl h.backed);
+      (backed_same (state_kept on kept base phases) (after (state_kept on kept base phases) (told.Plan phase moment)) sight list loose ended left refl refl refl h.backed);
 }
   where
-    state : state_kept on more rows grown ≡ after (state_kept on kept rows phases) (told.Plan phase moment)
-    state = ap (λ xs. state_kept on xs rows grown) e ∙ ap (λ ys. state_kept on (kept ++ steps.Plan number moment ∷ []) rows ys) g
-        ∙ ap state_of (story_of-plan on kept rows phases number moment phase h.told)
-        ∙ state_from-more start (story_of on kept rows phases) (told.Plan phase moment)
+    state : state_kept on more base grown ≡ after (state_kept on kept base phases) (told.Plan phase moment)
+    state = ap (λ xs. state_kept on xs base grown) e ∙ ap (λ ys. state_kept on (kept ++ steps.Plan number moment ∷ []) base ys) g
+        ∙ ap state_of (story_of-plan on kept (oldest_first base) phases number moment phase h.told)
+        ∙ state_from-more start (story_of on kept (oldest_first base) phases) (told.Plan phase moment)
 
 -- a step is told that stands alone
-state_step : (on : Handed) (kept more : List Step) (rows : List Plain) (phases : List Phase) (step : Step) → AreTold 1 0 kept rows phases → stands_alone step ≡ true → more ≡ kept ++ step ∷ [] → state_kept on more rows phases ≡ after (state_kept on kept rows phases) (told.Other step)
-state_step on kept more rows phases step h alone e =
-    ap (λ xs. state_kept on xs rows phases) e
-    ∙ ap state_of (story_of-step on kept rows phases step h alone)
-    ∙ state_from-more start (story_of on kept rows phases) (told.Other step)
+state_step : (on : Handed) (kept more : List Step) (base : Base) (phases : List Phase) (step : Step) → AreTold 1 0 kept (oldest_first base) phases → stands_alone step ≡ true → more ≡ kept ++ step ∷ [] → state_kept on more base phases ≡ after (state_kept on kept base phases) (told.Other step)
+state_step on kept more base phases step h alone e =
+    ap (λ xs. state_kept on xs base phases) e
+    ∙ ap state_of (story_of-step on kept (oldest_first base) phases step h alone)
+    ∙ state_from-more start (story_of on kept (oldest_first base) phases) (told.Other step)
 
-pub logged_step : (on : Handed) (kept more : List Step) (rows : List Plain) (phases : List Phase) (step : Step) (sight : Sight) (list loose : List (List ℕ)) (ended : Bool) (left : Left) → IsLogged on kept rows phases sight list loose ended left → stands_alone step ≡ true → is_fault (told.Other step) ≡ false → more ≡ kept ++ step ∷ [] → IsLogged on more rows phases sight list loose ended left
-logged_step on kept more rows phases step sight list loose ended left h alone quiet e = record {
-  told = is_told_step kept more rows phases step h.told alone e;
-  backed = subst (λ s. IsBacked s sight list loose ended left) (sym (state_step on kept more rows phases step h.told alone e))
-      (let s = state_kept on kept rows phases in
+pub logged_step : (on : Handed) (kept more : List Step) (base : Base) (phases : List Phase) (step : Step) (sight : Sight) (list loose : List (List ℕ)) (ended : Bool) (left : Left) → IsLogged on kept base phases sight list loose ended left → stands_alone step ≡ true → is_fault (told.Other step) ≡ false → more ≡ kept ++ step ∷ [] → IsLogged on more base phases sight list loose ended left
+logged_step on kept more base phases step sight list loose ended left h alone quiet e = record {
+  told = is_told_step kept more base phases step h.told alone e;
+  backed = subst (λ s. IsBacked s sight list loose ended left) (sym (state_step on kept more base phases step h.told alone e))
+      (let s = state_kept on kept base phases in
       backed_same s (after s (told.Other step)) sight list loose ended left (quiet_opened s step alone quiet) (quiet_base s step alone quiet) (quiet_ends s step alone quiet) h.backed);
 }
 
 -- the disk failed
-pub logged_fault : (on : Handed) (kept more : List Step) (rows : List Plain) (phases : List Phase) (tag : Tag) (row : Plain) (earlier found : Option Plain) (before faults tick : ℕ) (old new : Sight) (list loose list' loose' : List (List ℕ)) (ended ended' : Bool) (left left' : Left) → IsLogged on kept rows phases old list loose ended left → more ≡ kept ++ steps.Fault tag found before faults tick ∷ [] → Both (Moves list loose list' loose') old.told new.told → IfTold old.told (λ _. (list' ≡ list) × (loose' ≡ loose_after left' loose (spelled row))) → earlier ≡ left_in kept → LeftSo earlier row left' found → tick ≡ new.ticks → faults ≡ new.faults → IsCounted old → IsCounted new → ended' ≡ true → IsLogged on more rows phases new list' loose' ended' left'
-logged_fault on kept more rows phases tag row earlier found before faults tick old new list loose list' loose' ended ended' left left' h e moves stays copied so at counts was counted end = record {
-  told = is_told_step kept more rows phases (steps.Fault tag found before faults tick) h.told refl e;
-  backed = subst (λ t. IsBacked t new list' loose' ended' left') (sym (state_step on kept more rows phases (steps.Fault tag found before faults tick) h.told refl e))
-      (let s = state_kept on kept rows phases in
+pub logged_fault : (on : Handed) (kept more : List Step) (base : Base) (phases : List Phase) (tag : Tag) (row : Plain) (earlier found : Option Plain) (before faults tick : ℕ) (old new : Sight) (list loose list' loose' : List (List ℕ)) (ended ended' : Bool) (left left' : Left) → IsLogged on kept base phases old list loose ended left → more ≡ kept ++ steps.Fault tag found before faults tick ∷ [] → Both (Moves list loose list' loose') old.told new.told → IfTold old.told (λ _. (list' ≡ list) × (loose' ≡ loose_after left' loose (spelled row))) → earlier ≡ left_in kept → LeftSo earlier row left' found → tick ≡ new.ticks → faults ≡ new.faults → IsCounted old → IsCounted new → ended' ≡ true → IsLogged on more base phases new list' loose' ended' left'
+logged_fault on kept more base phases tag row earlier found before faults tick old new list loose list' loose' ended ended' left left' h e moves stays copied so at counts was counted end = record {
+  told = is_told_step kept more base phases (steps.Fault tag found before faults tick) h.told refl e;
+  backed = subst (λ t. IsBacked t new list' loose' ended' left') (sym (state_step on kept more base phases (steps.Fault tag found before faults tick) h.told refl e))
+      (let s = state_kept on kept base phases in
       backed_fault s tag row found before faults tick old new list loose list' loose' ended ended' left left' (after s (told.Other (steps.Fault tag found before faults tick))) refl refl refl h.backed moves stays
-      (subst (λ o. LeftSo o row left' found) (copied ∙ sym (hanging_is on 1 0 kept rows phases start h.told)) so) at counts was counted end);
+      (subst (λ o. LeftSo o row left' found) (copied ∙ sym (hanging_is on 1 0 kept (oldest_first base) phases start h.told)) so) at counts was counted end);
 }

@@ -5,13 +5,14 @@ use Rattle.cc_names.specs.declared.rows.Tag.{Tag}
 use Rattle.cc_names.specs.declared.steps.Told.TheVariants as told
 use Rattle.disk_model.specs.Devices.{Device}
 use Rattle.disk_model.specs.Told.{Sight, IfTold, Both, IsCounted}
-use Rattle.legal_history.specs.States.{State, Opening, Faulted, ticks_of, faults_of, hanging}
-use Rattle.legal_history.specs.Steps.{after}
+use Rattle.legal_history.specs.Stories.States.{State, Opening, Faulted, ticks_of, faults_of, hanging}
+use Rattle.legal_history.specs.Stories.Steps.{after}
 use Rattle.row_form.specs.Spelled.{spelled}
 use Rattle.vob_journal.specs.Lefts.{loose_after}
 use Rattle.vob_journal.specs.Moves.{Moves}
 use Rattle.vob_journal.specs.declared.left.Left.{Left}
-use Rattle.base_core.specs.Backed.{IsCovered, IsBacked}
+use Rattle.vob_journal.specs.declared.left.Left.TheVariants as lefts
+use Rattle.base_core.specs.Backed.{IsCovered, IsBacked, is_faulted}
 use Rattle.base_core.specs.Leaving.{LeftSo}
 use Rattle.base_core.specs.Standing.{base_by}
 use Rattle.base_core.proofs.Backing.{still_told, commit_covered, fault_covered}
@@ -34,6 +35,7 @@ backed_same s t sight list loose ended left opened base ends h = record {
   opened = opened ∙ h.opened;
   tells = h.tells;
   at_end = h.at_end;
+  calm = λ e. h.calm (ap is_faulted (sym ends) ∙ e);
   base = base ∙ h.base ∙ ap (base_by h.opening) (sym ends);
   ticks = omega (arith, h.ticks, ap (λ o. ticks_of o t.ends) opened, ap (ticks_of s.opened) ends);
   faults = omega (arith, h.faults, ap (λ o. faults_of o t.ends) opened, ap (faults_of s.opened) ends);
@@ -41,12 +43,13 @@ backed_same s t sight list loose ended left opened base ends h = record {
 }
 
 -- a row was committed
-pub backed_commit : (s : State) (row : Plain) (tick : ℕ) (old new : Sight) (list loose list' loose' : List (List ℕ)) (ended ended' : Bool) (left left' : Left) → IsBacked s old list loose ended left → Both (Moves list loose list' loose') old.told new.told → IfTold old.told (λ _. (list' ≡ list ++ spelled row ∷ []) × (loose' ≡ [])) → tick ≡ new.ticks → new.faults ≡ old.faults → IsCounted old → IsCounted new → ended' ≡ true → IsBacked (after s (told.Commit row tick)) new list' loose' ended' left'
-backed_commit s row tick old new list loose list' loose' ended ended' left left' h moves grown at same was counted end = record {
+pub backed_commit : (s : State) (row : Plain) (tick : ℕ) (old new : Sight) (list loose list' loose' : List (List ℕ)) (ended ended' : Bool) (left left' : Left) → IsBacked s old list loose ended left → Both (Moves list loose list' loose') old.told new.told → IfTold old.told (λ _. (list' ≡ list ++ spelled row ∷ []) × (loose' ≡ [])) → tick ≡ new.ticks → new.faults ≡ old.faults → IsCounted old → IsCounted new → ended' ≡ true → left' ≡ lefts.Nothing → IsBacked (after s (told.Commit row tick)) new list' loose' ended' left'
+backed_commit s row tick old new list loose list' loose' ended ended' left left' h moves grown at same was counted end none = record {
   opening = h.opening;
   opened = h.opened;
   tells = h.tells ∙ sym (still_told (Moves list loose list' loose') old.told new.told moves);
   at_end = end;
+  calm = λ e. none;
   base = ap (λ b. row ∷ b) h.base;
   ticks = omega (arith, at);
   faults = omega (arith, h.faults, same);
@@ -61,6 +64,7 @@ backed_fault s tag row found before faults tick old new list loose list' loose' 
   opened = opened ∙ h.opened;
   tells = h.tells ∙ sym (still_told (Moves list loose list' loose') old.told new.told moves);
   at_end = end;
+  calm = λ e. let failed : is_faulted t.ends ≡ true = ap is_faulted ends in cc;
   base = base ∙ h.base ∙ ap (base_by h.opening) (sym ends);
   ticks = omega (arith, at, ap (ticks_of t.opened) ends, ap (λ o. ticks_of o (Faulted found faults tick ∷ s.ends)) (opened ∙ h.opened));
   faults = omega (arith, counts, ap (faults_of t.opened) ends, ap (λ o. faults_of o (Faulted found faults tick ∷ s.ends)) (opened ∙ h.opened));

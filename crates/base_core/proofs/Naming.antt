@@ -1,21 +1,17 @@
 -- Stories that name only rows of one kind.
-use Rattle.std.proofs.Common.{◌≡◌, inl, inr, true, false, Option, Some, None, List, [], ◌∷◌, ◌++◌, subst, sym}
+use Rattle.std.proofs.Common.{◌≡◌, inl, inr, false, Option, Some, None, List, [], ◌∷◌, ◌++◌, subst, sym}
 use Rattle.std.specs.List.{AllByRecursion}
 use Rattle.std.specs.Prelude.{IfSome, reverse}
-use Rattle.cc_names.specs.Formed.{Plain, IsFormed}
-use Rattle.cc_names.specs.declared.rows.Deed.{Deed}
-use Rattle.cc_names.specs.declared.rows.Deed.TheVariants as deeds
+use Rattle.cc_names.specs.Formed.{Plain}
 use Rattle.cc_names.specs.declared.steps.Step.{Step}
 use Rattle.cc_names.specs.declared.steps.Step.TheVariants as steps
 use Rattle.cc_names.specs.declared.steps.Told.{Told}
 use Rattle.cc_names.specs.declared.steps.Told.TheVariants as told
-use Rattle.legal_history.specs.States.{State, start, hanging}
-use Rattle.legal_history.specs.Steps.{after, state_from, state_of}
-use Rattle.row_form.specs.Reading.{IsKnown}
-use Rattle.view_lookup.specs.Unversioned.{is_plain_deed}
+use Rattle.legal_history.specs.Stories.States.{State, start, hanging}
+use Rattle.legal_history.specs.Stories.Steps.{after, state_from, state_of}
 use Rattle.base_core.specs.Appending.{MayLeave}
 use Rattle.base_core.specs.Faults.{is_fault}
-use Rattle.base_core.specs.Readable.{IsReadable, NamesOnly, TellsOnly}
+use Rattle.base_core.specs.Readable.{NamesOnly, TellsOnly}
 
 -- one more step
 pub names_more : (P : Plain → Type 0) (story : List Told) (x : Told) → TellsOnly P story → NamesOnly P x → TellsOnly P (story ++ x ∷ [])
@@ -59,15 +55,6 @@ left_by P s row (Some left) (inr earlier) one hangs = subst (λ o. IfSome o P) e
 
 pub left_named : (P : Plain → Type 0) (story : List Told) (row : Plain) (left : Option Plain) → MayLeave (state_of story) row left → P row → TellsOnly P story → IfSome left P
 left_named P story row left leaves one h = left_by P (state_of story) row left leaves one (hanging_named P story h)
-
--- rows of the deeds that commands make are read
-pub plain_known : (deed : Deed) → is_plain_deed deed ≡ true → IsKnown deed
-plain_known (deeds.Mkview view) h = tt
-plain_known (deeds.Put view path bytes) h = tt
-plain_known deed h = absurd (cc)
-
-pub readable_plain : (row : Plain) → IsFormed row → is_plain_deed row.deed ≡ true → IsReadable row
-readable_plain row formed plain = record { formed = formed; known = plain_known row.deed plain }
 
 -- each row is a row
 each_is : (rows : List Plain) → AllByRecursion (λ (row : Plain). Unit {0}) rows

@@ -10,10 +10,10 @@ use Rattle.cc_names.specs.declared.steps.Told.{Told}
 use Rattle.cc_names.specs.declared.steps.Told.TheVariants as told
 use Rattle.build_core.specs.Slots.{numbered, held_in}
 use Rattle.build_core.specs.SlotLaws.{put_numbered}
-use Rattle.legal_history.specs.Builds.{Build, Came, build_of, reserved}
-use Rattle.legal_history.specs.States.{State, start, done_of}
-use Rattle.legal_history.specs.Steps.{after, state_of, with_came}
-use Rattle.legal_history.specs.Stories.{Lawful}
+use Rattle.legal_history.specs.Builds.Active.{Build, Came, build_of, reserved}
+use Rattle.legal_history.specs.Stories.States.{State, start, done_of}
+use Rattle.legal_history.specs.Stories.Steps.{after, state_of, with_came}
+use Rattle.legal_history.specs.Stories.Lawful.{Lawful}
 use Rattle.base_core.specs.Building.{IsBuildKept}
 use Rattle.base_core.specs.Faults.{is_fault}
 use Rattle.base_core.specs.Kept.{last_phase, AreReplies, IsKept}
@@ -72,13 +72,8 @@ kept_note log lanes builds now step lane n build came h low high is lawful leave
   count = length-set builds (lane - 1) (Some noted) ∙ h.count;
   building = λ other found e. by other found (one_or_two other lane) e;
   reserves = omega (arith, h.reserves, ap reserved active, ap reserved h.agrees.active, reserved_set 1 (lane - 1) builds (Some noted) (omega (arith, h.count)), ap rows_for (slot_of s builds lane build low h.agrees.active is));
-  formed = h.formed;
-  carried_out = h.carried_out;
-  unversioned = h.unversioned;
+  phase = h.phase;
   readable = names_more IsReadable story x h.readable (names_none IsReadable step sound);
-  room = h.room;
-  few = h.few;
-  in_time = h.in_time;
 }
   where
     story : List Told

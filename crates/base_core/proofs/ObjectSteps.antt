@@ -1,11 +1,11 @@
 -- What is kept, and how the story went on, after the row of what a unit's run gave.
-use Rattle.std.proofs.Common.{◌≡◌, ◌≢◌, ℕ, zero, suc, ◌-◌, ◌||◌, true, Option, Some, Result, Ok, Err, List, [], ◌∷◌, ◌++◌, length, set, refl, ap, sym, subst, ◌∙◌, arith}
-use Rattle.std.proofs.lemmas.List.{length-reverse}
+use Rattle.std.proofs.Common.{◌≡◌, ◌≢◌, ℕ, zero, suc, ◌-◌, ◌||◌, true, Option, Some, Result, Ok, Err, List, [], ◌∷◌, ◌++◌, set, refl, ap, sym, subst, ◌∙◌, arith}
 use Rattle.std.proofs.lemmas.Slice.Eq.{bytes_eq-Decides}
 use Rattle.std.specs.List.{AllByRecursion}
 use Rattle.std.specs.Ordering.{nat_cmp}
 use Rattle.std.specs.FinMap.Entries.{put}
 use Rattle.std.specs.Prelude.{slice_get}
+use Rattle.carried_out.specs.CarriedOut.{is_made}
 use Rattle.cc_names.specs.Formed.{Plain, IsFormed}
 use Rattle.cc_names.specs.declared.refusals.ScriptFault.{ScriptFault}
 use Rattle.cc_names.specs.declared.replies.Reply.{Reply}
@@ -17,23 +17,24 @@ use Rattle.cc_names.specs.declared.steps.Told.TheVariants as told
 use Rattle.cc_names.specs.declared.units.Unit.{Unit}
 use Rattle.build_core.specs.BuildForms.{IsUnitFormed}
 use Rattle.build_core.specs.Slots.{held_in}
-use Rattle.legal_history.specs.Base.{Base, size}
-use Rattle.legal_history.specs.Builds.{Build, Given, build_of, is_outcome, unit_at, unit_with_first}
-use Rattle.legal_history.specs.Choices.{entries, here, publish_by, visible}
-use Rattle.legal_history.specs.Closures.{is_among}
-use Rattle.legal_history.specs.Fits.{is_base}
-use Rattle.legal_history.specs.Consistency.{IsConsistent}
-use Rattle.legal_history.specs.Fresh.{script_text}
-use Rattle.legal_history.specs.States.{State, Committed, start, next_tag, ticks_of}
-use Rattle.legal_history.specs.Steps.{active_after, done_after, noted_in, state_of, with_came}
+use Rattle.legal_history.specs.Base.Rows.{Base, size}
+use Rattle.legal_history.specs.Builds.Active.{Build, Given, build_of, is_outcome, unit_at, unit_with_first}
+use Rattle.legal_history.specs.Builds.Choices.{entries, here, publish_by, visible}
+use Rattle.legal_history.specs.Base.Closures.{is_among}
+use Rattle.legal_history.specs.Base.Fits.{fits}
+use Rattle.legal_history.specs.Builds.Consistency.{IsConsistent}
+use Rattle.legal_history.specs.Builds.Fresh.{script_text}
+use Rattle.legal_history.specs.Stories.States.{State, Committed, start, next_tag, ticks_of}
+use Rattle.legal_history.specs.Stories.Steps.{active_after, done_after, noted_in, state_of, with_came}
 use Rattle.disk_model.specs.Told.{Sight}
-use Rattle.legal_history.specs.Committing.{MayCommit, rises}
-use Rattle.legal_history.specs.Stories.{Legal}
-use Rattle.row_form.specs.Reading.{IsKnown}
+use Rattle.cc_names.specs.Counts.{rises}
+use Rattle.legal_history.specs.Stories.Committing.{MayCommit}
+use Rattle.legal_history.specs.Stories.Lawful.{Legal}
 use Rattle.base_core.specs.BuildCalls.{IsObjectRow}
 use Rattle.base_core.specs.Going.{GoesOn, HasOutcome, StillBuilds}
 use Rattle.base_core.specs.Kept.{IsKept}
 use Rattle.base_core.specs.Logs.{Logged, with_row}
+use Rattle.base_core.proofs.Fitting.{may_fits}
 use Rattle.base_core.proofs.Growing.{state_from-more}
 use Rattle.base_core.proofs.Idle.{some_same}
 use Rattle.base_core.proofs.LaneSlots.{lane_slot, found_put}
@@ -73,9 +74,9 @@ row_told s lane n row h = deed_of_run h.build h.unit (entries (visible s.base h.
 row_is : (s : State) (lane n now : ℕ) (row : Plain) (h : IsObjectRow s lane n row) (d : IsDeedOf h.build h.unit row.deed) → s.moment ≡ now → row ≡ published (next_tag s lane) now h.build.view d.targets d.script d.reads d.outputs
 row_is s lane n now row h d moment = λ i. record { tag = h.of_tag i; moment = (h.at_moment ∙ moment) i; deed = d.is i }
 
--- rows of its deed are read
-pub object_known : (s : State) (lane n : ℕ) (row : Plain) → IsObjectRow s lane n row → IsKnown row.deed
-object_known s lane n row h = subst IsKnown (sym (row_told s lane n row h).is) tt
+-- what is carried out so far makes rows of its deed
+pub object_made : (s : State) (lane n : ℕ) (row : Plain) → IsObjectRow s lane n row → is_made row.deed ≡ true
+object_made s lane n row h = ap is_made (row_told s lane n row h).is
 
 -- the row may be committed
 pub object_may : (log : Logged) (lanes : List (List Reply)) (builds : List (Option Build)) (now lane n : ℕ) (row : Plain) → IsKept log lanes builds now → (here : IsObjectRow (state_of log.story) lane n row) → ((told : List Told) (l : ℕ) (b : Build) → Legal told → build_of (state_of told).active l ≡ Some b → IsConsistent (state_of told).base b) → MayCommit (state_of log.story) row
@@ -87,20 +88,26 @@ object_may log lanes builds now lane n row h here consistent =
     subst (MayCommit s) (sym (row_is s lane n now row here told h.agrees.moment))
     (may_publish log lanes builds now lane n here.build here.unit here.build.view told.targets told.script told.reads told.outputs h here.active here.is_unit here.started place (here.made ∙ ap Some told.is))
 
+-- and fits the base
+pub object_fits : (log : Logged) (lanes : List (List Reply)) (builds : List (Option Build)) (now lane n : ℕ) (story : List Told) (row : Plain) → log.story ≡ story → IsKept log lanes builds now → IsObjectRow (state_of story) lane n row → ((told : List Told) (l : ℕ) (b : Build) → Legal told → build_of (state_of told).active l ≡ Some b → IsConsistent (state_of told).base b) → fits log.base row.deed ≡ true
+object_fits log lanes builds now lane n story row same h object consistent =
+    let here : IsObjectRow (state_of log.story) lane n row = subst (λ t. IsObjectRow (state_of t) lane n row) (sym same) object in
+    subst (λ b. fits b row.deed ≡ true) h.agrees.base (may_fits log.story row h.legal (object_may log lanes builds now lane n row h here consistent))
+
 -- what is kept then
-pub kept_object : (log : Logged) (lanes : List (List Reply)) (builds more : List (Option Build)) (now : ℕ) (story : List Told) (lane n number : ℕ) (row : Plain) (tick : ℕ) (sight : Sight) → rises (ticks_of (state_of log.story).opened (state_of log.story).ends) tick ≡ true → log.story ≡ story → IsKept log lanes builds now → IsObjectRow (state_of story) lane n row → number ≡ suc (length log.rows) → ((told : List Told) → Legal told → is_base (state_of told).base ≡ true) → ((told : List Told) (l : ℕ) (b : Build) → Legal told → build_of (state_of told).active l ≡ Some b → IsConsistent (state_of told).base b) → ((build : Build) → held_in builds (lane - 1) ≡ Some build → more ≡ set builds (lane - 1) (Some (with_came build (Some n) (Given number)))) → IsFormed row → IsKept (with_row log row tick sight) lanes more now
-kept_object log lanes builds more now story lane n number row tick sight ticked same h object counted based consistent set_so formed_row =
+pub kept_object : (log : Logged) (lanes : List (List Reply)) (builds more : List (Option Build)) (now : ℕ) (story : List Told) (lane n number : ℕ) (row : Plain) (tick : ℕ) (sight : Sight) → rises (ticks_of (state_of log.story).opened (state_of log.story).ends) tick ≡ true → log.story ≡ story → IsKept log lanes builds now → IsObjectRow (state_of story) lane n row → number ≡ size log.base → ((told : List Told) (l : ℕ) (b : Build) → Legal told → build_of (state_of told).active l ≡ Some b → IsConsistent (state_of told).base b) → ((build : Build) → held_in builds (lane - 1) ≡ Some build → more ≡ set builds (lane - 1) (Some (with_came build (Some n) (Given number)))) → IsFormed row → IsKept (with_row log row tick sight) lanes more now
+kept_object log lanes builds more now story lane n number row tick sight ticked same h object counted consistent set_so formed_row =
     let s = state_of log.story in
     let here : IsObjectRow s lane n row = subst (λ t. IsObjectRow (state_of t) lane n row) (sym same) object in
     let slot = lane_slot log lanes builds now lane here.build h here.active in
     let told = row_told s lane n row here in
     let formed : IsUnitFormed here.unit = all_at IsUnitFormed here.build.units n here.unit (h.building lane here.build here.active).formed.units here.is_unit in
     let place : unit_with_first here.build told.targets ≡ Some n = first_place s.base here.build n here.unit told.targets (consistent log.story lane here.build h.legal here.active) here.is_unit told.of_unit (λ e. formed.0.1 (sym told.of_unit ∙ e)) in
-    let newest : number ≡ size s.base = omega (arith, counted, ap length h.agrees.base, length-reverse log.rows) in
+    let newest : number ≡ size s.base = counted ∙ ap size (sym h.agrees.base) in
     subst (λ bs. IsKept (with_row log row tick sight) lanes bs now) (sym (set_so here.build slot.held))
     (subst (λ k. IsKept (with_row log row tick sight) lanes (set builds (lane - 1) (Some (with_came here.build (Some n) (Given k)))) now) (sym newest)
     (subst (λ r. IsKept (with_row log r tick sight) lanes (set builds (lane - 1) (Some (with_came here.build (Some n) (Given (size s.base))))) now) (sym (row_is s lane n now row here told h.agrees.moment))
-    (kept_publish log lanes builds now lane n here.build here.unit here.build.view told.targets told.script told.reads told.outputs tick sight ticked h slot.from (omega (arith, slot.upto, h.count)) here.active here.is_unit here.started place (here.made ∙ ap Some told.is) based
+    (kept_publish log lanes builds now lane n here.build here.unit here.build.view told.targets told.script told.reads told.outputs tick sight ticked h slot.from (omega (arith, slot.upto, h.count)) here.active here.is_unit here.started place (here.made ∙ ap Some told.is)
     (subst IsFormed (row_is s lane n now row here told h.agrees.moment) formed_row))))
 
 -- how the story went on

@@ -8,11 +8,11 @@ use Rattle.cc_names.specs.declared.rows.Tag.{Tag}
 use Rattle.cc_names.specs.declared.steps.Step.TheVariants as steps
 use Rattle.cc_names.specs.declared.steps.Told.{Told}
 use Rattle.cc_names.specs.declared.steps.Told.TheVariants as told
-use Rattle.legal_history.specs.Base.{size}
-use Rattle.legal_history.specs.Builds.{Build, build_of}
-use Rattle.legal_history.specs.Decisions.{Begins}
-use Rattle.legal_history.specs.States.{State, start, done_of, with_done, next_tag}
-use Rattle.legal_history.specs.Steps.{after, begun, state_of, with_build}
+use Rattle.legal_history.specs.Base.Rows.{size}
+use Rattle.legal_history.specs.Builds.Active.{Build, build_of}
+use Rattle.legal_history.specs.Commands.Decisions.{Begins}
+use Rattle.legal_history.specs.Stories.States.{State, start, done_of, with_done, next_tag}
+use Rattle.legal_history.specs.Stories.Steps.{after, begun, state_of, with_build}
 use Rattle.base_core.specs.Acting.{Acts, IsStepOf}
 use Rattle.base_core.specs.BuildCalls.{IsBuilding}
 use Rattle.base_core.specs.Building.{IsNextBuild}

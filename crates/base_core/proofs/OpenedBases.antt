@@ -1,14 +1,14 @@
 -- What is known of a base that was opened, and what stops find where none was.
 use Rattle.std.proofs.Common.{◌≡◌, ℕ, ◌<◌, ◌⊎◌, inl, inr, true, Option, Some, None, is_some, List, [], ◌∷◌, ◌++◌, length, reverse, refl, sym, ap, subst, ◌∙◌, arith}
 use Rattle.std.proofs.lemmas.List.{append-nil}
-use Rattle.cc_names.specs.Formed.{Plain}
 use Rattle.cc_names.specs.declared.steps.Told.TheVariants as told
 use Rattle.disk_model.specs.Devices.{Device, Failed, Leaves, LeavesNow, MayLeave, Idles, bytes_of, file_of}
 use Rattle.disk_model.specs.Files.{IsImage, stable}
 use Rattle.disk_model.specs.Told.{Sight, IfTold, Both, IsCounted}
-use Rattle.legal_history.specs.States.{Opening}
-use Rattle.legal_history.specs.Committing.{rises}
-use Rattle.legal_history.specs.Steps.{state_of}
+use Rattle.legal_history.specs.Base.Rows.{Base}
+use Rattle.legal_history.specs.Stories.States.{Opening}
+use Rattle.cc_names.specs.Counts.{rises}
+use Rattle.legal_history.specs.Stories.Steps.{state_of}
 use Rattle.vob_journal.specs.Answered.{OneMore, OneFault}
 use Rattle.vob_journal.specs.Frames.{frames}
 use Rattle.vob_journal.specs.Moves.{Moves, Stands, Between}
@@ -24,10 +24,12 @@ use Rattle.base_core.specs.Logs.{Logged, opened_log}
 use Rattle.base_core.specs.Opening.{IsBaseOn, IsOpened, IsDamaged, StopsBy, FailsToOpen}
 use Rattle.base_core.specs.Reading.{OnlyReads, IsReadThrough}
 use Rattle.base_core.specs.Standing.{payloads}
-use Rattle.base_core.specs.declared.handed.Handed.{Handed}
+use Rattle.base_core.specs.Telling.{oldest_first}
+use Rattle.base_core.specs.Handed.{Handed}
 use Rattle.base_core.specs.declared.opening.OpenCause.{OpenCause}
 use Rattle.base_core.specs.declared.opening.OpenCause.TheVariants as causes
 use Rattle.base_core.proofs.Backing.{left_within_calls}
+use Rattle.base_core.proofs.LogSteps.{oldest_back}
 use Rattle.base_core.proofs.ReadRows.{finds_list, moves_then, raised_rises}
 
 -- what stops since find, where a journal was only read
@@ -145,53 +147,53 @@ covered_opened opening list loose d e ticks is none moves = record {
   now = λ image left. subst (λ l. Stands list l image) (sym none) (moves.now image left);
 }
 
--- A base was opened by these rows.
-module _ {D : Type 0} (sight : D → Sight) (first : Sight) (handed : Handed) (rows : List Plain) (opened read : Shown D)
+-- This base was opened.
+module _ {D : Type 0} (sight : D → Sight) (first : Sight) (handed : Handed) (base : Base) (opened read : Shown D)
     (counted : IsCounted first) (ticks : handed.counts.ticks ≡ first.ticks) (faults : handed.counts.faults ≡ first.faults) (tells : handed.tells ≡ is_some first.told)
-    (new : IsNewOn sight first opened) (reads : OnlyReads sight opened read) (sound : (sight read.disk).faults ≡ (sight opened.disk).faults) (through : IsReadThrough sight rows read) where
-  list_so : IfTold (sight read.disk).told (λ _. opened.list ≡ payloads (reverse rows))
-  list_so = told_both (λ _. read.list ≡ payloads (reverse rows) ++ read.rest) (λ _. read.rest ≡ []) (λ _. opened.list ≡ payloads (reverse rows)) (sight read.disk).told
-      (λ d is none. sym reads.list ∙ is ∙ ap (λ l. payloads (reverse rows) ++ l) none ∙ append-nil (payloads (reverse rows))) through.so_far.list_is through.nothing
+    (new : IsNewOn sight first opened) (reads : OnlyReads sight opened read) (sound : (sight read.disk).faults ≡ (sight opened.disk).faults) (through : IsReadThrough sight base read) where
+  list_so : IfTold (sight read.disk).told (λ _. opened.list ≡ payloads base)
+  list_so = told_both (λ _. read.list ≡ payloads base ++ read.rest) (λ _. read.rest ≡ []) (λ _. opened.list ≡ payloads base) (sight read.disk).told
+      (λ d is none. sym reads.list ∙ is ∙ ap (λ l. payloads base ++ l) none ∙ append-nil (payloads base)) through.so_far.list_is through.nothing
 
-  pub opened_backed : IsBacked (state_of (told.Opened rows handed.counts handed.tells ∷ [])) (sight read.disk) read.list read.loose read.ended read.left
+  pub opened_backed : IsBacked (state_of (told.Opened (oldest_first base) handed.counts handed.tells ∷ [])) (sight read.disk) read.list read.loose read.ended read.left
   opened_backed = record {
-    opening = record { base = reverse rows; counts = handed.counts; tells = handed.tells };
+    opening = record { base = reverse (oldest_first base); counts = handed.counts; tells = handed.tells };
     opened = refl;
     tells = tells ∙ sym (both_tells (Moves opened.list [] opened.list []) first.told (sight read.disk).told (since_first sight first opened read new reads));
     at_end = through.ended;
+    calm = λ e. reads.left ∙ new.left;
     base = refl;
     ticks = omega (arith, ticks, new.counts.0, reads.ticks);
     faults = omega (arith, faults, new.counts.1, sound);
     covered = by first.told (sight read.disk).told counted.told list_so (since_first sight first opened read new reads);
   }
     where
-      by : (old now : Option Device) → IfTold old (λ d. first.ticks ≡ length d.calls) → IfTold now (λ _. opened.list ≡ payloads (reverse rows)) → Both (Moves opened.list [] opened.list []) old now
-          → IfTold now (IsCovered (record { base = reverse rows; counts = handed.counts; tells = handed.tells }) [] read.list read.loose read.left)
+      by : (old now : Option Device) → IfTold old (λ d. first.ticks ≡ length d.calls) → IfTold now (λ _. opened.list ≡ payloads base) → Both (Moves opened.list [] opened.list []) old now
+          → IfTold now (IsCovered (record { base = reverse (oldest_first base); counts = handed.counts; tells = handed.tells }) [] read.list read.loose read.left)
       by old None same is moves = tt
       by None (Some e) same is moves = absurd moves
       by (Some d) (Some e) same is moves =
-          subst (λ left. IsCovered (record { base = reverse rows; counts = handed.counts; tells = handed.tells }) [] read.list read.loose left e) (sym (reads.left ∙ new.left))
-          (subst (λ l. IsCovered (record { base = reverse rows; counts = handed.counts; tells = handed.tells }) [] l read.loose lefts.Nothing e) (sym reads.list)
-          (covered_opened (record { base = reverse rows; counts = handed.counts; tells = handed.tells }) opened.list read.loose d e (ticks ∙ same) is through.so_far.loose moves))
+          subst (λ left. IsCovered (record { base = reverse (oldest_first base); counts = handed.counts; tells = handed.tells }) [] read.list read.loose left e) (sym (reads.left ∙ new.left))
+          (subst (λ l. IsCovered (record { base = reverse (oldest_first base); counts = handed.counts; tells = handed.tells }) [] l read.loose lefts.Nothing e) (sym reads.list)
+          (covered_opened (record { base = reverse (oldest_first base); counts = handed.counts; tells = handed.tells }) opened.list read.loose d e (ticks ∙ same) (is ∙ ap payloads (sym (oldest_back base))) through.so_far.loose moves))
 
-  base_on : IsBaseOn first rows handed
+  base_on : IsBaseOn first base handed
   base_on = record {
     ticks = ticks;
     faults = faults;
     tells = tells;
-    found = told_both (λ _. opened.list ≡ payloads (reverse rows)) (λ d. opened.list ≡ frames (bytes_of 0 d)) (λ d. frames (bytes_of 0 d) ≡ payloads (reverse rows)) first.told (λ d is same. sym same ∙ is)
-        (told_back (Moves opened.list [] opened.list []) (λ _. opened.list ≡ payloads (reverse rows)) (λ _. opened.list ≡ payloads (reverse rows)) first.told (sight read.disk).told (λ d e moves is. is) (since_first sight first opened read new reads) list_so) new.list;
+    found = told_both (λ _. opened.list ≡ payloads base) (λ d. opened.list ≡ frames (bytes_of 0 d)) (λ d. frames (bytes_of 0 d) ≡ payloads base) first.told (λ d is same. sym same ∙ is)
+        (told_back (Moves opened.list [] opened.list []) (λ _. opened.list ≡ payloads base) (λ _. opened.list ≡ payloads base) first.told (sight read.disk).told (λ d e moves is. is) (since_first sight first opened read new reads) list_so) new.list;
     fits = through.so_far.good;
     readable = through.so_far.readable;
-    unversioned = through.so_far.unversioned;
   }
 
-  pub is_opened : (log : Logged) → log ≡ opened_log rows handed (sight read.disk) → IsOpened first log
+  pub is_opened : (log : Logged) → log ≡ opened_log base handed (sight read.disk) → IsOpened first log
   is_opened log is = record {
-    rows = rows;
+    base = base;
     handed = handed;
     on = base_on;
-    is = is ∙ ap (opened_log rows handed) (sym (ap (λ l. l.sight) is));
+    is = is ∙ ap (opened_log base handed) (sym (ap (λ l. l.sight) is));
     sound = ap (λ l. l.sight.faults) is ∙ sound ∙ new.counts.1;
     files = subst (λ s. Both SameFiles first.told s.told) (sym (ap (λ l. l.sight) is)) (files_first sight first opened read new reads);
   }

@@ -1,46 +1,47 @@
--- The rows of commands that make a view or a private file.
-use Rattle.std.proofs.Common.{◌≡◌, ℕ, true, ◌&&◌, Some, Ok, List, [], ◌∷◌, ◌++◌, reverse, refl, ap, ap₂, ◌∙◌}
-use Rattle.std.proofs.lemmas.List.{reverse-append}
-use Rattle.cc_names.specs.Formed.{Plain}
-use Rattle.cc_names.specs.declared.replies.Reply.TheVariants as replies
+-- The rows that commands make which build nothing.
+use Rattle.std.proofs.Common.{◌≡◌, ℕ, true, false, Option, Some, None, Ok, List, refl, ap, subst, ◌∙◌}
+use Rattle.carried_out.specs.CarriedOut.{is_carried_out, is_made}
+use Rattle.cc_names.specs.declared.commands.Command.{Command}
+use Rattle.cc_names.specs.declared.commands.Command.TheVariants as commands
+use Rattle.cc_names.specs.declared.refusals.Refusal.{Refusal}
 use Rattle.cc_names.specs.declared.rows.Deed.{Deed}
 use Rattle.cc_names.specs.declared.rows.Deed.TheVariants as deeds
-use Rattle.legal_history.specs.Base.{Base}
-use Rattle.legal_history.specs.Builds.{Active}
-use Rattle.legal_history.specs.Decisions.{Makes}
-use Rattle.legal_history.specs.States.{State, with_done, decided}
-use Rattle.legal_history.specs.Steps.{done_after, active_after}
-use Rattle.legal_history.specs.Committing.{MakesRow}
-use Rattle.view_lookup.specs.Unversioned.{is_plain_deed, is_unversioned_deed, is_unversioned}
-use Rattle.base_core.specs.Replying.{reply_to_row}
+use Rattle.cc_names.specs.declared.selection.Seen.{Seen}
+use Rattle.cc_names.specs.declared.selection.Seen.TheVariants.{Private, Element, Unselected, Nothing}
+use Rattle.checkout_desk.specs.Commands.{builds}
+use Rattle.legal_history.specs.Commands.Decisions.{Scene, Makes, unless_refused}
+use Rattle.legal_history.specs.Commands.FileLines.{save_deed}
+use Rattle.legal_history.specs.Commands.Lines.{decision}
+use Rattle.legal_history.specs.Base.Seen.{at}
+use Rattle.base_core.specs.Acting.{FinishesCommand}
 
--- a row that makes a view or a private file finishes its command, and is replied so
-pub good_reply : (b : Base) (deed : Deed) → is_plain_deed deed ≡ true → reply_to_row b deed ≡ Some replies.Good
-good_reply b (deeds.Mkview v) h = refl
-good_reply b (deeds.Put v path text) h = refl
-good_reply b deed h = cc
+-- a decision that was not refused makes its deed
+same_deed : (refused : Option Refusal) (deed made : Deed) → unless_refused refused (Makes deed) ≡ Ok (Makes made) → deed ≡ made
+same_deed None deed made e = cc
+same_deed (Some refusal) deed made e = absurd (cc)
 
-pub finishes : (done : List (ℕ × ℕ)) (lane : ℕ) (deed : Deed) → is_plain_deed deed ≡ true → done_after done lane deed ≡ with_done done lane
-finishes done lane (deeds.Mkview v) h = refl
-finishes done lane (deeds.Put v path text) h = refl
-finishes done lane deed h = cc
+finishes_mkview : (v : List ℕ) → FinishesCommand (deeds.Mkview v)
+finishes_mkview v = record { reply = λ b. refl; done = λ done lane. refl; active = λ b active lane. refl; made = λ s row made. made }
 
-pub builds_nothing : (b : Base) (active : Active) (lane : ℕ) (deed : Deed) → is_plain_deed deed ≡ true → active_after b active lane deed ≡ active
-builds_nothing b active lane (deeds.Mkview v) h = refl
-builds_nothing b active lane (deeds.Put v path text) h = refl
-builds_nothing b active lane deed h = cc
+finishes_rmview : (v : List ℕ) → FinishesCommand (deeds.Rmview v)
+finishes_rmview v = record { reply = λ b. refl; done = λ done lane. refl; active = λ b active lane. refl; made = λ s row made. made }
 
-pub makes_row : (s : State) (row : Plain) (deed : Deed) → is_plain_deed deed ≡ true → decided s row.tag ≡ Some (Ok (Makes row.deed)) → MakesRow s row deed
-makes_row s row (deeds.Mkview v) h made = made
-makes_row s row (deeds.Put v path text) h made = made
-makes_row s row deed h made = cc
+finishes_put : (v path text : List ℕ) → FinishesCommand (deeds.Put v path text)
+finishes_put v path text = record { reply = λ b. refl; done = λ done lane. refl; active = λ b active lane. refl; made = λ s row made. made }
 
--- such a row keeps a base without elements
-pub plain_unversioned : (deed : Deed) → is_plain_deed deed ≡ true → is_unversioned_deed deed ≡ true
-plain_unversioned (deeds.Mkview v) h = refl
-plain_unversioned (deeds.Put v path text) h = refl
-plain_unversioned deed h = cc
+-- a save of a private file, where no other is made
+finishes_save : (v path text : List ℕ) (seen : Seen) → is_made (save_deed v path text seen) ≡ true → FinishesCommand (save_deed v path text seen)
+finishes_save v path text Nothing made = finishes_put v path text
+finishes_save v path text (Private row) made = finishes_put v path text
+finishes_save v path text (Element e picked) made = absurd (cc)
+finishes_save v path text (Unselected e) made = absurd (cc)
 
--- the newest row is of the deeds that its base has
-pub newest_too : (row : Plain) (rows : List Plain) → is_unversioned_deed row.deed ≡ true → is_unversioned (reverse rows) ≡ true → is_unversioned (reverse (rows ++ row ∷ [])) ≡ true
-newest_too row rows one all = ap is_unversioned (reverse-append rows (row ∷ [])) ∙ ap₂ ◌&&◌ one all
+-- the row of a command that is carried out and builds nothing finishes the command
+pub command_finishes : (s : Scene) (command : Command) (deed : Deed) → is_carried_out command ≡ true → builds command ≡ false → decision s command ≡ Ok (Makes deed) → is_made deed ≡ true → FinishesCommand deed
+command_finishes s (commands.Mkview v) deed carried idle e made = subst FinishesCommand (same_deed _ (deeds.Mkview v) deed e) (finishes_mkview v)
+command_finishes s (commands.Rmview v force) deed carried idle e made = subst FinishesCommand (same_deed _ (deeds.Rmview v) deed e) (finishes_rmview v)
+command_finishes s (commands.Save v path text) deed carried idle e made =
+    let same : save_deed v path text (at s.base v path) ≡ deed = same_deed _ (save_deed v path text (at s.base v path)) deed e in
+    subst FinishesCommand same (finishes_save v path text (at s.base v path) (ap is_made same ∙ made))
+command_finishes s (commands.Clearmake v file own_only rebuild jobs macros goals) deed carried idle e made = absurd (cc)
+command_finishes s command deed carried idle e made = absurd (cc)

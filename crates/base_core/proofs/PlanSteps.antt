@@ -1,7 +1,6 @@
 -- What is planned for a lane's next command, which builds, and how the story goes on where the build begins.
-use Rattle.std.proofs.Common.{◌≡◌, ℕ, suc, ◌+◌, ◌≤◌, nat_lt, true, false, Option, Some, None, Result, Ok, Err, List, [], ◌∷◌, length, reverse, refl, ap, ap₂, sym, subst, ◌∙◌, arith}
+use Rattle.std.proofs.Common.{◌≡◌, ℕ, ◌+◌, ◌≤◌, nat_lt, true, false, Option, Some, None, Result, Ok, Err, List, [], ◌∷◌, length, refl, ap, ap₂, sym, subst, ◌∙◌, arith}
 use Rattle.std.specs.Prelude.{IfOk, IsSome, option_and_then, option_map}
-use Rattle.std.proofs.lemmas.List.{length-reverse}
 use Rattle.std.proofs.lemmas.Bool.Decides.{nat_tests}
 use Rattle.cc_names.specs.declared.commands.Command.{Command}
 use Rattle.cc_names.specs.declared.commands.Command.TheVariants as commands
@@ -16,14 +15,14 @@ use Rattle.cc_names.specs.declared.units.Unit.{Unit}
 use Rattle.build_core.specs.BuildForms.{IsBuildFormed}
 use Rattle.build_core.specs.Plans.{view_of, Meets, Plans}
 use Rattle.build_core.specs.Slots.{numbered}
-use Rattle.legal_history.specs.Base.{Base, size, first_rows}
-use Rattle.legal_history.specs.Builds.{Build, build_of, building, reserved}
-use Rattle.legal_history.specs.Decisions.{Scene, Begins}
-use Rattle.legal_history.specs.Fits.{row_limit}
-use Rattle.legal_history.specs.Lines.{decision}
-use Rattle.legal_history.specs.States.{State, scene, done_of, lane_at, command_behind, next_tag, next_command, decided}
-use Rattle.legal_history.specs.Steps.{begun, new_build, state_of, units_begun}
-use Rattle.legal_history.specs.Views.{view_row}
+use Rattle.legal_history.specs.Base.Rows.{Base, size, first_rows}
+use Rattle.legal_history.specs.Builds.Active.{Build, build_of, building, reserved}
+use Rattle.legal_history.specs.Commands.Decisions.{Scene, Begins}
+use Rattle.legal_history.specs.Base.Fits.{row_limit}
+use Rattle.legal_history.specs.Commands.Lines.{decision}
+use Rattle.legal_history.specs.Stories.States.{State, scene, done_of, lane_at, command_behind, next_tag, next_command, decided}
+use Rattle.legal_history.specs.Stories.Steps.{begun, new_build, state_of, units_begun}
+use Rattle.legal_history.specs.Base.Views.{view_row}
 use Rattle.base_core.specs.Building.{IsBuildKept, PlansNext}
 use Rattle.base_core.specs.Kept.{last_phase, replies_at, IsKept}
 use Rattle.base_core.specs.Logs.{Logged}
@@ -88,12 +87,12 @@ planned s lane command (Err (Is refusal)) free waiting e plans view formed room 
     }
 
 -- what is planned for a lane's next command, by what is kept
-pub plans_so : (log : Logged) (lanes : List (List Reply)) (builds : List (Option Build)) (now lane taken : ℕ) (story : List Told) (tag : Tag) (command : Command) (busy : Option Tag) (result : Result Build (Or Refusal)) → log.story ≡ story → IsKept log lanes builds now → next_of (state_of story) lane ≡ nexts.Build (next_tag (state_of story) lane) → build_of (state_of story).active lane ≡ None → option_and_then (command_behind (length (replies_at lanes lane))) (lane_at (last_phase log.phases) lane) ≡ Some command → tag ≡ next_tag (state_of story) lane → busy ≡ building (numbered 1 builds) (view_of command) → taken ≡ suc (length log.rows) + reserved (numbered 1 builds) → ((scene : Scene) → Meets scene (reverse log.rows) (view_of command) busy taken → Plans tag scene command result) → IfOk result (λ build. IsSome (view_row (reverse log.rows) build.view)) → IfOk result IsBuildFormed → IfOk result (λ build. taken + length build.units ≤ row_limit) → PlansNext (state_of story) (next_tag (state_of story) lane) result
+pub plans_so : (log : Logged) (lanes : List (List Reply)) (builds : List (Option Build)) (now lane taken : ℕ) (story : List Told) (tag : Tag) (command : Command) (busy : Option Tag) (result : Result Build (Or Refusal)) → log.story ≡ story → IsKept log lanes builds now → next_of (state_of story) lane ≡ nexts.Build (next_tag (state_of story) lane) → build_of (state_of story).active lane ≡ None → option_and_then (command_behind (length (replies_at lanes lane))) (lane_at (last_phase log.phases) lane) ≡ Some command → tag ≡ next_tag (state_of story) lane → busy ≡ building (numbered 1 builds) (view_of command) → taken ≡ size log.base + reserved (numbered 1 builds) → ((scene : Scene) → Meets scene log.base (view_of command) busy taken → Plans tag scene command result) → IfOk result (λ build. IsSome (view_row log.base build.view)) → IfOk result IsBuildFormed → IfOk result (λ build. taken + length build.units ≤ row_limit) → PlansNext (state_of story) (next_tag (state_of story) lane) result
 plans_so log lanes builds now lane taken story tag command busy result same h waiting free e of_lane is count plans view formed room =
     let s = state_of log.story in
     let here : tag ≡ next_tag s lane = of_lane ∙ ap (λ t. next_tag (state_of t) lane) (sym same) in
-    let taken_is : size s.base + reserved s.active ≡ taken = ap₂ (λ (b : Base) active. size b + reserved active) h.agrees.base h.agrees.active ∙ ap (λ n. suc n + reserved (numbered 1 builds)) (length-reverse log.rows) ∙ sym count in
-    let meets : Meets (scene s) (reverse log.rows) (view_of command) busy taken = record {
+    let taken_is : size s.base + reserved s.active ≡ taken = ap₂ (λ (b : Base) active. size b + reserved active) h.agrees.base h.agrees.active ∙ sym count in
+    let meets : Meets (scene s) log.base (view_of command) busy taken = record {
       base = h.agrees.base;
       busy = ap (λ active. building active (view_of command)) h.agrees.active ∙ sym is;
       taken = taken_is;

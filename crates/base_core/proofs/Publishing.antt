@@ -1,7 +1,6 @@
 -- What a core keeps after the row of an object that a unit of a build made.
-use Rattle.std.proofs.Common.{◌≡◌, ◌≢◌, ℕ, ◌-◌, ◌<◌, ◌≤◌, nat_lt, ◌⊎◌, inl, inr, true, Option, Some, List, [], ◌∷◌, ◌++◌, length, length-append, set, refl, ap, sym, subst, ◌∙◌, arith}
-use Rattle.std.proofs.lemmas.List.{append-nil, length-set, reverse-append, length-reverse}
-use Rattle.std.proofs.lemmas.Bool.Decides.{nat_tests}
+use Rattle.std.proofs.Common.{◌≡◌, ◌≢◌, ℕ, ◌-◌, ◌≤◌, ◌⊎◌, inl, inr, true, Option, Some, List, [], ◌∷◌, ◌++◌, length, set, refl, ap, sym, subst, ◌∙◌, arith}
+use Rattle.std.proofs.lemmas.List.{append-nil, length-set}
 use Rattle.std.specs.Ordering.{nat_cmp}
 use Rattle.std.specs.Prelude.{is_some}
 use Rattle.std.specs.FinMap.Entries.{put}
@@ -15,16 +14,15 @@ use Rattle.cc_names.specs.declared.steps.Told.TheVariants as told
 use Rattle.cc_names.specs.declared.units.Unit.{Unit}
 use Rattle.build_core.specs.Slots.{numbered}
 use Rattle.build_core.specs.SlotLaws.{put_numbered}
-use Rattle.legal_history.specs.Base.{Base, size}
-use Rattle.legal_history.specs.Builds.{Build, Started, Given, build_of, came_to, is_outcome, reserved, unit_at, unit_with_first}
-use Rattle.legal_history.specs.Choices.{publish_of}
-use Rattle.legal_history.specs.Fits.{row_limit, fits, deed_fits, is_base}
-use Rattle.legal_history.specs.States.{State, start, next_tag, ticks_of}
-use Rattle.legal_history.specs.Steps.{after, state_of, noted_in, with_came}
+use Rattle.legal_history.specs.Base.Rows.{size}
+use Rattle.legal_history.specs.Builds.Active.{Build, Started, Given, build_of, came_to, is_outcome, reserved, unit_at, unit_with_first}
+use Rattle.legal_history.specs.Builds.Choices.{publish_of}
+use Rattle.legal_history.specs.Stories.States.{State, start, next_tag, ticks_of}
+use Rattle.legal_history.specs.Stories.Steps.{after, state_of, noted_in, with_came}
 use Rattle.disk_model.specs.Told.{Sight}
-use Rattle.legal_history.specs.Committing.{MayCommit, rises}
-use Rattle.legal_history.specs.Stories.{Legal}
-use Rattle.view_lookup.specs.Unversioned.{is_unversioned}
+use Rattle.cc_names.specs.Counts.{rises}
+use Rattle.legal_history.specs.Stories.Committing.{MayCommit}
+use Rattle.legal_history.specs.Stories.Lawful.{Legal}
 use Rattle.base_core.specs.Building.{IsBuildKept}
 use Rattle.base_core.specs.Kept.{IsKept}
 use Rattle.base_core.specs.Logs.{Logged, with_row}
@@ -32,7 +30,7 @@ use Rattle.base_core.specs.Readable.{IsReadable}
 use Rattle.base_core.specs.Replying.{replies_of}
 use Rattle.base_core.proofs.Closing.{build_is_by}
 use Rattle.base_core.proofs.Growing.{state_from-more, legal_more}
-use Rattle.base_core.proofs.Idle.{both, some_same}
+use Rattle.base_core.proofs.Idle.{some_same}
 use Rattle.base_core.proofs.Lanes.{one_or_two}
 use Rattle.base_core.proofs.Naming.{names_more}
 use Rattle.base_core.proofs.Noting.{noted_kept, same_replies, slot_of}
@@ -42,12 +40,6 @@ use Rattle.base_core.proofs.Staying.{first_stay, build_stays}
 -- the row of an object that a build's unit made
 abbrev pub published : Tag → ℕ → List ℕ → List (List ℕ) → List ℕ → List ReadOf → List (List ℕ) → Plain
 published tag moment view targets script entries outputs = record { tag = tag; moment = moment; deed = deeds.Publish view targets script entries outputs }
-
--- a row that fits leaves its base within the limit
-below_limit : (row : Plain) (b : Base) → is_base (row ∷ b) ≡ true → size b < row_limit
-below_limit row b h =
-    let less : nat_lt (size b) row_limit ≡ true = (both (nat_lt (size b) row_limit) (deed_fits b row.deed) (both (fits b row.deed) (is_base b) h).0).0 in
-    grind (arith, nat_tests)
 
 -- the row may be committed
 pub may_publish : (log : Logged) (lanes : List (List Reply)) (builds : List (Option Build)) (now lane n : ℕ) (build : Build) (unit : Unit) (view : List ℕ) (targets : List (List ℕ)) (script : List ℕ) (entries : List ReadOf) (outputs : List (List ℕ)) → IsKept log lanes builds now → build_of (state_of log.story).active lane ≡ Some build → unit_at build n ≡ Some unit → came_to build n ≡ Some Started → unit_with_first build targets ≡ Some n → publish_of (state_of log.story).base build n unit ≡ Some (deeds.Publish view targets script entries outputs) → MayCommit (state_of log.story) (published (next_tag (state_of log.story) lane) now view targets script entries outputs)
@@ -68,12 +60,12 @@ may_publish log lanes builds now lane n build unit view targets script entries o
 }
 
 -- what is kept after the row of what a unit's run gave
-pub kept_publish : (log : Logged) (lanes : List (List Reply)) (builds : List (Option Build)) (now lane n : ℕ) (build : Build) (unit : Unit) (view : List ℕ) (targets : List (List ℕ)) (script : List ℕ) (entries : List ReadOf) (outputs : List (List ℕ)) (tick : ℕ) (sight : Sight) → rises (ticks_of (state_of log.story).opened (state_of log.story).ends) tick ≡ true → IsKept log lanes builds now → 1 ≤ lane → lane ≤ length lanes → build_of (state_of log.story).active lane ≡ Some build → unit_at build n ≡ Some unit → came_to build n ≡ Some Started → unit_with_first build targets ≡ Some n → publish_of (state_of log.story).base build n unit ≡ Some (deeds.Publish view targets script entries outputs) → ((told : List Told) → Legal told → is_base (state_of told).base ≡ true) → IsFormed (published (next_tag (state_of log.story) lane) now view targets script entries outputs) → IsKept (with_row log (published (next_tag (state_of log.story) lane) now view targets script entries outputs) tick sight) lanes (set builds (lane - 1) (Some (with_came build (Some n) (Given (size (state_of log.story).base))))) now
-kept_publish log lanes builds now lane n build unit view targets script entries outputs tick sight ticked h low high is unit_is started place made based formed = record {
+pub kept_publish : (log : Logged) (lanes : List (List Reply)) (builds : List (Option Build)) (now lane n : ℕ) (build : Build) (unit : Unit) (view : List ℕ) (targets : List (List ℕ)) (script : List ℕ) (entries : List ReadOf) (outputs : List (List ℕ)) (tick : ℕ) (sight : Sight) → rises (ticks_of (state_of log.story).opened (state_of log.story).ends) tick ≡ true → IsKept log lanes builds now → 1 ≤ lane → lane ≤ length lanes → build_of (state_of log.story).active lane ≡ Some build → unit_at build n ≡ Some unit → came_to build n ≡ Some Started → unit_with_first build targets ≡ Some n → publish_of (state_of log.story).base build n unit ≡ Some (deeds.Publish view targets script entries outputs) → IsFormed (published (next_tag (state_of log.story) lane) now view targets script entries outputs) → IsKept (with_row log (published (next_tag (state_of log.story) lane) now view targets script entries outputs) tick sight) lanes (set builds (lane - 1) (Some (with_came build (Some n) (Given (size (state_of log.story).base))))) now
+kept_publish log lanes builds now lane n build unit view targets script entries outputs tick sight ticked h low high is unit_is started place made formed = record {
   legal = legal;
   agrees = record {
     opened = ap (λ t. is_some t.opened) state ∙ h.agrees.opened;
-    base = ap (λ t. t.base) state ∙ ap (λ b. row ∷ b) h.agrees.base ∙ sym (reverse-append log.rows (row ∷ []));
+    base = ap (λ t. t.base) state ∙ ap (λ b. row ∷ b) h.agrees.base;
     phase = ap (λ t. t.phase) state ∙ h.agrees.phase;
     number = ap (λ t. t.number) state ∙ h.agrees.number;
     moment = ap (λ t. t.moment) state ∙ h.agrees.moment;
@@ -83,13 +75,8 @@ kept_publish log lanes builds now lane n build unit view targets script entries 
   count = length-set builds (lane - 1) (Some noted) ∙ h.count;
   building = λ other found e. by other found (one_or_two other lane) e;
   reserves = omega (arith, h.reserves, ap reserved active, ap reserved h.agrees.active, reserved_set 1 (lane - 1) builds (Some noted) (omega (arith, h.count)), ap rows_for (slot_of s builds lane build low h.agrees.active is));
-  formed = h.formed;
-  carried_out = h.carried_out;
-  unversioned = ap is_unversioned (reverse-append log.rows (row ∷ [])) ∙ h.unversioned;
-  readable = names_more IsReadable story x h.readable (record { formed = formed; known = tt });
-  room = omega (arith, within_limit, length-append log.rows (row ∷ []), ap length h.agrees.base, length-reverse log.rows);
-  few = h.few;
-  in_time = h.in_time;
+  phase = h.phase;
+  readable = names_more IsReadable story x h.readable (record { formed = formed; made = refl });
 }
   where
     story : List Told
@@ -120,9 +107,6 @@ kept_publish log lanes builds now lane n build unit view targets script entries 
       may = may_publish log lanes builds now lane n build unit view targets script entries outputs h is unit_is started place made;
       ticked = ticked;
     })
-
-    within_limit : size s.base < row_limit
-    within_limit = below_limit row s.base (ap is_base (sym (ap (λ t. t.base) state)) ∙ based (story ++ x ∷ []) legal)
 
     active : (state_of (story ++ x ∷ [])).active ≡ numbered 1 (set builds (lane - 1) (Some noted))
     active = ap (λ t. t.active) state ∙ ap (put nat_cmp lane noted) h.agrees.active ∙ put_numbered lane 1 (lane - 1) noted builds (omega arith) (omega (arith, h.count))

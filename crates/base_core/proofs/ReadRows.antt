@@ -1,23 +1,23 @@
 -- How the rows of a journal are read, and what reading leaves.
-use Rattle.std.proofs.Common.{◌≡◌, ℕ, ◌<◌, ◌&&◌, true, Some, List, [], ◌∷◌, ◌++◌, length, reverse, sym, ap, ap₂, subst, ◌∙◌, inl, inr, arith}
-use Rattle.std.proofs.lemmas.List.{append_assoc, append-nil, reverse-append, length-reverse}
+use Rattle.std.proofs.Common.{◌≡◌, ℕ, ◌&&◌, true, Some, List, [], ◌∷◌, ◌++◌, sym, ap, ap₂, subst, ◌∙◌, inl, inr, arith}
+use Rattle.std.proofs.lemmas.List.{append_assoc, append-nil}
 use Rattle.cc_names.specs.Formed.{Plain}
 use Rattle.disk_model.specs.Counting.{raised}
 use Rattle.disk_model.specs.Devices.{Device, LeavesNow}
-use Rattle.disk_model.specs.Told.{Sight, IfTold, IsCounted}
-use Rattle.legal_history.specs.Fits.{fits, is_base, row_limit}
-use Rattle.legal_history.specs.Committing.{rises}
+use Rattle.disk_model.specs.Told.{Sight, IfTold, Both, IsCounted}
+use Rattle.legal_history.specs.Base.Rows.{Base}
+use Rattle.legal_history.specs.Base.Fits.{fits, is_base}
+use Rattle.cc_names.specs.Counts.{rises}
 use Rattle.row_form.specs.Spelled.{spelled}
-use Rattle.view_lookup.specs.Unversioned.{is_unversioned_deed, is_unversioned}
 use Rattle.vob_journal.specs.Frames.{frames}
 use Rattle.vob_journal.specs.Moves.{Moves, Stands}
 use Rattle.vob_journal.specs.Shown.{Shown}
 use Rattle.vob_journal.proofs.Passing.{passes_then}
-use Rattle.vob_journal.proofs.Telling.{told_next, told_both, told_from}
-use Rattle.base_core.specs.Readable.{IsReadable, AreReadable}
+use Rattle.vob_journal.proofs.Staying.{told_then}
+use Rattle.vob_journal.proofs.Telling.{both_then, told_next, told_both, told_from}
 use Rattle.base_core.specs.Reading.{OnlyReads, NextIs, IsNextRow, IsReadSoFar}
 use Rattle.base_core.specs.Standing.{payloads}
-use Rattle.base_core.proofs.Freshly.{within_limit}
+use Rattle.base_core.proofs.Idle.{both}
 use Rattle.base_core.proofs.Rising.{rises_raised}
 
 -- reads one after the other
@@ -40,36 +40,36 @@ read_now sight old new reads =
     (λ d e moves image left. finds_list old.list image (moves.now image left) ∙ sym reads.list) reads.stops
 
 -- one more row of a base
-payloads_more : (rows : List Plain) (row : Plain) → payloads (reverse (rows ++ row ∷ [])) ≡ payloads (reverse rows) ++ spelled row ∷ []
-payloads_more rows row = ap payloads (reverse-append rows (row ∷ []))
-
-one_more : (rows : List Plain) (row : Plain) (payload : List ℕ) (list rest rest' : List (List ℕ)) → list ≡ payloads (reverse rows) ++ rest → rest ≡ payload ∷ rest' → payload ≡ spelled row → list ≡ payloads (reverse (rows ++ row ∷ [])) ++ rest'
-one_more rows row payload list rest rest' is next spells =
-    is ∙ ap (λ l. payloads (reverse rows) ++ l) (next ∙ ap (λ p. p ∷ rest') spells)
-    ∙ sym (append_assoc (payloads (reverse rows)) (spelled row ∷ []) rest') ∙ ap (λ l. l ++ rest') (sym (payloads_more rows row))
-
-base_more : (rows : List Plain) (row : Plain) → is_base (reverse rows) ≡ true → fits (reverse rows) row.deed ≡ true → is_base (reverse (rows ++ row ∷ [])) ≡ true
-base_more rows row good fit = ap is_base (reverse-append rows (row ∷ [])) ∙ ap₂ ◌&&◌ fit good
-
-unversioned_more : (rows : List Plain) (row : Plain) → is_unversioned (reverse rows) ≡ true → is_unversioned_deed row.deed ≡ true → is_unversioned (reverse (rows ++ row ∷ [])) ≡ true
-unversioned_more rows row all one = ap is_unversioned (reverse-append rows (row ∷ [])) ∙ ap₂ ◌&&◌ one all
-
-readable_more : (rows : List Plain) (row : Plain) → AreReadable (reverse rows) → IsReadable row → AreReadable (reverse (rows ++ row ∷ []))
-readable_more rows row all one = subst AreReadable (sym (reverse-append rows (row ∷ []))) (one, all)
+one_more : (base : Base) (row : Plain) (payload : List ℕ) (list rest rest' : List (List ℕ)) → list ≡ payloads base ++ rest → rest ≡ payload ∷ rest' → payload ≡ spelled row → list ≡ payloads (row ∷ base) ++ rest'
+one_more base row payload list rest rest' is next spells =
+    is ∙ ap (λ l. payloads base ++ l) (next ∙ ap (λ p. p ∷ rest') spells)
+    ∙ sym (append_assoc (payloads base) (spelled row ∷ []) rest')
 
 -- a further row was read
-pub read_more : {D : Type 0} (sight : D → Sight) (rows : List Plain) (row : Plain) (payload : List ℕ) (old new : Shown D) → IsReadSoFar sight rows old → OnlyReads sight old new → NextIs sight (Some payload) old new → IsNextRow (reverse rows) payload row → IsReadSoFar sight (rows ++ row ∷ []) new
-read_more sight rows row payload old new h reads next is = record {
-  good = base_more rows row h.good is.fits;
-  readable = readable_more rows row h.readable (record { formed = is.formed; known = is.known });
-  unversioned = unversioned_more rows row h.unversioned is.unversioned;
+pub read_more : {D : Type 0} (sight : D → Sight) (base : Base) (row : Plain) (payload : List ℕ) (old new : Shown D) → IsReadSoFar sight base old → OnlyReads sight old new → NextIs sight (Some payload) old new → IsNextRow base payload row → IsReadSoFar sight (row ∷ base) new
+read_more sight base row payload old new h reads next is = record {
+  good = ap₂ ◌&&◌ is.fits h.good;
+  readable = (is.readable, h.readable);
   loose = next.loose;
   now = read_now sight old new reads;
-  list_is = told_from (Moves old.list [] old.list []) (λ _. (old.list ≡ payloads (reverse rows) ++ old.rest) × (old.rest ≡ payload ∷ new.rest)) (λ _. new.list ≡ payloads (reverse (rows ++ row ∷ [])) ++ new.rest) (sight old.disk).told (sight new.disk).told
-      (λ d e parts moves. reads.list ∙ one_more rows row payload old.list old.rest new.rest parts.0 parts.1 is.spells)
-      (told_both (λ _. old.list ≡ payloads (reverse rows) ++ old.rest) (λ _. old.rest ≡ payload ∷ new.rest) (λ _. (old.list ≡ payloads (reverse rows) ++ old.rest) × (old.rest ≡ payload ∷ new.rest)) (sight old.disk).told (λ d split gives. (split, gives)) h.list_is next.gives)
+  list_is = told_from (Moves old.list [] old.list []) (λ _. (old.list ≡ payloads base ++ old.rest) × (old.rest ≡ payload ∷ new.rest)) (λ _. new.list ≡ payloads (row ∷ base) ++ new.rest) (sight old.disk).told (sight new.disk).told
+      (λ d e parts moves. reads.list ∙ one_more base row payload old.list old.rest new.rest parts.0 parts.1 is.spells)
+      (told_both (λ _. old.list ≡ payloads base ++ old.rest) (λ _. old.rest ≡ payload ∷ new.rest) (λ _. (old.list ≡ payloads base ++ old.rest) × (old.rest ≡ payload ∷ new.rest)) (sight old.disk).told (λ d split gives. (split, gives)) h.list_is next.gives)
       reads.stops;
 }
 
-pub rows_few : (rows : List Plain) → is_base (reverse rows) ≡ true → length rows < row_limit
-rows_few rows e = omega (arith, within_limit (reverse rows) e, length-reverse rows)
+-- the row of a base fits those before it
+pub row_fits : (base : Base) (row : Plain) → is_base (row ∷ base) ≡ true → fits base row.deed ≡ true
+row_fits base row good = (both (fits base row.deed) (is_base base) good).0
+
+-- reads one after the other
+pub reads_then : {D : Type 0} (sight : D → Sight) (one two three : Shown D) → OnlyReads sight one two → OnlyReads sight two three → OnlyReads sight one three
+reads_then sight one two three h g =
+    let P : Device → Device → Type 0 = Moves one.list [] one.list [] in record {
+      list = g.list ∙ h.list;
+      left = g.left ∙ h.left;
+      ticks = omega (arith, h.ticks, g.ticks);
+      stops = both_then P P P (sight one.disk).told (sight two.disk).told (sight three.disk).told (moves_then one.list) h.stops
+          (subst (λ l. Both (Moves l [] l []) (sight two.disk).told (sight three.disk).told) h.list g.stops);
+      files = told_then (sight one.disk).told (sight two.disk).told (sight three.disk).told h.files g.files;
+    }

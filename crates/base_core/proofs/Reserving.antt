@@ -2,7 +2,7 @@
 use Rattle.std.proofs.Common.{◌≡◌, ◌≢◌, ℕ, zero, suc, ◌+◌, ◌-◌, ◌<◌, ◌≤◌, Option, Some, None, List, [], ◌∷◌, length, set, refl, sym, ◌∙◌, arith}
 use Rattle.build_core.specs.Slots.{numbered, held_in}
 use Rattle.build_core.specs.SlotLaws.{find_numbered, find_below}
-use Rattle.legal_history.specs.Builds.{Build, build_of, reserved}
+use Rattle.legal_history.specs.Builds.Active.{Build, build_of, reserved}
 
 -- what a slot holds that was set, and another
 held_set : {A : Type 0} (slots : List (Option A)) (i : ℕ) (a : Option A) → i < length slots → held_in (set slots i a) i ≡ a

@@ -2,7 +2,7 @@
 use Rattle.std.proofs.Common.{◌≡◌, ℕ, ◌-◌, ◌<◌, ◌≤◌, ◌^◌, ◌==◌, ◌&&◌, ◌||◌, nat_lt, Bool, true, false, refl, ap, ap₂, ◌∙◌, arith}
 use Rattle.std.proofs.lemmas.Bool.Decides.{nat_tests}
 use Rattle.disk_model.specs.Counting.{raised}
-use Rattle.legal_history.specs.Committing.{rises}
+use Rattle.cc_names.specs.Counts.{rises}
 
 -- a greater count rose
 pub rises_more : (before now : ℕ) → before < now → rises before now ≡ true

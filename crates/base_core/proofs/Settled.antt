@@ -1,55 +1,40 @@
 -- What a log keeps after its tail was settled, and what it says of stops.
-use Rattle.std.proofs.Common.{◌≡◌, ℕ, ◌+◌, ◌-◌, ◌<◌, ◌≤◌, ◌^◌, ◌⊎◌, inl, inr, Bool, true, Option, Some, None, List, [], ◌∷◌, ◌++◌, length, ap, ap₂, sym, subst, ◌∙◌, arith}
-use Rattle.std.proofs.lemmas.List.{append-nil, take_all, drop_all}
+use Rattle.std.proofs.Common.{◌≡◌, ◌≢◌, ℕ, ◌<◌, ◌≤◌, ◌^◌, ◌⊎◌, inl, inr, Bool, true, Option, Some, None, List, [], ◌++◌, length, ap, sym, subst, ◌∙◌, arith}
+use Rattle.std.proofs.lemmas.List.{append-nil}
 use Rattle.std.specs.Prelude.{Result, Ok, Err, MatchResult}
-use Rattle.cc_names.specs.Formed.{Plain}
 use Rattle.cc_names.specs.declared.commands.Phase.{Phase}
 use Rattle.cc_names.specs.declared.steps.Step.{Step}
-use Rattle.cc_names.specs.declared.steps.Step.TheVariants as steps
-use Rattle.cc_names.specs.declared.steps.Told.TheVariants as told
 use Rattle.disk_model.specs.Counting.{raised}
 use Rattle.disk_model.specs.Devices.{Device, LeavesNow, MayLeave}
 use Rattle.disk_model.specs.Told.{Sight, IfTold, Both, IsCounted}
-use Rattle.legal_history.specs.States.{State, Opening, End, ticks_of, hanging}
-use Rattle.legal_history.specs.Steps.{state_of}
+use Rattle.legal_history.specs.Base.Rows.{Base}
+use Rattle.legal_history.specs.Stories.States.{State, Opening, End, ticks_of, hanging}
+use Rattle.legal_history.specs.Stories.Steps.{state_of}
 use Rattle.vob_journal.specs.Frames.{frames}
 use Rattle.vob_journal.specs.Moves.{Moves, Stands}
 use Rattle.vob_journal.specs.Phases.{Spends}
 use Rattle.vob_journal.specs.declared.left.Left.{Left}
 use Rattle.vob_journal.specs.declared.left.Left.TheVariants as lefts
 use Rattle.base_core.specs.Backed.{IsCovered, IsBacked, IsSettled, IsAccounted}
-use Rattle.base_core.specs.Logs.{IsLogged, opened_log}
+use Rattle.base_core.specs.Logs.{IsLogged}
 use Rattle.base_core.specs.Standing.{payloads, base_by, StandsFor, MayBeFound}
-use Rattle.base_core.specs.Telling.{story_of, AreTold}
-use Rattle.base_core.specs.declared.handed.Handed.{Handed}
+use Rattle.base_core.specs.Telling.{oldest_first, story_of}
+use Rattle.base_core.specs.Handed.{Handed}
 use Rattle.base_core.proofs.Backing.{after_all, settle_covered, stands_so, still_told}
 use Rattle.base_core.proofs.Logging.{if_told, ticks_told}
-use Rattle.base_core.proofs.LogSteps.{shown}
 
 -- a count that was raised is no less
 no_less : (old new : ℕ) → raised old ≤ new → old < 2 ^ 64 → old ≤ new
 no_less old new rose small = omega (arith, rose, small)
 
--- a base was opened
-pub shown_opened : (on : Handed) (kept : List Step) (rows : List Plain) (number : ℕ) (sight : Sight) → kept ≡ steps.Opened number ∷ [] → number ≡ length rows + 1 → shown on kept rows [] sight ≡ opened_log rows on sight
-shown_opened on kept rows number sight e n =
-    ap (λ k. shown on k rows [] sight) e
-    ∙ ap₂ (λ front behind. record { story = told.Opened front on.counts on.tells ∷ story_of on [] behind []; rows = rows; phases = []; sight = sight })
-    (take_all (number - 1) rows (omega (arith, n))) (drop_all (number - 1) rows (omega (arith, n)))
-
-pub logged_opened : (on : Handed) (kept : List Step) (rows : List Plain) (number : ℕ) (sight : Sight) (list loose : List (List ℕ)) (ended : Bool) (left : Left) → kept ≡ steps.Opened number ∷ [] → number ≡ length rows + 1 → IsBacked (state_of (told.Opened rows on.counts on.tells ∷ [])) sight list loose ended left → IsLogged on kept rows [] sight list loose ended left
-logged_opened on kept rows number sight list loose ended left e n h = record {
-  told = subst (λ k. AreTold 1 0 k rows []) (sym e) (omega (arith, n), omega (arith, n), subst (λ behind. AreTold (1 + (number - 1)) 0 [] behind []) (sym (drop_all (number - 1) rows (omega (arith, n)))) tt);
-  backed = subst (λ log. IsBacked (state_of log.story) sight list loose ended left) (sym (shown_opened on kept rows number sight e n)) h;
-}
-
 -- the tail was settled, or this failed
-pub backed_settle : (s : State) (old new : Sight) (list loose list' loose' : List (List ℕ)) (ended ended' : Bool) (left left' : Left) → IsBacked s old list loose ended left → Both (Moves list loose list' loose') old.told new.told → list' ≡ list → (loose' ≡ []) ⊎ (loose' ≡ loose) → (left' ≡ lefts.Nothing → loose' ≡ []) → old.ticks ≤ new.ticks → old.faults ≤ new.faults → IsCounted old → ended' ≡ true → IsBacked s new list' loose' ended' left'
-backed_settle s old new list loose list' loose' ended ended' left left' h moves same less nothing ticks faults counted end = record {
+pub backed_settle : (s : State) (old new : Sight) (list loose list' loose' : List (List ℕ)) (ended ended' : Bool) (left left' : Left) → IsBacked s old list loose ended left → Both (Moves list loose list' loose') old.told new.told → list' ≡ list → (loose' ≡ []) ⊎ (loose' ≡ loose) → (left' ≡ lefts.Nothing → loose' ≡ []) → old.ticks ≤ new.ticks → old.faults ≤ new.faults → IsCounted old → ended' ≡ true → left ≢ lefts.Nothing → IsBacked s new list' loose' ended' left'
+backed_settle s old new list loose list' loose' ended ended' left left' h moves same less nothing ticks faults counted end ajar = record {
   opening = h.opening;
   opened = h.opened;
   tells = h.tells ∙ sym (still_told (Moves list loose list' loose') old.told new.told moves);
   at_end = end;
+  calm = λ e. absurd (ajar (h.calm e));
   base = h.base;
   ticks = omega (arith, h.ticks, ticks);
   faults = omega (arith, h.faults, faults);
@@ -57,14 +42,14 @@ backed_settle s old new list loose list' loose' ended ended' left left' h moves 
 }
 
 -- what is kept by the log, whether the tail was settled or not
-pub logged_settled : {E : Type 0} → (on : Handed) (kept : List Step) (rows : List Plain) (phases : List Phase) (calls : ℕ) (old new : Sight) (list loose list' loose' : List (List ℕ)) (ended ended' : Bool) (left left' : Left) (r : Result (Unit {0}) E) → IsLogged on kept rows phases old list loose ended left → Both (Moves list loose list' loose') old.told new.told → list' ≡ list → MatchResult r (λ _. loose' ≡ []) (λ _. loose' ≡ loose) → MatchResult r (λ _. left' ≡ lefts.Nothing) (λ _. left' ≡ lefts.Earlier) → ended' ≡ true → Spends calls r old new → IsCounted old → IsLogged on kept rows phases new list' loose' ended' left'
-logged_settled on kept rows phases calls old new list loose list' loose' ended ended' left left' (Ok u) h moves same less went end cost counted = record {
+pub logged_settled : {E : Type 0} → (on : Handed) (kept : List Step) (base : Base) (phases : List Phase) (calls : ℕ) (old new : Sight) (list loose list' loose' : List (List ℕ)) (ended ended' : Bool) (left left' : Left) (r : Result (Unit {0}) E) → IsLogged on kept base phases old list loose ended left → Both (Moves list loose list' loose') old.told new.told → list' ≡ list → MatchResult r (λ _. loose' ≡ []) (λ _. loose' ≡ loose) → MatchResult r (λ _. left' ≡ lefts.Nothing) (λ _. left' ≡ lefts.Earlier) → ended' ≡ true → Spends calls r old new → IsCounted old → left ≢ lefts.Nothing → IsLogged on kept base phases new list' loose' ended' left'
+logged_settled on kept base phases calls old new list loose list' loose' ended ended' left left' (Ok u) h moves same less went end cost counted ajar = record {
   told = h.told;
-  backed = backed_settle (state_of (story_of on kept rows phases)) old new list loose list' loose' ended ended' left left' h.backed moves same (inl less) (λ e. less) (omega (arith, cost.0)) (omega (arith, cost.1)) counted end;
+  backed = backed_settle (state_of (story_of on kept (oldest_first base) phases)) old new list loose list' loose' ended ended' left left' h.backed moves same (inl less) (λ e. less) (omega (arith, cost.0)) (omega (arith, cost.1)) counted end ajar;
 }
-logged_settled on kept rows phases calls old new list loose list' loose' ended ended' left left' (Err fault) h moves same less went end cost counted = record {
+logged_settled on kept base phases calls old new list loose list' loose' ended ended' left left' (Err fault) h moves same less went end cost counted ajar = record {
   told = h.told;
-  backed = backed_settle (state_of (story_of on kept rows phases)) old new list loose list' loose' ended ended' left left' h.backed moves same (inr less) (λ e. absurd (cc)) (no_less old.ticks new.ticks cost.0 counted.ticks) (omega (arith, cost.2, no_less old.faults (raised old.faults) (omega arith) counted.faults)) counted end;
+  backed = backed_settle (state_of (story_of on kept (oldest_first base) phases)) old new list loose list' loose' ended ended' left left' h.backed moves same (inr less) (λ e. absurd (cc)) (no_less old.ticks new.ticks cost.0 counted.ticks) (omega (arith, cost.2, no_less old.faults (raised old.faults) (omega arith) counted.faults)) counted end ajar;
 }
 
 -- no stop finds more than the base where nothing is loose

@@ -4,10 +4,10 @@ use Rattle.std.specs.Prelude.{IsSome, option_and_then}
 use Rattle.std.proofs.lemmas.Bool.Decides.{nat_tests}
 use Rattle.cc_names.specs.Formed.{Plain}
 use Rattle.cc_names.specs.declared.desks.Next.TheVariants as nexts
-use Rattle.legal_history.specs.Base.{Base, size, first_rows}
-use Rattle.legal_history.specs.Builds.{Build}
-use Rattle.legal_history.specs.States.{State, done_of, lane_at, command_behind, next_tag}
-use Rattle.legal_history.specs.Views.{view_row}
+use Rattle.legal_history.specs.Base.Rows.{Base, size, first_rows}
+use Rattle.legal_history.specs.Builds.Active.{Build}
+use Rattle.legal_history.specs.Stories.States.{State, done_of, lane_at, command_behind, next_tag}
+use Rattle.legal_history.specs.Base.Views.{view_row}
 use Rattle.base_core.specs.Building.{IsBuildKept}
 use Rattle.base_core.specs.Nexts.{next_of, next_by}
 

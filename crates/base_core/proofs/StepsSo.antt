@@ -7,14 +7,14 @@ use Rattle.build_core.specs.UnitSteps.{IsStep}
 use Rattle.build_core.specs.declared.steps.UnitStep.{UnitStep}
 use Rattle.build_core.specs.declared.steps.UnitStep.TheVariants as next
 use Rattle.build_script.specs.Lines.{script_of}
-use Rattle.legal_history.specs.Base.{Base, first_rows}
-use Rattle.legal_history.specs.Builds.{Build, build_of, came_to, is_outcome, unit_at}
-use Rattle.legal_history.specs.Fresh.{script_text, sees_file, sees_directory}
-use Rattle.legal_history.specs.Consistency.{IsConsistent}
-use Rattle.legal_history.specs.Serials.{standing_or_file}
-use Rattle.legal_history.specs.States.{State, next_tag}
-use Rattle.legal_history.specs.UnitTurns.{Waits}
-use Rattle.legal_history.specs.Turns.{fault_of, standing_of_unit}
+use Rattle.legal_history.specs.Base.Rows.{Base, first_rows}
+use Rattle.legal_history.specs.Builds.Active.{Build, build_of, came_to, is_outcome, unit_at}
+use Rattle.legal_history.specs.Builds.Fresh.{script_text, sees_file, sees_directory}
+use Rattle.legal_history.specs.Builds.Consistency.{IsConsistent}
+use Rattle.legal_history.specs.Builds.Serials.{standing_or_file}
+use Rattle.legal_history.specs.Stories.States.{State, next_tag}
+use Rattle.legal_history.specs.Builds.UnitTurns.{Waits}
+use Rattle.legal_history.specs.Builds.Turns.{fault_of, standing_of_unit}
 use Rattle.base_core.specs.BuildCalls.{MayStart, StepsTo}
 use Rattle.base_core.specs.Building.{IsBuildKept}
 use Rattle.base_core.proofs.Closing.{build_is_by}

@@ -8,7 +8,7 @@ use Rattle.cc_names.specs.declared.steps.Step.{Step}
 use Rattle.cc_names.specs.declared.steps.Step.TheVariants as steps
 use Rattle.cc_names.specs.declared.steps.Told.TheVariants as told
 use Rattle.base_core.specs.Telling.{story_of, AreTold, rows_told, stands_alone}
-use Rattle.base_core.specs.declared.handed.Handed.{Handed}
+use Rattle.base_core.specs.Handed.{Handed}
 
 -- steps that tell all rows and phases, and more steps with the rows and phases that these tell
 story_of-more : (on : Handed) (n p : ℕ) (one two : List Step) (rows more_rows : List Plain) (phases more_phases : List Phase) → AreTold n p one rows phases → story_of on (one ++ two) (rows ++ more_rows) (phases ++ more_phases) ≡ story_of on one rows phases ++ story_of on two more_rows more_phases

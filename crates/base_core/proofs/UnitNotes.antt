@@ -8,9 +8,9 @@ use Rattle.cc_names.specs.declared.steps.Step.{Step}
 use Rattle.cc_names.specs.declared.steps.Told.{Told}
 use Rattle.cc_names.specs.declared.steps.Told.TheVariants as told
 use Rattle.build_core.specs.Slots.{held_in}
-use Rattle.legal_history.specs.Builds.{Build, Came, build_of, came_to, is_outcome}
-use Rattle.legal_history.specs.States.{State, start}
-use Rattle.legal_history.specs.Steps.{state_of, with_came}
+use Rattle.legal_history.specs.Builds.Active.{Build, Came, build_of, came_to, is_outcome}
+use Rattle.legal_history.specs.Stories.States.{State, start}
+use Rattle.legal_history.specs.Stories.Steps.{state_of, with_came}
 use Rattle.base_core.specs.BuildCalls.{Notes, Noted}
 use Rattle.base_core.specs.Going.{StillBuilds}
 use Rattle.base_core.specs.Kept.{IsKept}

@@ -19,11 +19,11 @@ use Rattle.cc_names.specs.declared.rows.TypeKind.TheVariants as type_kinds
 use Rattle.cc_names.specs.declared.steps.Step.TheVariants as steps
 use Rattle.cc_names.specs.declared.steps.Told.{Told}
 use Rattle.cc_names.specs.declared.steps.Told.TheVariants as told
-use Rattle.legal_history.specs.Replied.{digest_of}
-use Rattle.legal_history.specs.Base.{Base}
-use Rattle.legal_history.specs.States.{all_done}
-use Rattle.legal_history.specs.Steps.{state_of}
-use Rattle.legal_history.specs.VersionNames.{line}
+use Rattle.legal_history.specs.Builds.Replied.{digest_of}
+use Rattle.legal_history.specs.Base.Rows.{Base}
+use Rattle.legal_history.specs.Stories.States.{all_done}
+use Rattle.legal_history.specs.Stories.Steps.{state_of}
+use Rattle.legal_history.specs.Queries.VersionNames.{line}
 use Rattle.legal_history.specs.Worked.{tag, row, base_of}
 use Rattle.legal_history.proofs.Worked.TwoViews.{v, w, hi, script, first_commands, first_deeds, all_deeds, two_views, clearmake, publish}
 use Rattle.base_core.specs.Replying.{reply_to_row, reply_to_answer, replies_of}

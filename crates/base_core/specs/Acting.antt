@@ -1,21 +1,26 @@
 -- What a lane's next command comes to.
 use Rattle.std.specs.Prelude.{◌≡◌, ℕ, ◌<◌, ◌≤◌, true, Some, Result, Ok, Err, List, [], ◌∷◌, ◌++◌, length}
+use Rattle.carried_out.specs.CarriedOut.{is_made}
 use Rattle.cc_names.specs.Formed.{Plain}
 use Rattle.cc_names.specs.declared.desks.Done.{Done}
 use Rattle.cc_names.specs.declared.desks.Done.TheVariants.{Committed, Refused, Answered, Faulted}
 use Rattle.cc_names.specs.declared.memory.Or.{Or}
 use Rattle.cc_names.specs.declared.memory.Or.TheVariants.{NoMemory, Is}
 use Rattle.cc_names.specs.declared.refusals.Refusal.{Refusal}
+use Rattle.cc_names.specs.declared.replies.Reply.TheVariants as replies
 use Rattle.cc_names.specs.declared.rows.Deed.{Deed}
 use Rattle.cc_names.specs.declared.rows.Tag.{Tag}
 use Rattle.cc_names.specs.declared.steps.Step.TheVariants as steps
 use Rattle.cc_names.specs.declared.steps.Told.{Told}
 use Rattle.cc_names.specs.declared.steps.Told.TheVariants as told
-use Rattle.legal_history.specs.Base.{size}
-use Rattle.legal_history.specs.Decisions.{Makes, Answers}
-use Rattle.legal_history.specs.States.{State, decided, next_tag}
-use Rattle.legal_history.specs.Steps.{state_of}
-use Rattle.view_lookup.specs.Unversioned.{is_plain_deed}
+use Rattle.legal_history.specs.Base.Rows.{Base, size}
+use Rattle.legal_history.specs.Builds.Active.{Active}
+use Rattle.legal_history.specs.Stories.Committing.{MakesRow}
+use Rattle.legal_history.specs.Commands.Decisions.{Makes, Answers}
+use Rattle.legal_history.specs.Base.Fits.{fits}
+use Rattle.legal_history.specs.Stories.States.{State, decided, next_tag, with_done}
+use Rattle.legal_history.specs.Stories.Steps.{state_of, active_after, done_after}
+use Rattle.base_core.specs.Replying.{reply_to_row}
 
 -- A step by which a command of this tag is finished, by its kind: the row that was decided, committed at the moment of the
 -- phase; the refusal or the answer that was decided; or the fault of the disk under the row that was decided.
@@ -38,12 +43,21 @@ pub record IsNextTag (s : State) (tag : Tag) : Type 0 where
   pub from : 1 ≤ tag.lane
   pub upto : tag.lane ≤ length s.phase.lanes
 
+-- A row of this deed is of no build: its command makes it and is finished by it, and is replied that all is well.
+pub record FinishesCommand (deed : Deed) : Type 0 where
+  pub reply : (b : Base) → reply_to_row b deed ≡ Some replies.Good
+  pub done : (done : List (ℕ × ℕ)) (lane : ℕ) → done_after done lane deed ≡ with_done done lane
+  pub active : (b : Base) (active : Active) (lane : ℕ) → active_after b active lane deed ≡ active
+  pub made : (s : State) (row : Plain) → decided s row.tag ≡ Some (Ok (Makes row.deed)) → MakesRow s row deed
+
 -- the row that was decided for the next command of its lane, for which there is room
 pub record IsNextRow (s : State) (row : Plain) : Type 0 where
   pub of_next : IsNextTag s row.tag
   pub made : decided s row.tag ≡ Some (Ok (Makes row.deed))
   pub at_moment : row.moment ≡ s.moment
-  pub plain : is_plain_deed row.deed ≡ true
+  pub finishes : FinishesCommand row.deed
+  pub carried_out : is_made row.deed ≡ true
+  pub fits : fits s.base row.deed ≡ true
   pub room : size s.base < 4000000
 
 -- the refusal that was decided for the next command of its lane

@@ -1,8 +1,8 @@
 -- What a core keeps of its journal: the disk stands for the base, and each stop since the opening finds what the history says.
-use Rattle.std.specs.Prelude.{◌≡◌, ℕ, ◌<◌, ◌≤◌, Bool, true, Some, None, is_some, List, [], ◌++◌}
+use Rattle.std.specs.Prelude.{◌≡◌, ℕ, ◌<◌, ◌≤◌, Bool, true, false, Some, None, is_some, List, [], ◌∷◌, ◌++◌}
 use Rattle.disk_model.specs.Devices.{Device, Leaves, LeavesNow, MayLeave}
 use Rattle.disk_model.specs.Told.{Sight, IfTold}
-use Rattle.legal_history.specs.States.{State, Opening, End, ticks_of, faults_of, hanging}
+use Rattle.legal_history.specs.Stories.States.{State, Opening, End, Committed, Faulted, ticks_of, faults_of, hanging}
 use Rattle.vob_journal.specs.Frames.{frames}
 use Rattle.vob_journal.specs.Moves.{Stands}
 use Rattle.vob_journal.specs.declared.left.Left.{Left}
@@ -18,12 +18,19 @@ pub record IsCovered (opening : Opening) (ends : List End) (list loose : List (L
   pub stops : (k : ℕ) (image : List ℕ) → opening.counts.ticks < k → Leaves 0 d k image → MayBeFound opening ends k (frames image)
   pub now : (image : List ℕ) → LeavesNow 0 d image → Stands list loose image
 
+-- whether the disk failed under the newest of some commits and faults
+abbrev pub is_faulted : List End → Bool
+is_faulted [] = false
+is_faulted (Committed row tick ∷ earlier) = false
+is_faulted (Faulted left faults tick ∷ earlier) = true
+
 -- the base was opened, and the journal behind it is that of its history
 pub record IsBacked (s : State) (sight : Sight) (list loose : List (List ℕ)) (ended : Bool) (left : Left) : Type 0 where
   pub opening : Opening
   pub opened : s.opened ≡ Some opening
   pub tells : opening.tells ≡ is_some sight.told
   pub at_end : ended ≡ true
+  pub calm : is_faulted s.ends ≡ false → left ≡ lefts.Nothing
   pub base : s.base ≡ base_by opening s.ends
   pub ticks : ticks_of s.opened s.ends ≤ sight.ticks
   pub faults : faults_of s.opened s.ends ≤ sight.faults

@@ -16,14 +16,14 @@ use Rattle.build_core.specs.declared.steps.UnitStep.TheVariants as next
 use Rattle.build_script.specs.Lines.{script_of}
 use Rattle.build_script.specs.Run.{Ran}
 use Rattle.build_script.specs.declared.lines.Line.{Line}
-use Rattle.legal_history.specs.Builds.{Build, Came, Started, build_of, came_to, is_outcome, unit_at}
-use Rattle.legal_history.specs.Choices.{here, publish_of}
-use Rattle.legal_history.specs.Fresh.{script_text}
-use Rattle.legal_history.specs.States.{State, next_tag}
-use Rattle.legal_history.specs.Steps.{after, state_of, with_came}
-use Rattle.legal_history.specs.Stories.{LawfulStep}
-use Rattle.legal_history.specs.UnitTurns.{IsOpen, Settles}
-use Rattle.legal_history.specs.Turns.{is_complete, unreadable}
+use Rattle.legal_history.specs.Builds.Active.{Build, Came, Started, build_of, came_to, is_outcome, unit_at}
+use Rattle.legal_history.specs.Builds.Choices.{here, publish_of}
+use Rattle.legal_history.specs.Builds.Fresh.{script_text}
+use Rattle.legal_history.specs.Stories.States.{State, next_tag}
+use Rattle.legal_history.specs.Stories.Steps.{after, state_of, with_came}
+use Rattle.legal_history.specs.Stories.Lawful.{LawfulStep}
+use Rattle.legal_history.specs.Builds.UnitTurns.{IsOpen, Settles}
+use Rattle.legal_history.specs.Builds.Turns.{is_complete, unreadable}
 use Rattle.base_core.specs.Building.{IsBuildKept}
 use Rattle.base_core.specs.Going.{GoesOn, HasOutcome, Finishes}
 use Rattle.base_core.specs.Faults.{is_fault}

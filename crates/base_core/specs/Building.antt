@@ -5,13 +5,13 @@ use Rattle.cc_names.specs.declared.refusals.Refusal.{Refusal}
 use Rattle.cc_names.specs.declared.rows.Tag.{Tag}
 use Rattle.cc_names.specs.declared.desks.Next.TheVariants as nexts
 use Rattle.build_core.specs.BuildForms.{IsBuildFormed}
-use Rattle.legal_history.specs.Base.{size, first_rows}
-use Rattle.legal_history.specs.Builds.{Build, reserved}
-use Rattle.legal_history.specs.Decisions.{Begins}
-use Rattle.legal_history.specs.Fits.{row_limit}
-use Rattle.legal_history.specs.States.{State, decided, next_tag}
-use Rattle.legal_history.specs.Steps.{begun}
-use Rattle.legal_history.specs.Views.{view_row}
+use Rattle.legal_history.specs.Base.Rows.{size, first_rows}
+use Rattle.legal_history.specs.Builds.Active.{Build, reserved}
+use Rattle.legal_history.specs.Commands.Decisions.{Begins}
+use Rattle.legal_history.specs.Base.Fits.{row_limit}
+use Rattle.legal_history.specs.Stories.States.{State, decided, next_tag}
+use Rattle.legal_history.specs.Stories.Steps.{begun}
+use Rattle.legal_history.specs.Base.Views.{view_row}
 use Rattle.base_core.specs.Acting.{IsNextTag, RefusalWas}
 use Rattle.base_core.specs.Nexts.{next_of}
 

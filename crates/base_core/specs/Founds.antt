@@ -1,7 +1,7 @@
 -- A base that was found.
 use Rattle.std.specs.Prelude.{◌≡◌, ℕ, true, List}
-use Rattle.legal_history.specs.Base.{Base}
-use Rattle.legal_history.specs.Fits.{is_base}
+use Rattle.legal_history.specs.Base.Rows.{Base}
+use Rattle.legal_history.specs.Base.Fits.{is_base}
 use Rattle.base_core.specs.Opening.{IsUndamaged}
 use Rattle.base_core.specs.Readable.{AreReadable}
 use Rattle.base_core.specs.Standing.{payloads}

@@ -1,9 +1,9 @@
 -- How a story goes on while a lane builds.
 use Rattle.std.specs.Prelude.{◌≡◌, ℕ, ◌+◌, true, Some, List, ◌++◌, ◌≢◌}
 use Rattle.cc_names.specs.declared.steps.Told.{Told}
-use Rattle.legal_history.specs.Builds.{Build, build_of, came_to, is_outcome}
-use Rattle.legal_history.specs.States.{State, done_of}
-use Rattle.legal_history.specs.Steps.{state_of}
+use Rattle.legal_history.specs.Builds.Active.{Build, build_of, came_to, is_outcome}
+use Rattle.legal_history.specs.Stories.States.{State, done_of}
+use Rattle.legal_history.specs.Stories.Steps.{state_of}
 
 -- the last phase is as it was
 pub record SamePhase (old new : State) : Type 0 where

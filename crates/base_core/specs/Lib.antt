@@ -3,11 +3,11 @@ pub mod Appending
 pub mod Backed
 pub mod BuildCalls
 pub mod Building
-pub mod Carried
 pub mod Counted
 pub mod Faults
 pub mod Founds
 pub mod Going
+pub mod Handed
 pub mod Kept
 pub mod Leaving
 pub mod Logs

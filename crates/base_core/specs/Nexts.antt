@@ -5,7 +5,7 @@ use Rattle.cc_names.specs.declared.commands.Command.TheVariants as commands
 use Rattle.cc_names.specs.declared.desks.Next.{Next}
 use Rattle.cc_names.specs.declared.desks.Next.TheVariants.{Act, Build, Done}
 use Rattle.cc_names.specs.declared.rows.Tag.{Tag}
-use Rattle.legal_history.specs.States.{State, done_of, lane_at, command_behind, next_tag}
+use Rattle.legal_history.specs.Stories.States.{State, done_of, lane_at, command_behind, next_tag}
 
 -- the first command of a lane that is not finished
 abbrev pub waiting : State → ℕ → Option Command

@@ -1,48 +1,46 @@
 -- What opening a base answers.
-use Rattle.std.specs.Prelude.{◌≡◌, ◌<◌, ℕ, true, is_some, Option, List, [], ◌∷◌, ◌++◌, reverse}
-use Rattle.cc_names.specs.Formed.{Plain, IsFormed}
+use Rattle.std.specs.Prelude.{◌≡◌, ◌<◌, ℕ, true, is_some, Option, List, [], ◌∷◌, ◌++◌}
+use Rattle.cc_names.specs.Formed.{Plain}
 use Rattle.cc_names.specs.declared.steps.Told.{Told}
 use Rattle.cc_names.specs.declared.steps.Told.TheVariants as told
 use Rattle.disk_model.specs.Devices.{Device, MayLeave, bytes_of}
 use Rattle.disk_model.specs.Told.{Sight, IfTold, Both}
-use Rattle.legal_history.specs.Base.{Base, size}
-use Rattle.legal_history.specs.Fits.{fits, is_base}
-use Rattle.legal_history.specs.Committing.{rises}
-use Rattle.row_form.specs.Reading.{IsKnown}
+use Rattle.legal_history.specs.Base.Rows.{Base, size}
+use Rattle.legal_history.specs.Base.Fits.{fits, is_base}
+use Rattle.cc_names.specs.Counts.{rises}
 use Rattle.row_form.specs.Spelled.{spelled}
-use Rattle.view_lookup.specs.Unversioned.{is_unversioned}
 use Rattle.vob_journal.specs.Frames.{frames}
 use Rattle.vob_journal.specs.Reads.{SameFiles}
+use Rattle.base_core.specs.Handed.{Handed}
 use Rattle.base_core.specs.Logs.{Logged, opened_log}
-use Rattle.base_core.specs.Readable.{AreReadable}
+use Rattle.base_core.specs.Readable.{IsReadable, AreReadable}
 use Rattle.base_core.specs.Standing.{payloads}
-use Rattle.base_core.specs.declared.handed.Handed.{Handed}
+use Rattle.base_core.specs.Telling.{oldest_first}
 use Rattle.base_core.specs.declared.opening.OpenCause.{OpenCause}
 use Rattle.base_core.specs.declared.opening.OpenCause.TheVariants as causes
 
--- The rows of a base that was opened on a disk: the disk's journal stands for them, each is readable, and each fits those
+-- A base that was opened on a disk: the disk's journal stands for it, each of its rows is readable, and each fits those
 -- before it.
-pub record IsBaseOn (old : Sight) (rows : List Plain) (handed : Handed) : Type 0 where
+pub record IsBaseOn (old : Sight) (base : Base) (handed : Handed) : Type 0 where
   pub ticks : handed.counts.ticks ≡ old.ticks
   pub faults : handed.counts.faults ≡ old.faults
   pub tells : handed.tells ≡ is_some old.told
-  pub found : IfTold old.told (λ d. frames (bytes_of 0 d) ≡ payloads (reverse rows))
-  pub fits : is_base (reverse rows) ≡ true
-  pub readable : AreReadable (reverse rows)
-  pub unversioned : is_unversioned (reverse rows) ≡ true
+  pub found : IfTold old.told (λ d. frames (bytes_of 0 d) ≡ payloads base)
+  pub fits : is_base base ≡ true
+  pub readable : AreReadable base
 
 -- a log of such a base, under which no disk failed, and both files as they were
 pub record IsOpened (old : Sight) (log : Logged) : Type 0 where
-  pub rows : List Plain
+  pub base : Base
   pub handed : Handed
-  pub on : IsBaseOn old rows handed
-  pub is : log ≡ opened_log rows handed log.sight
+  pub on : IsBaseOn old base handed
+  pub is : log ≡ opened_log base handed log.sight
   pub sound : log.sight.faults ≡ old.faults
   pub files : Both SameFiles old.told log.sight.told
 
 -- no readable row that fits the base has this spelling
 abbrev pub IsUnfit : Base → List ℕ → Type 0
-IsUnfit b payload = (row : Plain) → IsFormed row → IsKnown row.deed → payload ≡ spelled row → fits b row.deed ≡ true → ⊥
+IsUnfit b payload = (row : Plain) → IsReadable row → payload ≡ spelled row → fits b row.deed ≡ true → ⊥
 
 -- frame n of a journal is the first that spells no readable row, or whose row does not fit those before it
 pub record IsDamaged (list : List (List ℕ)) (n : ℕ) : Type 0 where
@@ -61,11 +59,11 @@ IsUndamaged list = (n : ℕ) → IsDamaged list n → ⊥
 
 -- A base was opened: the one that the disk stands for, whose journal is not damaged. Both files are as they were.
 pub record Opens (old : Sight) (story : List Told) (new : Sight) : Type 0 where
-  pub rows : List Plain
+  pub base : Base
   pub handed : Handed
-  pub on : IsBaseOn old rows handed
+  pub on : IsBaseOn old base handed
   pub undamaged : IfTold old.told (λ d. IsUndamaged (frames (bytes_of 0 d)))
-  pub story_is : story ≡ told.Opened rows handed.counts handed.tells ∷ []
+  pub story_is : story ≡ told.Opened (oldest_first base) handed.counts handed.tells ∷ []
   pub sound : new.faults ≡ old.faults
   pub files : Both SameFiles old.told new.told
 

@@ -1,17 +1,17 @@
 -- Readable rows, which a journal gives back, and stories that name no others.
-use Rattle.std.specs.Prelude.{IfSome, List, reverse}
+use Rattle.std.specs.Prelude.{◌≡◌, true, IfSome, List, reverse}
 use Rattle.std.specs.List.{AllByRecursion}
+use Rattle.carried_out.specs.CarriedOut.{is_made}
 use Rattle.cc_names.specs.Formed.{Plain, IsFormed}
 use Rattle.cc_names.specs.declared.steps.Step.TheVariants as steps
 use Rattle.cc_names.specs.declared.steps.Told.{Told}
 use Rattle.cc_names.specs.declared.steps.Told.TheVariants as told
-use Rattle.legal_history.specs.Base.{Base}
-use Rattle.row_form.specs.Reading.{IsKnown}
+use Rattle.legal_history.specs.Base.Rows.{Base}
 
--- a readable row: it keeps its form, and rows of its deed are read
+-- a readable row: it keeps its form, and what is carried out so far makes rows of its deed
 pub record IsReadable (row : Plain) : Type 0 where
   pub formed : IsFormed row
-  pub known : IsKnown row.deed
+  pub made : is_made row.deed ≡ true
 
 -- each row of a base is readable
 abbrev pub AreReadable : Base → Type 0

@@ -1,21 +1,19 @@
 -- How the rows of a journal are read.
-use Rattle.std.specs.Prelude.{◌≡◌, ◌≤◌, ℕ, Bool, true, Option, Some, None, List, [], ◌∷◌, ◌++◌, reverse}
-use Rattle.cc_names.specs.Formed.{Plain, IsFormed}
+use Rattle.std.specs.Prelude.{◌≡◌, ◌≤◌, ℕ, Bool, true, Option, Some, None, List, [], ◌∷◌, ◌++◌}
+use Rattle.cc_names.specs.Formed.{Plain}
 use Rattle.disk_model.specs.Devices.{LeavesNow}
 use Rattle.disk_model.specs.Told.{Sight, IfTold, Both}
-use Rattle.legal_history.specs.Base.{Base, size}
-use Rattle.legal_history.specs.Fits.{fits, is_base}
-use Rattle.legal_history.specs.Committing.{rises}
-use Rattle.row_form.specs.Reading.{IsKnown}
+use Rattle.legal_history.specs.Base.Rows.{Base, size}
+use Rattle.legal_history.specs.Base.Fits.{fits, is_base}
+use Rattle.cc_names.specs.Counts.{rises}
 use Rattle.row_form.specs.Spelled.{spelled}
-use Rattle.view_lookup.specs.Unversioned.{is_unversioned_deed, is_unversioned}
 use Rattle.vob_journal.specs.Answered.{Gives}
 use Rattle.vob_journal.specs.Frames.{frames}
 use Rattle.vob_journal.specs.Moves.{Moves}
 use Rattle.vob_journal.specs.Reads.{SameFiles}
 use Rattle.vob_journal.specs.Shown.{Shown}
 use Rattle.base_core.specs.Opening.{IsUnfit}
-use Rattle.base_core.specs.Readable.{AreReadable}
+use Rattle.base_core.specs.Readable.{IsReadable, AreReadable}
 use Rattle.base_core.specs.Standing.{payloads}
 use Rattle.base_core.specs.declared.opening.OpenCause.{OpenCause}
 use Rattle.base_core.specs.declared.opening.OpenCause.TheVariants as causes
@@ -49,10 +47,8 @@ IsMissed causes.NoMemory old new = new ≡ old
 -- a payload spells this row, which is readable and fits a base
 pub record IsNextRow (b : Base) (payload : List ℕ) (row : Plain) : Type 0 where
   pub spells : payload ≡ spelled row
-  pub formed : IsFormed row
-  pub known : IsKnown row.deed
+  pub readable : IsReadable row
   pub fits : fits b row.deed ≡ true
-  pub unversioned : is_unversioned_deed row.deed ≡ true
 
 -- why a payload gave no row behind a base
 abbrev pub IsNoRow : Base → List ℕ → OpenCause → Type 0
@@ -60,22 +56,21 @@ IsNoRow b payload (causes.Damaged n) = (n ≡ size b) × IsUnfit b payload
 IsNoRow b payload causes.DiskFault = ⊥
 IsNoRow b payload causes.NoMemory = Unit {0}
 
--- Rows that were read so far are a base of readable rows, and the journal's list is theirs and what is still to be read.
-pub record IsReadSoFar {D : Type 0} (sight : D → Sight) (rows : List Plain) (journal : Shown D) : Type 0 where
-  pub good : is_base (reverse rows) ≡ true
-  pub readable : AreReadable (reverse rows)
-  pub unversioned : is_unversioned (reverse rows) ≡ true
+-- What was read so far is a base of readable rows, and the journal's list is theirs and what is still to be read.
+pub record IsReadSoFar {D : Type 0} (sight : D → Sight) (base : Base) (journal : Shown D) : Type 0 where
+  pub good : is_base base ≡ true
+  pub readable : AreReadable base
   pub loose : journal.loose ≡ []
   pub now : IfTold (sight journal.disk).told (λ d. (image : List ℕ) → LeavesNow 0 d image → frames image ≡ journal.list)
-  pub list_is : IfTold (sight journal.disk).told (λ _. journal.list ≡ payloads (reverse rows) ++ journal.rest)
+  pub list_is : IfTold (sight journal.disk).told (λ _. journal.list ≡ payloads base ++ journal.rest)
 
--- the whole journal was read: its list is that of these rows
-pub record IsReadThrough {D : Type 0} (sight : D → Sight) (rows : List Plain) (journal : Shown D) : Type 0 where
-  pub so_far : IsReadSoFar sight rows journal
+-- the whole journal was read: its list is that of this base
+pub record IsReadThrough {D : Type 0} (sight : D → Sight) (base : Base) (journal : Shown D) : Type 0 where
+  pub so_far : IsReadSoFar sight base journal
   pub ended : journal.ended ≡ true
   pub nothing : IfTold (sight journal.disk).told (λ _. journal.rest ≡ [])
 
--- behind rows that were read there is one more, or the end
-abbrev pub ReadsOn : {D : Type 0} → (D → Sight) → List Plain → Option Plain → Shown D → Type 0
-ReadsOn sight rows None journal = IsReadThrough sight rows journal
-ReadsOn sight rows (Some row) journal = IsReadSoFar sight (rows ++ row ∷ []) journal
+-- behind the base that was read there is one more row, or the end
+abbrev pub ReadsOn : {D : Type 0} → (D → Sight) → Base → Option Plain → Shown D → Type 0
+ReadsOn sight base None journal = IsReadThrough sight base journal
+ReadsOn sight base (Some row) journal = IsReadSoFar sight (row ∷ base) journal

@@ -10,12 +10,12 @@ use Rattle.cc_names.specs.declared.rows.Tag.{Tag}
 use Rattle.cc_names.specs.declared.steps.Step.TheVariants as steps
 use Rattle.cc_names.specs.declared.steps.Told.{Told}
 use Rattle.cc_names.specs.declared.steps.Told.TheVariants as told
-use Rattle.legal_history.specs.Replied.{reply_of}
-use Rattle.legal_history.specs.Base.{Base}
-use Rattle.legal_history.specs.Builds.{Build}
-use Rattle.legal_history.specs.States.{State, next_command, build_by, start}
-use Rattle.legal_history.specs.Steps.{after}
-use Rattle.legal_history.specs.VersionNames.{version_name}
+use Rattle.legal_history.specs.Builds.Replied.{reply_of}
+use Rattle.legal_history.specs.Base.Rows.{Base}
+use Rattle.legal_history.specs.Builds.Active.{Build}
+use Rattle.legal_history.specs.Stories.States.{State, next_command, build_by, start}
+use Rattle.legal_history.specs.Stories.Steps.{after}
+use Rattle.legal_history.specs.Queries.VersionNames.{version_name}
 
 -- The reply to the command of a row: the version that it took out or made, how many things it named, or that all is
 -- well. The rows of a build finish no command.

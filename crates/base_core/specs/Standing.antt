@@ -1,8 +1,8 @@
 -- What a journal stands for, and what a stop may leave of a history.
 use Rattle.std.specs.Prelude.{◌≡◌, ℕ, ◌<◌, ◌≤◌, ◌⊎◌, Option, Some, None, List, [], ◌∷◌, ◌++◌}
 use Rattle.cc_names.specs.Formed.{Plain}
-use Rattle.legal_history.specs.Base.{Base}
-use Rattle.legal_history.specs.States.{Opening, End, Committed, Faulted, ticks_of}
+use Rattle.legal_history.specs.Base.Rows.{Base}
+use Rattle.legal_history.specs.Stories.States.{Opening, End, Committed, Faulted, ticks_of}
 use Rattle.row_form.specs.Spelled.{spelled}
 
 -- the payloads that spell the rows of a base, from row 1 on

@@ -1,13 +1,18 @@
 -- How steps that name rows and phases by their numbers are told: a commit with its row, a plan with its phase.
 use Rattle.std.specs.Bool.{⊤}
-use Rattle.std.specs.Prelude.{◌≡◌, ℕ, ◌+◌, ◌-◌, ◌≤◌, Bool, true, false, List, [], ◌∷◌, ◌++◌, length, take, drop}
+use Rattle.std.specs.Prelude.{◌≡◌, ℕ, ◌+◌, ◌-◌, ◌≤◌, Bool, true, false, List, [], ◌∷◌, ◌++◌, length, reverse, take, drop}
 use Rattle.cc_names.specs.Formed.{Plain}
 use Rattle.cc_names.specs.declared.commands.Phase.{Phase}
 use Rattle.cc_names.specs.declared.steps.Step.{Step}
 use Rattle.cc_names.specs.declared.steps.Step.TheVariants as steps
 use Rattle.cc_names.specs.declared.steps.Told.{Told}
 use Rattle.cc_names.specs.declared.steps.Told.TheVariants as told
-use Rattle.base_core.specs.declared.handed.Handed.{Handed}
+use Rattle.legal_history.specs.Base.Rows.{Base}
+use Rattle.base_core.specs.Handed.{Handed}
+
+-- the rows of a base, oldest first, as a story tells them
+abbrev pub oldest_first : Base → List Plain
+oldest_first base = reverse base
 
 -- The steps as they are told: the opened rows first, with how the disk was handed in, then each commit with the next row and
 -- each plan with the next phase.

@@ -4,9 +4,7 @@ ghost use Rattle.std.specs.Prelude.{◌≡◌, ◌<◌, option_and_then, length}
 ghost use Rattle.std.specs.Option.{option_copied};
 ghost use Rattle.base_core.specs.Kept.{last_phase, replies_at};
 ghost use Rattle.base_core.specs.Nexts.{next_by};
-ghost use Rattle.checkout_desk.specs.Deciding.{view_of};
-ghost use Rattle.build_core.specs.Plans.{view_of as clearmake_view};
-ghost use Rattle.legal_history.specs.States.{command_behind, lane_at};
+ghost use Rattle.legal_history.specs.Stories.States.{command_behind, lane_at};
 
 use crate::lane_replies::LaneReplies;
 use cc_names::commands::{Command, Lane, Phase};
@@ -72,25 +70,5 @@ pub fn next_by(command: &Command, tag: Tag) -> Next
     match command {
         Command::Clearmake { .. } => Next::Build(tag),
         _ => Next::Act,
-    }
-}
-
-/// The view in which a command is refused while it builds; no bytes where there is none.
-pub fn building_view(command: &Command) -> &[u8]
-    ensures { result.now ≡ view_of command.now }
-{
-    match command {
-        Command::Save { view, .. } => view.as_bytes(),
-        _ => &[],
-    }
-}
-
-/// The view in which a command builds; no bytes where it builds nothing.
-pub fn clearmake_view(command: &Command) -> &[u8]
-    ensures { result.now ≡ clearmake_view command.now }
-{
-    match command {
-        Command::Clearmake { view, .. } => view.as_bytes(),
-        _ => &[],
     }
 }

@@ -2,9 +2,9 @@
 
 ghost use Rattle.std.specs.Prelude.{◌≡◌};
 ghost use Rattle.build_core.specs.Comes.{came_of};
-ghost use Rattle.legal_history.specs.Turns.{came_by_start};
+ghost use Rattle.legal_history.specs.Builds.Turns.{came_by_start};
 
-use crate::commands::{building_view, clearmake_view, last_phase, next_by, next_command};
+use crate::commands::{last_phase, next_by, next_command};
 use crate::history::History;
 use crate::lane_builds::{build_of, building, no_builds, note, reserved};
 use crate::lane_replies::{LaneReplies, add_reply, fresh, replace_reply, take_reply_back};
@@ -28,10 +28,9 @@ use cc_names::replies::Reply;
 use cc_names::rows::{Row, Tag};
 use cc_names::steps::{Counts, Step, UnitEnd};
 use cc_names::texts::Text;
-use checkout_desk::{ROW_LIMIT, Stamp, decide};
+use checkout_desk::{ROW_LIMIT, Stamp, decide, view_of};
 use disk_model::{Disk, DiskFault};
 use legal_history::laws::builds::a_build_is_consistent;
-use legal_history::laws::stories::a_base_fits;
 use std::alloc::Global;
 use std::marker::Model;
 
@@ -71,33 +70,34 @@ impl<D: Disk> Core<D> {
     ghost use Rattle.cc_names.specs.declared.desks.Next.TheVariants as nexts;
     ghost use Rattle.cc_names.specs.declared.steps.Told.TheVariants as told;
     ghost use Rattle.session_text.specs.Formed.{IsPhase};
-    ghost use Rattle.base_core.specs.Carried.{AreCarriedOut};
-    ghost use Rattle.legal_history.specs.States.{all_done, next_tag, faults_of};
-    ghost use Rattle.legal_history.specs.Steps.{state_of};
-    ghost use Rattle.legal_history.specs.Committing.{rises};
-    ghost use Rattle.legal_history.specs.Stories.{last_moment, Legal};
+    ghost use Rattle.carried_out.specs.CarriedOut.{AreCarriedOut};
+    ghost use Rattle.legal_history.specs.Stories.States.{all_done, next_tag, faults_of};
+    ghost use Rattle.legal_history.specs.Stories.Steps.{state_of};
+    ghost use Rattle.cc_names.specs.Counts.{rises};
+    ghost use Rattle.legal_history.specs.Stories.Lawful.{last_moment, Legal};
     ghost use Rattle.base_core.specs.Acting.{Acts, DecidesNext, IsNextRow, IsNextRefusal};
     ghost use Rattle.base_core.specs.Kept.{command_limit};
     ghost use Rattle.base_core.specs.Nexts.{next_of, waiting};
     ghost use Rattle.base_core.specs.Replying.{replies_of};
-    ghost use Rattle.base_core.specs.Backed.{IsSettled, IsAccounted};
+    ghost use Rattle.base_core.specs.Backed.{IsSettled, IsAccounted, is_faulted};
     ghost use Rattle.base_core.specs.Opening.{Opens, FailsToOpen};
     ghost use Rattle.base_core.specs.Readable.{IsReadable, TellsOnly};
     ghost use Rattle.disk_model.specs.Counting.{raised};
     ghost use Rattle.disk_model.specs.Devices.{file_of, bytes_of};
     ghost use Rattle.disk_model.specs.Files.{stable};
-    ghost use Rattle.disk_model.specs.Told.{IfTold};
+    ghost use Rattle.disk_model.specs.Told.{IfTold, Both};
+    ghost use Rattle.vob_journal.specs.Reads.{SameObjects};
     ghost use Rattle.std.specs.Prelude.{None};
     ghost use Rattle.cc_names.specs.declared.desks.Begun.TheVariants as begins;
     ghost use Rattle.build_core.specs.Comes.{came_of};
-    ghost use Rattle.legal_history.specs.Builds.{build_of};
+    ghost use Rattle.legal_history.specs.Builds.Active.{build_of};
     ghost use Rattle.base_core.specs.Building.{IsNextBuild, PlansNext};
     ghost use Rattle.base_core.specs.BuildCalls.{Begins, IsBuilding, IsTurn, StepsTo, Notes, Noted, MaySettle, MayStart, IsStarted, HasRun, IsObjectRow, IsOver, Settled, Tries, IsCarried, AreAllCarried};
     ghost use Rattle.base_core.specs.Going.{GoesOn, Finishes};
     ghost use Rattle.base_core.specs.Counted.{KeepsCount};
     ghost use Rattle.std.specs.Prelude.{Ok};
     ghost use Rattle.build_script.specs.Ended.{ran_of};
-    ghost use Rattle.legal_history.specs.Turns.{came_by_start};
+    ghost use Rattle.legal_history.specs.Builds.Turns.{came_by_start};
 
     /// Opens the base that a disk stands for. Reads its journal once, in time linear in its bytes and the square of the targets of
     /// one object, and writes nothing. A disk whose base cannot be opened comes back with the cause.
@@ -180,8 +180,8 @@ impl<D: Disk> Core<D> {
             tag: self.tag(lane),
             moment: self.moment,
         };
-        let busy = building(self.builds.as_slice(), building_view(command));
-        let taken = self.log.rows().len() as u64 + 1 + reserved(self.builds.as_slice());
+        let busy = building(self.builds.as_slice(), view_of(command));
+        let taken = self.log.rows().size() + reserved(self.builds.as_slice());
         let room = ROW_LIMIT.saturating_sub(taken);
         decide(alloc, &self.log.rows(), command, stamp, busy, room)
     }
@@ -255,8 +255,8 @@ impl<D: Disk> Core<D> {
         let Some(command) = next_command(self.log.phases(), self.replies.as_slice(), lane) else {
             unreachable!()
         };
-        let busy = building(self.builds.as_slice(), clearmake_view(command));
-        let taken = self.log.rows().len() as u64 + 1 + reserved(self.builds.as_slice());
+        let busy = building(self.builds.as_slice(), view_of(command));
+        let taken = self.log.rows().size() + reserved(self.builds.as_slice());
         plan_build(
             alloc,
             &self.log.rows(),
@@ -421,7 +421,6 @@ impl<D: Disk> Core<D> {
         requires { HasRun (state_of self.now.story) lane unit (record { result = Ok outputs; reads = reads.now }) }
         ensures { IfOk result (λ row. IsObjectRow (state_of self.now.story) lane unit row) }
     {
-        a_base_fits();
         a_build_is_consistent();
         a_unit_may_publish();
         let Some(build) = build_of(self.builds.as_slice(), lane) else {
@@ -452,10 +451,9 @@ impl<D: Disk> Core<D> {
         ensures err { OnErr result (self.new ≡ self.old) }
         ensures counted { KeepsCount self.old self.new }
     {
-        a_base_fits();
         a_build_is_consistent();
         let tag = self.tag(lane);
-        let number = self.log.rows().len() as u64 + 1;
+        let number = self.log.rows().size();
         add_reply(&mut self.replies, lane, Reply::DiskFault)?;
         match self.log.append(alloc, row, Some(Step::End { tag })) {
             Ok(Appended::Committed) => {
@@ -593,19 +591,22 @@ impl<D: Disk> Core<D> {
         self.log.counts()
     }
 
-    /// Settles the journal where a fault left its tail open; elsewhere it makes no device call. Afterwards no stop finds
+    /// Settles the journal where the last commit or fault is a fault, which may have left its tail open; elsewhere it makes no
+    /// device call, and the disk is as it was. The file of objects is as it was in any case. Afterwards no stop finds
     /// more than the rows of the base; where it fails, the disk's count of faults has passed that of each fault of the story.
     pub fn finish(&mut self) -> Result<(), DiskFault>
         ensures same { self.new.story ≡ self.old.story }
         ensures ok { OnOk result (IsSettled (state_of self.new.story) self.new.sight) }
         ensures err { OnErr result (rises (faults_of (state_of self.new.story).opened (state_of self.new.story).ends) self.new.sight.faults ≡ true) }
         ensures faults { MatchResult result (λ _. self.new.sight.faults ≡ self.old.sight.faults) (λ _. self.new.sight.faults ≡ raised self.old.sight.faults) }
+        ensures objects { Both SameObjects self.old.sight.told self.new.sight.told }
+        ensures rests { is_faulted (state_of self.old.story).ends ≡ false → self.new ≡ self.old }
     {
         self.log.settle()
     }
 
     /// The disk, and the history of the story so far. Takes no memory.
-    pub fn into_parts(self) -> (D, History)
+    pub fn into_parts(self) -> (D, History<D>)
         ensures disk { D.sight result.0 ≡ self.sight }
         ensures history { result.1 ≡ self.story }
         ensures legal { Legal self.story }

@@ -2,53 +2,55 @@
 
 ghost use Rattle.std.specs.Prelude.{◌≡◌, []};
 
-use crate::handed::Handed;
 use cc_names::commands::Phase;
 use cc_names::rows::Row;
 use cc_names::steps::{Counts, Step};
+use disk_model::Disk;
 use std::alloc::Global;
-use std::marker::Model;
+use std::marker::{Model, PhantomData};
 
 /// The story of a session with the rows and phases that it names. Contracts see it as the story, each commit told with
-/// its row and each plan with its phase. A session that opened no base has the empty story.
-#[derive(Debug, Drop)]
-pub struct History {
+/// its row and each plan with its phase. A session that opened no base has the empty story. Whether the disk told its device
+/// is a part of the story, and known by the disk's type alone.
+#[derive(Drop)]
+pub struct History<D: Disk> {
     rows: Vec<Row>,
     phases: Vec<Phase>,
     steps: Vec<Step>,
-    handed: Handed,
+    handed: Counts,
+    on: PhantomData<D>,
 }
 
-impl Model for History {
+impl<D: Disk> Model for History<D> {
     ghost use Rattle.std.specs.Prelude.{List};
     ghost use Rattle.cc_names.specs.declared.steps.Told.{Told};
+    ghost use Rattle.base_core.specs.Handed.{handed_in};
     ghost use Rattle.base_core.specs.Telling.{story_of, AreTold};
 
     ghost Value = { List Told };
 
-    ghost view = { λ h. story_of h.handed h.steps.items h.rows.items h.phases.items };
+    ghost view = { λ h. story_of (handed_in h.handed D.tells) h.steps.items h.rows.items h.phases.items };
 
     ghost invariant = { λ h. AreTold 1 0 h.steps.items h.rows.items h.phases.items };
 }
 
-impl History {
+impl<D: Disk> History<D> {
+    ghost use Rattle.base_core.specs.Handed.{handed_in};
     ghost use Rattle.base_core.specs.Telling.{story_of, AreTold, rows_told, TellsStory};
 
     /// The history of a session that opened no base. Takes no memory.
-    pub fn empty(alloc: Global) -> History
+    pub fn empty(alloc: Global) -> History<D>
         ensures { result ≡ [] }
     {
         History {
             rows: Vec::new(alloc),
             phases: Vec::new(alloc),
             steps: Vec::new(alloc),
-            handed: Handed {
-                counts: Counts {
-                    ticks: 0,
-                    faults: 0,
-                },
-                tells: false,
+            handed: Counts {
+                ticks: 0,
+                faults: 0,
             },
+            on: PhantomData,
         }
     }
 
@@ -57,16 +59,17 @@ impl History {
         rows: Vec<Row>,
         phases: Vec<Phase>,
         steps: Vec<Step>,
-        handed: Handed,
-    ) -> History
+        handed: Counts,
+    ) -> History<D>
         requires { AreTold 1 0 steps.items rows.items phases.items }
-        ensures { result ≡ story_of handed steps.items rows.items phases.items }
+        ensures { result ≡ story_of (handed_in handed D.tells) steps.items rows.items phases.items }
     {
         History {
             rows,
             phases,
             steps,
             handed,
+            on: PhantomData,
         }
     }
 

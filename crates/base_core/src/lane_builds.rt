@@ -3,9 +3,9 @@
 ghost use Rattle.std.specs.Prelude.{◌≡◌, ◌≤◌, ◌<◌, ◌-◌, [], ℕ, Some, IsSome, length, set, IfOk, option_copied};
 ghost use Rattle.build_core.specs.Comes.{came_of};
 ghost use Rattle.build_core.specs.Slots.{numbered, held_in};
-ghost use Rattle.legal_history.specs.Builds.{Build, build_of, building, reserved};
-ghost use Rattle.legal_history.specs.Fits.{row_limit};
-ghost use Rattle.legal_history.specs.Steps.{with_came};
+ghost use Rattle.legal_history.specs.Builds.Active.{Build, build_of, building, reserved};
+ghost use Rattle.legal_history.specs.Base.Fits.{row_limit};
+ghost use Rattle.legal_history.specs.Stories.Steps.{with_came};
 
 use build_core::{ActiveBuild, Came};
 use cc_names::memory::NoMemory;

@@ -11,7 +11,7 @@ use std::marker::Model;
 use std::mem;
 
 /// The replies of a lane in their order. Contracts see them as a list.
-#[derive(Debug, Drop)]
+#[derive(Drop)]
 pub struct LaneReplies {
     replies: Vec<Reply>,
 }

@@ -2,11 +2,11 @@
 
 ghost use Rattle.std.specs.Prelude.{◌≡◌, ℕ, IfSome, List, Some, true};
 ghost use Rattle.cc_names.specs.declared.steps.Told.{Told};
-ghost use Rattle.legal_history.specs.Base.{Base};
-ghost use Rattle.legal_history.specs.Fits.{is_base};
-ghost use Rattle.legal_history.specs.States.{Opening, hanging};
-ghost use Rattle.legal_history.specs.Steps.{state_of};
-ghost use Rattle.legal_history.specs.Stories.{Legal};
+ghost use Rattle.legal_history.specs.Base.Rows.{Base};
+ghost use Rattle.legal_history.specs.Base.Fits.{is_base};
+ghost use Rattle.legal_history.specs.Stories.States.{Opening, hanging};
+ghost use Rattle.legal_history.specs.Stories.Steps.{state_of};
+ghost use Rattle.legal_history.specs.Stories.Lawful.{Legal};
 ghost use Rattle.base_core.specs.Founds.{OpensAgain, SpellsBase};
 ghost use Rattle.base_core.specs.Opening.{IsDamaged, IsUndamaged};
 ghost use Rattle.base_core.specs.Readable.{AreReadable, IsReadable, TellsOnly};

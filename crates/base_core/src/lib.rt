@@ -9,16 +9,17 @@
 // has gone on by steps of that build alone. `begin_phase`, `act` and `build` make device calls for commits and faults alone,
 // each of which has the disk's counts as it ended. `replies` gives the replies of the story. A stop at any call of the disk
 // since the base was opened finds the rows committed before it, and besides at most the row that was under way or that a fault
-// left; `finish` leaves the rows and no more.
+// left; `finish` leaves the rows and no more, and makes no device call unless the newest commit or fault is a fault. The file
+// of objects stays as it was.
 //
-// What it stands on: `vob_journal`, `row_form` and `disk_model` for the disk, `checkout_desk` for the decisions on rows,
+// What it stands on: `carried_out` for what is made so far, `vob_journal`, `row_form` and `disk_model` for the disk,
+// `checkout_desk` for the decisions on rows,
 // `build_core` for builds, `legal_history` for the model and the laws of builds in legal stories,
 // `view_lookup` and `session_text`, `build_script` and `make_text` for scripts and units, and `cc_names` for plain data.
 #![tactic(auto)]
 
 mod commands;
 mod core_value;
-mod handed;
 mod history;
 mod lane_builds;
 mod lane_replies;
@@ -28,6 +29,5 @@ mod opening;
 mod tried;
 
 pub use core_value::Core;
-pub use handed::Handed;
 pub use history::History;
 pub use opening::{OpenCause, OpenFault};

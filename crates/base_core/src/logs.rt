@@ -6,7 +6,6 @@ ghost use Rattle.base_core.specs.Leaving.{left_in};
 ghost use Rattle.std.specs.Vec.{vec_len, vec_capacity};
 ghost use Rattle.std.specs.Option.{option_to_list};
 
-use crate::handed::Handed;
 use crate::history::History;
 use cc_names::commands::Phase;
 use cc_names::copies::Copied;
@@ -29,30 +28,32 @@ pub(crate) enum Appended {
 }
 
 /// Steps as they are kept, with the rows and the phases that they name by number, and the journal of the rows. Contracts see
-/// it as the story that the steps tell, these rows and phases, and the disk's counts and device.
+/// it as the story that the steps tell, the base of these rows, the phases, and the disk's counts and device.
 #[derive(Drop)]
 pub(crate) struct Log<D: Disk> {
     rows: Rows,
     phases: Vec<Phase>,
     steps: Vec<Step>,
-    handed: Handed,
+    /// The disk's counts as it was handed in.
+    handed: Counts,
     journal: Journal<D>,
 }
 
 impl<D: Disk> Model for Log<D> {
+    ghost use Rattle.base_core.specs.Handed.{handed_in};
     ghost use Rattle.base_core.specs.Logs.{Logged, IsLogged};
-    ghost use Rattle.base_core.specs.Telling.{story_of};
+    ghost use Rattle.base_core.specs.Telling.{oldest_first, story_of};
 
     ghost Value = { Logged };
 
     ghost view = { λ log. record {
-      story = story_of log.handed log.steps.items log.rows.rows log.phases.items;
-      rows = log.rows.rows;
+      story = story_of (handed_in log.handed D.tells) log.steps.items (oldest_first log.rows.base) log.phases.items;
+      base = log.rows.base;
       phases = log.phases.items;
       sight = D.sight log.journal.disk;
     } };
 
-    ghost invariant = { λ log. IsLogged log.handed log.steps.items log.rows.rows log.phases.items (D.sight log.journal.disk) log.journal.list log.journal.loose log.journal.ended log.journal.left };
+    ghost invariant = { λ log. IsLogged (handed_in log.handed D.tells) log.steps.items log.rows.base log.phases.items (D.sight log.journal.disk) log.journal.list log.journal.loose log.journal.ended log.journal.left };
 }
 
 /// The frame of a row. A row that is spelled in 2^32 bytes or more counts as want of memory.
@@ -116,31 +117,35 @@ impl<D: Disk> Log<D> {
     ghost use Rattle.cc_names.specs.declared.steps.Told.TheVariants as told;
     ghost use Rattle.disk_model.specs.Counting.{raised};
     ghost use Rattle.disk_model.specs.Told.{IfTold};
-    ghost use Rattle.legal_history.specs.States.{faults_of};
-    ghost use Rattle.legal_history.specs.Steps.{state_of};
-    ghost use Rattle.legal_history.specs.Committing.{rises};
+    ghost use Rattle.legal_history.specs.Stories.States.{faults_of};
+    ghost use Rattle.legal_history.specs.Stories.Steps.{state_of};
+    ghost use Rattle.cc_names.specs.Counts.{rises};
     ghost use Rattle.base_core.specs.Appending.{Appends, IsQuiet};
-    ghost use Rattle.base_core.specs.Backed.{IsBacked, IsSettled, IsAccounted};
+    ghost use Rattle.base_core.specs.Backed.{IsBacked, IsSettled, IsAccounted, is_faulted};
+    ghost use Rattle.base_core.specs.Handed.{handed_in};
     ghost use Rattle.base_core.specs.Faults.{is_fault};
     ghost use Rattle.base_core.specs.Logs.{opened_log, with_phase, with_step, with_sight};
-    ghost use Rattle.base_core.specs.Telling.{stands_alone};
+    ghost use Rattle.base_core.specs.Telling.{oldest_first, stands_alone};
+    ghost use Rattle.carried_out.specs.CarriedOut.{is_made};
+    ghost use Rattle.disk_model.specs.Told.{Both};
+    ghost use Rattle.legal_history.specs.Base.Fits.{fits};
+    ghost use Rattle.vob_journal.specs.Reads.{SameObjects};
 
-    /// The story of a base that was opened with these rows, which are those of the journal. The journal comes back where
+    /// The story of a base that was opened, whose rows are those of the journal. The journal comes back where
     /// memory runs out.
     pub(crate) fn open(
         alloc: Global,
         rows: Rows,
-        handed: Handed,
+        handed: Counts,
         journal: Journal<D>,
     ) -> Result<Log<D>, Journal<D>>
-        requires few { length rows.rows + 1 < 2 ^ 63 }
-        requires backed { IsBacked (state_of (told.Opened rows.rows handed.counts handed.tells ∷ [])) (D.sight journal.disk) journal.list journal.loose journal.ended journal.left }
-        ensures ok { IfOk result (λ log. log ≡ opened_log rows.rows handed (D.sight journal.disk)) }
+        requires { IsBacked (state_of (told.Opened (oldest_first rows.base) handed D.tells ∷ [])) (D.sight journal.disk) journal.list journal.loose journal.ended journal.left }
+        ensures ok { IfOk result (λ log. log ≡ opened_log rows.base (handed_in handed D.tells) (D.sight journal.disk)) }
         ensures err { IfErr result (λ back. back ≡ journal) }
     {
         let mut steps = Vec::new(alloc);
         let opened = Step::Opened {
-            rows: rows.len() as u64 + 1,
+            rows: rows.all().size(),
         };
         if push_step(&mut steps, opened).is_err() {
             return Err(journal);
@@ -182,7 +187,8 @@ impl<D: Disk> Log<D> {
         row: Row,
         ending: Option<Step>,
     ) -> Result<Appended, NoMemory>
-        requires few { length self.old.rows + 1 < 2 ^ 63 }
+        requires fits { fits self.old.base row.deed ≡ true }
+        requires made { is_made row.deed ≡ true }
         requires ending { IfSome ending IsQuiet }
         ensures ok { IfOk result (λ done. Appends self.old self.new row ending done) }
         ensures err { OnErr result (self.new ≡ self.old) }
@@ -192,7 +198,7 @@ impl<D: Disk> Log<D> {
         self.rows.reserve(row.deed())?;
         self.steps.reserve(2)?;
         let tag = row.tag();
-        let number = self.rows.len() as u64 + 1;
+        let number = self.rows.all().size();
         let before = self.journal.counts().faults;
         if let Ok(tick) = self.journal.append(&frame) {
             self.steps.push(Step::Commit { tag, number, tick }).unwrap();
@@ -227,13 +233,15 @@ impl<D: Disk> Log<D> {
         Ok(())
     }
 
-    /// Settles the journal's tail where a fault left it open; elsewhere it makes no device call. Afterwards no stop finds
-    /// more than the rows.
+    /// Settles the journal's tail where a fault left it open; elsewhere it makes no device call, and changes nothing. Afterwards
+    /// no stop finds more than the rows.
     pub(crate) fn settle(&mut self) -> Result<(), DiskFault>
         ensures same { self.new ≡ with_sight self.old self.new.sight }
         ensures ok { OnOk result (IsSettled (state_of self.new.story) self.new.sight) }
         ensures err { OnErr result (rises (faults_of (state_of self.new.story).opened (state_of self.new.story).ends) self.new.sight.faults ≡ true) }
         ensures faults { MatchResult result (λ _. self.new.sight.faults ≡ self.old.sight.faults) (λ _. self.new.sight.faults ≡ raised self.old.sight.faults) }
+        ensures objects { Both SameObjects self.old.sight.told self.new.sight.told }
+        ensures rests { is_faulted (state_of self.old.story).ends ≡ false → self.new ≡ self.old }
     {
         match self.journal.left() {
             Left::Nothing => Ok(()),
@@ -249,9 +257,9 @@ impl<D: Disk> Log<D> {
         self.journal.counts()
     }
 
-    /// The rows, from row 1 on.
+    /// The base, all its rows.
     pub(crate) fn rows(&self) -> FirstRows<'_>
-        ensures { result ≡ self.now.rows }
+        ensures { result ≡ self.now.base }
     {
         self.rows.all()
     }
@@ -264,7 +272,7 @@ impl<D: Disk> Log<D> {
     }
 
     /// The disk, and the history of the story. Takes no memory.
-    pub(crate) fn into_parts(self) -> (D, History)
+    pub(crate) fn into_parts(self) -> (D, History<D>)
         ensures disk { D.sight result.0 ≡ self.sight }
         ensures history { result.1 ≡ self.story }
         ensures backed { IsAccounted (state_of self.story) self.sight }

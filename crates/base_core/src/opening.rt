@@ -1,16 +1,14 @@
 // How a base is opened: the rows of its journal are read one by one, and each has to fit those before it.
 
-ghost use Rattle.std.specs.Prelude.{◌≡◌, ◌<◌, [], length, reverse, true, IfOk, IfErr, OnOk};
+ghost use Rattle.std.specs.Prelude.{◌≡◌, [], true, IfOk, IfErr, OnOk};
 ghost use Rattle.disk_model.specs.Devices.{file_of, bytes_of};
 ghost use Rattle.disk_model.specs.Files.{stable};
 ghost use Rattle.disk_model.specs.Told.{IfTold};
-ghost use Rattle.legal_history.specs.Fits.{row_limit};
-ghost use Rattle.view_lookup.specs.Unversioned.{is_unversioned};
 ghost use Rattle.base_core.specs.Opening.{StopsBy, IsOpened, FailsToOpen};
 ghost use Rattle.base_core.specs.Reading.{OnlyReads, NextIs, IsMissed, IsNextRow, IsNoRow, IsReadSoFar, ReadsOn, IsReadThrough};
 
-use crate::handed::Handed;
 use crate::logs::Log;
+use carried_out::is_made;
 use cc_names::memory::Or;
 use cc_names::rows::Row;
 use cc_names::texts::Text;
@@ -51,17 +49,15 @@ fn next_payload<D: Disk>(alloc: Global, journal: &mut Journal<D>) -> Result<Opti
     }
 }
 
-/// The row that the payload of the next frame spells, where it fits the rows before it.
+/// The row that the payload of the next frame spells, where what is carried out so far makes it and it fits the rows before.
 fn next_row(alloc: Global, rows: &FirstRows<'_>, payload: &[u8]) -> Result<Row, OpenCause>
-    requires unversioned { is_unversioned (reverse rows.now) ≡ true }
-    requires few { length rows.now < row_limit }
-    ensures ok { IfOk result (IsNextRow (reverse rows.now) payload.now) }
-    ensures err { IfErr result (IsNoRow (reverse rows.now) payload.now) }
+    ensures ok { IfOk result (IsNextRow rows.now payload.now) }
+    ensures err { IfErr result (IsNoRow rows.now payload.now) }
 {
-    let number = rows.len() as u64 + 1;
+    let number = rows.size();
     match read(alloc, payload) {
         Ok(row) => {
-            if fits(rows, &row) {
+            if is_made(row.deed()) && fits(rows, &row) {
                 Ok(row)
             } else {
                 Err(OpenCause::Damaged(number))
@@ -99,7 +95,7 @@ fn read_row<D: Disk>(
 fn read_rows<D: Disk>(alloc: Global, journal: &mut Journal<D>) -> Result<Rows, OpenCause>
     requires { IsReadSoFar D.sight [] journal.old }
     ensures reads { OnlyReads D.sight journal.old journal.new }
-    ensures ok { IfOk result (λ rows. IsReadThrough D.sight rows.rows journal.new) }
+    ensures ok { IfOk result (λ rows. IsReadThrough D.sight rows.base journal.new) }
     ensures sound { OnOk result ((D.sight journal.new.disk).faults ≡ (D.sight journal.old.disk).faults) }
     ensures err { IfErr result (λ cause. StopsBy (D.sight journal.old.disk).told (λ _. journal.old.list) cause (D.sight journal.old.disk).faults (D.sight journal.new.disk).faults) }
 {
@@ -125,10 +121,7 @@ pub(crate) fn open_log<D: Disk>(alloc: Global, disk: D) -> Result<Log<D>, OpenFa
     ensures ok { IfOk result (λ log. IsOpened (D.sight disk) log) }
     ensures err { IfErr result (λ fault. FailsToOpen (D.sight disk) fault.cause (D.sight fault.disk)) }
 {
-    let handed = Handed {
-        counts: disk.counts(),
-        tells: disk.tells(),
-    };
+    let handed = disk.counts();
     let mut journal = match Journal::open(disk) {
         Ok(journal) => journal,
         Err(disk) => {

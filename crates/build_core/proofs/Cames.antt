@@ -6,8 +6,8 @@ use Rattle.std.specs.Option.{option_map}
 use Rattle.std.specs.Ordering.{nat_cmp}
 use Rattle.std.specs.FinMap.Entries.{put, find}
 use Rattle.cc_names.specs.declared.units.Unit.{Unit}
-use Rattle.legal_history.specs.Builds as model
-use Rattle.legal_history.specs.Turns.{all_over}
+use Rattle.legal_history.specs.Builds.Active as model
+use Rattle.legal_history.specs.Builds.Turns.{all_over}
 use Rattle.build_core.specs.Comes.{came_of, cames_of, comes_of}
 use Rattle.build_core.specs.Slots.{numbered, held_in}
 use Rattle.build_core.specs.SlotLaws.{find_numbered, put_numbered}

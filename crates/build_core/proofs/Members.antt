@@ -1,15 +1,16 @@
 -- The walk back over the units that a unit needs.
-use Rattle.std.proofs.Common.{◌≡◌, ℕ, suc, ◌+◌, ◌<◌, Bool, true, false, Option, Some, None, List, [], ◌∷◌, ◌++◌, length, take, get_or, ap, sym, ◌∙◌, arith, add-one}
+use Rattle.std.proofs.Common.{◌≡◌, ℕ, suc, ◌+◌, ◌<◌, Bool, true, false, Some, None, List, [], ◌∷◌, ◌++◌, length, take, get_or, ap, sym, ◌∙◌, arith, add-one}
 use Rattle.std.proofs.Math.Seq.{take-suc}
 use Rattle.std.proofs.lemmas.List.{length-take-le}
 use Rattle.std.specs.List.{list_any}
 use Rattle.std.specs.Option.{option_or}
 use Rattle.cc_names.specs.declared.units.Unit.{Unit}
-use Rattle.legal_history.specs.Base.{only_where}
-use Rattle.legal_history.specs.Builds.{Build, came_to, object_of}
-use Rattle.legal_history.specs.Choices.{Member, unit_of_member, members_from, members_before, object_among}
-use Rattle.legal_history.specs.Closures.{is_among}
-use Rattle.legal_history.specs.Serials.{needed, makes}
+use Rattle.legal_history.specs.Base.Rows.{only_where}
+use Rattle.legal_history.specs.Builds.Active.{Build, came_to, object_of}
+use Rattle.legal_history.specs.Builds.Choices.{Member, unit_of_member, members_from, members_before, object_among}
+use Rattle.legal_history.specs.Base.Closures.{is_among}
+use Rattle.legal_history.specs.Builds.Serials.{needed, makes}
+use Rattle.build_core.specs.Sights.{object_before}
 
 -- a unit with what its number has come to
 abbrev member : Build → ℕ → Unit → Member
@@ -52,10 +53,6 @@ step_taken : (paths : List (List ℕ)) (a : Member) (earlier : List Member) → 
     needed unit_of_member paths (a ∷ earlier) ≡ a ∷ needed unit_of_member (paths ++ a.unit.prerequisites) earlier
 step_taken paths a earlier e =
     ap (λ (b : Bool). elim b as (λ _. List Member) [ true ↦ a ∷ needed unit_of_member (paths ++ a.unit.prerequisites) earlier | false ↦ needed unit_of_member paths earlier ]) e
-
--- what the units before a number that are needed have at a path
-abbrev pub object_before : Build → List (List ℕ) → ℕ → List ℕ → Option ℕ
-object_before build paths n path = object_among path (needed unit_of_member paths (members_before build n))
 
 passed : (build : Build) (paths : List (List ℕ)) (n : ℕ) (path : List ℕ) (unit : Unit) → n < length build.units → unit ≡ get_or build.units n unit →
     makes_any unit paths ≡ false → object_before build paths (n + 1) path ≡ object_before build paths n path

@@ -8,7 +8,7 @@ use Rattle.std.specs.Ordering.{nat_cmp, is_lt}
 use Rattle.std.specs.declared.cmp.Ordering.{Ordering}
 use Rattle.std.specs.declared.cmp.Ordering.TheVariants.{Less, Equal, Greater}
 use Rattle.cc_names.specs.Formed.{IsLong, IsBelowRoot, IsEntry, path_of_entry, AreEntries}
-use Rattle.legal_history.specs.Choices.{entry_row, in_order, as_entry, entries}
+use Rattle.legal_history.specs.Builds.Choices.{entry_row, in_order, as_entry, entries}
 
 -- a path with a row, as an entry has them
 abbrev IsPair : List ℕ × ℕ → Type 0

@@ -8,15 +8,18 @@ use Rattle.cc_names.specs.declared.refusals.ScriptFault.{ScriptFault}
 use Rattle.cc_names.specs.declared.rows.Deed.{Deed}
 use Rattle.cc_names.specs.declared.rows.Deed.TheVariants as deeds
 use Rattle.cc_names.specs.declared.units.Unit.{Unit}
-use Rattle.legal_history.specs.Base.{Base}
-use Rattle.legal_history.specs.Builds.{Build}
-use Rattle.legal_history.specs.Choices.{entries, here, publish_by, publish_of, text_of_row, visible}
-use Rattle.legal_history.specs.Fresh.{script_text}
+use Rattle.legal_history.specs.Base.Rows.{Base}
+use Rattle.legal_history.specs.Builds.Active.{Build}
+use Rattle.legal_history.specs.Builds.Choices.{entries, here, publish_by, publish_of, text_of_row, visible}
+use Rattle.legal_history.specs.Builds.Fresh.{script_text}
 use Rattle.build_core.proofs.RunsEach.{each_so}
 use Rattle.build_core.proofs.RunsEnded.{AreOutputs, outputs_short, reads_found}
 use Rattle.build_core.proofs.RunsEntries.{entries_formed}
 use Rattle.build_core.proofs.RunsRead.{reads_few, reads_are_paths}
 use Rattle.build_core.proofs.RunsSeen.{seen_is_below, nothing_at_root}
+use Rattle.legal_history.specs.Base.Fits.{is_base}
+use Rattle.legal_history.proofs.Reuse.Reusables.{first_are_base}
+use Rattle.build_core.proofs.RunsReady.{base_has_room}
 use Rattle.build_core.specs.Publishing.{HasObjects, CanPublish}
 
 -- the root is one path
@@ -42,11 +45,11 @@ each_below : (b : Base) (build : Build) (n : ℕ) (unit : Unit) (reads : List (L
 each_below b build n unit [] h found are = tt
 each_below b build n unit (path ∷ reads) h found are = (found_below b build n unit path h found.0 are.0, each_below b build n unit reads h found.1 are.1)
 
-reads_formed : (b : Base) (build : Build) (n : ℕ) (unit : Unit) (outputs : List (List ℕ)) → CanPublish b build unit → (here b build n unit).result ≡ Ok outputs →
+reads_formed : (b : Base) (build : Build) (n : ℕ) (unit : Unit) (outputs : List (List ℕ)) → is_base b ≡ true → CanPublish b build unit → (here b build n unit).result ≡ Ok outputs →
     AreEntries (entries (visible b build n unit) (here b build n unit).reads)
-reads_formed b build n unit outputs h ran =
+reads_formed b build n unit outputs base h ran =
     entries_formed (visible b build n unit) (here b build n unit).reads
-    (λ path row is. let low = seen_is_below b build n unit path row h.base h.objects is in let room = h.room in omega arith)
+    (λ path row is. let low = seen_is_below b build n unit path row (first_are_base b build.rows base) h.objects is in let room = base_has_room b base in omega arith)
     (each_below b build n unit (here b build n unit).reads h.objects
     (reads_found (script_text unit.script) unit.targets (λ path. text_of_row b path (visible b build n unit path)) outputs ran)
     (reads_are_paths (script_text unit.script) unit.targets (λ path. text_of_row b path (visible b build n unit path))))
@@ -59,21 +62,21 @@ outputs_formed targets outputs are h = (
 )
 
 -- The deed of a unit's run that succeeds is formed.
-pub publish_is_formed : (b : Base) (build : Build) (n : ℕ) (unit : Unit) (outputs : List (List ℕ)) → CanPublish b build unit → (here b build n unit).result ≡ Ok outputs →
+pub publish_is_formed : (b : Base) (build : Build) (n : ℕ) (unit : Unit) (outputs : List (List ℕ)) → is_base b ≡ true → CanPublish b build unit → (here b build n unit).result ≡ Ok outputs →
     IsDeedFormed (deeds.Publish build.view unit.targets (script_text unit.script) (entries (visible b build n unit) (here b build n unit).reads) outputs)
-publish_is_formed b build n unit outputs h ran =
+publish_is_formed b build n unit outputs base h ran =
     let are = outputs_short (script_text unit.script) unit.targets (λ path. text_of_row b path (visible b build n unit path)) outputs ran in (
-      (h.view, h.targets, (let short = h.script in omega arith), reads_formed b build n unit outputs h ran, are.many),
+      (h.view, h.targets, (let short = h.script in omega arith), reads_formed b build n unit outputs base h ran, are.many),
       outputs_formed unit.targets outputs h.targets are,
     )
 
 -- So is the deed that a unit would publish.
-pub published_is_formed : (b : Base) (build : Build) (n : ℕ) (unit : Unit) (deed : Deed) → CanPublish b build unit → publish_of b build n unit ≡ Some deed → IsDeedFormed deed
-published_is_formed b build n unit deed h is = by (here b build n unit).result refl is
+pub published_is_formed : (b : Base) (build : Build) (n : ℕ) (unit : Unit) (deed : Deed) → is_base b ≡ true → CanPublish b build unit → publish_of b build n unit ≡ Some deed → IsDeedFormed deed
+published_is_formed b build n unit deed base h is = by (here b build n unit).result refl is
   where
     by : (r : Result (List (List ℕ)) ScriptFault) → (here b build n unit).result ≡ r →
         publish_by build unit (entries (visible b build n unit) (here b build n unit).reads) r ≡ Some deed → IsDeedFormed deed
     by (Err fault) ran is = absurd (cc)
     by (Ok outputs) ran is =
         let same : deeds.Publish build.view unit.targets (script_text unit.script) (entries (visible b build n unit) (here b build n unit).reads) outputs ≡ deed = cc in
-        subst IsDeedFormed same (publish_is_formed b build n unit outputs h ran)
+        subst IsDeedFormed same (publish_is_formed b build n unit outputs base h ran)

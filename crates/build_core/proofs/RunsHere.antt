@@ -8,10 +8,10 @@ use Rattle.build_script.specs.Lines.{script_of}
 use Rattle.build_script.specs.Run.{Files, Asking, Ran, carried_out, run_of, run_of_lines, traced}
 use Rattle.build_script.specs.Standings.{text_of, texts}
 use Rattle.build_script.specs.declared.lines.Line.{Line}
-use Rattle.legal_history.specs.Base.{Base}
-use Rattle.legal_history.specs.Builds.{Build, unit_at}
-use Rattle.legal_history.specs.Choices.{here, text_of_row, visible}
-use Rattle.legal_history.specs.Fresh.{script_text}
+use Rattle.legal_history.specs.Base.Rows.{Base}
+use Rattle.legal_history.specs.Builds.Active.{Build, unit_at}
+use Rattle.legal_history.specs.Builds.Choices.{here, text_of_row, visible}
+use Rattle.legal_history.specs.Builds.Fresh.{script_text}
 use Rattle.build_core.specs.SightLaws.{texts_seen}
 use Rattle.build_core.specs.Sights.{stands}
 use Rattle.build_core.specs.UnitSights.{standing_at}

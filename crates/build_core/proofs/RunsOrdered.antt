@@ -8,7 +8,7 @@ use Rattle.std.specs.Option.{unwrap_or}
 use Rattle.std.specs.Ordering.{nat_cmp, match_ordering}
 use Rattle.std.specs.declared.cmp.Ordering.{Ordering}
 use Rattle.std.specs.declared.cmp.Ordering.TheVariants.{Less, Equal, Greater}
-use Rattle.legal_history.specs.Choices.{entry_row, in_order}
+use Rattle.legal_history.specs.Builds.Choices.{entry_row, in_order}
 
 -- what a map inserts is put in order
 inserted : (path : List ℕ) (row : ℕ) (pairs : List (List ℕ × ℕ)) → insert_entry (slice_cmp nat_cmp) pairs path row ≡ put (slice_cmp nat_cmp) path row pairs

@@ -1,13 +1,14 @@
 -- The row that is made of what a run gave is the one that the unit publishes, and has the form of a row.
-use Rattle.std.proofs.Common.{◌≡◌, ap, sym, ◌∙◌, ℕ, zero, suc, ◌<◌, Some, List, [], ◌∷◌, length, map, get_or, slice_get, arith}
+use Rattle.std.proofs.Common.{◌≡◌, true, ap, sym, ◌∙◌, ℕ, zero, suc, ◌<◌, Some, List, [], ◌∷◌, length, map, get_or, slice_get, arith}
 use Rattle.cc_names.specs.Formed.{Plain, IsDeedFormed}
 use Rattle.cc_names.specs.declared.rows.Deed.{Deed}
 use Rattle.cc_names.specs.declared.rows.Deed.TheVariants as deeds
 use Rattle.cc_names.specs.declared.units.Unit.{Unit}
-use Rattle.legal_history.specs.Base.{Base}
-use Rattle.legal_history.specs.Builds.{Build}
-use Rattle.legal_history.specs.Choices.{as_entry, in_order, entries, here, publish_by, publish_of, visible}
-use Rattle.legal_history.specs.Fresh.{script_text}
+use Rattle.legal_history.specs.Base.Rows.{Base}
+use Rattle.legal_history.specs.Builds.Active.{Build}
+use Rattle.legal_history.specs.Builds.Choices.{as_entry, in_order, entries, here, publish_by, publish_of, visible}
+use Rattle.legal_history.specs.Base.Fits.{is_base}
+use Rattle.legal_history.specs.Builds.Fresh.{script_text}
 use Rattle.build_core.proofs.RunsFormed.{published_is_formed}
 use Rattle.build_core.specs.Publishing.{CanPublish, HasRun, IsPublishOf}
 
@@ -30,10 +31,10 @@ published b build n unit outputs reads found ran is =
     ∙ ap (λ pairs. Some (deed_of_run build unit pairs outputs)) (sym is)
 
 -- So it is formed.
-pub published_formed : (b : Base) (build : Build) (n : ℕ) (unit : Unit) (outputs reads : List (List ℕ)) (found : List (List ℕ × ℕ)) → CanPublish b build unit → HasRun b build n unit outputs reads →
+pub published_formed : (b : Base) (build : Build) (n : ℕ) (unit : Unit) (outputs reads : List (List ℕ)) (found : List (List ℕ × ℕ)) → is_base b ≡ true → CanPublish b build unit → HasRun b build n unit outputs reads →
     found ≡ in_order (visible b build n unit) reads → IsDeedFormed (deed_of_run build unit found outputs)
-published_formed b build n unit outputs reads found can ran is =
-    published_is_formed b build n unit (deed_of_run build unit found outputs) can (published b build n unit outputs reads found ran is)
+published_formed b build n unit outputs reads found base can ran is =
+    published_is_formed b build n unit (deed_of_run build unit found outputs) base can (published b build n unit outputs reads found ran is)
 
 -- So a row with that deed is the one that the unit publishes.
 pub row_published : (b : Base) (build : Build) (n : ℕ) (unit : Unit) (moment : ℕ) (outputs reads : List (List ℕ)) (found : List (List ℕ × ℕ)) (row : Plain) → HasRun b build n unit outputs reads →

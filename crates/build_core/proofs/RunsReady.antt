@@ -6,11 +6,11 @@ use Rattle.cc_names.specs.Names.{IsName}
 use Rattle.cc_names.specs.declared.units.Unit.{Unit}
 use Rattle.cc_names.specs.declared.units.UnitScript.{UnitScript}
 use Rattle.cc_names.specs.declared.units.UnitScript.TheVariants.{Bare, TooLong, Lines}
-use Rattle.legal_history.specs.Base.{Base, size}
-use Rattle.legal_history.specs.Builds.{Build, unit_at}
-use Rattle.legal_history.specs.Fits.{row_limit, deed_fits, is_base}
-use Rattle.legal_history.specs.Fresh.{script_text}
-use Rattle.legal_history.specs.Consistency.{IsConsistent}
+use Rattle.legal_history.specs.Base.Rows.{Base, size}
+use Rattle.legal_history.specs.Builds.Active.{Build, unit_at}
+use Rattle.legal_history.specs.Base.Fits.{row_limit, deed_fits, is_base}
+use Rattle.legal_history.specs.Builds.Fresh.{script_text}
+use Rattle.legal_history.specs.Builds.Consistency.{IsConsistent}
 use Rattle.legal_history.proofs.Bases.Owned.{and_first}
 use Rattle.build_core.proofs.RunsEach.{each_at}
 use Rattle.build_core.proofs.RunsSeen.{makes_no_root}
@@ -39,12 +39,10 @@ short_text TooLong h = omega arith
 short_text (Lines text) h = h
 
 -- Its units may publish.
-pub can_publish : (b : Base) (build : Build) (n : ℕ) (unit : Unit) → IsName build.view → AllByRecursion IsUnitFormed build.units → is_base b ≡ true → IsConsistent b build → unit_at build n ≡ Some unit → CanPublish b build unit
-can_publish b build n unit view units base h is = record {
+pub can_publish : (b : Base) (build : Build) (n : ℕ) (unit : Unit) → IsName build.view → AllByRecursion IsUnitFormed build.units → IsConsistent b build → unit_at build n ≡ Some unit → CanPublish b build unit
+can_publish b build n unit view units h is = record {
   view = view;
   targets = (each_at IsUnitFormed build.units n unit units is).0;
   script = short_text unit.script (each_at IsUnitFormed build.units n unit units is).1;
-  room = base_has_room b base;
-  base = h.base;
   objects = consistent_objects b build units h;
 }

@@ -2,8 +2,8 @@
 use Rattle.std.proofs.Common.{◌≡◌, ℕ, Bool, true, false, ◌&&◌, Option, Some, None, List, [], ◌∷◌, refl, ap, ◌∙◌}
 use Rattle.std.specs.List.{list_all}
 use Rattle.std.specs.Option.{option_or}
-use Rattle.legal_history.specs.Builds.{Build, came_to, is_outcome, unit_with}
-use Rattle.legal_history.specs.Turns.{is_over}
+use Rattle.legal_history.specs.Builds.Active.{Build, came_to, is_outcome, unit_with}
+use Rattle.legal_history.specs.Builds.Turns.{is_over}
 use Rattle.build_core.specs.UnitSteps.{unless_over, awaited, first_awaited}
 
 both_none : {A : Type 0} (one two : Option A) → option_or one two ≡ None → (one ≡ None) × (two ≡ None)

@@ -7,7 +7,7 @@ use Rattle.cc_names.specs.Names.{IsName}
 use Rattle.cc_names.specs.declared.units.Unit.{Unit}
 use Rattle.cc_names.specs.declared.units.UnitScript.{UnitScript}
 use Rattle.cc_names.specs.declared.units.UnitScript.TheVariants as scripts
-use Rattle.legal_history.specs.Builds.{Build}
+use Rattle.legal_history.specs.Builds.Active.{Build}
 
 -- the most bytes of the script of a unit
 abbrev pub script_limit : ℕ

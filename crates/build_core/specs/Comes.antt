@@ -1,6 +1,6 @@
 -- What the units of an active build have come to, as the program keeps it and as the model sees it.
 use Rattle.std.specs.Prelude.{ℕ, Option, option_map, List, map}
-use Rattle.legal_history.specs.Builds as model
+use Rattle.legal_history.specs.Builds.Active as model
 use Rattle.build_core.specs.Slots.{numbered}
 use Rattle.build_core.specs.declared.active.Came.{Came}
 use Rattle.build_core.specs.declared.active.Came.TheVariants.{Started, Ended, Given}

@@ -8,11 +8,11 @@ use Rattle.cc_names.specs.declared.memory.Or.{Or}
 use Rattle.cc_names.specs.declared.refusals.Refusal.{Refusal}
 use Rattle.cc_names.specs.declared.rows.Tag.{Tag}
 use Rattle.cc_names.specs.declared.units.Unit.{Unit}
-use Rattle.legal_history.specs.Base.{Base, size}
-use Rattle.legal_history.specs.Builds.{Build, building, reserved}
-use Rattle.legal_history.specs.Decisions.{Scene, Decision, Begins}
-use Rattle.legal_history.specs.Lines.{decision}
-use Rattle.legal_history.specs.Steps.{new_build}
+use Rattle.legal_history.specs.Base.Rows.{Base, size}
+use Rattle.legal_history.specs.Builds.Active.{Build, building, reserved}
+use Rattle.legal_history.specs.Commands.Decisions.{Scene, Decision, Begins}
+use Rattle.legal_history.specs.Commands.Lines.{decision}
+use Rattle.legal_history.specs.Stories.Steps.{new_build}
 use Rattle.build_core.specs.BuildForms.{IsUnitFormed}
 
 -- whether a command is one that builds

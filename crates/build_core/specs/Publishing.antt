@@ -1,29 +1,26 @@
 -- When the run of a unit may be published, and the row that it makes.
-use Rattle.std.specs.Prelude.{◌≡◌, ℕ, ◌<◌, ◌≤◌, true, false, Some, Ok, List, length}
+use Rattle.std.specs.Prelude.{◌≡◌, ℕ, ◌<◌, ◌≤◌, false, Some, Ok, List, length}
 use Rattle.cc_names.specs.Formed.{Plain, AreTargets}
 use Rattle.cc_names.specs.Names.{IsName}
 use Rattle.cc_names.specs.Paths.{root}
 use Rattle.cc_names.specs.declared.units.Unit.{Unit}
-use Rattle.legal_history.specs.Base.{Base, size, first_rows}
-use Rattle.legal_history.specs.Builds.{Build, came_to, object_of, unit_at}
-use Rattle.legal_history.specs.Choices.{here, publish_of}
-use Rattle.legal_history.specs.Fits.{row_limit, is_base}
-use Rattle.legal_history.specs.Fresh.{script_text}
-use Rattle.legal_history.specs.Serials.{makes}
+use Rattle.legal_history.specs.Base.Rows.{Base, size}
+use Rattle.legal_history.specs.Builds.Active.{Build, came_to, object_of, unit_at}
+use Rattle.legal_history.specs.Builds.Choices.{here, publish_of}
+use Rattle.legal_history.specs.Builds.Fresh.{script_text}
+use Rattle.legal_history.specs.Builds.Serials.{makes}
 
 -- A build whose units have no target at the root, and objects of the base alone.
 pub record HasObjects (b : Base) (build : Build) : Type 0 where
   pub rootless : (m : ℕ) (unit : Unit) → unit_at build m ≡ Some unit → makes root unit ≡ false
   pub below : (m : ℕ) (unit : Unit) (id : ℕ) → unit_at build m ≡ Some unit → object_of (came_to build m) ≡ Some id → id < size b
 
--- What a unit's run needs to publish a formed row: a view with a name, formed targets, a script within the limit, no more
--- rows than a base may have, reference rows that are a base, and objects of the base alone.
+-- What a unit's run needs to publish a formed row: a view with a name, formed targets, a script within the limit, and objects of
+-- the base alone.
 pub record CanPublish (b : Base) (build : Build) (unit : Unit) : Type 0 where
   pub view : IsName build.view
   pub targets : AreTargets unit.targets
   pub script : length (script_text unit.script) ≤ 65536
-  pub room : size b ≤ row_limit
-  pub base : is_base (first_rows build.rows b) ≡ true
   pub objects : HasObjects b build
 
 -- The run of unit n on what it sees gave these outputs and asked for these paths.

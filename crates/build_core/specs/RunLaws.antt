@@ -6,9 +6,9 @@ use Rattle.build_script.specs.Ended.{outputs_in, ran_of}
 use Rattle.build_script.specs.Run.{Ran}
 use Rattle.build_script.specs.declared.outcomes.Ended.{Ended}
 use Rattle.build_script.specs.declared.outcomes.Outcome.{Outcome}
-use Rattle.legal_history.specs.Base.{Base}
-use Rattle.legal_history.specs.Builds.{Build}
-use Rattle.legal_history.specs.Choices.{here}
+use Rattle.legal_history.specs.Base.Rows.{Base}
+use Rattle.legal_history.specs.Builds.Active.{Build}
+use Rattle.legal_history.specs.Builds.Choices.{here}
 use Rattle.build_core.specs.Publishing.{HasRun}
 
 -- a run without a fault gave its outputs and its reads

@@ -2,10 +2,10 @@
 use Rattle.std.specs.Prelude.{◌≡◌, ℕ, Option, Some, None, option_map, option_and_then, List, refl}
 use Rattle.cc_names.specs.declared.units.Unit.{Unit}
 use Rattle.build_script.specs.Standings.{Standing, text_of, texts}
-use Rattle.legal_history.specs.Base.{Base}
-use Rattle.legal_history.specs.Builds.{Build}
-use Rattle.legal_history.specs.Choices.{visible, text_of_row}
-use Rattle.legal_history.specs.Texts.{text}
+use Rattle.legal_history.specs.Base.Rows.{Base}
+use Rattle.legal_history.specs.Builds.Active.{Build}
+use Rattle.legal_history.specs.Builds.Choices.{visible, text_of_row}
+use Rattle.legal_history.specs.Base.Texts.{text}
 use Rattle.build_core.specs.Sights.{standing_of, stands}
 
 with_row : (row : ℕ) (found : Option (List ℕ)) → option_map text_of (option_map (λ bytes. let standing : Standing = record { row = row; text = bytes } in standing) found) ≡ found

@@ -4,10 +4,11 @@ use Rattle.cc_names.specs.declared.units.Unit as units
 use Rattle.build_script.specs.Standings.{Standing}
 use Rattle.build_script.specs.declared.files.Got.{Got}
 use Rattle.build_script.specs.declared.files.Got.TheVariants as gots
-use Rattle.legal_history.specs.Base.{Base}
-use Rattle.legal_history.specs.Builds.{Build}
-use Rattle.legal_history.specs.Choices.{visible}
-use Rattle.legal_history.specs.Texts.{text}
+use Rattle.legal_history.specs.Base.Rows.{Base}
+use Rattle.legal_history.specs.Builds.Active.{Build}
+use Rattle.legal_history.specs.Builds.Choices.{members_before, object_among, unit_of_member, visible}
+use Rattle.legal_history.specs.Builds.Serials.{needed}
+use Rattle.legal_history.specs.Base.Texts.{text}
 
 -- a row with its text, where it has one at the path
 abbrev pub standing_of : Base → List ℕ → ℕ → Option Standing
@@ -23,3 +24,7 @@ IsFetched (gots.Found row text) standing = standing ≡ Some (record { row = row
 IsFetched gots.Absent standing = standing ≡ None
 IsFetched gots.Broken standing = ⊥
 IsFetched gots.NoMemory standing = Unit {0}
+
+-- the object at a path of the units below a number that make one of these paths, and of those that these need in turn
+abbrev pub object_before : Build → List (List ℕ) → ℕ → List ℕ → Option ℕ
+object_before build paths n path = object_among path (needed unit_of_member paths (members_before build n))

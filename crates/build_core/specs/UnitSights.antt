@@ -1,8 +1,8 @@
 -- What stands at the paths that the script of a unit may read.
 use Rattle.std.specs.Prelude.{ℕ, Option, option_and_then, List}
 use Rattle.build_script.specs.Standings.{Standing}
-use Rattle.legal_history.specs.Base.{Base}
-use Rattle.legal_history.specs.Builds.{Build, unit_at}
+use Rattle.legal_history.specs.Base.Rows.{Base}
+use Rattle.legal_history.specs.Builds.Active.{Build, unit_at}
 use Rattle.build_core.specs.Sights.{stands}
 
 -- what unit n of a build finds at a path: the row that it sees there, where that has a text

@@ -6,10 +6,10 @@ use Rattle.cc_names.specs.declared.steps.UnitEnd.{UnitEnd}
 use Rattle.cc_names.specs.declared.units.Unit.{Unit}
 use Rattle.build_script.specs.Lines.{script_of}
 use Rattle.build_script.specs.declared.lines.Line.{Line}
-use Rattle.legal_history.specs.Base.{Base, first_rows}
-use Rattle.legal_history.specs.Builds.{Build, came_to, is_outcome, unit_at, unit_with}
-use Rattle.legal_history.specs.Fresh.{script_text}
-use Rattle.legal_history.specs.Turns.{early_in, is_ready}
+use Rattle.legal_history.specs.Base.Rows.{Base, first_rows}
+use Rattle.legal_history.specs.Builds.Active.{Build, came_to, is_outcome, unit_at, unit_with}
+use Rattle.legal_history.specs.Builds.Fresh.{script_text}
+use Rattle.legal_history.specs.Builds.Turns.{early_in, is_ready}
 use Rattle.build_core.specs.declared.steps.UnitStep.{UnitStep}
 use Rattle.build_core.specs.declared.steps.UnitStep.TheVariants as next
 

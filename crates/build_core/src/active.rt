@@ -1,8 +1,8 @@
 // The active builds: which units a build has, and what they have come to.
 
 ghost use Rattle.std.specs.Prelude.{◌≡◌, ◌<◌, [], true, false, Some, length, option_copied, option_map, IfOk};
-ghost use Rattle.legal_history.specs.Builds.{came_to, is_outcome, object_of};
-ghost use Rattle.legal_history.specs.Steps.{with_came};
+ghost use Rattle.legal_history.specs.Builds.Active.{came_to, is_outcome, object_of};
+ghost use Rattle.legal_history.specs.Stories.Steps.{with_came};
 ghost use Rattle.build_core.specs.Comes.{came_of, comes_of};
 
 use cc_names::memory::NoMemory;
@@ -14,7 +14,7 @@ use std::alloc::Global;
 use std::marker::Model;
 
 /// What a unit has come to.
-#[derive(Debug, Drop)]
+#[derive(Drop)]
 pub enum Came {
     /// Its script was started.
     Started,
@@ -25,7 +25,7 @@ pub enum Came {
 }
 
 /// An active build. Contracts see it as the model's record of a build.
-#[derive(Debug, Drop)]
+#[derive(Drop)]
 pub struct ActiveBuild {
     tag: Tag,
     view: Name,
@@ -39,7 +39,7 @@ pub struct ActiveBuild {
 
 impl Model for ActiveBuild {
     ghost use Rattle.std.specs.Prelude.{◌≡◌, length};
-    ghost use Rattle.legal_history.specs.Builds.{Build};
+    ghost use Rattle.legal_history.specs.Builds.Active.{Build};
 
     ghost Value = { Build };
 

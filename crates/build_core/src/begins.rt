@@ -1,17 +1,16 @@
 // The decision on a clearmake: the build that begins, or its first refusal.
 
-ghost use Rattle.std.specs.Prelude.{◌≡◌, ℕ, ◌+◌, ◌∷◌, [], ◌<◌, ◌≤◌, ◌^◌, length, reverse, true, option_copied, IsSome, IfOk, IfNone};
+ghost use Rattle.std.specs.Prelude.{◌≡◌, ℕ, ◌+◌, ◌∷◌, [], ◌<◌, ◌≤◌, ◌^◌, length, true, option_copied, IsSome, IfOk, IfNone};
 ghost use Rattle.cc_names.specs.Answers.{Gives};
 ghost use Rattle.session_text.specs.Formed.{IsCommand};
-ghost use Rattle.legal_history.specs.Base.{size};
-ghost use Rattle.legal_history.specs.Builds.{building, reserved};
-ghost use Rattle.legal_history.specs.Decisions.{Scene, first_refusal, needs_room};
-ghost use Rattle.legal_history.specs.Fresh.{texts};
-ghost use Rattle.legal_history.specs.ObjectLines.{clearmake, clearmake_tests};
-ghost use Rattle.legal_history.specs.Views.{view_row};
+ghost use Rattle.legal_history.specs.Base.Rows.{size};
+ghost use Rattle.legal_history.specs.Builds.Active.{building, reserved};
+ghost use Rattle.legal_history.specs.Commands.Decisions.{Scene, first_refusal, needs_room};
+ghost use Rattle.legal_history.specs.Builds.Fresh.{texts};
+ghost use Rattle.legal_history.specs.Commands.ObjectLines.{clearmake, clearmake_tests};
+ghost use Rattle.legal_history.specs.Base.Views.{view_row};
 ghost use Rattle.make_text.specs.Reading.{result_items};
 ghost use Rattle.make_text.specs.Units.{units};
-ghost use Rattle.view_lookup.specs.Unversioned.{is_unversioned};
 ghost use Rattle.build_core.specs.BuildForms.{IsBuildFormed};
 ghost use Rattle.build_core.specs.Plans.{is_clearmake, view_of, Meets, AreUnits, Begun, Plans};
 
@@ -33,15 +32,13 @@ use view_lookup::{FirstRows, ROW_LIMIT, text_at, view_row};
 struct ViewTexts<'a> {
     rows: &'a FirstRows<'a>,
     owner: &'a Name,
-    ghost unversioned: { is_unversioned (reverse rows.now) ≡ true },
-    ghost there: { IsSome (view_row (reverse rows.now) owner.now) },
+    ghost there: { IsSome (view_row rows.now owner.now) },
 }
 
 impl Texts for ViewTexts<'_> {
-    ghost use Rattle.std.specs.Prelude.{reverse};
-    ghost use Rattle.legal_history.specs.Fresh.{texts};
+    ghost use Rattle.legal_history.specs.Builds.Fresh.{texts};
 
-    ghost texts = { λ files path. texts (reverse files.rows.now) files.owner.now path };
+    ghost texts = { λ files path. texts files.rows.now files.owner.now path };
 
     fn text(&self, path: &Path) -> Option<&[u8]> {
         text_at(self.rows, self.owner, path)
@@ -57,10 +54,9 @@ fn units_in(
     macros: &[Macro],
     goals: &[Path],
 ) -> Result<Vec<Unit>, Or<Refusal>>
-    requires unversioned { is_unversioned (reverse rows.now) ≡ true }
-    requires view { IsSome (view_row (reverse rows.now) view.now) }
+    requires view { IsSome (view_row rows.now view.now) }
     requires goals { length goals.now < 2 ^ 31 }
-    ensures { Gives (result_items result) (units (texts (reverse rows.now) view.now) (option_copied file.entry) macros.now goals.now) }
+    ensures { Gives (result_items result) (units (texts rows.now view.now) (option_copied file.entry) macros.now goals.now) }
 {
     let files = ViewTexts { rows, owner: view };
     plan(alloc, &files, file, macros, goals)
@@ -68,9 +64,9 @@ fn units_in(
 
 /// The refusal of a build before its units are planned: there is no such view, or a build of it is active.
 fn refusal_of_view(rows: &FirstRows<'_>, view: &Name, busy: Option<Tag>) -> Option<Refusal>
-    ensures refusal { (scene : Scene) → scene.base ≡ reverse rows.now → building scene.active view.now ≡ busy
+    ensures refusal { (scene : Scene) → scene.base ≡ rows.now → building scene.active view.now ≡ busy
         → result ≡ first_refusal (clearmake_tests scene view.now) }
-    ensures view { IfNone result (IsSome (view_row (reverse rows.now) view.now)) }
+    ensures view { IfNone result (IsSome (view_row rows.now view.now)) }
 {
     if view_row(rows, view).is_none() {
         return Some(Refusal::NoView);
@@ -106,13 +102,12 @@ fn begun(
     busy: Option<Tag>,
     taken: u64,
 ) -> Result<Vec<Unit>, Or<Refusal>>
-    requires unversioned { is_unversioned (reverse rows.now) ≡ true }
     requires goals { length goals.now < 2 ^ 31 }
     requires taken { taken < 2 ^ 63 }
-    ensures decided { (scene : Scene) → Meets scene (reverse rows.now) view.now busy taken
+    ensures decided { (scene : Scene) → Meets scene rows.now view.now busy taken
         → Begun (result_items result) (clearmake scene view.now (option_copied file.entry) macros.now goals.now) }
     ensures formed { IfOk result (λ units. AreUnits units.items) }
-    ensures view { IfOk result (λ units. IsSome (view_row (reverse rows.now) view.now)) }
+    ensures view { IfOk result (λ units. IsSome (view_row rows.now view.now)) }
     ensures room { IfOk result (λ units. taken + length units.items ≤ 4000000) }
 {
     if let Some(refusal) = refusal_of_view(rows, view, busy) {
@@ -139,14 +134,12 @@ pub fn plan_build(
     busy: Option<Tag>,
     taken: u64,
 ) -> Result<ActiveBuild, Or<Refusal>>
-    requires rows { length rows.now < 2 ^ 63 }
-    requires unversioned { is_unversioned (reverse rows.now) ≡ true }
     requires builds { is_clearmake command.now ≡ true }
     requires formed { IsCommand 16777216 command.now }
     requires taken { taken < 2 ^ 63 }
-    ensures planned { (scene : Scene) → Meets scene (reverse rows.now) (view_of command.now) busy taken
+    ensures planned { (scene : Scene) → Meets scene rows.now (view_of command.now) busy taken
         → Plans tag scene command.now result }
-    ensures view { IfOk result (λ build. IsSome (view_row (reverse rows.now) build.view)) }
+    ensures view { IfOk result (λ build. IsSome (view_row rows.now build.view)) }
     ensures formed { IfOk result (λ build. IsBuildFormed build) }
     ensures room { IfOk result (λ build. taken + length build.units ≤ 4000000) }
 {
@@ -170,7 +163,7 @@ pub fn plan_build(
                 busy,
                 taken,
             )?;
-            let size = rows.len() as u64 + 1;
+            let size = rows.size();
             let view = view.copy(alloc)?;
             let build = ActiveBuild::begin(alloc, tag, size, view, *own_only, *rebuild, units)?;
             Ok(build)

@@ -1,15 +1,13 @@
 // What a unit of a build comes to without a run.
 
-ghost use Rattle.std.specs.Prelude.{◌≡◌, ◌<◌, ◌^◌, Bool, true, length, reverse, find, option_copied, IfOk, IfSome, IsSome};
-ghost use Rattle.cc_names.specs.Paths.{is_root};
-ghost use Rattle.legal_history.specs.Builds.{number_from};
-ghost use Rattle.legal_history.specs.Closures.{is_among};
-ghost use Rattle.legal_history.specs.FileLines.{parent};
-ghost use Rattle.legal_history.specs.Fresh.{sees_file};
-ghost use Rattle.legal_history.specs.Serials.{is_missing, is_bad, standing_or_file, first_target, no_directory, no_script, outside};
-ghost use Rattle.legal_history.specs.Turns.{standing_of_unit, early_in};
-ghost use Rattle.legal_history.specs.Views.{view_row};
-ghost use Rattle.view_lookup.specs.Unversioned.{is_unversioned};
+ghost use Rattle.std.specs.Prelude.{◌≡◌, ◌<◌, ◌^◌, Bool, true, length, find, option_copied, IfOk, IfSome, IsSome};
+ghost use Rattle.legal_history.specs.Builds.Active.{number_from};
+ghost use Rattle.legal_history.specs.Base.Closures.{is_among};
+ghost use Rattle.legal_history.specs.Commands.FileLines.{parent};
+ghost use Rattle.legal_history.specs.Builds.Fresh.{sees_directory, sees_file};
+ghost use Rattle.legal_history.specs.Builds.Serials.{is_missing, is_bad, standing_or_file, first_target, no_directory, no_script, outside};
+ghost use Rattle.legal_history.specs.Builds.Turns.{standing_of_unit, early_in};
+ghost use Rattle.legal_history.specs.Base.Views.{view_row};
 
 use crate::active::{ActiveBuild, Came};
 use cc_names::memory::NoMemory;
@@ -18,7 +16,7 @@ use cc_names::refusals::UnitFault;
 use cc_names::steps::UnitEnd;
 use cc_names::units::{Unit, UnitScript};
 use std::alloc::Global;
-use view_lookup::{FirstRows, file_at};
+use view_lookup::{FirstRows, file_at, is_directory};
 
 /// Whether a unit makes the path.
 pub(crate) fn makes(unit: &Unit, path: &Path) -> bool
@@ -42,9 +40,8 @@ pub(crate) fn number_of(units: &[Unit], path: &Path) -> Option<usize>
 
 /// Whether a path is neither a unit's nor a file.
 fn is_missing(rows: &FirstRows<'_>, build: &ActiveBuild, path: &Path) -> bool
-    requires unversioned { is_unversioned (reverse rows.now) ≡ true }
-    requires view { IsSome (view_row (reverse rows.now) build.now.view) }
-    ensures { result ≡ is_missing (standing_or_file (sees_file (reverse rows.now) build.now.view path.now) (standing_of_unit build.now path.now)) }
+    requires view { IsSome (view_row rows.now build.now.view) }
+    ensures { result ≡ is_missing (standing_or_file (sees_file rows.now build.now.view path.now) (standing_of_unit build.now path.now)) }
 {
     number_of(build.units(), path).is_none() && file_at(rows, build.view(), path).is_none()
 }
@@ -67,9 +64,8 @@ fn first_missing<'a>(
     build: &ActiveBuild,
     paths: &'a [Path],
 ) -> Option<&'a Path>
-    requires unversioned { is_unversioned (reverse rows.now) ≡ true }
-    requires view { IsSome (view_row (reverse rows.now) build.now.view) }
-    ensures { option_copied result ≡ find (λ path. is_missing (standing_or_file (sees_file (reverse rows.now) build.now.view path) (standing_of_unit build.now path))) paths.now }
+    requires view { IsSome (view_row rows.now build.now.view) }
+    ensures { option_copied result ≡ find (λ path. is_missing (standing_or_file (sees_file rows.now build.now.view path) (standing_of_unit build.now path))) paths.now }
 {
     for path in paths {
         if is_missing(rows, build, path) {
@@ -80,7 +76,7 @@ fn first_missing<'a>(
 }
 
 fn first_bad<'a>(rows: &FirstRows<'_>, build: &ActiveBuild, paths: &'a [Path]) -> Option<&'a Path>
-    ensures { option_copied result ≡ find (λ path. is_bad (standing_or_file (sees_file (reverse rows.now) build.now.view path) (standing_of_unit build.now path))) paths.now }
+    ensures { option_copied result ≡ find (λ path. is_bad (standing_or_file (sees_file rows.now build.now.view path) (standing_of_unit build.now path))) paths.now }
 {
     for path in paths {
         if is_bad(build, path) {
@@ -100,26 +96,38 @@ fn parent(alloc: Global, path: &Path) -> Result<Path, NoMemory>
     }
 }
 
-/// The first parent of a path that is no directory: in a base without elements the root is the only one.
-fn outside(alloc: Global, paths: &[Path]) -> Result<Option<Path>, NoMemory>
-    ensures { IfOk result (λ found. found ≡ outside is_root paths.now) }
+/// The first parent of a path that is no directory.
+fn outside(
+    alloc: Global,
+    rows: &FirstRows<'_>,
+    build: &ActiveBuild,
+    paths: &[Path],
+) -> Result<Option<Path>, NoMemory>
+    requires { IsSome (view_row rows.now build.now.view) }
+    ensures { IfOk result (λ found. found ≡ outside (sees_directory rows.now build.now.view) paths.now) }
 {
     for path in paths {
         let directory = parent(alloc, path)?;
-        if !directory.is_root() {
+        if !is_directory(rows, build.view(), &directory) {
             return Ok(Some(directory));
         }
     }
     Ok(None)
 }
 
-fn no_directory(alloc: Global, unit: &Unit) -> Result<Option<UnitEnd>, NoMemory>
-    ensures { IfOk result (λ end. end ≡ no_directory is_root unit.now.targets unit.now.script) }
+fn no_directory(
+    alloc: Global,
+    rows: &FirstRows<'_>,
+    build: &ActiveBuild,
+    unit: &Unit,
+) -> Result<Option<UnitEnd>, NoMemory>
+    requires { IsSome (view_row rows.now build.now.view) }
+    ensures { IfOk result (λ end. end ≡ no_directory (sees_directory rows.now build.now.view) unit.now.targets unit.now.script) }
 {
     if let UnitScript::Bare = unit.script {
         return Ok(None);
     }
-    match outside(alloc, unit.targets.as_slice())? {
+    match outside(alloc, rows, build, unit.targets.as_slice())? {
         Some(path) => Ok(Some(UnitEnd::Failed(UnitFault::NoDirectory(path)))),
         None => Ok(None),
     }
@@ -154,11 +162,10 @@ pub(crate) fn early(
     build: &ActiveBuild,
     unit: &Unit,
 ) -> Result<Option<UnitEnd>, NoMemory>
-    requires unversioned { is_unversioned (reverse rows.now) ≡ true }
-    requires view { IsSome (view_row (reverse rows.now) build.now.view) }
-    ensures { IfOk result (λ end. end ≡ early_in (reverse rows.now) build.now unit.now) }
+    requires view { IsSome (view_row rows.now build.now.view) }
+    ensures { IfOk result (λ end. end ≡ early_in rows.now build.now unit.now) }
 {
-    if let Some(end) = no_directory(alloc, unit)? {
+    if let Some(end) = no_directory(alloc, rows, build, unit)? {
         return Ok(Some(end));
     }
     if let Some(path) = first_missing(rows, build, unit.prerequisites.as_slice()) {

@@ -1,21 +1,20 @@
 // The laws of builds, each the contract of a function with an empty body.
 
-ghost use Rattle.std.specs.Prelude.{◌≡◌, ℕ, List, Option, Some, Ok, true};
+ghost use Rattle.std.specs.Prelude.{◌≡◌, ℕ, List, Option, Some, Ok};
 ghost use Rattle.std.specs.List.{AllByRecursion};
 ghost use Rattle.cc_names.specs.Names.{IsName};
 ghost use Rattle.cc_names.specs.declared.commands.Macro.{Macro};
 ghost use Rattle.cc_names.specs.declared.units.Unit.{Unit};
-ghost use Rattle.legal_history.specs.Base.{Base};
-ghost use Rattle.legal_history.specs.Builds.{Build, unit_at};
-ghost use Rattle.legal_history.specs.Fits.{is_base};
-ghost use Rattle.legal_history.specs.Consistency.{IsConsistent};
+ghost use Rattle.legal_history.specs.Base.Rows.{Base};
+ghost use Rattle.legal_history.specs.Builds.Active.{Build, unit_at};
+ghost use Rattle.legal_history.specs.Builds.Consistency.{IsConsistent};
 ghost use Rattle.make_text.specs.Units.{Files, units};
 ghost use Rattle.build_core.specs.BuildForms.{IsUnitFormed};
 ghost use Rattle.build_core.specs.Publishing.{CanPublish};
 
 /// Each unit of a consistent build of formed units may publish.
 pub fn a_unit_may_publish()
-    ensures { (b : Base) (build : Build) (n : ℕ) (unit : Unit) → IsName build.view → AllByRecursion IsUnitFormed build.units → is_base b ≡ true → IsConsistent b build → unit_at build n ≡ Some unit → CanPublish b build unit }
+    ensures { (b : Base) (build : Build) (n : ℕ) (unit : Unit) → IsName build.view → AllByRecursion IsUnitFormed build.units → IsConsistent b build → unit_at build n ≡ Some unit → CanPublish b build unit }
 {}
 
 /// The units of a build are formed, over any files, makefile, macros and goals.

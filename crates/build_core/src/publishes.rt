@@ -1,12 +1,12 @@
 // The row that the run of a unit's script publishes.
 
-ghost use Rattle.std.specs.Prelude.{◌≡◌, ◌<◌, ◌≤◌, ◌^◌, true, Some, length, map, reverse, IfOk, IsSome};
+ghost use Rattle.std.specs.Prelude.{◌≡◌, ◌<◌, ◌≤◌, ◌^◌, true, Some, length, map, IfOk, IsSome};
+ghost use Rattle.carried_out.specs.CarriedOut.{is_made};
 ghost use Rattle.cc_names.specs.declared.units.Unit as units;
-ghost use Rattle.legal_history.specs.Base.{first_rows};
-ghost use Rattle.legal_history.specs.Builds.{unit_at};
-ghost use Rattle.legal_history.specs.Choices.{as_entry, in_order, visible};
-ghost use Rattle.legal_history.specs.Views.{view_row};
-ghost use Rattle.view_lookup.specs.Unversioned.{is_unversioned};
+ghost use Rattle.legal_history.specs.Base.Rows.{first_rows};
+ghost use Rattle.legal_history.specs.Builds.Active.{unit_at};
+ghost use Rattle.legal_history.specs.Builds.Choices.{as_entry, in_order, visible};
+ghost use Rattle.legal_history.specs.Base.Views.{view_row};
 ghost use Rattle.build_core.specs.Publishing.{CanPublish, HasRun, IsPublishOf};
 
 use crate::active::ActiveBuild;
@@ -30,10 +30,9 @@ fn rows_read(
     unit: u32,
     reads: &[Path],
 ) -> Result<BTreeMap<Path, u64>, NoMemory>
-    requires unversioned { is_unversioned (reverse rows.now) ≡ true }
     requires unit { unit < length build.now.units }
-    requires view { IsSome (view_row (first_rows build.now.rows (reverse rows.now)) build.now.view) }
-    ensures { (it : units.Unit) → unit_at build.now unit ≡ Some it → IfOk result (λ found. found.entries ≡ in_order (visible (reverse rows.now) build.now unit it) reads.now) }
+    requires view { IsSome (view_row (first_rows build.now.rows rows.now) build.now.view) }
+    ensures { (it : units.Unit) → unit_at build.now unit ≡ Some it → IfOk result (λ found. found.entries ≡ in_order (visible rows.now build.now unit it) reads.now) }
 {
     let mut found = BTreeMap::new(alloc);
     // From the last read to the first, as the record of reads is defined.
@@ -56,7 +55,7 @@ fn entries_of(alloc: Global, found: BTreeMap<Path, u64>) -> Result<List<ReadOf>,
     Ok(List::of(entries))
 }
 
-/// The row that a unit of an active build publishes at this moment, in a base without elements: its run gave these
+/// The row that a unit of an active build publishes at this moment: its run gave these
 /// outputs, and asked for these paths. Fails only where memory runs out.
 ///
 /// Takes for each read a walk over the units and a look-up by the path, and time linear in what it copies.
@@ -69,14 +68,15 @@ pub fn publish_row(
     outputs: List<Text>,
     reads: &[Path],
 ) -> Result<Row, NoMemory>
-    requires unversioned { is_unversioned (reverse rows.now) ≡ true }
     requires unit { unit < length build.now.units }
-    requires view { IsSome (view_row (first_rows build.now.rows (reverse rows.now)) build.now.view) }
+    requires view { IsSome (view_row (first_rows build.now.rows rows.now) build.now.view) }
     requires moment { moment ≤ 253402300799 }
-    requires formed { (it : units.Unit) → unit_at build.now unit ≡ Some it → CanPublish (reverse rows.now) build.now it }
-    requires ran { (it : units.Unit) → unit_at build.now unit ≡ Some it → HasRun (reverse rows.now) build.now unit it outputs reads.now }
-    ensures { (it : units.Unit) → unit_at build.now unit ≡ Some it → IfOk result (λ row. IsPublishOf (reverse rows.now) build.now unit it moment row) }
+    requires formed { (it : units.Unit) → unit_at build.now unit ≡ Some it → CanPublish rows.now build.now it }
+    requires ran { (it : units.Unit) → unit_at build.now unit ≡ Some it → HasRun rows.now build.now unit it outputs reads.now }
+    ensures row { (it : units.Unit) → unit_at build.now unit ≡ Some it → IfOk result (λ row. IsPublishOf rows.now build.now unit it moment row) }
+    ensures made { IfOk result (λ row. is_made row.deed ≡ true) }
 {
+    rows.size();
     let found = rows_read(alloc, rows, build, unit, reads)?;
     let entries = entries_of(alloc, found)?;
     let unit = &build.units()[unit as usize];

@@ -1,10 +1,9 @@
 // The reply of a build that has ended: its units with objects at each of their targets, the others at their first.
 
-ghost use Rattle.std.specs.Prelude.{◌≡◌, ◌++◌, ◌<◌, ◌^◌, [], true, Some, length, reverse, option_copied, IfOk, OnOk};
-ghost use Rattle.legal_history.specs.Replied.{digest_at, is_of_tag, is_own, word_of_object, word_of_end, word_of_came, told_targets, line_before, lines_of, lines_from, reply_of};
-ghost use Rattle.legal_history.specs.Builds.{came_to, Given};
-ghost use Rattle.legal_history.specs.Texts.{text};
-ghost use Rattle.view_lookup.specs.Unversioned.{is_unversioned};
+ghost use Rattle.std.specs.Prelude.{◌≡◌, ◌++◌, ◌<◌, ◌^◌, [], true, Some, length, option_copied, IfOk, OnOk};
+ghost use Rattle.legal_history.specs.Builds.Replied.{digest_at, is_of_tag, is_own, word_of_object, word_of_end, word_of_came, told_targets, line_before, lines_of, lines_from, reply_of};
+ghost use Rattle.legal_history.specs.Builds.Active.{came_to, Given};
+ghost use Rattle.legal_history.specs.Base.Texts.{text};
 
 use crate::active::{ActiveBuild, Came};
 use cc_names::copies::Copied;
@@ -46,15 +45,14 @@ fn is_of_tag(tag: Tag, row: Option<&Row>) -> bool
 
 /// Whether a build published an object itself.
 fn is_own(rows: &FirstRows<'_>, build: &ActiveBuild, id: u64) -> bool
-    ensures { result ≡ is_own (reverse rows.now) build.now id }
+    ensures { result ≡ is_own rows.now build.now id }
 {
     build.rows() <= id && is_of_tag(build.tag(), row_at(rows, id))
 }
 
 /// The word for an object that a unit was given, by its output at a path.
 fn word_of_given(rows: &FirstRows<'_>, build: &ActiveBuild, path: &Path, id: u64) -> UnitWord
-    requires { is_unversioned (reverse rows.now) ≡ true }
-    ensures { result ≡ word_of_object (reverse rows.now) build.now (Some (Given id)) (digest_at (text (reverse rows.now) id path.now)) }
+    ensures { result ≡ word_of_object rows.now build.now (Some (Given id)) (digest_at (text rows.now id path.now)) }
 {
     let digest = digest_at(text_of(rows, id, path));
     if is_own(rows, build, id) {
@@ -71,8 +69,7 @@ fn word_of_end(
     path: &Path,
     end: &UnitEnd,
 ) -> Result<UnitWord, NoMemory>
-    requires { is_unversioned (reverse rows.now) ≡ true }
-    ensures { IfOk result (λ word. word ≡ word_of_end (reverse rows.now) path.now end.now) }
+    ensures { IfOk result (λ word. word ≡ word_of_end rows.now path.now end.now) }
 {
     match end {
         UnitEnd::Kept(id) => Ok(UnitWord::Kept(digest_at(text_of(rows, *id, path)))),
@@ -90,8 +87,7 @@ fn word_of(
     unit: u32,
     path: &Path,
 ) -> Result<Option<UnitWord>, NoMemory>
-    requires { is_unversioned (reverse rows.now) ≡ true }
-    ensures { IfOk result (λ word. word ≡ word_of_came (reverse rows.now) build.now path.now (came_to build.now unit)) }
+    ensures { IfOk result (λ word. word ≡ word_of_came rows.now build.now path.now (came_to build.now unit)) }
 {
     match build.came_to(unit) {
         None | Some(Came::Started) => Ok(None),
@@ -109,8 +105,7 @@ fn push_line(
     path: &Path,
     lines: &mut Vec<UnitLine>,
 ) -> Result<(), NoMemory>
-    requires { is_unversioned (reverse rows.now) ≡ true }
-    ensures { OnOk result (lines.new.items ≡ lines.old.items ++ line_before path.now (word_of_came (reverse rows.now) build.now path.now (came_to build.now unit)) []) }
+    ensures { OnOk result (lines.new.items ≡ lines.old.items ++ line_before path.now (word_of_came rows.now build.now path.now (came_to build.now unit)) []) }
 {
     if let Some(word) = word_of(alloc, rows, build, unit, path)? {
         let path = path.copy(alloc)?;
@@ -128,8 +123,7 @@ fn push_lines(
     targets: &[Path],
     lines: &mut Vec<UnitLine>,
 ) -> Result<(), NoMemory>
-    requires { is_unversioned (reverse rows.now) ≡ true }
-    ensures { OnOk result (lines.new.items ≡ lines.old.items ++ lines_of (λ path. word_of_came (reverse rows.now) build.now path (came_to build.now unit)) targets.now) }
+    ensures { OnOk result (lines.new.items ≡ lines.old.items ++ lines_of (λ path. word_of_came rows.now build.now path (came_to build.now unit)) targets.now) }
 {
     let mut rest = targets;
     while let Some((path, more)) = rest.split_first() {
@@ -156,9 +150,8 @@ fn lines_of_units(
     rows: &FirstRows<'_>,
     build: &ActiveBuild,
 ) -> Result<Vec<UnitLine>, NoMemory>
-    requires unversioned { is_unversioned (reverse rows.now) ≡ true }
     requires few { length build.now.units < 2 ^ 32 }
-    ensures { IfOk result (λ lines. lines.items ≡ lines_from (reverse rows.now) build.now 0 build.now.units) }
+    ensures { IfOk result (λ lines. lines.items ≡ lines_from rows.now build.now 0 build.now.units) }
 {
     let mut lines = Vec::new(alloc);
     let mut rest = build.units();
@@ -177,9 +170,8 @@ fn lines_of_units(
 /// object, a line for the first target of those that ended without one. Fails where memory runs out. Takes time linear in the targets and in the outputs, and for a unit with
 /// several targets in the square of their number.
 pub fn reply_of(alloc: Global, rows: &FirstRows<'_>, build: &ActiveBuild) -> Result<Reply, NoMemory>
-    requires unversioned { is_unversioned (reverse rows.now) ≡ true }
     requires few { length build.now.units < 2 ^ 32 }
-    ensures { IfOk result (λ reply. reply ≡ reply_of (reverse rows.now) build.now) }
+    ensures { IfOk result (λ reply. reply ≡ reply_of rows.now build.now) }
 {
     let lines = lines_of_units(alloc, rows, build)?;
     Ok(Reply::Built(List::of(lines)))

@@ -1,15 +1,14 @@
 // The run of a unit's script, over the files that the unit sees.
 
-ghost use Rattle.std.specs.Prelude.{◌≡◌, ◌<◌, ◌^◌, true, Some, Ok, length, reverse, IfOk, IsSome};
+ghost use Rattle.std.specs.Prelude.{◌≡◌, ◌<◌, ◌^◌, true, Some, Ok, length, IfOk, IsSome};
 ghost use Rattle.cc_names.specs.declared.units.Unit as units;
 ghost use Rattle.build_script.specs.Ended.{ran_of};
 ghost use Rattle.build_script.specs.Lines.{script_of};
-ghost use Rattle.legal_history.specs.Base.{first_rows};
-ghost use Rattle.legal_history.specs.Builds.{unit_at};
-ghost use Rattle.legal_history.specs.Choices.{here};
-ghost use Rattle.legal_history.specs.Fresh.{script_text};
-ghost use Rattle.legal_history.specs.Views.{view_row};
-ghost use Rattle.view_lookup.specs.Unversioned.{is_unversioned};
+ghost use Rattle.legal_history.specs.Base.Rows.{first_rows};
+ghost use Rattle.legal_history.specs.Builds.Active.{unit_at};
+ghost use Rattle.legal_history.specs.Builds.Choices.{here};
+ghost use Rattle.legal_history.specs.Builds.Fresh.{script_text};
+ghost use Rattle.legal_history.specs.Base.Views.{view_row};
 
 use crate::active::ActiveBuild;
 use crate::sights::fetch;
@@ -29,16 +28,14 @@ struct UnitFiles<'a> {
     rows: &'a FirstRows<'a>,
     build: &'a ActiveBuild,
     unit: u32,
-    ghost unversioned: { is_unversioned (reverse rows.now) ≡ true },
     ghost within: { unit < length build.now.units },
-    ghost view: { IsSome (view_row (first_rows build.now.rows (reverse rows.now)) build.now.view) },
+    ghost view: { IsSome (view_row (first_rows build.now.rows rows.now) build.now.view) },
 }
 
 impl Files for UnitFiles<'_> {
-    ghost use Rattle.std.specs.Prelude.{reverse};
     ghost use Rattle.build_core.specs.UnitSights.{standing_at};
 
-    ghost stands = { λ files. standing_at (reverse files.rows.now) files.build.now files.unit };
+    ghost stands = { λ files. standing_at files.rows.now files.build.now files.unit };
 
     ghost broken = { λ files. 0 };
 
@@ -53,7 +50,7 @@ impl Files for UnitFiles<'_> {
     ghost transitive = { λ one two three first second. tt };
 }
 
-/// Runs the script of a unit over what the unit sees, in a base without elements. The script and the targets are those
+/// Runs the script of a unit over what the unit sees. The script and the targets are those
 /// of the unit. Fails only where memory runs out.
 ///
 /// Takes what `run` takes, and for each path that it reads a walk over the units and a look-up by the path.
@@ -65,12 +62,11 @@ pub fn run_unit(
     script: &Script,
     targets: &[Path],
 ) -> Result<Ended, NoMemory>
-    requires unversioned { is_unversioned (reverse rows.now) ≡ true }
     requires unit { unit < length build.now.units }
-    requires view { IsSome (view_row (first_rows build.now.rows (reverse rows.now)) build.now.view) }
+    requires view { IsSome (view_row (first_rows build.now.rows rows.now) build.now.view) }
     requires script { (it : units.Unit) → unit_at build.now unit ≡ Some it → script_of (script_text it.script) ≡ Ok script.now }
     requires targets { (it : units.Unit) → unit_at build.now unit ≡ Some it → targets.now ≡ it.targets }
-    ensures { (it : units.Unit) → unit_at build.now unit ≡ Some it → IfOk result (λ ended. ran_of ended ≡ here (reverse rows.now) build.now unit it) }
+    ensures { (it : units.Unit) → unit_at build.now unit ≡ Some it → IfOk result (λ ended. ran_of ended ≡ here rows.now build.now unit it) }
 {
     let mut files = UnitFiles {
         alloc,

@@ -1,16 +1,14 @@
 // What the script of a unit sees.
 
-ghost use Rattle.std.specs.Prelude.{◌≡◌, ◌<◌, ◌≤◌, ◌^◌, Some, true, length, reverse, option_and_then, option_copied, IfOk, IsSome};
+ghost use Rattle.std.specs.Prelude.{◌≡◌, ℕ, List, ◌<◌, ◌≤◌, ◌^◌, Some, true, length, option_and_then, option_copied, IfOk, IsSome};
 ghost use Rattle.std.specs.List.{list_any};
 ghost use Rattle.cc_names.specs.declared.units.Unit as units;
-ghost use Rattle.legal_history.specs.Base.{first_rows, only_where};
-ghost use Rattle.legal_history.specs.Builds.{came_to, object_of, unit_at};
-ghost use Rattle.legal_history.specs.Choices.{members_before, object_among, unit_of_member, visible};
-ghost use Rattle.legal_history.specs.Closures.{is_among};
-ghost use Rattle.legal_history.specs.Serials.{needed};
-ghost use Rattle.legal_history.specs.Views.{view_row};
-ghost use Rattle.view_lookup.specs.Unversioned.{is_unversioned};
-ghost use Rattle.build_core.specs.Sights.{standing_of, stands, IsFetched};
+ghost use Rattle.legal_history.specs.Base.Rows.{first_rows, only_where};
+ghost use Rattle.legal_history.specs.Builds.Active.{came_to, object_of, unit_at};
+ghost use Rattle.legal_history.specs.Builds.Choices.{visible};
+ghost use Rattle.legal_history.specs.Base.Closures.{is_among};
+ghost use Rattle.legal_history.specs.Base.Views.{view_row};
+ghost use Rattle.build_core.specs.Sights.{object_before, standing_of, stands, IsFetched};
 
 use crate::active::ActiveBuild;
 use crate::ends::makes;
@@ -41,6 +39,24 @@ fn object_at(build: &ActiveBuild, index: usize, unit: &Unit, path: &Path) -> Opt
     }
 }
 
+/// A number no larger than this one up to which the units that make one of these paths stand, and those that they need.
+fn up_to_maker(build: &ActiveBuild, below: u32, paths: &[Path]) -> u32
+    requires { below ≤ length build.now.units }
+    ensures within { result ≤ below }
+    ensures same { (path : List ℕ) → object_before build.now paths.now result path ≡ object_before build.now paths.now below path }
+{
+    let units = build.units();
+    let mut number = below;
+    while number > 0 {
+        let unit = &units[number as usize - 1];
+        if makes_any(unit, paths) {
+            return number;
+        }
+        number -= 1;
+    }
+    number
+}
+
 /// The object at a path of the units below a number that make what is wanted, and of those that these need in turn.
 fn object_below(
     alloc: Global,
@@ -50,12 +66,16 @@ fn object_below(
     path: &Path,
 ) -> Result<Option<u64>, NoMemory>
     requires { below ≤ length build.now.units }
-    ensures { IfOk result (λ id. id ≡ object_among path.now (needed unit_of_member paths.now (members_before build.now below))) }
+    ensures { IfOk result (λ id. id ≡ object_before build.now paths.now below path.now) }
 {
+    let last = up_to_maker(build, below, paths);
+    if last == 0 {
+        return Ok(None);
+    }
     let mut wanted = Vec::new(alloc);
     push_paths(alloc, &mut wanted, paths)?;
     let units = build.units();
-    let mut number = below;
+    let mut number = last;
     while number > 0 {
         number -= 1;
         let unit = &units[number as usize];
@@ -69,7 +89,7 @@ fn object_below(
     Ok(None)
 }
 
-/// The row that a unit of an active build sees at a path, in a base without elements: the object that the build gave to a
+/// The row that a unit of an active build sees at a path: the object that the build gave to a
 /// unit that it needs, directly or through others, else the file of the view as the build began. Fails only where memory
 /// runs out.
 ///
@@ -81,10 +101,9 @@ pub fn visible(
     unit: u32,
     path: &Path,
 ) -> Result<Option<u64>, NoMemory>
-    requires unversioned { is_unversioned (reverse rows.now) ≡ true }
     requires unit { unit < length build.now.units }
-    requires view { IsSome (view_row (first_rows build.now.rows (reverse rows.now)) build.now.view) }
-    ensures { (it : units.Unit) → unit_at build.now unit ≡ Some it → IfOk result (λ row. row ≡ visible (reverse rows.now) build.now unit it path.now) }
+    requires view { IsSome (view_row (first_rows build.now.rows rows.now) build.now.view) }
+    ensures { (it : units.Unit) → unit_at build.now unit ≡ Some it → IfOk result (λ row. row ≡ visible rows.now build.now unit it path.now) }
 {
     let wanted = build.units()[unit as usize].prerequisites.as_slice();
     if let Some(id) = object_below(alloc, build, unit, wanted, path)? {
@@ -96,8 +115,7 @@ pub fn visible(
 
 /// What a row made at the path.
 fn found(alloc: Global, rows: &FirstRows<'_>, row: u64, path: &Path) -> Got
-    requires { is_unversioned (reverse rows.now) ≡ true }
-    ensures { IsFetched result (standing_of (reverse rows.now) path.now row) }
+    ensures { IsFetched result (standing_of rows.now path.now row) }
 {
     let Some(bytes) = text_of(rows, row, path) else {
         return Got::Absent;
@@ -108,7 +126,7 @@ fn found(alloc: Global, rows: &FirstRows<'_>, row: u64, path: &Path) -> Got
     }
 }
 
-/// What the script of a unit finds at a path, in a base without elements: the row that the unit sees there with its
+/// What the script of a unit finds at a path: the row that the unit sees there with its
 /// text, or nothing. It never breaks. Takes the time of `visible`, and that of a copy of the text.
 pub fn fetch(
     alloc: Global,
@@ -117,10 +135,9 @@ pub fn fetch(
     unit: u32,
     path: &Path,
 ) -> Got
-    requires unversioned { is_unversioned (reverse rows.now) ≡ true }
     requires unit { unit < length build.now.units }
-    requires view { IsSome (view_row (first_rows build.now.rows (reverse rows.now)) build.now.view) }
-    ensures { (it : units.Unit) → unit_at build.now unit ≡ Some it → IsFetched result (stands (reverse rows.now) build.now unit it path.now) }
+    requires view { IsSome (view_row (first_rows build.now.rows rows.now) build.now.view) }
+    ensures { (it : units.Unit) → unit_at build.now unit ≡ Some it → IsFetched result (stands rows.now build.now unit it path.now) }
 {
     match visible(alloc, rows, build, unit, path) {
         Ok(Some(row)) => found(alloc, rows, row, path),

@@ -1,13 +1,12 @@
 // What comes next for a unit of an active build.
 
-ghost use Rattle.std.specs.Prelude.{◌≡◌, ◌<◌, ◌^◌, true, false, length, reverse, IfOk, IfSome, IsSome};
+ghost use Rattle.std.specs.Prelude.{◌≡◌, ◌<◌, ◌^◌, true, false, length, IfOk, IfSome, IsSome};
 ghost use Rattle.cc_names.specs.Answers.{Gives};
 ghost use Rattle.build_script.specs.Lines.{script_of};
-ghost use Rattle.legal_history.specs.Base.{first_rows};
-ghost use Rattle.legal_history.specs.Builds.{came_to, is_outcome};
-ghost use Rattle.legal_history.specs.Fresh.{script_text};
-ghost use Rattle.legal_history.specs.Views.{view_row};
-ghost use Rattle.view_lookup.specs.Unversioned.{is_unversioned};
+ghost use Rattle.legal_history.specs.Base.Rows.{first_rows};
+ghost use Rattle.legal_history.specs.Builds.Active.{came_to, is_outcome};
+ghost use Rattle.legal_history.specs.Builds.Fresh.{script_text};
+ghost use Rattle.legal_history.specs.Base.Views.{view_row};
 ghost use Rattle.build_core.specs.UnitSteps.{first_awaited, IsNext, IsStep, IsOpen};
 
 use crate::active::ActiveBuild;
@@ -24,7 +23,7 @@ use std::alloc::Global;
 use view_lookup::{FirstRows, first_rows};
 
 /// What comes next for a unit.
-#[derive(Debug, Drop)]
+#[derive(Drop)]
 pub enum UnitStep {
     /// The unit has its outcome.
     Settled,
@@ -83,8 +82,8 @@ fn start(
     build: &ActiveBuild,
     unit: &Unit,
 ) -> Result<UnitStep, NoMemory>
-    requires { IsOpen (reverse rows.now) build.now unit.now }
-    ensures { IfOk result (λ step. IsNext (reverse rows.now) build.now unit.now step) }
+    requires { IsOpen rows.now build.now unit.now }
+    ensures { IfOk result (λ step. IsNext rows.now build.now unit.now step) }
 {
     match read_script(alloc, unit) {
         Ok(script) => {
@@ -103,10 +102,9 @@ fn next(
     build: &ActiveBuild,
     unit: &Unit,
 ) -> Result<UnitStep, NoMemory>
-    requires unversioned { is_unversioned (reverse rows.now) ≡ true }
     requires few { length build.now.units < 2 ^ 32 }
-    requires view { IsSome (view_row (reverse rows.now) build.now.view) }
-    ensures { IfOk result (λ step. IsNext (reverse rows.now) build.now unit.now step) }
+    requires view { IsSome (view_row rows.now build.now.view) }
+    ensures { IfOk result (λ step. IsNext rows.now build.now unit.now step) }
 {
     if let Some(other) = first_awaited(build, unit.prerequisites.as_slice()) {
         return Ok(UnitStep::NotReady(other));
@@ -117,7 +115,7 @@ fn next(
     start(alloc, rows, build, unit)
 }
 
-/// What comes next for a unit of an active build, in a base without elements: nothing where it has its outcome; else the
+/// What comes next for a unit of an active build: nothing where it has its outcome; else the
 /// wait for another unit, the end without a run, or its start with its script. Fails only where memory runs out.
 ///
 /// Takes time that grows with the units times the unit's prerequisites, and with the bytes of the script.
@@ -127,11 +125,10 @@ pub fn step(
     build: &ActiveBuild,
     unit: u32,
 ) -> Result<UnitStep, NoMemory>
-    requires unversioned { is_unversioned (reverse rows.now) ≡ true }
     requires unit { unit < length build.now.units }
     requires few { length build.now.units < 2 ^ 32 }
-    requires view { IsSome (view_row (first_rows build.now.rows (reverse rows.now)) build.now.view) }
-    ensures { IfOk result (λ step. IsStep (reverse rows.now) build.now unit step) }
+    requires view { IsSome (view_row (first_rows build.now.rows rows.now) build.now.view) }
+    ensures { IfOk result (λ step. IsStep rows.now build.now unit step) }
 {
     if build.has_outcome(unit) {
         return Ok(UnitStep::Settled);

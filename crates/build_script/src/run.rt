@@ -59,9 +59,9 @@ fn into_paths(alloc: Global, reads: IndexSet<Path>) -> Result<List<Path>, AllocE
 
 /// Carries out a script with these targets over these files.
 ///
-/// The answer is the outputs or the first fault, and the reads; the files are asked for nothing else. A run is given up
-/// where the files broke, or where there is no memory. Takes time linear in the bytes of the script, of the texts that
-/// it reads and of what it writes, and for each line a look at the targets.
+/// The answer is the outputs or the first fault, and the reads. A run is given up where the files broke, or where there is
+/// no memory. Takes time linear in the bytes of the script, of the texts that it reads and of what it writes, and for each
+/// line a look at the targets.
 pub fn run<F: Files>(
     alloc: Global,
     script: &Script,

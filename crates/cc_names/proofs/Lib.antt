@@ -1,11 +1,14 @@
 pub mod ByRows
+mod DigitValues
 mod FirstFaults
 mod FormedRows
 mod Joins
 pub mod LinesAndWords
-mod NamesOfPaths
+pub mod NamesOfPaths
 pub mod PathParts
 mod PathRows
 pub mod Splits
+mod WorkedCounts
 mod WorkedLabels
+mod WorkedNumbers
 mod WorkedVersions

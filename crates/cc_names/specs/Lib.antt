@@ -1,6 +1,6 @@
 pub mod Answers
 pub mod Branches
-pub mod CopyLaws
+pub mod Counts
 pub mod Cuts
 pub mod Falling
 pub mod Formed
@@ -8,9 +8,10 @@ pub mod Keys
 pub mod Labels
 pub mod Last
 pub mod Names
+pub mod Numbers
 pub mod PathBytes
 pub mod PathLaws
 pub mod Paths
 pub mod References
-pub mod ReplyCopies
+pub mod TypeNames
 pub mod Versions

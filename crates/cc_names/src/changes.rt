@@ -8,7 +8,7 @@ use crate::rows::Kind;
 
 /// A change of the trees of versions. A branch is named by the row that made it, `main` by its element's row, and a
 /// branch begins with its own version 0.
-#[derive(Debug, Drop, PartialEq, Eq)]
+#[derive(Drop)]
 pub enum TreeChange {
     /// An element, its branch `main` and version 0 on it.
     ElementMade {
@@ -41,14 +41,14 @@ pub struct Place {
 }
 
 /// One name of a directory's catalog, and the element that it names.
-#[derive(Debug, Drop)]
+#[derive(Drop)]
 pub struct Entry {
     pub name: Name,
     pub element: u64,
 }
 
 /// A change of a label on an element.
-#[derive(Debug, Drop, PartialEq, Eq)]
+#[derive(Drop)]
 pub enum LabelChange {
     /// The label stands on this version of the element from here on.
     Put {
@@ -66,7 +66,7 @@ pub enum LabelChange {
 }
 
 /// A change of the references that views hold to objects.
-#[derive(Debug, Drop, PartialEq, Eq)]
+#[derive(Drop)]
 pub enum ReferenceChange {
     /// The view holds the object at each of its targets, in place of what it held there.
     Won {

@@ -6,7 +6,7 @@ use crate::paths::Path;
 use crate::texts::Text;
 
 /// A version by its place in its element's tree: the branches behind `main`, and the number on the last of them.
-#[derive(Clone, Debug, Drop, PartialEq, Eq)]
+#[derive(Drop)]
 pub struct VersionName {
     /// The branches behind `main`, from the root of the tree on.
     pub branches: List<Name>,
@@ -15,14 +15,14 @@ pub struct VersionName {
 }
 
 /// A macro of a makefile or of a command line.
-#[derive(Clone, Debug, Drop, PartialEq, Eq)]
+#[derive(Drop)]
 pub struct Macro {
     pub name: Text,
     pub value: Text,
 }
 
 /// One command of a lane, as its line says it.
-#[derive(Debug, Drop, PartialEq, Eq)]
+#[derive(Drop)]
 pub enum Command {
     /// Makes a view; its config spec is the default one.
     Mkview {
@@ -210,20 +210,20 @@ pub enum Command {
 }
 
 /// A lane of a phase: its name, and its commands in their order.
-#[derive(Debug, Drop, PartialEq, Eq)]
+#[derive(Drop)]
 pub struct Lane {
     pub name: Name,
     pub commands: List<Command>,
 }
 
 /// A phase: its lanes, which run side by side.
-#[derive(Debug, Drop, PartialEq, Eq)]
+#[derive(Drop)]
 pub struct Phase {
     pub lanes: List<Lane>,
 }
 
 /// A session: its phases, one after the other.
-#[derive(Debug, Drop, PartialEq, Eq)]
+#[derive(Drop)]
 pub struct Session {
     pub phases: List<Phase>,
 }

@@ -7,138 +7,169 @@ use crate::lists::List;
 use crate::memory::NoMemory;
 use crate::names::Name;
 use crate::paths::Path;
-use crate::refusals::{Refusal, ScriptFault, UnitFault};
-use crate::replies::{Reply, UnitLine, UnitWord};
-use crate::rows::{Deed, Placed, ReadOf, Row, Stored};
+use crate::refusals::{ScriptFault, UnitFault};
+use crate::rows::{Placed, ReadOf, Row, Stored};
 use crate::steps::UnitEnd;
 use crate::texts::Text;
 use crate::units::{Unit, UnitScript};
 use std::alloc::Global;
 
-/// Data whose clones are equal to their source, and not only like it.
-pub trait Copied: Clone {
-    ghost exact: { (source copy : Self) → Self.is_clone source copy → copy ≡ source };
+/// Data of which copies can be made, where there is memory for them.
+pub trait Copied: Drop {
+    /// A copy, in time linear in its size.
+    fn copy(&self, alloc: Global) -> Result<Self, NoMemory>
+        ensures { IfOk result (λ copy. copy ≡ self.now) };
+}
 
-    /// A copy, in time linear in its size. There is one global allocator, so the one that a collection keeps serves.
-    final fn copy(&self, _alloc: Global) -> Result<Self, NoMemory>
-        ensures { IfOk result (λ copy. copy ≡ self.now) }
-    {
-        Ok(self.clone()?)
+/// Puts copies of items behind others, in time linear in their size.
+pub fn push_copies<X: Copied>(alloc: Global, onto: &mut Vec<X>, items: &[X]) -> Result<(), NoMemory>
+    ensures { OnOk result (onto.new.items ≡ onto.old.items ++ items.now) }
+{
+    for item in items {
+        onto.push(item.copy(alloc)?)?;
     }
+    Ok(())
 }
 
 /// Puts copies of paths behind others, in time linear in their bytes.
 pub fn push_paths(alloc: Global, onto: &mut Vec<Path>, paths: &[Path]) -> Result<(), NoMemory>
     ensures { OnOk result (onto.new.items ≡ onto.old.items ++ paths.now) }
 {
-    for path in paths {
-        onto.push(path.copy(alloc)?)?;
-    }
-    Ok(())
+    push_copies(alloc, onto, paths)
 }
 
 impl Copied for u64 {
-    ghost exact = { λ source copy same. same };
+    fn copy(&self, _alloc: Global) -> Result<u64, NoMemory> {
+        Ok(*self)
+    }
 }
 
 impl Copied for Text {
-    ghost exact = { λ source copy same. same };
+    fn copy(&self, alloc: Global) -> Result<Text, NoMemory> {
+        Text::from_bytes(alloc, self.as_bytes())
+    }
 }
 
 impl Copied for Name {
-    ghost exact = { λ source copy same. same };
+    fn copy(&self, alloc: Global) -> Result<Name, NoMemory> {
+        Name::of(alloc, self.as_bytes())
+    }
 }
 
 impl Copied for Path {
-    ghost exact = { λ source copy same. same };
+    fn copy(&self, alloc: Global) -> Result<Path, NoMemory> {
+        Path::copy(self, alloc)
+    }
 }
 
 impl<X: Copied> Copied for List<X> {
-    ghost exact = { λ source copy same. same };
+    fn copy(&self, alloc: Global) -> Result<List<X>, NoMemory> {
+        let mut items = Vec::new(alloc);
+        push_copies(alloc, &mut items, self.as_slice())?;
+        Ok(List::of(items))
+    }
 }
 
 impl Copied for Placed {
-    ghost exact = { λ source copy same. same };
+    fn copy(&self, _alloc: Global) -> Result<Placed, NoMemory> {
+        Ok(*self)
+    }
 }
 
 impl Copied for ReadOf {
-    ghost exact = { λ source copy same i. record { path = same.0 i; row = same.1 i } };
+    fn copy(&self, alloc: Global) -> Result<ReadOf, NoMemory> {
+        Ok(ReadOf {
+            path: self.path.copy(alloc)?,
+            row: self.row,
+        })
+    }
 }
 
 impl Copied for Stored {
-    ghost use Rattle.cc_names.specs.CopyLaws.{stored_same};
-
-    ghost exact = { stored_same };
-}
-
-impl Copied for Deed {
-    ghost use Rattle.cc_names.specs.CopyLaws.{deed_same};
-
-    ghost exact = { deed_same };
+    fn copy(&self, alloc: Global) -> Result<Stored, NoMemory> {
+        match self {
+            Stored::Here(text) => Ok(Stored::Here(text.copy(alloc)?)),
+            Stored::There(extent) => Ok(Stored::There(*extent)),
+        }
+    }
 }
 
 impl Copied for Row {
-    ghost exact = { λ source copy same. same };
+    fn copy(&self, alloc: Global) -> Result<Row, NoMemory> {
+        Ok(Row::of(self.tag(), self.moment(), self.deed().copy(alloc)?))
+    }
 }
 
 impl Copied for UnitScript {
-    ghost use Rattle.cc_names.specs.CopyLaws.{unit_script_same};
-
-    ghost exact = { unit_script_same };
+    fn copy(&self, alloc: Global) -> Result<UnitScript, NoMemory> {
+        match self {
+            UnitScript::Bare => Ok(UnitScript::Bare),
+            UnitScript::TooLong => Ok(UnitScript::TooLong),
+            UnitScript::Lines(text) => Ok(UnitScript::Lines(text.copy(alloc)?)),
+        }
+    }
 }
 
 impl Copied for Unit {
-    ghost use Rattle.cc_names.specs.CopyLaws.{unit_script_same};
-
-    ghost exact = { λ source copy same i. record { targets = same.0 i; prerequisites = same.1.0 i; script = unit_script_same _ _ same.1.1 i } };
+    fn copy(&self, alloc: Global) -> Result<Unit, NoMemory> {
+        Ok(Unit {
+            targets: self.targets.copy(alloc)?,
+            prerequisites: self.prerequisites.copy(alloc)?,
+            script: self.script.copy(alloc)?,
+        })
+    }
 }
 
 impl Copied for ScriptFault {
-    ghost use Rattle.cc_names.specs.CopyLaws.{script_fault_same};
-
-    ghost exact = { script_fault_same };
+    fn copy(&self, alloc: Global) -> Result<ScriptFault, NoMemory> {
+        match self {
+            ScriptFault::Absent(path) => Ok(ScriptFault::Absent(path.copy(alloc)?)),
+            ScriptFault::BadLine(line) => Ok(ScriptFault::BadLine(*line)),
+            ScriptFault::TooBig(path) => Ok(ScriptFault::TooBig(path.copy(alloc)?)),
+            ScriptFault::IncludeDepth(path) => Ok(ScriptFault::IncludeDepth(path.copy(alloc)?)),
+            ScriptFault::Failed(line) => Ok(ScriptFault::Failed(*line)),
+            ScriptFault::StrayWrite(path) => Ok(ScriptFault::StrayWrite(path.copy(alloc)?)),
+            ScriptFault::NotWritten(path) => Ok(ScriptFault::NotWritten(path.copy(alloc)?)),
+        }
+    }
 }
 
 impl Copied for UnitFault {
-    ghost use Rattle.cc_names.specs.CopyLaws.{unit_fault_same};
-
-    ghost exact = { unit_fault_same };
-}
-
-impl Copied for Refusal {
-    ghost use Rattle.cc_names.specs.CopyLaws.{refusal_same};
-
-    ghost exact = { refusal_same };
+    fn copy(&self, alloc: Global) -> Result<UnitFault, NoMemory> {
+        match self {
+            UnitFault::NoRule(path) => Ok(UnitFault::NoRule(path.copy(alloc)?)),
+            UnitFault::NoDirectory(path) => Ok(UnitFault::NoDirectory(path.copy(alloc)?)),
+            UnitFault::ScriptTooLong(path) => Ok(UnitFault::ScriptTooLong(path.copy(alloc)?)),
+            UnitFault::Script(fault) => Ok(UnitFault::Script(fault.copy(alloc)?)),
+        }
+    }
 }
 
 impl Copied for UnitEnd {
-    ghost use Rattle.cc_names.specs.CopyLaws.{unit_end_same};
-
-    ghost exact = { unit_end_same };
-}
-
-impl Copied for UnitWord {
-    ghost use Rattle.cc_names.specs.CopyLaws.{unit_word_same};
-
-    ghost exact = { unit_word_same };
+    fn copy(&self, alloc: Global) -> Result<UnitEnd, NoMemory> {
+        match self {
+            UnitEnd::Kept(row) => Ok(UnitEnd::Kept(*row)),
+            UnitEnd::Failed(fault) => Ok(UnitEnd::Failed(fault.copy(alloc)?)),
+            UnitEnd::Blocked(path) => Ok(UnitEnd::Blocked(path.copy(alloc)?)),
+            UnitEnd::Bare => Ok(UnitEnd::Bare),
+        }
+    }
 }
 
 impl Copied for Macro {
-    ghost exact = { λ source copy same i. record { name = same.0 i; value = same.1 i } };
+    fn copy(&self, alloc: Global) -> Result<Macro, NoMemory> {
+        Ok(Macro {
+            name: self.name.copy(alloc)?,
+            value: self.value.copy(alloc)?,
+        })
+    }
 }
 
 impl Copied for VersionName {
-    ghost exact = { λ source copy same i. record { branches = same.0 i; number = same.1 i } };
-}
-
-impl Copied for UnitLine {
-    ghost use Rattle.cc_names.specs.CopyLaws.{unit_word_same};
-
-    ghost exact = { λ source copy same i. record { path = same.0 i; word = unit_word_same _ _ same.1 i } };
-}
-
-impl Copied for Reply {
-    ghost use Rattle.cc_names.specs.ReplyCopies.{reply_same};
-
-    ghost exact = { reply_same };
+    fn copy(&self, alloc: Global) -> Result<VersionName, NoMemory> {
+        Ok(VersionName {
+            branches: self.branches.copy(alloc)?,
+            number: self.number,
+        })
+    }
 }

@@ -3,8 +3,7 @@
 ghost use Rattle.std.specs.Prelude.{◌≡◌, ◌↔◌, IsTrue, List, [], length};
 ghost use Rattle.std.specs.Cmp.Lexicographic.{pointwise, lists_per, lists_equiv};
 
-use crate::copies::Copied;
-use std::alloc::{AllocError, Global};
+use std::alloc::Global;
 use std::marker::Model;
 
 /// A list that plain data holds in a field. Contracts see it as its items.
@@ -65,16 +64,6 @@ impl<X> List<X> {
     {
         let List { items } = self;
         items
-    }
-}
-
-impl<X: Copied> Clone for List<X> {
-    ghost is_clone = { λ source copy. copy ≡ source };
-
-    fn clone(&self) -> Result<List<X>, AllocError> {
-        Ok(List {
-            items: self.items.clone()?,
-        })
     }
 }
 

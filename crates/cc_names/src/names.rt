@@ -3,10 +3,12 @@
 ghost use Rattle.std.specs.Prelude.{◌≡◌, ◌+◌, ◌<◌, ◌^◌, IfOk, IfSome, not, slice_get, length};
 ghost use Rattle.std.specs.List.{list_all, position};
 ghost use Rattle.cc_names.specs.Answers.{Gives};
+ghost use Rattle.cc_names.specs.Formed.{begins_with_letter};
+ghost use Rattle.cc_names.specs.TypeNames.{type_name_of};
 ghost use Rattle.cc_names.specs.Names.{is_name_byte, is_dash, is_dot, begins_wrong, fault_of_bytes, fault_at, name_fault, name_of, IsName};
 
 use crate::memory::{NoMemory, Or};
-use std::alloc::{AllocError, Global};
+use std::alloc::Global;
 use std::fmt;
 use std::marker::Model;
 
@@ -86,16 +88,6 @@ impl Name {
     }
 }
 
-impl Clone for Name {
-    ghost is_clone = { λ source copy. copy ≡ source };
-
-    fn clone(&self) -> Result<Name, AllocError> {
-        Ok(Name {
-            bytes: self.bytes.clone()?,
-        })
-    }
-}
-
 /// Whether a byte may stand in a name.
 pub fn is_name_byte(byte: u8) -> bool
     ensures { result ≡ is_name_byte byte }
@@ -160,4 +152,27 @@ fn fault_of(bytes: &[u8]) -> Option<NameFault>
         return Some(NameFault::Empty);
     }
     fault_at(0, bytes)
+}
+
+fn begins_with_letter(bytes: &[u8]) -> bool
+    ensures { result ≡ begins_with_letter bytes.now }
+{
+    match bytes {
+        [] => false,
+        [first, ..] => first.is_ascii_alphabetic(),
+    }
+}
+
+/// Reads bytes as the name of a label type or a branch type: a name that begins with a letter. Takes time linear in the bytes.
+pub fn type_name(alloc: Global, bytes: &[u8]) -> Result<Option<Name>, NoMemory>
+    ensures { IfOk result (λ name. name ≡ type_name_of bytes.now) }
+{
+    if !begins_with_letter(bytes) {
+        return Ok(None);
+    }
+    match Name::read(alloc, bytes) {
+        Ok(name) => Ok(Some(name)),
+        Err(Or::NoMemory) => Err(NoMemory),
+        Err(Or::Is(_)) => Ok(None),
+    }
 }

@@ -11,7 +11,7 @@ ghost use Rattle.cc_names.specs.PathBytes.{HoldsPath, PartsAre};
 use crate::memory::{NoMemory, Or};
 use crate::names::{Name, NameFault, fault_at};
 use crate::texts::Text;
-use std::alloc::{AllocError, Global};
+use std::alloc::Global;
 use std::marker::Model;
 
 /// A path: `.` for the root, or names joined by `/`, at most 1,024 bytes in all. Contracts see it as its bytes.
@@ -145,16 +145,6 @@ pub fn join_has_parts()
 pub fn parts_join()
     ensures { PartsJoin }
 {}
-
-impl Clone for Path {
-    ghost is_clone = { λ source copy. copy ≡ source };
-
-    fn clone(&self) -> Result<Path, AllocError> {
-        Ok(Path {
-            below_root: self.below_root.clone()?,
-        })
-    }
-}
 
 fn is_root(bytes: &[u8]) -> bool
     ensures { result ≡ is_root bytes.now }

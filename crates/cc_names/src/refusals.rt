@@ -56,7 +56,7 @@ pub enum MakeCause {
 }
 
 /// Where a makefile cannot be read: the file, the line counted from 1, and why.
-#[derive(Clone, Debug, Drop, PartialEq, Eq)]
+#[derive(Debug, Drop, PartialEq, Eq)]
 pub struct MakeError {
     /// The makefile or the file that it includes.
     pub file: Path,
@@ -93,7 +93,7 @@ pub struct SessionError {
 }
 
 /// Why a script's run gave nothing. Lines are counted from 1.
-#[derive(Clone, Debug, Drop, PartialEq, Eq)]
+#[derive(Debug, Drop, PartialEq, Eq)]
 pub enum ScriptFault {
     /// X1: a read found nothing at this path.
     Absent(Path),
@@ -112,7 +112,7 @@ pub enum ScriptFault {
 }
 
 /// Why a unit of a build failed.
-#[derive(Clone, Debug, Drop, PartialEq, Eq)]
+#[derive(Drop)]
 pub enum UnitFault {
     /// U1: this prerequisite is neither a unit nor a file of the view.
     NoRule(Path),
@@ -125,7 +125,7 @@ pub enum UnitFault {
 }
 
 /// Why a makefile and its goals give no units.
-#[derive(Clone, Debug, Drop, PartialEq, Eq)]
+#[derive(Debug, Drop, PartialEq, Eq)]
 pub enum GraphFault {
     /// G1: this goal is neither a unit nor a file.
     NoGoal(Path),
@@ -136,7 +136,7 @@ pub enum GraphFault {
 }
 
 /// Why a command was refused.
-#[derive(Clone, Debug, Drop, PartialEq, Eq)]
+#[derive(Drop)]
 pub enum Refusal {
     /// C1: there is no such view.
     NoView,

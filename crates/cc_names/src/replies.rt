@@ -15,7 +15,7 @@ pub struct Digest {
 }
 
 /// What a unit of a build came to, as its line says it.
-#[derive(Clone, Debug, Drop, PartialEq, Eq)]
+#[derive(Drop)]
 pub enum UnitWord {
     /// The view's own object was kept.
     Kept(Digest),
@@ -32,7 +32,7 @@ pub enum UnitWord {
 }
 
 /// The line of a unit that has no object, or of one target of a unit that has one.
-#[derive(Clone, Debug, Drop, PartialEq, Eq)]
+#[derive(Drop)]
 pub struct UnitLine {
     /// The target.
     pub path: Path,
@@ -41,7 +41,7 @@ pub struct UnitLine {
 }
 
 /// The reply to a command.
-#[derive(Clone, Debug, Drop, PartialEq, Eq)]
+#[derive(Drop)]
 pub enum Reply {
     /// A row was committed.
     Good,

@@ -4,7 +4,6 @@ use crate::lists::List;
 use crate::names::Name;
 use crate::paths::Path;
 use crate::texts::Text;
-use std::alloc::AllocError;
 use std::marker::Model;
 
 /// The last moment that a row may have, the end of the year 9999, in seconds since 1970.
@@ -47,7 +46,7 @@ pub enum Out {
 }
 
 /// One read of a script: the path that it asked for and the row that made the text there, 0 where nothing was there.
-#[derive(Clone, Debug, Drop, PartialEq, Eq)]
+#[derive(Drop, PartialEq)]
 pub struct ReadOf {
     /// The path that was asked for.
     pub path: Path,
@@ -74,7 +73,7 @@ pub struct Extent {
 }
 
 /// An output of an object as a row spells it: its bytes, or where they stand.
-#[derive(Clone, Debug, Drop, PartialEq, Eq)]
+#[derive(Drop)]
 pub enum Stored {
     /// Its bytes.
     Here(Text),
@@ -83,7 +82,7 @@ pub enum Stored {
 }
 
 /// What a row does. Elements, versions, branches and objects are named by the number of the row that made them.
-#[derive(Clone, Debug, Drop, PartialEq, Eq)]
+#[derive(Drop)]
 pub enum Deed {
     /// The view begins, with the default config spec.
     Mkview {
@@ -224,7 +223,7 @@ pub enum Deed {
 
 /// A row of a base. Its type keeps its form: names, paths, numbers and lists are as the spelling of a row wants them.
 /// Contracts see it as the plain record of its fields.
-#[derive(Debug, Drop)]
+#[derive(Drop)]
 pub struct Row {
     tag: Tag,
     moment: u64,
@@ -273,19 +272,5 @@ impl Row {
         ensures formed { IsFormed self.now }
     {
         &self.deed
-    }
-}
-
-impl Clone for Row {
-    ghost use Rattle.std.specs.Prelude.{◌≡◌};
-
-    ghost is_clone = { λ source copy. copy ≡ source };
-
-    fn clone(&self) -> Result<Row, AllocError> {
-        Ok(Row {
-            tag: self.tag,
-            moment: self.moment,
-            deed: self.deed.clone()?,
-        })
     }
 }

@@ -6,7 +6,7 @@ use crate::paths::Path;
 use crate::texts::Text;
 
 /// One segment of a pattern.
-#[derive(Debug, Drop, PartialEq, Eq)]
+#[derive(Drop)]
 pub enum Segment {
     /// `...`: zero or more names.
     AnyNames,
@@ -15,7 +15,7 @@ pub enum Segment {
 }
 
 /// Which paths a rule of a config spec bears on.
-#[derive(Debug, Drop)]
+#[derive(Drop)]
 pub struct Pattern {
     /// Whether a leading `/` ties it to the root. One without it may begin at any name of a path.
     pub anchored: bool,
@@ -23,7 +23,7 @@ pub struct Pattern {
 }
 
 /// Which version a rule takes of an element.
-#[derive(Debug, Drop, PartialEq, Eq)]
+#[derive(Drop)]
 pub enum Selector {
     /// `CHECKEDOUT`: the view's own checkout.
     CheckedOut,
@@ -42,7 +42,7 @@ pub enum Selector {
 }
 
 /// One rule of a config spec.
-#[derive(Debug, Drop)]
+#[derive(Drop)]
 pub struct Rule {
     /// The line on which it stands, counted from 1.
     pub line: u32,

@@ -8,7 +8,7 @@ use crate::rows::{Row, Tag};
 use crate::texts::Text;
 
 /// What a unit came to without a row of its own.
-#[derive(Clone, Debug, Drop, PartialEq, Eq)]
+#[derive(Drop)]
 pub enum UnitEnd {
     /// The view's object at the target was kept.
     Kept(u64),
@@ -30,7 +30,7 @@ pub struct Counts {
 }
 
 /// One step as the program keeps it: rows and phases are told by their numbers.
-#[derive(Debug, Drop)]
+#[derive(Drop)]
 pub enum Step {
     /// The base was opened with this many rows, row 0 included.
     Opened {
@@ -89,7 +89,7 @@ pub enum Step {
 }
 
 /// One step as contracts see it in a story: with the rows and the phase themselves.
-#[derive(Debug, Drop)]
+#[derive(Drop)]
 pub enum Told {
     /// The opened rows, from row 1 on; the disk's counts as it was handed in; and whether it tells its content.
     Opened {

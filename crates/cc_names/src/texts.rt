@@ -3,7 +3,7 @@
 ghost use Rattle.std.specs.Prelude.{◌≡◌, IfOk};
 
 use crate::memory::NoMemory;
-use std::alloc::{AllocError, Global};
+use std::alloc::Global;
 use std::marker::Model;
 
 /// Any bytes: the text of a file, of a script, of a reply. Contracts see it as its bytes.
@@ -49,15 +49,5 @@ impl Text {
         ensures { result.now ≡ self.now }
     {
         self.bytes.as_slice()
-    }
-}
-
-impl Clone for Text {
-    ghost is_clone = { λ source copy. copy ≡ source };
-
-    fn clone(&self) -> Result<Text, AllocError> {
-        Ok(Text {
-            bytes: self.bytes.clone()?,
-        })
     }
 }

@@ -5,7 +5,7 @@ use crate::paths::Path;
 use crate::texts::Text;
 
 /// The script of a unit, its macros expanded.
-#[derive(Clone, Debug, Drop, PartialEq, Eq)]
+#[derive(Drop)]
 pub enum UnitScript {
     /// The unit has none.
     Bare,
@@ -16,7 +16,7 @@ pub enum UnitScript {
 }
 
 /// What one script makes at one go: its targets, what they are made of, and the script.
-#[derive(Clone, Debug, Drop, PartialEq, Eq)]
+#[derive(Drop)]
 pub struct Unit {
     pub targets: List<Path>,
     pub prerequisites: List<Path>,

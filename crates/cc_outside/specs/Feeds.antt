@@ -2,7 +2,7 @@
 use Rattle.std.specs.Prelude.{ℕ, ◌≤◌, Bool, Option, Result, Ok, Err, List, [], ◌++◌, ◌==◌, length, take, drop, min, if◌then◌else◌}
 use Rattle.std.specs.List.{list_any}
 use Rattle.std.specs.Io.KnownBytes.{Appends}
-use Rattle.cc_outside.specs.Counts.{raised}
+use Rattle.cc_names.specs.Counts.{raised}
 use Rattle.cc_outside.specs.declared.sources.ReadFault.{ReadFault}
 use Rattle.cc_outside.specs.declared.sinks.WriteFault.{WriteFault}
 
@@ -57,3 +57,8 @@ fresh_basin fail = record { held = []; calls = 0; faults = 0; fail = fail }
 abbrev pub basin_after : Basin → List ℕ → Result ℕ WriteFault → Basin
 basin_after basin piece (Ok count) = record basin { held = basin.held ++ take count piece; calls = raised basin.calls 1 }
 basin_after basin piece (Err fault) = record basin { calls = raised basin.calls 1; faults = raised basin.faults 1 }
+
+-- what is known of a source that tells no content: how many bytes it gave, and how many calls failed
+pub record Flow : Type 0 where
+  pub given : ℕ
+  pub faults : ℕ

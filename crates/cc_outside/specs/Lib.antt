@@ -1,4 +1,4 @@
-pub mod Counts
 pub mod Feeds
 pub mod Moments
+pub mod Sights
 pub mod Reading

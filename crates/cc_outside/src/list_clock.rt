@@ -1,7 +1,7 @@
 // A clock that tells a list.
 
 ghost use Rattle.std.specs.Prelude.{◌≡◌, ◌<◌, IfOk, IfSome, length, Some};
-ghost use Rattle.cc_outside.specs.Counts.{raised};
+ghost use Rattle.cc_names.specs.Counts.{raised};
 ghost use Rattle.cc_outside.specs.Moments.{moment_at};
 
 use crate::clocks::Clock;
@@ -41,9 +41,7 @@ impl ListClock {
 }
 
 impl Clock for ListClock {
-    ghost told = { λ c. Some c.moments };
-
-    ghost readings = { λ c. c.readings };
+    ghost sight = { λ c. record { told = Some c.moments; readings = c.readings } };
 
     fn now(&mut self) -> u64 {
         let last = self.moments.len() - 1;

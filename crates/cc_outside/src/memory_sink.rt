@@ -1,7 +1,7 @@
 // A sink in memory, whose calls fail by plan.
 
 ghost use Rattle.std.specs.Prelude.{◌≡◌, ◌≤◌, ◌<◌, IfOk, OnErr, IsErr, length, Some, true};
-ghost use Rattle.cc_outside.specs.Counts.{raised, Rose};
+ghost use Rattle.cc_names.specs.Counts.{raised, Rose};
 ghost use Rattle.cc_outside.specs.Feeds.{WriteTakes, is_to_fail, fresh_basin, basin_after};
 
 use crate::sinks::{Sink, WriteFault};
@@ -49,9 +49,7 @@ impl MemorySink {
 }
 
 impl Sink for MemorySink {
-    ghost held = { λ s. Some s.held };
-
-    ghost faults = { λ s. s.faults };
+    ghost sight = { λ s. record { held = Some s.held; faults = s.faults } };
 
     fn write(&mut self, piece: &[u8]) -> Result<usize, WriteFault>
         ensures within { IfOk result (λ count. count ≤ length piece.now) }

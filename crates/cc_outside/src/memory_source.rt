@@ -2,7 +2,7 @@
 
 ghost use Rattle.std.specs.Prelude.{◌≡◌, ◌≤◌, IfOk, OnErr, length, Some};
 ghost use Rattle.std.specs.Io.KnownBytes.{ReadConsumes};
-ghost use Rattle.cc_outside.specs.Counts.{raised, Rose};
+ghost use Rattle.cc_names.specs.Counts.{raised, Rose};
 ghost use Rattle.cc_outside.specs.Feeds.{fresh_feed, feed_answer, feed_after};
 
 use crate::sources::{ReadFault, Source};
@@ -48,11 +48,7 @@ impl MemorySource {
 }
 
 impl Source for MemorySource {
-    ghost left = { λ s. Some s.left };
-
-    ghost given = { λ s. s.given };
-
-    ghost faults = { λ s. s.faults };
+    ghost sight = { λ s. record { left = Some s.left; given = s.given; faults = s.faults } };
 
     fn read(&mut self, into: &mut [u8]) -> Result<usize, ReadFault>
         ensures within { IfOk result (λ count. count ≤ length into.new) }

@@ -1,9 +1,10 @@
 // Where bytes come from.
 
-ghost use Rattle.std.specs.Prelude.{◌≡◌, ℕ, ◌+◌, ◌≤◌, ◌<◌, ◌^◌, Option, List, length, IfOk, IfSome, OnErr};
-ghost use Rattle.std.specs.Io.KnownBytes.{ReadConsumes, Consumes, IsAtEnd};
-ghost use Rattle.cc_outside.specs.Counts.{raised, Rose, RoseAbove, RoseAtMost};
+ghost use Rattle.std.specs.Prelude.{◌≡◌, ◌+◌, ◌≤◌, ◌<◌, ◌^◌, length, IfOk, IfSome, OnErr};
+ghost use Rattle.std.specs.Io.KnownBytes.{ReadConsumes, IsAtEnd};
+ghost use Rattle.cc_names.specs.Counts.{Rose, RoseAtMost};
 ghost use Rattle.cc_outside.specs.Reading.{OnFault, OnTooLong};
+ghost use Rattle.cc_outside.specs.Sights.{SourceSight, Gave, GaveAbove, Lost};
 
 use cc_names::memory::Or;
 use cc_names::texts::Text;
@@ -24,24 +25,18 @@ impl std::error::Error for ReadFault {}
 
 /// Where bytes come from.
 pub trait Source {
-    // The bytes that are still to come, where they are known.
-    ghost left: { Self → Option (List ℕ) };
-
-    // How many bytes were given so far.
-    ghost given: { Self → ℕ };
-
-    // How many calls failed so far.
-    ghost faults: { Self → ℕ };
+    // The bytes that are still to come, where they are told; how many were given, and how many calls failed so far.
+    ghost sight: { Self → SourceSight };
 
     /// Gives the next bytes, at most as many as there is room for, and answers how many. No bytes, where there is
     /// room, are the end.
     fn read(&mut self, into: &mut [u8]) -> Result<usize, ReadFault>
         ensures within { IfOk result (λ count. count ≤ length into.new) }
-        ensures bytes { ReadConsumes (left self.old) (left self.new) result into.new }
-        ensures counted { IfOk result (λ count. given self.new ≡ raised (given self.old) count) }
-        ensures uncounted { OnErr result (given self.new ≡ given self.old) }
-        ensures kept { faults self.old ≤ faults self.new }
-        ensures fault { OnErr result (Rose (faults self.old) (faults self.new)) };
+        ensures bytes { ReadConsumes (sight self.old).left (sight self.new).left result into.new }
+        ensures counted { IfOk result (λ count. Gave (sight self.old) (sight self.new) count) }
+        ensures uncounted { OnErr result ((sight self.new).given ≡ (sight self.old).given) }
+        ensures kept { (sight self.old).faults ≤ (sight self.new).faults }
+        ensures fault { OnErr result (Rose (sight self.old).faults (sight self.new).faults) };
 }
 
 /// Why a source was not read to its end.
@@ -64,15 +59,15 @@ pub fn read_whole<S: Source>(
     limit: usize,
 ) -> Result<Text, Or<Unread>>
     requires { limit < 2 ^ 62 }
-    ensures bytes { IfOk result (λ text. Consumes (S.left source.old) (S.left source.new) text) }
-    ensures end { IfOk result (λ text. IsAtEnd (S.left source.new)) }
+    ensures bytes { IfOk result (λ text. Lost (S.sight source.old) (S.sight source.new) text) }
+    ensures end { IfOk result (λ text. IsAtEnd (S.sight source.new).left) }
     ensures short { IfOk result (λ text. length text ≤ limit) }
-    ensures counted { IfOk result (λ text. S.given source.new ≡ raised (S.given source.old) (length text)) }
-    ensures kept { S.faults source.old ≤ S.faults source.new }
-    ensures fault { OnFault result (Rose (S.faults source.old) (S.faults source.new)) }
-    ensures too_long { OnTooLong result (RoseAbove limit (S.given source.old) (S.given source.new)) }
-    ensures told { OnTooLong result (IfSome (S.left source.old) (λ bytes. limit < length bytes)) }
-    ensures taken { RoseAtMost (limit + 1) (S.given source.old) (S.given source.new) }
+    ensures counted { IfOk result (λ text. Gave (S.sight source.old) (S.sight source.new) (length text)) }
+    ensures kept { (S.sight source.old).faults ≤ (S.sight source.new).faults }
+    ensures fault { OnFault result (Rose (S.sight source.old).faults (S.sight source.new).faults) }
+    ensures too_long { OnTooLong result (GaveAbove limit (S.sight source.old) (S.sight source.new)) }
+    ensures told { OnTooLong result (IfSome (S.sight source.old).left (λ bytes. limit < length bytes)) }
+    ensures taken { RoseAtMost (limit + 1) (S.sight source.old).given (S.sight source.new).given }
 {
     let mut piece = vec![in alloc; 0u8; PIECE]?;
     let mut bytes = Vec::new(alloc);

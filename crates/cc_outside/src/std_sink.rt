@@ -31,9 +31,7 @@ impl<O: Write> StdSink<O> {
 }
 
 impl<O: Write> Sink for StdSink<O> {
-    ghost held = { λ _. None };
-
-    ghost faults = { λ s. s };
+    ghost sight = { λ s. record { held = None; faults = s } };
 
     fn write(&mut self, piece: &[u8]) -> Result<usize, WriteFault> {
         match self.inner.write(piece) {

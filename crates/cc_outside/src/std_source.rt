@@ -15,7 +15,7 @@ pub struct StdSource<I: Read> {
 }
 
 impl<I: Read> Model for StdSource<I> {
-    ghost use Rattle.cc_outside.specs.Counts.{Flow};
+    ghost use Rattle.cc_outside.specs.Feeds.{Flow};
 
     ghost Value = { Flow };
 
@@ -36,11 +36,7 @@ impl<I: Read> StdSource<I> {
 }
 
 impl<I: Read> Source for StdSource<I> {
-    ghost left = { λ _. None };
-
-    ghost given = { λ s. s.given };
-
-    ghost faults = { λ s. s.faults };
+    ghost sight = { λ s. record { left = None; given = s.given; faults = s.faults } };
 
     fn read(&mut self, into: &mut [u8]) -> Result<usize, ReadFault> {
         match self.inner.read(into) {

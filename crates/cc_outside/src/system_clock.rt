@@ -36,9 +36,7 @@ impl<R: rt::Clock> SystemClock<R> {
 }
 
 impl<R: rt::Clock> Clock for SystemClock<R> {
-    ghost told = { λ _. None };
-
-    ghost readings = { λ c. c };
+    ghost sight = { λ c. record { told = None; readings = c } };
 
     fn now(&mut self) -> u64 {
         if let Ok(time) = self.rt.since_1970() {

@@ -1,8 +1,8 @@
 // The program: `ccbase FILE run` reads a session from standard input, runs it on the base that the files FILE and FILE.objects
 // keep, and writes its replies to standard output.
 //
-// What it promises: it adds nothing to `session_run::run_words` but the streams of the process, its clock, its two files, and
-// the two words `--help` and `--version`.
+// What it promises: it adds nothing to `session_run::run_words` but the streams of the process, its clock, its two files, the
+// two words `--help` and `--version`, and a line on standard error that says why a session was not carried out.
 //
 // What it stands on: `session_run`, `disk_model` for the files, `cc_outside` for the streams and the clock, and `cc_names` for
 // words.
@@ -22,7 +22,8 @@ const VERSION: &str = "ccbase 0.1.0\n";
 const HELP: &str = "ccbase FILE run
 
 Reads a session from standard input, runs it on the base that the files FILE and FILE.objects keep, and writes its
-replies to standard output. Files that are absent are made, and are an empty base.
+replies to standard output. Files that are absent are made, and are an empty base. FILE is locked meanwhile. Where the
+status is not 0, 1 or 8, a line on standard error says why.
 
 Ends with the status
   0  each command was carried out, and each unit of each build is made
@@ -84,6 +85,32 @@ fn disk_of(rt: HostRuntime, words: &[String]) -> Result<FileDisk<HostRuntime>, N
     Ok(FileDisk::new(rt, journal, objects))
 }
 
+/// Writes why a call did not carry its session out to standard error, in one line. What was carried out, and what memory was
+/// wanting for, has none.
+fn tell_cause(
+    rt: &HostRuntime,
+    status: Status,
+    words: &[String],
+    disk: &FileDisk<HostRuntime>,
+) -> io::Result<()> {
+    let file = words.first().map_or("", |word| word.as_str());
+    match status {
+        Status::Good | Status::SomeFailed | Status::NoMemory => Ok(()),
+        Status::BadWords => eprintln!(rt; "usage: ccbase FILE run"),
+        Status::BadSession => eprintln!(rt; "ccbase: standard input: it is no session"),
+        Status::Damaged(row) => eprintln!(rt; "ccbase: {file}: damaged at row {row}"),
+        Status::ReadFault => eprintln!(rt; "ccbase: standard input: a read failed"),
+        Status::WriteFault => eprintln!(rt; "ccbase: standard output: a write failed"),
+        Status::DiskFault => match disk.trouble() {
+            Some(trouble) => eprintln!(rt; "ccbase: {trouble}"),
+            None => eprintln!(rt; "ccbase: {file}: the disk failed"),
+        },
+        Status::TooLong => eprintln!(rt;
+            "ccbase: standard input: it has more than 16,777,216 bytes"
+        ),
+    }
+}
+
 /// Runs what the words ask for, and answers the status.
 fn run(rt: HostRuntime, words: &[String]) -> Result<Status, NoMemory> {
     let alloc = rt.alloc();
@@ -91,7 +118,7 @@ fn run(rt: HostRuntime, words: &[String]) -> Result<Status, NoMemory> {
     let disk = disk_of(rt.clone()?, words)?;
     let mut source = StdSource::new(rt.reader());
     let mut sink = StdSink::new(io::writer(&rt));
-    let mut clock = SystemClock::new(rt);
+    let mut clock = SystemClock::new(rt.clone()?);
     let ended = run_words(
         alloc,
         texts.as_slice(),
@@ -100,6 +127,7 @@ fn run(rt: HostRuntime, words: &[String]) -> Result<Status, NoMemory> {
         disk,
         &mut clock,
     );
+    let _ = tell_cause(&rt, ended.status, words, &ended.disk);
     Ok(ended.status)
 }
 

@@ -1,19 +1,17 @@
 -- What a call answers that decides a command.
-use Rattle.std.specs.Prelude.{◌≡◌, ℕ, ◌+◌, ◌-◌, Bool, true, false, Option, Result, Ok, Err, List, []}
+use Rattle.std.specs.Prelude.{◌≡◌, ℕ, ◌+◌, ◌-◌, Option, Result, Ok, Err, List}
 use Rattle.cc_names.specs.Formed.{Plain}
-use Rattle.cc_names.specs.declared.commands.Command.{Command}
-use Rattle.cc_names.specs.declared.commands.Command.TheVariants as commands
 use Rattle.cc_names.specs.declared.memory.Or.{Or}
 use Rattle.cc_names.specs.declared.memory.Or.TheVariants.{NoMemory, Is}
 use Rattle.cc_names.specs.declared.refusals.Refusal.{Refusal}
 use Rattle.cc_names.specs.declared.rows.Deed.TheVariants as deeds
 use Rattle.cc_names.specs.declared.rows.Tag.{Tag}
-use Rattle.legal_history.specs.Base.{Base, size}
-use Rattle.legal_history.specs.Builds.{building, reserved}
-use Rattle.legal_history.specs.Decisions.{Decision, Makes, Scene}
-use Rattle.legal_history.specs.FileLines.{save_deed}
-use Rattle.legal_history.specs.Fits.{row_limit}
-use Rattle.legal_history.specs.Seen.{at}
+use Rattle.legal_history.specs.Base.Rows.{Base, size}
+use Rattle.legal_history.specs.Builds.Active.{building, reserved}
+use Rattle.legal_history.specs.Commands.Decisions.{Decision, Makes, Scene}
+use Rattle.legal_history.specs.Commands.FileLines.{save_deed}
+use Rattle.legal_history.specs.Base.Fits.{row_limit}
+use Rattle.legal_history.specs.Base.Seen.{at}
 
 -- unless memory ran out, the refusal is the one that was decided
 abbrev pub RefusalIs : Or Refusal → Result Decision Refusal → Type 0
@@ -36,17 +34,6 @@ pub record Sees (s : Scene) (b : Base) (now : ℕ) (v : List ℕ) (build : Optio
   pub moment : s.moment ≡ now
   pub busy : building s.active v ≡ build
   pub room : room_of s ≡ rows
-
--- the commands that are carried out so far, those that build aside
-abbrev pub is_carried_out : Command → Bool
-is_carried_out (commands.Mkview view) = true
-is_carried_out (commands.Save view path text) = true
-is_carried_out command = false
-
--- the view in which a command is refused while it builds
-abbrev pub view_of : Command → List ℕ
-view_of (commands.Save view path text) = view
-view_of command = []
 
 -- a save at the path is one of a private file
 abbrev pub SavesPrivate : Base → List ℕ → List ℕ → Type 0

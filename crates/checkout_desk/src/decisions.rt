@@ -1,15 +1,16 @@
 // The decision on a command.
 
-ghost use Rattle.std.specs.Prelude.{◌≡◌, ℕ, ◌<◌, ◌≤◌, ◌^◌, length, reverse, true, IfOk, OnOk};
+ghost use Rattle.std.specs.Prelude.{◌≡◌, ℕ, ◌<◌, ◌≤◌, ◌^◌, length, true, false, IfOk, OnOk};
 ghost use Rattle.session_text.specs.Formed.{IsCommand};
-ghost use Rattle.legal_history.specs.Decisions.{Scene};
-ghost use Rattle.legal_history.specs.Lines.{decision};
-ghost use Rattle.view_lookup.specs.Unversioned.{is_unversioned, is_plain_deed};
-ghost use Rattle.checkout_desk.specs.Deciding.{Sees, Decides, is_carried_out, view_of};
+ghost use Rattle.legal_history.specs.Commands.Decisions.{Scene};
+ghost use Rattle.legal_history.specs.Commands.Lines.{decision};
+ghost use Rattle.carried_out.specs.CarriedOut.{is_carried_out, is_made};
+ghost use Rattle.checkout_desk.specs.Commands.{builds, view_of};
+ghost use Rattle.checkout_desk.specs.Deciding.{Sees, Decides};
 
 use crate::saves::save;
 use crate::stamps::Stamp;
-use crate::views::mkview;
+use crate::views::{mkview, rmview};
 use cc_names::commands::Command;
 use cc_names::memory::Or;
 use cc_names::refusals::Refusal;
@@ -28,18 +29,19 @@ pub fn decide(
     busy: Option<Tag>,
     room: u64,
 ) -> Result<Row, Or<Refusal>>
-    requires unversioned { is_unversioned (reverse rows.now) ≡ true }
     requires carried_out { is_carried_out command.now ≡ true }
+    requires no_build { builds command.now ≡ false }
     requires formed { IsCommand 16777216 command.now }
     requires in_time { stamp.moment ≤ 253402300799 }
 
-    ensures decided { (scene : Scene) (now : ℕ) → Sees scene (reverse rows.now) now (view_of command.now) busy room
+    ensures decided { (scene : Scene) (now : ℕ) → Sees scene rows.now now (view_of command.now) busy room
         → Decides stamp.tag stamp.moment result (decision scene command.now) }
-    ensures plain { IfOk result (λ row. is_plain_deed row.deed ≡ true) }
+    ensures made { IfOk result (λ row. is_made row.deed ≡ true) }
     ensures room { OnOk result (0 < room) }
 {
     match command {
         Command::Mkview { view } => mkview(alloc, rows, view, stamp, room),
+        Command::Rmview { view, force } => rmview(alloc, rows, view, *force, stamp, busy, room),
         Command::Save { view, path, text } => {
             save(alloc, rows, view, path, text, stamp, busy, room)
         }

@@ -1,7 +1,7 @@
 // Room for one more row.
 
 ghost use Rattle.std.specs.Prelude.{◌≡◌, ◌<◌, IfNone};
-ghost use Rattle.legal_history.specs.Decisions.{Scene, needs_room};
+ghost use Rattle.legal_history.specs.Commands.Decisions.{Scene, needs_room};
 ghost use Rattle.checkout_desk.specs.Deciding.{room_of};
 
 use cc_names::refusals::Refusal;

@@ -1,15 +1,14 @@
 // Saving the text of a file.
 
-ghost use Rattle.std.specs.Prelude.{◌≡◌, ℕ, ◌<◌, ◌≤◌, ◌^◌, ◌∷◌, [], ◌++◌, length, reverse, true, IsSome, IfOk, IfNone, OnOk};
+ghost use Rattle.std.specs.Prelude.{◌≡◌, ℕ, ◌<◌, ◌≤◌, ◌^◌, ◌∷◌, [], ◌++◌, length, true, IsSome, IfOk, IfNone, OnOk};
 ghost use Rattle.cc_names.specs.Formed.{IsBelowRoot};
 ghost use Rattle.cc_names.specs.declared.rows.Tag.{Tag};
-ghost use Rattle.legal_history.specs.Tests.{needs_selected, needs_directory};
-ghost use Rattle.view_lookup.specs.Roots.{IsRootOrFile};
-ghost use Rattle.legal_history.specs.Seen.{at};
-ghost use Rattle.legal_history.specs.Views.{view_row};
-ghost use Rattle.legal_history.specs.Decisions.{Scene, first_refusal, needs_room};
-ghost use Rattle.legal_history.specs.FileLines.{save, save_tests, saves_at};
-ghost use Rattle.view_lookup.specs.Unversioned.{is_unversioned, is_plain_deed};
+ghost use Rattle.legal_history.specs.Commands.Tests.{needs_selected, needs_directory};
+ghost use Rattle.legal_history.specs.Base.Seen.{at};
+ghost use Rattle.legal_history.specs.Base.Views.{view_row};
+ghost use Rattle.legal_history.specs.Commands.Decisions.{Scene, first_refusal, needs_room};
+ghost use Rattle.legal_history.specs.Commands.FileLines.{save, save_tests, saves_at};
+ghost use Rattle.carried_out.specs.CarriedOut.{is_made};
 ghost use Rattle.checkout_desk.specs.Deciding.{Sees, Decides, SavesPrivate};
 
 use crate::room::needs_room;
@@ -18,20 +17,22 @@ use cc_names::memory::{NoMemory, Or};
 use cc_names::names::Name;
 use cc_names::paths::Path;
 use cc_names::refusals::Refusal;
-use cc_names::rows::{Deed, Row, Tag};
+use cc_names::rows::{Deed, Kind, Row, Tag};
 use cc_names::selection::Seen;
 use cc_names::texts::Text;
 use std::alloc::Global;
-use view_lookup::{FirstRows, at, held, view_row};
+use view_lookup::{FirstRows, at, held, kind_of, view_row};
 
-/// The refusal of a directory in which a private file may not be saved: nothing or a file stands there.
-fn needs_directory(parent: Path, seen: Seen) -> Option<Refusal>
-    requires { IsRootOrFile seen }
-    ensures { (scene : Scene) → is_unversioned scene.base ≡ true
-        → result ≡ first_refusal (needs_selected parent seen ∷ needs_directory scene.base parent seen ∷ []) }
+/// The refusal of a directory in which a file may not be saved: nothing is selected there, or it is no directory.
+fn needs_directory(rows: &FirstRows<'_>, parent: Path, seen: Seen) -> Option<Refusal>
+    ensures { result ≡ first_refusal (needs_selected parent seen ∷ needs_directory rows.now parent seen ∷ []) }
 {
     match seen {
-        Seen::Element(_, _) => None,
+        Seen::Element(element, _) => match kind_of(rows, element) {
+            Some(Kind::Directory) => None,
+            Some(Kind::File) => Some(Refusal::NotDirectory(parent)),
+            None => Some(Refusal::NotDirectory(parent)),
+        },
         Seen::Private(_) => Some(Refusal::NotDirectory(parent)),
         Seen::Unselected(_) => Some(Refusal::NoPath(parent)),
         Seen::Nothing => Some(Refusal::NoPath(parent)),
@@ -46,19 +47,21 @@ fn saves_at(
     view: &Name,
     path: &Path,
 ) -> Result<Option<Refusal>, NoMemory>
-    requires unversioned { is_unversioned (reverse rows.now) ≡ true }
-    requires view { IsSome (view_row (reverse rows.now) view.now) }
+    requires view { IsSome (view_row rows.now view.now) }
     requires below { IsBelowRoot path.now }
-    ensures { IfOk result (λ refusal. refusal ≡ saves_at (reverse rows.now) view.now path.now (at (reverse rows.now) view.now path.now)) }
+    ensures refusal { IfOk result (λ refusal. refusal ≡ saves_at rows.now view.now path.now (at rows.now view.now path.now)) }
+    ensures private { IfOk result (λ refusal. SavesPrivate rows.now view.now path.now) }
 {
     match at(rows, view, path) {
-        Seen::Nothing => {}
-        _ => return Ok(None),
+        Seen::Private(_) => Ok(None),
+        Seen::Nothing => match held(rows, view, path) {
+            Some(_) => Ok(Some(Refusal::IsDerived(path.copy(alloc)?))),
+            None => Ok(None),
+        },
+        // No element stands below the root so far.
+        Seen::Element(_, _) => unreachable!(),
+        Seen::Unselected(_) => unreachable!(),
     }
-    if held(rows, view, path).is_none() {
-        return Ok(None);
-    }
-    Ok(Some(Refusal::IsDerived(path.copy(alloc)?)))
 }
 
 /// The first refusal of `save V P`, its room included. Takes time linear in the path, however many rows there are.
@@ -70,12 +73,11 @@ fn save_refusal(
     busy: Option<Tag>,
     room: u64,
 ) -> Result<Option<Refusal>, NoMemory>
-    requires unversioned { is_unversioned (reverse rows.now) ≡ true }
     requires below { IsBelowRoot path.now }
-    ensures refusal { IfOk result (λ refusal. (scene : Scene) (now : ℕ) → Sees scene (reverse rows.now) now view.now busy room
+    ensures refusal { IfOk result (λ refusal. (scene : Scene) (now : ℕ) → Sees scene rows.now now view.now busy room
         → refusal ≡ first_refusal (save_tests scene view.now path.now ++ needs_room scene 1 ∷ [])) }
     ensures room { IfOk result (λ refusal. IfNone refusal (0 < room)) }
-    ensures private { IfOk result (λ refusal. IfNone refusal (SavesPrivate (reverse rows.now) view.now path.now)) }
+    ensures private { IfOk result (λ refusal. IfNone refusal (SavesPrivate rows.now view.now path.now)) }
 {
     if view_row(rows, view).is_none() {
         return Ok(Some(Refusal::NoView));
@@ -86,7 +88,7 @@ fn save_refusal(
     }
     let parent = path.parent(alloc)?.unwrap_or(Path::root());
     let above = at(rows, view, &parent);
-    match needs_directory(parent, above) {
+    match needs_directory(rows, parent, above) {
         Some(refusal) => return Ok(Some(refusal)),
         None => {}
     }
@@ -96,7 +98,7 @@ fn save_refusal(
     }
 }
 
-/// The row of `save V P` in a base without elements, or its first refusal.
+/// The row of `save V P`, or its first refusal.
 pub fn save(
     alloc: Global,
     rows: &FirstRows<'_>,
@@ -107,13 +109,12 @@ pub fn save(
     busy: Option<Tag>,
     room: u64,
 ) -> Result<Row, Or<Refusal>>
-    requires unversioned { is_unversioned (reverse rows.now) ≡ true }
     requires below { IsBelowRoot path.now }
     requires short { length text.now ≤ 16777216 }
     requires in_time { stamp.moment ≤ 253402300799 }
-    ensures decided { (scene : Scene) (now : ℕ) → Sees scene (reverse rows.now) now view.now busy room
+    ensures decided { (scene : Scene) (now : ℕ) → Sees scene rows.now now view.now busy room
         → Decides stamp.tag stamp.moment result (save scene view.now path.now text.now) }
-    ensures plain { IfOk result (λ row. is_plain_deed row.deed ≡ true) }
+    ensures made { IfOk result (λ row. is_made row.deed ≡ true) }
     ensures room { OnOk result (0 < room) }
 {
     match save_refusal(alloc, rows, view, path, busy, room)? {

@@ -1,11 +1,12 @@
 // The commands on views.
 
-ghost use Rattle.std.specs.Prelude.{◌≡◌, ℕ, List, Option, ◌<◌, ◌≤◌, ◌^◌, ◌∷◌, [], ◌++◌, length, reverse, IfNone, IfOk, OnOk, true};
+ghost use Rattle.std.specs.Prelude.{◌≡◌, ℕ, List, Option, ◌<◌, ◌≤◌, ◌^◌, ◌∷◌, [], ◌++◌, length, IfNone, IfOk, OnOk, true};
 ghost use Rattle.cc_names.specs.Names.{IsName};
-ghost use Rattle.view_lookup.specs.Unversioned.{is_plain_deed};
-ghost use Rattle.legal_history.specs.Decisions.{Scene, first_refusal, needs_room};
-ghost use Rattle.legal_history.specs.FileLines.{mkview, mkview_tests};
-ghost use Rattle.legal_history.specs.Builds.{Active};
+ghost use Rattle.carried_out.specs.CarriedOut.{is_made};
+ghost use Rattle.legal_history.specs.Commands.Decisions.{Scene, first_refusal, needs_room};
+ghost use Rattle.legal_history.specs.Commands.FileLines.{mkview, mkview_tests, rmview, rmview_tests};
+ghost use Rattle.legal_history.specs.Builds.Active.{Active};
+ghost use Rattle.legal_history.specs.Commands.Tests.{needs_no_checkouts};
 ghost use Rattle.checkout_desk.specs.Deciding.{Sees, Decides};
 ghost use Rattle.cc_names.specs.declared.rows.Tag.{Tag};
 
@@ -14,13 +15,13 @@ use crate::stamps::Stamp;
 use cc_names::memory::Or;
 use cc_names::names::Name;
 use cc_names::refusals::Refusal;
-use cc_names::rows::{Deed, Row};
+use cc_names::rows::{Deed, Row, Tag};
 use std::alloc::Global;
-use view_lookup::{FirstRows, view_row};
+use view_lookup::{FirstRows, oldest_out, view_row};
 
 /// The first refusal of `mkview V`, its room included.
 fn mkview_refusal(rows: &FirstRows<'_>, view: &Name, room: u64) -> Option<Refusal>
-    ensures refusal { (scene : Scene) (moment : ℕ) (other : List ℕ) (busy : Option Tag) → Sees scene (reverse rows.now) moment other busy room
+    ensures refusal { (scene : Scene) (moment : ℕ) (other : List ℕ) (busy : Option Tag) → Sees scene rows.now moment other busy room
         → result ≡ first_refusal (mkview_tests scene view.now ++ needs_room scene 1 ∷ []) }
     ensures room { IfNone result (0 < room) }
 {
@@ -39,9 +40,9 @@ pub fn mkview(
     room: u64,
 ) -> Result<Row, Or<Refusal>>
     requires { stamp.moment ≤ 253402300799 }
-    ensures decided { (scene : Scene) (now : ℕ) (other : List ℕ) (busy : Option Tag) → Sees scene (reverse rows.now) now other busy room
+    ensures decided { (scene : Scene) (now : ℕ) (other : List ℕ) (busy : Option Tag) → Sees scene rows.now now other busy room
         → Decides stamp.tag stamp.moment result (mkview scene view.now) }
-    ensures plain { IfOk result (λ row. is_plain_deed row.deed ≡ true) }
+    ensures made { IfOk result (λ row. is_made row.deed ≡ true) }
     ensures room { OnOk result (0 < room) }
 {
     if let Some(refusal) = mkview_refusal(rows, view, room) {
@@ -49,4 +50,65 @@ pub fn mkview(
     }
     let view = view.copy(alloc)?;
     Ok(Row::of(stamp.tag, stamp.moment, Deed::Mkview { view }))
+}
+
+/// The refusal of a view that has checkouts, unless it is to go by force.
+fn needs_no_checkouts(rows: &FirstRows<'_>, view: &Name, force: bool) -> Option<Refusal>
+    ensures { result ≡ needs_no_checkouts rows.now view.now force }
+{
+    if force {
+        return None;
+    }
+    match oldest_out(rows, view) {
+        Some(row) => Some(Refusal::HasCheckouts(row)),
+        None => None,
+    }
+}
+
+/// The first refusal of `rmview [-force] V`, its room included.
+fn rmview_refusal(
+    rows: &FirstRows<'_>,
+    view: &Name,
+    force: bool,
+    busy: Option<Tag>,
+    room: u64,
+) -> Option<Refusal>
+    ensures refusal { (scene : Scene) (now : ℕ) → Sees scene rows.now now view.now busy room
+        → result ≡ first_refusal (rmview_tests scene view.now force ++ needs_room scene 1 ∷ []) }
+    ensures room { IfNone result (0 < room) }
+{
+    if view_row(rows, view).is_none() {
+        return Some(Refusal::NoView);
+    }
+    match busy {
+        Some(build) => return Some(Refusal::Building(build)),
+        None => {}
+    }
+    match needs_no_checkouts(rows, view, force) {
+        Some(refusal) => Some(refusal),
+        None => needs_room(room),
+    }
+}
+
+/// The row of `rmview [-force] V`, or its first refusal.
+pub fn rmview(
+    alloc: Global,
+    rows: &FirstRows<'_>,
+    view: &Name,
+    force: bool,
+    stamp: Stamp,
+    busy: Option<Tag>,
+    room: u64,
+) -> Result<Row, Or<Refusal>>
+    requires { stamp.moment ≤ 253402300799 }
+    ensures decided { (scene : Scene) (now : ℕ) → Sees scene rows.now now view.now busy room
+        → Decides stamp.tag stamp.moment result (rmview scene view.now force) }
+    ensures made { IfOk result (λ row. is_made row.deed ≡ true) }
+    ensures room { OnOk result (0 < room) }
+{
+    if let Some(refusal) = rmview_refusal(rows, view, force, busy, room) {
+        return Err(Or::Is(refusal));
+    }
+    let view = view.copy(alloc)?;
+    Ok(Row::of(stamp.tag, stamp.moment, Deed::Rmview { view }))
 }

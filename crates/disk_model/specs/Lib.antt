@@ -3,6 +3,7 @@ pub mod Counting
 pub mod Devices
 pub mod Files
 pub mod MemoryDisks
+pub mod Overwriting
 pub mod Picks
 pub mod Records
 pub mod Told

@@ -1,6 +1,6 @@
 // The trait of disks.
 
-ghost use Rattle.std.specs.Prelude.{◌≡◌, ◌≤◌, ◌+◌, ◌^◌, length, take, drop, is_some, IfOk, MatchResult};
+ghost use Rattle.std.specs.Prelude.{◌≡◌, ◌≤◌, ◌+◌, ◌^◌, Bool, length, take, drop, is_some, IfOk, MatchResult};
 ghost use Rattle.disk_model.specs.Devices.{bytes_of, Measures, Fetches, Writes, Syncs, Idles, Tears};
 ghost use Rattle.disk_model.specs.Told.{Sight, IfTold, Both, Counted, IsCounted};
 
@@ -24,10 +24,14 @@ impl std::error::Error for DiskFault {}
 /// answers `DiskFault`.
 ///
 /// A disk may tell its device: both files as they were handed in and the list of all calls. What the files hold, and
-/// what a stop at each call leaves of them, are functions of it.
+/// what a stop at each call leaves of them, are functions of it. Contracts alone know what is told: no call answers it,
+/// and code over any disk has one body for those that tell and those that do not, so what it writes is the same on both.
 pub trait Disk {
     /// The device, where it is told, and the counts.
     ghost sight: { Self → Sight };
+
+    /// Whether the disks of this type tell their device: those in memory do, those over real files do not.
+    ghost tells: { Bool };
 
     /// The file's length. A file longer than 2^62 bytes is a fault.
     fn length(&mut self, file: u8) -> Result<u64, DiskFault>
@@ -65,10 +69,9 @@ pub trait Disk {
         ensures ticks { result.ticks ≡ (sight self.now).ticks }
         ensures faults { result.faults ≡ (sight self.now).faults };
 
-    /// Whether the disk tells its device: one in memory does, real files do not. It is no device call.
-    fn tells(&self) -> bool
-        ensures { result ≡ is_some (sight self.now).told };
-
     /// The counts fit, and there is a tick for each call that is told.
     ghost counted: { (disk : Self) → IsCounted (sight disk) };
+
+    /// A disk tells its device or not, as its type says, whatever was done to it.
+    ghost as_typed: { (disk : Self) → is_some (sight disk).told ≡ tells };
 }

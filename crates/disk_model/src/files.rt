@@ -6,170 +6,148 @@ ghost use Rattle.disk_model.specs.Told.{Sight};
 
 use crate::Counts;
 use crate::disk::{Disk, DiskFault};
-use std::fs::{OpenFile, OpenOptions};
-use std::io::{self, Read, Seek, SeekFrom, Write};
+use crate::named::NamedFile;
+use std::fs::File;
 use std::rt::Files;
+use std::{fmt, io};
 
 /// The length that no file of a disk passes, 2^62.
 const MAX_LENGTH: u64 = 1 << 62;
 
-/// A file by its name, and its handle while it is open.
-#[derive(Drop)]
-struct Named<F> {
-    name: String,
-    open: Option<F>,
+/// Why a call failed: the name of the file, and the system's words.
+#[derive(Clone, Copy, Debug)]
+pub struct Trouble<'a> {
+    pub file: &'a str,
+    pub cause: io::Error,
 }
 
-/// A disk over two files, which it opens, creates where they are absent, and syncs, at its first call. A handle whose call
-/// failed is dropped, and the file is opened anew at the next call.
+impl fmt::Display for Trouble<'_> {
+    fn fmt<W: fmt::Write>(&self, f: &mut fmt::Formatter<W>) -> fmt::Result {
+        write!(f, "{}: {}", self.file, self.cause)
+    }
+}
+
+/// Both files, the lock on them, and the first failure.
 #[derive(Drop)]
-pub struct FileDisk<R: Files> {
+struct BaseFiles<R: Files<File = File>> {
     rt: R,
-    journal: Named<R::File>,
-    objects: Named<R::File>,
+    journal: NamedFile,
+    objects: NamedFile,
+    /// The handle that holds the lock on the journal, from the first call on.
+    lock: Option<File>,
+    /// The first failure, and the file under which it came.
+    failed: Option<(u8, io::Error)>,
+}
+
+impl<R: Files<File = File>> BaseFiles<R> {
+    fn file(&mut self, file: u8) -> &mut NamedFile {
+        if file == 0 {
+            &mut self.journal
+        } else {
+            &mut self.objects
+        }
+    }
+
+    /// Notes a failure under a file, if it is the first.
+    fn note(&mut self, file: u8, cause: io::Error) -> DiskFault {
+        if self.failed.is_none() {
+            self.failed = Some((file, cause));
+        }
+        DiskFault
+    }
+
+    /// Takes the lock, if this disk does not hold it yet, and opens what is not open.
+    fn open(&mut self) -> Result<(), DiskFault> {
+        if self.lock.is_none() {
+            match self.journal.locked(&self.rt) {
+                Ok(lock) => self.lock = Some(lock),
+                Err(cause) => return Err(self.note(0, cause)),
+            }
+        }
+        if let Err(cause) = self.journal.open(&self.rt) {
+            return Err(self.note(0, cause));
+        }
+        if let Err(cause) = self.objects.open(&self.rt) {
+            return Err(self.note(1, cause));
+        }
+        Ok(())
+    }
+
+    fn measure(&mut self, file: u8) -> Result<u64, DiskFault>
+        ensures { IfOk result (λ length. length ≤ 2 ^ 62) }
+    {
+        self.open()?;
+        match self.file(file).measure() {
+            Ok(length) if length <= MAX_LENGTH => Ok(length),
+            Ok(_) => Err(self.note(file, io::ErrorKind::FileTooLarge.into())),
+            Err(cause) => Err(self.note(file, cause)),
+        }
+    }
+
+    fn read(&mut self, file: u8, place: u64, into: &mut [u8]) -> Result<(), DiskFault> {
+        self.open()?;
+        match self.file(file).read(place, into) {
+            Ok(()) => Ok(()),
+            Err(cause) => Err(self.note(file, cause)),
+        }
+    }
+
+    fn write(&mut self, file: u8, place: u64, piece: &[u8]) -> Result<(), DiskFault> {
+        self.open()?;
+        match self.file(file).write(place, piece) {
+            Ok(()) => Ok(()),
+            Err(cause) => Err(self.note(file, cause)),
+        }
+    }
+
+    fn sync(&mut self, file: u8) -> Result<(), DiskFault> {
+        self.open()?;
+        match self.file(file).sync() {
+            Ok(()) => Ok(()),
+            Err(cause) => Err(self.note(file, cause)),
+        }
+    }
+}
+
+/// A disk over two files, which it opens, creates where they are absent, and syncs, at its first call. With that call it
+/// takes the exclusive lock of the first file, and holds it as long as it lives: where another program has the lock each
+/// call is a fault, and nothing is read or written. No handle is a standard descriptor, so nothing that is printed gets
+/// into a file, also where standard output is closed. A handle whose call failed is dropped, and the file is opened anew
+/// at the next call.
+#[derive(Drop)]
+pub struct FileDisk<R: Files<File = File>> {
+    files: BaseFiles<R>,
     ticks: u64,
     faults: u64,
     ghost ticks_fit: { ticks < 2 ^ 64 },
     ghost faults_fit: { faults < 2 ^ 64 },
 }
 
-/// Opens a file, made where it is absent, and syncs it: what a program that was killed wrote there may not be on the disk yet.
-fn opened<R: Files>(rt: &R, name: &str) -> io::Result<R::File> {
-    let file = OpenOptions::new()
-        .read(true)
-        .write(true)
-        .create(true)
-        .open(rt, name)?;
-    file.sync_data()?;
-    Ok(file)
-}
-
-/// The file's handle, taken out; whoever took it puts it back after a call that succeeded.
-fn take<R: Files>(rt: &R, file: &mut Named<R::File>) -> io::Result<R::File> {
-    match file.open.take() {
-        Some(open) => Ok(open),
-        None => opened(rt, file.name.as_str()),
-    }
-}
-
-fn open<R: Files>(rt: &R, file: &mut Named<R::File>) -> io::Result<()> {
-    file.open = Some(take(rt, file)?);
-    Ok(())
-}
-
-fn measure<R: Files>(rt: &R, file: &mut Named<R::File>) -> io::Result<u64>
-    ensures { IfOk result (λ length. length ≤ 2 ^ 62) }
-{
-    let handle = take(rt, file)?;
-    let length = handle.metadata()?.len();
-    file.open = Some(handle);
-    if length > MAX_LENGTH {
-        return Err(io::ErrorKind::FileTooLarge.into());
-    }
-    Ok(length)
-}
-
-fn read<R: Files>(
-    rt: &R,
-    file: &mut Named<R::File>,
-    place: u64,
-    into: &mut [u8],
-) -> io::Result<()> {
-    let mut handle = take(rt, file)?;
-    handle.seek(SeekFrom::Start(place))?;
-    handle.read_exact(into)?;
-    file.open = Some(handle);
-    Ok(())
-}
-
-fn write<R: Files>(rt: &R, file: &mut Named<R::File>, place: u64, piece: &[u8]) -> io::Result<()> {
-    let mut handle = take(rt, file)?;
-    handle.seek(SeekFrom::Start(place))?;
-    handle.write_all(piece)?;
-    file.open = Some(handle);
-    Ok(())
-}
-
-fn sync<R: Files>(rt: &R, file: &mut Named<R::File>) -> io::Result<()> {
-    let handle = take(rt, file)?;
-    handle.sync_data()?;
-    file.open = Some(handle);
-    Ok(())
-}
-
-impl<R: Files> FileDisk<R> {
+impl<R: Files<File = File>> FileDisk<R> {
     /// The disk over the files of these names. It opens nothing yet.
     pub fn new(rt: R, journal: String, objects: String) -> FileDisk<R> {
         FileDisk {
-            rt,
-            journal: Named {
-                name: journal,
-                open: None,
-            },
-            objects: Named {
-                name: objects,
-                open: None,
+            files: BaseFiles {
+                rt,
+                journal: NamedFile::new(journal),
+                objects: NamedFile::new(objects),
+                lock: None,
+                failed: None,
             },
             ticks: 0,
             faults: 0,
         }
     }
 
-    fn open_both(&mut self) -> io::Result<()>
-        ensures ticks { self.new.ticks ≡ self.old.ticks }
-        ensures faults { self.new.faults ≡ self.old.faults }
-    {
-        open(&self.rt, &mut self.journal)?;
-        open(&self.rt, &mut self.objects)
-    }
-
-    fn measure(&mut self, file: u8) -> io::Result<u64>
-        ensures length { IfOk result (λ length. length ≤ 2 ^ 62) }
-        ensures ticks { self.new.ticks ≡ self.old.ticks }
-        ensures faults { self.new.faults ≡ self.old.faults }
-    {
-        self.open_both()?;
-        if file == 0 {
-            measure(&self.rt, &mut self.journal)
+    /// Why the first of the calls that failed did so, for a user to read; none where each call so far was made.
+    pub fn trouble(&self) -> Option<Trouble<'_>> {
+        let (file, cause) = self.files.failed?;
+        let name = if file == 0 {
+            self.files.journal.name()
         } else {
-            measure(&self.rt, &mut self.objects)
-        }
-    }
-
-    fn read(&mut self, file: u8, place: u64, into: &mut [u8]) -> io::Result<()>
-        ensures ticks { self.new.ticks ≡ self.old.ticks }
-        ensures faults { self.new.faults ≡ self.old.faults }
-    {
-        self.open_both()?;
-        if file == 0 {
-            read(&self.rt, &mut self.journal, place, into)
-        } else {
-            read(&self.rt, &mut self.objects, place, into)
-        }
-    }
-
-    fn write(&mut self, file: u8, place: u64, piece: &[u8]) -> io::Result<()>
-        ensures ticks { self.new.ticks ≡ self.old.ticks }
-        ensures faults { self.new.faults ≡ self.old.faults }
-    {
-        self.open_both()?;
-        if file == 0 {
-            write(&self.rt, &mut self.journal, place, piece)
-        } else {
-            write(&self.rt, &mut self.objects, place, piece)
-        }
-    }
-
-    fn synced(&mut self, file: u8) -> io::Result<()>
-        ensures ticks { self.new.ticks ≡ self.old.ticks }
-        ensures faults { self.new.faults ≡ self.old.faults }
-    {
-        self.open_both()?;
-        if file == 0 {
-            sync(&self.rt, &mut self.journal)
-        } else {
-            sync(&self.rt, &mut self.objects)
-        }
+            self.files.objects.name()
+        };
+        Some(Trouble { file: name, cause })
     }
 
     /// Counts a call, if one may still be made.
@@ -194,14 +172,21 @@ impl<R: Files> FileDisk<R> {
     }
 }
 
-impl<R: Files> Disk for FileDisk<R> {
+impl<R: Files<File = File>> Disk for FileDisk<R> {
+    ghost use Rattle.std.specs.Prelude.{None, false, refl};
+    ghost use Rattle.disk_model.specs.Told.{Sight};
+
     ghost sight = { λ disk. record { told = None; ticks = disk.ticks; faults = disk.faults } };
+
+    ghost tells = { false };
+
+    ghost as_typed = { λ disk. refl };
 
     ghost counted = { λ disk. record { ticks = disk.ticks_fit; faults = disk.faults_fit; told = tt } };
 
     fn length(&mut self, file: u8) -> Result<u64, DiskFault> {
         if self.begins()
-            && let Ok(length) = self.measure(file)
+            && let Ok(length) = self.files.measure(file)
         {
             return Ok(length);
         }
@@ -209,7 +194,7 @@ impl<R: Files> Disk for FileDisk<R> {
     }
 
     fn read_at(&mut self, file: u8, place: u64, into: &mut [u8]) -> Result<(), DiskFault> {
-        if self.begins() && self.read(file, place, into).is_ok() {
+        if self.begins() && self.files.read(file, place, into).is_ok() {
             return Ok(());
         }
         Err(self.fault())
@@ -217,21 +202,17 @@ impl<R: Files> Disk for FileDisk<R> {
 
     fn write_at(&mut self, file: u8, place: u64, piece: &[u8]) -> Result<(), DiskFault> {
         let fits = place <= MAX_LENGTH && piece.len() as u64 <= MAX_LENGTH - place;
-        if self.begins() && fits && self.write(file, place, piece).is_ok() {
+        if self.begins() && fits && self.files.write(file, place, piece).is_ok() {
             return Ok(());
         }
         Err(self.fault())
     }
 
     fn sync(&mut self, file: u8) -> Result<(), DiskFault> {
-        if self.begins() && self.synced(file).is_ok() {
+        if self.begins() && self.files.sync(file).is_ok() {
             return Ok(());
         }
         Err(self.fault())
-    }
-
-    fn tells(&self) -> bool {
-        false
     }
 
     fn counts(&self) -> Counts {

@@ -15,11 +15,12 @@ mod disk;
 mod files;
 mod images;
 mod memory;
+mod named;
 #[cfg(test)]
 mod tests;
 
 pub use calls::{Call, Entry};
 pub use cc_names::steps::Counts;
 pub use disk::{Disk, DiskFault};
-pub use files::FileDisk;
+pub use files::{FileDisk, Trouble};
 pub use memory::MemoryDisk;

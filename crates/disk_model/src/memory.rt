@@ -11,7 +11,7 @@ use crate::disk::{Disk, DiskFault};
 use crate::images::{Keep, image_of, overwrite};
 use cc_names::memory::NoMemory;
 use cc_names::texts::Text;
-use std::alloc::Global;
+use std::alloc::{AllocError, Global};
 
 /// The length that no file of a disk passes, 2^62.
 const MAX_LENGTH: u64 = 1 << 62;
@@ -24,6 +24,8 @@ struct Contents {
 }
 
 impl Contents {
+    ghost use Rattle.disk_model.specs.Overwriting.{AreKept, AreOverwritten};
+
     fn of(alloc: Global, journal: &[u8], objects: &[u8]) -> Result<Contents, NoMemory>
         ensures { IfOk result (λ contents. (contents.journal.items ≡ journal.now) × (contents.objects.items ≡ objects.now)) }
     {
@@ -31,6 +33,19 @@ impl Contents {
             journal: Vec::from_slice(alloc, journal)?,
             objects: Vec::from_slice(alloc, objects)?,
         })
+    }
+
+    /// Writes a piece over a file from a place on. An `Err` changes nothing.
+    fn overwrite(&mut self, file: u8, place: u64, piece: &[u8]) -> Result<(), AllocError>
+        requires { file ≤ 1 }
+        ensures ok { OnOk result (AreOverwritten file place piece.now self.old self.new) }
+        ensures err { OnErr result (AreKept self.old self.new) }
+    {
+        if file == 0 {
+            overwrite(&mut self.journal, place, piece)
+        } else {
+            overwrite(&mut self.objects, place, piece)
+        }
     }
 }
 
@@ -178,12 +193,7 @@ impl MemoryDisk {
         if self.entries.reserve(1).is_err() {
             return Err(self.miss());
         }
-        let written = if file == 0 {
-            overwrite(&mut self.current.journal, place, landed)
-        } else {
-            overwrite(&mut self.current.objects, place, landed)
-        };
-        if written.is_err() {
+        if self.current.overwrite(file, place, landed).is_err() {
             return Err(self.miss());
         }
         let call = Call::Write {
@@ -203,9 +213,14 @@ impl MemoryDisk {
 }
 
 impl Disk for MemoryDisk {
+    ghost use Rattle.std.specs.Prelude.{true, refl};
     ghost use Rattle.disk_model.specs.MemoryDisks.{sight_of};
 
     ghost sight = { sight_of };
+
+    ghost tells = { true };
+
+    ghost as_typed = { λ disk. refl };
 
     ghost counted = { λ disk. record { ticks = disk.replayed.ticks_fit; faults = disk.replayed.faults_fit; told = disk.replayed.a_tick_each } };
 
@@ -245,10 +260,6 @@ impl Disk for MemoryDisk {
 
     fn sync(&mut self, file: u8) -> Result<(), DiskFault> {
         self.make(Call::Sync { file })
-    }
-
-    fn tells(&self) -> bool {
-        true
     }
 
     fn counts(&self) -> Counts {

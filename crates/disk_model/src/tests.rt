@@ -1,6 +1,6 @@
 // What stops leave of a disk in memory, its record of calls, and what real files hold.
 
-ghost use Rattle.std.specs.Prelude.{◌≤◌};
+ghost use Rattle.std.specs.Prelude.{◌≡◌, ◌≤◌, IfOk, length};
 
 use super::*;
 use std::alloc::Global;
@@ -8,29 +8,49 @@ use std::fs;
 use std::process::Abort;
 use std::test::Fail;
 
-fn put(rt: &impl Abort, disk: &mut MemoryDisk, place: u64, piece: &[u8]) -> Result<(), DiskFault> {
+const NO_CALLS: Counts = Counts {
+    ticks: 0,
+    faults: 0,
+};
+
+fn put(rt: &impl Abort, disk: &mut MemoryDisk, place: u64, piece: &[u8]) -> bool {
     assert!(rt; place <= disk.bytes(0).len() as u64);
-    disk.write_at(0, place, piece)
+    disk.write_at(0, place, piece).is_ok()
 }
 
-fn stop(
+fn tell_counts(rt: &impl Abort, counts: Counts, ticks: u64, faults: u64) {
+    assert_eq!(rt; counts, Counts { ticks, faults });
+}
+
+/// What a stop at a call leaves of the journal, by the pick.
+fn tell_stop(
     rt: &impl Abort,
     alloc: Global,
     disk: &MemoryDisk,
     call: u64,
     pick: u64,
-) -> Result<MemoryDisk, Fail> {
+    found: &[u8],
+) -> Result<(), Fail> {
     assert!(rt; 1 <= call && call - 1 <= disk.counts().ticks);
-    Ok(disk.crash(alloc, call, pick)?)
+    let left = disk.crash(alloc, call, pick)?;
+    assert_eq!(rt; left.bytes(0), found);
+    assert_eq!(rt; left.counts(), NO_CALLS);
+    Ok(())
 }
 
-/// An `x` is written over the `b` and synced; then `yz` is written from the `d` on and not synced.
+/// An `x` is written over the `b` of `abcd` and synced; then `yz` is written from the `d` on and not synced.
+fn written_disk(rt: &impl Abort, alloc: Global) -> Result<MemoryDisk, Fail> {
+    let mut disk = MemoryDisk::new(alloc, b"abcd", b"o", &[])?;
+    let first = put(rt, &mut disk, 1, b"x") && disk.sync(0).is_ok();
+    let second = put(rt, &mut disk, 3, b"yz");
+    assert!(rt; first && second);
+    Ok(disk)
+}
+
 #[test]
 fn a_stop_keeps_what_the_pick_says(rt: HostRuntime) -> Result<(), Fail> {
-    let mut disk = MemoryDisk::new(rt.alloc(), b"abcd", b"o", &[])?;
-    put(&rt, &mut disk, 1, b"x")?;
-    disk.sync(0)?;
-    put(&rt, &mut disk, 3, b"yz")?;
+    let alloc = rt.alloc();
+    let disk = written_disk(&rt, alloc)?;
     // the stop, the pick, and what is found; 4 is after the last call
     let table: [(u64, u64, &[u8]); 11] = [
         (1, 0, b"abcd"),
@@ -46,116 +66,120 @@ fn a_stop_keeps_what_the_pick_says(rt: HostRuntime) -> Result<(), Fail> {
         (4, 7, b"axc\x07\x07"),
     ];
     for (call, pick, found) in table {
-        let left = stop(&rt, rt.alloc(), &disk, call, pick)?;
-        assert_eq!(rt; left.bytes(0), found);
-        assert_eq!(rt; left.bytes(1), b"o".as_slice());
-        assert_eq!(rt;
-            left.counts(),
-            Counts {
-                ticks: 0,
-                faults: 0
-            }
-        );
+        tell_stop(&rt, alloc, &disk, call, pick, found)?;
     }
     Ok(())
 }
 
 #[test]
 fn a_failed_write_spoils_its_range(rt: HostRuntime) -> Result<(), Fail> {
-    let mut disk = MemoryDisk::new(rt.alloc(), b"abcd", b"", &[1])?;
-    assert!(rt; put(&rt, &mut disk, 1, b"xyz").is_err());
+    let alloc = rt.alloc();
+    let mut disk = MemoryDisk::new(alloc, b"abcd", b"", &[1])?;
+    assert!(rt; !put(&rt, &mut disk, 1, b"xyz"));
     assert_eq!(rt; disk.bytes(0), b"axyd".as_slice());
-    assert_eq!(rt;
-        disk.counts(),
-        Counts {
-            ticks: 1,
-            faults: 1
-        }
-    );
-    assert_eq!(rt;
-        stop(&rt, rt.alloc(), &disk, 1, 0)?.bytes(0),
-        b"abcd".as_slice()
-    );
-    assert_eq!(rt;
-        stop(&rt, rt.alloc(), &disk, 2, 7)?.bytes(0),
-        b"a\x07\x07\x07".as_slice()
-    );
-    Ok(())
+    tell_counts(&rt, disk.counts(), 1, 1);
+    tell_stop(&rt, alloc, &disk, 1, 0, b"abcd")?;
+    tell_stop(&rt, alloc, &disk, 2, 7, b"a\x07\x07\x07")
+}
+
+fn letter_of(call: &Call) -> u8 {
+    match call {
+        Call::Length { .. } => b'L',
+        Call::Read { .. } => b'R',
+        Call::Write { .. } => b'W',
+        Call::Sync { .. } => b'S',
+    }
 }
 
 #[test]
 fn calls_fail_where_they_are_to(rt: HostRuntime) -> Result<(), Fail> {
     let mut disk = MemoryDisk::new(rt.alloc(), b"abcd", b"", &[1, 3])?;
-    assert!(rt; disk.length(0).is_err());
-    assert_eq!(rt; disk.length(0)?, 4);
-    assert!(rt; disk.sync(1).is_err());
-    disk.sync(0)?;
-    assert_eq!(rt;
-        disk.counts(),
-        Counts {
-            ticks: 4,
-            faults: 2
-        }
-    );
-    let entries = disk.entries();
-    assert_eq!(rt; entries.len(), 2);
-    assert_eq!(rt; entries[0].failed_before, 1);
-    assert!(rt; matches!(entries[0].call, Call::Length { file: 0 }));
-    assert_eq!(rt; entries[1].failed_before, 1);
-    assert!(rt; matches!(entries[1].call, Call::Sync { file: 0 }));
+    let first = disk.length(0).is_err() && disk.length(0) == Ok(4);
+    let second = disk.sync(1).is_err() && disk.sync(0).is_ok();
+    assert!(rt; first && second);
+    tell_counts(&rt, disk.counts(), 4, 2);
+    let mut letters = [0u8; 2];
+    for (letter, entry) in letters.iter_mut().zip(disk.entries()) {
+        assert_eq!(rt; entry.failed_before, 1);
+        *letter = letter_of(&entry.call);
+    }
+    assert_eq!(rt; &letters, b"LS");
     Ok(())
 }
 
-#[test]
-fn files_hold_what_was_written(rt: HostRuntime) -> Result<(), Fail> {
+/// A disk over the files of a name.
+fn files_of(rt: &HostRuntime, name: &str) -> Result<FileDisk<HostRuntime>, Fail> {
     let alloc = rt.alloc();
-    let journal = String::from_str(alloc, "disk_model_content")?;
-    let objects = String::from_str(alloc, "disk_model_content.objects")?;
-    let mut disk = FileDisk::new(rt.clone()?, journal, objects);
-    assert_eq!(rt; disk.length(0)?, 0);
-    disk.write_at(0, 0, b"hello")?;
-    disk.write_at(0, 1, b"a")?;
-    disk.sync(0)?;
-    let mut front = [0u8; 3];
-    disk.read_at(0, 1, &mut front)?;
-    assert_eq!(rt; front.as_slice(), b"all".as_slice());
-    // a read past the end is a fault, and the file is opened anew for the next call
-    let mut much = [0u8; 9];
-    assert!(rt; disk.read_at(0, 0, &mut much).is_err());
-    assert_eq!(rt; disk.length(0)?, 5);
-    assert_eq!(rt; disk.length(1)?, 0);
-    assert_eq!(rt;
-        disk.counts(),
-        Counts {
-            ticks: 8,
-            faults: 1
-        }
-    );
-    fs::remove_file(&rt, "disk_model_content")?;
-    fs::remove_file(&rt, "disk_model_content.objects")?;
-    Ok(())
+    let journal = String::from_str(alloc, name)?;
+    let objects = format!(in alloc; "{name}.objects")?;
+    Ok(FileDisk::new(rt.clone()?, journal, objects))
 }
 
-/// What one disk has written in both files and synced, another finds.
-#[test]
-fn another_disk_finds_what_was_synced(rt: HostRuntime) -> Result<(), Fail> {
-    let alloc = rt.alloc();
-    let journal = String::from_str(alloc, "disk_model_again")?;
-    let objects = String::from_str(alloc, "disk_model_again.objects")?;
-    let mut writer = FileDisk::new(rt.clone()?, journal.clone()?, objects.clone()?);
-    writer.write_at(0, 0, b"journal")?;
-    writer.write_at(1, 0, b"objects")?;
-    writer.write_at(1, 3, b"_")?;
-    writer.sync(0)?;
-    writer.sync(1)?;
-    let mut reader = FileDisk::new(rt.clone()?, journal, objects);
-    assert_eq!(rt; (reader.length(0)?, reader.length(1)?), (7, 7));
+/// Writes both files, one over the end of the other's first write, and syncs them.
+fn write_both(rt: &impl Abort, disk: &mut FileDisk<HostRuntime>) {
+    let journal = disk.write_at(0, 0, b"hello").is_ok() && disk.write_at(0, 1, b"a").is_ok();
+    let objects = disk.write_at(1, 0, b"object").is_ok() && disk.write_at(1, 5, b"ts").is_ok();
+    let synced = disk.sync(0).is_ok() && disk.sync(1).is_ok();
+    assert!(rt; journal && objects && synced);
+}
+
+/// Whether a file of the disk holds these seven bytes or fewer, by its length and a read.
+fn tell_file(rt: &impl Abort, disk: &mut FileDisk<HostRuntime>, file: u8, wanted: &[u8]) {
+    assert!(rt; file <= 1 && wanted.len() <= 7);
     let mut found = [0u8; 7];
-    reader.read_at(0, 0, &mut found)?;
-    assert_eq!(rt; found.as_slice(), b"journal".as_slice());
-    reader.read_at(1, 0, &mut found)?;
-    assert_eq!(rt; found.as_slice(), b"obj_cts".as_slice());
+    let found = &mut found[..wanted.len()];
+    let length = disk.length(file);
+    let read = disk.read_at(file, 0, found).is_ok();
+    assert!(rt; length == Ok(wanted.len() as u64) && read);
+    assert_eq!(rt; &*found, wanted);
+}
+
+/// What one disk has written in both files and synced, another finds, which opens them after it.
+#[test]
+fn another_disk_finds_what_was_written(rt: HostRuntime) -> Result<(), Fail> {
+    let mut disk = files_of(&rt, "disk_model_again")?;
+    write_both(&rt, &mut disk);
+    drop(disk);
+    let mut disk = files_of(&rt, "disk_model_again")?;
+    for (file, wanted) in [(0, b"hallo".as_slice()), (1, b"objects".as_slice())] {
+        tell_file(&rt, &mut disk, file, wanted);
+    }
+    tell_counts(&rt, disk.counts(), 4, 0);
     fs::remove_file(&rt, "disk_model_again")?;
     fs::remove_file(&rt, "disk_model_again.objects")?;
+    Ok(())
+}
+
+/// Whether the first failure is told in these words.
+fn tell_trouble(
+    rt: &impl Abort,
+    alloc: Global,
+    trouble: Option<Trouble<'_>>,
+    words: &str,
+) -> Result<(), Fail> {
+    let trouble = trouble.ok_or("no trouble")?;
+    let told = format!(in alloc; "{trouble}")?;
+    assert_eq!(rt; told.as_str(), words);
+    Ok(())
+}
+
+/// A base that another disk holds is not touched, and a file that cannot be made is told.
+#[test]
+fn failures_are_told(rt: HostRuntime) -> Result<(), Fail> {
+    let mut holder = files_of(&rt, "disk_model_held")?;
+    assert_eq!(rt; holder.length(0), Ok(0));
+    for (name, words) in [
+        (
+            "disk_model_held",
+            "disk_model_held: in use by another program",
+        ),
+        ("nope/x", "nope/x: No such file or directory (os error 2)"),
+    ] {
+        let mut disk = files_of(&rt, name)?;
+        assert!(rt; disk.length(0).is_err());
+        tell_trouble(&rt, rt.alloc(), disk.trouble(), words)?;
+    }
+    fs::remove_file(&rt, "disk_model_held")?;
+    fs::remove_file(&rt, "disk_model_held.objects")?;
     Ok(())
 }

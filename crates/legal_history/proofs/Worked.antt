@@ -4,6 +4,7 @@ mod CheckoutRows
 mod FaultRows
 mod FirstBuild
 mod LabelRows
+mod LongPaths
 mod MergeRows
 mod NoSteps
 mod QueryRows

@@ -5,9 +5,9 @@ use Rattle.cc_names.specs.declared.commands.Command.{Command}
 use Rattle.cc_names.specs.declared.refusals.Refusal.{Refusal}
 use Rattle.cc_names.specs.declared.rows.Deed.{Deed}
 use Rattle.cc_names.specs.declared.rows.Tag.{Tag}
-use Rattle.legal_history.specs.Base.{Base, size}
-use Rattle.legal_history.specs.Decisions.{Decision, Makes}
-use Rattle.legal_history.specs.Lines.{decision}
+use Rattle.legal_history.specs.Base.Rows.{Base, size}
+use Rattle.legal_history.specs.Commands.Decisions.{Decision, Makes}
+use Rattle.legal_history.specs.Commands.Lines.{decision}
 
 -- the tag of command n of lane l in phase p
 abbrev pub tag : ℕ → ℕ → ℕ → Tag

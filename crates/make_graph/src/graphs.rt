@@ -17,7 +17,7 @@ use std::alloc::Global;
 use std::marker::Model;
 
 /// The units of a build, prerequisites first. Contracts see it as the list of them.
-#[derive(Debug, Drop)]
+#[derive(Drop)]
 pub struct Graph {
     units: Vec<Unit>,
 }

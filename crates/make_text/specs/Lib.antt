@@ -2,3 +2,16 @@ pub mod Lines
 pub mod Makefiles
 pub mod Reading
 pub mod Units
+pub mod LogicalLines
+pub mod JoinedLines
+pub mod LineKinds
+pub mod SeenKinds
+pub mod Macros
+pub mod Scanning
+pub mod MacroEntries
+pub mod Expanding
+pub mod Runs
+pub mod Steps
+pub mod Contents
+pub mod Statements
+pub mod Grammar

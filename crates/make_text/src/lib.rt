@@ -4,13 +4,23 @@
 // refusals that come in its place, stands here too, for the crates above.
 //
 // What it promises: a text is read as a makefile exactly where its grammar says so, with the first line that is outside
-// it and the cause.
+// it and the cause. So far that is a plain makefile, of one rule; of the language in full the lines, their kinds and the
+// expansion of macros are carried out, each as its definition says, and the reader does not use them yet.
 //
 // What it stands on: `cc_names` for paths, texts, units and causes, and for the lines of a text and their words;
 // `indexmap` for prerequisites in order, each once.
 #![tactic(auto)]
 
+mod expansions;
+mod line_kinds;
+#[cfg(test)]
+mod line_tests;
+mod logical_lines;
+mod macros;
 pub mod makefiles;
+#[cfg(test)]
+mod piece_tests;
+mod pieces;
 pub mod rules;
 #[cfg(test)]
 mod tests;

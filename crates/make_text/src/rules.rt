@@ -28,6 +28,14 @@ pub struct MakeRule {
     pub script: Option<Text>,
 }
 
+/// How paths that end with one suffix are made from those that end with another. The script is as in a rule.
+#[derive(Debug, Drop)]
+pub struct SuffixRule {
+    pub from: Text,
+    pub to: Text,
+    pub script: Text,
+}
+
 fn is_colon(byte: u8) -> bool
     ensures { result ≡ is_colon byte }
 {

@@ -6,6 +6,7 @@ ghost use Rattle.reply_text.specs.Words.{spaced_word, spaced, shown};
 
 use cc_names::cuts::Lines;
 use cc_names::memory::NoMemory;
+use cc_names::numbers::push_number;
 use std::alloc::Global;
 
 /// Writes bytes as they are.
@@ -30,15 +31,6 @@ pub(crate) fn push_word(text: &mut Vec<u8>, word: &[u8]) -> Result<(), NoMemory>
 {
     text.push(b' ')?;
     text.extend_from_slice(word)?;
-    Ok(())
-}
-
-/// Writes a number in decimal digits.
-pub(crate) fn push_number(alloc: Global, text: &mut Vec<u8>, number: u64) -> Result<(), NoMemory>
-    ensures { OnOk result (text.new.items ≡ text.old.items ++ decimal number) }
-{
-    let digits = format!(in alloc; "{number}")?;
-    text.extend_from_slice(digits.as_bytes())?;
     Ok(())
 }
 

@@ -16,10 +16,8 @@ use std::alloc::Global;
 pub(crate) fn lane_at(phase: &Phase, number: u32) -> Option<&Lane>
     ensures { MatchOption result (lane_at phase.now number ≡ None) (λ lane. lane_at phase.now number ≡ Some lane.now) }
 {
-    phase
-        .lanes
-        .as_slice()
-        .get((number as usize).saturating_sub(1))
+    let index = number.checked_sub(1)?;
+    phase.lanes.as_slice().get(index as usize)
 }
 
 fn lane_name(phase: &Phase, number: u32) -> &[u8]

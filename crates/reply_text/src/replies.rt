@@ -6,12 +6,11 @@ ghost use Rattle.reply_text.specs.Words.{spaced, word_of};
 ghost use Rattle.reply_text.specs.Replies.{digest_words, unit_words, unit_line, is_made, is_made_line, build_word, reply_words, lines_behind, command_lines, lines_from, lane_lines, render};
 
 use crate::names::word_of;
-use crate::pieces::{
-    push_bytes, push_newline, push_number, push_number_word, push_shown, push_word,
-};
+use crate::pieces::{push_bytes, push_newline, push_number_word, push_shown, push_word};
 use crate::refusals::{lane_at, push_fault, push_refusal};
 use cc_names::commands::{Command, Lane, Phase};
 use cc_names::memory::NoMemory;
+use cc_names::numbers::push_number;
 use cc_names::replies::{Digest, Reply, UnitLine, UnitWord};
 use cc_names::texts::Text;
 use std::alloc::Global;

@@ -1,7 +1,10 @@
-pub mod Failing
+pub mod Distinct
+pub mod Exact
+pub mod ExactDeeds
+pub mod ExactFields
+pub mod ExactLists
+pub mod ExactRow
 pub mod Joins
-pub mod Listing
-pub mod OnePlace
-pub mod Publishing
-pub mod Rows
-pub mod WorkedPlaces
+pub mod Members
+pub mod Steps
+mod WorkedPlaces

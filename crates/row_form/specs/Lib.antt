@@ -1,7 +1,8 @@
+pub mod Answers
+pub mod DeedReaders
+pub mod FieldReaders
 pub mod Fields
-pub mod Heads
-pub mod Peeling
-pub mod Places
+pub mod Readers
 pub mod Reading
+pub mod RowReader
 pub mod Spelled
-pub mod Tested

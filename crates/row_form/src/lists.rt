@@ -1,120 +1,77 @@
 // The lists of a row.
 
-ghost use Rattle.std.specs.Prelude.{◌≡◌, ◌++◌, List, ℕ, length};
-ghost use Rattle.row_form.specs.Fields.{listed, text, entry};
-ghost use Rattle.row_form.specs.Reading.{ReadsAllOr};
-ghost use Rattle.row_form.specs.Places.{FieldFails, EntryFails, MembersFail, TargetsFail, EntriesFail, OutputsFail};
-ghost use Rattle.row_form.specs.Tested.{are_distinct, ascend, AreTargetsOf, AreOutputsOf};
-ghost use Rattle.cc_names.specs.Formed.{IsListOf, IsBelowRoot, IsText, IsEntry, AreEntries};
+ghost use Rattle.std.specs.Prelude.{◌≡◌, ◌&&◌, IfOk, List, ℕ, length};
+ghost use Rattle.std.specs.declared.cmp.Ordering.{Ordering as Compared};
+ghost use Rattle.std.specs.Ordering.{nat_cmp, is_lt};
+ghost use Rattle.row_form.specs.Answers.{Answers};
+ghost use Rattle.row_form.specs.Readers.{read_list, tested, chosen};
+ghost use Rattle.row_form.specs.FieldReaders.{ascends, are_distinct, are_targets, is_some_list, entry_cmp, placed_cmp, read_targets, read_entries, read_objects, read_places};
 
 use crate::cursor::{Cursor, Unread};
+use crate::fields::Field;
 use crate::writing::form_of;
 use cc_names::lists::List;
-use cc_names::memory::Or;
+use cc_names::memory::{NoMemory, Or};
 use cc_names::paths::Path;
-use cc_names::rows::ReadOf;
-use cc_names::texts::Text;
+use cc_names::rows::{Placed, ReadOf};
 use std::alloc::Global;
-
-/// A member of a list that is read.
-pub(crate) trait Member: Drop + Sized {
-    ghost spelled: { Self → List ℕ };
-
-    ghost formed: { Self → Type 0 };
-
-    /// Where bytes fail that should begin with a member.
-    ghost fails: { List ℕ → List ℕ → Type 0 };
-
-    fn read(alloc: Global, cursor: &mut Cursor<'_>) -> Result<Self, Or<Unread>>
-        ensures { ReadsAllOr spelled formed fails result cursor.old.rest.now cursor.new.rest.now };
-}
-
-impl Member for Path {
-    ghost spelled = { text };
-
-    ghost formed = { IsBelowRoot };
-
-    ghost fails = { FieldFails text IsBelowRoot };
-
-    fn read(alloc: Global, cursor: &mut Cursor<'_>) -> Result<Path, Or<Unread>> {
-        cursor.path(alloc)
-    }
-}
-
-impl Member for Text {
-    ghost spelled = { text };
-
-    ghost formed = { IsText };
-
-    ghost fails = { FieldFails text IsText };
-
-    fn read(alloc: Global, cursor: &mut Cursor<'_>) -> Result<Text, Or<Unread>> {
-        cursor.text(alloc)
-    }
-}
-
-impl Member for ReadOf {
-    ghost spelled = { entry };
-
-    ghost formed = { IsEntry };
-
-    ghost fails = { EntryFails };
-
-    fn read(alloc: Global, cursor: &mut Cursor<'_>) -> Result<ReadOf, Or<Unread>> {
-        let path = match cursor.path(alloc) {
-            Ok(path) => path,
-            Err(unread) => return Err(unread),
-        };
-        match cursor.long() {
-            Ok(row) => Ok(ReadOf { path, row }),
-            Err(unread) => Err(Or::Is(unread)),
-        }
-    }
-}
+use std::collections::HashSet;
 
 /// A list. Takes memory as its members are read, and none by its count.
-fn read_list<M: Member>(alloc: Global, cursor: &mut Cursor<'_>) -> Result<List<M>, Or<Unread>>
-    ensures { ReadsAllOr (listed M.spelled) (IsListOf M.formed) (MembersFail M.spelled M.formed M.fails) result cursor.old.rest.now cursor.new.rest.now }
-{
-    let count = match cursor.word() {
-        Ok(count) => count,
-        Err(unread) => return Err(Or::Is(unread)),
-    };
-    let mut members = Vec::new(alloc);
-    for _member in 0..count {
-        let member = match M::read(alloc, cursor) {
-            Ok(member) => member,
-            Err(unread) => return Err(unread),
-        };
-        if members.push(member).is_err() {
-            return Err(Or::NoMemory);
+impl<M: Field> Field for List<M> {
+    ghost reader = { read_list M.reader };
+
+    fn read(alloc: Global, cursor: &mut Cursor<'_>) -> Result<List<M>, Or<Unread>> {
+        let count = cursor.word()?;
+        let mut members = Vec::new(alloc);
+        for _member in 0..count {
+            let member = M::read(alloc, cursor)?;
+            members.push(member)?;
         }
+        Ok(List::of(members))
     }
-    Ok(List::of(members))
 }
 
-/// Whether no target stands twice, in time that grows with the square of their number.
-fn are_distinct(targets: &[Path]) -> bool
-    ensures { result ≡ are_distinct targets.now }
-{
-    let mut rest = targets;
-    while let [target, others @ ..] = rest {
-        if others.contains(target) {
-            return false;
-        }
-        rest = others;
-    }
-    true
+/// A member of a list that ascends.
+pub(crate) trait Ordered {
+    ghost cmp: { Self → Self → Compared };
+
+    fn is_below(&self, next: &Self) -> bool
+        ensures { result ≡ is_lt (cmp self.now next.now) };
 }
 
-/// Whether each path is below the next.
-fn ascend(reads: &[ReadOf]) -> bool
-    ensures { result ≡ ascend reads.now }
+impl Ordered for u64 {
+    ghost cmp = { nat_cmp };
+
+    fn is_below(&self, next: &u64) -> bool {
+        *self < *next
+    }
+}
+
+impl Ordered for ReadOf {
+    ghost cmp = { entry_cmp };
+
+    fn is_below(&self, next: &ReadOf) -> bool {
+        self.path < next.path
+    }
+}
+
+impl Ordered for Placed {
+    ghost cmp = { placed_cmp };
+
+    fn is_below(&self, next: &Placed) -> bool {
+        self.element < next.element
+    }
+}
+
+/// Whether each member is below the next.
+fn ascend<M: Ordered>(members: &[M]) -> bool
+    ensures { result ≡ ascends M.cmp members.now }
 {
-    let mut rest = reads;
-    while let [read, others @ ..] = rest {
+    let mut rest = members;
+    while let [member, others @ ..] = rest {
         if let [next, ..] = others {
-            if read.path >= next.path {
+            if !member.is_below(next) {
                 return false;
             }
         }
@@ -123,21 +80,39 @@ fn ascend(reads: &[ReadOf]) -> bool
     true
 }
 
+/// Whether no target stands twice, in time linear in them.
+fn are_distinct(alloc: Global, targets: &[Path]) -> Result<bool, NoMemory>
+    ensures { IfOk result (λ are. are ≡ are_distinct targets.now) }
+{
+    let mut seen = HashSet::new(alloc);
+    for target in targets {
+        if !seen.insert(target.as_bytes())? {
+            return Ok(false);
+        }
+    }
+    Ok(true)
+}
+
+fn are_targets(alloc: Global, form: u8, targets: &[Path]) -> Result<bool, NoMemory>
+    ensures { IfOk result (λ are. are ≡ are_targets form targets.now) }
+{
+    if targets.is_empty() || form_of(targets) != form {
+        return Ok(false);
+    }
+    are_distinct(alloc, targets)
+}
+
 /// The targets of a publish whose first byte is this.
 pub(crate) fn read_targets(
     alloc: Global,
     cursor: &mut Cursor<'_>,
     form: u8,
 ) -> Result<List<Path>, Or<Unread>>
-    ensures { ReadsAllOr (listed text) (AreTargetsOf form) (TargetsFail form) result cursor.old.rest.now cursor.new.rest.now }
+    ensures { Answers result (read_targets form cursor.old.rest.now) cursor.new.rest.now }
 {
     let here = cursor.unread();
-    let targets: List<Path> = match read_list(alloc, cursor) {
-        Ok(targets) => targets,
-        Err(unread) => return Err(unread),
-    };
-    let paths = targets.as_slice();
-    if !paths.is_empty() && form_of(paths) == form && are_distinct(paths) {
+    let targets: List<Path> = Field::read(alloc, cursor)?;
+    if are_targets(alloc, form, targets.as_slice())? {
         return Ok(targets);
     }
     Err(Or::Is(here))
@@ -148,34 +123,46 @@ pub(crate) fn read_entries(
     alloc: Global,
     cursor: &mut Cursor<'_>,
 ) -> Result<List<ReadOf>, Or<Unread>>
-    ensures { ReadsAllOr (listed entry) AreEntries EntriesFail result cursor.old.rest.now cursor.new.rest.now }
+    ensures { Answers result (read_entries cursor.old.rest.now) cursor.new.rest.now }
 {
     let here = cursor.unread();
-    let entries: List<ReadOf> = match read_list(alloc, cursor) {
-        Ok(entries) => entries,
-        Err(unread) => return Err(unread),
-    };
+    let entries: List<ReadOf> = Field::read(alloc, cursor)?;
     if ascend(entries.as_slice()) {
         return Ok(entries);
     }
     Err(Or::Is(here))
 }
 
-/// The outputs of a publish of so many targets.
-pub(crate) fn read_outputs(
-    alloc: Global,
-    cursor: &mut Cursor<'_>,
-    count: usize,
-) -> Result<List<Text>, Or<Unread>>
-    ensures { ReadsAllOr (listed text) (AreOutputsOf count) (OutputsFail count) result cursor.old.rest.now cursor.new.rest.now }
+/// Whether there are members, and each is below the next.
+fn are_ascending<M: Ordered>(members: &[M]) -> bool
+    ensures { result ≡ is_some_list members.now && ascends M.cmp members.now }
+{
+    !members.is_empty() && ascend(members)
+}
+
+/// The objects of a scrub.
+pub(crate) fn read_objects(alloc: Global, cursor: &mut Cursor<'_>) -> Result<List<u64>, Or<Unread>>
+    ensures { Answers result (read_objects cursor.old.rest.now) cursor.new.rest.now }
 {
     let here = cursor.unread();
-    let outputs: List<Text> = match read_list(alloc, cursor) {
-        Ok(outputs) => outputs,
-        Err(unread) => return Err(unread),
-    };
-    if outputs.as_slice().len() == count {
-        return Ok(outputs);
+    let objects: List<u64> = Field::read(alloc, cursor)?;
+    if are_ascending(objects.as_slice()) {
+        return Ok(objects);
+    }
+    Err(Or::Is(here))
+}
+
+/// The versions on which a label is placed.
+pub(crate) fn read_places(
+    alloc: Global,
+    cursor: &mut Cursor<'_>,
+) -> Result<List<Placed>, Or<Unread>>
+    ensures { Answers result (read_places cursor.old.rest.now) cursor.new.rest.now }
+{
+    let here = cursor.unread();
+    let placed: List<Placed> = Field::read(alloc, cursor)?;
+    if are_ascending(placed.as_slice()) {
+        return Ok(placed);
     }
     Err(Or::Is(here))
 }

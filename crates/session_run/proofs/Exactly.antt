@@ -9,7 +9,7 @@ use Rattle.base_core.specs.Opening.{IsDamaged, IsUndamaged}
 use Rattle.base_core.proofs.Damages.{damaged_once}
 use Rattle.session_run.specs.Asked.{is_run, is_session, text_limit}
 use Rattle.session_run.specs.Causes.{Change, Intake, DiskDamaged, FindsDamage, HasCause, IsToldToOpen, disk_rose}
-use Rattle.session_run.specs.Headline.{is_opened, is_through}
+use Rattle.session_run.specs.Begun.{is_opened, is_through}
 use Rattle.session_run.specs.Rendered.{has_failure}
 use Rattle.session_run.specs.Statuses.{is_cut}
 use Rattle.session_run.specs.declared.statuses.Status.{Status}
@@ -36,7 +36,7 @@ none_opened story empty opened = let closed = ap is_opened empty in absurd (cc)
 pub disk_failed : (status : Status) (intake : Intake) (faults : Change ℕ) (disk : Change Sight) (story : List Told) → HasCause status intake faults disk story → is_cut status ≡ false → is_opened story ≡ true → disk_rose disk ≡ true → status ≡ statuses.DiskFault
 disk_failed statuses.Good intake faults disk story h c o e = let sound = h.2 in absurd (cc)
 disk_failed statuses.SomeFailed intake faults disk story h c o e = let sound = h.2 in absurd (cc)
-disk_failed statuses.BadWords intake faults disk story h c o e = absurd (none_opened story h.1.story_is o)
+disk_failed statuses.BadWords intake faults disk story h c o e = absurd (none_opened story h.2.story_is o)
 disk_failed statuses.BadSession intake faults disk story h c o e = absurd (none_opened story h.2.story_is o)
 disk_failed (statuses.Damaged row) intake faults disk story h c o e = let sound = h.2 in absurd (cc)
 disk_failed statuses.ReadFault intake faults disk story h c o e = absurd (none_opened story h.1.story_is o)

@@ -9,14 +9,14 @@ use Rattle.cc_names.specs.declared.steps.Told.{Told}
 use Rattle.cc_names.specs.declared.steps.Told.TheVariants as told
 use Rattle.base_core.proofs.Growing.{state_from-more, legal_more}
 use Rattle.base_core.specs.Replying.{in_lane, reply_to_end, no_replies, replies_after}
-use Rattle.legal_history.specs.Commanded.{IsOfCommand}
-use Rattle.legal_history.specs.Replied.{reply_of, reply_from_nothing}
-use Rattle.legal_history.specs.Base.{only_where}
-use Rattle.legal_history.specs.Builds.{Build, build_of}
-use Rattle.legal_history.specs.States.{State, start, same_tag, build_if, build_by}
-use Rattle.legal_history.specs.Steps.{after, state_from, state_of}
-use Rattle.legal_history.specs.Stories.{Lawful, LegalFrom, Legal, EndsBuild}
-use Rattle.legal_history.specs.Turns.{is_complete}
+use Rattle.legal_history.specs.Stories.Commanded.{IsOfCommand}
+use Rattle.legal_history.specs.Builds.Replied.{reply_of, reply_from_nothing}
+use Rattle.legal_history.specs.Base.Rows.{only_where}
+use Rattle.legal_history.specs.Builds.Active.{Build, build_of}
+use Rattle.legal_history.specs.Stories.States.{State, start, same_tag, build_if, build_by}
+use Rattle.legal_history.specs.Stories.Steps.{after, state_from, state_of}
+use Rattle.legal_history.specs.Stories.Lawful.{Lawful, LegalFrom, Legal, EndsBuild}
+use Rattle.legal_history.specs.Builds.Turns.{is_complete}
 use Rattle.session_run.specs.Headline.{AreFromNothing}
 use Rattle.session_run.specs.FromNothing.{end_from_nothing, told_after, text_from_nothing}
 use Rattle.session_run.specs.Rendered.{Replies, closed_by, closed_over, replies_over, last_phase, rendered, transcripts}

@@ -17,18 +17,18 @@ use Rattle.cc_names.specs.declared.steps.Told.{Told}
 use Rattle.cc_names.specs.declared.steps.Told.TheVariants as told
 use Rattle.base_core.proofs.Idle.{decided_is_free}
 use Rattle.base_core.specs.Acting.{Acts, IsStepOf}
-use Rattle.base_core.specs.Carried.{is_carried_out, AreCarriedOut}
+use Rattle.carried_out.specs.CarriedOut.{is_carried_out, AreCarriedOut}
 use Rattle.base_core.specs.Going.{SamePhase, Finishes, GoesOn}
 use Rattle.base_core.specs.Nexts.{next_of, next_by, waiting}
 use Rattle.std.proofs.lemmas.List.{append-nil}
-use Rattle.legal_history.specs.Base.{only_where}
-use Rattle.legal_history.specs.Builds.{build_of}
-use Rattle.legal_history.specs.Decisions.{Scene, Decision, Makes, unless_refused}
-use Rattle.legal_history.specs.FileLines.{save_deed}
-use Rattle.legal_history.specs.Lines.{decision}
-use Rattle.legal_history.specs.States.{State, start, scene, done_of, with_done, is_next, next_tag, decided, lane_at, build_if, build_by}
-use Rattle.legal_history.specs.Steps.{after, done_after, done_by_fault, state_of}
-use Rattle.session_run.specs.Headline.{is_opened}
+use Rattle.legal_history.specs.Base.Rows.{only_where}
+use Rattle.legal_history.specs.Builds.Active.{build_of}
+use Rattle.legal_history.specs.Commands.Decisions.{Scene, Decision, Makes, unless_refused}
+use Rattle.legal_history.specs.Commands.FileLines.{save_deed}
+use Rattle.legal_history.specs.Commands.Lines.{decision}
+use Rattle.legal_history.specs.Stories.States.{State, start, scene, done_of, with_done, is_next, next_tag, decided, lane_at, build_if, build_by}
+use Rattle.legal_history.specs.Stories.Steps.{after, done_after, done_by_fault, state_of}
+use Rattle.session_run.specs.Begun.{is_opened}
 use Rattle.session_run.specs.Lanes.{Goes, GoesInLane, TakesTurn, IsWithin, IsFinished, count_of}
 use Rattle.session_run.proofs.MoreSteps.{state_more, goes_on}
 use Rattle.session_run.proofs.Within.{done_same, done_other, waits_below, waiting_carried, finished_where}
@@ -50,6 +50,7 @@ saves_end v path text seen done lane = refl
 
 decision_ends : (sc : Scene) (command : Command) (tag : Tag) → is_carried_out command ≡ true → next_by (Some command) tag ≡ nexts.Act → EndsCommand (Some (decision sc command))
 decision_ends sc (commands.Mkview v) tag h acts = makes_ends _ (deeds.Mkview v) (λ done lane. refl)
+decision_ends sc (commands.Rmview v force) tag h acts = makes_ends _ (deeds.Rmview v) (λ done lane. refl)
 decision_ends sc (commands.Save v path text) tag h acts = makes_ends _ _ (saves_end v path text _)
 decision_ends sc (commands.Clearmake v file own_only rebuild jobs macros goals) tag h acts = absurd (cc)
 decision_ends sc command tag h acts = absurd (cc)

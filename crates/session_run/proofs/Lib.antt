@@ -1,4 +1,5 @@
 pub mod Exactly
+mod Files
 pub mod FromNothing
 pub mod LaneSteps
 pub mod MoreSteps

@@ -5,11 +5,11 @@ use Rattle.cc_names.specs.declared.steps.Step.{Step}
 use Rattle.cc_names.specs.declared.steps.Step.TheVariants as steps
 use Rattle.cc_names.specs.declared.steps.Told.{Told}
 use Rattle.cc_names.specs.declared.steps.Told.TheVariants as told
-use Rattle.legal_history.specs.States.{State, start}
-use Rattle.legal_history.specs.Steps.{after, after_step, state_from, state_of}
+use Rattle.legal_history.specs.Stories.States.{State, start}
+use Rattle.legal_history.specs.Stories.Steps.{after, after_step, state_from, state_of}
 use Rattle.base_core.specs.Going.{SamePhase}
 use Rattle.base_core.specs.Replying.{no_replies, replies_after}
-use Rattle.session_run.specs.Headline.{phases_begun, moments_begun, first_step, is_opened}
+use Rattle.session_run.specs.Begun.{phases_begun, moments_begun, first_step, is_opened}
 use Rattle.session_run.specs.Rendered.{Replies, closed_by, closed_over, earlier_phases, replies_over}
 use Rattle.session_run.specs.Lanes.{Goes}
 

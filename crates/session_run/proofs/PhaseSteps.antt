@@ -5,10 +5,10 @@ use Rattle.std.proofs.lemmas.List.{append-nil}
 use Rattle.cc_names.specs.declared.commands.Phase.{Phase}
 use Rattle.cc_names.specs.declared.steps.Told.{Told}
 use Rattle.cc_names.specs.declared.steps.Told.TheVariants as told
-use Rattle.legal_history.specs.States.{start, done_of, lane_at, all_done}
-use Rattle.legal_history.specs.Steps.{after, state_of}
+use Rattle.legal_history.specs.Stories.States.{start, done_of, lane_at, all_done}
+use Rattle.legal_history.specs.Stories.Steps.{after, state_of}
 use Rattle.base_core.specs.Replying.{no_replies, replies_after}
-use Rattle.session_run.specs.Headline.{phases_begun, moments_begun, first_step, is_opened}
+use Rattle.session_run.specs.Begun.{phases_begun, moments_begun, first_step, is_opened}
 use Rattle.session_run.specs.Rendered.{earlier_phases, last_phase, replies_over}
 use Rattle.session_run.specs.Lanes.{Goes, GoesInLane, GoesInLanes, GoesInPhase, RunsPhase, LeavesPhase, IsWithin, IsFinished, count_of}
 use Rattle.session_run.proofs.LaneSteps.{goes_nowhere, goes_further}

@@ -11,29 +11,35 @@ use Rattle.cc_names.specs.declared.refusals.SessionCause.TheVariants as causes
 use Rattle.cc_names.specs.declared.steps.Step.TheVariants as steps
 use Rattle.cc_names.specs.declared.steps.Told.{Told}
 use Rattle.cc_names.specs.declared.steps.Told.TheVariants as told
-use Rattle.cc_outside.specs.Counts.{Rose}
+use Rattle.cc_names.specs.Counts.{Rose, raised, rises}
 use Rattle.cc_outside.specs.Feeds.{AppendsFront}
 use Rattle.cc_outside.specs.declared.sinks.WriteFault.{WriteFault}
 use Rattle.session_text.specs.Sessions.{session_of}
 use Rattle.disk_model.specs.Devices.{bytes_of}
-use Rattle.disk_model.specs.Told.{Sight, IsCounted}
+use Rattle.disk_model.specs.Told.{Sight, Both, IsCounted}
+use Rattle.vob_journal.specs.Reads.{SameFiles}
+use Rattle.vob_journal.proofs.Staying.{told_stay}
 use Rattle.vob_journal.specs.Frames.{frames}
-use Rattle.base_core.specs.Backed.{IsAccounted}
+use Rattle.base_core.specs.Backed.{IsAccounted, is_faulted}
+use Rattle.base_core.specs.Counted.{KeepsCount}
 use Rattle.base_core.specs.Opening.{FailsToOpen, Opens, StopsBy}
+use Rattle.base_core.specs.Shown.{Shown}
+use Rattle.base_core.specs.Telling.{oldest_first}
 use Rattle.base_core.specs.declared.opening.OpenCause.{OpenCause}
 use Rattle.base_core.specs.declared.opening.OpenCause.TheVariants as opens
-use Rattle.legal_history.specs.Steps.{state_of}
-use Rattle.legal_history.specs.Committing.{rises}
-use Rattle.legal_history.specs.Stories.{Legal}
+use Rattle.legal_history.specs.Stories.Steps.{state_of}
+use Rattle.legal_history.specs.Stories.Lawful.{Legal}
 use Rattle.session_run.specs.Causes.{Change, DiskUndamaged, Intake, IsAsked, IsUntouched, IsWhole, HasCause, disk_rose}
 use Rattle.session_run.specs.Asked.{is_session, is_read, phases_spelled}
 use Rattle.session_run.specs.FromNothing.{text_from_nothing}
-use Rattle.session_run.specs.Headline.{BeginsOn, IsFront, IsSession, IsOneHistory, AreFromNothing, ArePrinted, first_step, is_opened, is_through, phases_begun, moments_begun, clock_moments}
+use Rattle.session_run.specs.Begun.{IsFront, first_step, is_opened, is_through, phases_begun, moments_begun}
+use Rattle.session_run.specs.Headline.{BeginsOn, IsSession, ReadsClock, IsOneHistory, AreFromNothing, ArePrinted, clock_moments}
 use Rattle.session_run.specs.Rendered.{rendered}
 use Rattle.session_run.specs.Runs.{IsJustOpened, Outside, HasRun, HasRunSo, IsGivenUp, OnWriteFault, run_status}
 use Rattle.session_run.specs.Statuses.{is_cut, status_line}
 use Rattle.session_run.specs.Outcomes.{RunsOpened, RunsSession}
 use Rattle.session_run.specs.Stopped.{AllOpenAgain, IsHandedIn, IsMended, IsStopped}
+use Rattle.session_run.specs.Accounted.{CountsFrom, IsAccountedFor, KeepsFiles, Settles}
 use Rattle.session_run.specs.Stops.{GivesPhases, HasStop, WritesStop, open_stop, stop_status, stop_line}
 use Rattle.session_run.specs.declared.sessions.Stop.{Stop}
 use Rattle.session_run.specs.declared.sessions.Stop.TheVariants as stops
@@ -41,7 +47,8 @@ use Rattle.session_run.specs.declared.statuses.Status.{Status}
 use Rattle.session_run.specs.declared.statuses.Status.TheVariants as statuses
 use Rattle.base_core.proofs.Damages.{undamaged_on}
 use Rattle.session_run.proofs.FromNothing.{Laws, are_from_nothing}
-use Rattle.session_run.proofs.Running.{clock_length}
+use Rattle.session_run.proofs.Running.{clock_length, raised_none}
+use Rattle.session_run.proofs.Files.{closed_files, keeps_files}
 use Rattle.session_run.proofs.Stopping.{keeps_prefix, stays_closed, stays_untouched}
 
 -- what is told of bytes
@@ -56,37 +63,46 @@ always (Some bytes) Q f = f bytes
 not_false : (b : Bool) {A : Type 0} → b ≡ true → b ≡ false → A
 not_false b one two = absurd (cc)
 
+-- the clock's readings as a run began and as it ended
+abbrev readings_of : Outside → Change ℕ
+readings_of outside = record { before = outside.first; after = outside.reading }
+
 -- The session, where the phases were run
-session_run : (status : Status) (story : List Told) (phases : List Phase) (intake : Intake) (outside : Outside) (failed : Bool) → GivesPhases intake phases → HasRun phases story outside failed → IsSession status story intake.text.before outside.moments outside.first
+session_run : (status : Status) (story : List Told) (phases : List Phase) (intake : Intake) (outside : Outside) (failed : Bool) → GivesPhases intake phases → HasRun phases story outside failed → IsSession status story intake outside.moments (readings_of outside)
 session_run status story phases intake outside failed gives ran = record {
-  begun = told_so intake.text.before _ (λ bytes. IsFront (phases_begun story) (phases_spelled bytes)) gives.spelled (λ bytes e. ([], e ∙ sym ran.phases_are ∙ sym (append-nil (phases_begun story))));
-  all = λ through. told_so intake.text.before _ (λ bytes. phases_begun story ≡ phases_spelled bytes) gives.spelled (λ bytes e. ran.phases_are ∙ sym e);
-  none = told_so intake.text.before _ (λ bytes. is_session bytes ≡ false → story ≡ []) gives.session (λ bytes e f. not_false (is_session bytes) e f);
+  begun = λ words. told_so intake.text.before _ (λ bytes. IsFront (phases_begun story) (phases_spelled bytes)) gives.spelled (λ bytes e. ([], e ∙ sym ran.phases_are ∙ sym (append-nil (phases_begun story))));
+  all = λ words through. told_so intake.text.before _ (λ bytes. phases_begun story ≡ phases_spelled bytes) gives.spelled (λ bytes e. ran.phases_are ∙ sym e);
+  none = λ words. told_so intake.text.before _ (λ bytes. is_session bytes ≡ false → story ≡ []) gives.session (λ bytes e f. not_false (is_session bytes) e f);
   moments =
       told_so outside.moments _ (λ told. moments_begun story ≡ clock_moments told outside.first (length (moments_begun story))) ran.moments_are
       (λ told e. e ∙ ap (clock_moments told outside.first) (sym (clock_length told outside.first (length phases)) ∙ sym (ap length e)));
+  read = let times = ran.reading_is ∙ ap (raised outside.first) (sym (ap length ran.phases_are)) in record { once = λ other. times; most = inl times };
 }
 
-session_cut : (status : Status) (cut : Or WriteFault) (story : List Told) (phases : List Phase) (intake : Intake) (outside : Outside) → is_through status story ≡ false → GivesPhases intake phases → IsGivenUp cut phases story outside.held outside.holds outside.moments outside.first → IsSession status story intake.text.before outside.moments outside.first
-session_cut status cut story phases intake outside not gives left = record {
-  begun = told_so intake.text.before _ (λ bytes. IsFront (phases_begun story) (phases_spelled bytes)) gives.spelled (λ bytes e. (left.begun.0, e ∙ left.begun.1));
-  all = λ through. not_false (is_through status story) through not;
-  none = told_so intake.text.before _ (λ bytes. is_session bytes ≡ false → story ≡ []) gives.session (λ bytes e f. not_false (is_session bytes) e f);
+session_cut : (status : Status) (cut : Or WriteFault) (story : List Told) (phases : List Phase) (intake : Intake) (outside : Outside) → is_through status story ≡ false → GivesPhases intake phases → IsGivenUp cut phases story outside → ReadsClock status story (readings_of outside) → IsSession status story intake outside.moments (readings_of outside)
+session_cut status cut story phases intake outside not gives left read = record {
+  begun = λ words. told_so intake.text.before _ (λ bytes. IsFront (phases_begun story) (phases_spelled bytes)) gives.spelled (λ bytes e. (left.begun.0, e ∙ left.begun.1));
+  all = λ words through. not_false (is_through status story) through not;
+  none = λ words. told_so intake.text.before _ (λ bytes. is_session bytes ≡ false → story ≡ []) gives.session (λ bytes e f. not_false (is_session bytes) e f);
   moments = left.moments_are;
+  read = read;
 }
 
-session_none : (status : Status) (text clock : Option (List ℕ)) (first : ℕ) → is_through status [] ≡ false → IsSession status [] text clock first
-session_none status text clock first not = record {
-  begun = always text (λ bytes. IsFront [] (phases_spelled bytes)) (λ bytes. (phases_spelled bytes, refl));
-  all = λ through. not_false (is_through status []) through not;
-  none = always text (λ bytes. let none : List Told = [] in is_session bytes ≡ false → none ≡ []) (λ bytes e. refl);
-  moments = always clock (λ told. let none : List ℕ = [] in none ≡ clock_moments told first 0) (λ told. refl);
+session_none : (status : Status) (intake : Intake) (outside : Outside) → is_through status [] ≡ false → outside.reading ≡ outside.first → IsSession status [] intake outside.moments (readings_of outside)
+session_none status intake outside not unread = record {
+  begun = λ words. always intake.text.before (λ bytes. IsFront [] (phases_spelled bytes)) (λ bytes. (phases_spelled bytes, refl));
+  all = λ words through. not_false (is_through status []) through not;
+  none = λ words. always intake.text.before (λ bytes. let none : List Told = [] in is_session bytes ≡ false → none ≡ []) (λ bytes e. refl);
+  moments = always outside.moments (λ told. let none : List ℕ = [] in none ≡ clock_moments told outside.first 0) (λ told. refl);
+  read = let times = unread ∙ sym (raised_none outside.first) in record { once = λ other. times; most = inl times };
 }
 
-run_session : (result : Result Bool (Or WriteFault)) (rose : Bool) (story : List Told) (phases : List Phase) (intake : Intake) (outside : Outside) → GivesPhases intake phases → HasRunSo result phases story outside → IsSession (run_status result rose) story intake.text.before outside.moments outside.first
+run_session : (result : Result Bool (Or WriteFault)) (rose : Bool) (story : List Told) (phases : List Phase) (intake : Intake) (outside : Outside) → GivesPhases intake phases → HasRunSo result phases story outside → IsSession (run_status result rose) story intake outside.moments (readings_of outside)
 run_session (Ok failed) rose story phases intake outside gives ran = session_run _ story phases intake outside failed gives ran
-run_session (Err NoMemory) rose story phases intake outside gives left = session_cut _ NoMemory story phases intake outside refl gives left
-run_session (Err (Is fault)) rose story phases intake outside gives left = session_cut _ (Is fault) story phases intake outside refl gives left
+run_session (Err NoMemory) rose story phases intake outside gives left =
+    session_cut _ NoMemory story phases intake outside refl gives left (record { once = λ other. absurd (other refl); most = left.reading_is })
+run_session (Err (Is fault)) rose story phases intake outside gives left =
+    session_cut _ (Is fault) story phases intake outside refl gives left (record { once = λ other. left.reading_is; most = inl left.reading_is })
 
 -- One legal history
 not_cut : (failed rose : Bool) → run_status (Ok failed) rose ≡ statuses.WriteFault → ⊥
@@ -120,20 +136,22 @@ built_none story empty = record {
 }
 
 -- Printed replies
-printed_whole : (status : Status) (story : List Told) (text old new : Option (List ℕ)) → is_opened story ≡ true → is_cut status ≡ false → Appends old new (rendered story) → ArePrinted status story text old new
-printed_whole status story text old new opened whole written = record {
+printed_whole : (status : Status) (story : List Told) (intake : Intake) (faults : Change ℕ) (disk : Change Sight) (old new : Option (List ℕ)) → is_opened story ≡ true → is_cut status ≡ false → Appends old new (rendered story) → ArePrinted status story intake faults disk old new
+printed_whole status story intake faults disk old new opened whole written = record {
   whole = λ o c. written;
   front = λ o c. not_false (is_cut status) c whole;
   line = λ o c. not_false (is_opened story) opened o;
   line_front = λ o c. not_false (is_opened story) opened o;
+  nothing = λ o c. not_false (is_opened story) opened o;
 }
 
-printed_front : (status : Status) (story : List Told) (text old new : Option (List ℕ)) → is_opened story ≡ true → is_cut status ≡ true → AppendsFront old new (rendered story) → ArePrinted status story text old new
-printed_front status story text old new opened cut written = record {
+printed_front : (status : Status) (story : List Told) (intake : Intake) (faults : Change ℕ) (disk : Change Sight) (old new : Option (List ℕ)) → is_opened story ≡ true → is_cut status ≡ true → AppendsFront old new (rendered story) → ArePrinted status story intake faults disk old new
+printed_front status story intake faults disk old new opened cut written = record {
   whole = λ o c. not_false (is_cut status) cut c;
   front = λ o c. written;
   line = λ o c. not_false (is_opened story) opened o;
   line_front = λ o c. not_false (is_opened story) opened o;
+  nothing = λ o c. not_false (is_opened story) opened o;
 }
 
 not_cut_short : (failed rose : Bool) → is_cut (run_status (Ok failed) rose) ≡ false
@@ -142,10 +160,10 @@ not_cut_short false true = refl
 not_cut_short true false = refl
 not_cut_short false false = refl
 
-run_printed : (result : Result Bool (Or WriteFault)) (rose : Bool) (story : List Told) (phases : List Phase) (text : Option (List ℕ)) (outside : Outside) → HasRunSo result phases story outside → ArePrinted (run_status result rose) story text outside.held outside.holds
-run_printed (Ok failed) rose story phases text outside ran = printed_whole _ story text outside.held outside.holds ran.opened (not_cut_short failed rose) ran.written
-run_printed (Err NoMemory) rose story phases text outside left = printed_front _ story text outside.held outside.holds left.opened refl left.written
-run_printed (Err (Is fault)) rose story phases text outside left = printed_front _ story text outside.held outside.holds left.opened refl left.written
+run_printed : (result : Result Bool (Or WriteFault)) (rose : Bool) (story : List Told) (phases : List Phase) (intake : Intake) (outside : Outside) (faults : Change ℕ) (disk : Change Sight) → HasRunSo result phases story outside → ArePrinted (run_status result rose) story intake faults disk outside.held outside.holds
+run_printed (Ok failed) rose story phases intake outside faults disk ran = printed_whole _ story intake faults disk outside.held outside.holds ran.opened (not_cut_short failed rose) ran.written
+run_printed (Err NoMemory) rose story phases intake outside faults disk left = printed_front _ story intake faults disk outside.held outside.holds left.opened refl left.written
+run_printed (Err (Is fault)) rose story phases intake outside faults disk left = printed_front _ story intake faults disk outside.held outside.holds left.opened refl left.written
 
 -- The cause
 whole : (intake : Intake) (story : List Told) (phases : List Phase) (outside : Outside) (failed : Bool) → GivesPhases intake phases → HasRun phases story outside failed → IsWhole intake story
@@ -167,36 +185,50 @@ run_cause (Err (Is fault)) rose story phases intake outside faults disk by gives
 no_error : SessionError
 no_error = record { line = 0; cause = causes.NoPhase }
 
+-- the steps since a base was opened, and the settling of its journal, have the disk's counts
+counts_from : (one ran : Shown) (settled : List Told) (sight : Sight) → IsJustOpened one.story → KeepsCount one ran → settled ≡ ran.story → Settles (is_faulted (state_of ran.story).ends) ran.sight sight → CountsFrom one.sight sight settled
+counts_from one ran settled sight just keeps same settles = record {
+  first = told.Opened just.rows just.counts just.tells;
+  steps = keeps.steps;
+  ended = ran.sight;
+  story_is = same ∙ keeps.grows ∙ ap (λ story. story ++ keeps.steps) just.is;
+  counts = keeps.counts;
+  settled = subst (λ story. Settles (is_faulted (state_of story).ends) ran.sight sight) (sym same) settles;
+}
+
 -- a base was opened, and this is what became of it: the story as it was when the journal was settled is the one that was run
-pub runs_opened : (laws : Laws) (result : Result Bool (Or WriteFault)) (phases : List Phase) (status : Status) (first : Option Told) (story settled history : List Told) (before : ℕ) (sight now : Sight) (outside : Outside) (faults : Change ℕ) → settled ≡ story → history ≡ settled → now ≡ sight → status ≡ run_status result (rises before sight.faults) → first_step story ≡ first → Legal settled → IfOk result (HasRun phases story outside) → IfErr result (λ cut. IsGivenUp cut phases story outside.held outside.holds outside.moments outside.first) → OnWriteFault result (Rose faults.before faults.after) → IsAccounted (state_of settled) sight → IsMended (state_of settled) sight → AllOpenAgain settled → RunsOpened phases status first history before now outside faults
-runs_opened laws result phases status first story settled history before sight now outside faults kept same seen is begins legal ran left wrote accounted mended again =
-    subst (λ s. RunsOpened phases status first s before now outside faults) (sym same)
-    (subst (λ d. RunsOpened phases status first settled before d outside faults) (sym seen)
+pub runs_opened : (laws : Laws) (result : Result Bool (Or WriteFault)) (phases : List Phase) (status : Status) (first : Option Told) (one ran : Shown) (settled history : List Told) (before : ℕ) (sight now : Sight) (outside : Outside) (faults : Change ℕ) → let story = ran.story in IsJustOpened one.story → KeepsCount one ran → Settles (is_faulted (state_of ran.story).ends) ran.sight sight → settled ≡ story → history ≡ settled → now ≡ sight → status ≡ run_status result (rises before sight.faults) → first_step story ≡ first → Legal settled → IfOk result (HasRun phases story outside) → IfErr result (λ cut. IsGivenUp cut phases story outside) → OnWriteFault result (Rose faults.before faults.after) → IsAccounted (state_of settled) sight → IsMended (state_of settled) sight → AllOpenAgain settled → RunsOpened phases status first history before (record { before = one.sight; after = now }) outside faults
+runs_opened laws result phases status first one ran settled history before sight now outside faults just keeps settles kept same seen is begins legal done left wrote accounted mended again =
+    subst (λ s. RunsOpened phases status first s before (record { before = one.sight; after = now }) outside faults) (sym same)
+    (subst (λ d. RunsOpened phases status first settled before (record { before = one.sight; after = d }) outside faults) (sym seen)
     (record {
       result = result;
       status_is = is;
       first_is = ap first_step kept ∙ begins;
       legal = legal;
       built = are_from_nothing laws settled legal;
-      ran = subst (λ s. HasRunSo result phases s outside) (sym kept) (ran_so result ran left);
+      ran = subst (λ s. HasRunSo result phases s outside) (sym kept) (ran_so result done left);
       fault = wrote;
       accounted = accounted;
       mended = mended;
       again = again;
+      counted = counts_from one ran settled sight just keeps kept settles;
     }))
   where
-    ran_so : (r : Result Bool (Or WriteFault)) → IfOk r (HasRun phases story outside) → IfErr r (λ cut. IsGivenUp cut phases story outside.held outside.holds outside.moments outside.first) → HasRunSo r phases story outside
+    ran_so : (r : Result Bool (Or WriteFault)) → IfOk r (HasRun phases ran.story outside) → IfErr r (λ cut. IsGivenUp cut phases ran.story outside) → HasRunSo r phases ran.story outside
     ran_so (Ok failed) one two = one
     ran_so (Err cut) one two = two
 
 -- the promises of one call
 pub record Promised (status : Status) (story : List Told) (intake : Intake) (outside : Outside) (faults : Change ℕ) (disk : Change Sight) : Type 0 where
-  pub session : IsSession status story intake.text.before outside.moments outside.first
+  pub session : IsSession status story intake outside.moments (readings_of outside)
   pub history : IsOneHistory status story disk.before outside.held outside.holds
   pub built : AreFromNothing story
-  pub printed : ArePrinted status story intake.text.before outside.held outside.holds
+  pub printed : ArePrinted status story intake faults disk outside.held outside.holds
   pub stopped : IsStopped disk.before disk.after story
   pub cause : HasCause status intake faults disk story
+  pub accounted : is_opened story ≡ true → IsAccountedFor disk story
+  pub files : KeepsFiles disk story
 
 -- the line of a stop is that of its status
 stop_error : Stop → SessionError
@@ -234,7 +266,7 @@ pub untouched : (disk : Sight) → IsUntouched (record { before = disk; after = 
 untouched disk = record { disk_is = refl; story_is = refl }
 
 stop_cause : (stop : Stop) (intake : Intake) (faults : Change ℕ) (disk : Sight) → HasStop stop intake → HasCause (stop_status stop) intake faults (record { before = disk; after = disk }) []
-stop_cause stops.BadWords intake faults disk h = (h, untouched disk)
+stop_cause stops.BadWords intake faults disk h = (h.0, h.1, untouched disk)
 stop_cause stops.ReadFault intake faults disk h = (h, untouched disk)
 stop_cause stops.TooLong intake faults disk h = (h, untouched disk)
 stop_cause (stops.BadSession error) intake faults disk h = (h.0, none_read intake error h.1, untouched disk)
@@ -270,9 +302,9 @@ has_cause : (stop : Stop) (status : Status) (intake : Intake) (faults : Change �
 has_cause stop status intake faults disk true e h is rose = cut_cause status intake faults disk e rose
 has_cause stop status intake faults disk false e h is rose = subst (λ s. HasCause s intake faults disk []) (sym (is e)) h
 
-stop_printed : (stop : Stop) (status : Status) (intake : Intake) (old new : Option (List ℕ)) (faults : Change ℕ) → IsFirst stop intake → WritesStop stop status old new faults → ArePrinted status [] intake.text.before old new
+stop_printed : (stop : Stop) (status : Status) (intake : Intake) (old new : Option (List ℕ)) (faults : Change ℕ) (disk : Change Sight) → IsFirst stop intake → HasCause (stop_status stop) intake faults disk [] → WritesStop stop status old new faults → ArePrinted status [] intake faults disk old new
 unfolding IsFirst
-stop_printed stop status intake old new faults first wrote = record {
+stop_printed stop status intake old new faults disk first cause wrote = record {
   whole = λ o c. absurd (cc);
   front = λ o c. absurd (cc);
   line = λ o c. record {
@@ -280,25 +312,34 @@ stop_printed stop status intake old new faults first wrote = record {
     written = subst (Appends old new) (line_is stop ∙ ap (λ s. status_line s (stop_error stop)) (sym (wrote.answer c))) (wrote.whole c);
     first = λ e. first (sym (wrote.answer c) ∙ e);
   };
-  line_front = λ o c. record { status = stop_status stop; error = stop_error stop; written = subst (AppendsFront old new) (line_is stop) wrote.front };
+  line_front = λ o e. record {
+    status = stop_status stop;
+    error = stop_error stop;
+    cause = cause;
+    first = first;
+    written = subst (AppendsFront old new) (line_is stop) (wrote.front e);
+  };
+  nothing = λ o e. wrote.nothing e;
 }
 
-stops_so : (stop : Stop) (status : Status) (intake : Intake) (outside : Outside) (faults : Change ℕ) (disk : Change Sight) → IsFirst stop intake → HasCause (stop_status stop) intake faults disk [] → WritesStop stop status outside.held outside.holds faults → IsStopped disk.before disk.after [] → Promised status [] intake outside faults disk
-stops_so stop status intake outside faults disk first cause wrote stopped =
+stops_so : (stop : Stop) (status : Status) (intake : Intake) (outside : Outside) (faults : Change ℕ) (disk : Change Sight) → Both SameFiles disk.before.told disk.after.told → outside.reading ≡ outside.first → IsFirst stop intake → HasCause (stop_status stop) intake faults disk [] → WritesStop stop status outside.held outside.holds faults → IsStopped disk.before disk.after [] → Promised status [] intake outside faults disk
+stops_so stop status intake outside faults disk same unread first cause wrote stopped =
     let not = not_through stop status (is_cut status) refl wrote.answer in
     record {
-      session = session_none status intake.text.before outside.moments outside.first not;
+      session = session_none status intake outside not unread;
       history = history_none status disk.before outside.held outside.holds not;
       built = built_none [] refl;
-      printed = stop_printed stop status intake outside.held outside.holds faults first wrote;
+      printed = stop_printed stop status intake outside.held outside.holds faults disk first cause wrote;
       stopped = stopped;
       cause = has_cause stop status intake faults disk (is_cut status) refl cause wrote.answer wrote.fault;
+      accounted = λ opened. absurd (cc);
+      files = closed_files disk same;
     }
 
 -- The promises where the source gave no session
-pub promised_stop : (stop : Stop) (status : Status) (intake : Intake) (outside : Outside) (faults : Change ℕ) (disk : Sight) → IsCounted disk → IsHandedIn disk → HasStop stop intake → WritesStop stop status outside.held outside.holds faults → Promised status [] intake outside faults (record { before = disk; after = disk })
-promised_stop stop status intake outside faults disk counted handed h wrote =
-    stops_so stop status intake outside faults _ (first_is stop intake h) (stop_cause stop intake faults disk h) wrote (stays_untouched disk counted handed)
+pub promised_stop : (stop : Stop) (status : Status) (intake : Intake) (outside : Outside) (faults : Change ℕ) (disk : Sight) → outside.reading ≡ outside.first → IsCounted disk → IsHandedIn disk → HasStop stop intake → WritesStop stop status outside.held outside.holds faults → Promised status [] intake outside faults (record { before = disk; after = disk })
+promised_stop stop status intake outside faults disk unread counted handed h wrote =
+    stops_so stop status intake outside faults (record { before = disk; after = disk }) (told_stay disk.told) unread (first_is stop intake h) (stop_cause stop intake faults disk h) wrote (stays_untouched disk counted handed)
 
 -- why a base is not opened is the cause of the status
 open_first : (because : OpenCause) (rose : Bool) (intake : Intake) → IsFirst (open_stop because rose) intake
@@ -314,9 +355,9 @@ open_cause (opens.Damaged row) true intake faults disk by asked is = (asked, by,
 open_cause (opens.Damaged row) false intake faults disk by asked is = (asked, is.1, by, refl)
 open_cause opens.DiskFault rose intake faults disk by asked is = (asked, is, λ opened. absurd (cc))
 
-promised_closed : (because : OpenCause) (status : Status) (intake : Intake) (outside : Outside) (faults : Change ℕ) (disk : Change Sight) → IsAsked intake → FailsToOpen disk.before because disk.after → WritesStop (open_stop because (disk_rose disk)) status outside.held outside.holds faults → Promised status [] intake outside faults disk
-promised_closed because status intake outside faults disk asked fails wrote =
-    stops_so (open_stop because (disk_rose disk)) status intake outside faults disk (open_first because (disk_rose disk) intake)
+promised_closed : (because : OpenCause) (status : Status) (intake : Intake) (outside : Outside) (faults : Change ℕ) (disk : Change Sight) → outside.reading ≡ outside.first → IsAsked intake → FailsToOpen disk.before because disk.after → WritesStop (open_stop because (disk_rose disk)) status outside.held outside.holds faults → Promised status [] intake outside faults disk
+promised_closed because status intake outside faults disk unread asked fails wrote =
+    stops_so (open_stop because (disk_rose disk)) status intake outside faults disk fails.files unread (open_first because (disk_rose disk) intake)
     (open_cause because (disk_rose disk) intake faults disk refl asked fails.because) wrote
     (stays_closed disk.before disk.after [] refl fails.tells fails.unchanged fails.files)
 
@@ -330,22 +371,24 @@ promised_run phases status story intake outside faults disk gives (inl run) =
       session = run_session ran.result rose story phases intake outside gives ran.ran;
       history = run_history ran.result rose story phases disk.before outside ran.legal run.begins ran.ran;
       built = ran.built;
-      printed = run_printed ran.result rose story phases intake.text.before outside ran.ran;
+      printed = run_printed ran.result rose story phases intake outside faults disk ran.ran;
       stopped = keeps_prefix disk.before disk.after story run.begins ran.legal ran.accounted ran.mended ran.again;
-      cause = run_cause ran.result rose story phases intake outside faults disk refl gives ran.ran ran.fault (undamaged_on disk.before run.begins.rows run.begins.handed run.begins.on);
+      cause = run_cause ran.result rose story phases intake outside faults disk refl gives ran.ran ran.fault (undamaged_on disk.before run.begins.base run.begins.handed run.begins.on);
+      accounted = λ opened. record { opened = run.opened; sound = run.sound; counted = ran.counted };
+      files = keeps_files disk run.opened story run.files ran.counted;
     })
 promised_run phases status story intake outside faults disk gives (inr closed) =
     subst (λ s. Promised status s intake outside faults disk) (sym closed.empty)
-    (promised_closed closed.because status intake outside faults disk (asked intake phases gives) closed.fails closed.wrote)
+    (promised_closed closed.because status intake outside faults disk closed.unread (asked intake phases gives) closed.fails closed.wrote)
 
 -- a base that was just opened, and its story since
 pub begins_on : (disk opened : Sight) (one story : List Told) (first : Option Told) → Opens disk one opened → first ≡ first_step one → first_step story ≡ first → BeginsOn disk story
 begins_on disk opened one story first opens is same = record {
-  rows = opens.rows;
+  base = opens.base;
   handed = opens.handed;
   on = opens.on;
   first = same ∙ is ∙ ap first_step opens.story_is;
 }
 
 pub just_opened : (disk opened : Sight) (story : List Told) → Opens disk story opened → IsJustOpened story
-just_opened disk opened story opens = record { rows = opens.rows; counts = opens.handed.counts; tells = opens.handed.tells; is = opens.story_is }
+just_opened disk opened story opens = record { rows = oldest_first opens.base; counts = opens.handed.counts; tells = opens.handed.tells; is = opens.story_is }

@@ -12,18 +12,19 @@ use Rattle.cc_names.specs.declared.memory.Or.{Or}
 use Rattle.cc_names.specs.declared.memory.Or.TheVariants.{NoMemory, Is}
 use Rattle.cc_names.specs.declared.steps.Told.{Told}
 use Rattle.cc_names.specs.declared.steps.Told.TheVariants as told
-use Rattle.cc_outside.specs.Counts.{raised}
+use Rattle.cc_names.specs.Counts.{raised}
 use Rattle.cc_outside.specs.Feeds.{AppendsFront}
 use Rattle.cc_outside.specs.Moments.{moment_at}
 use Rattle.cc_outside.specs.declared.sinks.WriteFault.{WriteFault}
-use Rattle.legal_history.specs.States.{State, all_done, start}
-use Rattle.legal_history.specs.Steps.{after, state_of}
-use Rattle.legal_history.specs.Stories.{last_moment}
+use Rattle.legal_history.specs.Stories.States.{State, all_done, start}
+use Rattle.legal_history.specs.Stories.Steps.{after, state_of}
+use Rattle.legal_history.specs.Stories.Lawful.{last_moment}
 use Rattle.base_core.specs.Replying.{replies_after, replies_from, replies_of, no_replies}
-use Rattle.session_run.specs.Headline.{IsCutAtLast, phases_begun, moments_begun, clock_moments, is_opened}
+use Rattle.session_run.specs.Begun.{phases_begun, moments_begun, is_opened}
+use Rattle.session_run.specs.Headline.{IsCutAtLast, clock_moments}
 use Rattle.session_run.specs.Rendered.{EndedPhase, Replies, earlier_phases, ended_phases, replies_over, last_phase, phase_where, is_ended, transcript, transcript_of, transcripts, lanes_fail, phase_fails}
 use Rattle.session_run.specs.Lanes.{GoesInPhase, RunsPhase, LeavesPhase}
-use Rattle.session_run.specs.Runs.{IsJustOpened, Outside, HasRun, IsCutBy, IsGivenUp}
+use Rattle.session_run.specs.Runs.{IsJustOpened, Outside, HasRun, IsCutBy, IsGivenUp, ReadsBy}
 
 -- what a clock may tell
 if_told : (clock : Option (List ℕ)) (P : List ℕ → Type 0) → ((told : List ℕ) → P told) → IfSome clock P
@@ -64,7 +65,7 @@ front_more one two three xs ys h k =
     (length xs + k.0, omega (arith, length-append xs ys, k.1), subst (Appends one three) (sym (take_past xs ys k.0)) (appends_more one two three xs (take k.0 ys) h k.2))
 
 -- one more moment of a clock
-raised_none : (first : ℕ) → raised first 0 ≡ first
+pub raised_none : (first : ℕ) → raised first 0 ≡ first
 raised_none first = omega arith
 
 raised_more : (first n : ℕ) → raised (raised first 1) n ≡ raised first (suc n)
@@ -182,25 +183,40 @@ moments_kept told story first count is = is ∙ ap (clock_moments told first) (s
 abbrev last_given : List Told → List EndedPhase
 last_given story = last_phase (state_of story) (replies_over replies_after start no_replies story)
 
+-- the clock was read for the phase that began last, and for one that did not begin
+read_for_it : (first before reading count begun : ℕ) → before ≡ raised first count → reading ≡ raised before 1 → begun ≡ suc count → reading ≡ raised first begun
+read_for_it first before reading count begun was reads is = reads ∙ ap (λ r. raised r 1) was ∙ raised_last first count ∙ ap (raised first) (sym is)
+
+read_once_more : (first before reading count begun : ℕ) → before ≡ raised first count → reading ≡ raised before 1 → begun ≡ count → reading ≡ raised first (begun + 1)
+read_once_more first before reading count begun was reads is = read_for_it first before reading count (begun + 1) was reads (omega (arith, is))
+
+read_by : (cut : Or WriteFault) (count : ℕ) (outside : Outside) → outside.reading ≡ raised outside.first count → ReadsBy cut count outside
+read_by NoMemory count outside is = inl is
+read_by (Is fault) count outside is = is
+
 -- the run was given up for want of memory
-pub run_leaves : (phases rest all : List Phase) (phase : Phase) (old new : List Told) (outside : Outside) (moment : ℕ) (failed : Bool) → HasRun phases old outside failed → LeavesPhase phase moment old new → IfSome outside.moments (λ told. moment ≡ min (moment_at told outside.reading) last_moment) → phases ++ phase ∷ rest ≡ all → IsGivenUp NoMemory all new outside.held outside.holds outside.moments outside.first
-run_leaves phases rest all phase old new outside moment failed so_far (inl is) told whole = record {
+pub run_leaves : (phases rest all : List Phase) (phase : Phase) (old new : List Told) (outside : Outside) (moment reading : ℕ) (failed : Bool) → HasRun phases old outside failed → LeavesPhase phase moment old new → IfSome outside.moments (λ told. moment ≡ min (moment_at told outside.reading) last_moment) → phases ++ phase ∷ rest ≡ all → reading ≡ raised outside.reading 1 → IsGivenUp NoMemory all new (record outside { reading = reading })
+run_leaves phases rest all phase old new outside moment reading failed so_far (inl is) told whole reads = record {
   opened = ap is_opened is ∙ so_far.opened;
   begun = (phase ∷ rest, sym whole ∙ ap (λ ps. ps ++ phase ∷ rest) (sym (ap phases_begun is ∙ so_far.phases_are)));
   moments_are =
       both_told outside.moments _ _ (λ told. moments_begun new ≡ clock_moments told outside.first (length (moments_begun new))) so_far.moments_are told
       (λ told before now. moments_kept told new outside.first (length phases) (ap moments_begun is ∙ before));
+  reading_is = inr (read_once_more outside.first outside.reading reading (length phases) (length (phases_begun new)) so_far.reading_is reads (ap length (ap phases_begun is ∙ so_far.phases_are)));
   written =
       subst (AppendsFront outside.held outside.holds) (append-nil (transcripts (ended_phases old)) ∙ sym (ap (λ s. transcripts (ended_phases s)) is))
       (is_front outside.held outside.holds (transcripts (ended_phases old)) [] so_far.written);
   cut_at = tt;
 }
-run_leaves phases rest all phase old new outside moment failed so_far (inr goes) told whole = record {
+run_leaves phases rest all phase old new outside moment reading failed so_far (inr goes) told whole reads = record {
   opened = goes.opened;
   begun = (rest, sym whole ∙ sym (append_assoc phases (phase ∷ []) rest) ∙ ap (λ ps. ps ++ rest) (sym (goes.phases ∙ ap (λ ps. ps ++ phase ∷ []) so_far.phases_are)));
   moments_are =
       both_told outside.moments _ _ (λ told. moments_begun new ≡ clock_moments told outside.first (length (moments_begun new))) so_far.moments_are told
       (λ told before now. moments_kept told new outside.first (suc (length phases)) (moments_on told old new outside.first outside.reading (length phases) moment goes.moments before so_far.reading_is now));
+  reading_is =
+      inl (read_for_it outside.first outside.reading reading (length phases) (length (phases_begun new)) so_far.reading_is reads
+      (ap length (goes.phases ∙ ap (λ ps. ps ++ phase ∷ []) so_far.phases_are) ∙ one_more phases phase));
   written =
       subst (AppendsFront outside.held outside.holds)
       (ap (λ front. front ++ transcripts (last_given new)) (ap transcripts (sym goes.earlier)) ∙ sym (flat_map-append transcript_of (earlier_phases new) (last_given new)))
@@ -213,8 +229,8 @@ cut_in NoMemory story old new h = tt
 cut_in (Is fault) story old new h = h
 
 -- the run was given up in a transcript
-pub run_is_cut : (cut : Or WriteFault) (phases rest all : List Phase) (phase : Phase) (old new : List Told) (outside : Outside) (holds : Option (List ℕ)) (moment number : ℕ) (failed : Bool) → HasRun phases old outside failed → RunsPhase phase moment old new → IfSome outside.moments (λ told. moment ≡ min (moment_at told outside.reading) last_moment) → number ≡ length phases + 1 → phases ++ phase ∷ rest ≡ all → AppendsFront outside.holds holds (transcript number (state_of new).phase (replies_of new)) → IsGivenUp cut all new outside.held holds outside.moments outside.first
-run_is_cut cut phases rest all phase old new outside holds moment number failed so_far runs told count whole wrote =
+pub run_is_cut : (cut : Or WriteFault) (phases rest all : List Phase) (phase : Phase) (old new : List Told) (outside : Outside) (holds : Option (List ℕ)) (moment reading number : ℕ) (failed : Bool) → HasRun phases old outside failed → RunsPhase phase moment old new → IfSome outside.moments (λ told. moment ≡ min (moment_at told outside.reading) last_moment) → number ≡ length phases + 1 → phases ++ phase ∷ rest ≡ all → AppendsFront outside.holds holds (transcript number (state_of new).phase (replies_of new)) → reading ≡ raised outside.reading 1 → IsGivenUp cut all new (record outside { holds = holds; reading = reading })
+run_is_cut cut phases rest all phase old new outside holds moment reading number failed so_far runs told count whole wrote reads =
     let begun : phases_begun new ≡ phases ++ phase ∷ [] = runs.goes.phases ∙ ap (λ ps. ps ++ phase ∷ []) so_far.phases_are in
     record {
       opened = runs.goes.opened;
@@ -222,6 +238,9 @@ run_is_cut cut phases rest all phase old new outside holds moment number failed 
       moments_are =
           both_told outside.moments _ _ (λ told. moments_begun new ≡ clock_moments told outside.first (length (moments_begun new))) so_far.moments_are told
           (λ told before now. moments_kept told new outside.first (suc (length phases)) (moments_on told old new outside.first outside.reading (length phases) moment runs.goes.moments before so_far.reading_is now));
+      reading_is =
+          read_by cut (length (phases_begun new)) (record outside { holds = holds; reading = reading })
+          (read_for_it outside.first outside.reading reading (length phases) (length (phases_begun new)) so_far.reading_is reads (ap length begun ∙ one_more phases phase));
       written =
           subst (AppendsFront outside.held holds) (sym (rendered_more old new phase moment number runs.goes runs.finished (omega (arith, count, so_far.number))))
           (front_more outside.held outside.holds holds (transcripts (ended_phases old)) (transcript number (state_of new).phase (replies_of new)) so_far.written wrote);

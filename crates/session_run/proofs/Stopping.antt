@@ -10,10 +10,10 @@ use Rattle.cc_names.specs.declared.steps.Told.TheVariants as told
 use Rattle.disk_model.specs.Devices.{Device, MayLeave, bytes_of, file_of}
 use Rattle.disk_model.specs.Files.{IsImage, stable}
 use Rattle.disk_model.specs.Told.{Sight, Both, IfTold, IsCounted}
-use Rattle.legal_history.specs.States.{State, Opening, start, faults_of, hanging}
-use Rattle.legal_history.specs.Steps.{after, state_from, state_of}
-use Rattle.legal_history.specs.Committing.{rises}
-use Rattle.legal_history.specs.Stories.{Legal, LegalFrom}
+use Rattle.legal_history.specs.Stories.States.{State, Opening, start, faults_of, hanging}
+use Rattle.legal_history.specs.Stories.Steps.{after, state_from, state_of}
+use Rattle.cc_names.specs.Counts.{rises}
+use Rattle.legal_history.specs.Stories.Lawful.{Legal, LegalFrom}
 use Rattle.vob_journal.specs.Frames.{frames}
 use Rattle.vob_journal.specs.Reads.{SameFiles}
 use Rattle.vob_journal.proofs.Journals.{stable_image}
@@ -21,9 +21,11 @@ use Rattle.vob_journal.proofs.Staying.{told_stay}
 use Rattle.base_core.specs.Backed.{IsAccounted, IsSettled}
 use Rattle.base_core.specs.Founds.{OpensAgain}
 use Rattle.base_core.specs.Standing.{MayBeFound}
+use Rattle.base_core.specs.Telling.{oldest_first}
 use Rattle.base_core.proofs.Backing.{left_within_calls}
 use Rattle.base_core.proofs.Idle.{some_same}
-use Rattle.session_run.specs.Headline.{BeginsOn, first_step, is_opened}
+use Rattle.session_run.specs.Begun.{first_step, is_opened}
+use Rattle.session_run.specs.Headline.{BeginsOn}
 use Rattle.session_run.specs.Stopped.{AllOpenAgain, AreApart, IsHandedIn, IsMended, IsStopped, KeepsFrames, rises_of}
 
 -- each fault of a story has a rise of its own
@@ -120,13 +122,13 @@ keeps_prefix before now story begins legal accounted mended again = record {
   files = λ closed. absurd (not_closed story begins.first closed);
 }
   where
-    begun : IsBegun story begins.rows begins.handed.counts begins.handed.tells
-    begun = is_begun story begins.rows begins.handed.counts begins.handed.tells begins.first legal
+    begun : IsBegun story (oldest_first begins.base) begins.handed.counts begins.handed.tells
+    begun = is_begun story (oldest_first begins.base) begins.handed.counts begins.handed.tells begins.first legal
 
     counts : (accounted.opening.counts ≡ begins.handed.counts) × (accounted.opening.tells ≡ begins.handed.tells)
-    counts = same_counts accounted.opening begins.rows begins.handed.counts begins.handed.tells (state_of story).opened accounted.opened begun.opened
+    counts = same_counts accounted.opening (oldest_first begins.base) begins.handed.counts begins.handed.tells (state_of story).opened accounted.opened begun.opened
 
-    not_closed : (xs : List Told) → first_step xs ≡ Some (told.Opened begins.rows begins.handed.counts begins.handed.tells) → is_opened xs ≡ false → ⊥
+    not_closed : (xs : List Told) → first_step xs ≡ Some (told.Opened (oldest_first begins.base) begins.handed.counts begins.handed.tells) → is_opened xs ≡ false → ⊥
     not_closed [] first closed = cc
     not_closed (x ∷ xs) first closed = cc
 

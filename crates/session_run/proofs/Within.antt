@@ -11,8 +11,8 @@ use Rattle.std.proofs.lemmas.Option.{slice_get_within}
 use Rattle.cc_names.specs.declared.commands.Command.{Command}
 use Rattle.cc_names.specs.declared.commands.Lane.{Lane}
 use Rattle.cc_names.specs.declared.commands.Phase.{Phase}
-use Rattle.base_core.specs.Carried.{is_carried_out, IsLaneCarriedOut, AreCarriedOut}
-use Rattle.legal_history.specs.States.{State, done_of, with_done, lane_at, command_behind, lanes_done, all_done}
+use Rattle.carried_out.specs.CarriedOut.{is_carried_out, IsLaneCarriedOut, AreCarriedOut}
+use Rattle.legal_history.specs.Stories.States.{State, done_of, with_done, lane_at, command_behind, lanes_done, all_done}
 use Rattle.base_core.specs.Nexts.{waiting}
 use Rattle.session_run.specs.Lanes.{count_of, IsWithin, IsFinished}
 

@@ -12,7 +12,8 @@ use Rattle.cc_names.specs.declared.steps.Told.{Told}
 use Rattle.cc_names.specs.declared.steps.Told.TheVariants as told
 use Rattle.cc_names.specs.declared.steps.Counts.{Counts}
 use Rattle.session_run.specs.Asked.{is_run}
-use Rattle.session_run.specs.Headline.{clock_moments, phases_begun}
+use Rattle.session_run.specs.Begun.{phases_begun}
+use Rattle.session_run.specs.Headline.{clock_moments}
 use Rattle.session_run.specs.Rendered.{earlier_text, has_failure, rendered}
 
 -- a view and a private file, and then the view once more

@@ -2,16 +2,16 @@
 use Rattle.std.specs.Prelude.{◌≡◌, ℕ, ◌+◌, ◌<◌, ◌≤◌, ◌⊎◌, Bool, true, false, Option, is_some, IfSome, List, [], length}
 use Rattle.std.specs.Io.KnownBytes.{IsAtEnd}
 use Rattle.cc_names.specs.declared.steps.Told.{Told}
-use Rattle.cc_outside.specs.Counts.{raised, Rose, RoseAbove, RoseAtMost}
+use Rattle.cc_names.specs.Counts.{raised, Rose, RoseAbove, RoseAtMost, rises}
+use Rattle.cc_outside.specs.Sights.{SinkSight, SourceSight}
 use Rattle.disk_model.specs.Devices.{bytes_of}
 use Rattle.disk_model.specs.Told.{Sight, IfTold}
 use Rattle.vob_journal.specs.Frames.{frames}
 use Rattle.base_core.specs.Opening.{IsDamaged, IsUndamaged}
-use Rattle.legal_history.specs.States.{all_done}
-use Rattle.legal_history.specs.Steps.{state_of}
-use Rattle.legal_history.specs.Committing.{rises}
+use Rattle.legal_history.specs.Stories.States.{all_done}
+use Rattle.legal_history.specs.Stories.Steps.{state_of}
 use Rattle.session_run.specs.Asked.{text_limit, is_run, is_session}
-use Rattle.session_run.specs.Headline.{is_opened}
+use Rattle.session_run.specs.Begun.{is_opened}
 use Rattle.session_run.specs.Rendered.{has_failure}
 use Rattle.session_run.specs.Statuses.{is_cut}
 use Rattle.session_run.specs.declared.statuses.Status.{Status}
@@ -28,6 +28,19 @@ pub record Intake : Type 0 where
   pub text : Change (Option (List ℕ))
   pub given : Change ℕ
   pub faults : Change ℕ
+
+-- what came in with these words from a source that was seen so before and after
+abbrev pub intake_of : List (List ℕ) → SourceSight → SourceSight → Intake
+intake_of words before after = record {
+  words = words;
+  text = record { before = before.left; after = after.left };
+  given = record { before = before.given; after = after.given };
+  faults = record { before = before.faults; after = after.faults };
+}
+
+-- the counts of faults of a sink before and after
+abbrev pub sink_faults : SinkSight → SinkSight → Change ℕ
+sink_faults before after = record { before = before.faults; after = after.faults }
 
 -- the words have the form, and the source was read to its end, which came within the limit
 pub record IsRead (intake : Intake) : Type 0 where
@@ -53,6 +66,12 @@ pub record IsAsked (intake : Intake) : Type 0 where
 -- the source's bytes spell no session
 abbrev pub SpellsNone : Intake → Type 0
 SpellsNone intake = IfSome intake.text.before (λ bytes. is_session bytes ≡ false)
+
+-- the source was not read
+pub record IsUnread (intake : Intake) : Type 0 where
+  pub text : intake.text.after ≡ intake.text.before
+  pub given : intake.given.after ≡ intake.given.before
+  pub faults : intake.faults.after ≡ intake.faults.before
 
 -- the source failed
 pub record SourceFailed (intake : Intake) : Type 0 where
@@ -89,7 +108,7 @@ DiskUndamaged disk = IfTold disk.before.told (λ d. IsUndamaged (frames (bytes_o
 abbrev pub HasCause : Status → Intake → Change ℕ → Change Sight → List Told → Type 0
 HasCause statuses.Good intake sink_faults disk story = IsWhole intake story × (has_failure story ≡ false) × (disk_rose disk ≡ false) × DiskUndamaged disk
 HasCause statuses.SomeFailed intake sink_faults disk story = IsWhole intake story × (has_failure story ≡ true) × (disk_rose disk ≡ false) × DiskUndamaged disk
-HasCause statuses.BadWords intake sink_faults disk story = (is_run intake.words ≡ false) × IsUntouched disk story
+HasCause statuses.BadWords intake sink_faults disk story = (is_run intake.words ≡ false) × IsUnread intake × IsUntouched disk story
 HasCause statuses.BadSession intake sink_faults disk story = IsRead intake × SpellsNone intake × IsUntouched disk story
 HasCause (statuses.Damaged row) intake sink_faults disk story = IsAsked intake × DiskDamaged disk row × (disk_rose disk ≡ false) × (story ≡ [])
 HasCause statuses.ReadFault intake sink_faults disk story = SourceFailed intake × IsUntouched disk story

@@ -5,10 +5,10 @@ use Rattle.cc_names.specs.declared.replies.Reply.TheVariants as replies
 use Rattle.cc_names.specs.declared.steps.Step.TheVariants as steps
 use Rattle.cc_names.specs.declared.steps.Told.{Told}
 use Rattle.cc_names.specs.declared.steps.Told.TheVariants as told
-use Rattle.legal_history.specs.Replied.{reply_from_nothing}
-use Rattle.legal_history.specs.Base.{Base}
-use Rattle.legal_history.specs.Builds.{Build}
-use Rattle.legal_history.specs.States.{State, build_by}
+use Rattle.legal_history.specs.Builds.Replied.{reply_from_nothing}
+use Rattle.legal_history.specs.Base.Rows.{Base}
+use Rattle.legal_history.specs.Builds.Active.{Build}
+use Rattle.legal_history.specs.Stories.States.{State, build_by}
 use Rattle.base_core.specs.Replying.{replies_by, in_lane}
 use Rattle.session_run.specs.Rendered.{Replies, ended_over, transcripts}
 

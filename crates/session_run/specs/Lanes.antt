@@ -6,9 +6,9 @@ use Rattle.cc_names.specs.declared.memory.NoMemory.{NoMemory}
 use Rattle.cc_names.specs.declared.steps.Told.{Told}
 use Rattle.base_core.specs.Going.{Finishes, GoesOn}
 use Rattle.base_core.specs.Nexts.{waiting}
-use Rattle.legal_history.specs.States.{State, all_done, done_of, lane_at}
-use Rattle.legal_history.specs.Steps.{state_of}
-use Rattle.session_run.specs.Headline.{phases_begun, moments_begun, first_step, is_opened}
+use Rattle.legal_history.specs.Stories.States.{State, all_done, done_of, lane_at}
+use Rattle.legal_history.specs.Stories.Steps.{state_of}
+use Rattle.session_run.specs.Begun.{phases_begun, moments_begun, first_step, is_opened}
 use Rattle.session_run.specs.Rendered.{earlier_phases, ended_phases}
 
 -- how many commands a lane has

@@ -1,4 +1,6 @@
+pub mod Accounted
 pub mod Asked
+pub mod Begun
 pub mod Causes
 pub mod FromNothing
 pub mod Headline

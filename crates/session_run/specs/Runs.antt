@@ -1,5 +1,5 @@
 -- What running the phases of a session does to the story, to the sink and to the clock.
-use Rattle.std.specs.Prelude.{◌≡◌, ℕ, ◌≤◌, Bool, true, false, Option, IfSome, Result, Ok, Err, List, [], ◌∷◌, length}
+use Rattle.std.specs.Prelude.{◌≡◌, ◌⊎◌, ℕ, ◌+◌, ◌≤◌, Bool, true, false, Option, IfSome, Result, Ok, Err, List, [], ◌∷◌, length}
 use Rattle.std.specs.List.{AllByRecursion}
 use Rattle.std.specs.Io.KnownBytes.{Appends}
 use Rattle.cc_names.specs.Formed.{Plain}
@@ -9,15 +9,17 @@ use Rattle.cc_names.specs.declared.memory.Or.TheVariants.{NoMemory, Is}
 use Rattle.cc_names.specs.declared.steps.Counts.{Counts}
 use Rattle.cc_names.specs.declared.steps.Told.{Told}
 use Rattle.cc_names.specs.declared.steps.Told.TheVariants as told
-use Rattle.cc_outside.specs.Counts.{raised}
+use Rattle.cc_names.specs.Counts.{raised}
 use Rattle.cc_outside.specs.Feeds.{AppendsFront}
+use Rattle.cc_outside.specs.Sights.{ClockSight, SinkSight}
 use Rattle.cc_outside.specs.declared.sinks.WriteFault.{WriteFault}
 use Rattle.session_text.specs.Formed.{IsPhase}
-use Rattle.base_core.specs.Carried.{AreCarriedOut}
-use Rattle.legal_history.specs.States.{all_done}
-use Rattle.legal_history.specs.Steps.{state_of}
+use Rattle.carried_out.specs.CarriedOut.{AreCarriedOut}
+use Rattle.legal_history.specs.Stories.States.{all_done}
+use Rattle.legal_history.specs.Stories.Steps.{state_of}
 use Rattle.session_run.specs.Asked.{text_limit}
-use Rattle.session_run.specs.Headline.{IsFront, IsCutAtLast, phases_begun, moments_begun, clock_moments, is_opened}
+use Rattle.session_run.specs.Begun.{IsFront, phases_begun, moments_begun, is_opened}
+use Rattle.session_run.specs.Headline.{IsCutAtLast, clock_moments}
 use Rattle.session_run.specs.Rendered.{earlier_text, rendered, has_failure}
 use Rattle.session_run.specs.declared.statuses.Status.{Status}
 use Rattle.session_run.specs.declared.statuses.Status.TheVariants as statuses
@@ -47,6 +49,11 @@ pub record Outside : Type 0 where
   pub first : ℕ
   pub reading : ℕ
 
+-- the outside of a run by how its sink and its clock were seen before and after
+abbrev pub outside_of : SinkSight → SinkSight → ClockSight → ClockSight → Outside
+outside_of sink new_sink clock new_clock =
+    record { held = sink.held; holds = new_sink.held; moments = clock.told; first = clock.readings; reading = new_clock.readings }
+
 -- these phases have been run, and their transcripts written
 pub record HasRun (phases : List Phase) (story : List Told) (outside : Outside) (failed : Bool) : Type 0 where
   pub opened : is_opened story ≡ true
@@ -63,13 +70,19 @@ abbrev pub IsCutBy : Or WriteFault → List Told → Option (List ℕ) → Optio
 IsCutBy NoMemory story old new = Unit {0}
 IsCutBy (Is fault) story old new = IsCutAtLast story (earlier_text story) old new
 
+-- how often the clock was read where so many phases had begun: once for each, or where memory ran out perhaps once more
+abbrev pub ReadsBy : Or WriteFault → ℕ → Outside → Type 0
+ReadsBy NoMemory count outside = (outside.reading ≡ raised outside.first count) ⊎ (outside.reading ≡ raised outside.first (count + 1))
+ReadsBy (Is fault) count outside = outside.reading ≡ raised outside.first count
+
 -- the run of these phases was given up
-pub record IsGivenUp (cut : Or WriteFault) (phases : List Phase) (story : List Told) (old new clock : Option (List ℕ)) (first : ℕ) : Type 0 where
+pub record IsGivenUp (cut : Or WriteFault) (phases : List Phase) (story : List Told) (outside : Outside) : Type 0 where
   pub opened : is_opened story ≡ true
   pub begun : IsFront (phases_begun story) phases
-  pub moments_are : IfSome clock (λ told. moments_begun story ≡ clock_moments told first (length (moments_begun story)))
-  pub written : AppendsFront old new (rendered story)
-  pub cut_at : IsCutBy cut story old new
+  pub moments_are : IfSome outside.moments (λ told. moments_begun story ≡ clock_moments told outside.first (length (moments_begun story)))
+  pub reading_is : ReadsBy cut (length (phases_begun story)) outside
+  pub written : AppendsFront outside.held outside.holds (rendered story)
+  pub cut_at : IsCutBy cut story outside.held outside.holds
 
 -- the sink's faults rose where it failed
 abbrev pub OnWriteFault : {X : Type 0} → Result X (Or WriteFault) → Type 0 → Type 0
@@ -88,4 +101,4 @@ run_status (Err (Is fault)) rose = statuses.WriteFault
 -- the phases were run, or their run was given up
 abbrev pub HasRunSo : Result Bool (Or WriteFault) → List Phase → List Told → Outside → Type 0
 HasRunSo (Ok failed) phases story outside = HasRun phases story outside failed
-HasRunSo (Err cut) phases story outside = IsGivenUp cut phases story outside.held outside.holds outside.moments outside.first
+HasRunSo (Err cut) phases story outside = IsGivenUp cut phases story outside

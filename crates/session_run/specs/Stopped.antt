@@ -6,15 +6,15 @@ use Rattle.cc_names.specs.declared.steps.Told.TheVariants as told
 use Rattle.disk_model.specs.Devices.{MayLeave, bytes_of, file_of}
 use Rattle.disk_model.specs.Files.{stable}
 use Rattle.disk_model.specs.Told.{Sight, Both, IfTold}
-use Rattle.legal_history.specs.States.{State, Opening, faults_of, ticks_of}
-use Rattle.legal_history.specs.Steps.{state_of}
-use Rattle.legal_history.specs.Committing.{rises}
+use Rattle.legal_history.specs.Stories.States.{State, Opening, faults_of, ticks_of}
+use Rattle.legal_history.specs.Stories.Steps.{state_of}
+use Rattle.cc_names.specs.Counts.{rises}
 use Rattle.vob_journal.specs.Frames.{frames}
 use Rattle.vob_journal.specs.Reads.{SameFiles}
 use Rattle.base_core.specs.Backed.{IsSettled}
 use Rattle.base_core.specs.Founds.{OpensAgain}
 use Rattle.base_core.specs.Standing.{MayBeFound}
-use Rattle.session_run.specs.Headline.{is_opened}
+use Rattle.session_run.specs.Begun.{is_opened}
 
 -- what a call asks of its disk: where it tells its files, both are on the disk as they read
 abbrev pub IsHandedIn : Sight → Type 0

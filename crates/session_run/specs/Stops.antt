@@ -6,7 +6,7 @@ use Rattle.cc_names.specs.declared.commands.Phase.{Phase}
 use Rattle.cc_names.specs.declared.memory.Or.{Or}
 use Rattle.cc_names.specs.declared.memory.Or.TheVariants as ors
 use Rattle.cc_names.specs.declared.refusals.SessionError.{SessionError}
-use Rattle.cc_outside.specs.Counts.{Rose}
+use Rattle.cc_names.specs.Counts.{Rose}
 use Rattle.cc_outside.specs.Feeds.{AppendsFront}
 use Rattle.cc_outside.specs.declared.sources.Unread.{Unread}
 use Rattle.cc_outside.specs.declared.sources.Unread.TheVariants.{Fault}
@@ -14,7 +14,7 @@ use Rattle.cc_outside.specs.declared.sources.Unread.TheVariants as unreads
 use Rattle.base_core.specs.declared.opening.OpenCause.{OpenCause}
 use Rattle.base_core.specs.declared.opening.OpenCause.TheVariants as opens
 use Rattle.session_text.specs.Sessions.{session_of}
-use Rattle.session_run.specs.Causes.{Change, Intake, IsRead, SourceFailed, GaveTooMuch}
+use Rattle.session_run.specs.Causes.{Change, Intake, IsRead, IsUnread, SourceFailed, GaveTooMuch}
 use Rattle.session_run.specs.Asked.{is_run, is_session, phases_spelled}
 use Rattle.session_run.specs.Runs.{IsRunnable}
 use Rattle.session_run.specs.Statuses.{is_cut, error_words}
@@ -43,7 +43,7 @@ unsaid_stop (ors.Is error) = stops.BadSession error
 
 -- the cause of a stop before the disk is opened
 abbrev pub HasStop : Stop → Intake → Type 0
-HasStop stops.BadWords intake = is_run intake.words ≡ false
+HasStop stops.BadWords intake = (is_run intake.words ≡ false) × IsUnread intake
 HasStop stops.ReadFault intake = SourceFailed intake
 HasStop stops.TooLong intake = GaveTooMuch intake
 HasStop (stops.Damaged row) intake = ⊥
@@ -78,9 +78,10 @@ stop_line (stops.Damaged row) = codes "damaged " ++ decimal row ++ 10 ∷ []
 stop_line stops.DiskFault = codes "disk fault\n"
 stop_line stops.NoMemory = []
 
--- the line of a stop was written, unless the sink failed or memory ran out
+-- the line of a stop was written, unless the sink failed, which then took a front of it, or memory ran out, when nothing was
 pub record WritesStop (stop : Stop) (status : Status) (old new : Option (List ℕ)) (faults : Change ℕ) : Type 0 where
   pub whole : is_cut status ≡ false → Appends old new (stop_line stop)
   pub answer : is_cut status ≡ false → status ≡ stop_status stop
-  pub front : AppendsFront old new (stop_line stop)
+  pub front : status ≡ statuses.WriteFault → AppendsFront old new (stop_line stop)
+  pub nothing : status ≡ statuses.NoMemory → Appends old new []
   pub fault : status ≡ statuses.WriteFault → Rose faults.before faults.after

@@ -1,10 +1,11 @@
 // The commands of the lanes of a phase, one lane after the other.
 
 ghost use Rattle.std.specs.Prelude.{◌≡◌, ℕ, ◌≤◌, ◌<◌, OnOk, length, true};
-ghost use Rattle.base_core.specs.Carried.{AreCarriedOut};
-ghost use Rattle.legal_history.specs.States.{all_done};
-ghost use Rattle.legal_history.specs.Steps.{state_of};
-ghost use Rattle.session_run.specs.Headline.{is_opened};
+ghost use Rattle.carried_out.specs.CarriedOut.{AreCarriedOut};
+ghost use Rattle.base_core.specs.Counted.{KeepsCount};
+ghost use Rattle.legal_history.specs.Stories.States.{all_done};
+ghost use Rattle.legal_history.specs.Stories.Steps.{state_of};
+ghost use Rattle.session_run.specs.Begun.{is_opened};
 ghost use Rattle.session_run.specs.Lanes.{TakesTurn, IsWithin, IsFinished, GoesInLane, GoesInLanes};
 
 use base_core::Core;
@@ -16,7 +17,8 @@ use std::alloc::Global;
 /// Carries out a lane's next command, and answers whether there was one.
 fn take_turn<D: Disk>(alloc: Global, core: &mut Core<D>, lane: u32) -> Result<bool, NoMemory>
     requires carried_out { AreCarriedOut (state_of core.old.story).phase }
-    ensures { TakesTurn result core.old.story core.new.story lane }
+    ensures turn { TakesTurn result core.old.story core.new.story lane }
+    ensures counted { KeepsCount core.old core.new }
 {
     match core.next(lane) {
         Next::Act => {
@@ -35,6 +37,7 @@ fn run_lane<D: Disk>(alloc: Global, core: &mut Core<D>, lane: u32) -> Result<(),
     requires within { IsWithin (state_of core.old.story) lane }
     ensures goes { GoesInLane lane core.old.story core.new.story }
     ensures finished { OnOk result (IsFinished (state_of core.new.story) lane) }
+    ensures counted { KeepsCount core.old core.new }
 {
     while take_turn(alloc, core, lane)? {}
     Ok(())
@@ -49,6 +52,7 @@ pub(crate) fn run_lanes<D: Disk>(alloc: Global, core: &mut Core<D>) -> Result<()
     requires within { (lane : ℕ) → IsWithin (state_of core.old.story) lane }
     ensures goes { GoesInLanes 0 core.old.story core.new.story }
     ensures finished { OnOk result (all_done (state_of core.new.story) ≡ true) }
+    ensures counted { KeepsCount core.old core.new }
 {
     let lanes = core.phase().lanes.as_slice().len() as u32;
     for index in 0..lanes {

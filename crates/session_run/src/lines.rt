@@ -1,14 +1,15 @@
 // The line that is written where no base is opened.
 
 ghost use Rattle.std.specs.Prelude.{◌≡◌, ◌++◌, IfOk, OnOk};
-ghost use Rattle.std.specs.Fmt.{decimal};
 ghost use Rattle.session_run.specs.declared.sessions.Stop.TheVariants as stops;
+ghost use Rattle.session_run.specs.Causes.{sink_faults};
 ghost use Rattle.session_run.specs.Statuses.{cause_word, error_words};
 ghost use Rattle.session_run.specs.Stops.{stop_status, stop_line, WritesStop};
 
 use crate::sessions::Stop;
 use crate::statuses::Status;
 use cc_names::memory::NoMemory;
+use cc_names::numbers::push_number;
 use cc_names::refusals::{SessionCause, SessionError};
 use cc_names::texts::Text;
 use cc_outside::{Sink, write_whole};
@@ -42,14 +43,6 @@ fn status_of(stop: Stop) -> Status
         Stop::DiskFault => Status::DiskFault,
         Stop::NoMemory => Status::NoMemory,
     }
-}
-
-fn push_number(alloc: Global, text: &mut Vec<u8>, number: u64) -> Result<(), NoMemory>
-    ensures { OnOk result (text.new.items ≡ text.old.items ++ decimal number) }
-{
-    let digits = format!(in alloc; "{number}")?;
-    text.extend_from_slice(digits.as_bytes())?;
-    Ok(())
 }
 
 fn push_error(alloc: Global, text: &mut Vec<u8>, error: SessionError) -> Result<(), NoMemory>
@@ -95,7 +88,7 @@ fn line_of(alloc: Global, stop: Stop) -> Result<Text, NoMemory>
 
 /// Writes the line of a stop, and answers the status.
 pub(crate) fn refuse<K: Sink>(alloc: Global, stop: Stop, sink: &mut K) -> Status
-    ensures { WritesStop stop result (K.held sink.old) (K.held sink.new) (record { before = K.faults sink.old; after = K.faults sink.new }) }
+    ensures { WritesStop stop result (K.sight sink.old).held (K.sight sink.new).held (sink_faults (K.sight sink.old) (K.sight sink.new)) }
 {
     let Ok(line) = line_of(alloc, stop) else {
         return Status::NoMemory;

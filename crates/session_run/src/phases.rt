@@ -2,17 +2,18 @@
 
 ghost use Rattle.std.specs.Prelude.{◌≡◌, ◌≤◌, ◌<◌, ◌+◌, ◌^◌, ℕ, IfOk, IfErr, IfSome, OnOk, OnErr, length, true, min, Bool};
 ghost use Rattle.std.specs.Io.KnownBytes.{Appends};
-ghost use Rattle.cc_outside.specs.Counts.{raised, Rose};
+ghost use Rattle.cc_names.specs.Counts.{raised, Rose};
 ghost use Rattle.cc_outside.specs.Feeds.{AppendsFront};
 ghost use Rattle.cc_outside.specs.Moments.{moment_at};
-ghost use Rattle.legal_history.specs.States.{all_done};
-ghost use Rattle.legal_history.specs.Steps.{state_of};
-ghost use Rattle.legal_history.specs.Stories.{last_moment};
+ghost use Rattle.legal_history.specs.Stories.States.{all_done};
+ghost use Rattle.legal_history.specs.Stories.Steps.{state_of};
+ghost use Rattle.legal_history.specs.Stories.Lawful.{last_moment};
+ghost use Rattle.base_core.specs.Counted.{KeepsCount};
 ghost use Rattle.base_core.specs.Replying.{replies_of};
-ghost use Rattle.session_run.specs.Headline.{first_step, is_opened};
+ghost use Rattle.session_run.specs.Begun.{first_step, is_opened};
 ghost use Rattle.session_run.specs.Rendered.{transcript};
 ghost use Rattle.session_run.specs.Lanes.{RunsPhase, LeavesPhase};
-ghost use Rattle.session_run.specs.Runs.{IsJustOpened, IsReady, IsRunnable, HasRun, IsGivenUp, OnWriteFault};
+ghost use Rattle.session_run.specs.Runs.{outside_of, IsJustOpened, IsReady, IsRunnable, HasRun, IsGivenUp, OnWriteFault};
 
 use crate::failures::any_failed;
 use crate::lanes::run_lanes;
@@ -28,9 +29,9 @@ use std::alloc::Global;
 /// The moment now, none above the last one of the year 9999.
 fn moment_of<C: Clock>(clock: &mut C) -> u64
     ensures capped { result ≤ last_moment }
-    ensures moment { IfSome (C.told clock.old) (λ moments. result ≡ min (moment_at moments (C.readings clock.old)) last_moment) }
-    ensures list { C.told clock.new ≡ C.told clock.old }
-    ensures counted { C.readings clock.new ≡ raised (C.readings clock.old) 1 }
+    ensures moment { IfSome (C.sight clock.old).told (λ moments. result ≡ min (moment_at moments (C.sight clock.old).readings) last_moment) }
+    ensures list { (C.sight clock.new).told ≡ (C.sight clock.old).told }
+    ensures counted { (C.sight clock.new).readings ≡ raised (C.sight clock.old).readings 1 }
 {
     clock.now().min(LAST_MOMENT)
 }
@@ -50,6 +51,7 @@ fn run_commands<D: Disk>(
     ensures ok { OnOk result (RunsPhase phase moment core.old.story core.new.story) }
     ensures err { OnErr result (LeavesPhase phase moment core.old.story core.new.story) }
     ensures first { first_step core.new.story ≡ first_step core.old.story }
+    ensures counted { KeepsCount core.old core.new }
 {
     core.begin_phase(alloc, phase, moment)?;
     run_lanes(alloc, core)
@@ -64,10 +66,10 @@ fn write_transcript<K: Sink, D: Disk>(
 ) -> Result<(), Or<WriteFault>>
     requires begun { 0 < (state_of core.now.story).number }
     requires few { length (state_of core.now.story).phase.lanes ≤ 64 }
-    ensures ok { OnOk result (Appends (K.held sink.old) (K.held sink.new) (transcript number (state_of core.now.story).phase (replies_of core.now.story))) }
-    ensures err { OnErr result (AppendsFront (K.held sink.old) (K.held sink.new) (transcript number (state_of core.now.story).phase (replies_of core.now.story))) }
-    ensures kept { K.faults sink.old ≤ K.faults sink.new }
-    ensures fault { OnWriteFault result (Rose (K.faults sink.old) (K.faults sink.new)) }
+    ensures ok { OnOk result (Appends (K.sight sink.old).held (K.sight sink.new).held (transcript number (state_of core.now.story).phase (replies_of core.now.story))) }
+    ensures err { OnErr result (AppendsFront (K.sight sink.old).held (K.sight sink.new).held (transcript number (state_of core.now.story).phase (replies_of core.now.story))) }
+    ensures kept { (K.sight sink.old).faults ≤ (K.sight sink.new).faults }
+    ensures fault { OnWriteFault result (Rose (K.sight sink.old).faults (K.sight sink.new).faults) }
 {
     let text = transcript(alloc, core, number)?;
     match write_whole(sink, text.as_bytes()) {
@@ -86,10 +88,11 @@ pub(crate) fn run_phases<K: Sink, D: Disk, C: Clock>(
 ) -> Result<bool, Or<WriteFault>>
     requires opened { IsJustOpened core.old.story }
     requires runnable { IsRunnable phases.items }
-    ensures ok { IfOk result (HasRun phases.items core.new.story (record { held = K.held sink.old; holds = K.held sink.new; moments = C.told clock.old; first = C.readings clock.old; reading = C.readings clock.new })) }
-    ensures err { IfErr result (λ cut. IsGivenUp cut phases.items core.new.story (K.held sink.old) (K.held sink.new) (C.told clock.old) (C.readings clock.old)) }
+    ensures ok { IfOk result (HasRun phases.items core.new.story (outside_of (K.sight sink.old) (K.sight sink.new) (C.sight clock.old) (C.sight clock.new))) }
+    ensures err { IfErr result (λ cut. IsGivenUp cut phases.items core.new.story (outside_of (K.sight sink.old) (K.sight sink.new) (C.sight clock.old) (C.sight clock.new))) }
     ensures first { first_step core.new.story ≡ first_step core.old.story }
-    ensures fault { OnWriteFault result (Rose (K.faults sink.old) (K.faults sink.new)) }
+    ensures counted { KeepsCount core.old core.new }
+    ensures fault { OnWriteFault result (Rose (K.sight sink.old).faults (K.sight sink.new).faults) }
 {
     let mut failed = false;
     let mut number = 0u32;

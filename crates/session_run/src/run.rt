@@ -1,15 +1,18 @@
 // The top call.
 
-ghost use Rattle.std.specs.Prelude.{◌≡◌};
-ghost use Rattle.legal_history.specs.Steps.{state_of};
-ghost use Rattle.legal_history.specs.Committing.{rises};
+ghost use Rattle.std.specs.Prelude.{◌≡◌, true};
+ghost use Rattle.legal_history.specs.Stories.Steps.{state_of};
+ghost use Rattle.base_core.specs.Backed.{is_faulted};
+ghost use Rattle.cc_names.specs.Counts.{rises};
 ghost use Rattle.disk_model.specs.Told.{IfTold};
 ghost use Rattle.disk_model.specs.Devices.{file_of, bytes_of};
 ghost use Rattle.disk_model.specs.Files.{stable};
-ghost use Rattle.session_run.specs.Causes.{FindsDamage, HasCause, LeavesAlone, TakesNoMore};
-ghost use Rattle.session_run.specs.Headline.{IsSession, IsOneHistory, AreFromNothing, ArePrinted, first_step};
+ghost use Rattle.session_run.specs.Accounted.{IsAccountedFor, KeepsFiles, Settles};
+ghost use Rattle.session_run.specs.Causes.{intake_of, sink_faults, FindsDamage, HasCause, LeavesAlone, TakesNoMore};
+ghost use Rattle.session_run.specs.Begun.{first_step, is_opened};
+ghost use Rattle.session_run.specs.Headline.{clock_readings, IsSession, IsOneHistory, AreFromNothing, ArePrinted};
 ghost use Rattle.session_run.specs.Outcomes.{RunsOpened, RunsSession};
-ghost use Rattle.session_run.specs.Runs.{IsJustOpened, IsRunnable, run_status};
+ghost use Rattle.session_run.specs.Runs.{IsJustOpened, IsRunnable, outside_of, run_status};
 ghost use Rattle.session_run.specs.Stopped.{IsHandedIn, IsMended, IsStopped};
 ghost use Rattle.session_run.specs.Stops.{open_stop};
 
@@ -32,7 +35,7 @@ use std::alloc::Global;
 pub struct Ended<D: Disk> {
     pub status: Status,
     pub disk: D,
-    pub history: History,
+    pub history: History<D>,
 }
 
 /// Whether a count rose: it is greater than before, or stood and stands at its last number.
@@ -71,6 +74,7 @@ fn stop_of(cause: OpenCause, rose: bool) -> Stop
 fn settle<D: Disk>(core: &mut Core<D>)
     ensures same { core.new.story ≡ core.old.story }
     ensures mended { IsMended (state_of core.new.story) core.new.sight }
+    ensures settles { Settles (is_faulted (state_of core.old.story).ends) core.old.sight core.new.sight }
 {
     let _ = core.finish();
 }
@@ -87,7 +91,7 @@ fn run_opened<K: Sink, D: Disk, C: Clock>(
 ) -> Ended<D>
     requires opened { IsJustOpened core.story }
     requires runnable { IsRunnable phases.items }
-    ensures { RunsOpened phases.items result.status (first_step core.story) result.history before (D.sight result.disk) (record { held = K.held sink.old; holds = K.held sink.new; moments = C.told clock.old; first = C.readings clock.old; reading = C.readings clock.new }) (record { before = K.faults sink.old; after = K.faults sink.new }) }
+    ensures { RunsOpened phases.items result.status (first_step core.story) result.history before (record { before = core.sight; after = D.sight result.disk }) (outside_of (K.sight sink.old) (K.sight sink.new) (C.sight clock.old) (C.sight clock.new)) (sink_faults (K.sight sink.old) (K.sight sink.new)) }
 {
     let mut core = core;
     let run = run_phases(alloc, &mut core, phases, sink, clock);
@@ -114,7 +118,7 @@ fn run_session<K: Sink, D: Disk, C: Clock>(
 ) -> Ended<D>
     requires runnable { IsRunnable phases.items }
     requires stable { IfTold (D.sight disk).told (λ d. file_of 0 d ≡ stable (bytes_of 0 d)) }
-    ensures { RunsSession phases.items result.status result.history (record { held = K.held sink.old; holds = K.held sink.new; moments = C.told clock.old; first = C.readings clock.old; reading = C.readings clock.new }) (record { before = K.faults sink.old; after = K.faults sink.new }) (record { before = D.sight disk; after = D.sight result.disk }) }
+    ensures { RunsSession phases.items result.status result.history (outside_of (K.sight sink.old) (K.sight sink.new) (C.sight clock.old) (C.sight clock.new)) (sink_faults (K.sight sink.old) (K.sight sink.new)) (record { before = D.sight disk; after = D.sight result.disk }) }
 {
     let before = disk.counts().faults;
     match Core::open(alloc, disk) {
@@ -143,15 +147,17 @@ pub fn run_words<S: Source, K: Sink, D: Disk, C: Clock>(
     clock: &mut C,
 ) -> Ended<D>
     requires { IsHandedIn (D.sight disk) }
-    ensures session { IsSession result.status result.history (S.left source.old) (C.told clock.old) (C.readings clock.old) }
-    ensures history { IsOneHistory result.status result.history (D.sight disk) (K.held sink.old) (K.held sink.new) }
+    ensures session { IsSession result.status result.history (intake_of words.now (S.sight source.old) (S.sight source.new)) (C.sight clock.old).told (clock_readings (C.sight clock.old) (C.sight clock.new)) }
+    ensures history { IsOneHistory result.status result.history (D.sight disk) (K.sight sink.old).held (K.sight sink.new).held }
     ensures built { AreFromNothing result.history }
-    ensures printed { ArePrinted result.status result.history (S.left source.old) (K.held sink.old) (K.held sink.new) }
+    ensures printed { ArePrinted result.status result.history (intake_of words.now (S.sight source.old) (S.sight source.new)) (sink_faults (K.sight sink.old) (K.sight sink.new)) (record { before = D.sight disk; after = D.sight result.disk }) (K.sight sink.old).held (K.sight sink.new).held }
     ensures stopped { IsStopped (D.sight disk) (D.sight result.disk) result.history }
-    ensures cause { HasCause result.status (record { words = words.now; text = record { before = S.left source.old; after = S.left source.new }; given = record { before = S.given source.old; after = S.given source.new }; faults = record { before = S.faults source.old; after = S.faults source.new } }) (record { before = K.faults sink.old; after = K.faults sink.new }) (record { before = D.sight disk; after = D.sight result.disk }) result.history }
-    ensures damaged { FindsDamage result.status (record { words = words.now; text = record { before = S.left source.old; after = S.left source.new }; given = record { before = S.given source.old; after = S.given source.new }; faults = record { before = S.faults source.old; after = S.faults source.new } }) (record { before = D.sight disk; after = D.sight result.disk }) }
-    ensures untouched { LeavesAlone (record { words = words.now; text = record { before = S.left source.old; after = S.left source.new }; given = record { before = S.given source.old; after = S.given source.new }; faults = record { before = S.faults source.old; after = S.faults source.new } }) (record { before = D.sight disk; after = D.sight result.disk }) result.history }
-    ensures taken { TakesNoMore (record { before = S.given source.old; after = S.given source.new }) }
+    ensures cause { HasCause result.status (intake_of words.now (S.sight source.old) (S.sight source.new)) (sink_faults (K.sight sink.old) (K.sight sink.new)) (record { before = D.sight disk; after = D.sight result.disk }) result.history }
+    ensures accounted { is_opened result.history ≡ true → IsAccountedFor (record { before = D.sight disk; after = D.sight result.disk }) result.history }
+    ensures files { KeepsFiles (record { before = D.sight disk; after = D.sight result.disk }) result.history }
+    ensures damaged { FindsDamage result.status (intake_of words.now (S.sight source.old) (S.sight source.new)) (record { before = D.sight disk; after = D.sight result.disk }) }
+    ensures untouched { LeavesAlone (intake_of words.now (S.sight source.old) (S.sight source.new)) (record { before = D.sight disk; after = D.sight result.disk }) result.history }
+    ensures taken { TakesNoMore (record { before = (S.sight source.old).given; after = (S.sight source.new).given }) }
 {
     match session_given(alloc, words, source) {
         Ok(phases) => run_session(alloc, phases, sink, disk, clock),

@@ -1,7 +1,7 @@
 // The session that the source gives.
 
 ghost use Rattle.std.specs.Prelude.{◌≡◌, IfOk, IfErr};
-ghost use Rattle.session_run.specs.Causes.{TakesNoMore};
+ghost use Rattle.session_run.specs.Causes.{intake_of, TakesNoMore};
 ghost use Rattle.session_run.specs.Stops.{GivesPhases, HasStop, unread_stop, unsaid_stop};
 
 use crate::words::is_run;
@@ -53,9 +53,9 @@ pub(crate) fn session_given<S: Source>(
     words: &[Text],
     source: &mut S,
 ) -> Result<Vec<Phase>, Stop>
-    ensures gives { IfOk result (λ phases. GivesPhases (record { words = words.now; text = record { before = S.left source.old; after = S.left source.new }; given = record { before = S.given source.old; after = S.given source.new }; faults = record { before = S.faults source.old; after = S.faults source.new } }) phases.items) }
-    ensures stops { IfErr result (λ stop. HasStop stop (record { words = words.now; text = record { before = S.left source.old; after = S.left source.new }; given = record { before = S.given source.old; after = S.given source.new }; faults = record { before = S.faults source.old; after = S.faults source.new } })) }
-    ensures taken { TakesNoMore (record { before = S.given source.old; after = S.given source.new }) }
+    ensures gives { IfOk result (λ phases. GivesPhases (intake_of words.now (S.sight source.old) (S.sight source.new)) phases.items) }
+    ensures stops { IfErr result (λ stop. HasStop stop (intake_of words.now (S.sight source.old) (S.sight source.new))) }
+    ensures taken { TakesNoMore (record { before = (S.sight source.old).given; after = (S.sight source.new).given }) }
 {
     if !is_run(words) {
         return Err(Stop::BadWords);

@@ -1,3 +1,9 @@
+pub mod BuildWords
+pub mod Carried
+pub mod FormedBuilds
+pub mod FormedCommands
 pub mod FormedReading
+pub mod FormedWords
 pub mod Steps
+pub mod Versions
 mod Worked

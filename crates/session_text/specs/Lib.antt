@@ -1,5 +1,9 @@
-pub mod Causes
+pub mod Clearmake
 pub mod Commands
 pub mod Formed
 pub mod Kinds
+pub mod Reading
 pub mod Sessions
+pub mod Shapes
+pub mod Taken
+pub mod Words

@@ -1,99 +1,148 @@
 -- What a session is, and why a text is none.
-use Rattle.std.specs.Prelude.{◌≡◌, ℕ, Bool, true, false, Option, Some, None, Result, Ok, Err, List, [], ◌∷◌, ◌++◌, if◌then◌else◌}
-use Rattle.cc_names.specs.Cuts.{lines_of}
+use Rattle.std.specs.Prelude.{ℕ, ◌+◌, Bool, true, false, not, nat_le, Option, Some, None, Result, Ok, Err, List, [], ◌∷◌, ◌++◌, length, if◌then◌else◌}
+use Rattle.std.specs.List.{list_any}
+use Rattle.std.specs.Str.{bytes_eq}
 use Rattle.cc_names.specs.declared.commands.Command.{Command}
 use Rattle.cc_names.specs.declared.commands.Lane.{Lane}
 use Rattle.cc_names.specs.declared.commands.Phase.{Phase}
 use Rattle.cc_names.specs.declared.commands.Session.{Session}
+use Rattle.cc_names.specs.declared.refusals.SessionCause.{SessionCause}
+use Rattle.cc_names.specs.declared.refusals.SessionCause.TheVariants as causes
 use Rattle.cc_names.specs.declared.refusals.SessionError.{SessionError}
-use Rattle.cc_names.specs.declared.memory.Or.{Or}
-use Rattle.cc_names.specs.declared.memory.Or.TheVariants.{NoMemory, Is}
-use Rattle.session_text.specs.declared.verbs.Verb.{Verb}
-use Rattle.session_text.specs.declared.verbs.Verb.TheVariants as verbs
 use Rattle.session_text.specs.declared.kinds.Kind.{Kind}
-use Rattle.session_text.specs.declared.kinds.Kind.TheVariants.{Skipped, Body, Says}
-use Rattle.session_text.specs.Kinds.{kind_of}
-use Rattle.session_text.specs.Commands.{command_of, one_name}
-use Rattle.session_text.specs.Causes.{first_error, nothing}
+use Rattle.session_text.specs.declared.kinds.Kind.TheVariants as kinds
+use Rattle.session_text.specs.Kinds.{kinds_of}
+use Rattle.session_text.specs.Commands.{command_of, takes_body}
+use Rattle.session_text.specs.Shapes.{view}
+use Rattle.session_text.specs.Words.{Said}
 
--- what was found wrong, unless memory ran out
-abbrev pub Finds : {X : Type 0} → Result X (Or SessionError) → Option SessionError → Type 0
-Finds (Ok x) found = found ≡ None
-Finds (Err NoMemory) found = Unit {0}
-Finds (Err (Is error)) found = found ≡ Some error
+-- the text of the body lines that stand first in these lines, each ended by a newline
+abbrev pub body_of : List Kind → List ℕ
+body_of (kinds.Skipped ∷ lines) = body_of lines
+body_of (kinds.Body bytes ∷ lines) = bytes ++ 10 ∷ body_of lines
+body_of _ = []
 
--- the text before the text that follows it: a body line adds itself and a newline, and the next words end it
-abbrev pub before_text : Kind → List ℕ → List ℕ
-before_text Skipped text = text
-before_text (Body bytes) text = bytes ++ 10 ∷ text
-before_text (Says verb words) text = []
+-- a command before commands, where a line says one
+abbrev pub before_commands : Said Command → List Command → List Command
+before_commands (Ok command) commands = command ∷ commands
+before_commands (Err cause) commands = commands
 
--- the text of the body lines that stand first in these lines
-abbrev pub body_of : List (List ℕ) → List ℕ
-body_of [] = []
-body_of (line ∷ lines) = before_text (kind_of line) (body_of lines)
-
--- a command before commands, where there is one
-abbrev pub before_commands : Option Command → List Command → List Command
-before_commands None commands = commands
-before_commands (Some command) commands = command ∷ commands
-
--- whether a verb ends the lane above it
-abbrev pub ends_lane : Verb → Bool
-ends_lane verbs.Phase = true
-ends_lane verbs.Lane = true
-ends_lane _ = false
-
--- the commands of words and of the lines behind them
-abbrev pub commands_said : Verb → List (List ℕ) → List ℕ → List Command → List Command
-commands_said verb words text commands =
-    if ends_lane verb then [] else before_commands (command_of verb words text) commands
-
--- the commands of the lane, with that of this line before them
-abbrev pub commands_before : Kind → List ℕ → List Command → List Command
-commands_before (Says verb words) text commands = commands_said verb words text commands
-commands_before _ text commands = commands
-
--- the commands that stand in these lines, up to the next lane
-abbrev pub commands_of : List (List ℕ) → List Command
+-- the commands that stand in these lines, up to the next lane or phase
+abbrev pub commands_of : List Kind → List Command
 commands_of [] = []
-commands_of (line ∷ lines) = commands_before (kind_of line) (body_of lines) (commands_of lines)
+commands_of (kinds.Skipped ∷ lines) = commands_of lines
+commands_of (kinds.Body bytes ∷ lines) = commands_of lines
+commands_of (kinds.Phase words ∷ lines) = []
+commands_of (kinds.Lane words ∷ lines) = []
+commands_of (kinds.Command word words ∷ lines) =
+    before_commands (command_of word words (body_of lines)) (commands_of lines)
 
--- a lane of this name and these commands before lanes, where there is a name
-abbrev pub before_lanes : Option (List ℕ) → List Command → List Lane → List Lane
-before_lanes None commands lanes = lanes
-before_lanes (Some name) commands lanes = record { name = name; commands = commands } ∷ lanes
-
--- the lanes of words and of the lines behind them, where these are its commands; a line `phase` ends a phase
-abbrev pub lanes_said : Verb → List (List ℕ) → List Command → List Lane → List Lane
-lanes_said verbs.Phase words commands lanes = []
-lanes_said verbs.Lane words commands lanes = before_lanes (one_name words) commands lanes
-lanes_said _ words commands lanes = lanes
-
--- the lanes of the phase, with the one that this line begins before them
-abbrev pub lanes_before : Kind → List Command → List Lane → List Lane
-lanes_before (Says verb words) commands lanes = lanes_said verb words commands lanes
-lanes_before _ commands lanes = lanes
+-- a lane of these commands before lanes, where a line names one
+abbrev pub before_lanes : Said (List ℕ) → List Command → List Lane → List Lane
+before_lanes (Ok name) commands lanes = record { name = name; commands = commands } ∷ lanes
+before_lanes (Err cause) commands lanes = lanes
 
 -- the lanes that stand in these lines, up to the next phase
-abbrev pub lanes_of : List (List ℕ) → List Lane
+abbrev pub lanes_of : List Kind → List Lane
 lanes_of [] = []
-lanes_of (line ∷ lines) = lanes_before (kind_of line) (commands_of lines) (lanes_of lines)
-
--- the phases of words and of the lines behind them, where these are its lanes
-abbrev pub phases_said : Verb → List Lane → List Phase → List Phase
-phases_said verbs.Phase lanes phases = record { lanes = lanes } ∷ phases
-phases_said _ lanes phases = phases
-
--- the phases, with the one that this line begins before them
-abbrev pub phases_before : Kind → List Lane → List Phase → List Phase
-phases_before (Says verb words) lanes phases = phases_said verb lanes phases
-phases_before _ lanes phases = phases
+lanes_of (kinds.Skipped ∷ lines) = lanes_of lines
+lanes_of (kinds.Body bytes ∷ lines) = lanes_of lines
+lanes_of (kinds.Phase words ∷ lines) = []
+lanes_of (kinds.Lane words ∷ lines) = before_lanes (view words) (commands_of lines) (lanes_of lines)
+lanes_of (kinds.Command word words ∷ lines) = lanes_of lines
 
 -- the phases that stand in these lines
-abbrev pub phases_of : List (List ℕ) → List Phase
+abbrev pub phases_of : List Kind → List Phase
 phases_of [] = []
-phases_of (line ∷ lines) = phases_before (kind_of line) (lanes_of lines) (phases_of lines)
+phases_of (kinds.Skipped ∷ lines) = phases_of lines
+phases_of (kinds.Body bytes ∷ lines) = phases_of lines
+phases_of (kinds.Phase words ∷ lines) = record { lanes = lanes_of lines } ∷ phases_of lines
+phases_of (kinds.Lane words ∷ lines) = phases_of lines
+phases_of (kinds.Command word words ∷ lines) = phases_of lines
+
+-- What stands above a line: whether a phase has begun, the names of its lanes so far, and whether the last line that is
+-- not skipped, body lines aside, takes a body.
+pub record Above : Type 0 where
+  pub in_phase : Bool
+  pub lanes : List (List ℕ)
+  pub takes_body : Bool
+
+-- above the first line
+abbrev pub nothing : Above
+nothing = record { in_phase = false; lanes = []; takes_body = false }
+
+-- whether there are none
+abbrev pub is_empty : {A : Type 0} → List A → Bool
+is_empty [] = true
+is_empty (x ∷ xs) = false
+
+-- one cause where the test holds, and else another, where there is one
+abbrev pub cause_or : Bool → SessionCause → Option SessionCause → Option SessionCause
+cause_or true cause later = Some cause
+cause_or false cause later = later
+
+-- the cause for which words say nothing
+abbrev pub cause_in : {X : Type 0} → Said X → Option SessionCause
+cause_in (Ok x) = None
+cause_in (Err cause) = Some cause
+
+-- whether the lane that these words name stands already
+abbrev pub is_taken : List (List ℕ) → List (List ℕ) → Bool
+is_taken lanes [] = false
+is_taken lanes (name ∷ words) = list_any (bytes_eq name) lanes
+
+-- the name that a line `lane NAME` gives, below lanes of these names; a phase has at most 64 lanes
+abbrev pub lane_of : List (List ℕ) → List (List ℕ) → Said (List ℕ)
+lane_of lanes words =
+    if is_taken lanes words then Err causes.TwoLanes
+    else if nat_le 64 (length lanes) then Err causes.TooManyLanes
+    else view words
+
+-- Why a line stands wrong, where the body lines below it have this text.
+abbrev pub cause_of : Above → Kind → List ℕ → Option SessionCause
+cause_of above kinds.Skipped text = None
+cause_of above (kinds.Body bytes) text =
+    cause_or (not above.in_phase) causes.NoPhase
+    (cause_or (is_empty above.lanes) causes.NoLane
+    (cause_or (not above.takes_body) causes.NoBody None))
+cause_of above (kinds.Phase words) text = cause_or (not (is_empty words)) causes.BadWord None
+cause_of above (kinds.Lane words) text =
+    cause_or (not above.in_phase) causes.NoPhase (cause_in (lane_of above.lanes words))
+cause_of above (kinds.Command word words) text =
+    cause_or (not above.in_phase) causes.NoPhase
+    (cause_or (is_empty above.lanes) causes.NoLane (cause_in (command_of word words text)))
+
+-- the lanes with one more, where a line names one
+abbrev pub with_lane : List (List ℕ) → Said (List ℕ) → List (List ℕ)
+with_lane lanes (Ok name) = lanes ++ name ∷ []
+with_lane lanes (Err cause) = lanes
+
+-- whether body lines may stand under the command that a line says
+abbrev pub body_follows : Said Command → Bool
+body_follows (Ok command) = takes_body command
+body_follows (Err cause) = false
+
+-- what stands above the line behind a line, where the body lines below it have this text
+abbrev pub above_next : Above → Kind → List ℕ → Above
+above_next above kinds.Skipped text = above
+above_next above (kinds.Body bytes) text = above
+above_next above (kinds.Phase words) text = record { in_phase = true; lanes = []; takes_body = false }
+above_next above (kinds.Lane words) text =
+    record above { lanes = with_lane above.lanes (view words); takes_body = false }
+above_next above (kinds.Command word words) text =
+    record above { takes_body = body_follows (command_of word words text) }
+
+-- the error of the line with this number where it has a cause, else what follows
+abbrev pub error_or : ℕ → Option SessionCause → Option SessionError → Option SessionError
+error_or number (Some cause) later = Some (record { line = number; cause = cause })
+error_or number None later = later
+
+-- The first line that stands wrong, of lines above which so many others stand.
+abbrev pub first_error : ℕ → Above → List Kind → Option SessionError
+first_error before above [] = None
+first_error before above (line ∷ lines) =
+    error_or (before + 1) (cause_of above line (body_of lines))
+    (first_error (before + 1) (above_next above line (body_of lines)) lines)
 
 -- what was read, unless a line stands wrong
 abbrev pub unless_wrong : Option SessionError → Session → Result Session SessionError
@@ -103,4 +152,4 @@ unless_wrong (Some error) session = Err error
 -- A text read as a session: each line `phase` with the lanes behind it, each line `lane` with the commands behind it,
 -- each command with the body lines behind it; or the first line that stands wrong, counted from 1, with its cause.
 abbrev pub session_of : List ℕ → Result Session SessionError
-session_of text = unless_wrong (first_error 1 nothing (lines_of text)) (record { phases = phases_of (lines_of text) })
+session_of text = unless_wrong (first_error 0 nothing (kinds_of text)) (record { phases = phases_of (kinds_of text) })

@@ -1,160 +1,203 @@
 // Sessions, read from text.
 
-ghost use Rattle.std.specs.Prelude.{◌≡◌, ◌<◌, ◌^◌, ◌++◌, [], length, IfOk, OnOk};
+ghost use Rattle.std.specs.Prelude.{◌≡◌, ◌<◌, ◌^◌, [], false, length, map, IfOk, IfErr};
+ghost use Rattle.std.specs.List.{list_any};
+ghost use Rattle.std.specs.Str.{bytes_eq};
+ghost use Rattle.carried_out.specs.CarriedOut.{IsSessionCarriedOut};
 ghost use Rattle.cc_names.specs.Answers.{Gives};
-ghost use Rattle.cc_names.specs.Cuts.{lines_of};
-ghost use Rattle.session_text.specs.Causes.{first_error, nothing};
-ghost use Rattle.session_text.specs.Commands.{command_of, one_name};
+ghost use Rattle.session_text.specs.Commands.{command_of};
 ghost use Rattle.session_text.specs.Formed.{IsSession};
-ghost use Rattle.session_text.specs.Sessions.{body_of, commands_of, lanes_of, phases_of, session_of, Finds, before_commands, before_lanes, ends_lane};
+ghost use Rattle.session_text.specs.Kinds.{kinds_of};
+ghost use Rattle.session_text.specs.Reading.{error_at, fault_at, lane_name, HasCommands, HasLanes, HasPhase, IsWrong, IsWrongIn, IsWrongPhase, in_phase};
+ghost use Rattle.session_text.specs.Sessions.{body_of, is_taken, lane_of, nothing, first_error, phases_of, session_of};
 
-use crate::above::Above;
-use crate::commands::{command_of, one_name};
-use crate::kinds::{Kind, kind_of};
-use crate::verbs::Verb;
+use crate::commands::{command_of, takes_body};
+use crate::kinds::{Bytes, Kind, Rest};
+use crate::shapes::view;
 use cc_names::commands::{Command, Lane, Phase, Session};
-use cc_names::cuts::{Lines, Words};
+use cc_names::cuts::Words;
 use cc_names::lists::List;
-use cc_names::memory::{NoMemory, Or};
-use cc_names::refusals::SessionError;
-use cc_names::texts::Text;
+use cc_names::memory::Or;
+use cc_names::names::Name;
+use cc_names::refusals::{SessionCause, SessionError};
 use std::alloc::Global;
 
-/// Finds the first line that stands wrong.
-fn check(alloc: Global, text: &[u8]) -> Result<(), Or<SessionError>>
-    requires { length text.now < 2 ^ 32 }
-    ensures { Finds result (first_error 1 nothing (lines_of text.now)) }
+// The most lanes of a phase.
+const MOST_LANES: usize = 64;
+
+/// A fault of the line with this number.
+fn fault_at(number: u32, fault: Or<SessionCause>) -> Or<SessionError>
+    ensures { result ≡ fault_at number fault }
 {
-    let mut above = Above::nothing(alloc);
-    let mut number = 1u64;
-    let mut lines = Lines::of(text);
-    while let Some(line) = lines.next() {
-        let kind = kind_of(line);
-        if let Some(cause) = above.cause_of(alloc, &kind)? {
-            return Err(Or::Is(SessionError {
-                line: number as u32,
-                cause,
-            }));
-        }
-        above.go_past(alloc, kind)?;
-        number += 1;
+    match fault {
+        Or::NoMemory => Or::NoMemory,
+        Or::Is(cause) => Or::Is(SessionError {
+            line: number,
+            cause,
+        }),
     }
-    Ok(())
 }
 
-/// The text of the body lines that stand first in these lines.
-fn body_of(alloc: Global, mut lines: Lines<'_>) -> Result<Text, NoMemory>
-    ensures { IfOk result (λ text. text ≡ body_of lines.entry) }
-{
-    let mut text = Vec::new(alloc);
-    while let Some(line) = lines.next() {
-        match kind_of(line) {
-            Kind::Skipped => {}
-            Kind::Body(bytes) => {
-                text.extend_from_slice(bytes.as_slice())?;
-                text.push(b'\n')?;
-            }
-            Kind::Says(_, _) => break,
-        }
-    }
-    Ok(Text::of(text))
-}
-
-fn ends_lane(verb: Verb) -> bool
-    ensures { result ≡ ends_lane verb }
-{
-    matches!(verb, Verb::Phase | Verb::Lane)
-}
-
-fn push_command(
+/// The command of the line above these.
+fn read_command(
     alloc: Global,
-    commands: &mut Vec<Command>,
-    verb: Verb,
+    word: &Bytes<'_>,
     words: Words<'_>,
-    behind: Lines<'_>,
-) -> Result<(), NoMemory>
-    ensures { OnOk result (commands.new.items ≡ commands.old.items ++ before_commands (command_of verb words.entry (body_of behind.entry)) []) }
+    behind: &Rest<'_>,
+) -> Result<Command, Or<SessionError>>
+    ensures { Gives result (error_at behind.now.number (command_of word.now words.entry (body_of behind.now.kinds))) }
 {
-    let text = body_of(alloc, behind)?;
-    if let Some(command) = command_of(alloc, verb, words, text)? {
-        commands.push(command)?;
+    match command_of(alloc, word.as_slice(), words, behind) {
+        Ok(command) => Ok(command),
+        Err(fault) => Err(fault_at(behind.number(), fault)),
     }
-    Ok(())
 }
 
-/// The commands that stand in these lines, up to the next lane.
-fn commands_of(alloc: Global, mut lines: Lines<'_>) -> Result<List<Command>, NoMemory>
-    ensures { IfOk result (λ commands. commands ≡ commands_of lines.entry) }
+/// Reads the commands of a lane, up to the next lane or phase.
+fn read_commands(alloc: Global, rest: &mut Rest<'_>) -> Result<List<Command>, Or<SessionError>>
+    ensures read { IfOk result (HasCommands rest.old rest.new) }
+    ensures wrong { IfErr result (IsWrongIn rest.old) }
 {
     let mut commands = Vec::new(alloc);
-    while let Some(line) = lines.next() {
-        match kind_of(line) {
+    let mut body_follows = false;
+    let mut behind = rest.again();
+    'lines: while let Some(kind) = behind.next() {
+        match kind {
             Kind::Skipped => {}
-            Kind::Body(_bytes) => {}
-            Kind::Says(verb, words) => {
-                if ends_lane(verb) {
-                    break;
+            Kind::Phase(_words) | Kind::Lane(_words) => break,
+            Kind::Body(_bytes) => {
+                if !body_follows {
+                    return Err(fault_at(behind.number(), Or::Is(SessionCause::NoBody)));
                 }
-                push_command(alloc, &mut commands, verb, words, lines.again())?;
+            }
+            Kind::Command(word, words) => {
+                let command = read_command(alloc, &word, words, &behind)?;
+                body_follows = takes_body(&command);
+                commands.push(command)?;
             }
         }
+        *rest = behind.again();
     }
     Ok(List::of(commands))
 }
 
-fn push_lane(
-    alloc: Global,
-    lanes: &mut Vec<Lane>,
-    words: Words<'_>,
-    behind: Lines<'_>,
-) -> Result<(), NoMemory>
-    ensures { OnOk result (lanes.new.items ≡ lanes.old.items ++ before_lanes (one_name words.entry) (commands_of behind.entry) []) }
+fn is_taken(lanes: &[Lane], words: &Words<'_>) -> bool
+    ensures { result ≡ is_taken (map lane_name lanes.now) words.now }
 {
-    if let Some(name) = one_name(alloc, words)? {
-        let commands = commands_of(alloc, behind)?;
-        lanes.push(Lane { name, commands })?;
+    match words.again().next() {
+        None => false,
+        Some(name) => has_lane(lanes, name),
     }
-    Ok(())
 }
 
-/// The lanes that stand in these lines, up to the next phase.
-fn lanes_of(alloc: Global, mut lines: Lines<'_>) -> Result<List<Lane>, NoMemory>
-    ensures { IfOk result (λ lanes. lanes ≡ lanes_of lines.entry) }
+fn has_lane(lanes: &[Lane], name: &[u8]) -> bool
+    ensures { result ≡ list_any (bytes_eq name.now) (map lane_name lanes.now) }
+{
+    let mut rest = lanes;
+    while let Some((lane, more)) = rest.split_first() {
+        if name == lane.name.as_bytes() {
+            return true;
+        }
+        rest = more;
+    }
+    false
+}
+
+/// The name of a lane below these.
+fn lane_of(alloc: Global, lanes: &[Lane], words: Words<'_>) -> Result<Name, Or<SessionCause>>
+    ensures { Gives result (lane_of (map lane_name lanes.now) words.entry) }
+{
+    if is_taken(lanes, &words) {
+        return Err(Or::Is(SessionCause::TwoLanes));
+    }
+    if lanes.len() >= MOST_LANES {
+        return Err(Or::Is(SessionCause::TooManyLanes));
+    }
+    view(alloc, words)
+}
+
+/// The name that the line above these gives to a lane.
+fn read_name(
+    alloc: Global,
+    lanes: &[Lane],
+    words: Words<'_>,
+    behind: &Rest<'_>,
+) -> Result<Name, Or<SessionError>>
+    ensures { Gives result (error_at behind.now.number (lane_of (map lane_name lanes.now) words.entry)) }
+{
+    match lane_of(alloc, lanes, words) {
+        Ok(name) => Ok(name),
+        Err(fault) => Err(fault_at(behind.number(), fault)),
+    }
+}
+
+/// Reads the lanes of a phase, up to the next phase.
+fn read_lanes(alloc: Global, rest: &mut Rest<'_>) -> Result<List<Lane>, Or<SessionError>>
+    ensures read { IfOk result (HasLanes rest.old rest.new) }
+    ensures wrong { IfErr result (λ fault. IsWrong fault (first_error rest.old.number (in_phase [] false) rest.old.kinds)) }
 {
     let mut lanes = Vec::new(alloc);
-    while let Some(line) = lines.next() {
-        match kind_of(line) {
+    let mut behind = rest.again();
+    'lines: while let Some(kind) = behind.next() {
+        match kind {
             Kind::Skipped => {}
-            Kind::Body(_bytes) => {}
-            Kind::Says(Verb::Phase, _words) => break,
-            Kind::Says(Verb::Lane, words) => push_lane(alloc, &mut lanes, words, lines.again())?,
-            Kind::Says(_verb, _words) => {}
+            Kind::Phase(_words) => break,
+            Kind::Lane(words) => {
+                let name = read_name(alloc, lanes.as_slice(), words, &behind)?;
+                let commands = read_commands(alloc, &mut behind)?;
+                lanes.push(Lane { name, commands })?;
+            }
+            Kind::Body(_bytes) => {
+                return Err(fault_at(behind.number(), Or::Is(SessionCause::NoLane)));
+            }
+            Kind::Command(_word, _words) => {
+                return Err(fault_at(behind.number(), Or::Is(SessionCause::NoLane)));
+            }
         }
+        *rest = behind.again();
     }
     Ok(List::of(lanes))
 }
 
-/// The phases that stand in these lines.
-fn phases_of(alloc: Global, mut lines: Lines<'_>) -> Result<List<Phase>, NoMemory>
-    ensures { IfOk result (λ phases. phases ≡ phases_of lines.entry) }
+/// Reads the phase whose line is above these.
+fn read_phase(
+    alloc: Global,
+    mut words: Words<'_>,
+    rest: &mut Rest<'_>,
+) -> Result<Phase, Or<SessionError>>
+    ensures read { IfOk result (HasPhase words.entry rest.old rest.new) }
+    ensures wrong { IfErr result (IsWrongPhase words.entry rest.old) }
 {
-    let mut phases = Vec::new(alloc);
-    while let Some(line) = lines.next() {
-        if let Kind::Says(Verb::Phase, _) = kind_of(line) {
-            let lanes = lanes_of(alloc, lines.again())?;
-            phases.push(Phase { lanes })?;
-        }
+    if words.next().is_some() {
+        return Err(fault_at(rest.number(), Or::Is(SessionCause::BadWord)));
     }
-    Ok(List::of(phases))
+    let lanes = read_lanes(alloc, rest)?;
+    Ok(Phase { lanes })
 }
 
-/// Reads a text as a session, or answers its first line that stands wrong. Takes time linear in the text.
+/// Reads a text as a session, or answers its first line that stands wrong. Takes time linear in the text, and memory in
+/// proportion to the lines and the bytes of the bodies.
 pub fn read(alloc: Global, text: &[u8]) -> Result<Session, Or<SessionError>>
     requires { length text.now < 2 ^ 32 }
     ensures session { Gives result (session_of text.now) }
     ensures formed { IfOk result (IsSession (length text.now)) }
+    ensures carried_out { IfOk result IsSessionCarriedOut }
 {
-    check(alloc, text)?;
-    let phases = phases_of(alloc, Lines::of(text))?;
-    Ok(Session { phases })
+    let mut phases = Vec::new(alloc);
+    let mut rest = Rest::of(text);
+    'lines: while let Some(kind) = rest.next() {
+        match kind {
+            Kind::Skipped => {}
+            Kind::Phase(words) => {
+                let phase = read_phase(alloc, words, &mut rest)?;
+                phases.push(phase)?;
+            }
+            _ => {
+                return Err(fault_at(rest.number(), Or::Is(SessionCause::NoPhase)));
+            }
+        }
+    }
+    Ok(Session {
+        phases: List::of(phases),
+    })
 }

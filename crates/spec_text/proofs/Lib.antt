@@ -2,7 +2,6 @@ mod WorkedPatterns
 mod WorkedSpecs
 mod WorkedPicks
 pub mod Trying
-pub mod DigitValues
 pub mod GoingOn
 pub mod Rest
 pub mod Plain

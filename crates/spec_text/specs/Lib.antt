@@ -1,7 +1,6 @@
 pub mod Covers
 pub mod Patterns
 pub mod Steps
-pub mod Numbers
 pub mod Parts
 pub mod Selectors
 pub mod Lines

@@ -1,26 +1,17 @@
 -- Which words spell a selector of a config spec.
-use Rattle.std.specs.Prelude.{ℕ, Bool, true, false, ◌&&◌, ◌==◌, Option, Some, None, ok_or, Result, Ok, is_ok, List, [], ◌∷◌, ◌++◌, codes, if◌then◌else◌}
+use Rattle.std.specs.Prelude.{ℕ, Bool, true, false, ◌&&◌, ◌==◌, Option, Some, None, ok_or, Result, Ok, List, [], ◌∷◌, ◌++◌, codes, if◌then◌else◌}
 use Rattle.std.specs.List.{slice_split}
 use Rattle.std.specs.Option.{option_map, option_and_then, option_or}
 use Rattle.std.specs.Result.{result_ok}
 use Rattle.std.specs.Str.{bytes_eq}
-use Rattle.cc_names.specs.Formed.{begins_with_letter}
-use Rattle.cc_names.specs.Names.{name_of}
+use Rattle.cc_names.specs.Numbers.{number_of}
 use Rattle.cc_names.specs.Paths.{is_slash, path_of}
+use Rattle.cc_names.specs.TypeNames.{type_name_of}
 use Rattle.cc_names.specs.declared.refusals.SpecCause.{SpecCause}
 use Rattle.cc_names.specs.declared.refusals.SpecCause.TheVariants.{BadSelector, BadType}
 use Rattle.cc_names.specs.declared.selection.Selector.{Selector}
 use Rattle.cc_names.specs.declared.selection.Selector.TheVariants.{CheckedOut, Label, Latest, Wherever, Numbered, Config, Nothing}
 use Rattle.spec_text.specs.Covers.{has_none}
-use Rattle.spec_text.specs.Numbers.{number_of}
-
--- whether bytes are the name of a label type or a branch type
-abbrev pub is_type_name : List ℕ → Bool
-is_type_name bytes = begins_with_letter bytes && is_ok (name_of bytes)
-
--- bytes read as such a name
-abbrev pub type_name_of : List ℕ → Option (List ℕ)
-type_name_of bytes = if is_type_name bytes then Some bytes else None
 
 -- the selector of the branch behind `main` by these names, by what stands behind them: LATEST or a number
 abbrev pub on_branch : List (List ℕ) → List ℕ → Option Selector

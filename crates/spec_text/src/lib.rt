@@ -13,7 +13,6 @@
 pub mod laws;
 mod lines;
 mod matching;
-mod numbers;
 mod options;
 mod parts;
 mod patterns;

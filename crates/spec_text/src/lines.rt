@@ -15,7 +15,7 @@ use cc_names::selection::Rule;
 use std::alloc::Global;
 
 /// What a line of a config spec says.
-#[derive(Debug, Drop)]
+#[derive(Drop)]
 pub(crate) enum Line {
     /// Nothing: the line is blank or a comment.
     Skipped,

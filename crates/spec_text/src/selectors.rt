@@ -4,42 +4,19 @@ ghost use Rattle.std.specs.Prelude.{◌≡◌, IfOk, []};
 ghost use Rattle.std.specs.Option.{option_copied};
 ghost use Rattle.std.specs.List.{slice_split};
 ghost use Rattle.cc_names.specs.Answers.{Gives};
-ghost use Rattle.cc_names.specs.Formed.{begins_with_letter};
-ghost use Rattle.spec_text.specs.Selectors.{is_at, type_name_of, on_branch, behind_main, behind_dots, selector_of_parts, selector_of_word, of_object, object_of_parts, selector_of, branch_type_of};
+ghost use Rattle.cc_names.specs.TypeNames.{type_name_of};
+ghost use Rattle.spec_text.specs.Selectors.{is_at, on_branch, behind_main, behind_dots, selector_of_parts, selector_of_word, of_object, object_of_parts, selector_of, branch_type_of};
 ghost use Rattle.spec_text.specs.Parts.{parts_left};
 
-use crate::numbers::number;
 use crate::parts::split_part;
 use cc_names::lists::List;
 use cc_names::memory::{NoMemory, Or};
-use cc_names::names::Name;
+use cc_names::names::{Name, type_name};
+use cc_names::numbers::number;
 use cc_names::paths::Path;
 use cc_names::refusals::SpecCause;
 use cc_names::selection::Selector;
 use std::alloc::Global;
-
-fn begins_with_letter(bytes: &[u8]) -> bool
-    ensures { result ≡ begins_with_letter bytes.now }
-{
-    match bytes {
-        [] => false,
-        [first, ..] => first.is_ascii_alphabetic(),
-    }
-}
-
-/// Reads bytes as the name of a label type or a branch type.
-fn type_name(alloc: Global, bytes: &[u8]) -> Result<Option<Name>, NoMemory>
-    ensures { IfOk result (λ name. name ≡ type_name_of bytes.now) }
-{
-    if !begins_with_letter(bytes) {
-        return Ok(None);
-    }
-    match Name::read(alloc, bytes) {
-        Ok(name) => Ok(Some(name)),
-        Err(Or::NoMemory) => Err(NoMemory),
-        Err(Or::Is(_)) => Ok(None),
-    }
-}
 
 fn on_branch(names: Vec<Name>, end: &[u8]) -> Option<Selector>
     ensures { result ≡ on_branch names.items end.now }

@@ -1,5 +1,5 @@
 pub mod Keeps
-mod Prefixes
+pub mod Prefixes
 mod Rows
 mod Standing
 mod Totals

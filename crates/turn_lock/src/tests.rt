@@ -11,7 +11,6 @@ use std::test::Fail;
 use std::thread::Threads;
 use tally::{Note, Tally, run_lanes};
 
-mod rates;
 mod tally;
 
 // The tally of so many lanes, each with so many notes. None for want of memory.

@@ -4,7 +4,7 @@ use cc_names::changes::Entry;
 use cc_names::lists::List;
 
 /// What a version holds: a version of a file has the row whose own bytes are its text, a version of a directory its catalog.
-#[derive(Debug, Drop)]
+#[derive(Drop)]
 pub enum Contents {
     Text(u64),
     Catalog(List<Entry>),

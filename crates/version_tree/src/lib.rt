@@ -43,7 +43,7 @@ use std::collections::HashMap;
 use std::marker::Model;
 
 /// The trees of versions of all elements of a base, with what each version holds. Contracts see the list of changes.
-#[derive(Debug, Drop)]
+#[derive(Drop)]
 pub struct Tree {
     alloc: Global,
     made: Vec<Made>,

@@ -11,7 +11,7 @@ use cc_names::changes::TreeChange;
 use cc_names::names::Name;
 
 /// A change; where it made a branch, with the place of the next older change that made a branch with the same key.
-#[derive(Debug, Drop)]
+#[derive(Drop)]
 pub struct Made {
     pub change: TreeChange,
     pub namesake: Option<usize>,

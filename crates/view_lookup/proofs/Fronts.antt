@@ -1,15 +1,22 @@
--- The first rows of a base are those that stand first in the list of its rows.
-use Rattle.std.proofs.Common.{◌≡◌, ℕ, zero, suc, ◌-◌, ◌≤◌, true, false, nat_lt, min, [], ◌∷◌, ◌++◌, length, reverse, take, refl, ap, sym, ◌∙◌, arith}
+-- The first rows of a base: which part of the list of rows they are, how many, and that they are a base too.
+use Rattle.std.proofs.Common.{◌≡◌, ℕ, suc, ◌-◌, ◌<◌, ◌≤◌, Bool, true, false, ◌&&◌, nat_lt, min, [], ◌∷◌, ◌++◌, length, reverse, take, refl, ap, sym, ◌∙◌, arith}
 use Rattle.std.proofs.lemmas.Bool.Decides.{nat_tests}
-use Rattle.std.proofs.lemmas.List.{length-reverse, reverse-append, reverse-reverse, take_all, take-append-le, length-append}
+use Rattle.std.proofs.lemmas.List.{length-reverse, reverse-append, reverse-reverse, take_all, take-append-le, length-append, length-take, length-take-le, take-take}
 use Rattle.cc_names.specs.Formed.{Plain}
-use Rattle.legal_history.specs.Base.{Base, size, first_rows}
-use Rattle.view_lookup.specs.Unversioned.{is_unversioned_deed, is_unversioned}
-use Rattle.view_lookup.proofs.Unversioned.{both}
+use Rattle.carried_out.specs.CarriedOut.{is_made}
+use Rattle.legal_history.specs.Base.Rows.{Base, size, first_rows}
+use Rattle.legal_history.specs.Base.Fits.{deed_fits, fits, is_base, row_limit}
+use Rattle.view_lookup.specs.Known.{are_made, IsKnown, IsFront}
+
+-- both of two tests
+both : (a b : Bool) → (a && b) ≡ true → (a ≡ true) × (b ≡ true)
+both true b h = (refl, h)
+both false b h = absurd (cc)
 
 reverse_more : (row : Plain) (older : Base) → reverse (row ∷ older) ≡ reverse older ++ row ∷ []
 reverse_more row older = reverse-append (row ∷ []) older
 
+-- the first t rows of a base, row 0 included, are the first t - 1 of the list of its rows
 first_of_newest : (b : Base) (t : ℕ) → first_rows t b ≡ reverse (take (t - 1) (reverse b))
 first_of_newest [] t = sym (ap reverse (take_all (t - 1) [] (omega arith)))
 first_of_newest (row ∷ older) t =
@@ -23,35 +30,67 @@ first_of_newest (row ∷ older) t =
     ] refl
     ∙ sym (ap (λ rows. reverse (take (t - 1) rows)) (reverse_more row older))
 
--- the first t rows of a base, row 0 included, are the first t - 1 of the list
-pub first_of_rows : (rows : Base) (t : ℕ) → first_rows t (reverse rows) ≡ reverse (take (t - 1) rows)
-first_of_rows rows t = first_of_newest (reverse rows) t ∙ ap (λ all. reverse (take (t - 1) all)) (reverse-reverse rows)
+-- as a slice has them, from the oldest on
+pub first_of_slice : (rows : Base) (count : ℕ) → reverse (take count rows) ≡ first_rows (suc count) (reverse rows)
+first_of_slice rows count =
+    let less : suc count - 1 ≡ count = omega arith in
+    sym (first_of_newest (reverse rows) (suc count) ∙ ap (λ all. reverse (take (suc count - 1) all)) (reverse-reverse rows) ∙ ap (λ n. reverse (take n rows)) less)
 
--- the first rows of an unversioned base are one too
-pub first_unversioned : (b : Base) (t : ℕ) → is_unversioned b ≡ true → is_unversioned (first_rows t b) ≡ true
-first_unversioned [] t h = refl
-first_unversioned (row ∷ older) t h =
-    elim (nat_lt (size older) t) as (λ within. is_unversioned (elim within [ true ↦ row ∷ older | false ↦ first_rows t older ]) ≡ true) [
-      | true ↦ h
-      | false ↦ first_unversioned older t (both (is_unversioned_deed row.deed) (is_unversioned older) h).1
+-- how many the first rows are
+pub size_of_first : (b : Base) (count : ℕ) → count ≤ length b → size (first_rows (suc count) b) ≡ suc count
+size_of_first b count within =
+    let less : suc count - 1 ≡ count = omega arith in
+    let fewer : count ≤ length (reverse b) = omega (arith, length-reverse b) in
+    ap size (first_of_newest b (suc count) ∙ ap (λ n. reverse (take n (reverse b))) less)
+    ∙ ap suc (length-reverse (take count (reverse b)) ∙ length-take-le count (reverse b) fewer)
+
+-- the first rows are as known as all
+pub known_first : (t : ℕ) (b : Base) → IsKnown b → IsKnown (first_rows t b)
+known_first t [] known = known
+known_first t (row ∷ older) known =
+    elim (nat_lt (size older) t) as (λ within. IsKnown (elim within as (λ _. Base) [ true ↦ row ∷ older | false ↦ first_rows t older ])) [
+      | true ↦ known
+      | false ↦ known_first t older (record {
+        fitting = (both (fits older row.deed) (is_base older) known.fitting).1;
+        made = (both (is_made row.deed) (are_made older) known.made).1;
+      })
     ]
 
-cut_down : (rows : Base) (n : ℕ) → take (min n (length rows)) rows ≡ take n rows
-cut_down rows n =
-    elim (nat_lt n (length rows)) as (λ within. nat_lt n (length rows) ≡ within → take (min n (length rows)) rows ≡ take n rows) [
-      | true ↦ λ e. let few : min n (length rows) ≡ n = grind (arith, nat_tests) in ap (λ k. take k rows) few
+-- all rows are a front
+pub all_front : (b : Base) → IsKnown b → IsFront (length b) b
+all_front b known = record { within = omega arith; known = known_first (suc (length b)) b known }
+
+take_of_take : (m n : ℕ) (rows : Base) → take m (take n rows) ≡ take (min m n) rows
+take_of_take m n rows =
+    elim (nat_lt n m) as (λ more. nat_lt n m ≡ more → take m (take n rows) ≡ take (min m n) rows) [
+      | true ↦ λ e.
+          let some : min m n ≡ n = grind (arith, nat_tests) in
+          let few : length (take n rows) ≤ m = grind (arith, nat_tests, length-take n rows) in
+          take_all m (take n rows) few ∙ ap (λ k. take k rows) (sym some)
       | false ↦ λ e.
-          let many : length rows ≤ n = grind (arith, nat_tests) in
-          take_all (min n (length rows)) rows (omega arith) ∙ sym (take_all n rows many)
+          let some : min m n ≡ m = grind (arith, nat_tests) in
+          let few : m ≤ n = grind (arith, nat_tests) in
+          take-take m n rows few ∙ ap (λ k. take k rows) (sym some)
     ] refl
 
--- a number of rows that is cut to the length of the list takes the same ones
-pub take_within : (rows : Base) (t less cut : ℕ) → less ≡ t - 1 → cut ≡ min less (length rows) → take cut rows ≡ take (t - 1) rows
-take_within rows t less cut e1 e2 = ap (λ n. take n rows) (e2 ∙ ap (λ n. min n (length rows)) e1) ∙ cut_down rows (t - 1)
+-- the first rows of a front
+pub first_of_front : (b : Base) (t count : ℕ) → first_rows (suc (min (t - 1) count)) b ≡ first_rows t (first_rows (suc count) b)
+first_of_front b t count =
+    let front : (n : ℕ) → first_rows (suc n) b ≡ reverse (take n (reverse b)) = λ n.
+    let less : suc n - 1 ≡ n = omega arith in
+    first_of_newest b (suc n) ∙ ap (λ k. reverse (take k (reverse b))) less in
+    front (min (t - 1) count)
+    ∙ ap reverse (sym (take_of_take (t - 1) count (reverse b)))
+    ∙ ap (λ rows. reverse (take (t - 1) rows)) (sym (reverse-reverse (take count (reverse b))) ∙ ap reverse (sym (front count)))
+    ∙ sym (first_of_newest (first_rows (suc count) b) t)
 
--- a front of a front
-pub front_of_front : (k n : ℕ) (rows : Base) → k ≤ n → take k (take n rows) ≡ take k rows
-front_of_front zero n rows le = refl
-front_of_front (suc k) zero rows le = absurd (omega arith)
-front_of_front (suc k) (suc n) [] le = refl
-front_of_front (suc k) (suc n) (row ∷ rows) le = ap (λ front. row ∷ front) (front_of_front k n rows (omega arith))
+-- fewer rows are a front too
+pub shorter_front : (b : Base) (count cut : ℕ) → IsKnown b → count ≤ length b → cut ≤ count → IsFront cut b
+shorter_front b count cut known within less = record { within = omega arith; known = known_first (suc cut) b known }
+
+-- a base has fewer rows than its limit
+pub base_short : (b : Base) → is_base b ≡ true → length b < row_limit
+base_short [] fitting = omega arith
+base_short (row ∷ older) fitting =
+    let below = both (nat_lt (size older) row_limit) (deed_fits older row.deed) (both (fits older row.deed) (is_base older) fitting).0 in
+    grind (arith, nat_tests, below.0)

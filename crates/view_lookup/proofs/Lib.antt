@@ -1,10 +1,11 @@
+pub mod AtIndex
 pub mod Chains
-pub mod Files
 pub mod Fronts
 pub mod Holdings
 pub mod LastOn
 pub mod Lives
+pub mod MadeDeeds
+pub mod MadeSoFar
 pub mod RowTexts
 pub mod RowsFit
 pub mod Standing
-pub mod Unversioned

@@ -5,36 +5,21 @@ use Rattle.std.specs.List.{slice_get}
 use Rattle.std.proofs.lemmas.Bool.Decides.{nat_tests}
 use Rattle.std.proofs.lemmas.List.{length-reverse, reverse-append, reverse-reverse, drop_more, drop-drop}
 use Rattle.cc_names.specs.Formed.{Plain}
-use Rattle.cc_names.specs.declared.rows.Deed.{Deed}
-use Rattle.cc_names.specs.declared.rows.Deed.TheVariants as deeds
-use Rattle.legal_history.specs.Base.{Base, size, row_at, deed_at, deed_of}
-use Rattle.legal_history.specs.Texts.{Source, Bytes, OfRow, NoText, source_of, output_at, of_output, text}
+use Rattle.legal_history.specs.Base.Rows.{Base, size, row_at, deed_at, deed_of}
+use Rattle.legal_history.specs.Base.Texts.{source_of, output_at, text}
 use Rattle.view_lookup.specs.Made.{text_made}
-use Rattle.view_lookup.specs.Unversioned.{is_unversioned_deed, is_unversioned}
-use Rattle.view_lookup.proofs.Unversioned.{both}
-
--- the text of a source, where an earlier row has this one
-abbrev text_by : (ℕ → Option (List ℕ)) → Source → Option (List ℕ)
-text_by of_row source = elim source [ Bytes bytes ↦ Some bytes | OfRow origin ↦ of_row origin | NoText ↦ None ]
-
-output_text : (of_row : ℕ → Option (List ℕ)) (output : Option (List ℕ)) → text_by of_row (of_output output) ≡ output
-output_text of_row None = refl
-output_text of_row (Some output) = refl
-
--- a deed makes its text by itself
-own_text : (older : Base) (of_row : ℕ → Option (List ℕ)) (path : List ℕ) (deed : Deed) → is_unversioned_deed deed ≡ true → text_by of_row (source_of older path deed) ≡ text_made path deed
-own_text older of_row path (deeds.Mkview v) h = refl
-own_text older of_row path (deeds.Put v q bytes) h = refl
-own_text older of_row path (deeds.Publish v targets script entries outputs) h = output_text of_row (output_at path targets outputs)
-own_text older of_row path deed h = cc
+use Rattle.carried_out.specs.CarriedOut.{is_made}
+use Rattle.view_lookup.specs.Known.{are_made}
+use Rattle.view_lookup.proofs.MadeDeeds.{text_by, is_plain}
+use Rattle.view_lookup.proofs.MadeSoFar.{both}
 
 -- the text of a row, by its deed
-pub text_by_deed : (b : Base) (r : ℕ) (path : List ℕ) → is_unversioned b ≡ true → text b r path ≡ option_and_then (text_made path) (deed_at b r)
+pub text_by_deed : (b : Base) (r : ℕ) (path : List ℕ) → are_made b ≡ true → text b r path ≡ option_and_then (text_made path) (deed_at b r)
 text_by_deed [] r path h = refl
 text_by_deed (row ∷ older) r path h =
-    let parts = both (is_unversioned_deed row.deed) (is_unversioned older) h in
+    let parts = both (is_made row.deed) (are_made older) h in
     elim (size older == r) as (λ same. elim same [ false ↦ text older r path | true ↦ text_by (λ origin. text older origin path) (source_of older path row.deed) ] ≡ option_and_then (text_made path) (deed_of (elim same [ true ↦ Some row | false ↦ row_at older r ]))) [
-      | true ↦ own_text older (λ origin. text older origin path) path row.deed parts.0
+      | true ↦ (is_plain row.deed parts.0).text older (λ origin. text older origin path) path
       | false ↦ text_by_deed older r path parts.1
     ]
 

@@ -3,13 +3,15 @@ use Rattle.std.proofs.Common.{◌≡◌, ℕ, ◌<◌, Bool, true, false, ◌||�
 use Rattle.std.specs.List.{slice_split, onto_first, list_any}
 use Rattle.std.proofs.lemmas.List.{length-reverse}
 use Rattle.std.proofs.lemmas.List.Splits.{length-slice_split}
-use Rattle.cc_names.specs.Paths.{names_of, is_slash, is_root}
+use Rattle.cc_names.proofs.NamesOfPaths.{path-short}
+use Rattle.cc_names.specs.Paths.{names_of, is_slash, is_root, IsPath}
 use Rattle.cc_names.specs.declared.selection.Seen.TheVariants.{Element, Nothing}
-use Rattle.legal_history.specs.Base.{Base}
-use Rattle.legal_history.specs.Seen.{at, at_names, private_or}
-use Rattle.legal_history.specs.Views.{view_row, private}
-use Rattle.view_lookup.specs.Unversioned.{is_unversioned}
-use Rattle.view_lookup.proofs.Unversioned.{root_picked, root_seen, name_seen, deeper_seen}
+use Rattle.legal_history.specs.Base.Rows.{Base}
+use Rattle.std.specs.Prelude.{if◌then◌else◌, nat_le}
+use Rattle.legal_history.specs.Base.Seen.{at, at_names, path_limit, private_or, unless_long}
+use Rattle.legal_history.specs.Base.Views.{view_row, private}
+use Rattle.view_lookup.specs.Known.{are_made}
+use Rattle.view_lookup.proofs.MadeSoFar.{root_picked, root_seen, any_name_seen, name_seen, deeper_seen}
 
 -- neither of two tests
 neither : (a b : Bool) → (a || b) ≡ false → (a ≡ false) × (b ≡ false)
@@ -53,12 +55,12 @@ names_below : (path : List ℕ) → is_root path ≡ false → names_of path ≡
 names_below path h = ap (λ root. cond root [] (slice_split is_slash path)) h
 
 -- A path has one name where it has no slash and is not the root, and then nothing but private files stand there.
-pub seen_of_name : (b : Base) (v path : List ℕ) (n : ℕ) → is_unversioned b ≡ true → view_row b v ≡ Some n → is_root path ≡ false → list_any is_slash path ≡ false → at b v path ≡ private_or (private b v path) Nothing
-seen_of_name b v path n h there below_root whole =
-    ap (λ names. at_names b v (reverse names)) (names_below path below_root ∙ one_part path whole) ∙ name_seen b v path n h there
+pub seen_of_name : (b : Base) (v path : List ℕ) (n : ℕ) → are_made b ≡ true → view_row b v ≡ Some n → IsPath path → is_root path ≡ false → list_any is_slash path ≡ false → at b v path ≡ private_or (private b v path) Nothing
+seen_of_name b v path n h there is below_root whole =
+    ap (λ names. at_names b v (reverse names)) (names_below path below_root ∙ one_part path whole) ∙ name_seen b v path n h there (path-short path is)
 
 -- Nothing stands at a path of two names or more.
-pub seen_deeper : (b : Base) (v path : List ℕ) (n : ℕ) → is_unversioned b ≡ true → view_row b v ≡ Some n → is_root path ≡ false → list_any is_slash path ≡ true → at b v path ≡ Nothing
+pub seen_deeper : (b : Base) (v path : List ℕ) (n : ℕ) → are_made b ≡ true → view_row b v ≡ Some n → is_root path ≡ false → list_any is_slash path ≡ true → at b v path ≡ Nothing
 seen_deeper b v path n h there below_root cut =
     let many : 1 < length (reverse (slice_split is_slash path)) = omega (arith, length-reverse (slice_split is_slash path), two_parts path cut) in
     let parts = two_or_more (reverse (slice_split is_slash path)) many in
@@ -67,7 +69,7 @@ seen_deeper b v path n h there below_root cut =
     ∙ deeper_seen b v n parts.0 parts.1 parts.2 h there
 
 -- the root stands at its path
-pub seen_root : (b : Base) (v path : List ℕ) (n : ℕ) → is_unversioned b ≡ true → view_row b v ≡ Some n → is_root path ≡ true → at b v path ≡ Element 0 root_picked
+pub seen_root : (b : Base) (v path : List ℕ) (n : ℕ) → are_made b ≡ true → view_row b v ≡ Some n → is_root path ≡ true → at b v path ≡ Element 0 root_picked
 seen_root b v path n h there is = ap (λ root. at_names b v (reverse (cond root [] (slice_split is_slash path)))) is ∙ root_seen b v n h there
 
 -- the value of an option that has one
@@ -76,9 +78,16 @@ there_is (Some n) h = (n, refl)
 there_is None h = cc
 
 -- no element stands below the root
-pub file_or_nothing : (b : Base) (v path : List ℕ) (n : ℕ) → is_unversioned b ≡ true → view_row b v ≡ Some n → is_root path ≡ false → (at b v path ≡ private_or (private b v path) Nothing) ⊎ (at b v path ≡ Nothing)
+pub file_or_nothing : (b : Base) (v path : List ℕ) (n : ℕ) → are_made b ≡ true → view_row b v ≡ Some n → is_root path ≡ false → (at b v path ≡ private_or (private b v path) Nothing) ⊎ (at b v path ≡ Nothing)
 file_or_nothing b v path n h there below_root = by_slash (list_any is_slash path) refl
   where
     by_slash : (cut : Bool) → list_any is_slash path ≡ cut → (at b v path ≡ private_or (private b v path) Nothing) ⊎ (at b v path ≡ Nothing)
     by_slash true e = inr (seen_deeper b v path n h there below_root e)
-    by_slash false e = inl (seen_of_name b v path n h there below_root e)
+    by_slash false e = by_short (nat_le (length path) path_limit) refl
+      where
+        named : at b v path ≡ unless_long path (private_or (private b v path) Nothing)
+        named = ap (λ names. at_names b v (reverse names)) (names_below path below_root ∙ one_part path e) ∙ any_name_seen b v path n h there
+
+        by_short : (short : Bool) → nat_le (length path) path_limit ≡ short → (at b v path ≡ private_or (private b v path) Nothing) ⊎ (at b v path ≡ Nothing)
+        by_short true short = inl (named ∙ ap (λ is. if is then private_or (private b v path) Nothing else Nothing) short)
+        by_short false long = inr (named ∙ ap (λ is. if is then private_or (private b v path) Nothing else Nothing) long)

@@ -1,17 +1,19 @@
--- The rows of a base as they are kept: how contracts see them, and what holds of their marks.
+-- A base as it is kept: how contracts see it, and what holds of its rows and of their marks.
 use Rattle.std.specs.Prelude.{◌-◌, nat_eq, min, reverse, vec_len, vec_capacity}
 use Rattle.std.specs.HashMap.{get, spare}
+use Rattle.view_lookup.specs.Known.{IsKnown}
 use Rattle.view_lookup.specs.Marked.{IsMarked}
 use Rattle.view_lookup.specs.Shown.{Shown}
 use Rattle.view_lookup.specs.declared.bases.Rows.TheInside.{Inside}
 
--- what contracts see of rows: the rows, and for how many more there is room
+-- what contracts see of a base: its rows, the newest first, and for how many more there is room
 abbrev pub shown_of : Inside → Shown
 shown_of inside = record {
-  rows = inside.rows.items;
+  base = reverse inside.rows.items;
   room = min (vec_capacity inside.rows - vec_len inside.rows) (min (vec_capacity inside.links - vec_len inside.links) (spare inside.newest));
 }
 
--- the links, and the newest row of each key, are those of the rows
-abbrev pub IsIndexed : Inside → Type 0
-IsIndexed inside = IsMarked inside.links.items (get nat_eq inside.newest) (reverse inside.rows.items)
+-- The rows are a base that is carried out so far, and the links with the newest row of each key are its marks.
+pub record IsIndexed (inside : Inside) : Type 0 where
+  pub known : IsKnown (reverse inside.rows.items)
+  pub marks : IsMarked inside.links.items (get nat_eq inside.newest) (reverse inside.rows.items)

@@ -1,6 +1,6 @@
 pub mod Bearing
 pub mod Indexed
-pub mod Keyed
+pub mod Known
 pub mod Lives
 pub mod Made
 pub mod MarkSteps
@@ -8,4 +8,4 @@ pub mod Marked
 pub mod Numbered
 pub mod Roots
 pub mod Shown
-pub mod Unversioned
+pub mod Subjects

@@ -1,8 +1,8 @@
 -- The marks that rows leave for the keys of what they bear on: links, each of which names the next older one of its key.
 use Rattle.std.specs.Prelude.{◌≡◌, ℕ, ◌<◌, ◌==◌, Bool, true, false, Option, Some, None, List, [], ◌∷◌, length, reverse, IfSome}
 use Rattle.cc_names.specs.Versions.{put_if}
-use Rattle.legal_history.specs.Base.{Base, size}
-use Rattle.view_lookup.specs.Keyed.{keys_of}
+use Rattle.legal_history.specs.Base.Rows.{Base, size}
+use Rattle.view_lookup.specs.Subjects.{keys_of}
 use Rattle.view_lookup.specs.declared.marks.Link.{Link}
 
 -- whether this is the place

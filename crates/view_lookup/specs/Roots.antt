@@ -1,11 +1,12 @@
--- What stands in a view of a base without elements.
-use Rattle.std.specs.Prelude.{◌≡◌}
+-- What may stand at a path so far, while no row makes an element.
+use Rattle.std.specs.Prelude.{◌≡◌, List, ℕ, true}
+use Rattle.cc_names.specs.Paths.{is_root}
 use Rattle.cc_names.specs.declared.selection.Seen.{Seen}
 use Rattle.cc_names.specs.declared.selection.Seen.TheVariants.{Private, Element, Unselected, Nothing}
 
--- an element is the root, and is selected
-abbrev pub IsRootOrFile : Seen → Type 0
-IsRootOrFile (Element e picked) = e ≡ 0
-IsRootOrFile (Unselected e) = ⊥
-IsRootOrFile (Private row) = Unit {0}
-IsRootOrFile Nothing = Unit {0}
+-- An element stands at the root alone, and is selected there.
+abbrev pub StandsSoFar : List ℕ → Seen → Type 0
+StandsSoFar path (Element e picked) = is_root path ≡ true
+StandsSoFar path (Unselected e) = ⊥
+StandsSoFar path (Private row) = Unit {0}
+StandsSoFar path Nothing = Unit {0}

@@ -1,12 +1,12 @@
--- What contracts see of the rows of a base: the rows from row 1 on, the oldest first, and how many marks there is room for.
-use Rattle.std.specs.Prelude.{ℕ, ◌≤◌, List, length}
-use Rattle.cc_names.specs.Formed.{Plain}
+-- What contracts see of a base that is kept: the base, its newest row first, and how many marks there is room for.
+use Rattle.std.specs.Prelude.{ℕ, ◌≤◌, length}
 use Rattle.cc_names.specs.declared.rows.Deed.{Deed}
-use Rattle.view_lookup.specs.Keyed.{keys_of}
+use Rattle.legal_history.specs.Base.Rows.{Base}
+use Rattle.view_lookup.specs.Subjects.{keys_of}
 
--- Rows, and for how many more marks there is room.
+-- A base, and for how many more marks there is room.
 pub record Shown : Type 0 where
-  pub rows : List Plain
+  pub base : Base
   pub room : ℕ
 
 -- there is room for one more row of this deed

@@ -1,22 +1,26 @@
-// The rows of a base, with the marks by which those that bear on a thing are found.
+// The rows of a base, with the marks by which those that bear on a subject are found.
 
-ghost use Rattle.std.specs.Prelude.{◌≡◌, ◌+◌, ◌<◌, ◌^◌, ◌∷◌, [], ◌++◌, length, reverse, true, OnOk};
+ghost use Rattle.std.specs.Prelude.{◌≡◌, ◌≤◌, ◌∷◌, [], length, reverse, true, OnOk};
 ghost use Rattle.std.specs.Option.{option_copied, option_map};
-ghost use Rattle.legal_history.specs.Base.{first_rows, row_at};
+ghost use Rattle.carried_out.specs.CarriedOut.{is_made};
+ghost use Rattle.legal_history.specs.Base.Rows.{first_rows, row_at, size};
+ghost use Rattle.legal_history.specs.Base.Fits.{fits, is_base, row_limit};
 ghost use Rattle.view_lookup.specs.Bearing.{deed_on, last_on};
+ghost use Rattle.view_lookup.specs.Known.{are_made};
 ghost use Rattle.view_lookup.specs.Numbered.{numbered};
 ghost use Rattle.view_lookup.specs.Shown.{HasRoom};
-ghost use Rattle.view_lookup.specs.Unversioned.{is_unversioned};
+ghost use Rattle.view_lookup.specs.Subjects.{plain};
 
 use crate::marks::{Link, mark_all};
-use crate::things::{Thing, count_keys};
+use crate::subjects::{Subject, count_subjects};
 use cc_names::memory::NoMemory;
 use cc_names::rows::{Deed, Row};
 use std::alloc::Global;
 use std::collections::HashMap;
 use std::marker::Model;
 
-/// The rows of a base from row 1 on, and what bears on what. Contracts see the rows and the room.
+/// A base, and what bears on what. Contracts see the base as the model has it, its newest row first, and the room. That it
+/// is a base, whose rows were made by what is carried out so far, is part of the type.
 #[derive(Drop)]
 pub struct Rows {
     rows: Vec<Row>,
@@ -39,7 +43,7 @@ impl Model for Rows {
 impl Rows {
     /// A base with row 0 alone. Takes no memory.
     pub fn new(alloc: Global) -> Rows
-        ensures { result.rows ≡ [] }
+        ensures { result.base ≡ [] }
     {
         Rows {
             rows: Vec::new(alloc),
@@ -51,21 +55,22 @@ impl Rows {
     /// Makes room for one more row of this deed. Takes time linear in the targets of an object; a list that is full is
     /// doubled, in time linear in it.
     pub fn reserve(&mut self, deed: &Deed) -> Result<(), NoMemory>
-        ensures same { self.new.rows ≡ self.old.rows }
+        ensures same { self.new.base ≡ self.old.base }
         ensures room { OnOk result (HasRoom self.new deed.now) }
     {
-        let count = count_keys(deed).max(1);
+        let count = count_subjects(deed).max(1);
         self.rows.reserve(count)?;
         self.links.reserve(count)?;
         self.newest.reserve(count)?;
         Ok(())
     }
 
-    /// Adds a row. Takes time linear in the names that its deed has, and no memory.
+    /// Adds a row that fits. Takes time linear in the names that its deed has, and no memory.
     pub fn push(&mut self, row: Row)
-        requires few { length self.old.rows + 1 < 2 ^ 63 }
+        requires fits { fits self.old.base row.deed ≡ true }
+        requires made { is_made row.deed ≡ true }
         requires room { HasRoom self.old row.deed }
-        ensures { self.new.rows ≡ self.old.rows ++ row ∷ [] }
+        ensures { self.new.base ≡ row ∷ self.old.base }
     {
         let number = self.rows.len() as u64 + 1;
         mark_all(&mut self.links, &mut self.newest, number, row.deed());
@@ -74,14 +79,14 @@ impl Rows {
 
     /// How many rows there are behind row 0.
     pub fn len(&self) -> usize
-        ensures { result ≡ length self.now.rows }
+        ensures { result ≡ length self.now.base }
     {
         self.rows.len()
     }
 
     /// All of them, as rows in which to look things up. Takes constant time.
     pub fn all(&self) -> FirstRows<'_>
-        ensures { result ≡ self.now.rows }
+        ensures { result ≡ self.now.base }
     {
         FirstRows {
             base: self,
@@ -89,9 +94,9 @@ impl Rows {
         }
     }
 
-    /// The rows alone.
+    /// The rows alone, from row 1 on.
     pub fn into_vec(self) -> Vec<Row>
-        ensures { result.items ≡ self.rows }
+        ensures { result.items ≡ reverse self.base }
     {
         let Rows {
             rows,
@@ -102,7 +107,7 @@ impl Rows {
     }
 }
 
-/// The first rows of a base. Contracts see the list of these rows, from row 1 on.
+/// The first rows of a base. Contracts see them as the model has them, the newest first; they are a base too.
 #[derive(Drop)]
 pub struct FirstRows<'a> {
     base: &'a Rows,
@@ -110,14 +115,15 @@ pub struct FirstRows<'a> {
 }
 
 impl<'a> Model for FirstRows<'a> {
-    ghost use Rattle.std.specs.Prelude.{◌≤◌, List, length, take};
-    ghost use Rattle.cc_names.specs.Formed.{Plain};
+    ghost use Rattle.legal_history.specs.Base.Rows.{Base, first_rows};
+    ghost use Rattle.std.specs.Prelude.{suc};
+    ghost use Rattle.view_lookup.specs.Known.{IsFront};
 
-    ghost Value = { List Plain };
+    ghost Value = { Base };
 
-    ghost view = { λ first. take first.count first.base.now.rows };
+    ghost view = { λ first. first_rows (suc first.count) first.base.now.base };
 
-    ghost invariant = { λ first. first.count ≤ length first.base.now.rows };
+    ghost invariant = { λ first. IsFront first.count first.base.now.base };
 }
 
 /// A row with its number, by its deed.
@@ -127,21 +133,21 @@ pub(crate) struct Found<'a> {
     pub(crate) deed: &'a Deed,
 }
 
-/// The row of this number.
-pub(crate) fn row_in(rows: &[Row], number: u64) -> Option<&Row>
-    ensures { option_copied result ≡ row_at (reverse rows.now) number }
+/// The row of this number. Takes constant time.
+pub fn row_at<'a>(rows: &FirstRows<'a>, number: u64) -> Option<&'a Row>
+    ensures { option_copied result ≡ row_at rows.now number }
 {
     let index = number.checked_sub(1)?;
-    rows.get(index as usize)
+    rows.as_slice().get(index as usize)
 }
 
-/// The deed of the row of a number, where it bears on the thing.
-fn deed_on<'a>(rows: &'a [Row], number: u64, thing: Thing<'_>) -> Option<&'a Deed>
-    ensures { option_copied result ≡ deed_on thing.entry (reverse rows.now) number }
+/// The deed of the row of a number, where it bears on the subject.
+fn deed_on<'a>(rows: &FirstRows<'a>, number: u64, subject: Subject<'_>) -> Option<&'a Deed>
+    ensures { option_copied result ≡ deed_on (plain subject.entry) rows.now number }
 {
-    let row = row_in(rows, number)?;
+    let row = row_at(rows, number)?;
     let deed = row.deed();
-    if thing.is_borne_on_by(deed) {
+    if subject.is_borne_on_by(deed) {
         Some(deed)
     } else {
         None
@@ -150,8 +156,7 @@ fn deed_on<'a>(rows: &'a [Row], number: u64, thing: Thing<'_>) -> Option<&'a Dee
 
 /// The first rows of a base, `count` of them with row 0. Takes constant time.
 pub fn first_rows<'a>(rows: &FirstRows<'a>, count: u64) -> FirstRows<'a>
-    ensures first { reverse result ≡ first_rows count (reverse rows.now) }
-    ensures unversioned { is_unversioned (reverse rows.now) ≡ true → is_unversioned (reverse result) ≡ true }
+    ensures { result ≡ first_rows count rows.now }
 {
     let behind_root = count.saturating_sub(1).min(rows.count as u64);
     FirstRows {
@@ -161,34 +166,42 @@ pub fn first_rows<'a>(rows: &FirstRows<'a>, count: u64) -> FirstRows<'a>
 }
 
 impl<'a> FirstRows<'a> {
-    /// How many there are behind row 0.
-    pub fn len(&self) -> usize
-        ensures { result ≡ length self.now }
+    /// How many there are, row 0 included. They are a base, so there are at most 4,000,000.
+    pub fn size(&self) -> u64
+        ensures size { result ≡ size self.now }
+        ensures base { is_base self.now ≡ true }
+        ensures limit { result ≤ row_limit }
     {
-        self.count
+        self.count as u64 + 1
     }
 
-    /// The rows, in their order.
+    /// That each was made by what is carried out so far. Does nothing.
+    pub(crate) fn are_made(&self)
+        ensures { are_made self.now ≡ true }
+    {
+        let _count = self.count;
+    }
+
+    /// The rows from row 1 on.
     pub fn as_slice(&self) -> &'a [Row]
-        ensures { result.now ≡ self.now }
+        ensures { reverse result.now ≡ self.now }
     {
         let base = self.base;
         &base.rows.as_slice()[..self.count]
     }
 
-    /// The last of them that bears on the thing. Takes time linear in the thing's names and in the rows with its key that
-    /// come behind the one that is found, of which there are none where these are all rows, but for things that share a
+    /// The last of them that bears on the subject. Takes time linear in the subject's names and in the rows with its key that
+    /// come behind the one that is found, of which there are none where these are all rows, but for subjects that share a
     /// key.
-    pub(crate) fn last_on(&self, thing: Thing<'_>) -> Option<Found<'a>>
-        ensures { option_map numbered result ≡ last_on thing.entry (reverse self.now) }
+    pub(crate) fn last_on(&self, subject: Subject<'_>) -> Option<Found<'a>>
+        ensures { option_map numbered result ≡ last_on (plain subject.entry) self.now }
     {
-        let rows = self.as_slice();
         let base = self.base;
         let mut links = base.links.as_slice();
-        let mut next = base.newest.get(&thing.key()).copied();
+        let mut next = base.newest.get(&subject.key()).copied();
         while let Some(place) = next {
             let link = &links[place];
-            if let Some(deed) = deed_on(rows, link.row, thing) {
+            if let Some(deed) = deed_on(self, link.row, subject) {
                 return Some(Found {
                     number: link.row,
                     deed,

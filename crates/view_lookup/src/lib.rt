@@ -1,11 +1,14 @@
-// What a view sees: which views there are, their private files, the objects that they hold, and what stands at a path.
+// The base as a type, and what views see in it: which views there are, their private files, the objects that they hold, and
+// what stands at a path.
 //
 // What it is for: the look-ups on which every decision on a command and every build stand.
 //
-// What it promises: each answer is that of the model's definition over the rows. `first_rows` gives the rows of an
-// earlier moment, over which every look-up answers as of then.
+// What it promises: `Rows` and `FirstRows` are bases of the model, the newest row first, by their types. Each answer is that of
+// the model's definition over the base, with no condition on it. `first_rows` gives the base as it was at an earlier moment,
+// over which every look-up answers as of then.
 //
-// What it stands on: `cc_names` for rows, `legal_history` for the definitions, and `spec_text` for the rules of a view.
+// What it stands on: `cc_names` for rows, `carried_out` for the deeds that are made so far, and `legal_history` for the
+// definitions.
 #![tactic(auto)]
 
 mod bases;
@@ -13,15 +16,13 @@ mod fitting;
 mod marks;
 mod objects;
 mod seen;
-#[cfg(test)]
-mod tests;
+mod subjects;
 mod texts;
-mod things;
 mod views;
 
-pub use bases::{FirstRows, Rows, first_rows};
+pub use bases::{FirstRows, Rows, first_rows, row_at};
 pub use fitting::{ROW_LIMIT, fits};
 pub use objects::held;
-pub use seen::{at, file_at, is_directory};
-pub use texts::{row_at, text_at, text_of};
-pub use views::{private, view_row};
+pub use seen::{at, file_at, is_directory, kind_of};
+pub use texts::{text_at, text_of};
+pub use views::{oldest_out, private, view_row};

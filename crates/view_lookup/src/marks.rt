@@ -1,13 +1,11 @@
 // The marks that rows leave for the keys of what they bear on: links, each of which names the next older one of its key.
 
-ghost use Rattle.std.specs.Prelude.{◌≡◌, ◌+◌, ◌<◌, ◌≤◌, nat_eq, length, map, vec_len, vec_capacity};
+ghost use Rattle.std.specs.Prelude.{◌≡◌, ◌+◌, ◌<◌, ◌≤◌, nat_eq, length, vec_len, vec_capacity};
 ghost use Rattle.std.specs.HashMap.{get, spare};
-ghost use Rattle.view_lookup.specs.Keyed.{key_of_object, keys_of};
 ghost use Rattle.view_lookup.specs.MarkSteps.{Marks, MarksAll};
+ghost use Rattle.view_lookup.specs.Subjects.{keys_of};
 
-use crate::things::{key_of_file, key_of_object, key_of_view};
-use cc_names::names::Name;
-use cc_names::paths::Path;
+use crate::subjects::subject_at;
 use cc_names::rows::Deed;
 use std::collections::HashMap;
 
@@ -36,25 +34,7 @@ fn mark(links: &mut Vec<Link>, newest: &mut HashMap<u64, usize>, row: u64, key: 
     }
 }
 
-/// Marks a row that makes an object for each of its targets.
-fn mark_targets(
-    links: &mut Vec<Link>,
-    newest: &mut HashMap<u64, usize>,
-    row: u64,
-    view: &Name,
-    targets: &[Path],
-)
-    requires links { vec_len links.old + length targets.now ≤ vec_capacity links.old }
-    requires newest { length targets.now ≤ spare newest.old }
-    ensures marks { MarksAll row (map (key_of_object view.now) targets.now) links.old.items (get nat_eq newest.old) links.new.items (get nat_eq newest.new) }
-    ensures len { vec_len links.new ≡ vec_len links.old + length targets.now }
-{
-    for target in targets {
-        mark(links, newest, row, key_of_object(view, target));
-    }
-}
-
-/// Marks a row for each thing that its deed bears on. Takes time linear in the names that the deed has, and no memory.
+/// Marks a row for each subject on which its deed bears. Takes time linear in the names that the deed has, and no memory.
 pub(crate) fn mark_all(
     links: &mut Vec<Link>,
     newest: &mut HashMap<u64, usize>,
@@ -65,14 +45,9 @@ pub(crate) fn mark_all(
     requires newest { length (keys_of deed.now) ≤ spare newest.old }
     ensures { MarksAll row (keys_of deed.now) links.old.items (get nat_eq newest.old) links.new.items (get nat_eq newest.new) }
 {
-    match deed {
-        Deed::Mkview { view } => mark(links, newest, row, key_of_view(view)),
-        Deed::Rmview { view } => mark(links, newest, row, key_of_view(view)),
-        Deed::Put { view, path, .. } => mark(links, newest, row, key_of_file(view, path)),
-        Deed::Rm { view, path } => mark(links, newest, row, key_of_file(view, path)),
-        Deed::Publish { view, targets, .. } => {
-            mark_targets(links, newest, row, view, targets.as_slice())
-        }
-        _ => {}
+    let mut index = 0;
+    while let Some(subject) = subject_at(deed, index) {
+        mark(links, newest, row, subject.key());
+        index += 1;
     }
 }

@@ -1,18 +1,19 @@
 // What stands at a path in a view.
 
-ghost use Rattle.std.specs.Prelude.{◌≡◌, ℕ, List, reverse, true, is_some, IsSome};
+ghost use Rattle.std.specs.Prelude.{◌≡◌, is_some, IsSome};
 ghost use Rattle.std.specs.List.{list_any};
 ghost use Rattle.cc_names.specs.Paths.{is_slash};
-ghost use Rattle.legal_history.specs.Base.{Base};
-ghost use Rattle.legal_history.specs.Seen.{at, file_at, directory_at};
-ghost use Rattle.legal_history.specs.Views.{view_row};
-ghost use Rattle.view_lookup.specs.Unversioned.{is_unversioned};
-ghost use Rattle.view_lookup.specs.Roots.{IsRootOrFile};
+ghost use Rattle.cc_names.specs.Versions.{kind_of};
+ghost use Rattle.legal_history.specs.Base.Changes.{tree};
+ghost use Rattle.legal_history.specs.Base.Seen.{at, file_at, directory_at};
+ghost use Rattle.legal_history.specs.Base.Views.{view_row};
+ghost use Rattle.view_lookup.specs.Roots.{StandsSoFar};
 
 use crate::bases::FirstRows;
 use crate::views::private;
 use cc_names::names::Name;
 use cc_names::paths::Path;
+use cc_names::rows::Kind;
 use cc_names::selection::{Picked, Seen};
 
 // The root's version 0, by the second rule of the default config spec.
@@ -22,20 +23,33 @@ const ROOT: Picked = Picked {
     out: false,
 };
 
+/// The kind of the element of this number, where there is one: so far there is the root alone. Takes constant time.
+pub fn kind_of(rows: &FirstRows<'_>, element: u64) -> Option<Kind>
+    ensures { result ≡ kind_of (tree rows.now) element }
+{
+    rows.are_made();
+    if element == 0 {
+        Some(Kind::Directory)
+    } else {
+        None
+    }
+}
+
 fn has_slash(bytes: &[u8]) -> bool
     ensures { result ≡ list_any is_slash bytes.now }
 {
     bytes.iter().any(|byte| *byte == b'/')
 }
 
-/// What stands at a path in a view that there is, in a base without elements: the root, picked by the second rule of
-/// the default config spec, or a private file below it, or nothing. Takes the time of `private`.
+/// What stands at a path in a view that there is. So far no row makes an element, so it is the root, picked by the second
+/// rule of the default config spec, or a private file below it, or nothing. Takes the time of `private`.
 pub fn at(rows: &FirstRows<'_>, view: &Name, path: &Path) -> Seen
-    requires unversioned { is_unversioned (reverse rows.now) ≡ true }
-    requires view { IsSome (view_row (reverse rows.now) view.now) }
-    ensures seen { result ≡ at (reverse rows.now) view.now path.now }
-    ensures root { IsRootOrFile result }
+    requires { IsSome (view_row rows.now view.now) }
+    ensures seen { result ≡ at rows.now view.now path.now }
+    // No row makes an element so far.
+    ensures so_far { StandsSoFar path.now result }
 {
+    rows.are_made();
     if path.is_root() {
         return Seen::Element(0, ROOT);
     }
@@ -48,23 +62,37 @@ pub fn at(rows: &FirstRows<'_>, view: &Name, path: &Path) -> Seen
     }
 }
 
-/// The row that put the file that a view sees at a path, where there is one: in a base without elements it is a private
-/// file of the view. Takes the time of `private`.
+/// The row that made the file that a view sees at a path, where there is one: so far a private file of the view. Takes the
+/// time of `at`.
 pub fn file_at(rows: &FirstRows<'_>, view: &Name, path: &Path) -> Option<u64>
-    requires unversioned { is_unversioned (reverse rows.now) ≡ true }
-    requires view { IsSome (view_row (reverse rows.now) view.now) }
-    ensures { result ≡ file_at (reverse rows.now) view.now path.now }
+    requires { IsSome (view_row rows.now view.now) }
+    ensures { result ≡ file_at rows.now view.now path.now }
 {
     match at(rows, view, path) {
         Seen::Private(row) => Some(row),
-        _ => None,
+        Seen::Element(element, picked) => match kind_of(rows, element) {
+            Some(Kind::File) => Some(picked.row),
+            Some(Kind::Directory) => None,
+            None => None,
+        },
+        Seen::Unselected(_) => None,
+        Seen::Nothing => None,
     }
 }
 
-/// Whether a view that there is sees a directory at a path, in a base without elements: at the root alone.
-pub fn is_directory(path: &Path) -> bool
-    ensures { (base : Base) (v : List ℕ) → is_unversioned base ≡ true → IsSome (view_row base v)
-        → result ≡ is_some (directory_at base v path.now) }
+/// Whether a view that there is sees a directory at a path. Takes the time of `at`.
+pub fn is_directory(rows: &FirstRows<'_>, view: &Name, path: &Path) -> bool
+    requires { IsSome (view_row rows.now view.now) }
+    ensures { result ≡ is_some (directory_at rows.now view.now path.now) }
 {
-    path.is_root()
+    match at(rows, view, path) {
+        Seen::Private(_) => false,
+        Seen::Element(element, _) => match kind_of(rows, element) {
+            Some(Kind::File) => false,
+            Some(Kind::Directory) => true,
+            None => false,
+        },
+        Seen::Unselected(_) => false,
+        Seen::Nothing => false,
+    }
 }

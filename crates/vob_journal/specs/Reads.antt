@@ -7,6 +7,10 @@ use Rattle.cc_names.specs.declared.memory.Or.{Or}
 use Rattle.cc_names.specs.declared.memory.Or.TheVariants.{NoMemory, Is}
 use Rattle.vob_journal.specs.Moves.{Passes}
 
+-- the file of objects is as it was
+abbrev pub SameObjects : Device → Device → Type 0
+SameObjects d e = file_of 1 e ≡ file_of 1 d
+
 -- both files are as they were
 pub record SameFiles (d e : Device) : Type 0 where
   pub journal : file_of 0 e ≡ file_of 0 d

@@ -1,6 +1,6 @@
 // The journal.
 
-ghost use Rattle.std.specs.Prelude.{◌≡◌, ◌≤◌, ◌+◌, ◌^◌, ◌++◌, ◌∷◌, [], IfOk, IfErr, OnOk, OnErr, MatchResult, is_ok, is_some, if◌then◌else◌, true, false, List, ℕ, length};
+ghost use Rattle.std.specs.Prelude.{◌≡◌, ◌≤◌, ◌+◌, ◌^◌, ◌++◌, ◌∷◌, [], IfOk, IfErr, OnOk, OnErr, MatchResult, is_ok, if◌then◌else◌, true, false, List, ℕ, length};
 ghost use Rattle.disk_model.specs.Devices.{file_of, bytes_of, LeavesNow};
 ghost use Rattle.disk_model.specs.Files.{stable};
 ghost use Rattle.disk_model.specs.Told.{IfTold, Both};
@@ -54,7 +54,7 @@ impl<D: Disk> Model for Journal<D> {
 impl<D: Disk> Journal<D> {
     ghost use Rattle.disk_model.specs.Devices.{Measures, Idles};
     ghost use Rattle.vob_journal.specs.declared.left.Left.TheVariants as lefts;
-    ghost use Rattle.vob_journal.specs.Answered.{Gives, Ends, SettledAtEnd, OneMore, OneFault};
+    ghost use Rattle.vob_journal.specs.Answered.{Gives, Ends, SettledAtEnd, OneMore, OneFault, MakesNoCall};
     ghost use Rattle.vob_journal.specs.Calls.{committed, settled_first};
     ghost use Rattle.vob_journal.specs.Frames.{frames};
     ghost use Rattle.vob_journal.specs.Lefts.{loose_after, settled_after};
@@ -153,8 +153,8 @@ impl<D: Disk> Journal<D> {
         }
     }
 
-    /// Settles the tail: where it is not settled, one byte 0 is written there and synced. Afterwards each stop leaves the
-    /// list and no more.
+    /// Settles the tail: where it is not settled, one byte 0 is written there and synced; where it is, the disk is as it
+    /// was. Afterwards each stop leaves the list and no more.
     pub fn settle(&mut self) -> Result<(), DiskFault>
         requires { self.old.ended ≡ true }
         ensures moves { Both (Moves self.old.list self.old.loose self.new.list self.new.loose) (D.sight self.old.disk).told (D.sight self.new.disk).told }
@@ -165,6 +165,7 @@ impl<D: Disk> Journal<D> {
         ensures left { MatchResult result (λ _. self.new.left ≡ lefts.Nothing) (λ _. self.new.left ≡ lefts.Earlier) }
         ensures settled { self.new.settled ≡ settled_after self.new.left }
         ensures ended { self.new.ended ≡ true }
+        ensures rests { self.old.settled ≡ true → MakesNoCall result self.old.disk self.new.disk }
         ensures costs { Spends (if self.old.settled then 0 else 2) result (D.sight self.old.disk) (D.sight self.new.disk) }
     {
         match settle_tail(&mut self.disk, self.settled, self.tail) {
@@ -195,13 +196,6 @@ impl<D: Disk> Journal<D> {
         ensures now { IfTold (D.sight self.now.disk).told (λ d. (image : List ℕ) → LeavesNow 0 d image → Stands self.now.list self.now.loose image) }
     {
         self.disk.counts()
-    }
-
-    /// Whether the disk tells its device.
-    pub fn tells(&self) -> bool
-        ensures { result ≡ is_some (D.sight self.now.disk).told }
-    {
-        self.disk.tells()
     }
 
     /// The disk.

@@ -3,6 +3,7 @@
 ghost use Rattle.std.specs.Prelude.{◌≡◌, ◌≤◌, ◌<◌, ◌+◌, ◌^◌, ◌∷◌, [], Bool, true, false, length, IfOk, MatchResult, if◌then◌else◌};
 ghost use Rattle.disk_model.specs.Devices.{bytes_of};
 ghost use Rattle.disk_model.specs.Told.{IfTold, Both};
+ghost use Rattle.vob_journal.specs.Answered.{MakesNoCall};
 ghost use Rattle.vob_journal.specs.Tails.{IsTail};
 ghost use Rattle.vob_journal.specs.Calls.{Keeps, Settles, StaysLoose, Commits, Fails};
 ghost use Rattle.vob_journal.specs.Phases.{PutsDown, FailsToPut, Stages, IsStagedAt, Opens, MayOpen, Spends, calls_of};
@@ -32,6 +33,7 @@ fn put_down<D: Disk>(disk: &mut D, place: u64, piece: &[u8]) -> Result<(), DiskF
 pub(crate) fn settle_tail<D: Disk>(disk: &mut D, settled: bool, tail: u64) -> Result<(), DiskFault>
     requires { IfTold (D.sight disk.old).told (IsTail settled tail) }
     ensures told { MatchResult result (λ _. Both (Settles settled tail) (D.sight disk.old).told (D.sight disk.new).told) (λ _. Both (StaysLoose settled tail) (D.sight disk.old).told (D.sight disk.new).told) }
+    ensures rests { settled ≡ true → MakesNoCall result disk.old disk.new }
     ensures counts { Spends (if settled then 0 else 2) result (D.sight disk.old) (D.sight disk.new) }
 {
     if settled {

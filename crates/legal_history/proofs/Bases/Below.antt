@@ -10,9 +10,9 @@ use Rattle.cc_names.specs.declared.changes.TreeChange.{TreeChange}
 use Rattle.cc_names.specs.declared.changes.TreeChange.TheVariants.{ElementMade, BranchMade, VersionMade}
 use Rattle.cc_names.specs.declared.rows.Deed.{Deed}
 use Rattle.cc_names.specs.declared.rows.Deed.TheVariants as deeds
-use Rattle.legal_history.specs.Base.{Base, size}
-use Rattle.legal_history.specs.Changes.{tree, tree_after, with_version, with_checkin}
-use Rattle.legal_history.specs.Views.{Checkout, out}
+use Rattle.legal_history.specs.Base.Rows.{Base, size}
+use Rattle.legal_history.specs.Base.Changes.{tree, tree_after, with_version, with_checkin}
+use Rattle.legal_history.specs.Base.Views.{Checkout, out}
 
 -- what holds where it is set, and stays when rows are added, holds of what was set last
 pub last_holds : {X A : Type 0} (P : List X → A → Type 0) (effect : List X → X → Effect A) →

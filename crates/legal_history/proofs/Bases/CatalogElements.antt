@@ -13,9 +13,9 @@ use Rattle.cc_names.specs.declared.changes.TreeChange.TheVariants.{ElementMade}
 use Rattle.cc_names.specs.declared.rows.Deed.{Deed}
 use Rattle.cc_names.specs.declared.rows.Deed.TheVariants as deeds
 use Rattle.cc_names.specs.declared.rows.Kind.{Kind}
-use Rattle.legal_history.specs.Base.{Base, size}
-use Rattle.legal_history.specs.Catalogs.{Catalog, Edit, Same, BeginsEmpty, BeginsAs, Adds, Removes, Renames, CatalogSource, Empty, OfVersion, OfCheckout, named, with_name, without_name, with_new_name, edited, edit_of, edit_where, first_edit, is_out, catalog_source, made_or_older, catalog_of, own_of}
-use Rattle.legal_history.specs.Changes.{tree}
+use Rattle.legal_history.specs.Base.Rows.{Base, size}
+use Rattle.legal_history.specs.Base.Catalogs.{Catalog, Edit, Same, BeginsEmpty, BeginsAs, Adds, Removes, Renames, CatalogSource, Empty, OfVersion, OfCheckout, named, with_name, without_name, with_new_name, edited, edit_of, edit_where, first_edit, is_out, catalog_source, made_or_older, catalog_of, own_of}
+use Rattle.legal_history.specs.Base.Changes.{tree}
 use Rattle.legal_history.proofs.Bases.Owned.{same_is_same}
 use Rattle.legal_history.proofs.Bases.VersionsStay.{kind_stays}
 

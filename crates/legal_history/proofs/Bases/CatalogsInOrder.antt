@@ -5,8 +5,8 @@ use Rattle.std.specs.Cmp.Lexicographic.{slice_cmp}
 use Rattle.std.specs.FinMap.Entries.{is_sorted, is_sorted-put, is_sorted-where_key}
 use Rattle.std.specs.Ordering.{nat_cmp}
 use Rattle.std.specs.Prelude.{T, bytes_eq}
-use Rattle.legal_history.specs.Base.{Base, size}
-use Rattle.legal_history.specs.Catalogs.{Catalog, Edit, Same, BeginsEmpty, BeginsAs, Adds, Removes, Renames, CatalogSource, Empty, OfVersion, OfCheckout, named, without_name, with_new_name, edited, edit_of, catalog_source, made_or_older, catalog_of, own_of}
+use Rattle.legal_history.specs.Base.Rows.{Base, size}
+use Rattle.legal_history.specs.Base.Catalogs.{Catalog, Edit, Same, BeginsEmpty, BeginsAs, Adds, Removes, Renames, CatalogSource, Empty, OfVersion, OfCheckout, named, without_name, with_new_name, edited, edit_of, catalog_source, made_or_older, catalog_of, own_of}
 use Rattle.legal_history.proofs.Bases.HeldObjects.{true_by}
 
 abbrev InOrder : Catalog → Type 0

@@ -5,7 +5,7 @@ use Rattle.std.proofs.lemmas.Slice.Eq.{bytes_eq-Decides}
 use Rattle.std.specs.Prelude.{bytes_eq}
 use Rattle.cc_names.specs.References.{Held, count, is_held_by, one_where}
 use Rattle.cc_names.specs.Versions.{put_if}
-use Rattle.legal_history.specs.Closures.{is_among}
+use Rattle.legal_history.specs.Base.Closures.{is_among}
 use Rattle.legal_history.specs.Laws.Counts.{AreOnce, holding_views}
 
 -- a view among those that hold an object, one entry more

@@ -2,7 +2,7 @@
 use Rattle.std.proofs.Common.{◌≡◌, refl, ℕ, suc, ◌<◌, Bool, true, false, ◌==◌, Option, Some, [], ◌∷◌, arith}
 use Rattle.cc_names.specs.Formed.{Plain}
 use Rattle.cc_names.specs.declared.rows.Deed.{Deed}
-use Rattle.legal_history.specs.Base.{Base, size, row_at, deed_of, deed_at}
+use Rattle.legal_history.specs.Base.Rows.{Base, size, row_at, deed_of, deed_at}
 use Rattle.legal_history.proofs.Stories.Goes.{same_number}
 
 pub deed_below : (b : Base) (r : ℕ) (deed : Deed) → deed_at b r ≡ Some deed → r < size b

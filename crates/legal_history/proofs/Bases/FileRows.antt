@@ -10,12 +10,12 @@ use Rattle.cc_names.specs.declared.rows.Kind.TheVariants.{File, Directory}
 use Rattle.cc_names.specs.declared.selection.Picked.{Picked}
 use Rattle.cc_names.specs.declared.selection.Seen.{Seen}
 use Rattle.cc_names.specs.declared.selection.Seen.TheVariants.{Private, Element, Unselected, Nothing}
-use Rattle.legal_history.specs.Base.{Base, size, deed_of, deed_at}
-use Rattle.legal_history.specs.Changes.{tree}
-use Rattle.legal_history.specs.Closures.{is_version_of}
-use Rattle.legal_history.specs.Conditions.{element_of_text, is_put, is_file, is_file_kind, is_some_file, makes_file_text}
-use Rattle.legal_history.specs.Fits.{is_base}
-use Rattle.legal_history.specs.Seen.{at, file_at, file_seen, row_of_file}
+use Rattle.legal_history.specs.Base.Rows.{Base, size, deed_of, deed_at}
+use Rattle.legal_history.specs.Base.Changes.{tree}
+use Rattle.legal_history.specs.Base.Closures.{is_version_of}
+use Rattle.legal_history.specs.Base.Conditions.{element_of_text, is_put, is_file, is_file_kind, is_some_file, makes_file_text}
+use Rattle.legal_history.specs.Base.Fits.{is_base}
+use Rattle.legal_history.specs.Base.Seen.{at, file_at, file_seen, row_of_file}
 use Rattle.legal_history.proofs.Decisions.FileFits.{private_at}
 use Rattle.legal_history.proofs.Builds.FreshSeen.{or_first, or_second}
 use Rattle.legal_history.proofs.Bases.Makings.{seen_element}

@@ -14,15 +14,15 @@ use Rattle.cc_names.specs.declared.rows.Kind.TheVariants.{File, Directory}
 use Rattle.cc_names.specs.declared.selection.Picked.{Picked}
 use Rattle.cc_names.specs.declared.selection.Seen.{Seen}
 use Rattle.cc_names.specs.declared.selection.Seen.TheVariants.{Private, Element, Unselected, Nothing}
-use Rattle.legal_history.specs.Base.{Base, size, first_rows}
-use Rattle.legal_history.specs.Changes.{tree}
-use Rattle.legal_history.specs.Choices.{text_of_row}
-use Rattle.legal_history.specs.Fits.{is_base}
-use Rattle.legal_history.specs.Fresh.{texts}
-use Rattle.legal_history.specs.Growth.{Extends}
-use Rattle.legal_history.specs.Seen.{at, file_at, file_seen, row_of_file}
-use Rattle.legal_history.specs.Texts.{text}
-use Rattle.legal_history.specs.Views.{Checkout, TakenOut, out_effect, making, making_effect, making_of_out, made_out, taken_out, checkout_of_element, checkout_of_branch, private, private_effect}
+use Rattle.legal_history.specs.Base.Rows.{Base, size, first_rows}
+use Rattle.legal_history.specs.Base.Changes.{tree}
+use Rattle.legal_history.specs.Builds.Choices.{text_of_row}
+use Rattle.legal_history.specs.Base.Fits.{is_base}
+use Rattle.legal_history.specs.Builds.Fresh.{texts}
+use Rattle.legal_history.specs.Stories.Growth.{Extends}
+use Rattle.legal_history.specs.Base.Seen.{at, file_at, file_seen, row_of_file}
+use Rattle.legal_history.specs.Base.Texts.{text}
+use Rattle.legal_history.specs.Base.Views.{Checkout, TakenOut, out_effect, making, making_effect, making_of_out, made_out, taken_out, checkout_of_element, checkout_of_branch, private, private_effect}
 use Rattle.legal_history.proofs.Bases.Below.{within, last_holds}
 use Rattle.legal_history.proofs.Decisions.FileFits.{private_at}
 use Rattle.legal_history.proofs.Bases.Makings.{seen_element}

@@ -4,10 +4,10 @@ use Rattle.std.proofs.lemmas.Bool.Decides.{nat_tests}
 use Rattle.cc_names.specs.Labels.{holder}
 use Rattle.cc_names.specs.Versions.{of_first_rows}
 use Rattle.cc_names.specs.declared.changes.TreeChange.{TreeChange}
-use Rattle.legal_history.specs.Base.{Base, size, first_rows}
-use Rattle.legal_history.specs.Changes.{tree, labels}
-use Rattle.legal_history.specs.Fresh.{texts}
-use Rattle.legal_history.specs.Seen.{at, file_at, directory_at}
+use Rattle.legal_history.specs.Base.Rows.{Base, size, first_rows}
+use Rattle.legal_history.specs.Base.Changes.{tree, labels}
+use Rattle.legal_history.specs.Builds.Fresh.{texts}
+use Rattle.legal_history.specs.Base.Seen.{at, file_at, directory_at}
 use Rattle.legal_history.proofs.Bases.Stay.{first_rows_stay_all}
 use Rattle.legal_history.proofs.Bases.TreesStay.{tree_of_first_rows, labels_of_first}
 use Rattle.legal_history.specs.Laws.FirstRows.{SayTheSame}

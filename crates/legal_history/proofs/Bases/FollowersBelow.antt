@@ -6,11 +6,11 @@ use Rattle.cc_names.specs.Versions.{Version, change_at, is_number, numbered, row
 use Rattle.cc_names.specs.declared.changes.TreeChange.{TreeChange}
 use Rattle.cc_names.specs.declared.rows.Deed.{Deed}
 use Rattle.cc_names.specs.declared.rows.Deed.TheVariants as deeds
-use Rattle.legal_history.specs.Base.{Base, size}
-use Rattle.legal_history.specs.Changes.{tree}
-use Rattle.legal_history.specs.Closures.{is_version_of}
-use Rattle.legal_history.specs.Fits.{deed_fits, is_base}
-use Rattle.legal_history.specs.Merges.{follows, is_arrow_between, is_branch_from, is_successor, leads}
+use Rattle.legal_history.specs.Base.Rows.{Base, size}
+use Rattle.legal_history.specs.Base.Changes.{tree}
+use Rattle.legal_history.specs.Base.Closures.{is_version_of}
+use Rattle.legal_history.specs.Base.Fits.{deed_fits, is_base}
+use Rattle.legal_history.specs.Queries.Merges.{follows, is_arrow_between, is_branch_from, is_successor, leads}
 use Rattle.legal_history.proofs.Bases.Below.{within}
 use Rattle.legal_history.proofs.Stories.Goes.{same_number}
 use Rattle.legal_history.proofs.Bases.OnBranches.{all_stand}

@@ -12,10 +12,10 @@ use Rattle.cc_names.specs.declared.changes.ReferenceChange.{ReferenceChange}
 use Rattle.cc_names.specs.declared.changes.ReferenceChange.TheVariants.{Won, Lost, ViewGone}
 use Rattle.cc_names.specs.declared.rows.Deed.{Deed}
 use Rattle.cc_names.specs.declared.rows.Deed.TheVariants as deeds
-use Rattle.legal_history.specs.Base.{Base, size}
-use Rattle.legal_history.specs.Changes.{held, holdings, holdings_after, live, live_effect, targets_of}
-use Rattle.legal_history.specs.Conditions.{exists, may_be_scrubbed}
-use Rattle.legal_history.specs.Fits.{deed_fits, is_base}
+use Rattle.legal_history.specs.Base.Rows.{Base, size}
+use Rattle.legal_history.specs.Base.Changes.{held, holdings, holdings_after, live, live_effect, targets_of}
+use Rattle.legal_history.specs.Base.Conditions.{exists, may_be_scrubbed}
+use Rattle.legal_history.specs.Base.Fits.{deed_fits, is_base}
 use Rattle.legal_history.proofs.Builds.FreshSeen.{or_first, or_second}
 use Rattle.legal_history.proofs.Stories.Goes.{same_number}
 use Rattle.legal_history.proofs.Bases.Owned.{row_fits, rows_below, and_first, and_second, same_is_same}

@@ -12,9 +12,9 @@ use Rattle.std.specs.Prelude.{bytes_eq}
 use Rattle.cc_names.specs.References.{Place, Held, place_cmp, is_place, won, lost, view_gone, held_at, references}
 use Rattle.cc_names.specs.declared.rows.Deed.{Deed}
 use Rattle.cc_names.specs.declared.rows.Deed.TheVariants as deeds
-use Rattle.legal_history.specs.Base.{Base, size}
-use Rattle.legal_history.specs.Changes.{held, holdings, holdings_after, targets_of}
-use Rattle.legal_history.specs.Closures.{is_among}
+use Rattle.legal_history.specs.Base.Rows.{Base, size}
+use Rattle.legal_history.specs.Base.Changes.{held, holdings, holdings_after, targets_of}
+use Rattle.legal_history.specs.Base.Closures.{is_among}
 use Rattle.legal_history.proofs.Bases.Owned.{and_first, and_second}
 use Rattle.legal_history.proofs.Bases.HeldObjects.{places_total}
 

@@ -15,11 +15,11 @@ use Rattle.cc_names.specs.declared.changes.Place.{Place}
 use Rattle.cc_names.specs.declared.rows.Deed.{Deed}
 use Rattle.cc_names.specs.declared.rows.Deed.TheVariants as deeds
 use Rattle.cc_names.specs.declared.rows.Placed.{Placed}
-use Rattle.legal_history.specs.Base.{Base, size}
-use Rattle.legal_history.specs.Changes.{tree, labels, labels_after, all_placed}
-use Rattle.legal_history.specs.Closures.{Sources, Listing, is_version_of, listing_of, version_listed, with_version_at, greater_of}
-use Rattle.legal_history.specs.Conditions.{is_label_type, is_placed}
-use Rattle.legal_history.specs.Fits.{is_base, deed_fits}
+use Rattle.legal_history.specs.Base.Rows.{Base, size}
+use Rattle.legal_history.specs.Base.Changes.{tree, labels, labels_after, all_placed}
+use Rattle.legal_history.specs.Base.Closures.{Sources, Listing, is_version_of, listing_of, version_listed, with_version_at, greater_of}
+use Rattle.legal_history.specs.Base.Conditions.{is_label_type, is_placed}
+use Rattle.legal_history.specs.Base.Fits.{is_base, deed_fits}
 use Rattle.legal_history.proofs.Stories.Goes.{same_number}
 use Rattle.legal_history.proofs.Bases.Owned.{row_fits, rows_below, and_first, and_second}
 use Rattle.legal_history.proofs.Stories.Tables.{find_after_put}

@@ -7,9 +7,9 @@ use Rattle.std.specs.Ordering.{nat_cmp}
 use Rattle.std.specs.Prelude.{T}
 use Rattle.cc_names.specs.declared.changes.Place.{Place}
 use Rattle.cc_names.specs.Versions.{place}
-use Rattle.legal_history.specs.Base.{Base}
-use Rattle.legal_history.specs.Changes.{tree}
-use Rattle.legal_history.specs.Closures.{Source, Sources, greater_of, is_of_element, is_version_of, with_version_at, version_listed, listing_of}
+use Rattle.legal_history.specs.Base.Rows.{Base}
+use Rattle.legal_history.specs.Base.Changes.{tree}
+use Rattle.legal_history.specs.Base.Closures.{Source, Sources, greater_of, is_of_element, is_version_of, with_version_at, version_listed, listing_of}
 use Rattle.legal_history.proofs.Stories.Goes.{same_number}
 use Rattle.legal_history.proofs.Stories.Tables.{find_after_put}
 use Rattle.legal_history.specs.Laws.Listed.{RestsOn, IsListed}

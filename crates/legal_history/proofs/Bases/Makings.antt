@@ -1,7 +1,7 @@
 -- A view has out what it makes anew; and what stands at a path as an element is one, with what was picked of it.
-use Rattle.std.proofs.Common.{◌≡◌, refl, ap, subst, ◌∙◌, ℕ, Bool, true, false, ◌&&◌, ◌==◌, Option, Some, None, List, [], ◌∷◌}
+use Rattle.std.proofs.Common.{◌≡◌, refl, ap, sym, subst, ◌∙◌, ℕ, Bool, true, false, ◌&&◌, ◌==◌, Option, Some, None, List, [], ◌∷◌}
 use Rattle.std.proofs.lemmas.Slice.Eq.{bytes_eq-Decides}
-use Rattle.std.specs.Prelude.{is_some, bytes_eq, reverse}
+use Rattle.std.specs.Prelude.{is_some, bytes_eq, if◌then◌else◌, length, nat_le, reverse}
 use Rattle.cc_names.specs.Last.{Effect, Keeps, Ends, Sets, only_if, left}
 use Rattle.cc_names.specs.Paths.{joined}
 use Rattle.cc_names.specs.Versions.{kind_of}
@@ -12,13 +12,13 @@ use Rattle.cc_names.specs.declared.rows.Kind.TheVariants.{File, Directory}
 use Rattle.cc_names.specs.declared.selection.Picked.{Picked}
 use Rattle.cc_names.specs.declared.selection.Seen.{Seen}
 use Rattle.cc_names.specs.declared.selection.Seen.TheVariants.{Private, Element, Unselected, Nothing}
-use Rattle.legal_history.specs.Base.{Base, size}
-use Rattle.legal_history.specs.Catalogs.{Catalog, named, own_of, catalog_of}
-use Rattle.legal_history.specs.Changes.{tree}
-use Rattle.legal_history.specs.Conditions.{has_out, is_file}
-use Rattle.legal_history.specs.Fits.{is_base, deed_fits}
-use Rattle.legal_history.specs.Seen.{at_names, as_seen, below, private_or, element_at, entries_of, entries_by, catalog_by, selected}
-use Rattle.legal_history.specs.Views.{Checkout, out, out_effect, making, making_effect, making_of_out, private}
+use Rattle.legal_history.specs.Base.Rows.{Base, size}
+use Rattle.legal_history.specs.Base.Catalogs.{Catalog, named, own_of, catalog_of}
+use Rattle.legal_history.specs.Base.Changes.{tree}
+use Rattle.legal_history.specs.Base.Conditions.{has_out, is_file}
+use Rattle.legal_history.specs.Base.Fits.{is_base, deed_fits}
+use Rattle.legal_history.specs.Base.Seen.{at_names, as_seen, below, path_limit, private_or, unless_long, element_at, entries_of, entries_by, catalog_by, selected}
+use Rattle.legal_history.specs.Base.Views.{Checkout, out, out_effect, making, making_effect, making_of_out, private}
 use Rattle.legal_history.proofs.Bases.CatalogElements.{IsElement, AllElements, catalogued, named_element, element_stays}
 use Rattle.legal_history.proofs.Stories.Goes.{same_number}
 use Rattle.legal_history.proofs.Bases.Owned.{row_fits, rows_below, and_first, and_second}
@@ -73,9 +73,17 @@ seen_of b v names f e picked h is = by (selected b v f names) refl is
         let same : p ≡ picked = cc in
         subst (λ e. SeenElement b v names e picked) number (record { element = h; picks = found ∙ ap Some same })
 
+-- what is seen at a path stands there
+pub short_is_seen : (path : List ℕ) (stands seen : Seen) → (seen ≡ Nothing → ⊥) → unless_long path stands ≡ seen → stands ≡ seen
+short_is_seen path stands seen never h = by (nat_le (length path) path_limit) h
+  where
+    by : (short : Bool) → (if short then stands else Nothing) ≡ seen → stands ≡ seen
+    by true is = is
+    by false is = absurd (never (sym is))
+
 in_entries : (b : Base) (v : List ℕ) (names : List (List ℕ)) (name : List ℕ) (entries : Catalog) (e : ℕ) (picked : Picked) → AllElements b entries →
-    private_or (private b v (joined names)) (element_at b v names (named name entries)) ≡ Element e picked → SeenElement b v names e picked
-in_entries b v names name entries e picked h is = by (private b v (joined names)) is
+    unless_long (joined names) (private_or (private b v (joined names)) (element_at b v names (named name entries))) ≡ Element e picked → SeenElement b v names e picked
+in_entries b v names name entries e picked h is = by (private b v (joined names)) (short_is_seen (joined names) _ (Element e picked) (λ e. cc) is)
   where
     by_name : (o : Option ℕ) → named name entries ≡ o → element_at b v names o ≡ Element e picked → SeenElement b v names e picked
     by_name None found is = absurd (cc)

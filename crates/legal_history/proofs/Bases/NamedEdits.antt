@@ -10,12 +10,12 @@ use Rattle.cc_names.specs.declared.rows.Deed.{Deed}
 use Rattle.cc_names.specs.declared.rows.Deed.TheVariants as deeds
 use Rattle.cc_names.specs.declared.rows.Kind.{Kind}
 use Rattle.cc_names.specs.declared.rows.Tag.{Tag}
-use Rattle.legal_history.specs.Base.{Base, size, row_at, deed_of, deed_at}
-use Rattle.legal_history.specs.Catalogs.{Catalog, Edit, Same, BeginsEmpty, BeginsAs, Adds, Removes, Renames, named, without_name, with_new_name, edited, edit_of, edit_where, first_edit, is_out, catalog_of}
-use Rattle.legal_history.specs.Checkouts.{is_latest}
-use Rattle.legal_history.specs.Closures.{is_version_of}
-use Rattle.legal_history.specs.Conditions.{exists, has_out, is_branch_type, has_branch}
-use Rattle.legal_history.specs.Fits.{deed_fits, may_reserve}
+use Rattle.legal_history.specs.Base.Rows.{Base, size, row_at, deed_of, deed_at}
+use Rattle.legal_history.specs.Base.Catalogs.{Catalog, Edit, Same, BeginsEmpty, BeginsAs, Adds, Removes, Renames, named, without_name, with_new_name, edited, edit_of, edit_where, first_edit, is_out, catalog_of}
+use Rattle.legal_history.specs.Base.Checkouts.{is_latest}
+use Rattle.legal_history.specs.Base.Closures.{is_version_of}
+use Rattle.legal_history.specs.Base.Conditions.{exists, has_out, is_branch_type, has_branch}
+use Rattle.legal_history.specs.Base.Fits.{deed_fits, may_reserve}
 use Rattle.legal_history.proofs.Stories.Goes.{same_number}
 use Rattle.legal_history.proofs.Bases.Owned.{and_first, and_second, third_of, same_is_same}
 use Rattle.legal_history.proofs.Bases.Stay.{row_stays}

@@ -6,11 +6,11 @@ use Rattle.cc_names.specs.Formed.{Plain}
 use Rattle.cc_names.specs.declared.rows.Deed.{Deed}
 use Rattle.cc_names.specs.declared.rows.Deed.TheVariants as deeds
 use Rattle.cc_names.specs.declared.rows.Tag.{Tag}
-use Rattle.legal_history.specs.Base.{Base, size}
-use Rattle.legal_history.specs.Catalogs.{named, edit_of, catalog_source, made_or_older, catalog_of, own_of}
-use Rattle.legal_history.specs.Closures.{is_version_of}
-use Rattle.legal_history.specs.Conditions.{exists, has_out, is_branch_type, has_branch}
-use Rattle.legal_history.specs.Fits.{deed_fits, is_base}
+use Rattle.legal_history.specs.Base.Rows.{Base, size}
+use Rattle.legal_history.specs.Base.Catalogs.{named, edit_of, catalog_source, made_or_older, catalog_of, own_of}
+use Rattle.legal_history.specs.Base.Closures.{is_version_of}
+use Rattle.legal_history.specs.Base.Conditions.{exists, has_out, is_branch_type, has_branch}
+use Rattle.legal_history.specs.Base.Fits.{deed_fits, is_base}
 use Rattle.legal_history.proofs.Stories.Goes.{same_number}
 use Rattle.legal_history.proofs.Bases.Owned.{row_fits, rows_below, third_of}
 use Rattle.legal_history.specs.Laws.Directories.{directory_of}

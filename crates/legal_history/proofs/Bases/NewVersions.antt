@@ -10,12 +10,12 @@ use Rattle.cc_names.specs.declared.changes.TreeChange.TheVariants.{BranchMade, V
 use Rattle.cc_names.specs.declared.rows.Deed.TheVariants as deeds
 use Rattle.cc_names.specs.declared.rows.Out.{Out}
 use Rattle.cc_names.specs.declared.rows.Tag.{Tag}
-use Rattle.legal_history.specs.Base.{Base, size}
-use Rattle.legal_history.specs.Changes.{tree, with_version, with_checkin}
-use Rattle.legal_history.specs.Closures.{is_version_of}
-use Rattle.legal_history.specs.Conditions.{may_check_in}
-use Rattle.legal_history.specs.Fits.{is_base}
-use Rattle.legal_history.specs.Views.{Checkout, out}
+use Rattle.legal_history.specs.Base.Rows.{Base, size}
+use Rattle.legal_history.specs.Base.Changes.{tree, with_version, with_checkin}
+use Rattle.legal_history.specs.Base.Closures.{is_version_of}
+use Rattle.legal_history.specs.Base.Conditions.{may_check_in}
+use Rattle.legal_history.specs.Base.Fits.{is_base}
+use Rattle.legal_history.specs.Base.Views.{Checkout, out}
 use Rattle.legal_history.proofs.Bases.Below.{within, older_change}
 use Rattle.legal_history.proofs.Bases.OnBranches.{all_stand, branch_version}
 use Rattle.legal_history.proofs.Bases.Origins.{newest_change, newest_version, out_is_version}

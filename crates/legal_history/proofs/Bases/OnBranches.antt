@@ -5,9 +5,9 @@ use Rattle.cc_names.specs.Versions.{Version, row_of_change, branch_of_change, ch
 use Rattle.cc_names.specs.declared.changes.TreeChange.{TreeChange}
 use Rattle.cc_names.specs.declared.changes.TreeChange.TheVariants.{ElementMade}
 use Rattle.cc_names.specs.declared.rows.Kind.TheVariants.{Directory}
-use Rattle.legal_history.specs.Base.{Base, size}
-use Rattle.legal_history.specs.Changes.{tree}
-use Rattle.legal_history.specs.Closures.{is_version_of}
+use Rattle.legal_history.specs.Base.Rows.{Base, size}
+use Rattle.legal_history.specs.Base.Changes.{tree}
+use Rattle.legal_history.specs.Base.Closures.{is_version_of}
 use Rattle.legal_history.proofs.Bases.Below.{Within, within, older_change}
 use Rattle.legal_history.proofs.Stories.Goes.{same_number}
 use Rattle.legal_history.proofs.Bases.Origins.{newest_change, newest_version}

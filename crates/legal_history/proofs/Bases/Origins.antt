@@ -11,13 +11,13 @@ use Rattle.cc_names.specs.declared.rows.Deed.TheVariants as deeds
 use Rattle.cc_names.specs.declared.rows.Tag.{Tag}
 use Rattle.cc_names.specs.declared.rows.Out.{Out}
 use Rattle.cc_names.specs.declared.rows.Out.TheVariants as outs
-use Rattle.legal_history.specs.Base.{Base, size}
-use Rattle.legal_history.specs.Changes.{tree}
-use Rattle.legal_history.specs.Checkouts.{is_latest}
-use Rattle.legal_history.specs.Conditions.{exists, has_out}
-use Rattle.legal_history.specs.Closures.{is_of_element, is_version_of}
-use Rattle.legal_history.specs.Fits.{deed_fits, is_base, may_reserve}
-use Rattle.legal_history.specs.Views.{Checkout, TakenOut, made_out, taken_out, checkout_of_element, checkout_of_branch, set_by, out_effect, out}
+use Rattle.legal_history.specs.Base.Rows.{Base, size}
+use Rattle.legal_history.specs.Base.Changes.{tree}
+use Rattle.legal_history.specs.Base.Checkouts.{is_latest}
+use Rattle.legal_history.specs.Base.Conditions.{exists, has_out}
+use Rattle.legal_history.specs.Base.Closures.{is_of_element, is_version_of}
+use Rattle.legal_history.specs.Base.Fits.{deed_fits, is_base, may_reserve}
+use Rattle.legal_history.specs.Base.Views.{Checkout, TakenOut, made_out, taken_out, checkout_of_element, checkout_of_branch, set_by, out_effect, out}
 use Rattle.legal_history.proofs.Bases.Below.{last_holds}
 use Rattle.legal_history.proofs.Stories.Goes.{same_number}
 use Rattle.legal_history.proofs.Bases.Owned.{row_fits, rows_below, same_is_same, third_of, and_second}

@@ -8,9 +8,9 @@ use Rattle.cc_names.specs.declared.rows.Deed.TheVariants as deeds
 use Rattle.cc_names.specs.declared.rows.Kind.{Kind}
 use Rattle.cc_names.specs.declared.rows.Out.{Out}
 use Rattle.cc_names.specs.declared.rows.Out.TheVariants as outs
-use Rattle.legal_history.specs.Base.{Base, size, deed_of, deed_at}
-use Rattle.legal_history.specs.Conditions.{element_of_text, is_put}
-use Rattle.legal_history.specs.Views.{Checkout, TakenOut, checkout_of_element, checkout_of_branch, made_out, making, making_effect, making_of_out, out_effect, private, private_effect, taken_out}
+use Rattle.legal_history.specs.Base.Rows.{Base, size, deed_of, deed_at}
+use Rattle.legal_history.specs.Base.Conditions.{element_of_text, is_put}
+use Rattle.legal_history.specs.Base.Views.{Checkout, TakenOut, checkout_of_element, checkout_of_branch, made_out, making, making_effect, making_of_out, out_effect, private, private_effect, taken_out}
 use Rattle.legal_history.proofs.Bases.Below.{last_holds}
 use Rattle.legal_history.proofs.Stories.Goes.{same_number}
 use Rattle.legal_history.proofs.Bases.Origins.{out_sets, set_is}

@@ -12,12 +12,12 @@ use Rattle.cc_names.specs.declared.rows.Deed.{Deed}
 use Rattle.cc_names.specs.declared.rows.Deed.TheVariants as deeds
 use Rattle.cc_names.specs.declared.rows.Kind.{Kind}
 use Rattle.cc_names.specs.declared.rows.Kind.TheVariants.{Directory}
-use Rattle.legal_history.specs.Base.{Base, size}
-use Rattle.legal_history.specs.Changes.{tree, tree_after, with_version, with_checkin}
-use Rattle.legal_history.specs.Closures.{is_version_of}
-use Rattle.legal_history.specs.Conditions.{exists, has_out, is_branch_type, has_branch}
-use Rattle.legal_history.specs.Fits.{deed_fits, is_base}
-use Rattle.legal_history.specs.Views.{Checkout, out}
+use Rattle.legal_history.specs.Base.Rows.{Base, size}
+use Rattle.legal_history.specs.Base.Changes.{tree, tree_after, with_version, with_checkin}
+use Rattle.legal_history.specs.Base.Closures.{is_version_of}
+use Rattle.legal_history.specs.Base.Conditions.{exists, has_out, is_branch_type, has_branch}
+use Rattle.legal_history.specs.Base.Fits.{deed_fits, is_base}
+use Rattle.legal_history.specs.Base.Views.{Checkout, out}
 use Rattle.legal_history.proofs.Bases.Below.{Within, within, older_change}
 use Rattle.legal_history.proofs.Bases.VersionsStay.{parts_of, owner_change, of_element}
 

@@ -13,12 +13,12 @@ use Rattle.cc_names.specs.declared.selection.Rule.{Rule}
 use Rattle.cc_names.specs.declared.selection.Selector.{Selector}
 use Rattle.cc_names.specs.declared.selection.Selector.TheVariants as selectors
 use Rattle.spec_text.specs.Rules.{finds, found_by, is_checkout, deciding, picked_by, branch_of_type}
-use Rattle.legal_history.specs.Base.{Base, size, only_where}
-use Rattle.legal_history.specs.Changes.{tree, targets_of}
-use Rattle.legal_history.specs.Closures.{is_version_of, listed, listing, closure, is_among}
-use Rattle.legal_history.specs.Fits.{is_base}
-use Rattle.legal_history.specs.Seen.{sources, selected, rules}
-use Rattle.legal_history.specs.Views.{making}
+use Rattle.legal_history.specs.Base.Rows.{Base, size, only_where}
+use Rattle.legal_history.specs.Base.Changes.{tree, targets_of}
+use Rattle.legal_history.specs.Base.Closures.{is_version_of, listed, listing, closure, is_among}
+use Rattle.legal_history.specs.Base.Fits.{is_base}
+use Rattle.legal_history.specs.Base.Seen.{sources, selected, rules}
+use Rattle.legal_history.specs.Base.Views.{making}
 use Rattle.legal_history.proofs.Bases.Below.{Within, within, older_change, found_change}
 use Rattle.legal_history.proofs.Bases.CatalogElements.{IsElement}
 use Rattle.legal_history.proofs.Stories.Goes.{same_number}

@@ -16,12 +16,12 @@ use Rattle.cc_names.specs.declared.refusals.Refusal.TheVariants as refusals
 use Rattle.cc_names.specs.declared.rows.Deed.{Deed}
 use Rattle.cc_names.specs.declared.rows.Deed.TheVariants as deeds
 use Rattle.cc_names.specs.declared.rows.Placed.{Placed}
-use Rattle.legal_history.specs.Base.{Base, only_where}
-use Rattle.legal_history.specs.Changes.{held, targets_of, tree}
-use Rattle.legal_history.specs.Closures.{Source, Sources, Listing, closure, is_among, listing, listed}
-use Rattle.legal_history.specs.Decisions.{Scene, Makes}
-use Rattle.legal_history.specs.LabelLines.{as_placed, placed_by, labels_or_nothing, mklabel_config_tests, object_held, outsider_among}
-use Rattle.legal_history.specs.Lines.{decision}
+use Rattle.legal_history.specs.Base.Rows.{Base, only_where}
+use Rattle.legal_history.specs.Base.Changes.{held, targets_of, tree}
+use Rattle.legal_history.specs.Base.Closures.{Source, Sources, Listing, closure, is_among, listing, listed}
+use Rattle.legal_history.specs.Commands.Decisions.{Scene, Makes}
+use Rattle.legal_history.specs.Commands.LabelLines.{as_placed, placed_by, labels_or_nothing, mklabel_config_tests, object_held, outsider_among}
+use Rattle.legal_history.specs.Commands.Lines.{decision}
 use Rattle.legal_history.proofs.Stories.Goes.{same_number}
 use Rattle.legal_history.proofs.Bases.Owned.{and_first, and_second}
 use Rattle.legal_history.proofs.Decisions.Passed.{AllPass, made_by, answers_nothing}

@@ -4,9 +4,9 @@ use Rattle.cc_names.specs.Formed.{Plain}
 use Rattle.cc_names.specs.Versions.{kind_of}
 use Rattle.cc_names.specs.declared.rows.Deed.{Deed}
 use Rattle.cc_names.specs.declared.rows.Kind.TheVariants.{Directory}
-use Rattle.legal_history.specs.Base.{Base, size, row_at, deed_of, deed_at}
-use Rattle.legal_history.specs.Changes.{tree}
-use Rattle.legal_history.specs.Closures.{is_version_of}
+use Rattle.legal_history.specs.Base.Rows.{Base, size, row_at, deed_of, deed_at}
+use Rattle.legal_history.specs.Base.Changes.{tree}
+use Rattle.legal_history.specs.Base.Closures.{is_version_of}
 use Rattle.legal_history.proofs.Stories.Goes.{same_number}
 use Rattle.legal_history.proofs.Bases.VersionsStay.{kind_stays, version_stays}
 

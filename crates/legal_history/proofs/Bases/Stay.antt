@@ -2,9 +2,9 @@
 use Rattle.std.proofs.Common.{◌≡◌, refl, ◌∙◌, ℕ, ◌<◌, ◌≤◌, List, [], ◌∷◌, ◌++◌, arith}
 use Rattle.std.proofs.lemmas.Bool.Decides.{nat_tests}
 use Rattle.cc_names.specs.Formed.{Plain}
-use Rattle.legal_history.specs.Base.{Base, size, first_rows, row_at}
-use Rattle.legal_history.specs.Catalogs.{catalog_of}
-use Rattle.legal_history.specs.Texts.{text}
+use Rattle.legal_history.specs.Base.Rows.{Base, size, first_rows, row_at}
+use Rattle.legal_history.specs.Base.Catalogs.{catalog_of}
+use Rattle.legal_history.specs.Base.Texts.{text}
 
 pub first_rows_stay : (row : Plain) (b : Base) (t : ℕ) → t ≤ size b → first_rows t (row ∷ b) ≡ first_rows t b
 first_rows_stay row b t h = grind (arith, nat_tests)

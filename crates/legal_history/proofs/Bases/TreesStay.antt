@@ -12,9 +12,9 @@ use Rattle.cc_names.specs.declared.changes.TreeChange.TheVariants.{ElementMade, 
 use Rattle.cc_names.specs.declared.rows.Deed.{Deed}
 use Rattle.cc_names.specs.declared.rows.Deed.TheVariants as deeds
 use Rattle.cc_names.specs.declared.rows.Placed.{Placed}
-use Rattle.legal_history.specs.Base.{Base, size, first_rows}
-use Rattle.legal_history.specs.Changes.{tree, tree_after, with_version, with_checkin, labels, labels_after, all_placed}
-use Rattle.legal_history.specs.Views.{Checkout, out}
+use Rattle.legal_history.specs.Base.Rows.{Base, size, first_rows}
+use Rattle.legal_history.specs.Base.Changes.{tree, tree_after, with_version, with_checkin, labels, labels_after, all_placed}
+use Rattle.legal_history.specs.Base.Views.{Checkout, out}
 use Rattle.legal_history.proofs.Bases.Stay.{first_rows_stay, all_rows}
 
 -- a row adds no change, or one with its own number

@@ -11,12 +11,12 @@ use Rattle.cc_names.specs.declared.rows.Deed.{Deed}
 use Rattle.cc_names.specs.declared.rows.Deed.TheVariants as deeds
 use Rattle.cc_names.specs.declared.rows.Kind.TheVariants.{Directory}
 use Rattle.cc_names.specs.declared.rows.Tag.{Tag}
-use Rattle.legal_history.specs.Base.{Base, size, row_at, deed_of, deed_at}
-use Rattle.legal_history.specs.Changes.{tree, tree_after, with_version, with_checkin}
-use Rattle.legal_history.specs.Closures.{is_version_of}
-use Rattle.legal_history.specs.Conditions.{element_of_text}
-use Rattle.legal_history.specs.Fits.{is_base}
-use Rattle.legal_history.specs.Views.{Checkout, out}
+use Rattle.legal_history.specs.Base.Rows.{Base, size, row_at, deed_of, deed_at}
+use Rattle.legal_history.specs.Base.Changes.{tree, tree_after, with_version, with_checkin}
+use Rattle.legal_history.specs.Base.Closures.{is_version_of}
+use Rattle.legal_history.specs.Base.Conditions.{element_of_text}
+use Rattle.legal_history.specs.Base.Fits.{is_base}
+use Rattle.legal_history.specs.Base.Views.{Checkout, out}
 use Rattle.legal_history.proofs.Bases.Below.{within, older_change}
 use Rattle.legal_history.proofs.Stories.Goes.{same_number}
 use Rattle.legal_history.proofs.Bases.OnBranches.{all_stand}

@@ -7,9 +7,9 @@ use Rattle.cc_names.specs.Versions.{Version, row_of_change, branch_of_change, ch
 use Rattle.cc_names.specs.declared.changes.Place.{Place}
 use Rattle.cc_names.specs.declared.changes.TreeChange.{TreeChange}
 use Rattle.cc_names.specs.declared.rows.Kind.{Kind}
-use Rattle.legal_history.specs.Base.{Base, size}
-use Rattle.legal_history.specs.Changes.{tree}
-use Rattle.legal_history.specs.Closures.{is_of_element, is_version_of}
+use Rattle.legal_history.specs.Base.Rows.{Base, size}
+use Rattle.legal_history.specs.Base.Changes.{tree}
+use Rattle.legal_history.specs.Base.Closures.{is_of_element, is_version_of}
 use Rattle.legal_history.proofs.Bases.Below.{Within, within, older_change}
 use Rattle.legal_history.proofs.Bases.TreesStay.{Adds, Nothing, One, adds_row}
 

@@ -3,8 +3,8 @@ use Rattle.std.proofs.Common.{◌≡◌, refl, subst, ℕ, zero, suc, Bool, true
 use Rattle.std.specs.Bool.{⊤}
 use Rattle.std.specs.List.{list_any}
 use Rattle.cc_names.specs.Versions.{put_if}
-use Rattle.legal_history.specs.Base.{Base, size}
-use Rattle.legal_history.specs.Merges.{Reaches, Itself, Onward, follows, followers, with_follower, is_in, reaches, within}
+use Rattle.legal_history.specs.Base.Rows.{Base, size}
+use Rattle.legal_history.specs.Queries.Merges.{Reaches, Itself, Onward, follows, followers, with_follower, is_in, reaches, within}
 use Rattle.legal_history.proofs.Stories.Goes.{same_number}
 use Rattle.legal_history.proofs.Bases.Owned.{and_second}
 

@@ -5,9 +5,9 @@ use Rattle.std.proofs.lemmas.List.Folds.{list_any-append}
 use Rattle.std.specs.List.{list_any}
 use Rattle.cc_names.specs.References.{one_where}
 use Rattle.cc_names.specs.Versions.{put_if}
-use Rattle.legal_history.specs.Base.{Base, size}
-use Rattle.legal_history.specs.Fits.{is_base}
-use Rattle.legal_history.specs.Merges.{Itself, Onward, Reaches, follows, followers, is_in, reaches, with_follower, within}
+use Rattle.legal_history.specs.Base.Rows.{Base, size}
+use Rattle.legal_history.specs.Base.Fits.{is_base}
+use Rattle.legal_history.specs.Queries.Merges.{Itself, Onward, Reaches, follows, followers, is_in, reaches, with_follower, within}
 use Rattle.legal_history.proofs.Builds.FreshSeen.{or_first, or_second}
 use Rattle.legal_history.proofs.Stories.Goes.{same_number}
 use Rattle.legal_history.proofs.Bases.Owned.{same_is_same}

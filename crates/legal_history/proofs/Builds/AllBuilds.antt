@@ -3,8 +3,8 @@ use Rattle.std.proofs.Common.{◌≡◌, refl, sym, subst, ◌∙◌, ℕ, Bool,
 use Rattle.std.specs.Prelude.{bytes_eq, find, option_map}
 use Rattle.std.specs.Ordering.{nat_cmp, eq_by_cmp}
 use Rattle.std.specs.FinMap.Entries.{put}
-use Rattle.legal_history.specs.Builds.{Active, Build, Came, build_of, building, is_of_view, tag_of}
-use Rattle.legal_history.specs.Steps.{noted, noted_in, with_came, with_build, without_build, faulted_in}
+use Rattle.legal_history.specs.Builds.Active.{Active, Build, Came, build_of, building, is_of_view, tag_of}
+use Rattle.legal_history.specs.Stories.Steps.{noted, noted_in, with_came, with_build, without_build, faulted_in}
 use Rattle.legal_history.proofs.Builds.FreshSeen.{bytes_itself}
 use Rattle.legal_history.proofs.Stories.Goes.{same_number}
 use Rattle.legal_history.proofs.Stories.Tables.{find_after_put, find_without}

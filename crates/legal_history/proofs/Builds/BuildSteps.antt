@@ -14,18 +14,18 @@ use Rattle.cc_names.specs.declared.steps.Told.TheVariants as told
 use Rattle.cc_names.specs.declared.steps.UnitEnd.{UnitEnd}
 use Rattle.cc_names.specs.declared.steps.UnitEnd.TheVariants as ends
 use Rattle.cc_names.specs.declared.units.Unit.{Unit}
-use Rattle.legal_history.specs.Base.{size}
-use Rattle.legal_history.specs.Builds.{Build, Ended, Given, build_of, object_of, unit_with_first}
-use Rattle.legal_history.specs.Changes.{targets_of}
-use Rattle.legal_history.specs.Decisions.{Makes, Begins}
-use Rattle.legal_history.specs.Fits.{is_base}
-use Rattle.legal_history.specs.Fresh.{texts}
-use Rattle.legal_history.specs.States.{State, decided, build_by}
-use Rattle.legal_history.specs.Steps.{after, after_step, noted, came_by_starting, active_after, begun}
-use Rattle.legal_history.specs.Committing.{MakesRow}
-use Rattle.legal_history.specs.Stories.{Lawful, LawfulStep}
-use Rattle.legal_history.specs.UnitTurns.{Settles, EndsEarly, Starts}
-use Rattle.legal_history.specs.Turns.{came_by_start, unreadable}
+use Rattle.legal_history.specs.Base.Rows.{size}
+use Rattle.legal_history.specs.Builds.Active.{Build, Ended, Given, build_of, object_of, unit_with_first}
+use Rattle.legal_history.specs.Base.Changes.{targets_of}
+use Rattle.legal_history.specs.Commands.Decisions.{Makes, Begins}
+use Rattle.legal_history.specs.Base.Fits.{is_base}
+use Rattle.legal_history.specs.Builds.Fresh.{texts}
+use Rattle.legal_history.specs.Stories.States.{State, decided, build_by}
+use Rattle.legal_history.specs.Stories.Steps.{after, after_step, noted, came_by_starting, active_after, begun}
+use Rattle.legal_history.specs.Stories.Committing.{MakesRow}
+use Rattle.legal_history.specs.Stories.Lawful.{Lawful, LawfulStep}
+use Rattle.legal_history.specs.Builds.UnitTurns.{Settles, EndsEarly, Starts}
+use Rattle.legal_history.specs.Builds.Turns.{came_by_start, unreadable}
 use Rattle.legal_history.proofs.Stories.Goes.{of_lane}
 use Rattle.legal_history.proofs.Builds.ConsistentStays.{IsBegun, begins_consistent, consistent_faulted, is_object_stays, keeps_with, keeps_without}
 use Rattle.legal_history.proofs.Builds.AllBuilds.{Each, each_without, each_begun, each_faulted}

@@ -8,16 +8,16 @@ use Rattle.cc_names.specs.declared.steps.Step.{Step}
 use Rattle.cc_names.specs.declared.steps.Step.TheVariants as steps
 use Rattle.cc_names.specs.declared.steps.Told.{Told}
 use Rattle.cc_names.specs.declared.steps.Told.TheVariants as told
-use Rattle.legal_history.specs.Base.{size}
-use Rattle.legal_history.specs.Builds.{Active, Build, Came, Given, Ended, build_of, unit_with_first}
-use Rattle.legal_history.specs.Changes.{targets_of}
-use Rattle.legal_history.specs.States.{State, End, Committed, Faulted, build_by, done_of, start, with_done}
-use Rattle.legal_history.specs.Steps.{after, after_step, active_after, begun, came_by_starting, done_after, done_by_fault, faulted_in, noted, state_from, state_of, with_build, without_build}
-use Rattle.legal_history.specs.Committing.{MakesRow}
-use Rattle.legal_history.specs.Stories.{Lawful, LawfulStep, Legal, LegalFrom}
+use Rattle.legal_history.specs.Base.Rows.{size}
+use Rattle.legal_history.specs.Builds.Active.{Active, Build, Came, Given, Ended, build_of, unit_with_first}
+use Rattle.legal_history.specs.Base.Changes.{targets_of}
+use Rattle.legal_history.specs.Stories.States.{State, End, Committed, Faulted, build_by, done_of, start, with_done}
+use Rattle.legal_history.specs.Stories.Steps.{after, after_step, active_after, begun, came_by_starting, done_after, done_by_fault, faulted_in, noted, state_from, state_of, with_build, without_build}
+use Rattle.legal_history.specs.Stories.Committing.{MakesRow}
+use Rattle.legal_history.specs.Stories.Lawful.{Lawful, LawfulStep, Legal, LegalFrom}
 use Rattle.legal_history.proofs.Stories.Goes.{decided_is_idle, of_lane}
 use Rattle.legal_history.proofs.Bases.Stay.{first_rows_stay}
-use Rattle.legal_history.specs.Commanded.{IsOfCommand}
+use Rattle.legal_history.specs.Stories.Commanded.{IsOfCommand}
 use Rattle.legal_history.proofs.Builds.AllBuilds.{Each, each_as, each_begun, each_faulted, each_noted, each_without}
 use Rattle.legal_history.proofs.Builds.CommandStays.{apart_from_idle, begun_commanded, came_commanded, command_stays, faulted_commanded, none_left, other_done}
 use Rattle.legal_history.proofs.Stories.SoundStories.{IsSound, none_active, sound_first, sound_step}

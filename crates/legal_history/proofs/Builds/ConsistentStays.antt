@@ -5,12 +5,12 @@ use Rattle.std.specs.Ordering.{nat_cmp}
 use Rattle.std.specs.FinMap.Entries.{find}
 use Rattle.cc_names.specs.Formed.{Plain}
 use Rattle.cc_names.specs.declared.units.Unit.{Unit}
-use Rattle.legal_history.specs.Base.{Base, size, deed_of}
-use Rattle.legal_history.specs.Builds.{Build, Came, came_to, is_outcome, object_of, unit_at}
-use Rattle.legal_history.specs.Changes.{targets_of_deed}
-use Rattle.legal_history.specs.Fits.{is_base}
-use Rattle.legal_history.specs.Steps.{with_came}
-use Rattle.legal_history.specs.Consistency.{InOrder, IsObjectOf, IsReady, IsConsistent}
+use Rattle.legal_history.specs.Base.Rows.{Base, size, deed_of}
+use Rattle.legal_history.specs.Builds.Active.{Build, Came, came_to, is_outcome, object_of, unit_at}
+use Rattle.legal_history.specs.Base.Changes.{targets_of_deed}
+use Rattle.legal_history.specs.Base.Fits.{is_base}
+use Rattle.legal_history.specs.Stories.Steps.{with_came}
+use Rattle.legal_history.specs.Builds.Consistency.{InOrder, IsObjectOf, IsReady, IsConsistent}
 use Rattle.legal_history.proofs.Stories.Goes.{comes_to, same_number}
 use Rattle.legal_history.proofs.Bases.Stay.{first_rows_stay, all_rows, row_stays}
 use Rattle.legal_history.proofs.Stories.Tables.{find_after_put}

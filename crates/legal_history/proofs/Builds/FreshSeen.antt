@@ -7,14 +7,14 @@ use Rattle.std.specs.List.{list_any}
 use Rattle.cc_names.specs.declared.steps.UnitEnd.TheVariants.{Kept, Blocked, Failed}
 use Rattle.cc_names.specs.declared.refusals.UnitFault.TheVariants.{NoRule}
 use Rattle.cc_names.specs.declared.units.Unit.{Unit}
-use Rattle.legal_history.specs.Base.{Base, first_rows}
-use Rattle.legal_history.specs.Builds.{Build, Came, Started, Ended, Given, came_to, is_outcome, number_from, unit_at}
-use Rattle.legal_history.specs.Closures.{is_among}
-use Rattle.legal_history.specs.Fresh.{sees_file, sees_directory}
-use Rattle.legal_history.specs.Freshness.{Agrees, AgreesSoFar, done_in, outcome_in, early_from_nothing}
-use Rattle.legal_history.specs.Consistency.{InOrder, IsReady}
-use Rattle.legal_history.specs.Serials.{Outcome, Made, Without, Standing, standing_of_end, standing_of_outcome, standing_or_file, standing_in, is_missing, is_bad, makes, first_end, no_directory, no_script}
-use Rattle.legal_history.specs.Turns.{standing_of_came, standing_of_unit, early_in}
+use Rattle.legal_history.specs.Base.Rows.{Base, first_rows}
+use Rattle.legal_history.specs.Builds.Active.{Build, Came, Started, Ended, Given, came_to, is_outcome, number_from, unit_at}
+use Rattle.legal_history.specs.Base.Closures.{is_among}
+use Rattle.legal_history.specs.Builds.Fresh.{sees_file, sees_directory}
+use Rattle.legal_history.specs.Builds.Freshness.{Agrees, AgreesSoFar, done_in, outcome_in, early_from_nothing}
+use Rattle.legal_history.specs.Builds.Consistency.{InOrder, IsReady}
+use Rattle.legal_history.specs.Builds.Serials.{Outcome, Made, Without, Standing, standing_of_end, standing_of_outcome, standing_or_file, standing_in, is_missing, is_bad, makes, first_end, no_directory, no_script}
+use Rattle.legal_history.specs.Builds.Turns.{standing_of_came, standing_of_unit, early_in}
 use Rattle.legal_history.proofs.Builds.Pairs.{Pair, finished_of, with_pair, pairs_before, done_paired}
 
 pub or_first : (a b : Bool) → a ≡ true → (a || b) ≡ true

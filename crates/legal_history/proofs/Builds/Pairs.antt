@@ -4,12 +4,12 @@ use Rattle.std.proofs.lemmas.List.{reverse-append}
 use Rattle.std.specs.Prelude.{reverse, slice_get}
 use Rattle.std.specs.List.{list_any}
 use Rattle.cc_names.specs.declared.units.Unit.{Unit}
-use Rattle.legal_history.specs.Base.{Base}
-use Rattle.legal_history.specs.Builds.{Build, Came, came_to, unit_at}
-use Rattle.legal_history.specs.Choices.{Member, members_from, members_before}
-use Rattle.legal_history.specs.Fresh.{serial, texts, sees_file, sees_directory}
-use Rattle.legal_history.specs.Freshness.{done_in, outcome_in}
-use Rattle.legal_history.specs.Serials.{Outcome, Finished, makes, needed}
+use Rattle.legal_history.specs.Base.Rows.{Base}
+use Rattle.legal_history.specs.Builds.Active.{Build, Came, came_to, unit_at}
+use Rattle.legal_history.specs.Builds.Choices.{Member, members_from, members_before}
+use Rattle.legal_history.specs.Builds.Fresh.{serial, texts, sees_file, sees_directory}
+use Rattle.legal_history.specs.Builds.Freshness.{done_in, outcome_in}
+use Rattle.legal_history.specs.Builds.Serials.{Outcome, Finished, makes, needed}
 
 -- a unit with what it has come to, and with what it comes to from nothing
 pub record Pair : Type 0 where

@@ -8,7 +8,7 @@ use Rattle.cc_names.specs.Cuts.{words_of}
 use Rattle.make_text.specs.Lines.{is_script_line, is_blank_line}
 use Rattle.make_text.specs.Makefiles.{is_colon, with_path, each_once, begins_with_period, may_be_target, rule_from, rule_of, may_be_rule, is_beyond, has_script, below_rule, with_script, rules_from, paths_of}
 use Rattle.make_text.specs.declared.rules.MakeRule.{MakeRule}
-use Rattle.legal_history.specs.Closures.{is_among}
+use Rattle.legal_history.specs.Base.Closures.{is_among}
 use Rattle.legal_history.proofs.Bases.Owned.{and_second}
 use Rattle.legal_history.proofs.Builds.FreshSeen.{or_first}
 

@@ -10,10 +10,10 @@ use Rattle.cc_names.specs.declared.units.Unit.{Unit}
 use Rattle.make_text.specs.Makefiles.{rules_from, contents_of}
 use Rattle.make_text.specs.Units.{Files, unit_of, wanted, goals_of, missing_goal, unless_source, unless_missing, graph_of, made_by, unless_refused, units_of, units_at, units, main_file}
 use Rattle.make_text.specs.declared.rules.MakeRule.{MakeRule}
-use Rattle.legal_history.specs.Builds.{number_from}
-use Rattle.legal_history.specs.Closures.{is_among}
-use Rattle.legal_history.specs.Consistency.{InOrder}
-use Rattle.legal_history.specs.Serials.{makes}
+use Rattle.legal_history.specs.Builds.Active.{number_from}
+use Rattle.legal_history.specs.Base.Closures.{is_among}
+use Rattle.legal_history.specs.Builds.Consistency.{InOrder}
+use Rattle.legal_history.specs.Builds.Serials.{makes}
 use Rattle.legal_history.proofs.Builds.PlainRules.{IsPlain, AllPlain, plain_rules}
 
 -- no unit, or one with a single target that is none of its prerequisites

@@ -8,15 +8,15 @@ use Rattle.cc_names.specs.declared.rows.Deed.TheVariants as deeds
 use Rattle.cc_names.specs.declared.rows.ReadOf.{ReadOf}
 use Rattle.cc_names.specs.declared.rows.Tag.{Tag}
 use Rattle.cc_names.specs.declared.units.Unit.{Unit}
-use Rattle.legal_history.specs.Base.{Base, size, first_rows, row_at, deed_of}
-use Rattle.legal_history.specs.Builds.{Build, Given}
-use Rattle.legal_history.specs.Changes.{targets_of_deed}
-use Rattle.legal_history.specs.Choices.{here, visible, entries, publish_of, publish_by, text_of_row}
-use Rattle.legal_history.specs.Fresh.{outcome_of_run, script_text}
-use Rattle.legal_history.specs.Freshness.{Agrees, HasOutputs, AgreesSoFar, outcome_in, early_from_nothing}
-use Rattle.legal_history.specs.Consistency.{IsObjectOf, IsReady}
-use Rattle.legal_history.specs.Serials.{makes}
-use Rattle.legal_history.specs.Texts.{Bytes, OfRow, NoText, of_output, output_at, text}
+use Rattle.legal_history.specs.Base.Rows.{Base, size, first_rows, row_at, deed_of}
+use Rattle.legal_history.specs.Builds.Active.{Build, Given}
+use Rattle.legal_history.specs.Base.Changes.{targets_of_deed}
+use Rattle.legal_history.specs.Builds.Choices.{here, visible, entries, publish_of, publish_by, text_of_row}
+use Rattle.legal_history.specs.Builds.Fresh.{outcome_of_run, script_text}
+use Rattle.legal_history.specs.Builds.Freshness.{Agrees, HasOutputs, AgreesSoFar, outcome_in, early_from_nothing}
+use Rattle.legal_history.specs.Builds.Consistency.{IsObjectOf, IsReady}
+use Rattle.legal_history.specs.Builds.Serials.{makes}
+use Rattle.legal_history.specs.Base.Texts.{Bytes, OfRow, NoText, of_output, output_at, text}
 use Rattle.legal_history.proofs.Bases.Owned.{same_is_same}
 use Rattle.legal_history.proofs.Bases.Stay.{first_rows_stay}
 use Rattle.legal_history.proofs.Builds.ReadyUnits.{outcome_by_run, outputs_whole}

@@ -10,16 +10,16 @@ use Rattle.build_script.specs.Lines.{script_of}
 use Rattle.build_script.specs.Run.{Files, Done, Ran, run, run_of, after_lines, nothing_written, carried_out, traced, unless_fault, output_before, outputs_of}
 use Rattle.build_script.specs.declared.lines.Line.{Line}
 use Rattle.build_script.proofs.RunLemmas.{traced-and_then}
-use Rattle.legal_history.specs.Base.{Base, first_rows}
-use Rattle.legal_history.specs.Builds.{Build, came_to, is_outcome, number_from, unit_with}
-use Rattle.legal_history.specs.Choices.{here}
-use Rattle.legal_history.specs.Closures.{is_among}
-use Rattle.legal_history.specs.Fresh.{outcome_of_run, end_or_run, output_or_file, texts}
-use Rattle.legal_history.specs.Freshness.{AgreesSoFar, done_in, outcome_in, early_from_nothing}
-use Rattle.legal_history.specs.Consistency.{IsReady}
-use Rattle.legal_history.specs.Serials.{Without, unit_of, needed}
-use Rattle.legal_history.specs.Texts.{output_at}
-use Rattle.legal_history.specs.Turns.{is_over, is_ready}
+use Rattle.legal_history.specs.Base.Rows.{Base, first_rows}
+use Rattle.legal_history.specs.Builds.Active.{Build, came_to, is_outcome, number_from, unit_with}
+use Rattle.legal_history.specs.Builds.Choices.{here}
+use Rattle.legal_history.specs.Base.Closures.{is_among}
+use Rattle.legal_history.specs.Builds.Fresh.{outcome_of_run, end_or_run, output_or_file, texts}
+use Rattle.legal_history.specs.Builds.Freshness.{AgreesSoFar, done_in, outcome_in, early_from_nothing}
+use Rattle.legal_history.specs.Builds.Consistency.{IsReady}
+use Rattle.legal_history.specs.Builds.Serials.{Without, unit_of, needed}
+use Rattle.legal_history.specs.Base.Texts.{output_at}
+use Rattle.legal_history.specs.Builds.Turns.{is_over, is_ready}
 use Rattle.legal_history.proofs.Builds.FreshSeen.{bytes_turned}
 use Rattle.legal_history.proofs.Bases.Owned.{and_first, and_second}
 use Rattle.legal_history.proofs.Builds.FreshRuns.{run_same}

@@ -8,7 +8,7 @@ use Rattle.std.specs.declared.cmp.Ordering.TheVariants.{Less, Equal, Greater}
 use Rattle.std.specs.FinMap.Entries.{put, find, where_key, by_order, below_all, is_sorted}
 use Rattle.cc_names.specs.References.{one_where}
 use Rattle.cc_names.specs.declared.units.Unit.{Unit}
-use Rattle.legal_history.specs.Builds.{Active, Build, Came, build_of, is_outcome, reserved}
+use Rattle.legal_history.specs.Builds.Active.{Active, Build, Came, build_of, is_outcome, reserved}
 use Rattle.legal_history.proofs.Stories.Goes.{same_number}
 use Rattle.legal_history.proofs.Stories.Tables.{find_after_put, find_put_same}
 

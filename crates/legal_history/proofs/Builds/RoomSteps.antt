@@ -17,16 +17,16 @@ use Rattle.cc_names.specs.declared.steps.Told.TheVariants as told
 use Rattle.cc_names.specs.declared.steps.UnitEnd.{UnitEnd}
 use Rattle.cc_names.specs.declared.steps.UnitEnd.TheVariants as ends
 use Rattle.cc_names.specs.declared.units.Unit.{Unit}
-use Rattle.legal_history.specs.Base.{Base, size}
-use Rattle.legal_history.specs.Builds.{Active, Build, Came, Given, Ended, build_of, is_outcome, unit_with_first}
-use Rattle.legal_history.specs.Changes.{targets_of}
-use Rattle.legal_history.specs.Decisions.{Makes, Begins}
-use Rattle.legal_history.specs.Fits.{row_limit}
-use Rattle.legal_history.specs.States.{State, decided, build_by}
-use Rattle.legal_history.specs.Steps.{after, after_step, noted, noted_in, with_came, came_by_starting, active_after, begun, with_build, without_build, faulted_in}
-use Rattle.legal_history.specs.Committing.{MakesRow}
-use Rattle.legal_history.specs.Stories.{Lawful, LawfulStep}
-use Rattle.legal_history.specs.UnitTurns.{Settles, Waits}
+use Rattle.legal_history.specs.Base.Rows.{Base, size}
+use Rattle.legal_history.specs.Builds.Active.{Active, Build, Came, Given, Ended, build_of, is_outcome, unit_with_first}
+use Rattle.legal_history.specs.Base.Changes.{targets_of}
+use Rattle.legal_history.specs.Commands.Decisions.{Makes, Begins}
+use Rattle.legal_history.specs.Base.Fits.{row_limit}
+use Rattle.legal_history.specs.Stories.States.{State, decided, build_by}
+use Rattle.legal_history.specs.Stories.Steps.{after, after_step, noted, noted_in, with_came, came_by_starting, active_after, begun, with_build, without_build, faulted_in}
+use Rattle.legal_history.specs.Stories.Committing.{MakesRow}
+use Rattle.legal_history.specs.Stories.Lawful.{Lawful, LawfulStep}
+use Rattle.legal_history.specs.Builds.UnitTurns.{Settles, Waits}
 use Rattle.legal_history.proofs.Stories.Goes.{of_lane, decided_is_idle}
 use Rattle.legal_history.proofs.Stories.DecidedSteps.{decided_of, says_of, begun_by, begun_is}
 use Rattle.legal_history.proofs.Builds.Room.{waiting, all_waiting, all_reserved, no_more_wait, fewer_wait, few_wait, put_waiting, put_new_waiting, without_waiting}

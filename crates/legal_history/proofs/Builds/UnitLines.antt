@@ -4,11 +4,11 @@ use Rattle.std.specs.Prelude.{is_some, slice_get}
 use Rattle.cc_names.specs.declared.replies.UnitLine.{UnitLine}
 use Rattle.cc_names.specs.declared.steps.UnitEnd.TheVariants.{Kept}
 use Rattle.cc_names.specs.declared.units.Unit.{Unit}
-use Rattle.legal_history.specs.Base.{Base}
-use Rattle.legal_history.specs.Builds.{Build, Came, Started, Ended, Given, came_to, object_of}
-use Rattle.legal_history.specs.Freshness.{Agrees}
-use Rattle.legal_history.specs.Serials.{Outcome, Made, Without, Finished}
-use Rattle.legal_history.specs.Replied.{digest_at, word_of_object, word_of_end, word_of_came, word_of_outcome, told_targets, has_outputs, lines_of, lines_from, finished_from}
+use Rattle.legal_history.specs.Base.Rows.{Base}
+use Rattle.legal_history.specs.Builds.Active.{Build, Came, Started, Ended, Given, came_to, object_of}
+use Rattle.legal_history.specs.Builds.Freshness.{Agrees}
+use Rattle.legal_history.specs.Builds.Serials.{Outcome, Made, Without, Finished}
+use Rattle.legal_history.specs.Builds.Replied.{digest_at, word_of_object, word_of_end, word_of_came, word_of_outcome, told_targets, has_outputs, lines_of, lines_from, finished_from}
 
 -- the words are the same where the outcome agrees
 same_word : (b : Base) (build : Build) (unit : Unit) (path : List ℕ) (came : Came) (outcome : Outcome) → Agrees b unit came outcome →

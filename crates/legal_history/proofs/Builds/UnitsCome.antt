@@ -10,15 +10,15 @@ use Rattle.cc_names.specs.declared.steps.UnitEnd.TheVariants as ends
 use Rattle.cc_names.specs.declared.units.Unit.{Unit}
 use Rattle.build_script.specs.Lines.{script_of}
 use Rattle.build_script.specs.declared.lines.Line.{Line}
-use Rattle.legal_history.specs.Base.{Base, size, first_rows}
-use Rattle.legal_history.specs.Builds.{Build, Started, Ended, Given, build_of, came_to, is_outcome, object_of, unit_at}
-use Rattle.legal_history.specs.Choices.{here, text_of_row, visible}
-use Rattle.legal_history.specs.Fresh.{outcome_of_run, script_text}
-use Rattle.legal_history.specs.Freshness.{Agrees, AgreesSoFar, early_from_nothing}
-use Rattle.legal_history.specs.Consistency.{IsReady}
-use Rattle.legal_history.specs.States.{State}
-use Rattle.legal_history.specs.Steps.{came_by_starting, came_of_unit}
-use Rattle.legal_history.specs.Turns.{early, came_by_start, unreadable, fault_of}
+use Rattle.legal_history.specs.Base.Rows.{Base, size, first_rows}
+use Rattle.legal_history.specs.Builds.Active.{Build, Started, Ended, Given, build_of, came_to, is_outcome, object_of, unit_at}
+use Rattle.legal_history.specs.Builds.Choices.{here, text_of_row, visible}
+use Rattle.legal_history.specs.Builds.Fresh.{outcome_of_run, script_text}
+use Rattle.legal_history.specs.Builds.Freshness.{Agrees, AgreesSoFar, early_from_nothing}
+use Rattle.legal_history.specs.Builds.Consistency.{IsReady}
+use Rattle.legal_history.specs.Stories.States.{State}
+use Rattle.legal_history.specs.Stories.Steps.{came_by_starting, came_of_unit}
+use Rattle.legal_history.specs.Builds.Turns.{early, came_by_start, unreadable, fault_of}
 use Rattle.legal_history.proofs.Builds.FreshSeen.{early_same}
 use Rattle.legal_history.proofs.Builds.AgreeStays.{MayCome}
 use Rattle.legal_history.proofs.Builds.ConsistentStays.{keeps_with, keeps_without}

@@ -8,18 +8,18 @@ use Rattle.cc_names.specs.declared.refusals.Refusal.TheVariants as refusals
 use Rattle.cc_names.specs.declared.rows.Deed.TheVariants as deeds
 use Rattle.cc_names.specs.declared.rows.Kind.{Kind}
 use Rattle.cc_names.specs.declared.rows.Kind.TheVariants.{File, Directory}
-use Rattle.legal_history.specs.Base.{Base}
-use Rattle.legal_history.specs.Changes.{tree}
-use Rattle.legal_history.specs.Checkouts.{latest_beside, is_latest, other_reserver, branch_of}
-use Rattle.legal_history.specs.CheckoutLines.{checkin, checkin_tests}
-use Rattle.legal_history.specs.Closures.{is_version_of}
-use Rattle.legal_history.specs.Conditions.{has_out, is_file, is_directory, is_file_kind, is_directory_kind, may_check_in}
-use Rattle.legal_history.specs.Decisions.{Scene}
-use Rattle.legal_history.specs.FileLines.{save, element_of}
-use Rattle.legal_history.specs.Fits.{is_base}
-use Rattle.legal_history.specs.Seen.{at}
-use Rattle.legal_history.specs.CheckoutTests.{needs_no_other, needs_latest_origin, refused_unless_same}
-use Rattle.legal_history.specs.Views.{Checkout, out}
+use Rattle.legal_history.specs.Base.Rows.{Base}
+use Rattle.legal_history.specs.Base.Changes.{tree}
+use Rattle.legal_history.specs.Base.Checkouts.{latest_beside, is_latest, other_reserver, branch_of}
+use Rattle.legal_history.specs.Commands.CheckoutLines.{checkin, checkin_tests}
+use Rattle.legal_history.specs.Base.Closures.{is_version_of}
+use Rattle.legal_history.specs.Base.Conditions.{has_out, is_file, is_directory, is_file_kind, is_directory_kind, may_check_in}
+use Rattle.legal_history.specs.Commands.Decisions.{Scene}
+use Rattle.legal_history.specs.Commands.FileLines.{save, element_of}
+use Rattle.legal_history.specs.Base.Fits.{is_base}
+use Rattle.legal_history.specs.Base.Seen.{at}
+use Rattle.legal_history.specs.Commands.CheckoutTests.{needs_no_other, needs_latest_origin, refused_unless_same}
+use Rattle.legal_history.specs.Base.Views.{Checkout, out}
 use Rattle.legal_history.proofs.Decisions.DirectoryFits.{save_fits_by, was_out}
 use Rattle.legal_history.proofs.Decisions.FileFits.{RowFits}
 use Rattle.legal_history.proofs.Bases.Origins.{out_is_version}

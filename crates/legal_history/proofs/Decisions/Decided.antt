@@ -7,23 +7,23 @@ use Rattle.cc_names.specs.declared.commands.Command.TheVariants as commands
 use Rattle.cc_names.specs.declared.rows.Deed.TheVariants as deeds
 use Rattle.cc_names.specs.declared.rows.Kind.TheVariants.{File, Directory}
 use Rattle.cc_names.specs.declared.rows.TypeKind.TheVariants as type_kinds
-use Rattle.legal_history.specs.Builds.{building}
-use Rattle.legal_history.specs.CheckoutLines.{picked_of, checkout_tests, checkout_deed, deciding_rule, branch_by, mkbranch_tests, out_unless, checkin_tests, uncheckout_tests}
-use Rattle.legal_history.specs.Decisions.{Decision, Scene}
-use Rattle.legal_history.specs.DirectoryLines.{mkelem_tests, rmname_tests, mv_tests, directory_of}
-use Rattle.legal_history.specs.ElementTexts.{describe_text, lsvtree_text}
-use Rattle.legal_history.specs.FileLines.{element_of, last_name, mkview_tests, rmview_tests, setcs_tests, save_tests, save_deed, rm_tests}
-use Rattle.legal_history.specs.HistoryTexts.{lshistory_text}
-use Rattle.legal_history.specs.LabelLines.{mklabel_tests, rmlabel_tests, mklabel_config_tests, placed_by, object_held, mkarrow_tests, version_named}
-use Rattle.legal_history.specs.Lines.{decision}
-use Rattle.legal_history.specs.ListingTexts.{ls_text, lsdo_text}
-use Rattle.legal_history.specs.Merges.{findmerge_text}
-use Rattle.legal_history.specs.ObjectLines.{rmdo_tests, due}
-use Rattle.legal_history.specs.QueryLines.{ls_tests, cat_tests, cat_version_tests, text_row, text_at, version_seen, element_tests, diffcr_tests, findmerge_tests}
-use Rattle.legal_history.specs.RecordTexts.{catcr_text, diffcr_text, covers_text, uncovered}
-use Rattle.legal_history.specs.Seen.{at}
-use Rattle.legal_history.specs.Tests.{needs_view, needs_object, needs_free_type}
-use Rattle.legal_history.specs.Views.{spec_text}
+use Rattle.legal_history.specs.Builds.Active.{building}
+use Rattle.legal_history.specs.Commands.CheckoutLines.{picked_of, checkout_tests, checkout_deed, deciding_rule, branch_by, mkbranch_tests, out_unless, checkin_tests, uncheckout_tests}
+use Rattle.legal_history.specs.Commands.Decisions.{Decision, Scene}
+use Rattle.legal_history.specs.Commands.DirectoryLines.{mkelem_tests, rmname_tests, mv_tests, directory_of}
+use Rattle.legal_history.specs.Queries.ElementTexts.{describe_text, lsvtree_text}
+use Rattle.legal_history.specs.Commands.FileLines.{element_of, last_name, mkview_tests, rmview_tests, setcs_tests, save_tests, save_deed, rm_tests}
+use Rattle.legal_history.specs.Queries.HistoryTexts.{lshistory_text}
+use Rattle.legal_history.specs.Commands.LabelLines.{mklabel_tests, rmlabel_tests, mklabel_config_tests, placed_by, object_held, mkarrow_tests, version_named}
+use Rattle.legal_history.specs.Commands.Lines.{decision}
+use Rattle.legal_history.specs.Queries.ListingTexts.{ls_text, lsdo_text}
+use Rattle.legal_history.specs.Queries.Merges.{findmerge_text}
+use Rattle.legal_history.specs.Commands.ObjectLines.{rmdo_tests, due}
+use Rattle.legal_history.specs.Queries.QueryLines.{ls_tests, cat_tests, cat_version_tests, text_row, text_at, version_seen, element_tests, diffcr_tests, findmerge_tests}
+use Rattle.legal_history.specs.Queries.RecordTexts.{catcr_text, diffcr_text, covers_text, uncovered}
+use Rattle.legal_history.specs.Base.Seen.{at}
+use Rattle.legal_history.specs.Commands.Tests.{needs_view, needs_object, needs_free_type}
+use Rattle.legal_history.specs.Base.Views.{spec_text}
 use Rattle.legal_history.proofs.Decisions.DecidedSays.{Says, by_row, by_answer, was_idle, saved_spares, checkout_spares, by_labels, by_scrub, by_build}
 
 -- What was decided of a command says this.

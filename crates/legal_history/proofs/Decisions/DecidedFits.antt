@@ -22,27 +22,27 @@ use Rattle.cc_names.specs.declared.rows.TypeKind.TheVariants as type_kinds
 use Rattle.cc_names.specs.declared.units.Unit.{Unit}
 use Rattle.make_text.specs.Units.{units}
 use Rattle.cc_names.specs.Paths.{root}
-use Rattle.legal_history.specs.Base.{Base, size}
-use Rattle.legal_history.specs.CheckoutLines.{picked_of}
-use Rattle.legal_history.specs.ElementTexts.{describe_text, lsvtree_text}
-use Rattle.legal_history.specs.FileLines.{element_of}
-use Rattle.legal_history.specs.HistoryTexts.{lshistory_text}
-use Rattle.legal_history.specs.ListingTexts.{ls_text, lsdo_text}
-use Rattle.legal_history.specs.Merges.{findmerge_text}
-use Rattle.legal_history.specs.QueryLines.{ls_tests, cat_tests, cat_version_tests, text_row, text_at, version_seen, element_tests, diffcr_tests, findmerge_tests}
-use Rattle.legal_history.specs.RecordTexts.{catcr_text, diffcr_text, covers_text, uncovered}
-use Rattle.legal_history.specs.Seen.{at}
-use Rattle.legal_history.specs.Tests.{needs_view, needs_object}
-use Rattle.legal_history.specs.Views.{spec_text}
-use Rattle.legal_history.specs.Changes.{tree, held, live}
-use Rattle.legal_history.specs.Closures.{Sources, Listing, closure, listing, listing_of, version_listed, with_version_at, greater_of, is_version_of}
-use Rattle.legal_history.specs.Conditions.{is_label_type, is_placed, may_be_scrubbed}
-use Rattle.legal_history.specs.Decisions.{Makes, Begins, Scene, first_refusal, unless_refused, answers}
-use Rattle.legal_history.specs.Fits.{fits, is_base}
-use Rattle.legal_history.specs.Fresh.{texts}
-use Rattle.legal_history.specs.LabelLines.{as_placed, placed_by, mklabel_config, mklabel_config_tests, labels_or_nothing, object_held}
-use Rattle.legal_history.specs.Lines.{decision}
-use Rattle.legal_history.specs.ObjectLines.{due_among, due, scrub, scrub_of, clearmake_tests, build_unless}
+use Rattle.legal_history.specs.Base.Rows.{Base, size}
+use Rattle.legal_history.specs.Commands.CheckoutLines.{picked_of}
+use Rattle.legal_history.specs.Queries.ElementTexts.{describe_text, lsvtree_text}
+use Rattle.legal_history.specs.Commands.FileLines.{element_of}
+use Rattle.legal_history.specs.Queries.HistoryTexts.{lshistory_text}
+use Rattle.legal_history.specs.Queries.ListingTexts.{ls_text, lsdo_text}
+use Rattle.legal_history.specs.Queries.Merges.{findmerge_text}
+use Rattle.legal_history.specs.Queries.QueryLines.{ls_tests, cat_tests, cat_version_tests, text_row, text_at, version_seen, element_tests, diffcr_tests, findmerge_tests}
+use Rattle.legal_history.specs.Queries.RecordTexts.{catcr_text, diffcr_text, covers_text, uncovered}
+use Rattle.legal_history.specs.Base.Seen.{at}
+use Rattle.legal_history.specs.Commands.Tests.{needs_view, needs_object}
+use Rattle.legal_history.specs.Base.Views.{spec_text}
+use Rattle.legal_history.specs.Base.Changes.{tree, held, live}
+use Rattle.legal_history.specs.Base.Closures.{Sources, Listing, closure, listing, listing_of, version_listed, with_version_at, greater_of, is_version_of}
+use Rattle.legal_history.specs.Base.Conditions.{is_label_type, is_placed, may_be_scrubbed}
+use Rattle.legal_history.specs.Commands.Decisions.{Makes, Begins, Scene, first_refusal, unless_refused, answers}
+use Rattle.legal_history.specs.Base.Fits.{fits, is_base}
+use Rattle.legal_history.specs.Builds.Fresh.{texts}
+use Rattle.legal_history.specs.Commands.LabelLines.{as_placed, placed_by, mklabel_config, mklabel_config_tests, labels_or_nothing, object_held}
+use Rattle.legal_history.specs.Commands.Lines.{decision}
+use Rattle.legal_history.specs.Commands.ObjectLines.{due_among, due, scrub, scrub_of, clearmake_tests, build_unless}
 use Rattle.legal_history.proofs.Decisions.CheckoutFits.{save_fits, checkin_fits}
 use Rattle.legal_history.proofs.Decisions.DirectoryFits.{mkelem_fits, rmname_fits, mv_fits, uncheckout_fits, rmlabel_fits}
 use Rattle.legal_history.proofs.Decisions.ElementFits.{checkout_fits, mkbranch_fits, mklabel_fits, mkarrow_fits}

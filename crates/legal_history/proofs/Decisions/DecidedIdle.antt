@@ -8,7 +8,7 @@ use Rattle.cc_names.specs.declared.selection.Seen.{Seen}
 use Rattle.cc_names.specs.declared.selection.Seen.TheVariants.{Private, Element, Unselected, Nothing}
 use Rattle.cc_names.specs.declared.units.Unit.{Unit}
 use Rattle.make_text.specs.Units.{units}
-use Rattle.legal_history.specs.Fresh.{texts}
+use Rattle.legal_history.specs.Builds.Fresh.{texts}
 use Rattle.legal_history.proofs.Decisions.Passed.{AllPass, made_by, answers_nothing}
 use Rattle.legal_history.proofs.Decisions.DecidedSays.{was_idle}
 use Rattle.std.specs.Prelude.{unwrap_or}
@@ -18,23 +18,23 @@ use Rattle.cc_names.specs.declared.commands.Command.TheVariants as commands
 use Rattle.cc_names.specs.declared.rows.Deed.TheVariants as deeds
 use Rattle.cc_names.specs.declared.rows.Kind.TheVariants.{File, Directory}
 use Rattle.cc_names.specs.declared.rows.TypeKind.TheVariants as type_kinds
-use Rattle.legal_history.specs.Builds.{Active, building}
-use Rattle.legal_history.specs.CheckoutLines.{picked_of, checkout_tests, checkout_deed, deciding_rule, branch_by, mkbranch_tests, out_unless, checkin_tests, uncheckout_tests}
-use Rattle.legal_history.specs.Decisions.{Scene, Makes, Begins, first_refusal, unless_refused, needs_room, makes}
-use Rattle.legal_history.specs.DirectoryLines.{mkelem_tests, rmname_tests, mv_tests, directory_of}
-use Rattle.legal_history.specs.ElementTexts.{describe_text, lsvtree_text}
-use Rattle.legal_history.specs.FileLines.{element_of, last_name, mkview_tests, rmview_tests, setcs_tests, save_tests, save_deed, rm_tests}
-use Rattle.legal_history.specs.HistoryTexts.{lshistory_text}
-use Rattle.legal_history.specs.LabelLines.{labels_or_nothing, mklabel_tests, rmlabel_tests, mklabel_config_tests, placed_by, object_held, mkarrow_tests, version_named}
-use Rattle.legal_history.specs.Lines.{decision}
-use Rattle.legal_history.specs.ListingTexts.{ls_text, lsdo_text}
-use Rattle.legal_history.specs.Merges.{findmerge_text}
-use Rattle.legal_history.specs.ObjectLines.{rmdo_tests, due, scrub_of, clearmake_tests, build_unless}
-use Rattle.legal_history.specs.QueryLines.{ls_tests, cat_tests, cat_version_tests, text_row, text_at, version_seen, element_tests, diffcr_tests, findmerge_tests}
-use Rattle.legal_history.specs.RecordTexts.{catcr_text, diffcr_text, covers_text, uncovered}
-use Rattle.legal_history.specs.Seen.{at}
-use Rattle.legal_history.specs.Tests.{needs_view, needs_object, needs_free_type}
-use Rattle.legal_history.specs.Views.{spec_text}
+use Rattle.legal_history.specs.Builds.Active.{Active, building}
+use Rattle.legal_history.specs.Commands.CheckoutLines.{picked_of, checkout_tests, checkout_deed, deciding_rule, branch_by, mkbranch_tests, out_unless, checkin_tests, uncheckout_tests}
+use Rattle.legal_history.specs.Commands.Decisions.{Scene, Makes, Begins, first_refusal, unless_refused, needs_room, makes}
+use Rattle.legal_history.specs.Commands.DirectoryLines.{mkelem_tests, rmname_tests, mv_tests, directory_of}
+use Rattle.legal_history.specs.Queries.ElementTexts.{describe_text, lsvtree_text}
+use Rattle.legal_history.specs.Commands.FileLines.{element_of, last_name, mkview_tests, rmview_tests, setcs_tests, save_tests, save_deed, rm_tests}
+use Rattle.legal_history.specs.Queries.HistoryTexts.{lshistory_text}
+use Rattle.legal_history.specs.Commands.LabelLines.{labels_or_nothing, mklabel_tests, rmlabel_tests, mklabel_config_tests, placed_by, object_held, mkarrow_tests, version_named}
+use Rattle.legal_history.specs.Commands.Lines.{decision}
+use Rattle.legal_history.specs.Queries.ListingTexts.{ls_text, lsdo_text}
+use Rattle.legal_history.specs.Queries.Merges.{findmerge_text}
+use Rattle.legal_history.specs.Commands.ObjectLines.{rmdo_tests, due, scrub_of, clearmake_tests, build_unless}
+use Rattle.legal_history.specs.Queries.QueryLines.{ls_tests, cat_tests, cat_version_tests, text_row, text_at, version_seen, element_tests, diffcr_tests, findmerge_tests}
+use Rattle.legal_history.specs.Queries.RecordTexts.{catcr_text, diffcr_text, covers_text, uncovered}
+use Rattle.legal_history.specs.Base.Seen.{at}
+use Rattle.legal_history.specs.Commands.Tests.{needs_view, needs_object, needs_free_type}
+use Rattle.legal_history.specs.Base.Views.{spec_text}
 
 -- a deed takes objects only from a view in which no build is active
 abbrev pub Idle : Active → Deed → Type 0

@@ -17,16 +17,16 @@ use Rattle.cc_names.specs.declared.selection.Seen.{Seen}
 use Rattle.cc_names.specs.declared.selection.Seen.TheVariants.{Private, Element, Unselected, Nothing}
 use Rattle.cc_names.specs.declared.units.Unit.{Unit}
 use Rattle.make_text.specs.Units.{units}
-use Rattle.legal_history.specs.Base.{size}
-use Rattle.legal_history.specs.Builds.{Active, building, reserved}
-use Rattle.legal_history.specs.CheckoutLines.{checkout_deed}
-use Rattle.legal_history.specs.Conditions.{exists}
-use Rattle.legal_history.specs.Decisions.{Decision, Makes, Answers, Begins, Scene, first_refusal, unless_refused, needs_room, makes, answers}
-use Rattle.legal_history.specs.FileLines.{save_deed}
-use Rattle.legal_history.specs.Fits.{row_limit}
-use Rattle.legal_history.specs.Fresh.{texts}
-use Rattle.legal_history.specs.LabelLines.{labels_or_nothing}
-use Rattle.legal_history.specs.ObjectLines.{scrub_of, clearmake_tests, build_unless}
+use Rattle.legal_history.specs.Base.Rows.{size}
+use Rattle.legal_history.specs.Builds.Active.{Active, building, reserved}
+use Rattle.legal_history.specs.Commands.CheckoutLines.{checkout_deed}
+use Rattle.legal_history.specs.Base.Conditions.{exists}
+use Rattle.legal_history.specs.Commands.Decisions.{Decision, Makes, Answers, Begins, Scene, first_refusal, unless_refused, needs_room, makes, answers}
+use Rattle.legal_history.specs.Commands.FileLines.{save_deed}
+use Rattle.legal_history.specs.Base.Fits.{row_limit}
+use Rattle.legal_history.specs.Builds.Fresh.{texts}
+use Rattle.legal_history.specs.Commands.LabelLines.{labels_or_nothing}
+use Rattle.legal_history.specs.Commands.ObjectLines.{scrub_of, clearmake_tests, build_unless}
 use Rattle.legal_history.proofs.Decisions.Passed.{AllPass, all_pass, front_passes, rest_passes, unless_passes}
 
 -- a view that goes is none in which a build is active

@@ -6,18 +6,18 @@ use Rattle.cc_names.specs.declared.rows.Deed.TheVariants as deeds
 use Rattle.cc_names.specs.declared.rows.Kind.{Kind}
 use Rattle.cc_names.specs.declared.selection.Seen.{Seen}
 use Rattle.cc_names.specs.declared.selection.Seen.TheVariants.{Private, Element, Unselected, Nothing}
-use Rattle.legal_history.specs.Base.{Base, size}
-use Rattle.legal_history.specs.CheckoutLines.{uncheckout, uncheckout_tests}
-use Rattle.legal_history.specs.Conditions.{exists, has_out, is_file, is_directory, has_name, has_out_by_name}
-use Rattle.legal_history.specs.Decisions.{Scene}
-use Rattle.legal_history.specs.DirectoryLines.{mkelem, mkelem_tests, rmname, rmname_tests, mv, mv_tests, directory_of}
-use Rattle.legal_history.specs.FileLines.{parent, last_name, element_of, save, save_tests, save_deed, saves_at, saves_element}
-use Rattle.legal_history.specs.Fits.{fits, row_limit}
-use Rattle.legal_history.specs.LabelLines.{rmlabel, rmlabel_tests}
-use Rattle.legal_history.specs.Seen.{at}
-use Rattle.legal_history.specs.CheckoutTests.{needs_out, needs_not_out}
-use Rattle.legal_history.specs.Tests.{needs_selected, needs_directory}
-use Rattle.legal_history.specs.Views.{Checkout, out}
+use Rattle.legal_history.specs.Base.Rows.{Base, size}
+use Rattle.legal_history.specs.Commands.CheckoutLines.{uncheckout, uncheckout_tests}
+use Rattle.legal_history.specs.Base.Conditions.{exists, has_out, is_file, is_directory, has_name, has_out_by_name}
+use Rattle.legal_history.specs.Commands.Decisions.{Scene}
+use Rattle.legal_history.specs.Commands.DirectoryLines.{mkelem, mkelem_tests, rmname, rmname_tests, mv, mv_tests, directory_of}
+use Rattle.legal_history.specs.Commands.FileLines.{parent, last_name, element_of, save, save_tests, save_deed, saves_at, saves_element}
+use Rattle.legal_history.specs.Base.Fits.{fits, row_limit}
+use Rattle.legal_history.specs.Commands.LabelLines.{rmlabel, rmlabel_tests}
+use Rattle.legal_history.specs.Base.Seen.{at}
+use Rattle.legal_history.specs.Commands.CheckoutTests.{needs_out, needs_not_out}
+use Rattle.legal_history.specs.Commands.Tests.{needs_selected, needs_directory}
+use Rattle.legal_history.specs.Base.Views.{Checkout, out}
 use Rattle.legal_history.proofs.Decisions.FileFits.{RowFits}
 use Rattle.legal_history.proofs.Decisions.Passed.{made_by, where_passes, unless_passes, fits_by}
 

@@ -13,19 +13,19 @@ use Rattle.cc_names.specs.declared.selection.Picked.{Picked}
 use Rattle.cc_names.specs.declared.selection.Seen.{Seen}
 use Rattle.cc_names.specs.declared.selection.Seen.TheVariants.{Private, Element, Unselected, Nothing}
 use Rattle.cc_names.specs.declared.selection.Selector.TheVariants as selectors
-use Rattle.legal_history.specs.Base.{Base, size}
-use Rattle.legal_history.specs.Changes.{tree}
-use Rattle.legal_history.specs.Checkouts.{latest_beside, is_latest}
-use Rattle.legal_history.specs.CheckoutLines.{checkout, checkout_tests_of, checkout_by, checkout_deed, reserves_if, branch_by, deciding_rule, picked_of, mkbranch, mkbranch_tests, out_unless, out_by}
-use Rattle.legal_history.specs.Closures.{is_version_of}
-use Rattle.legal_history.specs.Conditions.{exists, has_out, is_branch_type, is_label_type, has_branch, arrow_row}
-use Rattle.legal_history.specs.Decisions.{Makes, Scene}
-use Rattle.legal_history.specs.FileLines.{element_of}
-use Rattle.legal_history.specs.Fits.{fits, is_base, row_limit, may_reserve}
-use Rattle.legal_history.specs.LabelLines.{mklabel, mklabel_tests, needs_version_picked, mkarrow, mkarrow_to, mkarrow_tests, version_named}
-use Rattle.legal_history.specs.Seen.{at}
-use Rattle.legal_history.specs.Tests.{needs_selected, needs_element, needs_branch_type, needs_no_branch}
-use Rattle.legal_history.specs.Views.{out}
+use Rattle.legal_history.specs.Base.Rows.{Base, size}
+use Rattle.legal_history.specs.Base.Changes.{tree}
+use Rattle.legal_history.specs.Base.Checkouts.{latest_beside, is_latest}
+use Rattle.legal_history.specs.Commands.CheckoutLines.{checkout, checkout_tests_of, checkout_by, checkout_deed, reserves_if, branch_by, deciding_rule, picked_of, mkbranch, mkbranch_tests, out_unless, out_by}
+use Rattle.legal_history.specs.Base.Closures.{is_version_of}
+use Rattle.legal_history.specs.Base.Conditions.{exists, has_out, is_branch_type, is_label_type, has_branch, arrow_row}
+use Rattle.legal_history.specs.Commands.Decisions.{Makes, Scene}
+use Rattle.legal_history.specs.Commands.FileLines.{element_of}
+use Rattle.legal_history.specs.Base.Fits.{fits, is_base, row_limit, may_reserve}
+use Rattle.legal_history.specs.Commands.LabelLines.{mklabel, mklabel_tests, needs_version_picked, mkarrow, mkarrow_to, mkarrow_tests, version_named}
+use Rattle.legal_history.specs.Base.Seen.{at}
+use Rattle.legal_history.specs.Commands.Tests.{needs_selected, needs_element, needs_branch_type, needs_no_branch}
+use Rattle.legal_history.specs.Base.Views.{out}
 use Rattle.legal_history.proofs.Bases.CatalogElements.{IsElement}
 use Rattle.legal_history.proofs.Decisions.CheckoutFits.{has_latest, latest_passes, none_mapped}
 use Rattle.legal_history.proofs.Decisions.DirectoryFits.{was_not_out}

@@ -14,17 +14,18 @@ use Rattle.spec_text.specs.Specs.{rules_of}
 use Rattle.cc_names.specs.Paths.{joined, names_of}
 use Rattle.cc_names.proofs.PathParts.{joined-names_of}
 use Rattle.cc_names.specs.declared.selection.Picked.{Picked}
-use Rattle.legal_history.specs.Base.{Base}
-use Rattle.legal_history.specs.Catalogs.{Catalog, named}
-use Rattle.legal_history.specs.Views.{private}
-use Rattle.legal_history.specs.Conditions.{exists}
-use Rattle.legal_history.specs.Decisions.{Decision, Makes, Scene}
-use Rattle.legal_history.specs.FileLines.{mkview, mkview_tests, rmview, rmview_tests, setcs, setcs_tests, rm, rm_tests}
-use Rattle.legal_history.specs.Fits.{fits}
-use Rattle.legal_history.specs.Seen.{at, at_names, below, private_or, as_seen, element_at, entries_of, selected}
-use Rattle.legal_history.specs.LabelLines.{mktype}
-use Rattle.legal_history.specs.ObjectLines.{rmdo, rmdo_tests}
-use Rattle.legal_history.specs.Tests.{needs_rules, needs_private, needs_free_type}
+use Rattle.legal_history.specs.Base.Rows.{Base}
+use Rattle.legal_history.specs.Base.Catalogs.{Catalog, named}
+use Rattle.legal_history.specs.Base.Views.{private}
+use Rattle.legal_history.specs.Base.Conditions.{exists}
+use Rattle.legal_history.specs.Commands.Decisions.{Decision, Makes, Scene}
+use Rattle.legal_history.specs.Commands.FileLines.{mkview, mkview_tests, rmview, rmview_tests, setcs, setcs_tests, rm, rm_tests}
+use Rattle.legal_history.specs.Base.Fits.{fits}
+use Rattle.legal_history.specs.Base.Seen.{at, at_names, below, private_or, as_seen, element_at, entries_of, selected}
+use Rattle.legal_history.specs.Commands.LabelLines.{mktype}
+use Rattle.legal_history.specs.Commands.ObjectLines.{rmdo, rmdo_tests}
+use Rattle.legal_history.specs.Commands.Tests.{needs_rules, needs_private, needs_free_type}
+use Rattle.legal_history.proofs.Bases.Makings.{short_is_seen}
 use Rattle.legal_history.proofs.Decisions.Passed.{made_by, where_passes, unless_passes, fits_by}
 
 -- Fits s decided: whatever row is decided fits
@@ -70,7 +71,8 @@ private_below : (b : Base) (v : List ℕ) (names : List (List ℕ)) (name : List
     below b v names name entries ≡ Private row → private b v (joined names) ≡ Some row
 private_below b v names name None row h = absurd (cc)
 private_below b v names name (Some entries) row h =
-    private_of_or (private b v (joined names)) (element_at b v names (named name entries)) row (no_private_element b v names (named name entries)) h
+    private_of_or (private b v (joined names)) (element_at b v names (named name entries)) row (no_private_element b v names (named name entries))
+    (short_is_seen (joined names) _ (Private row) (λ e. cc) h)
 
 pub private_at : (b : Base) (v : List ℕ) (back : List (List ℕ)) (row : ℕ) → at_names b v back ≡ Private row → private b v (joined (reverse back)) ≡ Some row
 private_at b v [] row h = absurd (no_private 0 (selected b v 0 []) row h)

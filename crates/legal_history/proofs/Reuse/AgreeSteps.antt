@@ -13,18 +13,18 @@ use Rattle.cc_names.specs.declared.steps.Told.TheVariants as told
 use Rattle.cc_names.specs.declared.steps.UnitEnd.{UnitEnd}
 use Rattle.cc_names.specs.declared.steps.UnitEnd.TheVariants as ends
 use Rattle.cc_names.specs.declared.units.Unit.{Unit}
-use Rattle.legal_history.specs.Base.{size}
-use Rattle.legal_history.specs.Builds.{Build, Ended, Given, build_of, object_of, unit_with_first}
-use Rattle.legal_history.specs.Changes.{targets_of}
-use Rattle.legal_history.specs.Committing.{MakesRow}
-use Rattle.legal_history.specs.Decisions.{Begins}
-use Rattle.legal_history.specs.Fits.{is_base}
-use Rattle.legal_history.specs.Freshness.{AgreesSoFar}
-use Rattle.legal_history.specs.States.{State, decided, build_by}
-use Rattle.legal_history.specs.Steps.{after, after_step, active_after, begun, came_by_starting, noted}
-use Rattle.legal_history.specs.Stories.{Lawful, LawfulStep}
-use Rattle.legal_history.specs.Turns.{came_by_start, unreadable}
-use Rattle.legal_history.specs.UnitTurns.{EndsEarly, Settles, Starts}
+use Rattle.legal_history.specs.Base.Rows.{size}
+use Rattle.legal_history.specs.Builds.Active.{Build, Ended, Given, build_of, object_of, unit_with_first}
+use Rattle.legal_history.specs.Base.Changes.{targets_of}
+use Rattle.legal_history.specs.Stories.Committing.{MakesRow}
+use Rattle.legal_history.specs.Commands.Decisions.{Begins}
+use Rattle.legal_history.specs.Base.Fits.{is_base}
+use Rattle.legal_history.specs.Builds.Freshness.{AgreesSoFar}
+use Rattle.legal_history.specs.Stories.States.{State, decided, build_by}
+use Rattle.legal_history.specs.Stories.Steps.{after, after_step, active_after, begun, came_by_starting, noted}
+use Rattle.legal_history.specs.Stories.Lawful.{Lawful, LawfulStep}
+use Rattle.legal_history.specs.Builds.Turns.{came_by_start, unreadable}
+use Rattle.legal_history.specs.Builds.UnitTurns.{EndsEarly, Settles, Starts}
 use Rattle.legal_history.proofs.Builds.AgreeStays.{begins_so, came_so, faulted_agrees, row_added}
 use Rattle.legal_history.proofs.Builds.AllBuilds.{Each, each_as, each_begun, each_faulted, each_without}
 use Rattle.legal_history.proofs.Builds.BuildSteps.{begun_begins}

@@ -2,13 +2,13 @@
 -- build reuses an object.
 use Rattle.std.proofs.Common.{◌≡◌, ap, sym, subst, ◌∙◌, ℕ, false, Some, None, List, [], ◌∷◌}
 use Rattle.cc_names.specs.declared.steps.Told.{Told}
-use Rattle.legal_history.specs.Builds.{Build, build_of}
-use Rattle.legal_history.specs.Freshness.{AgreesSoFar}
-use Rattle.legal_history.specs.Reuse.{reuses}
-use Rattle.legal_history.specs.States.{State, Opening, start}
-use Rattle.legal_history.specs.Steps.{after, state_from, state_of}
-use Rattle.legal_history.specs.Stories.{Lawful, Legal, LegalFrom}
-use Rattle.legal_history.specs.Values as values
+use Rattle.legal_history.specs.Builds.Active.{Build, build_of}
+use Rattle.legal_history.specs.Builds.Freshness.{AgreesSoFar}
+use Rattle.legal_history.specs.Builds.Reuse.{reuses}
+use Rattle.legal_history.specs.Stories.States.{State, Opening, start}
+use Rattle.legal_history.specs.Stories.Steps.{after, state_from, state_of}
+use Rattle.legal_history.specs.Stories.Lawful.{Lawful, Legal, LegalFrom}
+use Rattle.legal_history.specs.Base.Values as values
 use Rattle.legal_history.proofs.Stories.SoundStories.{IsSound, none_active, sound_first, sound_step}
 use Rattle.legal_history.proofs.Reuse.AgreeSteps.{BuildsAgree, agree_step}
 use Rattle.legal_history.proofs.Reuse.GivenCommits.{AllHeld}

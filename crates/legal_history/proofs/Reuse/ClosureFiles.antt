@@ -15,11 +15,11 @@ use Rattle.cc_names.specs.declared.rows.Deed.TheVariants as deeds
 use Rattle.cc_names.specs.declared.rows.Kind.{Kind}
 use Rattle.cc_names.specs.declared.rows.Kind.TheVariants.{File, Directory}
 use Rattle.cc_names.specs.declared.rows.ReadOf.{ReadOf}
-use Rattle.legal_history.specs.Base.{Base, size, deed_at}
-use Rattle.legal_history.specs.Changes.{targets_of_deed, tree}
-use Rattle.legal_history.specs.Closures.{Source, Sources, source_cmp, joined_sources, sources_of_entry, sources_of, closure, entries_of_deed, is_among, is_publish, is_publish_deed, is_version_of}
-use Rattle.legal_history.specs.Conditions.{element_of_text, is_file_kind, is_some_file, makes_file_text, is_entry}
-use Rattle.legal_history.specs.Fits.{is_base}
+use Rattle.legal_history.specs.Base.Rows.{Base, size, deed_at}
+use Rattle.legal_history.specs.Base.Changes.{targets_of_deed, tree}
+use Rattle.legal_history.specs.Base.Closures.{Source, Sources, source_cmp, joined_sources, sources_of_entry, sources_of, closure, entries_of_deed, is_among, is_publish, is_publish_deed, is_version_of}
+use Rattle.legal_history.specs.Base.Conditions.{element_of_text, is_file_kind, is_some_file, makes_file_text, is_entry}
+use Rattle.legal_history.specs.Base.Fits.{is_base}
 use Rattle.legal_history.proofs.Bases.Owned.{and_first, and_second, row_fits, rows_below}
 use Rattle.legal_history.proofs.Bases.FileRows.{FileText, file_text_stays}
 use Rattle.legal_history.proofs.Bases.VersionRows.{version_text}

@@ -13,11 +13,11 @@ use Rattle.std.specs.Prelude.{is_some, bytes_eq, option_map, find as find_in}
 use Rattle.std.specs.declared.cmp.Ordering.{Ordering}
 use Rattle.std.specs.declared.cmp.Ordering.TheVariants.{Less, Equal, Greater}
 use Rattle.cc_names.specs.declared.rows.ReadOf.{ReadOf}
-use Rattle.legal_history.specs.Base.{Base, size, only_where}
-use Rattle.legal_history.specs.Closures.{Source, Sources, source_cmp, joined_sources, sources_of_entry, sources_of, closure, entries_of_deed, is_publish}
-use Rattle.legal_history.specs.RecordTexts.{row_in, uncovered_among}
-use Rattle.legal_history.specs.Reuse.{agrees}
-use Rattle.legal_history.specs.Seen.{file_at}
+use Rattle.legal_history.specs.Base.Rows.{Base, size, only_where}
+use Rattle.legal_history.specs.Base.Closures.{Source, Sources, source_cmp, joined_sources, sources_of_entry, sources_of, closure, entries_of_deed, is_publish}
+use Rattle.legal_history.specs.Queries.RecordTexts.{row_in, uncovered_among}
+use Rattle.legal_history.specs.Builds.Reuse.{agrees}
+use Rattle.legal_history.specs.Base.Seen.{file_at}
 use Rattle.legal_history.proofs.Stories.Goes.{same_number}
 use Rattle.legal_history.proofs.Bases.Owned.{and_first, and_second}
 

@@ -5,15 +5,15 @@ use Rattle.cc_names.specs.declared.rows.Deed.{Deed}
 use Rattle.cc_names.specs.declared.rows.Deed.TheVariants as deeds
 use Rattle.cc_names.specs.declared.rows.ReadOf.{ReadOf}
 use Rattle.build_script.specs.Run.{Files, Ran, run}
-use Rattle.legal_history.specs.Base.{Base, size}
-use Rattle.legal_history.specs.Changes.{targets_of}
-use Rattle.legal_history.specs.Closures.{Sources, sources_of_entry, sources_of, closure, entries_of_deed, is_publish}
-use Rattle.legal_history.specs.Fits.{is_base}
-use Rattle.legal_history.specs.Fresh.{texts}
-use Rattle.legal_history.specs.RecordTexts.{row_in, uncovered}
-use Rattle.legal_history.specs.Seen.{file_at}
-use Rattle.legal_history.specs.Texts.{text}
-use Rattle.legal_history.specs.Values.{output_of_run, outputs_of_run, text_of_entry, texts_of_entries, run_of_deed, rerun, text_seen, texts_seen, rerun_on, again, is_true}
+use Rattle.legal_history.specs.Base.Rows.{Base, size}
+use Rattle.legal_history.specs.Base.Changes.{targets_of}
+use Rattle.legal_history.specs.Base.Closures.{Sources, sources_of_entry, sources_of, closure, entries_of_deed, is_publish}
+use Rattle.legal_history.specs.Base.Fits.{is_base}
+use Rattle.legal_history.specs.Builds.Fresh.{texts}
+use Rattle.legal_history.specs.Queries.RecordTexts.{row_in, uncovered}
+use Rattle.legal_history.specs.Base.Seen.{file_at}
+use Rattle.legal_history.specs.Base.Texts.{text}
+use Rattle.legal_history.specs.Base.Values.{output_of_run, outputs_of_run, text_of_entry, texts_of_entries, run_of_deed, rerun, text_seen, texts_seen, rerun_on, again, is_true}
 use Rattle.legal_history.proofs.Bases.Owned.{row_fits, rows_below}
 use Rattle.legal_history.proofs.Bases.Stay.{text_stays}
 use Rattle.legal_history.specs.Laws.Objects.{outputs_of, outputs_of_deed}

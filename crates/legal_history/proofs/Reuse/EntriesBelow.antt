@@ -5,12 +5,12 @@ use Rattle.std.specs.Prelude.{bytes_eq, find, option_map}
 use Rattle.cc_names.specs.declared.rows.Deed.{Deed}
 use Rattle.cc_names.specs.declared.rows.Deed.TheVariants as deeds
 use Rattle.cc_names.specs.declared.rows.ReadOf.{ReadOf}
-use Rattle.legal_history.specs.Base.{Base, size, deed_at}
-use Rattle.legal_history.specs.Changes.{targets_of_deed}
-use Rattle.legal_history.specs.Closures.{entries_of_deed, is_among}
-use Rattle.legal_history.specs.Conditions.{exists, is_entry, makes_file_text}
-use Rattle.legal_history.specs.Fits.{deed_fits}
-use Rattle.legal_history.specs.RecordTexts.{row_in}
+use Rattle.legal_history.specs.Base.Rows.{Base, size, deed_at}
+use Rattle.legal_history.specs.Base.Changes.{targets_of_deed}
+use Rattle.legal_history.specs.Base.Closures.{entries_of_deed, is_among}
+use Rattle.legal_history.specs.Base.Conditions.{exists, is_entry, makes_file_text}
+use Rattle.legal_history.specs.Base.Fits.{deed_fits}
+use Rattle.legal_history.specs.Queries.RecordTexts.{row_in}
 use Rattle.legal_history.proofs.Stories.Goes.{same_number}
 use Rattle.legal_history.proofs.Bases.Owned.{and_first, and_second}
 use Rattle.legal_history.proofs.Bases.Deeds.{deed_below}

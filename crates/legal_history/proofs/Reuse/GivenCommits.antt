@@ -8,18 +8,18 @@ use Rattle.cc_names.specs.declared.rows.Deed.TheVariants as deeds
 use Rattle.cc_names.specs.declared.rows.ReadOf.{ReadOf}
 use Rattle.cc_names.specs.declared.rows.Tag.{Tag}
 use Rattle.cc_names.specs.declared.units.Unit.{Unit}
-use Rattle.legal_history.specs.Base.{Base, size}
-use Rattle.legal_history.specs.Builds.{Build, Given, build_of, came_to, is_outcome, object_of, number_from, unit_at, unit_with_first}
-use Rattle.legal_history.specs.Closures.{is_among}
-use Rattle.legal_history.specs.Decisions.{Makes}
-use Rattle.legal_history.specs.Changes.{targets_of}
-use Rattle.legal_history.specs.Fits.{deed_fits, is_base}
-use Rattle.legal_history.specs.Reuse.{choice}
-use Rattle.legal_history.specs.Serials.{makes}
-use Rattle.legal_history.specs.States.{State, scene, decided}
-use Rattle.legal_history.specs.Steps.{noted, active_after, with_came}
-use Rattle.legal_history.specs.Committing.{MakesRow}
-use Rattle.legal_history.specs.UnitTurns.{Winks, Publishes}
+use Rattle.legal_history.specs.Base.Rows.{Base, size}
+use Rattle.legal_history.specs.Builds.Active.{Build, Given, build_of, came_to, is_outcome, object_of, number_from, unit_at, unit_with_first}
+use Rattle.legal_history.specs.Base.Closures.{is_among}
+use Rattle.legal_history.specs.Commands.Decisions.{Makes}
+use Rattle.legal_history.specs.Base.Changes.{targets_of}
+use Rattle.legal_history.specs.Base.Fits.{deed_fits, is_base}
+use Rattle.legal_history.specs.Builds.Reuse.{choice}
+use Rattle.legal_history.specs.Builds.Serials.{makes}
+use Rattle.legal_history.specs.Stories.States.{State, scene, decided}
+use Rattle.legal_history.specs.Stories.Steps.{noted, active_after, with_came}
+use Rattle.legal_history.specs.Stories.Committing.{MakesRow}
+use Rattle.legal_history.specs.Builds.UnitTurns.{Winks, Publishes}
 use Rattle.legal_history.proofs.Stories.Goes.{of_lane}
 use Rattle.legal_history.proofs.Builds.AllBuilds.{Each, each_noted}
 use Rattle.legal_history.proofs.Stories.DecidedSteps.{decided_of}

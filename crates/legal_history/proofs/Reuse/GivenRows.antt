@@ -11,13 +11,13 @@ use Rattle.cc_names.specs.declared.rows.Deed.TheVariants as deeds
 use Rattle.cc_names.specs.declared.rows.ReadOf.{ReadOf}
 use Rattle.cc_names.specs.declared.rows.Tag.{Tag}
 use Rattle.cc_names.specs.declared.units.Unit.{Unit}
-use Rattle.legal_history.specs.Base.{Base, size}
-use Rattle.legal_history.specs.Builds.{Active, Build, Came, Started, Ended, Given, build_of, building, came_to, is_outcome, object_of, unit_at, unit_with_first}
-use Rattle.legal_history.specs.Changes.{held, live, targets_of}
-use Rattle.legal_history.specs.Closures.{is_among}
-use Rattle.legal_history.specs.Fits.{deed_fits}
-use Rattle.legal_history.specs.Serials.{makes}
-use Rattle.legal_history.specs.Steps.{with_came}
+use Rattle.legal_history.specs.Base.Rows.{Base, size}
+use Rattle.legal_history.specs.Builds.Active.{Active, Build, Came, Started, Ended, Given, build_of, building, came_to, is_outcome, object_of, unit_at, unit_with_first}
+use Rattle.legal_history.specs.Base.Changes.{held, live, targets_of}
+use Rattle.legal_history.specs.Base.Closures.{is_among}
+use Rattle.legal_history.specs.Base.Fits.{deed_fits}
+use Rattle.legal_history.specs.Builds.Serials.{makes}
+use Rattle.legal_history.specs.Stories.Steps.{with_came}
 use Rattle.legal_history.proofs.Builds.FreshSeen.{or_first, bytes_itself}
 use Rattle.legal_history.proofs.Stories.Goes.{same_number}
 use Rattle.legal_history.proofs.Bases.Owned.{same_is_same}

@@ -8,14 +8,14 @@ use Rattle.cc_names.specs.declared.steps.Told.TheVariants as told
 use Rattle.cc_names.specs.declared.steps.UnitEnd.{UnitEnd}
 use Rattle.cc_names.specs.declared.steps.UnitEnd.TheVariants as ends
 use Rattle.cc_names.specs.declared.units.Unit.{Unit}
-use Rattle.legal_history.specs.Builds.{Build, Came, Ended, build_of, object_of, unit_at}
-use Rattle.legal_history.specs.Decisions.{Begins}
-use Rattle.legal_history.specs.Fits.{is_base}
-use Rattle.legal_history.specs.States.{State, decided, build_by}
-use Rattle.legal_history.specs.Steps.{after, after_step, noted, came_by_starting, came_of_unit, begun, with_came}
-use Rattle.legal_history.specs.Stories.{Lawful, LawfulStep}
-use Rattle.legal_history.specs.UnitTurns.{Settles, Keeps}
-use Rattle.legal_history.specs.Turns.{unreadable}
+use Rattle.legal_history.specs.Builds.Active.{Build, Came, Ended, build_of, object_of, unit_at}
+use Rattle.legal_history.specs.Commands.Decisions.{Begins}
+use Rattle.legal_history.specs.Base.Fits.{is_base}
+use Rattle.legal_history.specs.Stories.States.{State, decided, build_by}
+use Rattle.legal_history.specs.Stories.Steps.{after, after_step, noted, came_by_starting, came_of_unit, begun, with_came}
+use Rattle.legal_history.specs.Stories.Lawful.{Lawful, LawfulStep}
+use Rattle.legal_history.specs.Builds.UnitTurns.{Settles, Keeps}
+use Rattle.legal_history.specs.Builds.Turns.{unreadable}
 use Rattle.legal_history.proofs.Stories.Goes.{of_lane}
 use Rattle.legal_history.proofs.Bases.Owned.{row_fits}
 use Rattle.legal_history.proofs.Builds.AllBuilds.{Each, each_noted, each_without, each_begun, each_faulted}

@@ -5,13 +5,13 @@ use Rattle.std.specs.Prelude.{bytes_eq}
 use Rattle.cc_names.specs.References.{held_at}
 use Rattle.cc_names.specs.Versions.{is_number}
 use Rattle.cc_names.specs.declared.units.Unit.{Unit}
-use Rattle.legal_history.specs.Base.{Base}
-use Rattle.legal_history.specs.Builds.{Build, unit_at}
-use Rattle.legal_history.specs.Changes.{held}
-use Rattle.legal_history.specs.Closures.{is_among}
-use Rattle.legal_history.specs.Fits.{is_base}
-use Rattle.legal_history.specs.Consistency.{IsObjectOf}
-use Rattle.legal_history.specs.Reuse.{choice, held_at_all, held_at_each, held_at_others, reusable, reuses}
+use Rattle.legal_history.specs.Base.Rows.{Base}
+use Rattle.legal_history.specs.Builds.Active.{Build, unit_at}
+use Rattle.legal_history.specs.Base.Changes.{held}
+use Rattle.legal_history.specs.Base.Closures.{is_among}
+use Rattle.legal_history.specs.Base.Fits.{is_base}
+use Rattle.legal_history.specs.Builds.Consistency.{IsObjectOf}
+use Rattle.legal_history.specs.Builds.Reuse.{choice, held_at_all, held_at_each, held_at_others, reusable, reuses}
 use Rattle.legal_history.proofs.Builds.FreshSeen.{or_first, bytes_itself}
 use Rattle.legal_history.proofs.Bases.Owned.{and_first, and_second}
 use Rattle.legal_history.specs.Laws.Given.{IsHeld}

@@ -11,15 +11,15 @@ use Rattle.cc_names.specs.declared.units.Unit.{Unit}
 use Rattle.build_script.specs.Frame.{Agree}
 use Rattle.build_script.specs.Run.{Ran, run}
 use Rattle.build_script.proofs.FrameLemmas.{run_framed}
-use Rattle.legal_history.specs.Base.{Base, first_rows, deed_at}
-use Rattle.legal_history.specs.Builds.{Build}
-use Rattle.legal_history.specs.Changes.{targets_of, targets_of_deed}
-use Rattle.legal_history.specs.Choices.{text_of_row, visible}
-use Rattle.legal_history.specs.Fits.{is_base}
-use Rattle.legal_history.specs.Fresh.{script_text}
-use Rattle.legal_history.specs.RecordTexts.{row_in}
-use Rattle.legal_history.specs.Reuse.{agrees, are_same_paths, entry_agrees, record_matches, matches}
-use Rattle.legal_history.specs.Values.{outputs_of_run, outputs_of_result, has_entries, reads_of_run, text_of_entry, texts_of_entries, rerun, is_true, IsSound}
+use Rattle.legal_history.specs.Base.Rows.{Base, first_rows, deed_at}
+use Rattle.legal_history.specs.Builds.Active.{Build}
+use Rattle.legal_history.specs.Base.Changes.{targets_of, targets_of_deed}
+use Rattle.legal_history.specs.Builds.Choices.{text_of_row, visible}
+use Rattle.legal_history.specs.Base.Fits.{is_base}
+use Rattle.legal_history.specs.Builds.Fresh.{script_text}
+use Rattle.legal_history.specs.Queries.RecordTexts.{row_in}
+use Rattle.legal_history.specs.Builds.Reuse.{agrees, are_same_paths, entry_agrees, record_matches, matches}
+use Rattle.legal_history.specs.Base.Values.{outputs_of_run, outputs_of_result, has_entries, reads_of_run, text_of_entry, texts_of_entries, rerun, is_true, IsSound}
 use Rattle.legal_history.proofs.Bases.Owned.{and_first, and_second}
 use Rattle.legal_history.specs.Laws.Objects.{outputs_of_deed, GivesLive, IsTheRun}
 use Rattle.legal_history.proofs.Reuse.Reruns.{rerun_now}

@@ -3,13 +3,13 @@ use Rattle.std.proofs.Common.{◌≡◌, ℕ, suc, true, Option, Some, None, Lis
 use Rattle.cc_names.specs.declared.rows.Deed.{Deed}
 use Rattle.cc_names.specs.declared.rows.Deed.TheVariants as deeds
 use Rattle.cc_names.specs.declared.units.Unit.{Unit}
-use Rattle.legal_history.specs.Base.{Base, deed_at}
-use Rattle.legal_history.specs.Builds.{Build}
-use Rattle.legal_history.specs.Choices.{visible}
-use Rattle.legal_history.specs.Closures.{entries_of_deed}
-use Rattle.legal_history.specs.Fresh.{script_text}
-use Rattle.legal_history.specs.RecordTexts.{record_of, row_in}
-use Rattle.legal_history.specs.Reuse.{agrees, matches, record_matches}
+use Rattle.legal_history.specs.Base.Rows.{Base, deed_at}
+use Rattle.legal_history.specs.Builds.Active.{Build}
+use Rattle.legal_history.specs.Builds.Choices.{visible}
+use Rattle.legal_history.specs.Base.Closures.{entries_of_deed}
+use Rattle.legal_history.specs.Builds.Fresh.{script_text}
+use Rattle.legal_history.specs.Queries.RecordTexts.{record_of, row_in}
+use Rattle.legal_history.specs.Builds.Reuse.{agrees, matches, record_matches}
 use Rattle.legal_history.specs.Laws.Given.{SeenBy}
 use Rattle.legal_history.proofs.Reuse.Matched.{matching, named_agrees}
 use Rattle.legal_history.proofs.Reuse.Members.{seen_by}

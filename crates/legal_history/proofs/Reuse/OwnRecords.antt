@@ -19,15 +19,15 @@ use Rattle.cc_names.specs.declared.selection.Picked.{Picked}
 use Rattle.cc_names.specs.declared.selection.Seen.{Seen}
 use Rattle.cc_names.specs.declared.selection.Seen.TheVariants.{Private, Element, Unselected, Nothing}
 use Rattle.cc_names.specs.declared.units.Unit.{Unit}
-use Rattle.legal_history.specs.Base.{Base, first_rows, deed_at}
-use Rattle.legal_history.specs.Builds.{Build}
-use Rattle.legal_history.specs.Changes.{live, tree}
-use Rattle.legal_history.specs.Choices.{as_entry, entries, entry_row, here, in_order, visible}
-use Rattle.legal_history.specs.Closures.{is_version_of}
-use Rattle.legal_history.specs.Fits.{is_base}
-use Rattle.legal_history.specs.Fresh.{script_text}
-use Rattle.legal_history.specs.Reuse.{agrees, entry_agrees, matches, record_matches, reusable}
-use Rattle.legal_history.specs.Seen.{at, file_at, file_seen, row_of_file}
+use Rattle.legal_history.specs.Base.Rows.{Base, first_rows, deed_at}
+use Rattle.legal_history.specs.Builds.Active.{Build}
+use Rattle.legal_history.specs.Base.Changes.{live, tree}
+use Rattle.legal_history.specs.Builds.Choices.{as_entry, entries, entry_row, here, in_order, visible}
+use Rattle.legal_history.specs.Base.Closures.{is_version_of}
+use Rattle.legal_history.specs.Base.Fits.{is_base}
+use Rattle.legal_history.specs.Builds.Fresh.{script_text}
+use Rattle.legal_history.specs.Builds.Reuse.{agrees, entry_agrees, matches, record_matches, reusable}
+use Rattle.legal_history.specs.Base.Seen.{at, file_at, file_seen, row_of_file}
 use Rattle.legal_history.proofs.Decisions.FileFits.{private_at}
 use Rattle.legal_history.proofs.Builds.FreshSeen.{bytes_itself}
 use Rattle.legal_history.proofs.Bases.Makings.{seen_element}

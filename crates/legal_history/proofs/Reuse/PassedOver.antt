@@ -4,10 +4,10 @@ use Rattle.std.proofs.lemmas.Bool.Decides.{nat_tests}
 use Rattle.std.specs.Option.{option_or}
 use Rattle.std.specs.Prelude.{is_some}
 use Rattle.cc_names.specs.declared.units.Unit.{Unit}
-use Rattle.legal_history.specs.Base.{Base, size}
-use Rattle.legal_history.specs.Builds.{Build}
-use Rattle.legal_history.specs.Changes.{live}
-use Rattle.legal_history.specs.Reuse.{matches, held_at_all, if_matches, newest_match, by_options, reusable}
+use Rattle.legal_history.specs.Base.Rows.{Base, size}
+use Rattle.legal_history.specs.Builds.Active.{Build}
+use Rattle.legal_history.specs.Base.Changes.{live}
+use Rattle.legal_history.specs.Builds.Reuse.{matches, held_at_all, if_matches, newest_match, by_options, reusable}
 use Rattle.legal_history.proofs.Stories.Goes.{same_number}
 use Rattle.legal_history.proofs.Reuse.SoundRows.{live_below, live_above}
 

@@ -10,16 +10,16 @@ use Rattle.cc_names.specs.declared.steps.Step.TheVariants as steps
 use Rattle.cc_names.specs.declared.steps.Told.{Told}
 use Rattle.cc_names.specs.declared.steps.Told.TheVariants as told
 use Rattle.cc_names.specs.declared.units.Unit.{Unit}
-use Rattle.legal_history.specs.Base.{size}
-use Rattle.legal_history.specs.Builds.{Active, Build, Came, Given, build_of, came_to, is_outcome, number_from, unit_at, unit_with_first}
-use Rattle.legal_history.specs.Changes.{held, targets_of}
-use Rattle.legal_history.specs.Closures.{is_among}
-use Rattle.legal_history.specs.Decisions.{Makes}
-use Rattle.legal_history.specs.Serials.{makes}
-use Rattle.legal_history.specs.States.{State, scene, decided}
-use Rattle.legal_history.specs.Steps.{after, active_after, noted, noted_in, with_came, state_of}
-use Rattle.legal_history.specs.Committing.{MakesRow}
-use Rattle.legal_history.specs.Stories.{Lawful, Legal}
+use Rattle.legal_history.specs.Base.Rows.{size}
+use Rattle.legal_history.specs.Builds.Active.{Active, Build, Came, Given, build_of, came_to, is_outcome, number_from, unit_at, unit_with_first}
+use Rattle.legal_history.specs.Base.Changes.{held, targets_of}
+use Rattle.legal_history.specs.Base.Closures.{is_among}
+use Rattle.legal_history.specs.Commands.Decisions.{Makes}
+use Rattle.legal_history.specs.Builds.Serials.{makes}
+use Rattle.legal_history.specs.Stories.States.{State, scene, decided}
+use Rattle.legal_history.specs.Stories.Steps.{after, active_after, noted, noted_in, with_came, state_of}
+use Rattle.legal_history.specs.Stories.Committing.{MakesRow}
+use Rattle.legal_history.specs.Stories.Lawful.{Lawful, Legal}
 use Rattle.legal_history.proofs.Stories.Goes.{of_lane}
 use Rattle.legal_history.proofs.Stories.Tables.{find_put_same}
 use Rattle.legal_history.proofs.Stories.DecidedSteps.{decided_of}

@@ -15,14 +15,14 @@ use Rattle.cc_names.specs.declared.rows.ReadOf.{ReadOf}
 use Rattle.cc_names.specs.declared.units.Unit.{Unit}
 use Rattle.build_script.specs.Run.{Ran, run}
 use Rattle.build_script.proofs.FrameLemmas.{run_framed}
-use Rattle.legal_history.specs.Base.{Base, size, first_rows, deed_at}
-use Rattle.legal_history.specs.Builds.{Build}
-use Rattle.legal_history.specs.Choices.{here, visible, text_of_row, entry_row, in_order, as_entry, entries}
-use Rattle.legal_history.specs.Closures.{is_among}
-use Rattle.legal_history.specs.Fits.{is_base}
-use Rattle.legal_history.specs.Fresh.{script_text}
-use Rattle.legal_history.specs.RecordTexts.{row_in}
-use Rattle.legal_history.specs.Values.{outputs_of_result, has_entries, are_stored, text_of_entry, texts_of_entries, run_of_deed, rerun, is_true, is_true_deed, IsSound}
+use Rattle.legal_history.specs.Base.Rows.{Base, size, first_rows, deed_at}
+use Rattle.legal_history.specs.Builds.Active.{Build}
+use Rattle.legal_history.specs.Builds.Choices.{here, visible, text_of_row, entry_row, in_order, as_entry, entries}
+use Rattle.legal_history.specs.Base.Closures.{is_among}
+use Rattle.legal_history.specs.Base.Fits.{is_base}
+use Rattle.legal_history.specs.Builds.Fresh.{script_text}
+use Rattle.legal_history.specs.Queries.RecordTexts.{row_in}
+use Rattle.legal_history.specs.Base.Values.{outputs_of_result, has_entries, are_stored, text_of_entry, texts_of_entries, run_of_deed, rerun, is_true, is_true_deed, IsSound}
 use Rattle.legal_history.proofs.Builds.FreshSeen.{or_first, or_second, bytes_itself}
 use Rattle.legal_history.proofs.Bases.Owned.{same_is_same}
 use Rattle.legal_history.proofs.Builds.Published.{IsPublish}

@@ -6,12 +6,12 @@ use Rattle.cc_names.specs.declared.rows.Deed.{Deed}
 use Rattle.cc_names.specs.declared.rows.Deed.TheVariants as deeds
 use Rattle.cc_names.specs.declared.rows.ReadOf.{ReadOf}
 use Rattle.build_script.specs.Run.{Ran, run}
-use Rattle.legal_history.specs.Base.{Base, size, row_at, deed_of, deed_at}
-use Rattle.legal_history.specs.Changes.{targets_of_deed}
-use Rattle.legal_history.specs.Closures.{entries_of_deed, is_publish_deed}
-use Rattle.legal_history.specs.Fits.{is_base}
-use Rattle.legal_history.specs.RecordTexts.{row_in}
-use Rattle.legal_history.specs.Values.{output_of_run, outputs_of_run, text_of_entry, texts_of_entries, run_of_deed, rerun}
+use Rattle.legal_history.specs.Base.Rows.{Base, size, row_at, deed_of, deed_at}
+use Rattle.legal_history.specs.Base.Changes.{targets_of_deed}
+use Rattle.legal_history.specs.Base.Closures.{entries_of_deed, is_publish_deed}
+use Rattle.legal_history.specs.Base.Fits.{is_base}
+use Rattle.legal_history.specs.Queries.RecordTexts.{row_in}
+use Rattle.legal_history.specs.Base.Values.{output_of_run, outputs_of_run, text_of_entry, texts_of_entries, run_of_deed, rerun}
 use Rattle.legal_history.proofs.Bases.Owned.{row_fits, rows_below}
 use Rattle.legal_history.proofs.Bases.Stay.{row_stays, text_stays}
 use Rattle.legal_history.proofs.Bases.VersionsStay.{apart_below}

@@ -2,11 +2,11 @@
 use Rattle.std.proofs.Common.{◌≡◌, refl, ap, sym, subst, ◌∙◌, ℕ, ◌<◌, Option, Some, None, List, ◌++◌}
 use Rattle.cc_names.specs.declared.units.Unit.{Unit}
 use Rattle.build_script.specs.Run.{run}
-use Rattle.legal_history.specs.Base.{Base, size, first_rows}
-use Rattle.legal_history.specs.Builds.{Build}
-use Rattle.legal_history.specs.Choices.{here, text_of_row, visible, visible_in}
-use Rattle.legal_history.specs.Consistency.{IsConsistent}
-use Rattle.legal_history.specs.Fresh.{script_text}
+use Rattle.legal_history.specs.Base.Rows.{Base, size, first_rows}
+use Rattle.legal_history.specs.Builds.Active.{Build}
+use Rattle.legal_history.specs.Builds.Choices.{here, text_of_row, visible, visible_in}
+use Rattle.legal_history.specs.Builds.Consistency.{IsConsistent}
+use Rattle.legal_history.specs.Builds.Fresh.{script_text}
 use Rattle.legal_history.specs.Laws.Given.{SeenBy, ByUnit, ByFile}
 use Rattle.legal_history.proofs.Bases.FilesBelow.{beyond, file_is_below}
 use Rattle.legal_history.proofs.Bases.Stay.{first_rows_stay_all, more_below, text_stays_all}

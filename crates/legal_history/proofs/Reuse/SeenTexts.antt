@@ -6,17 +6,17 @@ use Rattle.cc_names.specs.Versions.{is_number}
 use Rattle.cc_names.specs.declared.rows.Deed.{Deed}
 use Rattle.cc_names.specs.declared.rows.Deed.TheVariants as deeds
 use Rattle.cc_names.specs.declared.units.Unit.{Unit}
-use Rattle.legal_history.specs.Base.{Base, first_rows, deed_at}
-use Rattle.legal_history.specs.Builds.{Build}
-use Rattle.legal_history.specs.Changes.{targets_of, targets_of_deed}
-use Rattle.legal_history.specs.Choices.{entry_row, text_of_row, visible}
-use Rattle.legal_history.specs.Closures.{is_publish, is_publish_deed}
-use Rattle.legal_history.specs.Conditions.{makes_file_text}
-use Rattle.legal_history.specs.Fits.{is_base}
-use Rattle.legal_history.specs.Reuse.{agrees}
-use Rattle.legal_history.specs.Seen.{file_at}
-use Rattle.legal_history.specs.Texts.{output_at, text}
-use Rattle.legal_history.specs.Values.{output_of_run, outputs_of_run, text_of_entry, is_true, rerun, IsSound}
+use Rattle.legal_history.specs.Base.Rows.{Base, first_rows, deed_at}
+use Rattle.legal_history.specs.Builds.Active.{Build}
+use Rattle.legal_history.specs.Base.Changes.{targets_of, targets_of_deed}
+use Rattle.legal_history.specs.Builds.Choices.{entry_row, text_of_row, visible}
+use Rattle.legal_history.specs.Base.Closures.{is_publish, is_publish_deed}
+use Rattle.legal_history.specs.Base.Conditions.{makes_file_text}
+use Rattle.legal_history.specs.Base.Fits.{is_base}
+use Rattle.legal_history.specs.Builds.Reuse.{agrees}
+use Rattle.legal_history.specs.Base.Seen.{file_at}
+use Rattle.legal_history.specs.Base.Texts.{output_at, text}
+use Rattle.legal_history.specs.Base.Values.{output_of_run, outputs_of_run, text_of_entry, is_true, rerun, IsSound}
 use Rattle.legal_history.proofs.Bases.FilesBelow.{beyond}
 use Rattle.legal_history.proofs.Bases.FileRows.{FileText, file_is_text, file_text_stays_all}
 use Rattle.legal_history.proofs.Bases.RootRow.{no_row}

@@ -11,13 +11,13 @@ use Rattle.cc_names.specs.declared.changes.Place.{Place}
 use Rattle.cc_names.specs.declared.rows.Kind.TheVariants.{File}
 use Rattle.cc_names.specs.declared.selection.Picked.{Picked}
 use Rattle.spec_text.specs.Rules.{finds, is_checkout, picked_by}
-use Rattle.legal_history.specs.Base.{Base, only_where}
-use Rattle.legal_history.specs.Changes.{targets_of, tree}
-use Rattle.legal_history.specs.Closures.{Source, Sources, source_cmp, closure, greater_of, is_among, is_version_of, listed, listing, listing_of, version_listed, with_version_at}
-use Rattle.legal_history.specs.Fits.{is_base}
-use Rattle.legal_history.specs.RecordTexts.{uncovered, uncovered_among}
-use Rattle.legal_history.specs.Reuse.{agrees}
-use Rattle.legal_history.specs.Seen.{file_at, file_seen, row_of_file, selected, sources}
+use Rattle.legal_history.specs.Base.Rows.{Base, only_where}
+use Rattle.legal_history.specs.Base.Changes.{targets_of, tree}
+use Rattle.legal_history.specs.Base.Closures.{Source, Sources, source_cmp, closure, greater_of, is_among, is_version_of, listed, listing, listing_of, version_listed, with_version_at}
+use Rattle.legal_history.specs.Base.Fits.{is_base}
+use Rattle.legal_history.specs.Queries.RecordTexts.{uncovered, uncovered_among}
+use Rattle.legal_history.specs.Builds.Reuse.{agrees}
+use Rattle.legal_history.specs.Base.Seen.{file_at, file_seen, row_of_file, selected, sources}
 use Rattle.legal_history.proofs.Stories.Goes.{same_number}
 use Rattle.legal_history.proofs.Bases.LabelsHold.{greater, place_listed}
 use Rattle.legal_history.proofs.Bases.Makings.{seen_element}

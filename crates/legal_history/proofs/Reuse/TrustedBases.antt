@@ -4,13 +4,13 @@ use Rattle.cc_names.specs.Formed.{Plain}
 use Rattle.cc_names.specs.declared.rows.Deed.TheVariants as deeds
 use Rattle.cc_names.specs.declared.steps.UnitEnd.TheVariants as ends
 use Rattle.cc_names.specs.declared.units.Unit.{Unit}
-use Rattle.legal_history.specs.Base.{Base}
-use Rattle.legal_history.specs.Builds.{Build, Ended, Given, unit_at}
-use Rattle.legal_history.specs.Fits.{is_base}
-use Rattle.legal_history.specs.Freshness.{AgreesSoFar}
-use Rattle.legal_history.specs.Reuse.{choice, reusable, reuses}
-use Rattle.legal_history.specs.Steps.{with_came}
-use Rattle.legal_history.specs.Values as values
+use Rattle.legal_history.specs.Base.Rows.{Base}
+use Rattle.legal_history.specs.Builds.Active.{Build, Ended, Given, unit_at}
+use Rattle.legal_history.specs.Base.Fits.{is_base}
+use Rattle.legal_history.specs.Builds.Freshness.{AgreesSoFar}
+use Rattle.legal_history.specs.Builds.Reuse.{choice, reusable, reuses}
+use Rattle.legal_history.specs.Stories.Steps.{with_came}
+use Rattle.legal_history.specs.Base.Values as values
 use Rattle.legal_history.specs.Laws.FromNothing.{IsDue}
 use Rattle.legal_history.specs.Laws.Objects.{GivesLive}
 use Rattle.legal_history.proofs.Reuse.KeptObjects.{chosen_is_reusable}

@@ -7,13 +7,13 @@ use Rattle.cc_names.specs.declared.refusals.Refusal.{Refusal}
 use Rattle.cc_names.specs.declared.rows.Tag.{Tag}
 use Rattle.cc_names.specs.declared.units.Unit.{Unit}
 use Rattle.make_text.specs.Units.{units}
-use Rattle.legal_history.specs.Builds.{Active, Build, Came, build_of, building}
-use Rattle.legal_history.specs.Decisions.{Scene, Begins, first_refusal}
-use Rattle.legal_history.specs.Fresh.{texts}
-use Rattle.legal_history.specs.Lines.{decision}
-use Rattle.legal_history.specs.ObjectLines.{clearmake_tests, build_unless}
-use Rattle.legal_history.specs.States.{State, scene, decided}
-use Rattle.legal_history.specs.Steps.{begun, noted, with_came, with_build, without_build, faulted_in}
+use Rattle.legal_history.specs.Builds.Active.{Active, Build, Came, build_of, building}
+use Rattle.legal_history.specs.Commands.Decisions.{Scene, Begins, first_refusal}
+use Rattle.legal_history.specs.Builds.Fresh.{texts}
+use Rattle.legal_history.specs.Commands.Lines.{decision}
+use Rattle.legal_history.specs.Commands.ObjectLines.{clearmake_tests, build_unless}
+use Rattle.legal_history.specs.Stories.States.{State, scene, decided}
+use Rattle.legal_history.specs.Stories.Steps.{begun, noted, with_came, with_build, without_build, faulted_in}
 use Rattle.legal_history.proofs.Stories.Goes.{same_number}
 use Rattle.legal_history.proofs.Decisions.Passed.{all_pass}
 use Rattle.legal_history.proofs.Stories.Tables.{find_after_put}

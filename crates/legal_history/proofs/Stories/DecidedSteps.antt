@@ -5,12 +5,12 @@ use Rattle.cc_names.specs.declared.commands.Command.{Command}
 use Rattle.cc_names.specs.declared.commands.Command.TheVariants as commands
 use Rattle.cc_names.specs.declared.rows.Tag.{Tag}
 use Rattle.cc_names.specs.declared.units.Unit.{Unit}
-use Rattle.legal_history.specs.Base.{size}
-use Rattle.legal_history.specs.Builds.{Build}
-use Rattle.legal_history.specs.Decisions.{Decision, Begins}
-use Rattle.legal_history.specs.Lines.{decision}
-use Rattle.legal_history.specs.States.{State, scene, decided, next_command}
-use Rattle.legal_history.specs.Steps.{begun, new_build, units_begun}
+use Rattle.legal_history.specs.Base.Rows.{size}
+use Rattle.legal_history.specs.Builds.Active.{Build}
+use Rattle.legal_history.specs.Commands.Decisions.{Decision, Begins}
+use Rattle.legal_history.specs.Commands.Lines.{decision}
+use Rattle.legal_history.specs.Stories.States.{State, scene, decided, next_command}
+use Rattle.legal_history.specs.Stories.Steps.{begun, new_build, units_begun}
 use Rattle.legal_history.proofs.Decisions.Decided.{decided_says}
 use Rattle.legal_history.proofs.Decisions.DecidedSays.{Says}
 

@@ -14,15 +14,15 @@ use Rattle.cc_names.specs.declared.steps.Told.{Told}
 use Rattle.cc_names.specs.declared.steps.Told.TheVariants as told
 use Rattle.cc_names.specs.declared.units.Unit.{Unit}
 use Rattle.make_text.specs.Units.{units}
-use Rattle.legal_history.specs.Builds.{Build, build_of}
-use Rattle.legal_history.specs.Committing.{FaultsAt, MakesRow}
-use Rattle.legal_history.specs.Decisions.{Answers, Begins, Decision, Makes, Scene, first_refusal, needs_room, unless_refused}
-use Rattle.legal_history.specs.Fresh.{texts}
-use Rattle.legal_history.specs.Lines.{decision}
-use Rattle.legal_history.specs.ObjectLines.{build_unless, clearmake_tests}
-use Rattle.legal_history.specs.States.{State, build_by, decided, done_of, next_command, next_tag, scene, with_done}
-use Rattle.legal_history.specs.Steps.{after, after_step, done_after, done_by_fault}
-use Rattle.legal_history.specs.Stories.{Lawful, LawfulStep}
+use Rattle.legal_history.specs.Builds.Active.{Build, build_of}
+use Rattle.legal_history.specs.Stories.Committing.{FaultsAt, MakesRow}
+use Rattle.legal_history.specs.Commands.Decisions.{Answers, Begins, Decision, Makes, Scene, first_refusal, needs_room, unless_refused}
+use Rattle.legal_history.specs.Builds.Fresh.{texts}
+use Rattle.legal_history.specs.Commands.Lines.{decision}
+use Rattle.legal_history.specs.Commands.ObjectLines.{build_unless, clearmake_tests}
+use Rattle.legal_history.specs.Stories.States.{State, build_by, decided, done_of, next_command, next_tag, scene, with_done}
+use Rattle.legal_history.specs.Stories.Steps.{after, after_step, done_after, done_by_fault}
+use Rattle.legal_history.specs.Stories.Lawful.{Lawful, LawfulStep}
 use Rattle.legal_history.specs.Laws.Ends.{IsLeft, IsRefused, builds}
 use Rattle.legal_history.proofs.Builds.CommandStays.{next_is, other_done}
 use Rattle.legal_history.proofs.Builds.FineBuilds.{some_same}

@@ -12,12 +12,12 @@ use Rattle.cc_names.specs.declared.steps.Told.TheVariants as told
 use Rattle.cc_names.specs.declared.steps.UnitEnd.{UnitEnd}
 use Rattle.cc_names.specs.declared.steps.UnitEnd.TheVariants as ends
 use Rattle.cc_names.specs.declared.refusals.UnitFault.TheVariants as unit_faults
-use Rattle.legal_history.specs.Base.{only_where}
-use Rattle.legal_history.specs.States.{State, start, decided, is_next, next_command, command_behind, lane_at, done_of}
-use Rattle.legal_history.specs.Steps.{after, state_from}
-use Rattle.legal_history.specs.Committing.{MakesRow}
-use Rattle.legal_history.specs.Stories.{Lawful, LawfulStep, LegalFrom}
-use Rattle.legal_history.specs.UnitTurns.{Settles}
+use Rattle.legal_history.specs.Base.Rows.{only_where}
+use Rattle.legal_history.specs.Stories.States.{State, start, decided, is_next, next_command, command_behind, lane_at, done_of}
+use Rattle.legal_history.specs.Stories.Steps.{after, state_from}
+use Rattle.legal_history.specs.Stories.Committing.{MakesRow}
+use Rattle.legal_history.specs.Stories.Lawful.{Lawful, LawfulStep, LegalFrom}
+use Rattle.legal_history.specs.Builds.UnitTurns.{Settles}
 
 pub front_is_legal : (s : State) (front rest : List Told) → LegalFrom s (front ++ rest) → LegalFrom s front
 front_is_legal s [] rest h = tt

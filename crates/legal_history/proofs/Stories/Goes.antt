@@ -16,18 +16,18 @@ use Rattle.cc_names.specs.declared.steps.UnitEnd.{UnitEnd}
 use Rattle.cc_names.specs.declared.steps.UnitEnd.TheVariants as ends
 use Rattle.cc_names.specs.declared.refusals.UnitFault.TheVariants as unit_faults
 use Rattle.cc_names.specs.declared.units.Unit.{Unit}
-use Rattle.legal_history.specs.Base.{only_where}
-use Rattle.legal_history.specs.Builds.{Active, Build, Came, build_of, came_to, is_outcome, unit_with_first}
-use Rattle.legal_history.specs.Changes.{targets_of}
-use Rattle.legal_history.specs.Growth.{Continues, Goes, Over, On}
+use Rattle.legal_history.specs.Base.Rows.{only_where}
+use Rattle.legal_history.specs.Builds.Active.{Active, Build, Came, build_of, came_to, is_outcome, unit_with_first}
+use Rattle.legal_history.specs.Base.Changes.{targets_of}
+use Rattle.legal_history.specs.Stories.Growth.{Continues, Goes, Over, On}
 use Rattle.cc_names.specs.declared.refusals.Refusal.{Refusal}
-use Rattle.legal_history.specs.Decisions.{Decision}
-use Rattle.legal_history.specs.Lines.{decision}
-use Rattle.legal_history.specs.States.{State, scene, decided, command_behind, lane_at, done_of, is_next, build_by, build_if, same_tag}
-use Rattle.legal_history.specs.Steps.{after, after_step, noted, with_came, begun, with_build, without_build, faulted_in, active_after}
-use Rattle.legal_history.specs.Committing.{MakesRow}
-use Rattle.legal_history.specs.Stories.{Lawful, LawfulStep}
-use Rattle.legal_history.specs.UnitTurns.{Settles, Waits}
+use Rattle.legal_history.specs.Commands.Decisions.{Decision}
+use Rattle.legal_history.specs.Commands.Lines.{decision}
+use Rattle.legal_history.specs.Stories.States.{State, scene, decided, command_behind, lane_at, done_of, is_next, build_by, build_if, same_tag}
+use Rattle.legal_history.specs.Stories.Steps.{after, after_step, noted, with_came, begun, with_build, without_build, faulted_in, active_after}
+use Rattle.legal_history.specs.Stories.Committing.{MakesRow}
+use Rattle.legal_history.specs.Stories.Lawful.{Lawful, LawfulStep}
+use Rattle.legal_history.specs.Builds.UnitTurns.{Settles, Waits}
 use Rattle.legal_history.proofs.Stories.Tables.{find_put_same, find_put_other, find_without}
 
 pub continues_itself : (b : Build) → Continues b b

@@ -3,13 +3,13 @@ use Rattle.std.proofs.Common.{◌≡◌, ap, sym, subst, ◌∙◌, ℕ, true, S
 use Rattle.std.specs.Prelude.{is_some}
 use Rattle.cc_names.specs.declared.steps.Told.{Told}
 use Rattle.cc_names.specs.declared.units.Unit.{Unit}
-use Rattle.legal_history.specs.Base.{Base, first_rows}
-use Rattle.legal_history.specs.Builds.{Build, build_of, came_to, unit_at}
-use Rattle.legal_history.specs.Consistency.{IsReady, IsConsistent}
-use Rattle.legal_history.specs.Growth.{Continues, Goes, Over, On, Extends}
-use Rattle.legal_history.specs.States.{State, start}
-use Rattle.legal_history.specs.Steps.{after, state_of}
-use Rattle.legal_history.specs.Stories.{Lawful, Legal}
+use Rattle.legal_history.specs.Base.Rows.{Base, first_rows}
+use Rattle.legal_history.specs.Builds.Active.{Build, build_of, came_to, unit_at}
+use Rattle.legal_history.specs.Builds.Consistency.{IsReady, IsConsistent}
+use Rattle.legal_history.specs.Stories.Growth.{Continues, Goes, Over, On, Extends}
+use Rattle.legal_history.specs.Stories.States.{State, start}
+use Rattle.legal_history.specs.Stories.Steps.{after, state_of}
+use Rattle.legal_history.specs.Stories.Lawful.{Lawful, Legal}
 use Rattle.legal_history.proofs.Stories.Fronts.{first_opens}
 use Rattle.legal_history.proofs.Stories.Goes.{step_goes}
 use Rattle.legal_history.proofs.Stories.Grows.{is_opened, step_extends}

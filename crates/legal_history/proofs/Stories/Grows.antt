@@ -6,11 +6,11 @@ use Rattle.cc_names.specs.declared.steps.Step.{Step}
 use Rattle.cc_names.specs.declared.steps.Step.TheVariants as steps
 use Rattle.cc_names.specs.declared.steps.Told.{Told}
 use Rattle.cc_names.specs.declared.steps.Told.TheVariants as told
-use Rattle.legal_history.specs.Base.{Base}
-use Rattle.legal_history.specs.Growth.{Extends}
-use Rattle.legal_history.specs.States.{State, start}
-use Rattle.legal_history.specs.Steps.{after, after_step, state_from, state_of}
-use Rattle.legal_history.specs.Stories.{Lawful, LegalFrom, Legal}
+use Rattle.legal_history.specs.Base.Rows.{Base}
+use Rattle.legal_history.specs.Stories.Growth.{Extends}
+use Rattle.legal_history.specs.Stories.States.{State, start}
+use Rattle.legal_history.specs.Stories.Steps.{after, after_step, state_from, state_of}
+use Rattle.legal_history.specs.Stories.Lawful.{Lawful, LegalFrom, Legal}
 use Rattle.legal_history.proofs.Stories.Fronts.{state_goes_on, rest_is_legal, first_opens}
 
 pub extends_itself : (b : Base) → Extends b b

@@ -11,18 +11,18 @@ use Rattle.cc_names.specs.declared.steps.Step.TheVariants as steps
 use Rattle.cc_names.specs.declared.steps.Told.{Told}
 use Rattle.cc_names.specs.declared.steps.Told.TheVariants as told
 use Rattle.cc_names.specs.declared.units.Unit.{Unit}
-use Rattle.legal_history.specs.Base.{Base, size}
-use Rattle.legal_history.specs.Builds.{Build, build_of}
-use Rattle.legal_history.specs.Changes.{live}
-use Rattle.legal_history.specs.Choices.{here, visible, entries}
-use Rattle.legal_history.specs.Conditions.{exists, is_entry}
-use Rattle.legal_history.specs.Decisions.{Makes}
-use Rattle.legal_history.specs.Fits.{fits, is_base, row_limit}
-use Rattle.legal_history.specs.Consistency.{IsReady, IsConsistent}
-use Rattle.legal_history.specs.States.{State, scene, start}
-use Rattle.legal_history.specs.Steps.{after, active_after, state_from, state_of}
-use Rattle.legal_history.specs.Committing.{MakesRow}
-use Rattle.legal_history.specs.Stories.{Lawful, LegalFrom, Legal}
+use Rattle.legal_history.specs.Base.Rows.{Base, size}
+use Rattle.legal_history.specs.Builds.Active.{Build, build_of}
+use Rattle.legal_history.specs.Base.Changes.{live}
+use Rattle.legal_history.specs.Builds.Choices.{here, visible, entries}
+use Rattle.legal_history.specs.Base.Conditions.{exists, is_entry}
+use Rattle.legal_history.specs.Commands.Decisions.{Makes}
+use Rattle.legal_history.specs.Base.Fits.{fits, is_base, row_limit}
+use Rattle.legal_history.specs.Builds.Consistency.{IsReady, IsConsistent}
+use Rattle.legal_history.specs.Stories.States.{State, scene, start}
+use Rattle.legal_history.specs.Stories.Steps.{after, active_after, state_from, state_of}
+use Rattle.legal_history.specs.Stories.Committing.{MakesRow}
+use Rattle.legal_history.specs.Stories.Lawful.{Lawful, LegalFrom, Legal}
 use Rattle.legal_history.proofs.Decisions.DecidedFits.{decided_fits}
 use Rattle.legal_history.proofs.Stories.Fronts.{first_opens}
 use Rattle.legal_history.proofs.Stories.Goes.{of_lane}

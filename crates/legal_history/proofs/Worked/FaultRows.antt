@@ -9,10 +9,10 @@ use Rattle.cc_names.specs.declared.rows.Deed.TheVariants as deeds
 use Rattle.cc_names.specs.declared.steps.Step.TheVariants as steps
 use Rattle.cc_names.specs.declared.steps.Told.{Told}
 use Rattle.cc_names.specs.declared.steps.Told.TheVariants as told
-use Rattle.legal_history.specs.Builds.{Given}
-use Rattle.legal_history.specs.States.{all_done, build_by}
-use Rattle.legal_history.specs.Steps.{state_of}
-use Rattle.legal_history.specs.Stories.{Legal}
+use Rattle.legal_history.specs.Builds.Active.{Given}
+use Rattle.legal_history.specs.Stories.States.{all_done, build_by}
+use Rattle.legal_history.specs.Stories.Steps.{state_of}
+use Rattle.legal_history.specs.Stories.Lawful.{Legal}
 use Rattle.legal_history.specs.Worked.{tag, row}
 use Rattle.legal_history.proofs.Worked.StoryParts.{one_lane, opened, comes_after}
 use Rattle.legal_history.proofs.Worked.TwoViews.{v, hi, makefile, script}
@@ -59,7 +59,7 @@ fails_once =
 fails_once_is_legal : Legal fails_once
 unfolding IsLe
 fails_once_is_legal = (
-  record { first = refl; fits = refl },
+  record { first = refl; formed = tt; fits = refl },
   (
     record { opened = refl; finished = refl; in_time = le_by_compare 1700000000 253402300799 tt },
     (

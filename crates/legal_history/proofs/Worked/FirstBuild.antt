@@ -9,14 +9,14 @@ use Rattle.cc_names.specs.declared.rows.Deed.TheVariants as deeds
 use Rattle.cc_names.specs.declared.steps.Step.TheVariants as steps
 use Rattle.cc_names.specs.declared.steps.Told.{Told}
 use Rattle.cc_names.specs.declared.steps.Told.TheVariants as told
-use Rattle.legal_history.specs.Base.{Base}
-use Rattle.legal_history.specs.Fits.{is_base}
-use Rattle.legal_history.specs.Seen.{file_at, directory_at}
-use Rattle.legal_history.specs.States.{all_done}
-use Rattle.legal_history.specs.Steps.{state_of}
-use Rattle.legal_history.specs.Stories.{Legal}
-use Rattle.legal_history.specs.Texts.{text}
-use Rattle.legal_history.specs.VersionNames.{line}
+use Rattle.legal_history.specs.Base.Rows.{Base}
+use Rattle.legal_history.specs.Base.Fits.{is_base}
+use Rattle.legal_history.specs.Base.Seen.{file_at, directory_at}
+use Rattle.legal_history.specs.Stories.States.{all_done}
+use Rattle.legal_history.specs.Stories.Steps.{state_of}
+use Rattle.legal_history.specs.Stories.Lawful.{Legal}
+use Rattle.legal_history.specs.Base.Texts.{text}
+use Rattle.legal_history.specs.Queries.VersionNames.{line}
 use Rattle.legal_history.specs.Worked.{tag, row}
 
 abbrev makefile : List ℕ
@@ -73,7 +73,7 @@ saves = opened ∷ told.Plan phase 1700000000 ∷ told.Commit row_1 7 ∷ told.C
 saves_are_legal : Legal saves
 unfolding IsLe
 saves_are_legal = (
-  record { first = refl; fits = refl },
+  record { first = refl; formed = tt; fits = refl },
   (
     record { opened = refl; finished = refl; in_time = le_by_compare 1700000000 253402300799 tt },
     (
@@ -94,7 +94,7 @@ build =
 build_is_legal : Legal (saves ++ build)
 unfolding IsLe
 build_is_legal = (
-  record { first = refl; fits = refl },
+  record { first = refl; formed = tt; fits = refl },
   (
     record { opened = refl; finished = refl; in_time = le_by_compare 1700000000 253402300799 tt },
     (
@@ -138,4 +138,4 @@ all_are_finished = refl
 
 -- the empty session: a base is opened and no phase is planned
 nothing_is_legal : Legal (opened ∷ [])
-nothing_is_legal = (record { first = refl; fits = refl }, tt)
+nothing_is_legal = (record { first = refl; formed = tt; fits = refl }, tt)

@@ -1,6 +1,6 @@
 -- A branch is merged: an arrow says so, and what is not merged is found.
-use Rattle.std.proofs.Common.{◌≡◌, refl, ℕ, true, false, Ok, Err, List, [], ◌∷◌, ◌++◌, map}
-use Rattle.std.specs.Prelude.{codes, replicate, length}
+use Rattle.std.proofs.Common.{◌≡◌, refl, true, false, Ok, Err, [], ◌∷◌, ◌++◌, map}
+use Rattle.std.specs.Prelude.{codes}
 use Rattle.std.specs.Fmt.{digits}
 use Rattle.cc_names.specs.declared.commands.Command.{Command}
 use Rattle.cc_names.specs.declared.commands.Command.TheVariants as commands
@@ -8,12 +8,11 @@ use Rattle.cc_names.specs.declared.refusals.Refusal.TheVariants as refusals
 use Rattle.cc_names.specs.declared.rows.Deed.TheVariants as deeds
 use Rattle.cc_names.specs.declared.rows.Out.TheVariants as outs
 use Rattle.cc_names.specs.declared.rows.TypeKind.TheVariants as type_kinds
-use Rattle.cc_names.specs.declared.selection.Seen.TheVariants.{Nothing}
-use Rattle.legal_history.specs.Base.{Base, first_rows}
-use Rattle.legal_history.specs.Decisions.{Makes, Answers}
-use Rattle.legal_history.specs.Fits.{is_base}
-use Rattle.legal_history.specs.Merges.{Elements, reaches, where_short}
-use Rattle.legal_history.specs.VersionNames.{line, version_name}
+use Rattle.legal_history.specs.Base.Rows.{Base, first_rows}
+use Rattle.legal_history.specs.Commands.Decisions.{Makes, Answers}
+use Rattle.legal_history.specs.Base.Fits.{is_base}
+use Rattle.legal_history.specs.Queries.Merges.{reaches}
+use Rattle.legal_history.specs.Queries.VersionNames.{line, version_name}
 use Rattle.legal_history.specs.Worked.{base_of, decisions}
 use Rattle.legal_history.proofs.Worked.TwoViews.{v, w, two_views, all_deeds}
 
@@ -70,13 +69,3 @@ nothing_else_is_merged :
     ∷ findmerge ∷ [])
     ≡ Err (refusals.NoVersion (codes "in")) ∷ Err (refusals.SameVersion 8) ∷ Err (refusals.NoType (codes "fix")) ∷ []
 nothing_else_is_merged = refl
-
--- a path of 1,024 bytes is looked at, a longer one is not
-abbrev found : List ℕ → Elements → Elements
-found path others = (path, Nothing) ∷ others
-
-the_longest_path_is_seen : length (where_short found (replicate 1024 97) []) ≡ 1
-the_longest_path_is_seen = refl
-
-a_longer_path_is_not : where_short found (replicate 1025 97) [] ≡ []
-a_longer_path_is_not = refl

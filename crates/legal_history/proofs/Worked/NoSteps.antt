@@ -9,16 +9,16 @@ use Rattle.cc_names.specs.declared.rows.Deed.TheVariants as deeds
 use Rattle.cc_names.specs.declared.rows.Tag.{Tag}
 use Rattle.cc_names.specs.declared.steps.UnitEnd.{UnitEnd}
 use Rattle.cc_names.specs.declared.units.Unit.{Unit}
-use Rattle.legal_history.specs.Builds.{Build, came_to, is_outcome, unit_at, unit_with_first}
-use Rattle.legal_history.specs.Changes.{targets_of}
-use Rattle.legal_history.specs.Choices.{here, publish_of}
-use Rattle.legal_history.specs.Decisions.{Answers, Begins}
-use Rattle.legal_history.specs.Reuse.{held_at_all}
-use Rattle.legal_history.specs.States.{State, decided, build_by}
-use Rattle.legal_history.specs.Committing.{MakesRow, RowFor}
-use Rattle.legal_history.specs.Stories.{BeginsBuild, EndsBuild}
-use Rattle.legal_history.specs.UnitTurns.{Waits, Starts, Keeps, Fails, EndsEarly, Winks, Publishes}
-use Rattle.legal_history.specs.Turns.{early, is_complete}
+use Rattle.legal_history.specs.Builds.Active.{Build, came_to, is_outcome, unit_at, unit_with_first}
+use Rattle.legal_history.specs.Base.Changes.{targets_of}
+use Rattle.legal_history.specs.Builds.Choices.{here, publish_of}
+use Rattle.legal_history.specs.Commands.Decisions.{Answers, Begins}
+use Rattle.legal_history.specs.Builds.Reuse.{held_at_all}
+use Rattle.legal_history.specs.Stories.States.{State, decided, build_by}
+use Rattle.legal_history.specs.Stories.Committing.{MakesRow, RowFor}
+use Rattle.legal_history.specs.Stories.Lawful.{BeginsBuild, EndsBuild}
+use Rattle.legal_history.specs.Builds.UnitTurns.{Waits, Starts, Keeps, Fails, EndsEarly, Winks, Publishes}
+use Rattle.legal_history.specs.Builds.Turns.{early, is_complete}
 
 -- two things that a test tells apart are not the same
 pub apart : {A : Type 0} (test : A → Bool) {a b : A} → a ≡ b → test a ≡ true → test b ≡ false → ⊥

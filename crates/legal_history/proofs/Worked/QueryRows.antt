@@ -5,12 +5,12 @@ use Rattle.std.specs.Fmt.{digits}
 use Rattle.cc_names.specs.declared.commands.Command.TheVariants as commands
 use Rattle.cc_names.specs.declared.rows.Deed.TheVariants as deeds
 use Rattle.cc_names.specs.declared.rows.TypeKind.TheVariants as type_kinds
-use Rattle.legal_history.specs.Base.{Base, first_rows}
-use Rattle.legal_history.specs.Decisions.{Makes, Answers, Begins}
-use Rattle.legal_history.specs.Fits.{is_base}
-use Rattle.legal_history.specs.Fresh.{fresh}
-use Rattle.legal_history.specs.Texts.{text}
-use Rattle.legal_history.specs.VersionNames.{line}
+use Rattle.legal_history.specs.Base.Rows.{Base, first_rows}
+use Rattle.legal_history.specs.Commands.Decisions.{Makes, Answers, Begins}
+use Rattle.legal_history.specs.Base.Fits.{is_base}
+use Rattle.legal_history.specs.Builds.Fresh.{fresh}
+use Rattle.legal_history.specs.Base.Texts.{text}
+use Rattle.legal_history.specs.Queries.VersionNames.{line}
 use Rattle.legal_history.specs.Worked.{base_of, decisions}
 use Rattle.legal_history.proofs.Worked.TwoViews.{v, w, hi, script, unit, built, clearmake, two_views, all_deeds}
 

@@ -11,11 +11,11 @@ use Rattle.cc_names.specs.declared.rows.Deed.{Deed}
 use Rattle.cc_names.specs.declared.rows.Deed.TheVariants as deeds
 use Rattle.cc_names.specs.declared.steps.UnitEnd.TheVariants.{Blocked, Kept, Failed}
 use Rattle.cc_names.specs.declared.units.UnitScript.TheVariants.{Lines}
-use Rattle.legal_history.specs.Base.{Base}
-use Rattle.legal_history.specs.Builds.{Build, Came, Ended, Given}
-use Rattle.legal_history.specs.VersionNames.{line}
+use Rattle.legal_history.specs.Base.Rows.{Base}
+use Rattle.legal_history.specs.Builds.Active.{Build, Came, Ended, Given}
+use Rattle.legal_history.specs.Queries.VersionNames.{line}
 use Rattle.legal_history.specs.Worked.{tag, base_of}
-use Rattle.legal_history.specs.Replied.{digest_of, reply_of, reply_from_nothing}
+use Rattle.legal_history.specs.Builds.Replied.{digest_of, reply_of, reply_from_nothing}
 
 abbrev script : List ℕ
 script = line (codes "cat in > out")

@@ -3,13 +3,13 @@ use Rattle.std.proofs.Common.{◌≡◌, refl, true, Some, None, Ok, [], ◌∷�
 use Rattle.std.specs.Prelude.{codes}
 use Rattle.cc_names.specs.declared.commands.Command.TheVariants as commands
 use Rattle.cc_names.specs.declared.rows.Deed.TheVariants as deeds
-use Rattle.legal_history.specs.Base.{Base, first_rows}
-use Rattle.legal_history.specs.Changes.{held, live}
-use Rattle.legal_history.specs.Decisions.{Makes, Answers, Begins}
-use Rattle.legal_history.specs.Fits.{is_base}
-use Rattle.legal_history.specs.Fresh.{fresh}
-use Rattle.legal_history.specs.Reuse.{reusable}
-use Rattle.legal_history.specs.Texts.{text}
+use Rattle.legal_history.specs.Base.Rows.{Base, first_rows}
+use Rattle.legal_history.specs.Base.Changes.{held, live}
+use Rattle.legal_history.specs.Commands.Decisions.{Makes, Answers, Begins}
+use Rattle.legal_history.specs.Base.Fits.{is_base}
+use Rattle.legal_history.specs.Builds.Fresh.{fresh}
+use Rattle.legal_history.specs.Builds.Reuse.{reusable}
+use Rattle.legal_history.specs.Base.Texts.{text}
 use Rattle.legal_history.specs.Worked.{base_of, decisions}
 use Rattle.legal_history.proofs.Worked.ReuseRows.{build_in, publish_in}
 use Rattle.legal_history.proofs.Worked.TwoViews.{v, w, hi, unit, built, clearmake, all_deeds, two_views}

@@ -4,11 +4,11 @@ use Rattle.std.specs.FinMap.Entries.{find}
 use Rattle.std.specs.Ordering.{eq_by_cmp}
 use Rattle.std.specs.Prelude.{codes, is_some}
 use Rattle.cc_names.specs.declared.rows.Deed.TheVariants as deeds
-use Rattle.legal_history.specs.Base.{Base}
-use Rattle.legal_history.specs.Closures.{Source, source_cmp, closure}
-use Rattle.legal_history.specs.Fits.{is_base}
-use Rattle.legal_history.specs.RecordTexts.{uncovered}
-use Rattle.legal_history.specs.VersionNames.{line}
+use Rattle.legal_history.specs.Base.Rows.{Base}
+use Rattle.legal_history.specs.Base.Closures.{Source, source_cmp, closure}
+use Rattle.legal_history.specs.Base.Fits.{is_base}
+use Rattle.legal_history.specs.Queries.RecordTexts.{uncovered}
+use Rattle.legal_history.specs.Queries.VersionNames.{line}
 use Rattle.legal_history.specs.Worked.{base_of}
 use Rattle.legal_history.proofs.Worked.TwoViews.{all_deeds, v}
 use Rattle.legal_history.specs.Laws.Selected.{IsSelected, IsVersion, SeesByRecord}

@@ -5,9 +5,9 @@ use Rattle.cc_names.specs.declared.commands.Command.{Command}
 use Rattle.cc_names.specs.declared.commands.Phase.{Phase}
 use Rattle.cc_names.specs.declared.steps.Told.{Told}
 use Rattle.cc_names.specs.declared.steps.Told.TheVariants as told
-use Rattle.legal_history.specs.Builds.{Came}
-use Rattle.legal_history.specs.States.{build_by}
-use Rattle.legal_history.specs.Steps.{state_of}
+use Rattle.legal_history.specs.Builds.Active.{Came}
+use Rattle.legal_history.specs.Stories.States.{build_by}
+use Rattle.legal_history.specs.Stories.Steps.{state_of}
 use Rattle.legal_history.specs.Worked.{tag}
 
 -- a phase of one lane

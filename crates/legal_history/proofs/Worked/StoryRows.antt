@@ -8,10 +8,10 @@ use Rattle.cc_names.specs.declared.rows.Kind.TheVariants.{File}
 use Rattle.cc_names.specs.declared.steps.Step.TheVariants as steps
 use Rattle.cc_names.specs.declared.steps.Told.{Told}
 use Rattle.cc_names.specs.declared.steps.Told.TheVariants as told
-use Rattle.legal_history.specs.Builds.{Given}
-use Rattle.legal_history.specs.States.{all_done}
-use Rattle.legal_history.specs.Steps.{state_of}
-use Rattle.legal_history.specs.Stories.{Legal}
+use Rattle.legal_history.specs.Builds.Active.{Given}
+use Rattle.legal_history.specs.Stories.States.{all_done}
+use Rattle.legal_history.specs.Stories.Steps.{state_of}
+use Rattle.legal_history.specs.Stories.Lawful.{Legal}
 use Rattle.legal_history.specs.Worked.{tag, row, base_of}
 use Rattle.legal_history.proofs.Worked.ReuseRows.{publish_in}
 use Rattle.legal_history.proofs.Worked.StoryParts.{comes_after, one_lane, opened}
@@ -45,7 +45,7 @@ both_build =
 both_build_is_legal : Legal both_build
 unfolding IsLe
 both_build_is_legal = (
-  record { first = refl; fits = refl },
+  record { first = refl; formed = tt; fits = refl },
   (
     record { opened = refl; finished = refl; in_time = le_by_compare 1700000000 253402300799 tt },
     (

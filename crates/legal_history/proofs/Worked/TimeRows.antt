@@ -10,12 +10,12 @@ use Rattle.cc_names.specs.declared.rows.Deed.{Deed}
 use Rattle.cc_names.specs.declared.rows.Deed.TheVariants as deeds
 use Rattle.cc_names.specs.declared.rows.Kind.TheVariants.{File}
 use Rattle.date_text.proofs.OnLiterals.{dates_on_literals}
-use Rattle.legal_history.specs.Base.{Base}
-use Rattle.legal_history.specs.Decisions.{Decision, Makes, Answers}
-use Rattle.legal_history.specs.Fits.{is_base}
-use Rattle.legal_history.specs.Lines.{decision}
-use Rattle.legal_history.specs.Seen.{file_at}
-use Rattle.legal_history.specs.VersionNames.{line, version_name}
+use Rattle.legal_history.specs.Base.Rows.{Base}
+use Rattle.legal_history.specs.Commands.Decisions.{Decision, Makes, Answers}
+use Rattle.legal_history.specs.Base.Fits.{is_base}
+use Rattle.legal_history.specs.Commands.Lines.{decision}
+use Rattle.legal_history.specs.Base.Seen.{file_at}
+use Rattle.legal_history.specs.Queries.VersionNames.{line, version_name}
 use Rattle.legal_history.specs.Worked.{tag, base_of, decisions}
 use Rattle.legal_history.proofs.Worked.TwoViews.{v, w}
 

@@ -12,13 +12,13 @@ use Rattle.cc_names.specs.declared.rows.Deed.TheVariants as deeds
 use Rattle.cc_names.specs.declared.rows.TypeKind.TheVariants as type_kinds
 use Rattle.cc_names.specs.declared.steps.UnitEnd.TheVariants.{Kept}
 use Rattle.sha2.specs.Sha256.{sha256}
-use Rattle.legal_history.specs.Base.{Base, first_rows}
-use Rattle.legal_history.specs.Builds.{Build, Came, Ended, Given}
-use Rattle.legal_history.specs.Fits.{is_base}
-use Rattle.legal_history.specs.VersionNames.{line}
+use Rattle.legal_history.specs.Base.Rows.{Base, first_rows}
+use Rattle.legal_history.specs.Builds.Active.{Build, Came, Ended, Given}
+use Rattle.legal_history.specs.Base.Fits.{is_base}
+use Rattle.legal_history.specs.Queries.VersionNames.{line}
 use Rattle.legal_history.specs.Worked.{tag, row}
 use Rattle.legal_history.proofs.Worked.TwoViews.{v, w, hi, script, unit, two_views}
-use Rattle.legal_history.specs.Replied.{reply_of, reply_from_nothing}
+use Rattle.legal_history.specs.Builds.Replied.{reply_of, reply_from_nothing}
 
 -- the one line `out WORD 3 DIGEST`
 abbrev out_line : (Digest → UnitWord) → Reply

@@ -11,10 +11,10 @@ use Rattle.cc_names.specs.declared.steps.Step.TheVariants as steps
 use Rattle.cc_names.specs.declared.steps.Told.{Told}
 use Rattle.cc_names.specs.declared.steps.Told.TheVariants as told
 use Rattle.cc_names.specs.declared.steps.UnitEnd.TheVariants as ends
-use Rattle.legal_history.specs.Closures.{entries_of_deed}
-use Rattle.legal_history.specs.States.{State}
-use Rattle.legal_history.specs.Steps.{state_of}
-use Rattle.legal_history.specs.Stories.{Lawful}
+use Rattle.legal_history.specs.Base.Closures.{entries_of_deed}
+use Rattle.legal_history.specs.Stories.States.{State}
+use Rattle.legal_history.specs.Stories.Steps.{state_of}
+use Rattle.legal_history.specs.Stories.Lawful.{Lawful}
 use Rattle.legal_history.specs.Worked.{tag, row, base_of}
 use Rattle.legal_history.proofs.Worked.FaultRows.{before_fault, published}
 use Rattle.legal_history.proofs.Worked.NoSteps.{apart, published_is, no_second, no_second_row, no_start, no_end, no_failure, no_early_end, no_keep, no_wink}

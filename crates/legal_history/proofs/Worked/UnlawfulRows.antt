@@ -8,11 +8,11 @@ use Rattle.cc_names.specs.declared.rows.Deed.TheVariants as deeds
 use Rattle.cc_names.specs.declared.steps.Step.TheVariants as steps
 use Rattle.cc_names.specs.declared.steps.Told.{Told}
 use Rattle.cc_names.specs.declared.steps.Told.TheVariants as told
-use Rattle.legal_history.specs.Decisions.{Decision, Makes, Answers}
-use Rattle.legal_history.specs.States.{State, decided, start}
-use Rattle.legal_history.specs.Steps.{state_of}
-use Rattle.legal_history.specs.Stories.{Lawful}
-use Rattle.legal_history.specs.VersionNames.{line}
+use Rattle.legal_history.specs.Commands.Decisions.{Decision, Makes, Answers}
+use Rattle.legal_history.specs.Stories.States.{State, decided, start}
+use Rattle.legal_history.specs.Stories.Steps.{state_of}
+use Rattle.legal_history.specs.Stories.Lawful.{Lawful}
+use Rattle.legal_history.specs.Queries.VersionNames.{line}
 use Rattle.legal_history.specs.Worked.{tag, row, base_of}
 use Rattle.legal_history.proofs.Worked.FaultRows.{before_build, before_fault}
 use Rattle.legal_history.proofs.Worked.NoSteps.{apart, units_are, no_row}
@@ -28,6 +28,10 @@ opened_twice h = apart (λ b. b) h.first refl refl
 
 opened_on_no_base : Lawful start (told.Opened (row 1 (deeds.Rmview v) ∷ []) (record { ticks = 0; faults = 0 }) true) → ⊥
 opened_on_no_base h = apart not h.fits refl refl
+
+-- a view without a name fits, and no journal spells it
+opened_on_a_row_without_form : Lawful start (told.Opened (row 1 (deeds.Mkview []) ∷ []) (record { ticks = 0; faults = 0 }) true) → ⊥
+opened_on_a_row_without_form h = absurd (let named = h.formed.0.deed.no_fault in cc)
 
 planned_too_early : Lawful started (told.Plan (one_lane []) 1700000000) → ⊥
 planned_too_early h = apart not h.finished refl refl

@@ -3,7 +3,7 @@ use Rattle.std.specs.Bool.{⊤}
 use Rattle.std.specs.Prelude.{◌≡◌, ℕ, false, not, ◌&&◌, ◌==◌, List, [], ◌∷◌}
 use Rattle.cc_names.specs.References.{Held}
 use Rattle.cc_names.specs.Versions.{put_if}
-use Rattle.legal_history.specs.Closures.{is_among}
+use Rattle.legal_history.specs.Base.Closures.{is_among}
 
 -- the views that hold an object, each once
 abbrev pub holding_views : Held → ℕ → List (List ℕ)

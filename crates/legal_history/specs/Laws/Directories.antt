@@ -2,7 +2,7 @@
 use Rattle.std.specs.Prelude.{ℕ, Option, Some, None}
 use Rattle.cc_names.specs.declared.rows.Deed.{Deed}
 use Rattle.cc_names.specs.declared.rows.Deed.TheVariants as deeds
-use Rattle.legal_history.specs.Base.{Base, deed_at}
+use Rattle.legal_history.specs.Base.Rows.{Base, deed_at}
 
 -- the directory in which a deed makes an element
 abbrev pub directory_of_deed : Option Deed → Option ℕ

@@ -1,8 +1,8 @@
 -- Which objects are due to be scrubbed.
 use Rattle.std.specs.Prelude.{ℕ, Bool, false, Option, Some, None}
 use Rattle.cc_names.specs.Formed.{Plain}
-use Rattle.legal_history.specs.Base.{Base, row_at}
-use Rattle.legal_history.specs.ObjectLines.{is_due}
+use Rattle.legal_history.specs.Base.Rows.{Base, row_at}
+use Rattle.legal_history.specs.Commands.ObjectLines.{is_due}
 
 -- whether the object of a row is due: it is live, no view holds it, and it was published that long ago
 abbrev pub due_by : Base → ℕ → ℕ → ℕ → Option Plain → Bool

@@ -8,10 +8,10 @@ use Rattle.cc_names.specs.declared.rows.Tag.{Tag}
 use Rattle.cc_names.specs.declared.steps.Step.TheVariants as steps
 use Rattle.cc_names.specs.declared.steps.Told.{Told}
 use Rattle.cc_names.specs.declared.steps.Told.TheVariants as told
-use Rattle.legal_history.specs.Builds.{Build}
-use Rattle.legal_history.specs.States.{State, Opening, End, Committed, Faulted, build_by, decided, ticks_of, faults_of}
-use Rattle.legal_history.specs.Committing.{rises}
-use Rattle.legal_history.specs.Turns.{is_complete}
+use Rattle.legal_history.specs.Builds.Active.{Build}
+use Rattle.legal_history.specs.Stories.States.{State, Opening, End, Committed, Faulted, build_by, decided, ticks_of, faults_of}
+use Rattle.cc_names.specs.Counts.{rises}
+use Rattle.legal_history.specs.Builds.Turns.{is_complete}
 
 -- a fault of the disk has a rise of the disk's count of faults that no earlier fault has
 pub record RoseBy (earlier faults : ℕ) : Type 0 where

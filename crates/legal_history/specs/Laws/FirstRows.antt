@@ -2,10 +2,10 @@
 use Rattle.std.specs.Prelude.{◌≡◌, ℕ, List}
 use Rattle.cc_names.specs.Labels.{holder, labels_of_first_rows}
 use Rattle.cc_names.specs.Versions.{of_first_rows}
-use Rattle.legal_history.specs.Base.{Base, first_rows}
-use Rattle.legal_history.specs.Changes.{tree, labels}
-use Rattle.legal_history.specs.Fresh.{texts}
-use Rattle.legal_history.specs.Seen.{at, file_at, directory_at}
+use Rattle.legal_history.specs.Base.Rows.{Base, first_rows}
+use Rattle.legal_history.specs.Base.Changes.{tree, labels}
+use Rattle.legal_history.specs.Builds.Fresh.{texts}
+use Rattle.legal_history.specs.Base.Seen.{at, file_at, directory_at}
 
 -- Two bases say the same of their first t rows: which versions there are, where labels stand, and what stands at each path
 -- of each view, with the row that made a file and with its text.

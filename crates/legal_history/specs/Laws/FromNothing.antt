@@ -2,13 +2,13 @@
 use Rattle.std.specs.Prelude.{◌≡◌, ℕ, true, false, ◌⊎◌, Some, None, List}
 use Rattle.cc_names.specs.declared.rows.Tag.{Tag}
 use Rattle.cc_names.specs.declared.units.Unit.{Unit}
-use Rattle.legal_history.specs.Base.{Base, first_rows}
-use Rattle.legal_history.specs.Builds.{Build, Came, Started, came_to, is_outcome}
-use Rattle.legal_history.specs.Freshness.{Agrees, HasOutputs, outcome_in}
-use Rattle.legal_history.specs.Serials.{Made}
-use Rattle.legal_history.specs.States.{State}
-use Rattle.legal_history.specs.Turns.{early, is_ready}
-use Rattle.legal_history.specs.UnitTurns.{IsOpen, IsRunning}
+use Rattle.legal_history.specs.Base.Rows.{Base, first_rows}
+use Rattle.legal_history.specs.Builds.Active.{Build, Came, Started, came_to, is_outcome}
+use Rattle.legal_history.specs.Builds.Freshness.{Agrees, HasOutputs, outcome_in}
+use Rattle.legal_history.specs.Builds.Serials.{Made}
+use Rattle.legal_history.specs.Stories.States.{State}
+use Rattle.legal_history.specs.Builds.Turns.{early, is_ready}
+use Rattle.legal_history.specs.Builds.UnitTurns.{IsOpen, IsRunning}
 
 -- From nothing, at the build's reference rows, unit n is made, and the object has exactly its targets and outputs.
 pub record IsAsFromNothing (b : Base) (build : Build) (n : ℕ) (unit : Unit) (id : ℕ) : Type 0 where

@@ -1,7 +1,7 @@
 -- Which version of an element is listed for sources.
 use Rattle.std.specs.Prelude.{◌≡◌, ℕ, ◌<◌, ◌≤◌, true, Contains}
-use Rattle.legal_history.specs.Base.{Base}
-use Rattle.legal_history.specs.Closures.{Source, Sources, is_version_of}
+use Rattle.legal_history.specs.Base.Rows.{Base}
+use Rattle.legal_history.specs.Base.Closures.{Source, Sources, is_version_of}
 
 -- One of some sources is this version of the element: its row made the version. Row 0 says that nothing was at the path.
 pub record RestsOn (b : Base) (sources : Sources) (e version : ℕ) : Type 0 where

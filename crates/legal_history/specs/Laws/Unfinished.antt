@@ -2,7 +2,7 @@
 use Rattle.std.specs.Prelude.{ℕ, ◌+◌, not, List, [], ◌∷◌}
 use Rattle.cc_names.specs.References.{one_where}
 use Rattle.cc_names.specs.declared.units.Unit.{Unit}
-use Rattle.legal_history.specs.Builds.{Active, Build, came_to, is_outcome}
+use Rattle.legal_history.specs.Builds.Active.{Active, Build, came_to, is_outcome}
 
 -- of some units, numbered from n on
 abbrev pub unfinished_from : Build → ℕ → List Unit → ℕ

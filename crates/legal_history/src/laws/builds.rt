@@ -1,109 +1,69 @@
 // The laws of builds in legal stories. Each is the contract of a function with an empty body.
 
-ghost use Rattle.std.specs.Prelude.{◌≡◌, ℕ, ◌+◌, List, ◌++◌, Some, None, is_some, true, false};
-ghost use Rattle.cc_names.specs.References.{held_at};
-ghost use Rattle.cc_names.specs.declared.commands.Command.{Command};
-ghost use Rattle.cc_names.specs.declared.rows.Tag.{Tag};
-ghost use Rattle.cc_names.specs.declared.steps.Told.{Told};
-ghost use Rattle.cc_names.specs.declared.units.Unit.{Unit};
-ghost use Rattle.legal_history.specs.Base.{Base};
-ghost use Rattle.legal_history.specs.Builds.{Build, build_of, came_to, unit_at, is_outcome};
-ghost use Rattle.legal_history.specs.Changes.{held};
-ghost use Rattle.legal_history.specs.Choices.{here, visible};
-ghost use Rattle.legal_history.specs.Commanded.{IsOfCommand};
-ghost use Rattle.legal_history.specs.Freshness.{AgreesSoFar};
-ghost use Rattle.legal_history.specs.Growth.{Goes};
-ghost use Rattle.legal_history.specs.Laws.Ends.{IsLeft, IsRefused, builds};
-ghost use Rattle.legal_history.specs.Laws.FromNothing.{EndsAsFromNothing};
-ghost use Rattle.legal_history.specs.Laws.Given.{HoldsGiven};
-ghost use Rattle.legal_history.specs.Replied.{reply_of, reply_from_nothing};
-ghost use Rattle.legal_history.specs.Serials.{makes};
-ghost use Rattle.legal_history.specs.Reuse.{reuses};
-ghost use Rattle.legal_history.specs.States.{State, Opening, done_of, next_command};
-ghost use Rattle.legal_history.specs.Steps.{after, state_of};
-ghost use Rattle.legal_history.specs.Stories.{Lawful, Legal};
-ghost use Rattle.legal_history.specs.Turns.{is_complete};
-ghost use Rattle.legal_history.specs.Values.{IsSound};
-ghost use Rattle.legal_history.specs.Consistency.{IsConsistent};
+ghost use Rattle.legal_history.specs.Laws.BuildLaws.{BuildGoesOn, BuildIsLeftByItsEnd, BuildIsFinishedByItsRefusalOrItsEndRefusal, BuildIsFinishedByItsRefusalOrItsEndEnd, BuildIsOfItsCommand, StartedUnitSeesTheSameRun, StartedUnitSeesTheSameSeen, WhatAUnitSeesStaysSeen, WhatAUnitSeesStaysRun, PlaceOfAUnitStays, GivenObjectIsHeld, BuildIsConsistent, BuildAgreesOverSound, BuildAgreesWithoutReuse, EndedBuildHasItsOutcomesFromNothingOverSound, EndedBuildHasItsOutcomesFromNothingWithoutReuse, BuildIsAsFromNothingOverSound, BuildIsAsFromNothingWithoutReuse};
 
-/// After a lawful step an active build is over, or it goes on: it is the same build of the same units, and no outcome of a
-/// unit has changed.
+/// Promises `BuildGoesOn`.
 pub fn a_build_goes_on()
-    ensures { (s : State) (x : Told) (lane : ℕ) (build : Build) → build_of s.active lane ≡ Some build → Lawful s x → Goes build (build_of (after s x).active lane) }
+    ensures { BuildGoesOn }
 {}
 
-/// After a lawful step a build that was active and is no more was left by its own end.
+/// Promises `BuildIsLeftByItsEnd`.
 pub fn a_build_is_left_by_its_end()
-    ensures { (s : State) (x : Told) (lane : ℕ) (build : Build) → build_of s.active lane ≡ Some build → Lawful s x → build_of (after s x).active lane ≡ None → IsLeft s x lane build }
+    ensures { BuildIsLeftByItsEnd }
 {}
 
-/// A command that builds is finished by its refusal, or by the end of its build, and by nothing else: neither by a row, nor by
-/// an answer, nor by a fault of the disk.
+/// Promises `BuildIsFinishedByItsRefusalOrItsEndRefusal` and `BuildIsFinishedByItsRefusalOrItsEndEnd`.
 pub fn a_build_is_finished_by_its_refusal_or_its_end()
-    ensures refusal { (s : State) (x : Told) (tag : Tag) (command : Command) → next_command s tag ≡ Some command → builds command ≡ true → Lawful s x → done_of (after s x).done tag.lane ≡ done_of s.done tag.lane + 1 → IsRefused s x tag }
-    ensures end { (s : State) (x : Told) (lane : ℕ) (build : Build) → build_of s.active lane ≡ Some build → Lawful s x → done_of (after s x).done lane ≡ done_of s.done lane + 1 → IsLeft s x lane build }
+    ensures refusal { BuildIsFinishedByItsRefusalOrItsEndRefusal }
+    ensures end { BuildIsFinishedByItsRefusalOrItsEndEnd }
 {}
 
-/// An active build is the one of its lane's command, and its units are those that the command's build from nothing has at
-/// the build's reference rows.
+/// Promises `BuildIsOfItsCommand`.
 pub fn a_build_is_of_its_command()
-    ensures { (story : List Told) (lane : ℕ) (build : Build) → Legal story → build_of (state_of story).active lane ≡ Some build → IsOfCommand (state_of story) lane build }
+    ensures { BuildIsOfItsCommand }
 {}
 
-/// What a started unit sees is the same before and after each lawful step, while its build goes on: the row that stands at
-/// each path, and what the run of its script gives on the texts there.
+/// Promises `StartedUnitSeesTheSameRun` and `StartedUnitSeesTheSameSeen`.
 pub fn a_started_unit_sees_the_same()
-    ensures run { (story : List Told) (x : Told) (lane : ℕ) (old new : Build) (n : ℕ) (unit : Unit) → Legal story → Lawful (state_of story) x → build_of (state_of story).active lane ≡ Some old → build_of (after (state_of story) x).active lane ≡ Some new → unit_at old n ≡ Some unit → is_some (came_to old n) ≡ true → here (after (state_of story) x).base new n unit ≡ here (state_of story).base old n unit }
-    ensures seen { (story : List Told) (x : Told) (lane : ℕ) (old new : Build) (n : ℕ) (unit : Unit) (path : List ℕ) → Legal story → Lawful (state_of story) x → build_of (state_of story).active lane ≡ Some old → build_of (after (state_of story) x).active lane ≡ Some new → unit_at old n ≡ Some unit → is_some (came_to old n) ≡ true → visible (after (state_of story) x).base new n unit path ≡ visible (state_of story).base old n unit path }
+    ensures run { StartedUnitSeesTheSameRun }
+    ensures seen { StartedUnitSeesTheSameSeen }
 {}
 
-/// What a unit of an active build of a legal story sees at a path, and what its run gives on that, never changes when rows
-/// are added.
+/// Promises `WhatAUnitSeesStaysSeen` and `WhatAUnitSeesStaysRun`.
 pub fn what_a_unit_sees_stays()
-    ensures seen { (story : List Told) (lane : ℕ) (build : Build) (more : Base) (n : ℕ) (unit : Unit) (path : List ℕ) → Legal story → build_of (state_of story).active lane ≡ Some build → visible (more ++ (state_of story).base) build n unit path ≡ visible (state_of story).base build n unit path }
-    ensures run { (story : List Told) (lane : ℕ) (build : Build) (more : Base) (n : ℕ) (unit : Unit) → Legal story → build_of (state_of story).active lane ≡ Some build → here (more ++ (state_of story).base) build n unit ≡ here (state_of story).base build n unit }
+    ensures seen { WhatAUnitSeesStaysSeen }
+    ensures run { WhatAUnitSeesStaysRun }
 {}
 
-/// What a build's view holds at a target of a unit is the same before and after each lawful step, until the unit has its
-/// outcome: no other lane changes it under the unit.
+/// Promises `PlaceOfAUnitStays`.
 pub fn the_place_of_a_unit_stays()
-    ensures { (story : List Told) (x : Told) (lane : ℕ) (old new : Build) (n : ℕ) (unit : Unit) (path : List ℕ) → Legal story → Lawful (state_of story) x → build_of (state_of story).active lane ≡ Some old → build_of (after (state_of story) x).active lane ≡ Some new → unit_at old n ≡ Some unit → is_outcome (came_to new n) ≡ false → makes path unit ≡ true → held_at (held (after (state_of story) x).base) old.view path ≡ held_at (held (state_of story).base) old.view path }
+    ensures { PlaceOfAUnitStays }
 {}
 
-/// Along a legal story each object that an active build has given to a unit is live, and the build's view holds it at every
-/// target of the unit, whatever rows other lanes have committed since.
+/// Promises `GivenObjectIsHeld`.
 pub fn a_given_object_is_held()
-    ensures { (story : List Told) (lane : ℕ) (build : Build) → Legal story → build_of (state_of story).active lane ≡ Some build → HoldsGiven (state_of story).base build }
+    ensures { GivenObjectIsHeld }
 {}
 
-/// An active build is consistent with the base, whatever base was opened: its reference rows are a base within the rows of now,
-/// its units are in order, each unit that has come to anything has its prerequisites over, and each object that a unit was given
-/// or kept is a row with the unit's targets.
+/// Promises `BuildIsConsistent`.
 pub fn a_build_is_consistent()
-    ensures { (story : List Told) (lane : ℕ) (build : Build) → Legal story → build_of (state_of story).active lane ≡ Some build → IsConsistent (state_of story).base build }
+    ensures { BuildIsConsistent }
 {}
 
-/// What each unit of an active build has come to so far agrees with the build from nothing at the build's reference rows,
-/// whatever rows were committed since and whatever objects it reused. This holds where the base was sound as it was opened;
-/// while builds reuse nothing, as so far, it holds over any base.
+/// Promises `BuildAgreesOverSound` and `BuildAgreesWithoutReuse`.
 pub fn a_build_agrees()
-    ensures over_sound { (story : List Told) (opening : Opening) (lane : ℕ) (build : Build) → Legal story → (state_of story).opened ≡ Some opening → IsSound opening.base → build_of (state_of story).active lane ≡ Some build → AgreesSoFar (state_of story).base build }
-    ensures without_reuse { (story : List Told) (lane : ℕ) (build : Build) → reuses ≡ false → Legal story → build_of (state_of story).active lane ≡ Some build → AgreesSoFar (state_of story).base build }
+    ensures over_sound { BuildAgreesOverSound }
+    ensures without_reuse { BuildAgreesWithoutReuse }
 {}
 
-/// A build that ends without a fault of the disk has, unit by unit, the outcome of the build from nothing at its reference rows:
-/// an object with exactly the outputs of the run, or the same end without one. This holds where the base was sound as it was
-/// opened; while builds reuse nothing, over any base.
+/// Promises `EndedBuildHasItsOutcomesFromNothingOverSound` and `EndedBuildHasItsOutcomesFromNothingWithoutReuse`.
 pub fn an_ended_build_has_its_outcomes_from_nothing()
-    ensures over_sound { (story : List Told) (opening : Opening) (x : Told) (lane : ℕ) (build : Build) (n : ℕ) (unit : Unit) → Legal story → (state_of story).opened ≡ Some opening → IsSound opening.base → build_of (state_of story).active lane ≡ Some build → IsLeft (state_of story) x lane build → build.faulted ≡ false → unit_at build n ≡ Some unit → EndsAsFromNothing (state_of story).base build n unit }
-    ensures without_reuse { (story : List Told) (x : Told) (lane : ℕ) (build : Build) (n : ℕ) (unit : Unit) → reuses ≡ false → Legal story → build_of (state_of story).active lane ≡ Some build → IsLeft (state_of story) x lane build → build.faulted ≡ false → unit_at build n ≡ Some unit → EndsAsFromNothing (state_of story).base build n unit }
+    ensures over_sound { EndedBuildHasItsOutcomesFromNothingOverSound }
+    ensures without_reuse { EndedBuildHasItsOutcomesFromNothingWithoutReuse }
 {}
 
-/// A build whose units all have their outcomes is replied as the build from nothing at its reference rows: unit by unit the
-/// same success, fault or block, and the same length and digest. Where the disk failed under a build this holds as well, but
-/// the build is replied a fault of the disk in place of these lines. This holds where the base was sound as it was opened; while
-/// builds reuse nothing, over any base.
+/// Promises `BuildIsAsFromNothingOverSound` and `BuildIsAsFromNothingWithoutReuse`.
 pub fn a_build_is_as_from_nothing()
-    ensures over_sound { (story : List Told) (opening : Opening) (lane : ℕ) (build : Build) → Legal story → (state_of story).opened ≡ Some opening → IsSound opening.base → build_of (state_of story).active lane ≡ Some build → is_complete build ≡ true → reply_of (state_of story).base build ≡ reply_from_nothing (state_of story).base build }
-    ensures without_reuse { (story : List Told) (lane : ℕ) (build : Build) → reuses ≡ false → Legal story → build_of (state_of story).active lane ≡ Some build → is_complete build ≡ true → reply_of (state_of story).base build ≡ reply_from_nothing (state_of story).base build }
+    ensures over_sound { BuildIsAsFromNothingOverSound }
+    ensures without_reuse { BuildIsAsFromNothingWithoutReuse }
 {}

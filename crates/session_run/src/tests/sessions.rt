@@ -37,6 +37,27 @@ fn each_session_is_answered(rt: HostRuntime) -> Result<(), Fail> {
         ),
         (
             "f run",
+            "phase\nlane a\nsetcs v\n",
+            3,
+            "bad session 3 NotBuilt\n",
+            0,
+        ),
+        (
+            "f run",
+            "phase\nlane a\nmkview v\nlane b\nmkview v\nphase\nlane c\nsave v in\n",
+            1,
+            "phase 1\nlane a\n1 mkview ok\nlane b\n1 mkview refused C2 ViewExists\nphase 2\nlane c\n1 save ok\n",
+            2,
+        ),
+        (
+            "f run",
+            "phase\nlane a\nrmview v\nmkview v\nsave v in\nrmview v\nsave v in\nmkview v\nclearmake v in\n",
+            1,
+            "phase 1\nlane a\n1 rmview refused C1 NoView\n2 mkview ok\n3 save ok\n4 rmview ok\n5 save refused C1 NoView\n6 mkview ok\n7 clearmake refused B1 NoMakefile Makefile\n",
+            4,
+        ),
+        (
+            "f run",
             "phase\nlane a\nsave v in\nmkview v\nmkview v\nsave v a/b\nsave v in\nsave v in/b\n",
             1,
             "phase 1\nlane a\n1 save refused C1 NoView\n2 mkview ok\n3 mkview refused C2 ViewExists\n4 save refused C3 NoPath a\n5 save ok\n6 save refused C4 NotDirectory in\n",

@@ -1,7 +1,7 @@
 -- the lane's slot, or no slot
 use Rattle.std.proofs.Common.{sym, ap, ◌∙◌, arith}
 use Rattle.build_core.specs.Slots.{numbered}
-use Rattle.legal_history.specs.Builds.{build_of}
+use Rattle.legal_history.specs.Builds.Active.{build_of}
 use Rattle.base_core.proofs.SlotLists.{build_there, build_nowhere, build_zero}
 use Rattle.base_core.proofs.lane_builds.build_of.Goals as goal
 use Rattle.base_core.proofs.lane_builds.build_of.Goals.{then-lane-eq0-via-then-lane-eq0, then-lane-eq0-via-else-lane-eq0+then-lane-builds}

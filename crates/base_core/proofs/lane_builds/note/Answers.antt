@@ -3,7 +3,7 @@ use Rattle.std.proofs.Common.{◌≡◌, ◌-◌, Some, sym, ap, ◌∙◌, arit
 use Rattle.std.specs.Prelude.{IsSome}
 use Rattle.build_core.specs.Slots.{held_in}
 use Rattle.build_core.specs.Comes.{came_of}
-use Rattle.legal_history.specs.Steps.{with_came}
+use Rattle.legal_history.specs.Stories.Steps.{with_came}
 use Rattle.base_core.proofs.Idle.{some_same, none_is_there}
 use Rattle.base_core.proofs.SlotLists.{held_there}
 use Rattle.base_core.proofs.lane_builds.note.Goals as goal

@@ -1,5 +1,6 @@
 -- a base is opened, or is not
 use Rattle.std.proofs.Common.{sym, ◌∙◌, ap, subst}
+use Rattle.base_core.specs.Handed.{handed_in}
 use Rattle.base_core.specs.Opening.{FailsToOpen}
 use Rattle.base_core.specs.declared.opening.OpenCause.TheVariants as causes
 use Rattle.base_core.proofs.OpenedBases.{new_on, fails_at_once, fails_to_open, keeps_first, files_first, stops_first, opened_backed, is_opened}
@@ -21,16 +22,16 @@ returns-in-Err-read_rows-clause-err g c =
     (fails_to_open first (sight read.disk) c.in-Err-read_rows.cause (g.met.D.Disk.counted c.args.disk) (keeps_first sight first opened read new c.in-Err-read_rows.ensures.reads) (files_first sight first opened read new c.in-Err-read_rows.ensures.reads)
     (stops_first sight first c.in-Err-read_rows.cause opened read new c.in-Err-read_rows.ensures.err))
 
-pub open-requires-2-clause-backed : goal.open-requires-2-clause-backed
-open-requires-2-clause-backed g c =
+pub open-requires-2 : goal.open-requires-2
+open-requires-2 g c =
     let sight = g.D.Disk.sight in
     let first = sight c.args.disk in
     let opened = c.in-Ok.journal in
     let begins = c.in-Ok.ensures.begins in
     let new = new_on sight first opened c.in-Ok.ensures.list begins.4 begins.1 c.in-Ok.ensures.moves c.in-Ok.ensures.files c.in-Ok.ensures.counts in
     let rows = c.in-Ok-read_rows.ensures in
-    opened_backed sight first (record { counts = c.counts.result; tells = c.tells.result }) c.in-Ok-read_rows.rows.rows opened c.read_rows.new.journal
-    (g.met.D.Disk.counted c.args.disk) c.counts.ensures.ticks c.counts.ensures.faults c.tells.ensures new rows.reads rows.sound rows.ok
+    opened_backed sight first (handed_in c.counts-handed.result g.D.Disk.tells) c.in-Ok-read_rows.rows.base opened c.read_rows.new.journal
+    (g.met.D.Disk.counted c.args.disk) c.counts-handed.ensures.ticks c.counts-handed.ensures.faults (sym (g.met.D.Disk.as_typed c.args.disk)) new rows.reads rows.sound rows.ok
 
 pub returns-in-Ok-open-clause-ok : goal.returns-in-Ok-open-clause-ok
 returns-in-Ok-open-clause-ok g c =
@@ -40,8 +41,8 @@ returns-in-Ok-open-clause-ok g c =
     let begins = c.in-Ok.ensures.begins in
     let new = new_on sight first opened c.in-Ok.ensures.list begins.4 begins.1 c.in-Ok.ensures.moves c.in-Ok.ensures.files c.in-Ok.ensures.counts in
     let rows = c.in-Ok-read_rows.ensures in
-    is_opened sight first (record { counts = c.counts.result; tells = c.tells.result }) c.in-Ok-read_rows.rows.rows opened c.read_rows.new.journal
-    (g.met.D.Disk.counted c.args.disk) c.counts.ensures.ticks c.counts.ensures.faults c.tells.ensures new rows.reads rows.sound rows.ok c.in-Ok-open.log c.in-Ok-open.ensures.ok
+    is_opened sight first (handed_in c.counts-handed.result g.D.Disk.tells) c.in-Ok-read_rows.rows.base opened c.read_rows.new.journal
+    (g.met.D.Disk.counted c.args.disk) c.counts-handed.ensures.ticks c.counts-handed.ensures.faults (sym (g.met.D.Disk.as_typed c.args.disk)) new rows.reads rows.sound rows.ok c.in-Ok-open.log c.in-Ok-open.ensures.ok
 
 pub returns-in-Err-open-clause-err : goal.returns-in-Err-open-clause-err
 returns-in-Err-open-clause-err g c =

@@ -1,11 +1,8 @@
 -- one more row of a journal
 use Rattle.std.proofs.Common.{Some, sym, subst}
 use Rattle.base_core.specs.Reading.{NextIs}
-use Rattle.base_core.proofs.ReadRows.{read_more, rows_few}
+use Rattle.base_core.proofs.ReadRows.{read_more}
 use Rattle.base_core.proofs.opening.read_row.Goals as goal
-
-pub next_row-requires-clause-few : goal.next_row-requires-clause-few
-next_row-requires-clause-few g c = rows_few c.args.rows.now c.requires.good
 
 pub returns-in-Ok-clause-ok : goal.returns-in-Ok-clause-ok
 returns-in-Ok-clause-ok g c =

@@ -1,49 +1,48 @@
 -- The first test that gives an end.
-use Rattle.std.proofs.Common.{◌≡◌, ℕ, Some, None, List, reverse, ap, sym, ◌∙◌}
+use Rattle.std.proofs.Common.{◌≡◌, ℕ, Some, None, List, ap, sym, ◌∙◌}
 use Rattle.std.specs.Prelude.{find}
-use Rattle.cc_names.specs.Paths.{is_root}
-use Rattle.legal_history.specs.Fresh.{sees_file}
-use Rattle.legal_history.specs.Serials.{is_missing, is_bad, no_directory, standing_or_file}
-use Rattle.legal_history.specs.Turns.{standing_of_unit}
+use Rattle.legal_history.specs.Builds.Fresh.{sees_directory, sees_file}
+use Rattle.legal_history.specs.Builds.Serials.{is_missing, is_bad, no_directory, standing_or_file}
+use Rattle.legal_history.specs.Builds.Turns.{standing_of_unit}
 use Rattle.build_core.proofs.Early.{by_directory, by_missing, by_bad, by_script}
 use Rattle.build_core.proofs.ends.early.Goals as goal
 
 pub returns-in-Some : goal.returns-in-Some
 returns-in-Some c =
-    sym (by_directory (reverse c.args.rows.now) c.args.build.now c.args.unit.now c.in-Some.end c.requires.unversioned c.requires.view
+    sym (by_directory c.args.rows.now c.args.build.now c.args.unit.now c.in-Some.end
     (sym c.in_ok-end.ensures ∙ c.in-Some.is))
 
 pub returns-in-Some-first_missing : goal.returns-in-Some-first_missing
 returns-in-Some-first_missing c =
-    let none : no_directory is_root c.args.unit.now.targets c.args.unit.now.script ≡ None = sym c.in_ok-end.ensures ∙ c.in_default.is in
-    let missing = λ (paths : List (List ℕ)). find (λ path. is_missing (standing_or_file (sees_file (reverse c.args.rows.now) c.args.build.now.view path) (standing_of_unit c.args.build.now path))) paths in
+    let none : no_directory (sees_directory c.args.rows.now c.args.build.now.view) c.args.unit.now.targets c.args.unit.now.script ≡ None = sym c.in_ok-end.ensures ∙ c.in_default.is in
+    let missing = λ (paths : List (List ℕ)). find (λ path. is_missing (standing_or_file (sees_file c.args.rows.now c.args.build.now.view path) (standing_of_unit c.args.build.now path))) paths in
     let found : missing c.args.unit.now.prerequisites ≡ Some c.in_ok-path.path =
     ap missing (sym c.as_slice.ensures) ∙ sym c.in-Some-first_missing.ensures ∙ ap Some (sym c.in_ok-path.ensures.copy)
     in
-    sym (by_missing (reverse c.args.rows.now) c.args.build.now c.args.unit.now c.in_ok-path.path c.requires.unversioned c.requires.view none found)
+    sym (by_missing c.args.rows.now c.args.build.now c.args.unit.now c.in_ok-path.path none found)
 
 pub returns-in-Some-first_bad : goal.returns-in-Some-first_bad
 returns-in-Some-first_bad c =
-    let none : no_directory is_root c.args.unit.now.targets c.args.unit.now.script ≡ None = sym c.in_ok-end.ensures ∙ c.in_default.is in
-    let missing = λ (paths : List (List ℕ)). find (λ path. is_missing (standing_or_file (sees_file (reverse c.args.rows.now) c.args.build.now.view path) (standing_of_unit c.args.build.now path))) paths in
-    let bad = λ (paths : List (List ℕ)). find (λ path. is_bad (standing_or_file (sees_file (reverse c.args.rows.now) c.args.build.now.view path) (standing_of_unit c.args.build.now path))) paths in
+    let none : no_directory (sees_directory c.args.rows.now c.args.build.now.view) c.args.unit.now.targets c.args.unit.now.script ≡ None = sym c.in_ok-end.ensures ∙ c.in_default.is in
+    let missing = λ (paths : List (List ℕ)). find (λ path. is_missing (standing_or_file (sees_file c.args.rows.now c.args.build.now.view path) (standing_of_unit c.args.build.now path))) paths in
+    let bad = λ (paths : List (List ℕ)). find (λ path. is_bad (standing_or_file (sees_file c.args.rows.now c.args.build.now.view path) (standing_of_unit c.args.build.now path))) paths in
     let known : missing c.args.unit.now.prerequisites ≡ None =
     ap missing (sym c.as_slice.ensures) ∙ sym c.in_default-first_missing.ensures
     in
     let found : bad c.args.unit.now.prerequisites ≡ Some c.in_ok-copy.field-0 =
     ap bad (sym c.as_slice-2.ensures) ∙ sym c.in-Some-first_bad.ensures ∙ ap Some (sym c.in_ok-copy.ensures.copy)
     in
-    sym (by_bad (reverse c.args.rows.now) c.args.build.now c.args.unit.now c.in_ok-copy.field-0 c.requires.unversioned c.requires.view none known found)
+    sym (by_bad c.args.rows.now c.args.build.now c.args.unit.now c.in_ok-copy.field-0 none known found)
 
 pub returns : goal.returns
 returns c =
-    let none : no_directory is_root c.args.unit.now.targets c.args.unit.now.script ≡ None = sym c.in_ok-end.ensures ∙ c.in_default.is in
-    let missing = λ (paths : List (List ℕ)). find (λ path. is_missing (standing_or_file (sees_file (reverse c.args.rows.now) c.args.build.now.view path) (standing_of_unit c.args.build.now path))) paths in
-    let bad = λ (paths : List (List ℕ)). find (λ path. is_bad (standing_or_file (sees_file (reverse c.args.rows.now) c.args.build.now.view path) (standing_of_unit c.args.build.now path))) paths in
+    let none : no_directory (sees_directory c.args.rows.now c.args.build.now.view) c.args.unit.now.targets c.args.unit.now.script ≡ None = sym c.in_ok-end.ensures ∙ c.in_default.is in
+    let missing = λ (paths : List (List ℕ)). find (λ path. is_missing (standing_or_file (sees_file c.args.rows.now c.args.build.now.view path) (standing_of_unit c.args.build.now path))) paths in
+    let bad = λ (paths : List (List ℕ)). find (λ path. is_bad (standing_or_file (sees_file c.args.rows.now c.args.build.now.view path) (standing_of_unit c.args.build.now path))) paths in
     let known : missing c.args.unit.now.prerequisites ≡ None =
     ap missing (sym c.as_slice.ensures) ∙ sym c.in_default-first_missing.ensures
     in
     let good : bad c.args.unit.now.prerequisites ≡ None =
     ap bad (sym c.as_slice-2.ensures) ∙ sym c.in_default-first_bad.ensures
     in
-    rw (by_script (reverse c.args.rows.now) c.args.build.now c.args.unit.now c.requires.unversioned c.requires.view none known good) c.no_script.ensures
+    rw (by_script c.args.rows.now c.args.build.now c.args.unit.now none known good) c.no_script.ensures

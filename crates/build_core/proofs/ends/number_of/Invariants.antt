@@ -1,5 +1,5 @@
 use Rattle.std.proofs.Common.{◌≡◌, drop}
-use Rattle.legal_history.specs.Builds.{number_from}
+use Rattle.legal_history.specs.Builds.Active.{number_from}
 use Rattle.build_core.proofs.ends.number_of.Given as goal
 
 abbrev pub invariant-loop-index : goal.invariant-loop-index

@@ -1,7 +1,7 @@
 use Rattle.std.proofs.Common.{◌≡◌, drop}
-use Rattle.cc_names.specs.Paths.{is_root}
-use Rattle.legal_history.specs.Serials.{outside}
+use Rattle.legal_history.specs.Builds.Fresh.{sees_directory}
+use Rattle.legal_history.specs.Builds.Serials.{outside}
 use Rattle.build_core.proofs.ends.outside.Given as goal
 
 abbrev pub invariant-loop-path : goal.invariant-loop-path
-invariant-loop-path l = outside is_root (drop l.path-index l.paths) ≡ outside is_root l.paths
+invariant-loop-path l = outside (sees_directory l.rows l.build.view) (drop l.path-index l.paths) ≡ outside (sees_directory l.rows l.build.view) l.paths

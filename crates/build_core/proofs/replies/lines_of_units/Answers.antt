@@ -1,11 +1,11 @@
 -- The lines of one more unit stand behind those of the units before it.
-use Rattle.std.proofs.Common.{◌≡◌, ℕ, ◌+◌, List, sym, ap, ap₂, ◌∙◌, ◌∷◌, ◌++◌, reverse, append_assoc, arith}
+use Rattle.std.proofs.Common.{◌≡◌, ℕ, ◌+◌, List, sym, ap, ap₂, ◌∙◌, ◌∷◌, ◌++◌, append_assoc, arith}
 use Rattle.std.specs.Prelude.{is_some}
 use Rattle.cc_names.specs.declared.replies.UnitLine.{UnitLine}
 use Rattle.cc_names.specs.declared.units.Unit.{Unit}
-use Rattle.legal_history.specs.Base.{Base}
-use Rattle.legal_history.specs.Builds.{Build, came_to, object_of}
-use Rattle.legal_history.specs.Replied.{lines_from, lines_of, told_targets, word_of_came}
+use Rattle.legal_history.specs.Base.Rows.{Base}
+use Rattle.legal_history.specs.Builds.Active.{Build, came_to, object_of}
+use Rattle.legal_history.specs.Builds.Replied.{lines_from, lines_of, told_targets, word_of_came}
 use Rattle.build_core.proofs.replies.lines_of_units.Goals as goal
 
 one_more : (b : Base) (build : Build) (n : ℕ) (unit : Unit) (targets : List (List ℕ)) (rest more : List Unit) (all before next : List UnitLine) →
@@ -20,7 +20,7 @@ one_more b build n unit targets rest more all before next kept split same pushed
 
 pub loop-unit-preserved : goal.loop-unit-preserved
 loop-unit-preserved c = record {
-  lines = one_more (reverse c.args.rows.now) c.args.build.now c.loop-unit.number c.in-Some.unit.now c.told_targets-targets.result.now c.loop-unit.rest.now c.in-Some.more.now _ _ _
+  lines = one_more c.args.rows.now c.args.build.now c.loop-unit.number c.in-Some.unit.now c.told_targets-targets.result.now c.loop-unit.rest.now c.in-Some.more.now _ _ _
       c.loop-unit.invariant.lines c.in-Some.ensures.cases.0 (c.told_targets-targets.ensures ∙ ap₂ told_targets (c.is_some-has_object.ensures ∙ ap is_some c.object_of.ensures) c.as_slice.ensures) c.in_ok-push_lines.ensures;
   count = omega (arith, c.loop-unit.invariant.count, c.in-Some.ensures.cases.1);
 }

@@ -1,8 +1,9 @@
 -- Each turn takes the last of the units that are left.
 use Rattle.std.proofs.Common.{◌≡◌, ◌+◌, ◌-◌, ◌<◌, ◌++◌, true, false, length, get_or, ap, sym, ◌∙◌, arith}
 use Rattle.std.specs.List.{list_any}
-use Rattle.legal_history.specs.Closures.{is_among}
-use Rattle.build_core.proofs.Members.{object_before, Turn, pass_over, give, need}
+use Rattle.legal_history.specs.Base.Closures.{is_among}
+use Rattle.build_core.specs.Sights.{object_before}
+use Rattle.build_core.proofs.Members.{Turn, pass_over, give, need}
 use Rattle.build_core.proofs.sights.object_below.Goals as goal
 
 pub returns-in-Some : goal.returns-in-Some

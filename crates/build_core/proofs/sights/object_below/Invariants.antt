@@ -1,5 +1,5 @@
 use Rattle.std.proofs.Common.{◌≡◌, ◌≤◌}
-use Rattle.build_core.proofs.Members.{object_before}
+use Rattle.build_core.specs.Sights.{object_before}
 use Rattle.build_core.proofs.sights.object_below.Given as goal
 
 abbrev pub invariant-loop-number : goal.invariant-loop-number

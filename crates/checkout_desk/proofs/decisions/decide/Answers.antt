@@ -1,11 +1,18 @@
--- The command is a save.
-use Rattle.std.proofs.Common.{sym, subst, reverse}
-use Rattle.legal_history.specs.Lines.{decision}
-use Rattle.checkout_desk.specs.Deciding.{Sees, Decides, view_of}
+-- The command is the one that was matched.
+use Rattle.std.proofs.Common.{sym, subst}
+use Rattle.legal_history.specs.Commands.Lines.{decision}
+use Rattle.checkout_desk.specs.Commands.{view_of}
+use Rattle.checkout_desk.specs.Deciding.{Sees, Decides}
 use Rattle.checkout_desk.proofs.decisions.decide.Goals as goal
 
 pub returns-in-Save-clause-decided : goal.returns-in-Save-clause-decided
 returns-in-Save-clause-decided c =
     λ scene now sees.
     subst (λ command. Decides c.args.stamp.tag c.args.stamp.moment c.save.result (decision scene command)) (sym c.in-Save.is)
-    (c.save.ensures.decided scene now (subst (λ command. Sees scene (reverse c.args.rows.now) now (view_of command) c.args.busy c.args.room) c.in-Save.is sees))
+    (c.save.ensures.decided scene now (subst (λ command. Sees scene c.args.rows.now now (view_of command) c.args.busy c.args.room) c.in-Save.is sees))
+
+pub returns-in-Rmview-clause-decided : goal.returns-in-Rmview-clause-decided
+returns-in-Rmview-clause-decided c =
+    λ scene now sees.
+    subst (λ command. Decides c.args.stamp.tag c.args.stamp.moment c.rmview.result (decision scene command)) (sym c.in-Rmview.is)
+    (c.rmview.ensures.decided scene now (subst (λ command. Sees scene c.args.rows.now now (view_of command) c.args.busy c.args.room) c.in-Rmview.is sees))

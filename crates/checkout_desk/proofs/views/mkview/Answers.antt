@@ -1,7 +1,7 @@
 -- The first refusal is the decision.
 use Rattle.std.proofs.Common.{ap, sym}
 use Rattle.cc_names.specs.declared.rows.Deed.TheVariants as deeds
-use Rattle.legal_history.specs.Decisions.{Makes, unless_refused}
+use Rattle.legal_history.specs.Commands.Decisions.{Makes, unless_refused}
 use Rattle.checkout_desk.proofs.views.mkview.Goals as goal
 
 pub returns-in-Some-clause-decided : goal.returns-in-Some-clause-decided

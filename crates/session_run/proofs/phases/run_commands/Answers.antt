@@ -1,5 +1,6 @@
 use Rattle.std.proofs.Common.{ap, sym, subst, arith, length, ◌∙◌}
-use Rattle.base_core.specs.Carried.{AreCarriedOut}
+use Rattle.carried_out.specs.CarriedOut.{AreCarriedOut}
+use Rattle.base_core.proofs.Counts.{keeps_further}
 use Rattle.session_run.proofs.PhaseSteps.{phase_begins, begins_within, runs_by, leaves_by}
 use Rattle.session_run.proofs.phases.run_commands.Goals as goal
 
@@ -34,3 +35,7 @@ pub returns-clause-first : goal.returns-clause-first
 returns-clause-first g c =
     let begun = phase_begins c.args.core.now.story c.begin_phase.new.self.story c.args.phase c.args.moment c.in_ok-begin_phase.ensures.ok in
     c.run_lanes.ensures.goes.goes.first ∙ begun.first c.requires.opened
+
+pub returns-clause-counted : goal.returns-clause-counted
+returns-clause-counted g c =
+    keeps_further c.args.core.now c.begin_phase.new.self c.run_lanes.new.core c.begin_phase.ensures.counted c.run_lanes.ensures.counted

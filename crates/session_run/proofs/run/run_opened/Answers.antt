@@ -1,5 +1,5 @@
 use Rattle.std.proofs.Common.{refl, ap, ◌∙◌}
-use Rattle.legal_history.specs.Committing.{rises}
+use Rattle.cc_names.specs.Counts.{rises}
 use Rattle.session_run.specs.Runs.{run_status}
 use Rattle.session_run.proofs.Promises.{runs_opened}
 use Rattle.session_run.proofs.run.run_opened.Goals as goal
@@ -8,7 +8,8 @@ pub returns : goal.returns
 returns g c =
     let core = c.settle.new.core in
     runs_opened (record { complete = λ story lane build. c.a_build_is_as_from_nothing.ensures.without_reuse story lane build refl; commanded = c.a_build_is_of_its_command.ensures })
-    c.run_phases-run.result c.args.phases.items c.status_of-status.result _ c.run_phases-run.new.core.story core.story _ c.args.before core.sight _ _ _
+    c.run_phases-run.result c.args.phases.items c.status_of-status.result _ c.args.core c.run_phases-run.new.core core.story _ c.args.before core.sight _ _ _
+    c.requires.opened c.run_phases-run.ensures.counted c.settle.ensures.settles
     c.settle.ensures.same c.into_parts-disk.ensures.history c.into_parts-disk.ensures.disk
     (c.status_of-status.ensures ∙ ap (run_status c.run_phases-run.result) (c.has_risen.ensures ∙ ap (rises c.args.before) c.counts.ensures.faults))
     c.run_phases-run.ensures.first c.into_parts-disk.ensures.legal c.run_phases-run.ensures.ok c.run_phases-run.ensures.err c.run_phases-run.ensures.fault c.into_parts-disk.ensures.stopped c.settle.ensures.mended

@@ -1,7 +1,7 @@
 use Rattle.std.proofs.Common.{ap, ap₂, ◌∙◌, inl, inr, refl, subst}
-use Rattle.legal_history.specs.Committing.{rises}
+use Rattle.cc_names.specs.Counts.{rises}
 use Rattle.session_run.specs.Causes.{Change}
-use Rattle.session_run.specs.Headline.{first_step}
+use Rattle.session_run.specs.Begun.{first_step}
 use Rattle.session_run.specs.Outcomes.{RunsOpened}
 use Rattle.session_run.specs.Runs.{Outside}
 use Rattle.session_run.specs.Stops.{WritesStop, open_stop}
@@ -15,22 +15,28 @@ pub returns-in-Ok : goal.returns-in-Ok
 returns-in-Ok g c =
     let core = c.in-Ok.core in
     let ended = c.run_opened.result in
-    let outside : Outside = record { held = g.K.Sink.held c.args.sink.now; holds = g.K.Sink.held c.run_opened.new.sink; moments = g.C.Clock.told c.args.clock.now; first = g.C.Clock.readings c.args.clock.now; reading = g.C.Clock.readings c.run_opened.new.clock } in
-    let faults : Change _ = record { before = g.K.Sink.faults c.args.sink.now; after = g.K.Sink.faults c.run_opened.new.sink } in
+    let outside : Outside = record { held = (g.K.Sink.sight c.args.sink.now).held; holds = (g.K.Sink.sight c.run_opened.new.sink).held; moments = (g.C.Clock.sight c.args.clock.now).told; first = (g.C.Clock.sight c.args.clock.now).readings; reading = (g.C.Clock.sight c.run_opened.new.clock).readings } in
+    let faults : Change _ = record { before = (g.K.Sink.sight c.args.sink.now).faults; after = (g.K.Sink.sight c.run_opened.new.sink).faults } in
     inl (record {
       begins = begins_on (g.D.Disk.sight c.args.disk) core.sight core.story ended.history (first_step core.story) c.in-Ok.ensures.ok refl c.run_opened.ensures.first_is;
       first = first_step core.story;
-      runs = subst (λ n. RunsOpened c.args.phases.items ended.status (first_step core.story) ended.history n (g.D.Disk.sight ended.disk) outside faults) c.counts-before.ensures.faults c.run_opened.ensures;
+      opened = core.sight;
+      sound = c.in-Ok.ensures.ok.sound;
+      files = c.in-Ok.ensures.ok.files;
+      runs =
+          subst (λ n. RunsOpened c.args.phases.items ended.status (first_step core.story) ended.history n (record { before = core.sight; after = g.D.Disk.sight ended.disk }) outside faults)
+          c.counts-before.ensures.faults c.run_opened.ensures;
     })
 
 pub returns-in-Err : goal.returns-in-Err
 returns-in-Err g c =
     let cause = c.in-Err.field-0.cause in
     let rose = c.has_risen.ensures ∙ ap₂ rises c.counts-before.ensures.faults c.counts.ensures.faults in
-    let faults : Change _ = record { before = g.K.Sink.faults c.args.sink.now; after = g.K.Sink.faults c.refuse.new.sink } in
+    let faults : Change _ = record { before = (g.K.Sink.sight c.args.sink.now).faults; after = (g.K.Sink.sight c.refuse.new.sink).faults } in
     inr (record {
       because = cause;
       fails = c.in-Err.ensures.err;
       empty = c.empty.ensures;
-      wrote = subst (λ stop. WritesStop stop c.refuse.result (g.K.Sink.held c.args.sink.now) (g.K.Sink.held c.refuse.new.sink) faults) (c.stop_of-stop.ensures ∙ ap (open_stop cause) rose) c.refuse.ensures;
+      unread = refl;
+      wrote = subst (λ stop. WritesStop stop c.refuse.result (g.K.Sink.sight c.args.sink.now).held (g.K.Sink.sight c.refuse.new.sink).held faults) (c.stop_of-stop.ensures ∙ ap (open_stop cause) rose) c.refuse.ensures;
     })

@@ -1,4 +1,4 @@
-use Rattle.std.proofs.Common.{List, [], inl, inr, subst, sym}
+use Rattle.std.proofs.Common.{List, [], inl, inr, refl, subst, sym}
 use Rattle.cc_names.specs.declared.steps.Told.{Told}
 use Rattle.session_run.specs.Causes.{Change, Intake, IsUntouched}
 use Rattle.session_run.specs.Runs.{Outside}
@@ -13,14 +13,14 @@ run_session-requires-clause-stable g c = journal_stable (g.D.Disk.sight c.args.d
 pub returns-in-Ok : goal.returns-in-Ok
 returns-in-Ok g c =
     let all = promised_run c.in-Ok.phases.items c.run_session.result.status c.run_session.result.history _ _ _ _ c.in-Ok.ensures.gives c.run_session.ensures in
-    record { session = all.session; history = all.history; built = all.built; printed = all.printed; stopped = all.stopped; cause = all.cause; damaged = finds_damage _ _ _ _ _ all.cause; untouched = record { unless_asked = inl (asked _ c.in-Ok.phases.items c.in-Ok.ensures.gives) }; taken = c.session_given.ensures.taken }
+    record { session = all.session; history = all.history; built = all.built; printed = all.printed; stopped = all.stopped; cause = all.cause; accounted = all.accounted; files = all.files; damaged = finds_damage _ _ _ _ _ all.cause; untouched = record { unless_asked = inl (asked _ c.in-Ok.phases.items c.in-Ok.ensures.gives) }; taken = c.session_given.ensures.taken }
 
 pub returns-in-Err : goal.returns-in-Err
 returns-in-Err g c =
-    let intake : Intake = record { words = c.args.words.now; text = record { before = g.S.Source.left c.args.source.now; after = g.S.Source.left c.session_given.new.source }; given = record { before = g.S.Source.given c.args.source.now; after = g.S.Source.given c.session_given.new.source }; faults = record { before = g.S.Source.faults c.args.source.now; after = g.S.Source.faults c.session_given.new.source } } in
-    let outside : Outside = record { held = g.K.Sink.held c.args.sink.now; holds = g.K.Sink.held c.refuse.new.sink; moments = g.C.Clock.told c.args.clock.now; first = g.C.Clock.readings c.args.clock.now; reading = g.C.Clock.readings c.args.clock.now } in
-    let faults : Change _ = record { before = g.K.Sink.faults c.args.sink.now; after = g.K.Sink.faults c.refuse.new.sink } in
+    let intake : Intake = record { words = c.args.words.now; text = record { before = (g.S.Source.sight c.args.source.now).left; after = (g.S.Source.sight c.session_given.new.source).left }; given = record { before = (g.S.Source.sight c.args.source.now).given; after = (g.S.Source.sight c.session_given.new.source).given }; faults = record { before = (g.S.Source.sight c.args.source.now).faults; after = (g.S.Source.sight c.session_given.new.source).faults } } in
+    let outside : Outside = record { held = (g.K.Sink.sight c.args.sink.now).held; holds = (g.K.Sink.sight c.refuse.new.sink).held; moments = (g.C.Clock.sight c.args.clock.now).told; first = (g.C.Clock.sight c.args.clock.now).readings; reading = (g.C.Clock.sight c.args.clock.now).readings } in
+    let faults : Change _ = record { before = (g.K.Sink.sight c.args.sink.now).faults; after = (g.K.Sink.sight c.refuse.new.sink).faults } in
     let disk = g.D.Disk.sight c.args.disk in
     let all = subst (λ story. Promised c.refuse.result story intake outside faults (record { before = disk; after = disk })) (sym c.empty.ensures)
-    (promised_stop c.in-Err.stop c.refuse.result intake outside faults disk (g.met.D.Disk.counted c.args.disk) c.requires c.in-Err.ensures.stops c.refuse.ensures) in
-    record { session = all.session; history = all.history; built = all.built; printed = all.printed; stopped = all.stopped; cause = all.cause; damaged = finds_damage _ _ _ _ _ all.cause; untouched = record { unless_asked = inr (subst (λ (story : List Told). IsUntouched (record { before = disk; after = disk }) story) (sym c.empty.ensures) (untouched disk)) }; taken = c.session_given.ensures.taken }
+    (promised_stop c.in-Err.stop c.refuse.result intake outside faults disk refl (g.met.D.Disk.counted c.args.disk) c.requires c.in-Err.ensures.stops c.refuse.ensures) in
+    record { session = all.session; history = all.history; built = all.built; printed = all.printed; stopped = all.stopped; cause = all.cause; accounted = all.accounted; files = all.files; damaged = finds_damage _ _ _ _ _ all.cause; untouched = record { unless_asked = inr (subst (λ (story : List Told). IsUntouched (record { before = disk; after = disk }) story) (sym c.empty.ensures) (untouched disk)) }; taken = c.session_given.ensures.taken }

@@ -1,4 +1,4 @@
-use Rattle.legal_history.specs.Steps.{state_of}
+use Rattle.legal_history.specs.Stories.Steps.{state_of}
 use Rattle.session_run.proofs.Stopping.{mended_by}
 use Rattle.session_run.proofs.run.settle.Goals as goal
 

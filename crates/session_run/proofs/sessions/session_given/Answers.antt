@@ -12,8 +12,8 @@ returns-in-Ok-read-clause-gives g c =
     let is : c.as_bytes.result.now ≡ c.in-Ok.text = search rules in
     let read = c.in-Ok-read.ensures in
     subst (GivesPhases _) (sym c.into_items.ensures)
-    (gives_phases c.args.words.now (g.S.Source.left c.args.source.now) (g.S.Source.left c.read_whole.new.source) (g.S.Source.given c.args.source.now) (g.S.Source.given c.read_whole.new.source)
-    (g.S.Source.faults c.args.source.now) (g.S.Source.faults c.read_whole.new.source) c.in-Ok.text c.in-Ok-read.field-0 run
+    (gives_phases c.args.words.now (g.S.Source.sight c.args.source.now).left (g.S.Source.sight c.read_whole.new.source).left (g.S.Source.sight c.args.source.now).given (g.S.Source.sight c.read_whole.new.source).given
+    (g.S.Source.sight c.args.source.now).faults (g.S.Source.sight c.read_whole.new.source).faults c.in-Ok.text c.in-Ok-read.field-0 run
     c.in-Ok.ensures.bytes c.in-Ok.ensures.end c.in-Ok.ensures.short c.in-Ok.ensures.counted
     (ap session_of (sym is) ∙ read.session)
-    (subst (λ text. IsSession (length text) c.in-Ok-read.field-0) is read.formed))
+    (subst (λ text. IsSession (length text) c.in-Ok-read.field-0) is read.formed) read.carried_out)

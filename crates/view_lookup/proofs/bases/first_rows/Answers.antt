@@ -1,21 +1,24 @@
--- The front is the first rows, however few there are.
-use Rattle.std.proofs.Common.{◌≡◌, ◌≤◌, length, reverse, take, min, sym, ap, ◌∙◌, arith}
-use Rattle.std.proofs.lemmas.List.{length-take-le}
-use Rattle.view_lookup.specs.Unversioned.{is_unversioned}
-use Rattle.view_lookup.proofs.Fronts.{first_of_rows, first_unversioned, take_within, front_of_front}
+-- The first rows of a front are a front.
+use Rattle.std.proofs.Common.{◌≡◌, ◌-◌, suc, min, ap, subst, sym, ◌∙◌, arith}
+use Rattle.legal_history.specs.Base.Rows.{Base, first_rows}
+use Rattle.view_lookup.specs.Known.{IsKnown}
+use Rattle.view_lookup.proofs.Fronts.{first_of_front, known_first}
 use Rattle.view_lookup.proofs.bases.first_rows.Goals as goal
 
-pub returns-clause-first : goal.returns-clause-first
-returns-clause-first c =
-    let all = c.rows.inside.base.now.rows in
-    let front : take c.rows.inside.count all ≡ c.args.rows.now = c.rows.view_is in
-    let count : c.rows.inside.count ≡ length c.args.rows.now = sym (length-take-le c.rows.inside.count all c.rows.invariant) ∙ ap length front in
-    let fewer : c.min-behind_root.result ≤ c.rows.inside.count = omega (arith, c.min-behind_root.ensures) in
-    let cut : take c.min-behind_root.result all ≡ take c.min-behind_root.result c.args.rows.now = sym (front_of_front c.min-behind_root.result c.rows.inside.count all fewer) ∙ ap (take c.min-behind_root.result) front in
-    ap reverse (cut ∙ take_within c.args.rows.now c.args.count c.saturating_sub.result c.min-behind_root.result c.saturating_sub.ensures (c.min-behind_root.ensures ∙ ap (min c.saturating_sub.result) count))
-    ∙ sym (first_of_rows c.args.rows.now c.args.count)
+pub invariant_of-result : goal.invariant_of-result
+invariant_of-result c =
+    let all = c.rows.inside.base.now.base in
+    let cut : c.min-behind_root.result ≡ min (c.args.count - 1) c.rows.inside.count = c.min-behind_root.ensures ∙ ap (λ n. min n c.rows.inside.count) c.saturating_sub.ensures in
+    record {
+      within = omega (arith, c.min-behind_root.ensures, c.rows.invariant.within);
+      known = subst IsKnown (sym (ap (λ n. first_rows (suc n) all) cut ∙ first_of_front all c.args.count c.rows.inside.count))
+          (known_first c.args.count (first_rows (suc c.rows.inside.count) all) c.rows.invariant.known);
+    }
 
-pub returns-clause-unversioned : goal.returns-clause-unversioned
-returns-clause-unversioned c =
-    λ all.
-    ap is_unversioned (returns-clause-first c) ∙ first_unversioned (reverse c.args.rows.now) c.args.count all
+pub returns : goal.returns
+returns c =
+    let all = c.rows.inside.base.now.base in
+    let cut : c.min-behind_root.result ≡ min (c.args.count - 1) c.rows.inside.count = c.min-behind_root.ensures ∙ ap (λ n. min n c.rows.inside.count) c.saturating_sub.ensures in
+    ap (λ n. first_rows (suc n) all) cut
+    ∙ first_of_front all c.args.count c.rows.inside.count
+    ∙ ap (λ (b : Base). first_rows c.args.count b) c.rows.view_is

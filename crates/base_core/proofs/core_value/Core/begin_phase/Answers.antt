@@ -1,7 +1,7 @@
 -- a phase begins: what is kept then
 use Rattle.std.proofs.Common.{◌≡◌, ◌+◌, ◌<◌, ◌^◌, length, true, ap, sym, subst, ◌∙◌, arith}
-use Rattle.legal_history.specs.States.{all_done}
-use Rattle.legal_history.specs.Steps.{state_of}
+use Rattle.legal_history.specs.Stories.States.{all_done}
+use Rattle.legal_history.specs.Stories.Steps.{state_of}
 use Rattle.base_core.specs.Kept.{IsKept}
 use Rattle.base_core.proofs.Beginning.{kept_plan}
 use Rattle.base_core.proofs.core_value.Core.begin_phase.Goals as goal

@@ -1,8 +1,10 @@
 -- a row is committed, or the disk fails: what is kept then, and how the story went on
-use Rattle.std.proofs.Common.{None, ◌++◌, ◌∷◌, [], ap, sym, subst, ◌∙◌}
+use Rattle.std.proofs.Common.{◌≡◌, true, None, ◌++◌, ◌∷◌, [], ap, sym, subst, ◌∙◌}
 use Rattle.cc_names.specs.declared.replies.Reply.TheVariants as replies
 use Rattle.cc_names.specs.declared.steps.Step.TheVariants as steps
 use Rattle.cc_names.specs.declared.steps.Told.TheVariants as told
+use Rattle.legal_history.specs.Base.Fits.{fits}
+use Rattle.legal_history.specs.Stories.Steps.{state_of}
 use Rattle.base_core.specs.Appending.{IsCommitted, IsFaulted, Appends}
 use Rattle.base_core.specs.Kept.{IsKept}
 use Rattle.base_core.specs.Logs.{with_row, with_step_on}
@@ -29,3 +31,7 @@ returns-in-Ok-Faulted-clause-ok g c =
     let done : IsFaulted c.self.inside.log c.append.new.self c.args.row None = subst (Appends c.self.inside.log c.append.new.self c.args.row None) c.in-Ok-Faulted.field-0-is c.in-Ok-Faulted.ensures.ok in
     next_faults c.args.self.now.story c.append.new.self.story c.args.row done.left done.before done.faults done.tick
     (ap (λ log. log.story) done.grows ∙ ap (λ v. v.story ++ told.Other (steps.Fault c.args.row.tag done.left done.before done.faults done.tick) ∷ []) c.self.view_is) c.requires
+
+pub append-requires-clause-fits : goal.append-requires-clause-fits
+append-requires-clause-fits g c =
+    subst (λ b. fits b c.args.row.deed ≡ true) (ap (λ v. (state_of v.story).base) (sym c.self.view_is) ∙ c.self.invariant.agrees.base) c.requires.fits

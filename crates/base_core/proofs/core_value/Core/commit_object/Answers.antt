@@ -1,12 +1,13 @@
 -- the row of what a unit's run gave is committed, or the disk fails under the build, which ends
-use Rattle.std.proofs.Common.{◌+◌, ◌-◌, ◌<◌, ◌++◌, ◌∷◌, [], None, Some, length, set, ap, sym, subst, ◌∙◌, arith}
+use Rattle.std.proofs.Common.{◌-◌, ◌<◌, ◌++◌, ◌∷◌, [], None, Some, length, set, ap, sym, subst, ◌∙◌, arith}
 use Rattle.std.proofs.lemmas.List.{length-set}
 use Rattle.std.proofs.lemmas.Option.{slice_get_within}
 use Rattle.cc_names.specs.declared.replies.Reply.TheVariants as replies
 use Rattle.cc_names.specs.declared.steps.Step.TheVariants as steps
-use Rattle.legal_history.specs.Builds.{build_of}
-use Rattle.legal_history.specs.States.{next_tag}
-use Rattle.legal_history.specs.Steps.{state_of}
+use Rattle.legal_history.specs.Base.Rows.{size}
+use Rattle.legal_history.specs.Builds.Active.{build_of}
+use Rattle.legal_history.specs.Stories.States.{next_tag}
+use Rattle.legal_history.specs.Stories.Steps.{state_of}
 use Rattle.base_core.specs.Appending.{Appends, IsCommitted, IsFaulted}
 use Rattle.base_core.specs.Going.{GoesOn, HasOutcome, Finishes}
 use Rattle.base_core.specs.Kept.{replies_at, IsKept}
@@ -15,7 +16,7 @@ use Rattle.base_core.proofs.BrokenBuilds.{kept_broken_object, broken_object_fini
 use Rattle.base_core.proofs.FoundBuilds.{is_found}
 use Rattle.base_core.proofs.Idle.{some_same}
 use Rattle.base_core.proofs.LaneSlots.{lane_slot, slot_there}
-use Rattle.base_core.proofs.ObjectSteps.{kept_object, object_so}
+use Rattle.base_core.proofs.ObjectSteps.{kept_object, object_so, object_fits, object_made}
 use Rattle.base_core.proofs.UnitCalls.{builds_waits}
 use Rattle.base_core.proofs.core_value.Core.commit_object.Goals as goal
 
@@ -75,8 +76,8 @@ invariant_of-self-in-Ok-Committed g c =
     let done : IsCommitted c.self.inside.log c.append.new.self c.args.row = subst (Appends c.self.inside.log c.append.new.self c.args.row (Some (steps.End c.tag-tag.result))) c.in-Ok-Committed.field-0-is c.in-Ok-Committed.ensures.ok in
     subst (λ log. IsKept log c.take_reply_back.new.lanes.items c.note.new.builds.items c.self.inside.moment) (sym done.grows)
     (subst (λ lanes. IsKept (with_row c.self.inside.log c.args.row done.tick done.sight) lanes c.note.new.builds.items c.self.inside.moment) (sym (c.take_reply_back.ensures c.self.inside.replies.items replies.DiskFault c.in_ok-add_reply.ensures.ok))
-    (kept_object c.self.inside.log c.self.inside.replies.items c.self.inside.builds.items c.note.new.builds.items c.self.inside.moment c.args.self.now.story c.args.lane c.args.unit (c.len.result + 1) c.args.row done.tick done.sight done.ticked
-    (ap (λ v. v.story) c.self.view_is) c.self.invariant c.requires (omega (arith, c.len.ensures, ap length c.rows.ensures)) c.a_base_fits.ensures c.a_build_is_consistent.ensures (λ build e. c.note.ensures build e) done.formed))
+    (kept_object c.self.inside.log c.self.inside.replies.items c.self.inside.builds.items c.note.new.builds.items c.self.inside.moment c.args.self.now.story c.args.lane c.args.unit c.size-number.result c.args.row done.tick done.sight done.ticked
+    (ap (λ v. v.story) c.self.view_is) c.self.invariant c.requires (c.size-number.ensures.size ∙ ap size c.rows.ensures) c.a_build_is_consistent.ensures (λ build e. c.note.ensures build e) done.formed))
 
 pub invariant_of-self-in-Ok-Faulted : goal.invariant_of-self-in-Ok-Faulted
 invariant_of-self-in-Ok-Faulted g c =
@@ -97,3 +98,10 @@ returns-in-Ok-Faulted-clause-ok g c =
     let done : IsFaulted c.self.inside.log c.append.new.self c.args.row (Some (steps.End c.tag-tag.result)) = subst (Appends c.self.inside.log c.append.new.self c.args.row (Some (steps.End c.tag-tag.result))) c.in-Ok-Faulted.field-0-is c.in-Ok-Faulted.ensures.ok in
     subst (λ log. Finishes c.args.self.now.story log.story c.args.lane) (sym done.grows)
     (broken_object_finishes c.self.inside.log c.self.inside.replies.items c.self.inside.builds.items c.self.inside.moment c.args.self.now.story c.args.lane c.args.unit c.args.row c.tag-tag.result done.left done.before done.faults done.tick done.sight (ap (λ v. v.story) c.self.view_is) c.self.invariant c.requires c.tag-tag.ensures)
+
+pub append-requires-clause-fits : goal.append-requires-clause-fits
+append-requires-clause-fits g c =
+    object_fits c.self.inside.log c.self.inside.replies.items c.self.inside.builds.items c.self.inside.moment c.args.lane c.args.unit c.args.self.now.story c.args.row (ap (λ v. v.story) c.self.view_is) c.self.invariant c.requires c.a_build_is_consistent.ensures
+
+pub append-requires-clause-made : goal.append-requires-clause-made
+append-requires-clause-made g c = object_made (state_of c.args.self.now.story) c.args.lane c.args.unit c.args.row c.requires

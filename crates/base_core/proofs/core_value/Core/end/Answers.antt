@@ -2,9 +2,9 @@
 use Rattle.std.proofs.Common.{◌-◌, ◌++◌, ◌∷◌, [], None, length, set, ap, sym, subst, ◌∙◌, arith}
 use Rattle.std.proofs.lemmas.List.{length-set}
 use Rattle.cc_names.specs.declared.steps.Step.TheVariants as steps
-use Rattle.legal_history.specs.Builds.{build_of}
-use Rattle.legal_history.specs.States.{next_tag}
-use Rattle.legal_history.specs.Steps.{state_of}
+use Rattle.legal_history.specs.Builds.Active.{build_of}
+use Rattle.legal_history.specs.Stories.States.{next_tag}
+use Rattle.legal_history.specs.Stories.Steps.{state_of}
 use Rattle.base_core.specs.Going.{Finishes}
 use Rattle.base_core.specs.Kept.{replies_at, IsKept}
 use Rattle.base_core.specs.Logs.{with_step}
@@ -18,8 +18,8 @@ use Rattle.base_core.proofs.core_value.Core.end.Goals as goal
 pub tag-tag-requires : goal.tag-tag-requires
 tag-tag-requires g c = builds_waits (state_of c.args.self.now.story) c.args.lane (next_tag (state_of c.args.self.now.story) c.args.lane) (is_found c.self.inside.log c.self.inside.replies.items c.self.inside.builds.items c.self.inside.moment c.args.self.now.story c.args.lane c.requires.build (ap (λ v. v.story) c.self.view_is) c.self.invariant c.requires.active).kept.waits
 
-pub reply_of-requires-clause-few : goal.reply_of-requires-clause-few
-reply_of-requires-clause-few g c = (found c.self.inside.log c.self.inside.replies.items c.self.inside.builds.items c.as_slice.result.now c.self.inside.moment c.args.self.now.story c.args.lane c.in-Some.build.now (ap (λ v. v.story) c.self.view_is) c.self.invariant c.as_slice.ensures.value c.in-Some.ensures).kept.formed.few
+pub reply_of-requires : goal.reply_of-requires
+reply_of-requires g c = record { few = (found c.self.inside.log c.self.inside.replies.items c.self.inside.builds.items c.as_slice.result.now c.self.inside.moment c.args.self.now.story c.args.lane c.in-Some.build.now (ap (λ v. v.story) c.self.view_is) c.self.invariant c.as_slice.ensures.value c.in-Some.ensures).kept.formed.few }
 
 pub add_reply-requires-clause-from : goal.add_reply-requires-clause-from
 add_reply-requires-clause-from g c = (lane_slot c.self.inside.log c.self.inside.replies.items c.self.inside.builds.items c.self.inside.moment c.args.lane c.requires.build c.self.invariant (ap (λ v. build_of (state_of v.story).active c.args.lane) c.self.view_is ∙ c.requires.active)).from

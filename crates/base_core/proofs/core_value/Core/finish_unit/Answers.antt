@@ -1,7 +1,7 @@
 -- a unit whose script was run is finished
 use Rattle.std.proofs.Common.{ap}
 use Rattle.build_script.specs.Ended.{ran_of, outputs_in}
-use Rattle.legal_history.specs.Steps.{state_of}
+use Rattle.legal_history.specs.Stories.Steps.{state_of}
 use Rattle.base_core.proofs.FoundBuilds.{fails_so}
 use Rattle.base_core.proofs.core_value.Core.finish_unit.Goals as goal
 

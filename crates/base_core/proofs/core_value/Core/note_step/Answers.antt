@@ -1,8 +1,8 @@
 -- a unit comes to something without a row
 use Rattle.std.proofs.Common.{◌<◌, length, ap, sym, subst, ◌∙◌}
 use Rattle.build_core.specs.Comes.{came_of}
-use Rattle.legal_history.specs.Builds.{build_of}
-use Rattle.legal_history.specs.Steps.{state_of}
+use Rattle.legal_history.specs.Builds.Active.{build_of}
+use Rattle.legal_history.specs.Stories.Steps.{state_of}
 use Rattle.base_core.specs.BuildCalls.{Noted}
 use Rattle.base_core.specs.Kept.{IsKept}
 use Rattle.base_core.proofs.Idle.{some_same}

@@ -1,11 +1,10 @@
 -- the row of what a unit's run gave is the one that it publishes
-use Rattle.std.proofs.Common.{◌≡◌, Some, true, reverse, ap, sym, subst, ◌∙◌}
+use Rattle.std.proofs.Common.{◌≡◌, Some, ap, sym, subst, ◌∙◌}
 use Rattle.build_core.specs.Publishing.{IsPublishOf}
-use Rattle.legal_history.specs.Builds.{came_to, unit_at}
-use Rattle.legal_history.specs.Choices.{publish_of}
-use Rattle.legal_history.specs.Fits.{is_base}
-use Rattle.legal_history.specs.Consistency.{IsConsistent}
-use Rattle.legal_history.specs.Steps.{state_of}
+use Rattle.legal_history.specs.Builds.Active.{came_to, unit_at}
+use Rattle.legal_history.specs.Builds.Choices.{publish_of}
+use Rattle.legal_history.specs.Builds.Consistency.{IsConsistent}
+use Rattle.legal_history.specs.Stories.Steps.{state_of}
 use Rattle.base_core.specs.BuildCalls.{IsObjectRow}
 use Rattle.base_core.proofs.FoundBuilds.{if_ok, found, base_of_rows}
 use Rattle.base_core.proofs.Idle.{some_same}
@@ -15,8 +14,7 @@ pub publish_row-requires-clause-formed : goal.publish_row-requires-clause-formed
 publish_row-requires-clause-formed g c =
     let h = found c.self.inside.log c.self.inside.replies.items c.self.inside.builds.items c.as_slice.result.now c.self.inside.moment c.args.self.now.story c.args.lane c.in-Some.build.now (ap (λ v. v.story) c.self.view_is) c.self.invariant c.as_slice.ensures.value c.in-Some.ensures in
     let base = base_of_rows c.self.inside.log c.self.inside.replies.items c.self.inside.builds.items c.self.inside.moment c.args.self.now.story c.rows.result (ap (λ v. v.story) c.self.view_is) c.self.invariant c.rows.ensures in
-    λ it is. c.a_unit_may_publish.ensures (reverse c.rows.result) c.in-Some.build.now c.args.unit it h.kept.formed.named h.kept.formed.units
-    (subst (λ b. is_base b ≡ true) base (c.a_base_fits.ensures c.args.self.now.story h.legal))
+    λ it is. c.a_unit_may_publish.ensures c.rows.result c.in-Some.build.now c.args.unit it h.kept.formed.named h.kept.formed.units
     (subst (λ b. IsConsistent b c.in-Some.build.now) base (c.a_build_is_consistent.ensures c.args.self.now.story c.args.lane c.in-Some.build.now h.legal h.active)) is
 
 pub returns : goal.returns
@@ -24,7 +22,7 @@ returns g c =
     let h = found c.self.inside.log c.self.inside.replies.items c.self.inside.builds.items c.as_slice.result.now c.self.inside.moment c.args.self.now.story c.args.lane c.in-Some.build.now (ap (λ v. v.story) c.self.view_is) c.self.invariant c.as_slice.ensures.value c.in-Some.ensures in
     let is : c.requires.build ≡ c.in-Some.build.now = some_same c.requires.build c.in-Some.build.now (sym c.requires.active ∙ h.active) in
     let is_unit : unit_at c.in-Some.build.now c.args.unit ≡ Some c.requires.unit = ap (λ b. unit_at b c.args.unit) (sym is) ∙ c.requires.is_unit in
-    if_ok c.publish_row.result (IsPublishOf (reverse c.rows.result) c.in-Some.build.now c.args.unit c.requires.unit c.self.inside.moment) (IsObjectRow (state_of c.args.self.now.story) c.args.lane c.args.unit)
+    if_ok c.publish_row.result (IsPublishOf c.rows.result c.in-Some.build.now c.args.unit c.requires.unit c.self.inside.moment) (IsObjectRow (state_of c.args.self.now.story) c.args.lane c.args.unit)
     (λ row p. record {
       build = c.in-Some.build.now;
       active = h.active;
@@ -35,4 +33,4 @@ returns g c =
       at_moment = p.made ∙ sym (ap (λ v. (state_of v.story).moment) (sym c.self.view_is) ∙ c.self.invariant.agrees.moment);
       made = ap (λ b. publish_of b c.in-Some.build.now c.args.unit c.requires.unit) (base_of_rows c.self.inside.log c.self.inside.replies.items c.self.inside.builds.items c.self.inside.moment c.args.self.now.story c.rows.result (ap (λ v. v.story) c.self.view_is) c.self.invariant c.rows.ensures) ∙ p.deed;
     })
-    (c.publish_row.ensures c.requires.unit is_unit)
+    (c.publish_row.ensures.row c.requires.unit is_unit)

@@ -1,6 +1,6 @@
 -- a build begins
 use Rattle.std.proofs.Common.{Some, length, set, ◌-◌, ap, sym, subst}
-use Rattle.legal_history.specs.Steps.{state_of}
+use Rattle.legal_history.specs.Stories.Steps.{state_of}
 use Rattle.base_core.specs.BuildCalls.{IsBuilding}
 use Rattle.base_core.specs.Going.{GoesOn}
 use Rattle.base_core.specs.Kept.{IsKept}

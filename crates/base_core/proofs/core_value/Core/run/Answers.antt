@@ -1,23 +1,23 @@
 -- the run of a unit that was started is the one on what it sees
-use Rattle.std.proofs.Common.{◌≡◌, Some, reverse, ap, sym, ◌∙◌}
+use Rattle.std.proofs.Common.{◌≡◌, Some, ap, sym, ◌∙◌}
 use Rattle.build_script.specs.Ended.{ran_of}
-use Rattle.legal_history.specs.Builds.{came_to, unit_at}
-use Rattle.legal_history.specs.Choices.{here}
-use Rattle.legal_history.specs.Steps.{state_of}
+use Rattle.legal_history.specs.Builds.Active.{came_to, unit_at}
+use Rattle.legal_history.specs.Builds.Choices.{here}
+use Rattle.legal_history.specs.Stories.Steps.{state_of}
 use Rattle.base_core.specs.BuildCalls.{HasRun}
 use Rattle.base_core.proofs.FoundBuilds.{if_ok, found, base_of_rows, view_there}
 use Rattle.base_core.proofs.Idle.{some_same}
 use Rattle.base_core.proofs.core_value.Core.run.Goals as goal
 
 pub run_unit-requires-clause-view : goal.run_unit-requires-clause-view
-run_unit-requires-clause-view g c = view_there c.args.self.now.story c.args.lane c.in-Some.build.now (reverse c.rows.result) (found c.self.inside.log c.self.inside.replies.items c.self.inside.builds.items c.as_slice.result.now c.self.inside.moment c.args.self.now.story c.args.lane c.in-Some.build.now (ap (λ v. v.story) c.self.view_is) c.self.invariant c.as_slice.ensures.value c.in-Some.ensures) (base_of_rows c.self.inside.log c.self.inside.replies.items c.self.inside.builds.items c.self.inside.moment c.args.self.now.story c.rows.result (ap (λ v. v.story) c.self.view_is) c.self.invariant c.rows.ensures)
+run_unit-requires-clause-view g c = view_there c.args.self.now.story c.args.lane c.in-Some.build.now c.rows.result (found c.self.inside.log c.self.inside.replies.items c.self.inside.builds.items c.as_slice.result.now c.self.inside.moment c.args.self.now.story c.args.lane c.in-Some.build.now (ap (λ v. v.story) c.self.view_is) c.self.invariant c.as_slice.ensures.value c.in-Some.ensures) (base_of_rows c.self.inside.log c.self.inside.replies.items c.self.inside.builds.items c.self.inside.moment c.args.self.now.story c.rows.result (ap (λ v. v.story) c.self.view_is) c.self.invariant c.rows.ensures)
 
 pub returns : goal.returns
 returns g c =
     let h = found c.self.inside.log c.self.inside.replies.items c.self.inside.builds.items c.as_slice.result.now c.self.inside.moment c.args.self.now.story c.args.lane c.in-Some.build.now (ap (λ v. v.story) c.self.view_is) c.self.invariant c.as_slice.ensures.value c.in-Some.ensures in
     let is : c.requires.has.build ≡ c.in-Some.build.now = some_same c.requires.has.build c.in-Some.build.now (sym c.requires.has.active ∙ h.active) in
     let is_unit : unit_at c.in-Some.build.now c.args.unit ≡ Some c.requires.has.unit = ap (λ b. unit_at b c.args.unit) (sym is) ∙ c.requires.has.is_unit in
-    if_ok c.run_unit.result (λ ended. ran_of ended ≡ here (reverse c.rows.result) c.in-Some.build.now c.args.unit c.requires.has.unit) (λ ended. HasRun (state_of c.args.self.now.story) c.args.lane c.args.unit (ran_of ended))
+    if_ok c.run_unit.result (λ ended. ran_of ended ≡ here c.rows.result c.in-Some.build.now c.args.unit c.requires.has.unit) (λ ended. HasRun (state_of c.args.self.now.story) c.args.lane c.args.unit (ran_of ended))
     (λ ended ran. record {
       build = c.in-Some.build.now;
       active = h.active;

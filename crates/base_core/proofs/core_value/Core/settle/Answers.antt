@@ -1,6 +1,6 @@
 -- a unit settles without a row
-use Rattle.legal_history.specs.States.{next_tag}
-use Rattle.legal_history.specs.Steps.{state_of}
+use Rattle.legal_history.specs.Stories.States.{next_tag}
+use Rattle.legal_history.specs.Stories.Steps.{state_of}
 use Rattle.base_core.proofs.UnitCalls.{builds_waits}
 use Rattle.base_core.proofs.core_value.Core.settle.Goals as goal
 

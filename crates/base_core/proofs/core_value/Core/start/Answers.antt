@@ -1,6 +1,6 @@
 -- the script of a unit is started
-use Rattle.legal_history.specs.States.{next_tag}
-use Rattle.legal_history.specs.Steps.{state_of}
+use Rattle.legal_history.specs.Stories.States.{next_tag}
+use Rattle.legal_history.specs.Stories.Steps.{state_of}
 use Rattle.base_core.proofs.UnitCalls.{builds_waits}
 use Rattle.base_core.proofs.core_value.Core.start.Goals as goal
 

@@ -1,8 +1,9 @@
 -- the rows are those that the story tells
 use Rattle.std.proofs.Common.{ap, sym, ◌∙◌}
+use Rattle.base_core.specs.Handed.{handed_in}
 use Rattle.base_core.specs.Telling.{rows_told}
 use Rattle.base_core.proofs.Stories.{rows_told_are}
 use Rattle.base_core.proofs.history.History.rows.Goals as goal
 
 pub returns : goal.returns
-returns c = c.as_slice.ensures.value ∙ sym (rows_told_are c.self.inside.handed 1 0 c.self.inside.steps.items c.self.inside.rows.items c.self.inside.phases.items c.self.invariant) ∙ ap rows_told c.self.view_is
+returns g c = c.as_slice.ensures.value ∙ sym (rows_told_are (handed_in c.self.inside.handed g.D.Disk.tells) 1 0 c.self.inside.steps.items c.self.inside.rows.items c.self.inside.phases.items c.self.invariant) ∙ ap rows_told c.self.view_is

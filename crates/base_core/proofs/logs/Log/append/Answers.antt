@@ -1,13 +1,15 @@
 -- a row is appended to the journal, and what became of it is told
-use Rattle.std.proofs.Common.{◌≡◌, ◌+◌, ◌∷◌, [], ◌++◌, length, ap, sym, subst, ◌∙◌, cond, is_ok, arith}
+use Rattle.std.proofs.Common.{◌≡◌, true, ◌∷◌, [], ◌++◌, length, ap, sym, subst, ◌∙◌, cond, is_ok, arith}
 use Rattle.std.specs.Option.{option_to_list}
 use Rattle.cc_names.specs.declared.steps.Step.TheVariants as steps
 use Rattle.disk_model.specs.Told.{IfTold}
+use Rattle.legal_history.specs.Base.Fits.{fits}
 use Rattle.vob_journal.specs.Lefts.{loose_after}
 use Rattle.base_core.specs.Appending.{IsCommitted, IsFaulted}
 use Rattle.base_core.specs.Leaving.{left_in, LeftSo}
 use Rattle.base_core.specs.Logs.{IsLogged}
-use Rattle.base_core.proofs.Appended.{fault_step, is_committed, is_faulted, logged_faulted, some_calls}
+use Rattle.base_core.specs.Handed.{handed_in}
+use Rattle.base_core.proofs.Appended.{fault_step, is_committed, is_faulted, logged_faulted, objects_stay, some_calls}
 use Rattle.base_core.proofs.Logged.{logged_row}
 use Rattle.base_core.proofs.LogSteps.{shown}
 use Rattle.base_core.proofs.logs.Log.append.Goals as goal
@@ -15,27 +17,27 @@ use Rattle.base_core.proofs.logs.Log.append.Goals.{in-Nothing, in-Earlier, in-In
 
 pub invariant_of-self-in-Ok : goal.invariant_of-self-in-Ok
 invariant_of-self-in-Ok g c =
-    let commit = steps.Commit c.tag-tag.result (c.len.result + 1) c.in-Ok.tick in
+    let commit = steps.Commit c.tag-tag.result c.size-number.result c.in-Ok.tick in
     let kept : c.push.new.self.items ≡ c.self.inside.steps.items ++ commit ∷ [] = c.push.ensures.items ∙ ap (λ r. cond (is_ok r) (c.reserve-2.new.self.items ++ commit ∷ []) c.reserve-2.new.self.items) c.unwrap.ensures ∙ ap (λ xs. xs ++ commit ∷ []) c.reserve-2.ensures.items in
-    let rows : c.push-in-Ok.new.self.rows ≡ c.self.inside.rows.rows ++ c.args.row ∷ [] = c.push-in-Ok.ensures ∙ ap (λ xs. xs ++ c.args.row ∷ []) c.reserve.ensures.same in
-    logged_row c.self.inside.handed c.self.inside.steps.items c.push.new.self.items c.self.inside.rows.rows c.push-in-Ok.new.self.rows c.self.inside.phases.items c.tag-tag.result (c.len.result + 1) c.in-Ok.tick c.args.row
+    let rows : c.push-in-Ok.new.self.base ≡ c.args.row ∷ c.self.inside.rows.base = c.push-in-Ok.ensures ∙ ap (λ b. c.args.row ∷ b) c.reserve.ensures.same in
+    logged_row (handed_in c.self.inside.handed g.D.Disk.tells) c.self.inside.steps.items c.push.new.self.items c.self.inside.rows.base c.push-in-Ok.new.self.base c.self.inside.phases.items c.tag-tag.result c.size-number.result c.in-Ok.tick c.args.row
     (g.D.Disk.sight c.self.inside.journal.disk) (g.D.Disk.sight c.append.new.self.disk) c.self.inside.journal.list c.self.inside.journal.loose c.append.new.self.list c.append.new.self.loose c.self.inside.journal.ended c.append.new.self.ended c.self.inside.journal.left c.append.new.self.left
-    c.self.invariant kept rows (sym c.tag-tag.ensures) (omega (arith, ap length c.reserve.ensures.same)) c.in-Ok.ensures.moves
+    c.self.invariant kept rows (sym c.tag-tag.ensures) (omega (arith, c.size-number.ensures.size, ap length c.all.ensures, ap length c.reserve.ensures.same)) c.in-Ok.ensures.moves
     (subst (λ f. IfTold (g.D.Disk.sight c.self.inside.journal.disk).told (λ _. (c.append.new.self.list ≡ c.self.inside.journal.list ++ f ∷ []) × (c.append.new.self.loose ≡ []))) c.in_ok-frame.ensures c.in-Ok.ensures.ok)
-    c.in-Ok.ensures.tick c.in-Ok.ensures.costs.1 (g.met.D.Disk.counted c.self.inside.journal.disk) (g.met.D.Disk.counted c.append.new.self.disk) c.in-Ok.ensures.ended
+    c.in-Ok.ensures.tick c.in-Ok.ensures.costs.1 (g.met.D.Disk.counted c.self.inside.journal.disk) (g.met.D.Disk.counted c.append.new.self.disk) c.in-Ok.ensures.ended c.in-Ok.ensures.left
 
 pub returns-in-Ok-clause-ok : goal.returns-in-Ok-clause-ok
 returns-in-Ok-clause-ok g c =
-    let commit = steps.Commit c.tag-tag.result (c.len.result + 1) c.in-Ok.tick in
+    let commit = steps.Commit c.tag-tag.result c.size-number.result c.in-Ok.tick in
     let kept : c.push.new.self.items ≡ c.self.inside.steps.items ++ commit ∷ [] = c.push.ensures.items ∙ ap (λ r. cond (is_ok r) (c.reserve-2.new.self.items ++ commit ∷ []) c.reserve-2.new.self.items) c.unwrap.ensures ∙ ap (λ xs. xs ++ commit ∷ []) c.reserve-2.ensures.items in
-    let rows : c.push-in-Ok.new.self.rows ≡ c.self.inside.rows.rows ++ c.args.row ∷ [] = c.push-in-Ok.ensures ∙ ap (λ xs. xs ++ c.args.row ∷ []) c.reserve.ensures.same in
-    subst (λ old. IsCommitted old (shown c.self.inside.handed c.push.new.self.items c.push-in-Ok.new.self.rows c.self.inside.phases.items (g.D.Disk.sight c.append.new.self.disk)) c.args.row) c.self.view_is
-    (is_committed c.self.inside.handed c.self.inside.steps.items c.push.new.self.items c.self.inside.rows.rows c.push-in-Ok.new.self.rows c.self.inside.phases.items c.tag-tag.result (c.len.result + 1) c.in-Ok.tick _ c.args.row
-    (g.D.Disk.sight c.self.inside.journal.disk) (g.D.Disk.sight c.append.new.self.disk) c.self.inside.journal.list c.self.inside.journal.loose c.self.inside.journal.ended c.self.inside.journal.left c.self.invariant kept rows c.in-Ok.ensures.tick c.in-Ok.ensures.costs.0 (some_calls c.self.inside.journal.settled) c.in-Ok.ensures.costs.1 c.deed.ensures.formed)
+    let rows : c.push-in-Ok.new.self.base ≡ c.args.row ∷ c.self.inside.rows.base = c.push-in-Ok.ensures ∙ ap (λ b. c.args.row ∷ b) c.reserve.ensures.same in
+    subst (λ old. IsCommitted old (shown (handed_in c.self.inside.handed g.D.Disk.tells) c.push.new.self.items c.push-in-Ok.new.self.base c.self.inside.phases.items (g.D.Disk.sight c.append.new.self.disk)) c.args.row) c.self.view_is
+    (is_committed (handed_in c.self.inside.handed g.D.Disk.tells) c.self.inside.steps.items c.push.new.self.items c.self.inside.rows.base c.push-in-Ok.new.self.base c.self.inside.phases.items c.tag-tag.result c.size-number.result c.in-Ok.tick _ c.args.row
+    (g.D.Disk.sight c.self.inside.journal.disk) (g.D.Disk.sight c.append.new.self.disk) c.self.inside.journal.list c.self.inside.journal.loose c.self.inside.journal.ended c.self.inside.journal.left c.self.invariant kept rows c.in-Ok.ensures.tick c.in-Ok.ensures.costs.0 (some_calls c.self.inside.journal.settled) c.in-Ok.ensures.costs.1 c.deed.ensures.formed (objects_stay _ _ _ _ _ _ c.in-Ok.ensures.moves))
 
 pub invariant_of-self : goal.invariant_of-self
 invariant_of-self g c =
-    subst (λ rows. IsLogged c.self.inside.handed c.self.inside.steps.items rows c.self.inside.phases.items (g.D.Disk.sight c.self.inside.journal.disk) c.self.inside.journal.list c.self.inside.journal.loose c.self.inside.journal.ended c.self.inside.journal.left) (sym c.reserve.ensures.same) c.self.invariant
+    subst (λ rows. IsLogged (handed_in c.self.inside.handed g.D.Disk.tells) c.self.inside.steps.items rows c.self.inside.phases.items (g.D.Disk.sight c.self.inside.journal.disk) c.self.inside.journal.list c.self.inside.journal.loose c.self.inside.journal.ended c.self.inside.journal.left) (sym c.reserve.ensures.same) c.self.invariant
 
 pub invariant_of-self-2 : goal.invariant_of-self-2
 invariant_of-self-2 g c =
@@ -46,8 +48,8 @@ invariant_of-self-2 g c =
       | in-Earlier w ↦ subst (λ l. LeftSo c.in_ok-earlier.earlier c.args.row l c.match-left.left) (sym w.in-Earlier.is ∙ c.left.ensures) w.left-is
       | in-InFlight w ↦ subst (λ l. LeftSo c.in_ok-earlier.earlier c.args.row l c.match-left.left) (sym w.in-InFlight.is ∙ c.left.ensures) w.left-is
     ] in
-    subst (λ rows. IsLogged c.self.inside.handed c.push_both.new.steps.items rows c.self.inside.phases.items (g.D.Disk.sight c.append.new.self.disk) c.append.new.self.list c.append.new.self.loose c.append.new.self.ended c.append.new.self.left) (sym c.reserve.ensures.same)
-    (logged_faulted c.self.inside.handed c.self.inside.steps.items c.push_both.new.steps.items c.self.inside.rows.rows c.self.inside.phases.items c.tag-tag.result c.args.row c.in_ok-earlier.earlier c.match-left.left c.counts-before.result.faults c.counts-counts.result.faults c.counts-counts.result.ticks c.args.ending
+    subst (λ rows. IsLogged (handed_in c.self.inside.handed g.D.Disk.tells) c.push_both.new.steps.items rows c.self.inside.phases.items (g.D.Disk.sight c.append.new.self.disk) c.append.new.self.list c.append.new.self.loose c.append.new.self.ended c.append.new.self.left) (sym c.reserve.ensures.same)
+    (logged_faulted (handed_in c.self.inside.handed g.D.Disk.tells) c.self.inside.steps.items c.push_both.new.steps.items c.self.inside.rows.base c.self.inside.phases.items c.tag-tag.result c.args.row c.in_ok-earlier.earlier c.match-left.left c.counts-before.result.faults c.counts-counts.result.faults c.counts-counts.result.ticks c.args.ending
     (g.D.Disk.sight c.self.inside.journal.disk) (g.D.Disk.sight c.append.new.self.disk) c.self.inside.journal.list c.self.inside.journal.loose c.append.new.self.list c.append.new.self.loose c.self.inside.journal.ended c.append.new.self.ended c.self.inside.journal.left c.append.new.self.left
     c.requires.ending c.self.invariant kept c.in_default.ensures.moves
     (subst (λ f. IfTold (g.D.Disk.sight c.self.inside.journal.disk).told (λ _. (c.append.new.self.list ≡ c.self.inside.journal.list) × (c.append.new.self.loose ≡ loose_after c.append.new.self.left c.self.inside.journal.loose f))) c.in_ok-frame.ensures c.in_default.ensures.err)
@@ -62,9 +64,13 @@ returns-clause-ok g c =
       | in-Earlier w ↦ subst (λ l. LeftSo c.in_ok-earlier.earlier c.args.row l c.match-left.left) (sym w.in-Earlier.is ∙ c.left.ensures) w.left-is
       | in-InFlight w ↦ subst (λ l. LeftSo c.in_ok-earlier.earlier c.args.row l c.match-left.left) (sym w.in-InFlight.is ∙ c.left.ensures) w.left-is
     ] in
-    subst (λ old. IsFaulted old (shown c.self.inside.handed c.push_both.new.steps.items c.reserve.new.self.rows c.self.inside.phases.items (g.D.Disk.sight c.append.new.self.disk)) c.args.row c.args.ending) c.self.view_is
-    (subst (λ rows. IsFaulted (shown c.self.inside.handed c.self.inside.steps.items c.self.inside.rows.rows c.self.inside.phases.items (g.D.Disk.sight c.self.inside.journal.disk)) (shown c.self.inside.handed c.push_both.new.steps.items rows c.self.inside.phases.items (g.D.Disk.sight c.append.new.self.disk)) c.args.row c.args.ending) (sym c.reserve.ensures.same)
-    (is_faulted c.self.inside.handed c.self.inside.steps.items c.push_both.new.steps.items c.self.inside.rows.rows c.self.inside.phases.items c.tag-tag.result c.args.row c.in_ok-earlier.earlier c.match-left.left c.counts-before.result.faults c.counts-counts.result.faults c.counts-counts.result.ticks c.args.ending
+    subst (λ old. IsFaulted old (shown (handed_in c.self.inside.handed g.D.Disk.tells) c.push_both.new.steps.items c.reserve.new.self.base c.self.inside.phases.items (g.D.Disk.sight c.append.new.self.disk)) c.args.row c.args.ending) c.self.view_is
+    (subst (λ rows. IsFaulted (shown (handed_in c.self.inside.handed g.D.Disk.tells) c.self.inside.steps.items c.self.inside.rows.base c.self.inside.phases.items (g.D.Disk.sight c.self.inside.journal.disk)) (shown (handed_in c.self.inside.handed g.D.Disk.tells) c.push_both.new.steps.items rows c.self.inside.phases.items (g.D.Disk.sight c.append.new.self.disk)) c.args.row c.args.ending) (sym c.reserve.ensures.same)
+    (is_faulted (handed_in c.self.inside.handed g.D.Disk.tells) c.self.inside.steps.items c.push_both.new.steps.items c.self.inside.rows.base c.self.inside.phases.items c.tag-tag.result c.args.row c.in_ok-earlier.earlier c.match-left.left c.counts-before.result.faults c.counts-counts.result.faults c.counts-counts.result.ticks c.args.ending
     (g.D.Disk.sight c.self.inside.journal.disk) (g.D.Disk.sight c.append.new.self.disk) c.self.inside.journal.list c.self.inside.journal.loose c.self.inside.journal.ended c.self.inside.journal.left c.append.new.self.left
     c.tag-tag.ensures c.requires.ending c.self.invariant kept (c.in_ok-earlier.ensures ∙ ap left_in c.as_slice.ensures.value) left c.counts-counts.ensures.ticks c.counts-counts.ensures.faults c.counts-before.ensures.faults c.in_default.ensures.costs.0 c.in_default.ensures.costs.2
-    (g.met.D.Disk.counted c.self.inside.journal.disk) (g.met.D.Disk.counted c.append.new.self.disk) c.deed.ensures.formed))
+    (g.met.D.Disk.counted c.self.inside.journal.disk) (g.met.D.Disk.counted c.append.new.self.disk) c.deed.ensures.formed (objects_stay _ _ _ _ _ _ c.in_default.ensures.moves)))
+
+pub push-requires-in-Ok-clause-fits : goal.push-requires-in-Ok-clause-fits
+push-requires-in-Ok-clause-fits g c =
+    subst (λ b. fits b c.args.row.deed ≡ true) (ap (λ log. log.base) (sym c.self.view_is) ∙ sym c.reserve.ensures.same) c.requires.fits

@@ -1,6 +1,6 @@
 -- what the disk keeps of the history
 use Rattle.std.proofs.Common.{subst}
-use Rattle.legal_history.specs.Steps.{state_of}
+use Rattle.legal_history.specs.Stories.Steps.{state_of}
 use Rattle.base_core.specs.Backed.{IsAccounted}
 use Rattle.base_core.proofs.Settled.{accounted}
 use Rattle.base_core.proofs.logs.Log.into_parts.Goals as goal

@@ -1,7 +1,7 @@
 -- The slot at the index has what the unit has come to.
 use Rattle.std.proofs.Common.{◌≡◌, ◌<◌, ◌≤◌, length, get_or, ap, sym, ◌∙◌, arith}
 use Rattle.std.specs.Option.{option_map, option_copied}
-use Rattle.legal_history.specs.Builds.{came_to}
+use Rattle.legal_history.specs.Builds.Active.{came_to}
 use Rattle.build_core.specs.Comes.{came_of}
 use Rattle.build_core.proofs.Cames.{found_in_slot, found_past}
 use Rattle.build_core.proofs.active.ActiveBuild.came_at.Goals as goal

@@ -1,6 +1,6 @@
 -- The slot of the unit is filled.
 use Rattle.std.proofs.Common.{◌≡◌, ◌<◌, length, ap, arith}
-use Rattle.legal_history.specs.Builds.{Build}
+use Rattle.legal_history.specs.Builds.Active.{Build}
 use Rattle.build_core.specs.Comes.{came_of}
 use Rattle.build_core.proofs.Cames.{noted_in_slot, with_comes}
 use Rattle.build_core.proofs.active.ActiveBuild.note.Goals as goal

@@ -1,5 +1,5 @@
 use Rattle.legal_history.proofs.laws.builds.a_build_is_as_from_nothing.Goals as goal
-use Rattle.legal_history.specs.Steps.{state_of}
+use Rattle.legal_history.specs.Stories.Steps.{state_of}
 use Rattle.legal_history.proofs.Builds.RepliesAgree.{complete_reply}
 use Rattle.legal_history.proofs.Reuse.AgreedStories.{agrees_over_sound, agrees_without_reuse}
 

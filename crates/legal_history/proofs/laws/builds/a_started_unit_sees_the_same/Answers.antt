@@ -1,5 +1,5 @@
 use Rattle.legal_history.proofs.laws.builds.a_started_unit_sees_the_same.Goals as goal
-use Rattle.legal_history.specs.Steps.{after, state_of}
+use Rattle.legal_history.specs.Stories.Steps.{after, state_of}
 use Rattle.legal_history.proofs.Stories.GoingOn.{goes_on_so}
 use Rattle.legal_history.proofs.Stories.Started.{same_run, same_selection}
 

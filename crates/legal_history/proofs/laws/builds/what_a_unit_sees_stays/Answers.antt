@@ -1,4 +1,4 @@
-use Rattle.legal_history.specs.Steps.{state_of}
+use Rattle.legal_history.specs.Stories.Steps.{state_of}
 use Rattle.legal_history.proofs.laws.builds.what_a_unit_sees_stays.Goals as goal
 use Rattle.legal_history.proofs.Reuse.SeenStays.{run_stays, seen_stays}
 use Rattle.legal_history.proofs.Stories.SoundStories.{build_is_consistent}

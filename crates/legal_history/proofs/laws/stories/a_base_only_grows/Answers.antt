@@ -1,5 +1,5 @@
 use Rattle.legal_history.proofs.laws.stories.a_base_only_grows.Goals as goal
-use Rattle.legal_history.specs.States.{start}
+use Rattle.legal_history.specs.Stories.States.{start}
 use Rattle.legal_history.proofs.Stories.Fronts.{front_is_legal}
 use Rattle.legal_history.proofs.Stories.Grows.{base_grows}
 

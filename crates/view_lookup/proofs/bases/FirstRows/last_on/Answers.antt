@@ -1,41 +1,40 @@
 -- The links of the key lead from one of its rows to the next older one.
-use Rattle.std.proofs.Common.{◌≡◌, ℕ, ◌+◌, ◌-◌, ◌<◌, nat_eq, List, length, get_or, take, reverse, Option, Some, None, IfSome, sym, ap, subst, ◌∙◌, arith, rules}
+use Rattle.std.proofs.Common.{◌≡◌, ℕ, suc, ◌<◌, nat_eq, List, length, get_or, take, reverse, Option, Some, None, IfSome, sym, ap, subst, ◌∙◌, arith, rules}
 use Rattle.std.specs.HashMap.{get}
 use Rattle.std.specs.Option.{option_copied}
 use Rattle.std.proofs.lemmas.List.{length-take-le}
 use Rattle.cc_names.specs.declared.rows.Deed.{Deed}
-use Rattle.legal_history.specs.Base.{Base, first_rows}
-use Rattle.view_lookup.specs.Bearing.{deed_on, first_on, key_of_thing, last_on, numbered_or}
+use Rattle.legal_history.specs.Base.Rows.{Base, first_rows}
+use Rattle.view_lookup.specs.Bearing.{deed_on, first_on, last_on, numbered_or}
 use Rattle.view_lookup.specs.Marked.{rows_from, marked}
+use Rattle.view_lookup.specs.Shown.{Shown}
+use Rattle.view_lookup.specs.Subjects.{key, plain}
 use Rattle.view_lookup.specs.declared.marks.Link.{Link}
 use Rattle.view_lookup.proofs.Chains.{link_at, none_from}
-use Rattle.view_lookup.proofs.Fronts.{first_of_rows}
 use Rattle.view_lookup.proofs.LastOn.{marks_of_first}
 use Rattle.view_lookup.proofs.bases.FirstRows.last_on.Goals as goal
 
 -- the search begins at the newest row of the key
 pub loop-next-init : goal.loop-next-init
 loop-next-init c =
-    let thing = c.args.thing in
+    let subject = plain c.args.subject in
     let count = c.self.inside.count in
-    let all : Base = c.base.inside.rows.items in
+    let all : Base = reverse c.base.inside.rows.items in
     let links = c.base.inside.links.items in
     let heads : ℕ → Option ℕ = get nat_eq c.base.inside.newest in
     let found : c.copied-next.result ≡ heads c.key.result = search rules in
-    let next : c.copied-next.result ≡ heads (key_of_thing thing) = found ∙ ap heads c.key.ensures in
+    let next : c.copied-next.result ≡ heads (key subject) = found ∙ ap heads c.key.ensures in
     let same : c.as_slice-links.result.now ≡ links = c.as_slice-links.ensures.value in
-    let front : c.as_slice-rows.result.now ≡ take count all = c.as_slice-rows.ensures ∙ sym c.self.view_is ∙ ap (λ shown. take count shown.rows) (sym c.base.view_is) in
-    let less : count + 1 - 1 ≡ count = omega arith in
-    let first : first_rows (count + 1) (reverse all) ≡ reverse c.as_slice-rows.result.now = first_of_rows all (count + 1) ∙ ap (λ n. reverse (take n all)) less ∙ ap reverse (sym front) in
-    let told : first_on (deed_on thing (reverse c.as_slice-rows.result.now)) (marked (key_of_thing thing) (reverse all)) ≡ last_on thing (reverse c.as_slice-rows.result.now) =
-    subst (λ (b : Base). first_on (deed_on thing b) (marked (key_of_thing thing) (reverse all)) ≡ last_on thing b) first (marks_of_first thing (count + 1) (reverse all)) in
-    let from : rows_from (reverse c.as_slice-links.result.now) c.copied-next.result ≡ marked (key_of_thing thing) (reverse all) =
-    ap (λ (ls : List Link). rows_from (reverse ls) c.copied-next.result) same ∙ ap (rows_from (reverse links)) next ∙ c.base.invariant.rows (key_of_thing thing) in
+    let first : first_rows (suc count) all ≡ c.args.self.now = ap (λ (shown : Shown). first_rows (suc count) shown.base) c.base.view_is ∙ c.self.view_is in
+    let told : first_on (deed_on subject c.args.self.now) (marked (key subject) all) ≡ last_on subject c.args.self.now =
+    subst (λ (b : Base). first_on (deed_on subject b) (marked (key subject) all) ≡ last_on subject b) first (marks_of_first subject (suc count) all) in
+    let from : rows_from (reverse c.as_slice-links.result.now) c.copied-next.result ≡ marked (key subject) all =
+    ap (λ (ls : List Link). rows_from (reverse ls) c.copied-next.result) same ∙ ap (rows_from (reverse links)) next ∙ c.base.invariant.marks.rows (key subject) in
     record {
-      within = rw (next, same) (c.base.invariant.chained.within (key_of_thing thing));
+      within = rw (next, same) (c.base.invariant.marks.chained.within (key subject));
       shorter = omega arith;
-      linked = rw same c.base.invariant.chained.linked;
-      left = ap (first_on (deed_on thing (reverse c.as_slice-rows.result.now))) from ∙ told;
+      linked = rw same c.base.invariant.marks.chained.linked;
+      left = ap (first_on (deed_on subject c.args.self.now)) from ∙ told;
     }
 
 pub offset_bounds-links-place : goal.offset_bounds-links-place
@@ -44,13 +43,13 @@ offset_bounds-links-place c =
     let in_range : c.in-Some.place < length c.as_slice-links.result.now = omega (arith, c.loop-next.invariant.shorter) in
     search rules
 
--- a row of the key that bears on the thing is the last one
+-- a row of the key that bears on the subject is the last one
 pub returns-in-Some-deed_on : goal.returns-in-Some-deed_on
 returns-in-Some-deed_on c =
-    let thing = c.args.thing in
+    let subject = plain c.args.subject in
     let links = c.loop-next.links.now in
     let place = c.in-Some.place in
-    let at : ℕ → Option Deed = deed_on thing (reverse c.as_slice-rows.result.now) in
+    let at : ℕ → Option Deed = deed_on subject c.args.self.now in
     let within : place < length links = subst (λ n. IfSome n (λ p. p < length links)) c.in-Some.is c.loop-next.invariant.within in
     let link : Link = get_or links place (record { row = 0; older = None }) in
     let along = link_at links place (record { row = 0; older = None }) within in
@@ -59,15 +58,14 @@ returns-in-Some-deed_on c =
     sym (ap (λ found. numbered_or link.row found (first_on at rest)) here)
     ∙ ap (first_on at) (sym (ap (rows_from (reverse links)) c.in-Some.is ∙ along.rows))
     ∙ c.loop-next.invariant.left
-    ∙ ap (λ (rows : Base). last_on thing (reverse rows)) c.as_slice-rows.ensures
 
 -- one that does not is passed
 pub loop-next-preserved : goal.loop-next-preserved
 loop-next-preserved c =
-    let thing = c.args.thing in
+    let subject = plain c.args.subject in
     let links = c.loop-next.links.now in
     let place = c.in-Some.place in
-    let at : ℕ → Option Deed = deed_on thing (reverse c.as_slice-rows.result.now) in
+    let at : ℕ → Option Deed = deed_on subject c.args.self.now in
     let within : place < length links = subst (λ n. IfSome n (λ p. p < length links)) c.in-Some.is c.loop-next.invariant.within in
     let link : Link = get_or links place (record { row = 0; older = None }) in
     let along = link_at links place (record { row = 0; older = None }) within in
@@ -87,9 +85,8 @@ loop-next-preserved c =
 -- where the links end no row bears on it
 pub returns : goal.returns
 returns c =
-    let thing = c.args.thing in
-    let at : ℕ → Option Deed = deed_on thing (reverse c.as_slice-rows.result.now) in
+    let subject = plain c.args.subject in
+    let at : ℕ → Option Deed = deed_on subject c.args.self.now in
     let none : c.loop-next.next ≡ None = search rules in
     ap (first_on at) (sym (ap (rows_from (reverse c.loop-next.links.now)) none ∙ none_from (reverse c.loop-next.links.now)))
     ∙ c.loop-next.invariant.left
-    ∙ ap (λ (rows : Base). last_on thing (reverse rows)) c.as_slice-rows.ensures

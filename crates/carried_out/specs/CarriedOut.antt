@@ -1,0 +1,38 @@
+-- What the program carries out so far: the commands, and the deeds that its rows may have.
+use Rattle.std.specs.Prelude.{◌≡◌, Bool, true, false}
+use Rattle.std.specs.List.{AllByRecursion}
+use Rattle.cc_names.specs.declared.commands.Command.{Command}
+use Rattle.cc_names.specs.declared.commands.Command.TheVariants as commands
+use Rattle.cc_names.specs.declared.commands.Lane.{Lane}
+use Rattle.cc_names.specs.declared.commands.Phase.{Phase}
+use Rattle.cc_names.specs.declared.commands.Session.{Session}
+use Rattle.cc_names.specs.declared.rows.Deed.{Deed}
+use Rattle.cc_names.specs.declared.rows.Deed.TheVariants as deeds
+
+-- whether a command is carried out
+abbrev pub is_carried_out : Command → Bool
+is_carried_out (commands.Mkview view) = true
+is_carried_out (commands.Rmview view force) = true
+is_carried_out (commands.Save view path text) = true
+is_carried_out (commands.Clearmake view file own_only rebuild jobs macros goals) = true
+is_carried_out command = false
+
+-- whether a command that is carried out, or a unit of a build, may make a row of this deed
+abbrev pub is_made : Deed → Bool
+is_made (deeds.Mkview view) = true
+is_made (deeds.Rmview view) = true
+is_made (deeds.Put view path text) = true
+is_made (deeds.Publish view targets script entries outputs) = true
+is_made deed = false
+
+-- All commands of a lane are carried out.
+abbrev pub IsLaneCarriedOut : Lane → Type 0
+IsLaneCarriedOut lane = AllByRecursion (λ command. is_carried_out command ≡ true) lane.commands
+
+-- All commands of a phase are carried out.
+abbrev pub AreCarriedOut : Phase → Type 0
+AreCarriedOut phase = AllByRecursion IsLaneCarriedOut phase.lanes
+
+-- All commands of a session are carried out.
+abbrev pub IsSessionCarriedOut : Session → Type 0
+IsSessionCarriedOut session = AllByRecursion AreCarriedOut session.phases

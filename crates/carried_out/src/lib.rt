@@ -1,0 +1,39 @@
+// What the program carries out so far.
+//
+// What it is for: the one place that says which commands are carried out, and which deeds the rows that they make have.
+// The reader of sessions answers the other commands as not built, and a base takes no row of another deed. Where a
+// command comes, it gets its line here; once all commands are carried out, the crate is gone.
+//
+// What it promises: each function is its definition in `specs/`.
+//
+// What it stands on: `cc_names` for the commands and the deeds.
+#![tactic(auto)]
+
+ghost use Rattle.std.specs.Prelude.{◌≡◌};
+ghost use Rattle.carried_out.specs.CarriedOut.{is_carried_out, is_made};
+
+use cc_names::commands::Command;
+use cc_names::rows::Deed;
+
+/// Whether a command is carried out, with whatever words.
+pub fn is_carried_out(command: &Command) -> bool
+    ensures { result ≡ is_carried_out command.now }
+{
+    matches!(
+        command,
+        Command::Mkview { .. }
+            | Command::Rmview { .. }
+            | Command::Save { .. }
+            | Command::Clearmake { .. }
+    )
+}
+
+/// Whether a command that is carried out, or a unit of a build, may make a row of this deed.
+pub fn is_made(deed: &Deed) -> bool
+    ensures { result ≡ is_made deed.now }
+{
+    matches!(
+        deed,
+        Deed::Mkview { .. } | Deed::Rmview { .. } | Deed::Put { .. } | Deed::Publish { .. }
+    )
+}

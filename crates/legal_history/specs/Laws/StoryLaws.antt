@@ -1,0 +1,52 @@
+-- What holds of every legal story. Each is promised by a function of `laws::stories`.
+use Rattle.std.specs.Prelude.{◌≡◌, ℕ, ◌+◌, ◌≤◌, List, [], ◌∷◌, ◌++◌, Some, true}
+use Rattle.cc_names.specs.declared.steps.Told.{Told}
+use Rattle.legal_history.specs.Base.Rows.{size}
+use Rattle.legal_history.specs.Builds.Active.{Build, build_of}
+use Rattle.legal_history.specs.Base.Fits.{is_base, row_limit}
+use Rattle.legal_history.specs.Stories.Growth.{Extends}
+use Rattle.legal_history.specs.Stories.Steps.{state_of}
+use Rattle.legal_history.specs.Stories.Lawful.{Lawful, Legal}
+use Rattle.legal_history.specs.Laws.Ends.{AreRising}
+use Rattle.legal_history.specs.Laws.Unfinished.{all_unfinished}
+
+-- A legal story goes on by each step that is lawful in the state to which it has led, and by no other.
+abbrev pub StoryGoesOnByALawfulStepOn : Type 0
+StoryGoesOnByALawfulStepOn = (story : List Told) (x : Told) → Legal story
+    → Lawful (state_of story) x → Legal (story ++ x ∷ [])
+
+-- The same law, its part *last*.
+abbrev pub StoryGoesOnByALawfulStepLast : Type 0
+StoryGoesOnByALawfulStepLast = (story : List Told) (x : Told) → Legal (story ++ x ∷ [])
+    → Lawful (state_of story) x
+
+-- Along a legal story the rows stay a base: each fits those below it, the rows of commands and of builds alike.
+abbrev pub BaseFits : Type 0
+BaseFits = (story : List Told) → Legal story → is_base (state_of story).base ≡ true
+
+-- A front of a legal story is legal, and its base is that of the whole story without the rows made since.
+abbrev pub BaseOnlyGrowsFront : Type 0
+BaseOnlyGrowsFront = (front rest : List Told) → Legal (front ++ rest) → Legal front
+
+-- The same law, its part *base*.
+abbrev pub BaseOnlyGrowsBase : Type 0
+BaseOnlyGrowsBase = (front rest : List Told) → Legal (front ++ rest)
+    → Extends (state_of front).base (state_of (front ++ rest)).base
+
+-- Along a legal story the rows of the base, and one more for each unit of an active build that has no outcome, stay within
+-- the limit of rows.
+abbrev pub RowsStayWithinTheLimit : Type 0
+RowsStayWithinTheLimit = (story : List Told) → Legal story
+    → size (state_of story).base + all_unfinished (state_of story).active ≤ row_limit
+
+-- Along a legal story the disk's ticks at commits and faults rise, and each fault has a rise of the count of faults that
+-- no earlier one has.
+abbrev pub TicksRise : Type 0
+TicksRise = (story : List Told) → Legal story
+    → AreRising (state_of story).opened (state_of story).ends
+
+-- Along a legal story no two active builds are of one view.
+abbrev pub ViewHasOneBuild : Type 0
+ViewHasOneBuild = (story : List Told) (lane other : ℕ) (one two : Build) → Legal story
+    → build_of (state_of story).active lane ≡ Some one
+    → build_of (state_of story).active other ≡ Some two → one.view ≡ two.view → lane ≡ other

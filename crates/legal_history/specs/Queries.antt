@@ -1,0 +1,8 @@
+-- What is answered to each query.
+pub mod ElementTexts
+pub mod HistoryTexts
+pub mod ListingTexts
+pub mod Merges
+pub mod QueryLines
+pub mod RecordTexts
+pub mod VersionNames

@@ -1,0 +1,106 @@
+-- The texts of records: what an object was made from, how two records differ, and whether a view covers one.
+use Rattle.std.specs.Prelude.{ℕ, zero, suc, Bool, true, false, not, Option, Some, None, List, [], ◌∷◌, ◌++◌, codes, map, find, option_map, bytes_eq}
+use Rattle.std.specs.List.{concat}
+use Rattle.std.specs.Option.{option_or}
+use Rattle.std.specs.Ordering.{nat_cmp}
+use Rattle.std.specs.Cmp.Lexicographic.{slice_cmp}
+use Rattle.std.specs.FinMap.Entries.{put}
+use Rattle.cc_names.specs.Cuts.{lines_of}
+use Rattle.cc_names.specs.Versions.{is_number}
+use Rattle.cc_names.specs.declared.rows.Deed.{Deed}
+use Rattle.cc_names.specs.declared.rows.Deed.TheVariants as deeds
+use Rattle.cc_names.specs.declared.rows.ReadOf.{ReadOf}
+use Rattle.legal_history.specs.Base.Rows.{Base, deed_at, only_where}
+use Rattle.legal_history.specs.Base.Changes.{targets_of}
+use Rattle.legal_history.specs.Base.Closures.{Sources, closure, entries_of_deed}
+use Rattle.legal_history.specs.Builds.Reuse.{agrees, are_same_paths}
+use Rattle.legal_history.specs.Base.Seen.{file_at}
+use Rattle.legal_history.specs.Queries.VersionNames.{line, row_name}
+
+-- the entries of an object's record
+abbrev pub record_of : Base → ℕ → List ReadOf
+record_of b id = entries_of_deed (deed_at b id)
+
+-- the script of an object's record
+abbrev pub script_of_deed : Option Deed → List ℕ
+script_of_deed (Some (deeds.Publish v targets script entries outputs)) = script
+script_of_deed _ = []
+
+-- the script of an object's record
+abbrev pub script_of : Base → ℕ → List ℕ
+script_of b id = script_of_deed (deed_at b id)
+
+-- one read of a record; row 0 says that nothing was there
+abbrev pub read_line : Base → List ℕ → ℕ → List ℕ
+read_line b path zero = line (codes "absent " ++ path)
+read_line b path (suc row) = line (codes "read " ++ row_name b path (suc row))
+
+-- `catcr`: the record of an object
+abbrev pub catcr_text : Base → ℕ → List ℕ
+catcr_text b id =
+    concat (map (λ target. line (codes "target " ++ target)) (targets_of b id))
+    ++ concat (map (λ text. line (codes "script " ++ text)) (lines_of (script_of b id)))
+    ++ concat (map (λ entry. read_line b entry.path entry.row) (record_of b id))
+
+-- the row of a path in a record
+abbrev pub row_in : List ReadOf → List ℕ → Option ℕ
+row_in entries path = option_map (λ entry. entry.row) (find (λ entry. bytes_eq entry.path path) entries)
+
+-- paths in byte order, each with itself
+abbrev pub Paths : Type 0
+Paths = List (List ℕ × List ℕ)
+
+-- the paths of a record, put among others
+abbrev pub paths_of : List ReadOf → Paths → Paths
+paths_of [] paths = paths
+paths_of (entry ∷ entries) paths = put (slice_cmp nat_cmp) entry.path entry.path (paths_of entries paths)
+
+-- a path on one side of a difference
+abbrev pub side_name : Base → List ℕ → ℕ → List ℕ
+side_name b path zero = path ++ codes " absent"
+side_name b path (suc row) = row_name b path (suc row)
+
+-- one side of a difference, where the record has the path
+abbrev pub side_line : Base → List ℕ → List ℕ → Option ℕ → List ℕ
+side_line b mark path None = []
+side_line b mark path (Some row) = line (mark ++ side_name b path row)
+
+-- whether two records have the same at a path
+abbrev pub is_same_row : Option ℕ → Option ℕ → Bool
+is_same_row None None = true
+is_same_row (Some one) two = is_number one two
+is_same_row None (Some two) = false
+
+-- text where a test does not hold
+abbrev pub unless_same : Bool → List ℕ → List ℕ
+unless_same true text = []
+unless_same false text = text
+
+-- a path at which two records differ, with what each has there
+abbrev pub path_lines : Base → List ReadOf → List ReadOf → List ℕ → List ℕ
+path_lines b one two path =
+    unless_same (is_same_row (row_in one path) (row_in two path))
+    (side_line b (codes "< ") path (row_in one path) ++ side_line b (codes "> ") path (row_in two path))
+
+-- `diffcr`: how the records of two objects differ
+abbrev pub diffcr_text : Base → ℕ → ℕ → List ℕ
+diffcr_text b one two =
+    unless_same (are_same_paths (targets_of b one) (targets_of b two)) (line (codes "targets differ"))
+    ++ unless_same (bytes_eq (script_of b one) (script_of b two)) (line (codes "script differs"))
+    ++ concat (map (λ path. path_lines b (record_of b one) (record_of b two) path.0) (paths_of (record_of b one) (paths_of (record_of b two) [])))
+
+-- the first path among sources that the view sees with another row; row 0 stands for none
+abbrev pub uncovered_among : Base → List ℕ → Sources → Option (List ℕ)
+uncovered_among b v [] = None
+uncovered_among b v (source ∷ sources) =
+    option_or (only_where (not (agrees source.1 (file_at b v source.0.0))) (Some source.0.0)) (uncovered_among b v sources)
+
+-- The first path of an object's closure whose row is not the one that the view sees there. Where there is none, what the
+-- view sees covers the record.
+abbrev pub uncovered : Base → List ℕ → ℕ → Option (List ℕ)
+uncovered b v id = uncovered_among b v (closure b id)
+
+-- `covers`: whether what a view sees covers a record
+abbrev pub covers_text : Option (List ℕ) → List ℕ
+covers_text None = line (codes "covered")
+covers_text (Some path) = line (codes "not covered " ++ path)

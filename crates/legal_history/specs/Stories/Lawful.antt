@@ -1,0 +1,82 @@
+-- Which stories are legal: each step is lawful in the state to which the steps before it have led.
+use Rattle.std.specs.Bool.{⊤}
+use Rattle.std.specs.Prelude.{◌≡◌, ℕ, ◌≤◌, true, false, ◌||◌, Some, Ok, Err, is_some, List, [], ◌∷◌, length, reverse}
+use Rattle.std.specs.List.{AllByRecursion}
+use Rattle.cc_names.specs.Formed.{Plain, IsFormed}
+use Rattle.cc_names.specs.declared.rows.Tag.{Tag}
+use Rattle.cc_names.specs.declared.steps.Step.{Step}
+use Rattle.cc_names.specs.declared.steps.Step.TheVariants as steps
+use Rattle.cc_names.specs.declared.steps.Told.{Told}
+use Rattle.cc_names.specs.declared.steps.Told.TheVariants as told
+use Rattle.cc_names.specs.declared.units.Unit.{Unit}
+use Rattle.legal_history.specs.Base.Rows.{size}
+use Rattle.legal_history.specs.Builds.Active.{Build}
+use Rattle.cc_names.specs.Counts.{rises}
+use Rattle.legal_history.specs.Stories.Committing.{FaultsAt, MayCommit}
+use Rattle.legal_history.specs.Commands.Decisions.{Answers, Begins}
+use Rattle.legal_history.specs.Base.Fits.{is_base}
+use Rattle.legal_history.specs.Stories.States.{State, decided, build_by, all_done, ticks_of, start}
+use Rattle.legal_history.specs.Stories.Steps.{after}
+use Rattle.legal_history.specs.Builds.Turns.{is_complete}
+use Rattle.legal_history.specs.Builds.UnitTurns.{Settles, Starts}
+
+-- the last moment of the year 9999
+abbrev pub last_moment : ℕ
+last_moment = 253402300799
+
+-- a build begins where the decision on its command says so, at the rows and with the units that it has
+pub record BeginsBuild (s : State) (tag : Tag) (rows count : ℕ) : Type 0 where
+  pub units : List Unit
+  pub chosen : decided s tag ≡ Some (Ok (Begins units))
+  pub at_rows : rows ≡ size s.base
+  pub of_units : count ≡ length units
+
+-- a build ends where each unit has its outcome, or the disk failed under it
+pub record EndsBuild (s : State) (tag : Tag) : Type 0 where
+  pub build : Build
+  pub active : build_by s tag ≡ Some build
+  pub over : (is_complete build || build.faulted) ≡ true
+
+-- when a step that is told as it stands is lawful
+abbrev pub LawfulStep : State → Step → Type 0
+LawfulStep s (steps.Refused tag refusal) = decided s tag ≡ Some (Err refusal)
+LawfulStep s (steps.Answer tag text) = decided s tag ≡ Some (Ok (Answers text))
+LawfulStep s (steps.Begin tag rows units) = BeginsBuild s tag rows units
+LawfulStep s (steps.Start tag n) = Starts s tag n
+LawfulStep s (steps.Settled tag n outcome) = Settles s tag n outcome
+LawfulStep s (steps.End tag) = EndsBuild s tag
+LawfulStep s (steps.Fault tag left before faults tick) = FaultsAt s tag left before faults tick
+LawfulStep s step = ⊥
+
+-- the first step of a story: the base that was opened, whose rows keep their form and fit one another
+pub record Opens (s : State) (rows : List Plain) : Type 0 where
+  pub first : is_some s.opened ≡ false
+  pub formed : AllByRecursion IsFormed (reverse rows)
+  pub fits : is_base (reverse rows) ≡ true
+
+-- a phase begins where each command of the one before is finished
+pub record BeginsPhase (s : State) (moment : ℕ) : Type 0 where
+  pub opened : is_some s.opened ≡ true
+  pub finished : all_done s ≡ true
+  pub in_time : moment ≤ last_moment
+
+-- a row is committed at a later tick than any end before
+pub record Commits (s : State) (row : Plain) (tick : ℕ) : Type 0 where
+  pub may : MayCommit s row
+  pub ticked : rises (ticks_of s.opened s.ends) tick ≡ true
+
+-- When a step is lawful in a state.
+abbrev pub Lawful : State → Told → Type 0
+Lawful s (told.Opened rows counts tells) = Opens s rows
+Lawful s (told.Plan phase moment) = BeginsPhase s moment
+Lawful s (told.Commit row tick) = Commits s row tick
+Lawful s (told.Other step) = LawfulStep s step
+
+-- a story that is legal from a state on, oldest step first
+abbrev pub LegalFrom : State → List Told → Type 0
+LegalFrom s [] = ⊤
+LegalFrom s (x ∷ story) = Lawful s x × LegalFrom (after s x) story
+
+-- A legal story.
+abbrev pub Legal : List Told → Type 0
+Legal story = LegalFrom start story

@@ -1,0 +1,13 @@
+use Rattle.std.proofs.Common.{◌≡◌, ap, sym, ◌∙◌, map, subst}
+use Rattle.std.specs.List.{position}
+use Rattle.std.specs.Str.{bytes_eq}
+use Rattle.make_text.specs.Runs.{IsFound}
+use Rattle.make_text.proofs.MacroLemmas.{found}
+use Rattle.make_text.proofs.macros.MacroTable.find.Goals as goal
+
+pub returns : goal.returns
+returns c =
+    let at = c.get_index_of.ensures.index in
+    subst (λ m. IsFound m c.args.name.now c.get_index_of.result) c.self.view_is
+    (found c.self.inside.values.entries c.args.name.now c.get_index_of.result
+    (at ∙ ap (λ k. position (bytes_eq k) (map (λ e. e.0) c.self.inside.values.entries)) c.in_ok-name.ensures))

@@ -1,0 +1,115 @@
+-- The steps by which the code expands a text.
+use Rattle.std.specs.Prelude.{◌≡◌, ℕ, ◌-◌, ◌<◌, ◌≤◌, true, false, Option, Some, None, List, [], ◌∷◌, ◌++◌, length, map, reverse, take, drop, slice_set, option_copied, All}
+use Rattle.std.specs.Borrow.{Bor}
+use Rattle.cc_names.specs.declared.commands.Macro.{Macro}
+use Rattle.make_text.specs.Macros.{Piece, Expansion, plain, in_script, is_too_long, value_in}
+use Rattle.make_text.specs.Expanding.{Opened}
+use Rattle.make_text.specs.Runs.{Runs, work, macro_at, IsFound, EndsIn, state_at}
+use Rattle.make_text.specs.declared.expansions.Automatic as automatics
+use Rattle.make_text.specs.declared.expansions.Expanding as expandings
+use Rattle.make_text.specs.declared.expansions.Opened as lent
+use Rattle.make_text.specs.declared.expansions.Outcome as outcomes
+use Rattle.make_text.specs.declared.expansions.Outcome.TheVariants.{TooLong, Loop, Bytes}
+use Rattle.make_text.specs.declared.pieces.Part as parts
+use Rattle.make_text.specs.declared.pieces.Part.TheVariants as variants
+use Rattle.make_text.specs.declared.expansions.State.TheVariants.{Untouched, Begun, Expanded}
+use Rattle.make_text.specs.declared.expansions.Step.{Step}
+use Rattle.make_text.specs.declared.expansions.Step.TheVariants.{Goes, Ends, Loops}
+
+-- the values of `$@`, `$<` and `$*`
+abbrev pub automatic_of : automatics.Automatic → ℕ → List ℕ
+automatic_of a = in_script a.target.now (option_copied a.first) a.stem.now
+
+-- a macro that is being expanded, as the code keeps it
+abbrev pub opened_in : List Macro → lent.Opened → Opened
+opened_in macros o = record { name = (macro_at macros o.index).name; outer = o.outer.now; start = o.start }
+
+-- those that are being expanded, the innermost first
+abbrev pub opened_of : List Macro → List lent.Opened → List Opened
+opened_of macros items = map (opened_in macros) (reverse items)
+
+-- an expansion of the code that gives a total in the end, behind some pieces
+pub record IsRunning (macros : List Macro) (automatic : ℕ → List ℕ) (total : Expansion) (pieces : List Piece) (e : expandings.Expanding) : Type 0 where
+  pub runs : Runs macros automatic total pieces e.rest.now e.written.items (opened_of macros e.opened.items) e.states.items
+  pub within : All (λ o. o.index < length macros) e.opened.items
+
+abbrev pub work_of : List Macro → expandings.Expanding → ℕ
+work_of macros e = work macros e.rest.now (opened_of macros e.opened.items) e.states.items
+
+-- ---- the end of the innermost macro
+
+-- where a macro is being expanded, the innermost has a state, and was begun in what was written
+abbrev pub EndsSafely : expandings.Expanding → Type 0
+EndsSafely e =
+    (front : List lent.Opened) (o : lent.Opened) → e.opened.items ≡ front ++ (o ∷ [])
+    → (o.index < length e.states.items) × (o.start ≤ length e.written.items)
+
+-- the innermost macro came to its end, and its result is known; or there was none
+abbrev pub Ended : expandings.Expanding → Step → expandings.Expanding → Type 0
+Ended old Goes new =
+    (o : lent.Opened) × (old.opened.items ≡ new.opened.items ++ (o ∷ [])) × (new.rest.now ≡ o.outer.now)
+    × (new.states.items ≡ slice_set old.states.items o.index (Expanded o.start (length old.written.items - o.start)))
+    × (new.written.items ≡ old.written.items)
+Ended old Ends new = (old.opened.items ≡ []) × (new.written.items ≡ old.written.items)
+Ended old Loops new = ⊥
+
+-- ---- a reference
+
+-- each macro has a state, and its result stands in what was written
+abbrev pub RefersSafely : List Macro → expandings.Expanding → Type 0
+RefersSafely macros e =
+    (length e.states.items ≡ length macros) × ((i : ℕ) → i < length macros → EndsIn e.written.items (state_at e.states.items i))
+
+-- what a reference to a macro of this name did
+pub data Referred (macros : List Macro) (name : List ℕ) (old new : expandings.Expanding) : Step → Type 0 where
+  -- it is not defined, and so empty
+  Undefined : value_in macros name ≡ None → new.rest.now ≡ old.rest.now → new.opened.items ≡ old.opened.items
+      → new.states.items ≡ old.states.items → new.written.items ≡ old.written.items → Referred macros name old new Goes
+  -- its result is known
+  Known : (i start len : ℕ) → IsFound macros name (Some i) → state_at old.states.items i ≡ Expanded start len
+      → new.rest.now ≡ old.rest.now → new.opened.items ≡ old.opened.items → new.states.items ≡ old.states.items
+      → new.written.items ≡ old.written.items ++ take len (drop start old.written.items) → Referred macros name old new Goes
+  -- its expansion begins
+  Begins : (i : ℕ) (o : lent.Opened) → IsFound macros name (Some i) → state_at old.states.items i ≡ Untouched
+      → o.index ≡ i → o.outer.now ≡ old.rest.now → o.start ≡ length old.written.items
+      → new.rest.now ≡ (macro_at macros i).value → new.opened.items ≡ old.opened.items ++ (o ∷ [])
+      → new.states.items ≡ slice_set old.states.items i Begun → new.written.items ≡ old.written.items
+      → Referred macros name old new Goes
+  -- it is being expanded
+  Meets : (i : ℕ) → IsFound macros name (Some i) → state_at old.states.items i ≡ Begun
+      → new.written.items ≡ old.written.items → Referred macros name old new Loops
+
+-- what a part of the text did
+abbrev pub Took : List Macro → (ℕ → List ℕ) → parts.Part → expandings.Expanding → expandings.Expanding → Step → Type 0
+Took macros automatic (variants.Reference name) old new step = Referred macros name.now old new step
+Took macros automatic (variants.Bytes bytes) old new step =
+    (step ≡ Goes) × (new ≡ record old { written = new.written }) × (new.written.items ≡ old.written.items ++ bytes.now)
+Took macros automatic (variants.Automatic b) old new step =
+    (step ≡ Goes) × (new ≡ record old { written = new.written }) × (new.written.items ≡ old.written.items ++ automatic b)
+Took macros automatic variants.Bad old new step = (step ≡ Goes) × (new ≡ old)
+
+-- ---- a step
+
+-- what a step did: the expansion goes on without its first pieces, or came to its end, or met a loop
+abbrev pub Went : List Macro → (ℕ → List ℕ) → Expansion → Step → expandings.Expanding → Type 0
+Went macros automatic total Goes new = IsRunning macros automatic total [] new
+Went macros automatic total Ends new = total ≡ plain new.written.items
+Went macros automatic total Loops new = total ≡ record { bytes = new.written.items; loops = true }
+
+-- there is less left to do behind a step, where the expansion goes on
+abbrev pub FallsBelow : ℕ → Step → ℕ → Type 0
+FallsBelow before Goes after = after < before
+FallsBelow before Ends after = Unit {0}
+FallsBelow before Loops after = Unit {0}
+
+-- some expansion of the code runs
+abbrev pub IsSomeRun : List Macro → (ℕ → List ℕ) → expandings.Expanding → Type 0
+IsSomeRun macros automatic e = (total : Expansion) × IsRunning macros automatic total [] e
+
+-- ---- the outcome
+
+-- what an expansion gave: that it is too long, or its bytes, up to a loop where it met one
+abbrev pub IsOutcome : Expansion → outcomes.Outcome → Type 0
+IsOutcome total TooLong = is_too_long total ≡ true
+IsOutcome total (Loop bytes) = (is_too_long total ≡ false) × (total ≡ record { bytes = bytes.items; loops = true })
+IsOutcome total (Bytes bytes) = (is_too_long total ≡ false) × (total ≡ plain bytes.items)

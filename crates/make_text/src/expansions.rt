@@ -1,0 +1,234 @@
+// What a text expands to, by the macros of a makefile.
+
+ghost use Rattle.std.specs.Prelude.{◌≡◌, ◌<◌, IfOk, [], length, replicate};
+ghost use Rattle.make_text.specs.Macros.{Expansion, expansion_of, is_too_long};
+ghost use Rattle.make_text.specs.Runs.{HasNamesApart};
+ghost use Rattle.make_text.specs.Steps.{automatic_of, IsRunning, work_of, EndsSafely, Ended, RefersSafely, Referred, Took, Went, FallsBelow, IsSomeRun, IsOutcome};
+ghost use Rattle.make_text.specs.declared.expansions.State.TheVariants as states;
+
+use crate::macros::MacroTable;
+use crate::pieces::{Part, cut_part};
+use cc_names::memory::NoMemory;
+use std::alloc::{AllocError, Global};
+
+/// The most bytes that a line, a macro or a script expands to.
+const EXPANSION_LIMIT: usize = 65_536;
+
+/// The values of `$@`, `$<` and `$*`.
+#[derive(Clone, Copy, Drop)]
+pub(crate) struct Automatic<'a> {
+    pub(crate) target: &'a [u8],
+    pub(crate) first: Option<&'a [u8]>,
+    pub(crate) stem: &'a [u8],
+}
+
+/// What a text expands to.
+#[derive(Drop)]
+pub(crate) enum Outcome {
+    /// More bytes than a line may have.
+    TooLong,
+    /// These bytes, up to where the expansion meets a macro that is being expanded.
+    Loop(Vec<u8>),
+    /// These bytes.
+    Bytes(Vec<u8>),
+}
+
+/// What is known of a macro while a text is expanded.
+#[derive(Clone, Copy, Drop)]
+pub(crate) enum State {
+    /// Its expansion was not begun.
+    Untouched,
+    /// It is being expanded.
+    Begun,
+    /// Its expansion begins at this place of what was written, and has so many bytes.
+    Expanded(usize, usize),
+}
+
+/// A macro that is being expanded, what is left of the text outside it, and how many bytes were written before it.
+#[derive(Drop)]
+struct Opened<'a> {
+    index: usize,
+    outer: &'a [u8],
+    start: usize,
+}
+
+/// What a step of an expansion did.
+#[derive(Clone, Copy, Drop)]
+enum Step {
+    /// It goes on.
+    Goes,
+    /// It came to its end.
+    Ends,
+    /// It met a macro that is being expanded.
+    Loops,
+}
+
+/// An expansion under way. It keeps its own stack, so that no chain of macros is too long for it, and where the bytes of
+/// each macro stand that was expanded, so that none is expanded twice.
+#[derive(Drop)]
+struct Expanding<'a> {
+    /// What is left of the value of the innermost macro, or of the text.
+    rest: &'a [u8],
+    opened: Vec<Opened<'a>>,
+    states: Vec<State>,
+    written: Vec<u8>,
+}
+
+impl<'a> Automatic<'a> {
+    /// The value behind `$` and this byte.
+    fn value(&self, byte: u8) -> &'a [u8]
+        ensures { result.now ≡ automatic_of self.now byte }
+    {
+        match byte {
+            b'@' => self.target,
+            b'<' => self.first.unwrap_or(&[]),
+            _ => self.stem,
+        }
+    }
+}
+
+impl<'a> Expanding<'a> {
+    /// The expansion of a text, by so many macros, of which nothing was done.
+    fn of(alloc: Global, count: usize, text: &'a [u8]) -> Result<Expanding<'a>, AllocError>
+        ensures rest { IfOk result (λ e. e.rest.now ≡ text.now) }
+        ensures opened { IfOk result (λ e. e.opened.items ≡ []) }
+        ensures states { IfOk result (λ e. e.states.items ≡ replicate count states.Untouched) }
+        ensures written { IfOk result (λ e. e.written.items ≡ []) }
+    {
+        Ok(Expanding {
+            rest: text,
+            opened: Vec::new(alloc),
+            states: vec![in alloc; State::Untouched; count]?,
+            written: Vec::new(alloc),
+        })
+    }
+
+    /// Ends the innermost macro, whose result is known then.
+    fn end(&mut self) -> Step
+        requires { EndsSafely self.old }
+        ensures { Ended self.old result self.new }
+    {
+        let Some(innermost) = self.opened.pop() else {
+            return Step::Ends;
+        };
+        let Opened {
+            index,
+            outer,
+            start,
+        } = innermost;
+        self.states[index] = State::Expanded(start, self.written.len() - start);
+        self.rest = outer;
+        Step::Goes
+    }
+
+    /// A reference to the macro of this name.
+    fn refer(
+        &mut self,
+        alloc: Global,
+        macros: &'a MacroTable,
+        name: &[u8],
+    ) -> Result<Step, NoMemory>
+        requires { RefersSafely macros.now self.old }
+        ensures { IfOk result (λ step. Referred macros.now name.now self.old self.new step) }
+    {
+        let Some(index) = macros.find(alloc, name)? else {
+            return Ok(Step::Goes);
+        };
+        match self.states[index] {
+            State::Begun => Ok(Step::Loops),
+            State::Expanded(start, len) => {
+                self.written.extend_from_within(start..start + len)?;
+                Ok(Step::Goes)
+            }
+            State::Untouched => {
+                let opened = Opened {
+                    index,
+                    outer: self.rest,
+                    start: self.written.len(),
+                };
+                self.opened.push(opened)?;
+                self.states[index] = State::Begun;
+                self.rest = macros.value(index);
+                Ok(Step::Goes)
+            }
+        }
+    }
+
+    /// What a part of the text gives, behind which the text goes on.
+    fn take(
+        &mut self,
+        alloc: Global,
+        macros: &'a MacroTable,
+        automatic: &Automatic<'a>,
+        part: Part<'_>,
+    ) -> Result<Step, NoMemory>
+        requires { RefersSafely macros.now self.old }
+        ensures { IfOk result (λ step. Took macros.now (automatic_of automatic.now) part.entry self.old self.new step) }
+    {
+        match part {
+            Part::Bytes(bytes) => self.written.extend_from_slice(bytes)?,
+            Part::Automatic(byte) => self.written.extend_from_slice(automatic.value(byte))?,
+            Part::Reference(name) => return self.refer(alloc, macros, name),
+            Part::Bad => {}
+        }
+        Ok(Step::Goes)
+    }
+
+    /// One step: the first part of what is left, or the end of the innermost macro.
+    fn step(
+        &mut self,
+        alloc: Global,
+        macros: &'a MacroTable,
+        automatic: &Automatic<'a>,
+    ) -> Result<Step, NoMemory>
+        requires apart { HasNamesApart macros.now }
+        requires runs { IsSomeRun macros.now (automatic_of automatic.now) self.old }
+        ensures went { IfOk result (λ step. (total : Expansion) → IsRunning macros.now (automatic_of automatic.now) total [] self.old → Went macros.now (automatic_of automatic.now) total step self.new) }
+        ensures falls { IfOk result (λ step. FallsBelow (work_of macros.now self.old) step (work_of macros.now self.new)) }
+    {
+        if self.rest.is_empty() {
+            return Ok(self.end());
+        }
+        let (part, behind) = cut_part(self.rest);
+        self.rest = behind;
+        self.take(alloc, macros, automatic, part)
+    }
+}
+
+/// The bytes of an expansion, unless they are too many; a loop may have ended it.
+fn bounded(written: Vec<u8>, loops: bool) -> Outcome
+    ensures { IsOutcome (record { bytes = written.items; loops = loops }) result }
+{
+    if written.len() > EXPANSION_LIMIT {
+        return Outcome::TooLong;
+    }
+    if loops {
+        Outcome::Loop(written)
+    } else {
+        Outcome::Bytes(written)
+    }
+}
+
+/// Expands a text. Takes time linear in the text, in the values of the macros that it reaches, each once, and in what it
+/// expands to, up to the most bytes of a line; and memory for as many bytes, and for one state a macro.
+pub(crate) fn expand<'a>(
+    alloc: Global,
+    macros: &'a MacroTable,
+    automatic: &Automatic<'a>,
+    text: &'a [u8],
+) -> Result<Outcome, NoMemory>
+    ensures { IfOk result (λ outcome. IsOutcome (expansion_of macros.now (automatic_of automatic.now) text.now) outcome) }
+{
+    let count = macros.len();
+    let mut expanding = Expanding::of(alloc, count, text)?;
+    'steps: loop {
+        match expanding.step(alloc, macros, automatic)? {
+            Step::Goes => {}
+            Step::Ends => return Ok(bounded(expanding.written, false)),
+            Step::Loops => return Ok(bounded(expanding.written, true)),
+        }
+        if expanding.written.len() > EXPANSION_LIMIT {
+            return Ok(Outcome::TooLong);
+        }
+    }
+}

@@ -1,0 +1,170 @@
+// What a line of a makefile is, where it is no line of a script.
+
+ghost use Rattle.std.specs.Prelude.{◌≡◌, ◌<◌, ◌+◌, [], option_copied, IfSome, length, take, drop, slice_index};
+ghost use Rattle.std.specs.List.{position};
+ghost use Rattle.make_text.specs.LineKinds.{is_hash, without_comment, trimmed, behind_include, behind_byte, is_within, decides, decided, kind_from, kind_of};
+ghost use Rattle.make_text.specs.declared.line_kinds.Position.TheVariants.{Outside};
+ghost use Rattle.make_text.specs.SeenKinds.{seen, onto, past_end_blanks};
+
+use crate::logical_lines::past_blanks;
+use crate::words::is_blank_line;
+use cc_names::cuts::is_blank;
+
+/// What a line is. A line of a kind has both sides of the byte that decides it.
+#[derive(Drop)]
+pub(crate) enum Kind<'a> {
+    /// Nothing, or blanks.
+    Blank,
+    /// `include`, and what stands behind it.
+    Include(&'a [u8]),
+    /// What stands before a `=` and behind it.
+    Assignment(&'a [u8], &'a [u8]),
+    /// What stands before a `:` and behind it.
+    Rule(&'a [u8], &'a [u8]),
+    /// None of these, and a `$(` or `${` is never closed.
+    Unclosed,
+    /// None of these.
+    Neither,
+}
+
+/// Where a byte stands by the macro references.
+#[derive(Clone, Copy, Drop)]
+pub(crate) enum Position {
+    /// Outside them.
+    Outside,
+    /// Directly behind a `$`.
+    Dollar,
+    /// Before this byte, which closes one.
+    Within(u8),
+}
+
+fn first_hash(line: &[u8]) -> Option<usize>
+    ensures place { result ≡ position is_hash line.now }
+    ensures within { IfSome result (λ index. index < length line.now) }
+{
+    line.iter().position(|byte| *byte == b'#')
+}
+
+/// A line without its comment.
+pub(crate) fn without_comment(line: &[u8]) -> &[u8]
+    ensures { result.now ≡ without_comment line.now }
+{
+    match first_hash(line) {
+        Some(index) => &line[..index],
+        None => line,
+    }
+}
+
+/// Bytes without the blanks at their end.
+fn past_end_blanks(bytes: &[u8]) -> &[u8]
+    ensures { result.now ≡ past_end_blanks bytes.now }
+{
+    let mut rest = bytes;
+    while let Some((byte, front)) = rest.split_last() {
+        if !is_blank(*byte) {
+            break;
+        }
+        rest = front;
+    }
+    rest
+}
+
+/// Bytes without the blanks at both ends.
+pub(crate) fn trimmed(bytes: &[u8]) -> &[u8]
+    ensures { result.now ≡ trimmed bytes.now }
+{
+    past_end_blanks(past_blanks(bytes))
+}
+
+/// What stands behind the word `include`, where bytes begin with it and a blank follows.
+fn behind_include(bytes: &[u8]) -> Option<&[u8]>
+    ensures { option_copied result ≡ behind_include bytes.now }
+{
+    if bytes.len() < 8 {
+        return None;
+    }
+    let word = &bytes[..7];
+    if word == b"include".as_slice() && is_blank(bytes[7]) {
+        return Some(&bytes[7..]);
+    }
+    None
+}
+
+/// The position behind a byte.
+fn behind_byte(position: Position, byte: u8) -> Position
+    ensures { result ≡ behind_byte position byte }
+{
+    match position {
+        Position::Outside if byte == b'$' => Position::Dollar,
+        Position::Outside => Position::Outside,
+        Position::Dollar if byte == b'(' => Position::Within(b')'),
+        Position::Dollar if byte == b'{' => Position::Within(b'}'),
+        Position::Dollar => Position::Outside,
+        Position::Within(close) if byte == close => Position::Outside,
+        Position::Within(close) => Position::Within(close),
+    }
+}
+
+fn is_within(position: Position) -> bool
+    ensures { result ≡ is_within position }
+{
+    matches!(position, Position::Within(_))
+}
+
+/// Whether a byte decides what the line is.
+fn decides(position: Position, byte: u8) -> bool
+    ensures { result ≡ decides position byte }
+{
+    !is_within(position) && (byte == b'=' || byte == b':')
+}
+
+/// The kind of a line that no byte decides, by the position behind its last byte.
+fn undecided(position: Position) -> Kind<'static>
+    ensures { seen result ≡ kind_from position [] }
+{
+    if is_within(position) {
+        Kind::Unclosed
+    } else {
+        Kind::Neither
+    }
+}
+
+/// The kind that the byte at a place decides.
+fn decided(line: &[u8], index: usize) -> Kind<'_>
+    requires { index < length line.now }
+    ensures { seen result ≡ onto (take index line.now) (decided (slice_index line.now index) (drop (index + 1) line.now)) }
+{
+    let (before, behind) = (&line[..index], &line[index + 1..]);
+    if line[index] == b'=' {
+        Kind::Assignment(before, behind)
+    } else {
+        Kind::Rule(before, behind)
+    }
+}
+
+/// The kind by the first `=` or `:` outside a macro reference. Takes time linear in the line.
+fn kind_by_marks(line: &[u8]) -> Kind<'_>
+    ensures { seen result ≡ kind_from Outside line.now }
+{
+    let mut position = Position::Outside;
+    for (index, byte) in line.iter().enumerate() {
+        if decides(position, *byte) {
+            return decided(line, index);
+        }
+        position = behind_byte(position, *byte);
+    }
+    undecided(position)
+}
+
+/// The kind of a line without its comment. Takes time linear in the line.
+pub(crate) fn kind_of(line: &[u8]) -> Kind<'_>
+    ensures { seen result ≡ kind_of line.now }
+{
+    if is_blank_line(line) {
+        return Kind::Blank;
+    }
+    match behind_include(past_blanks(line)) {
+        Some(behind) => Kind::Include(behind),
+        None => kind_by_marks(line),
+    }
+}

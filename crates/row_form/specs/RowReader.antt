@@ -1,0 +1,47 @@
+-- How a row is read, and where bytes that spell no row fail.
+use Rattle.std.specs.Prelude.{ℕ, ◌-◌, ◌||◌, ◌==◌, nat_le, Option, Some, None, Ok, Err, List, [], ◌∷◌, length}
+use Rattle.cc_names.specs.declared.rows.Deed.{Deed}
+use Rattle.cc_names.specs.declared.rows.Tag.{Tag}
+use Rattle.row_form.specs.Readers.{Reading, Reader, then_read, both, chosen, tested, made, read_byte, read_word, read_long}
+use Rattle.row_form.specs.DeedReaders.{read_deed}
+
+-- the first byte of a row
+abbrev pub read_form : Reader ℕ
+read_form = chosen (tested (λ form. (form == 1) || (form == 2))) read_byte
+
+-- phase, lane and command
+abbrev pub tag_of : ℕ × (ℕ × ℕ) → Tag
+tag_of numbers = record { phase = numbers.0; lane = numbers.1.0; command = numbers.1.1 }
+
+abbrev pub read_tag : Reader Tag
+read_tag = made tag_of (both read_word (both read_word read_word))
+
+-- up to the end of the year 9999
+abbrev pub read_moment : Reader ℕ
+read_moment = chosen (tested (λ moment. nat_le moment 253402300799)) read_long
+
+-- a row's tag and moment, and its deed
+abbrev pub Parts : Type 0
+Parts = (Tag × ℕ) × Deed
+
+-- the first byte, and the parts that stand behind it
+abbrev pub read_parts : Reader Parts
+read_parts bytes = then_read (read_form bytes) (λ form. both (both read_tag read_moment) (read_deed form))
+
+-- the value where no byte is left over
+abbrev pub ended : {A : Type 0} → A → Reader A
+ended a [] = Ok (a, [])
+ended a (b ∷ bytes) = Err (b ∷ bytes)
+
+-- a row, with nothing behind it
+abbrev pub read_row : Reader Parts
+read_row bytes = then_read (read_parts bytes) ended
+
+-- how far from the front of so many bytes reading fails
+abbrev pub place_of_fault : {A : Type 0} → ℕ → Reading A → Option ℕ
+place_of_fault size (Ok read) = None
+place_of_fault size (Err at) = Some (size - length at)
+
+-- The place, counted from 0, of the first field of a row that cannot be read, or of the first byte left over.
+abbrev pub fault_of : List ℕ → Option ℕ
+fault_of bytes = place_of_fault (length bytes) (read_row bytes)

@@ -1,0 +1,50 @@
+-- What a history says of the device calls of its session: which command met which fault, and what became of the files.
+use Rattle.std.specs.Prelude.{◌≡◌, ◌⊎◌, Bool, true, false, List, [], ◌∷◌}
+use Rattle.cc_names.specs.declared.steps.Step.TheVariants as steps
+use Rattle.cc_names.specs.declared.steps.Told.{Told}
+use Rattle.cc_names.specs.declared.steps.Told.TheVariants as told
+use Rattle.disk_model.specs.Counting.{raised}
+use Rattle.disk_model.specs.Told.{Sight, Both}
+use Rattle.legal_history.specs.Stories.Steps.{state_of}
+use Rattle.vob_journal.specs.Reads.{SameFiles, SameObjects}
+use Rattle.base_core.specs.Backed.{is_faulted}
+use Rattle.base_core.specs.Counted.{CountsSteps}
+use Rattle.session_run.specs.Causes.{Change}
+
+-- A journal was settled: at most one fault more was counted, the file of objects is as it was, and where no fault had left
+-- its tail open no call was made.
+pub record Settles (faulted : Bool) (old new : Sight) : Type 0 where
+  pub faults : (new.faults ≡ old.faults) ⊎ (new.faults ≡ raised old.faults)
+  pub objects : Both SameObjects old.told new.told
+  pub rests : faulted ≡ false → new ≡ old
+
+-- The steps of a history behind its first, from the disk as the base was opened to the disk as it came back. The disk was
+-- called within commits and faults alone, and each of these has its counts as its own call began and as it ended. Behind the
+-- last step the journal was settled.
+pub record CountsFrom (opened after : Sight) (story : List Told) : Type 0 where
+  pub first : Told
+  pub steps : List Told
+  pub ended : Sight
+  pub story_is : story ≡ first ∷ steps
+  pub counts : CountsSteps steps opened ended
+  pub settled : Settles (is_faulted (state_of story).ends) ended after
+
+-- *Whose fault*: opening counted no fault, and from then on the count rose just at the faults of the history. So no row is
+-- committed by a call under which the disk failed, and no command is blamed for the fault of another.
+pub record IsAccountedFor (disk : Change Sight) (story : List Told) : Type 0 where
+  pub opened : Sight
+  pub sound : opened.faults ≡ disk.before.faults
+  pub counted : CountsFrom opened disk.after story
+
+-- whether no row was committed and the disk failed under none
+abbrev pub is_calm : List Told → Bool
+is_calm [] = true
+is_calm (told.Commit row tick ∷ story) = false
+is_calm (told.Other (steps.Fault tag left before faults tick) ∷ story) = false
+is_calm (x ∷ story) = is_calm story
+
+-- *The files*: the file of objects is as it was, and where no row was committed, and the disk failed under none, so is the
+-- journal.
+pub record KeepsFiles (disk : Change Sight) (story : List Told) : Type 0 where
+  pub objects : Both SameObjects disk.before.told disk.after.told
+  pub files : is_calm story ≡ true → Both SameFiles disk.before.told disk.after.told

@@ -1,0 +1,124 @@
+// Why lines stand wrong, at each kind of line and in order.
+
+use cc_names::memory::Or;
+use cc_names::refusals::SessionCause::{
+    self, BadWord, NoBody, NoLane, NoPhase, NotBuilt, TooManyLanes, TwoLanes, UnknownCommand,
+};
+use session_text::read;
+use std::alloc::Global;
+use std::process::Abort;
+use std::test::Fail;
+
+// The first wrong line of a text, and its cause.
+pub fn assert_wrong(rt: &impl Abort, alloc: Global, text: &[u8], line: u32, cause: SessionCause) {
+    assert!(rt; text.len() < 10_000);
+    match read(alloc, text) {
+        Err(Or::Is(error)) => {
+            assert_eq!(rt; error.line, line, "in {text:?}");
+            assert_eq!(rt; error.cause, cause, "in {text:?}");
+        }
+        _ => panic!(rt; "{text:?}"),
+    }
+}
+
+#[test]
+fn each_cause_comes_at_its_line(rt: HostRuntime) {
+    for (text, line, cause) in [
+        // before the first phase
+        ("lane a\n", 1, NoPhase),
+        ("# note\n\n|x\n", 3, NoPhase),
+        ("frob\n", 1, NoPhase),
+        (" \n", 1, NoPhase),
+        ("lane\nphase x\n", 1, NoPhase),
+        // before the first lane of a phase
+        ("phase\nmkview v\n", 2, NoLane),
+        ("phase\nfrob\n", 2, NoLane),
+        ("phase\n|x\n", 2, NoLane),
+        ("phase\n \n", 2, NoLane),
+        ("phase\nlane a\nphase\nmkview v\n", 4, NoLane),
+        ("phase\nlane a\nsave v in\nphase\n|x\n", 5, NoLane),
+        // body lines
+        ("phase\nlane a\n|x\n", 3, NoBody),
+        ("phase\nlane a\nmkview v\n\n|x\n", 5, NoBody),
+        ("phase\nlane a\nsave v in\n|x\nmkview v\n#\n|x\n", 7, NoBody),
+        ("phase\nlane a\nsave v in\n|x\nlane b\n|x\n", 6, NoBody),
+        // lanes
+        ("phase\nlane a\nlane a b\n", 3, TwoLanes),
+        ("phase\nlane a\nlane b\nmkview v\nlane a\n", 5, TwoLanes),
+        ("phase\nlane\n", 2, BadWord),
+        ("phase\nlane a b\n", 2, BadWord),
+        ("phase\nlane .\n", 2, BadWord),
+        ("phase\nlane a\nlane b/c\n", 3, BadWord),
+        // phases
+        ("phase x\n", 1, BadWord),
+        ("phase\nphase x\n", 2, BadWord),
+        ("phase\nlane a\nmkview v\nphase phase\n", 4, BadWord),
+        // first words
+        ("phase\nlane a\nfrob v\n", 3, UnknownCommand),
+        ("phase\nlane a\nfrob v", 3, UnknownCommand),
+        ("phase\nlane a\n \t\n", 3, UnknownCommand),
+        ("phase\nlane a\nmkview\r v\n", 3, UnknownCommand),
+        ("phase\nlane a\nMkview v\n", 3, UnknownCommand),
+        ("phase\nlane a\nphases\n", 3, UnknownCommand),
+        // the first wrong line counts
+        ("phase\nlane a\nmkview\nfrob\n", 3, BadWord),
+        ("phase\nlane a\nmkview v\nlsdo v\nfrob\n", 4, NotBuilt),
+        ("phase\nlane a\nsave v .\n|x\n", 3, BadWord),
+    ] {
+        assert_wrong(&rt, rt.alloc(), text.as_bytes(), line, cause);
+    }
+}
+
+fn with_lanes(alloc: Global, lanes: u32, last: &[u8]) -> Result<Vec<u8>, Fail> {
+    let mut text = b"phase\n".to_vec(alloc)?;
+    for lane in 0..lanes {
+        let line = format!(in alloc; "lane a{lane}\n")?;
+        text.extend_from_slice(line.as_bytes())?;
+    }
+    text.extend_from_slice(last)?;
+    Ok(text)
+}
+
+#[test]
+fn a_phase_has_64_lanes(rt: HostRuntime) -> Result<(), Fail> {
+    let alloc = rt.alloc();
+    for (last, cause) in [
+        ("lane b\n", TooManyLanes),
+        ("lane b c\n", TooManyLanes),
+        ("lane a0\n", TwoLanes),
+        ("lane a63 c\n", TwoLanes),
+        ("frob\n", UnknownCommand),
+    ] {
+        let text = with_lanes(alloc, 64, last.as_bytes())?;
+        assert_wrong(&rt, alloc, text.as_slice(), 66, cause);
+    }
+    Ok(())
+}
+
+// The cause of the line `clearmake v A=` with this byte behind it, by the class of the byte.
+fn cause_of_byte(byte: u8) -> Option<SessionCause> {
+    match byte {
+        b'\n' | b' ' | b'\t' | 33..=126 => None,
+        _ => Some(BadWord),
+    }
+}
+
+fn assert_read(rt: &impl Abort, alloc: Global, text: &[u8], cause: Option<SessionCause>) {
+    assert!(rt; text.len() < 10_000);
+    match (read(alloc, text), cause) {
+        (Ok(_session), None) => {}
+        (Err(Or::Is(error)), Some(cause)) => assert_eq!(rt; error.cause, cause, "in {text:?}"),
+        _ => panic!(rt; "{text:?}"),
+    }
+}
+
+#[test]
+fn a_word_has_bytes_33_to_126(rt: HostRuntime) -> Result<(), Fail> {
+    let alloc = rt.alloc();
+    for byte in 0..=255u8 {
+        let mut text = b"phase\nlane a\nclearmake v A=".to_vec(alloc)?;
+        text.push(byte)?;
+        assert_read(&rt, alloc, text.as_slice(), cause_of_byte(byte));
+    }
+    Ok(())
+}

@@ -1,0 +1,266 @@
+// The line of each command, right and wrong. A right line of a command that is not carried out yet is answered as not
+// built, which is tested last.
+
+use crate::causes::assert_wrong;
+use cc_names::commands::{Command, Lane};
+use cc_names::refusals::SessionCause::{self, BadWord, NotBuilt};
+use session_text::read;
+use std::alloc::{AllocError, Global};
+use std::process::Abort;
+use std::test::Fail;
+
+fn assert_line(
+    rt: &impl Abort,
+    alloc: Global,
+    line: &str,
+    cause: SessionCause,
+) -> Result<(), AllocError> {
+    let text = format!(in alloc; "phase\nlane a\n{line}\n")?;
+    assert_wrong(rt, alloc, text.as_bytes(), 3, cause);
+    Ok(())
+}
+
+#[test]
+fn right_lines(rt: HostRuntime) -> Result<(), Fail> {
+    for line in [
+        "rmview v",
+        "rmview -force v",
+        "setcs v",
+        "mkelem v a/b",
+        "mkelem v -nco a",
+        "mkdir v a",
+        "mkdir v -nco a",
+        "checkout v .",
+        "checkout v -unreserved a",
+        "mkbranch v fix a",
+        "mkbranch v -nco fix .",
+        "rm v a",
+        "checkin v a",
+        "checkin v -identical .",
+        "uncheckout v .",
+        "rmname v a",
+        "mv v a/b c",
+        "mklbtype REL",
+        "mkbrtype fix",
+        "mklabel v REL a",
+        "mklabel v -replace REL .",
+        "mklabel v -config out REL",
+        "mklabel v -replace -config . REL",
+        "rmlabel v REL a",
+        "rmdo v a",
+        "scrub 0",
+        "scrub 9223372036854775807",
+        "catcs v",
+        "lsdo v",
+        "ls v",
+        "ls v .",
+        "cat v a",
+        "cat v a@@/main/0",
+        "cat v .@@/main/fix/more/18446744073709551615",
+        "describe v a",
+        "lsvtree v a",
+        "lshistory v .",
+        "catcr v a",
+        "diffcr v a w b",
+        "covers w v .",
+        "mkarrow v a /main/fix/1",
+        "findmerge v . -fversion .../fix/LATEST",
+        "findmerge v a -fversion .../main/LATEST",
+    ] {
+        assert_line(&rt, rt.alloc(), line, NotBuilt)?;
+    }
+    Ok(())
+}
+
+#[test]
+fn wrong_lines(rt: HostRuntime) -> Result<(), Fail> {
+    for line in [
+        "mkview",
+        "mkview v w",
+        "mkview -v",
+        "mkview v\r",
+        "rmview",
+        "rmview -force",
+        "rmview v -force",
+        "rmview -f v",
+        "setcs v a",
+        "mkelem v .",
+        "mkelem v -nco",
+        "mkelem v a -nco",
+        "mkelem v -nco -nco a",
+        "mkdir v .",
+        "mkdir v -unreserved a",
+        "checkout v",
+        "checkout v -nco a",
+        "mkbranch v a",
+        "mkbranch v 1fix a",
+        "save v",
+        "save v a//b",
+        "save v .",
+        "save v a b",
+        "rm v .",
+        "checkin v -unreserved a",
+        "uncheckout v -identical a",
+        "rmname v .",
+        "mv v . c",
+        "mv v a b/c",
+        "mv v a",
+        "mklbtype 1",
+        "mklbtype a b",
+        "mkbrtype -fix",
+        "mklabel v a",
+        "mklabel v 1 a",
+        "mklabel v -config REL",
+        "mklabel v -config out 1",
+        "mklabel v -config -replace out REL",
+        "rmlabel v REL",
+        "rmdo v .",
+        "scrub",
+        "scrub 01",
+        "scrub -1",
+        "scrub 9223372036854775808",
+        "catcs",
+        "lsdo v a",
+        "ls v a b",
+        "cat v a@@",
+        "cat v a@/main/1",
+        "cat v a@@/main",
+        "cat v a@@/main/01",
+        "cat v a@@/main/18446744073709551616",
+        "cat v a@@/main/1x/2",
+        "cat v a@@/fix/1",
+        "cat v @@/main/1",
+        "describe v",
+        "lsvtree v a b",
+        "lshistory .",
+        "catcr v .",
+        "diffcr v a w",
+        "diffcr v . w b",
+        "diffcr v a w .",
+        "covers w v",
+        "mkarrow v . /main/1",
+        "mkarrow v a main/1",
+        "findmerge v a -fversion /fix/LATEST",
+        "findmerge v a -fversion .../1/LATEST",
+        "findmerge v a -fversion .../a/b/LATEST",
+        "findmerge v a -fversion .../LATEST",
+        "findmerge v a fversion .../fix/LATEST",
+        "clearmake",
+        "clearmake .",
+        "clearmake v a//b",
+        "clearmake v -x",
+        "clearmake v -J",
+        "clearmake v -J 0",
+        "clearmake v -J 65",
+        "clearmake v -J 04",
+        "clearmake v -J 2 -J 2",
+        "clearmake v -f",
+        "clearmake v -f a -f a",
+        "clearmake v -f -V",
+        "clearmake v =b",
+        "clearmake v a-b=c",
+    ] {
+        assert_line(&rt, rt.alloc(), line, BadWord)?;
+    }
+    Ok(())
+}
+
+#[test]
+fn a_new_path_has_1024_bytes(rt: HostRuntime) -> Result<(), Fail> {
+    let alloc = rt.alloc();
+    let mut deep = b"d/".to_vec(alloc)?;
+    for _ in 0..509 {
+        deep.extend_from_slice(b"d/")?;
+    }
+    for (name, cause) in [("abcd", NotBuilt), ("abcde", BadWord)] {
+        let mut text = b"phase\nlane a\nmv v ".to_vec(alloc)?;
+        text.extend_from_slice(deep.as_slice())?;
+        text.extend_from_slice(b"x ")?;
+        text.extend_from_slice(name.as_bytes())?;
+        assert_wrong(&rt, alloc, text.as_slice(), 3, cause);
+    }
+    Ok(())
+}
+
+// A command as words, and its text.
+fn words_of(alloc: Global, command: &Command) -> Result<String, AllocError> {
+    match command {
+        Command::Mkview { view } => format!(in alloc; "mkview {view}"),
+        Command::Save { view, path, text } => format!(in alloc; "save {view} {path} [{text}]"),
+        Command::Clearmake {
+            view,
+            file,
+            own_only,
+            rebuild,
+            jobs,
+            macros,
+            goals,
+        } => {
+            let file = file.is_some();
+            let macros = macros.len();
+            let goals = goals.len();
+            format!(in alloc;
+                "clearmake {view} {file} {own_only} {rebuild} {jobs} {macros} {goals}"
+            )
+        }
+        _ => format!(in alloc; "other"),
+    }
+}
+
+fn assert_commands(
+    rt: &impl Abort,
+    alloc: Global,
+    lane: &Lane,
+    commands: &[&str],
+) -> Result<(), AllocError> {
+    assert_eq!(rt; lane.commands.len(), commands.len());
+    for (command, words) in lane.commands.as_slice().iter().zip(commands) {
+        let said = words_of(alloc, command)?;
+        assert_eq!(rt; said.as_str(), *words);
+    }
+    Ok(())
+}
+
+fn assert_lane(rt: &impl Abort, alloc: Global, text: &[u8], commands: &[&str]) -> Result<(), Fail> {
+    assert!(rt; text.len() < 10_000);
+    let session = read(alloc, text)?;
+    let [phase] = session.phases.as_slice() else {
+        panic!(rt; "one phase");
+    };
+    let [lane] = phase.lanes.as_slice() else {
+        panic!(rt; "one lane");
+    };
+    assert_commands(rt, alloc, lane, commands)?;
+    Ok(())
+}
+
+#[test]
+fn the_first_build_is_read(rt: HostRuntime) -> Result<(), Fail> {
+    let text =
+        b"phase\nlane a\nmkview v\nsave v Makefile\n|out: in\n|\tcat in > out\nsave v in\n|hi\nclearmake v out\n";
+    let commands = [
+        "mkview v",
+        "save v Makefile [out: in\n\tcat in > out\n]",
+        "save v in [hi\n]",
+        "clearmake v false false false 1 0 1",
+    ];
+    assert_lane(&rt, rt.alloc(), text, &commands)
+}
+
+#[test]
+fn the_words_of_a_build_come_in_any_order(rt: HostRuntime) -> Result<(), Fail> {
+    let text =
+        b"phase\nlane a\nclearmake v\nclearmake v b A=1 -k -u . B= -J 64 A=2=3 -f . -u c\nclearmake v -V -f in -J 1";
+    let commands = [
+        "clearmake v false false false 1 0 0",
+        "clearmake v true false true 64 2 3",
+        "clearmake v true true false 1 0 0",
+    ];
+    assert_lane(&rt, rt.alloc(), text, &commands)
+}
+
+#[test]
+fn skipped_lines_and_blanks_do_not_count(rt: HostRuntime) -> Result<(), Fail> {
+    let text = b"# note\n\nphase\n\tlane \t a \nsave v in\n|\n\n#\n||x\nmkview w";
+    assert_lane(&rt, rt.alloc(), text, &["save v in [\n|x\n]", "mkview w"])
+}

@@ -1,0 +1,84 @@
+// Sessions of many phases, lanes and commands, and of the greatest size.
+
+use cc_names::commands::{Command, Session};
+use session_text::read;
+use std::alloc::Global;
+use std::process::Abort;
+use std::test::Fail;
+
+fn shape_of(session: &Session) -> (usize, usize, usize) {
+    let mut lanes = 0usize;
+    let mut commands = 0usize;
+    for phase in session.phases.as_slice() {
+        lanes = lanes.saturating_add(phase.lanes.len());
+        for lane in phase.lanes.as_slice() {
+            commands = commands.saturating_add(lane.commands.len());
+        }
+    }
+    (session.phases.len(), lanes, commands)
+}
+
+fn assert_shape(
+    rt: &impl Abort,
+    alloc: Global,
+    text: &[u8],
+    shape: (usize, usize, usize),
+) -> Result<(), Fail> {
+    assert!(rt; text.len() < 100_000);
+    let session = read(alloc, text)?;
+    assert_eq!(rt; shape_of(&session), shape);
+    Ok(())
+}
+
+#[test]
+fn phases_and_lanes_are_counted(rt: HostRuntime) -> Result<(), Fail> {
+    for (text, shape) in [
+        ("", (0, 0, 0)),
+        ("# note\n", (0, 0, 0)),
+        ("phase\n", (1, 0, 0)),
+        ("phase\n\nphase", (2, 0, 0)),
+        (
+            "phase\nlane a\nlane b\nmkview v\nphase\nlane a\nmkview w\nmkview x\n",
+            (2, 3, 3),
+        ),
+    ] {
+        assert_shape(&rt, rt.alloc(), text.as_bytes(), shape)?;
+    }
+    Ok(())
+}
+
+// A text of exactly 2^24 bytes: a save whose body is lines of 63 bytes behind the bar.
+fn largest(alloc: Global) -> Result<Vec<u8>, Fail> {
+    let mut text = Vec::with_capacity(alloc, 16_777_216)?;
+    text.extend_from_slice(
+        b"#23456789 123456789 123456789 12\nphase\nlane a\nsave v inputs.txt\n",
+    )?;
+    let line = [b'|'; 64];
+    for _ in 0..262_143 {
+        text.extend_from_slice(&line[..63])?;
+        text.push(b'\n')?;
+    }
+    Ok(text)
+}
+
+fn length_of_body(session: &Session) -> Option<usize> {
+    let [phase] = session.phases.as_slice() else {
+        return None;
+    };
+    let [lane] = phase.lanes.as_slice() else {
+        return None;
+    };
+    match lane.commands.as_slice() {
+        [Command::Save { text, .. }] => Some(text.as_bytes().len()),
+        _ => None,
+    }
+}
+
+#[test]
+fn the_largest_text_is_read(rt: HostRuntime) -> Result<(), Fail> {
+    let text = largest(rt.alloc())?;
+    assert_eq!(rt; text.len(), 16_777_216);
+    let session = read(rt.alloc(), text.as_slice())?;
+    assert_eq!(rt; length_of_body(&session), Some(16_515_009));
+    Ok(())
+}

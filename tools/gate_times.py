@@ -1,0 +1,93 @@
+#!/usr/bin/env python3
+"""Runs the gate and prints what it cost, a line a crate.
+
+Usage: gate_times.py [RT'S WORDS], at the top of the repository. Without words it runs `rt ci --anew`.
+
+It looks once a second at the provers that run below it, and adds up their processor time: the proof of each crate, the proof of
+its tests, and its must-fail edits, which are the runs that are not in the crate's own folder. A prover that lives for less than
+a second may be missed, so the sums are a little low. The gate's own output goes to gate_times.log; the last line of it, the wall
+time and the table go to standard output, as rows of a table in Markdown.
+"""
+import collections
+import os
+import pathlib
+import subprocess
+import sys
+import time
+
+TICK = os.sysconf("SC_CLK_TCK")
+KINDS = ["proof", "tests", "edits"]
+
+
+def children_of():
+    """The processes by their parent."""
+    found = collections.defaultdict(list)
+    for entry in os.scandir("/proc"):
+        if entry.name.isdigit():
+            try:
+                stat = pathlib.Path(entry.path, "stat").read_text()
+            except OSError:
+                continue
+            fields = stat.rpartition(")")[2].split()
+            found[int(fields[1])].append((int(entry.name), (int(fields[11]) + int(fields[12])) / TICK))
+    return found
+
+
+def below(root):
+    """Each process below one, with its processor time."""
+    found, left = children_of(), [root]
+    while left:
+        for pid, seconds in found.get(left.pop(), []):
+            left.append(pid)
+            yield pid, seconds
+
+
+def told_of(pid):
+    """The crate that a prover works on and for what, or None where the process is no prover."""
+    try:
+        words = pathlib.Path("/proc", str(pid), "cmdline").read_bytes().decode(errors="replace").split("\0")
+        folder = os.readlink(f"/proc/{pid}/cwd")
+    except OSError:
+        return None
+    if "--crate-name" not in words or not words[0].endswith("/rattle"):
+        return None
+    crate = words[words.index("--crate-name") + 1]
+    if "edit" in folder or "must-fail" in folder:
+        return crate, "edits"
+    return crate, "tests" if "--test" in words else "proof"
+
+
+def measured(command):
+    """The gate's last line, its status, its wall time, and the processor seconds by crate and kind."""
+    seen, names = {}, {}
+    start = time.time()
+    with open("gate_times.log", "w", encoding="utf-8") as log:
+        gate = subprocess.Popen(command, stdout=log, stderr=subprocess.STDOUT)
+        while gate.poll() is None:
+            for pid, seconds in below(gate.pid):
+                if pid not in names:
+                    names[pid] = told_of(pid)
+                if names[pid]:
+                    seen[pid] = seconds
+            time.sleep(1)
+    wall = time.time() - start
+    sums = collections.defaultdict(lambda: dict.fromkeys(KINDS, 0.0))
+    for pid, seconds in seen.items():
+        crate, kind = names[pid]
+        sums[crate][kind] += seconds
+    last = pathlib.Path("gate_times.log").read_text(encoding="utf-8", errors="replace").strip().splitlines()[-1:]
+    return (last or [""])[0], gate.returncode, wall, sums
+
+
+def main():
+    last, status, wall, sums = measured(["rt"] + (sys.argv[1:] or ["ci", "--anew"]))
+    print(last)
+    print(f"{wall / 60:.0f} minutes, {sum(sum(row.values()) for row in sums.values()) / 60:.0f} processor minutes of provers\n")
+    print("| crate | proof | tests | edits |\n|---|---|---|---|")
+    for crate, row in sorted(sums.items(), key=lambda item: -sum(item[1].values())):
+        print(f"| {crate} | " + " | ".join(f"{row[kind]:.0f}" for kind in KINDS) + " |")
+    sys.exit(status)
+
+
+if __name__ == "__main__":
+    main()
