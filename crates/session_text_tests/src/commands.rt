@@ -23,8 +23,6 @@ fn assert_line(
 #[test]
 fn right_lines(rt: HostRuntime) -> Result<(), Fail> {
     for line in [
-        "rmview v",
-        "rmview -force v",
         "setcs v",
         "mkelem v a/b",
         "mkelem v -nco a",
@@ -186,6 +184,7 @@ fn a_new_path_has_1024_bytes(rt: HostRuntime) -> Result<(), Fail> {
 fn words_of(alloc: Global, command: &Command) -> Result<String, AllocError> {
     match command {
         Command::Mkview { view } => format!(in alloc; "mkview {view}"),
+        Command::Rmview { view, force } => format!(in alloc; "rmview {view} {force}"),
         Command::Save { view, path, text } => format!(in alloc; "save {view} {path} [{text}]"),
         Command::Clearmake {
             view,
@@ -257,6 +256,12 @@ fn the_words_of_a_build_come_in_any_order(rt: HostRuntime) -> Result<(), Fail> {
         "clearmake v true true false 1 0 0",
     ];
     assert_lane(&rt, rt.alloc(), text, &commands)
+}
+
+#[test]
+fn a_view_is_removed_by_force_or_not(rt: HostRuntime) -> Result<(), Fail> {
+    let text = b"phase\nlane a\nrmview v\nrmview -force v\n";
+    assert_lane(&rt, rt.alloc(), text, &["rmview v false", "rmview v true"])
 }
 
 #[test]
