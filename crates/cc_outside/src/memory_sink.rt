@@ -24,7 +24,8 @@ impl Model for MemorySink {
 
     ghost Value = { Basin };
 
-    ghost view = { λ s. record { held = s.held.items; calls = s.calls; faults = s.faults; fail = s.fail.items } };
+    ghost view = { λ s.
+        record { held = s.held.items; calls = s.calls; faults = s.faults; fail = s.fail.items } };
 }
 
 impl MemorySink {

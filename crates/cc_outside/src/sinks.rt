@@ -36,10 +36,12 @@ pub trait Sink {
 
 /// Writes a whole text. Takes time linear in it where the sink takes each piece at once.
 pub fn write_whole<K: Sink>(sink: &mut K, text: &[u8]) -> Result<(), WriteFault>
-    ensures written { OnOk result (Appends (K.sight sink.old).held (K.sight sink.new).held text.now) }
+    ensures written { OnOk result
+        (Appends (K.sight sink.old).held (K.sight sink.new).held text.now) }
     ensures kept { (K.sight sink.old).faults ≤ (K.sight sink.new).faults }
     ensures fault { OnErr result (Rose (K.sight sink.old).faults (K.sight sink.new).faults) }
-    ensures front { OnErr result (AppendsFront (K.sight sink.old).held (K.sight sink.new).held text.now) }
+    ensures front { OnErr result
+        (AppendsFront (K.sight sink.old).held (K.sight sink.new).held text.now) }
 {
     let mut done = 0;
     while done < text.len() {

@@ -62,11 +62,14 @@ pub fn read_whole<S: Source>(
     ensures bytes { IfOk result (λ text. Lost (S.sight source.old) (S.sight source.new) text) }
     ensures end { IfOk result (λ text. IsAtEnd (S.sight source.new).left) }
     ensures short { IfOk result (λ text. length text ≤ limit) }
-    ensures counted { IfOk result (λ text. Gave (S.sight source.old) (S.sight source.new) (length text)) }
+    ensures counted { IfOk result
+        (λ text. Gave (S.sight source.old) (S.sight source.new) (length text)) }
     ensures kept { (S.sight source.old).faults ≤ (S.sight source.new).faults }
     ensures fault { OnFault result (Rose (S.sight source.old).faults (S.sight source.new).faults) }
-    ensures too_long { OnTooLong result (GaveAbove limit (S.sight source.old) (S.sight source.new)) }
-    ensures told { OnTooLong result (IfSome (S.sight source.old).left (λ bytes. limit < length bytes)) }
+    ensures too_long { OnTooLong result
+        (GaveAbove limit (S.sight source.old) (S.sight source.new)) }
+    ensures told { OnTooLong result
+        (IfSome (S.sight source.old).left (λ bytes. limit < length bytes)) }
     ensures taken { RoseAtMost (limit + 1) (S.sight source.old).given (S.sight source.new).given }
 {
     let mut piece = vec![in alloc; 0u8; PIECE]?;

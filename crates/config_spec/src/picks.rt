@@ -111,7 +111,9 @@ pub fn pick(
     rows: u64,
     rolls: &Rolls,
 ) -> Option<Picked>
-    ensures { result ≡ pick (sources_in rows tree.now labels.now rolls.now out) element (names_of path.now) spec.now }
+    ensures { result
+        ≡ pick (sources_in rows tree.now labels.now rolls.now out) element (names_of path.now)
+          spec.now }
 {
     let sight = Sight {
         tree,

@@ -49,7 +49,9 @@ impl Model for Rolls {
 
     ghost Value = { Enrolled };
 
-    ghost view = { λ fields. record { rolls = reverse fields.rolls.items; room = vec_capacity fields.rolls - vec_len fields.rolls } };
+    ghost view = { λ fields.
+        record
+        { rolls = reverse fields.rolls.items; room = vec_capacity fields.rolls - vec_len fields.rolls } };
 
     ghost invariant = { λ fields. Falls (map object_of (reverse fields.rolls.items)) };
 }
@@ -77,7 +79,8 @@ impl Rolls {
     pub fn add(&mut self, object: u64, targets: Vec<Path>, listed: Vec<Listed>)
         requires above { IsAbove object (map object_of self.old.rolls) }
         requires room { 0 < self.old.room }
-        ensures { AddsRoll self.old self.new (record { object = object; targets = targets.items; listed = listed.items }) }
+        ensures { AddsRoll self.old self.new
+            (record { object = object; targets = targets.items; listed = listed.items }) }
     {
         let roll = Roll {
             object,

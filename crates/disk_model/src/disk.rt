@@ -36,17 +36,28 @@ pub trait Disk {
     /// The file's length. A file longer than 2^62 bytes is a fault.
     fn length(&mut self, file: u8) -> Result<u64, DiskFault>
         requires { file ≤ 1 }
-        ensures length { IfOk result (λ n. IfTold (sight self.old).told (λ d. n ≡ length (bytes_of file d))) }
+        ensures length { IfOk result
+            (λ n. IfTold (sight self.old).told (λ d. n ≡ length (bytes_of file d))) }
         ensures most { IfOk result (λ n. n ≤ 2 ^ 62) }
-        ensures told { MatchResult result (λ _. Both (Measures file) (sight self.old).told (sight self.new).told) (λ _. Both Idles (sight self.old).told (sight self.new).told) }
+        ensures told { MatchResult result
+            (λ _. Both (Measures file) (sight self.old).told (sight self.new).told)
+            (λ _. Both Idles (sight self.old).told (sight self.new).told) }
         ensures counts { Counted result (sight self.old) (sight self.new) };
 
     /// Fills `into` with the file's bytes from a place on. The range lies in the file.
     fn read_at(&mut self, file: u8, place: u64, into: &mut [u8]) -> Result<(), DiskFault>
         requires file { file ≤ 1 }
-        requires within { IfTold (sight self.old).told (λ d. place + length into.old ≤ length (bytes_of file d)) }
-        ensures bytes { IfOk result (λ _. IfTold (sight self.old).told (λ d. into.new ≡ take (length into.old) (drop place (bytes_of file d)))) }
-        ensures told { MatchResult result (λ _. Both (Fetches file place (length into.old)) (sight self.old).told (sight self.new).told) (λ _. Both Idles (sight self.old).told (sight self.new).told) }
+        requires within { IfTold (sight self.old).told
+            (λ d. place + length into.old ≤ length (bytes_of file d)) }
+        ensures bytes { IfOk result
+            (λ _.
+                IfTold (sight self.old).told
+                (λ d. into.new ≡ take (length into.old) (drop place (bytes_of file d)))) }
+        ensures told { MatchResult result
+            (λ _.
+                Both (Fetches file place (length into.old)) (sight self.old).told
+                (sight self.new).told)
+            (λ _. Both Idles (sight self.old).told (sight self.new).told) }
         ensures counts { Counted result (sight self.old) (sight self.new) };
 
     /// Writes a piece over the file from a place on, which is at most its length. A write that would pass 2^62 bytes is
@@ -55,13 +66,19 @@ pub trait Disk {
         requires file { file ≤ 1 }
         requires within { IfTold (sight self.old).told (λ d. place ≤ length (bytes_of file d)) }
         ensures most { IfOk result (λ _. place + length piece.now ≤ 2 ^ 62) }
-        ensures told { MatchResult result (λ _. Both (Writes file place piece.now) (sight self.old).told (sight self.new).told) (λ _. Both (Tears file place (length piece.now)) (sight self.old).told (sight self.new).told) }
+        ensures told { MatchResult result
+            (λ _. Both (Writes file place piece.now) (sight self.old).told (sight self.new).told)
+            (λ _.
+                Both (Tears file place (length piece.now)) (sight self.old).told
+                (sight self.new).told) }
         ensures counts { Counted result (sight self.old) (sight self.new) };
 
     /// After Ok the file is on the disk as it reads.
     fn sync(&mut self, file: u8) -> Result<(), DiskFault>
         requires { file ≤ 1 }
-        ensures told { MatchResult result (λ _. Both (Syncs file) (sight self.old).told (sight self.new).told) (λ _. Both Idles (sight self.old).told (sight self.new).told) }
+        ensures told { MatchResult result
+            (λ _. Both (Syncs file) (sight self.old).told (sight self.new).told)
+            (λ _. Both Idles (sight self.old).told (sight self.new).told) }
         ensures counts { Counted result (sight self.old) (sight self.new) };
 
     /// The device calls and the faults so far. It is no device call.

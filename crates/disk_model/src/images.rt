@@ -44,7 +44,8 @@ impl Picture {
     ghost use Rattle.disk_model.specs.Records.{event_of};
 
     fn of(alloc: Global, first: &[u8]) -> Result<Picture, NoMemory>
-        ensures { IfOk result (λ picture. (picture.bytes.items ≡ first.now) × (picture.image.items ≡ first.now)) }
+        ensures { IfOk result
+            (λ picture. (picture.bytes.items ≡ first.now) × (picture.image.items ≡ first.now)) }
     {
         Ok(Picture {
             bytes: Vec::from_slice(alloc, first)?,
@@ -61,8 +62,10 @@ impl Picture {
         landed: &[u8],
         lost: u64,
     ) -> Result<(), NoMemory>
-        ensures bytes { OnOk result (self.new.bytes.items ≡ overwritten place landed.now self.old.bytes.items) }
-        ensures image { OnOk result (IsTorn place (length landed.now + lost) self.old.image.items self.new.image.items) }
+        ensures bytes { OnOk result
+            (self.new.bytes.items ≡ overwritten place landed.now self.old.bytes.items) }
+        ensures image { OnOk result
+            (IsTorn place (length landed.now + lost) self.old.image.items self.new.image.items) }
     {
         match keep {
             Keep::Nothing => {}

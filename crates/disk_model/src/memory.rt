@@ -27,7 +27,9 @@ impl Contents {
     ghost use Rattle.disk_model.specs.Overwriting.{AreKept, AreOverwritten};
 
     fn of(alloc: Global, journal: &[u8], objects: &[u8]) -> Result<Contents, NoMemory>
-        ensures { IfOk result (λ contents. (contents.journal.items ≡ journal.now) × (contents.objects.items ≡ objects.now)) }
+        ensures { IfOk result
+            (λ contents.
+                (contents.journal.items ≡ journal.now) × (contents.objects.items ≡ objects.now)) }
     {
         Ok(Contents {
             journal: Vec::from_slice(alloc, journal)?,
@@ -62,7 +64,9 @@ pub struct MemoryDisk {
     failed: u64,
     ticks: u64,
     faults: u64,
-    ghost replayed: { IsReplayed (device_of first.journal.items first.objects.items entries.items failed) current.journal.items current.objects.items ticks faults },
+    ghost replayed: { IsReplayed
+        (device_of first.journal.items first.objects.items entries.items failed)
+        current.journal.items current.objects.items ticks faults },
 }
 
 impl MemoryDisk {
@@ -159,7 +163,8 @@ impl MemoryDisk {
     /// A call that changes no bytes.
     fn make(&mut self, call: Call) -> Result<(), DiskFault>
         requires { ChangesNoBytes call }
-        ensures told { MatchResult result (λ _. told_by self.new ≡ called call (told_by self.old)) (λ _. Idles (told_by self.old) (told_by self.new)) }
+        ensures told { MatchResult result (λ _. told_by self.new ≡ called call (told_by self.old))
+            (λ _. Idles (told_by self.old) (told_by self.new)) }
         ensures counts { Counted result (sight_of self.old) (sight_of self.new) }
     {
         if self.ticks == u64::MAX || self.is_planned() {
@@ -181,7 +186,11 @@ impl MemoryDisk {
     /// A write of which these bytes land, and so many behind them are lost.
     fn put(&mut self, file: u8, place: u64, landed: &[u8], lost: u64) -> Result<(), DiskFault>
         requires { file ≤ 1 }
-        ensures told { MatchResult result (λ _. told_by self.new ≡ called (calls.Write file place landed.now lost) (told_by self.old)) (λ _. Idles (told_by self.old) (told_by self.new)) }
+        ensures told { MatchResult result
+            (λ _.
+                told_by self.new
+                ≡ called (calls.Write file place landed.now lost) (told_by self.old))
+            (λ _. Idles (told_by self.old) (told_by self.new)) }
         ensures counts { Counted result (sight_of self.old) (sight_of self.new) }
     {
         if self.ticks == u64::MAX {
@@ -222,7 +231,9 @@ impl Disk for MemoryDisk {
 
     ghost as_typed = { λ disk. refl };
 
-    ghost counted = { λ disk. record { ticks = disk.replayed.ticks_fit; faults = disk.replayed.faults_fit; told = disk.replayed.a_tick_each } };
+    ghost counted = { λ disk.
+        record
+        { ticks = disk.replayed.ticks_fit; faults = disk.replayed.faults_fit; told = disk.replayed.a_tick_each } };
 
     fn length(&mut self, file: u8) -> Result<u64, DiskFault> {
         let length = self.bytes(file).len() as u64;

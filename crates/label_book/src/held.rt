@@ -45,7 +45,9 @@ impl Held {
     /// The version on which the label stood in the first `rows` rows. Takes time logarithmic in the changes.
     pub fn at(&self, rows: u64) -> Option<u64>
         requires { Falls (map row_of_move (reverse self.now.moves.items)) }
-        ensures { result ≡ holder (labels_of_first_rows rows (changes_held self.now)) self.now.label self.now.element }
+        ensures { result
+            ≡ holder (labels_of_first_rows rows (changes_held self.now)) self.now.label
+              self.now.element }
     {
         match count_below(&self.moves, rows) {
             0 => None,

@@ -66,7 +66,10 @@ impl Book {
     /// `at` does, and to copy its name where it is new there; a list that is full is doubled, in time linear in it.
     pub fn reserve(&mut self, alloc: Global, label: &Name, elements: &[u64]) -> Result<(), NoMemory>
         ensures kept { KeepsAll self.old self.new }
-        ensures ready { OnOk result ((k : ℕ) → k < length elements.now → IsTrue (is_ready self.new label.now (slice_index elements.now k))) }
+        ensures ready { OnOk result
+            ((k : ℕ)
+                → k < length elements.now
+                → IsTrue (is_ready self.new label.now (slice_index elements.now k))) }
     {
         for element in elements {
             self.reserve_one(alloc, label, *element)?;
@@ -139,7 +142,8 @@ impl Book {
     fn add(&mut self, label: &Name, element: u64, change: Move)
         requires above { IsAbove change.row (rows_of_pair label.now element self.old.changes) }
         requires ready { IsTrue (is_ready self.old label.now element) }
-        ensures { AddsChange self.old self.new (change_by label.now element change.row change.version) }
+        ensures { AddsChange self.old self.new
+            (change_by label.now element change.row change.version) }
     {
         let newest = self.newest.get(&key_of(element, label)).copied();
         match Held::find(&self.held, newest, label, element) {

@@ -20,7 +20,8 @@ fn mark(
     version: Option<u64>,
 ) -> Result<(), Fail>
     requires { (l : List ℕ) (e : ℕ) → IsAbove row (rows_of_pair l e book.old.changes) }
-    ensures { OnOk result ((l : List ℕ) (e : ℕ) → IsAbove (row + 1) (rows_of_pair l e book.new.changes)) }
+    ensures { OnOk result
+        ((l : List ℕ) (e : ℕ) → IsAbove (row + 1) (rows_of_pair l e book.new.changes)) }
 {
     let elements = [element];
     book.reserve(alloc, label, &elements)?;

@@ -14,7 +14,8 @@ use std::alloc::Global;
 
 /// The lane of a phase with this number, from 1.
 pub(crate) fn lane_at(phase: &Phase, number: u32) -> Option<&Lane>
-    ensures { MatchOption result (lane_at phase.now number ≡ None) (λ lane. lane_at phase.now number ≡ Some lane.now) }
+    ensures { MatchOption result (lane_at phase.now number ≡ None)
+        (λ lane. lane_at phase.now number ≡ Some lane.now) }
 {
     let index = number.checked_sub(1)?;
     phase.lanes.as_slice().get(index as usize)
@@ -35,7 +36,8 @@ fn push_arguments(
     phase: &Phase,
     refusal: &Refusal,
 ) -> Result<(), NoMemory>
-    ensures { OnOk result (text.new.items ≡ text.old.items ++ spaced (refusal_arguments phase.now refusal.now)) }
+    ensures { OnOk result
+        (text.new.items ≡ text.old.items ++ spaced (refusal_arguments phase.now refusal.now)) }
 {
     match refusal {
         Refusal::NoView | Refusal::ViewExists => Ok(()),
@@ -92,14 +94,16 @@ pub(crate) fn push_refusal(
     phase: &Phase,
     refusal: &Refusal,
 ) -> Result<(), NoMemory>
-    ensures { OnOk result (text.new.items ≡ text.old.items ++ spaced (refusal_words phase.now refusal.now)) }
+    ensures { OnOk result
+        (text.new.items ≡ text.old.items ++ spaced (refusal_words phase.now refusal.now)) }
 {
     push_word(text, refusal_name(refusal))?;
     push_arguments(alloc, text, phase, refusal)
 }
 
 fn push_named(text: &mut Vec<u8>, name: &[u8], argument: &[u8]) -> Result<(), NoMemory>
-    ensures { OnOk result (text.new.items ≡ text.old.items ++ spaced (name.now ∷ argument.now ∷ [])) }
+    ensures { OnOk result
+        (text.new.items ≡ text.old.items ++ spaced (name.now ∷ argument.now ∷ [])) }
 {
     push_word(text, name)?;
     push_word(text, argument)
@@ -111,7 +115,8 @@ fn push_numbered(
     name: &[u8],
     number: u32,
 ) -> Result<(), NoMemory>
-    ensures { OnOk result (text.new.items ≡ text.old.items ++ spaced (name.now ∷ decimal number ∷ [])) }
+    ensures { OnOk result
+        (text.new.items ≡ text.old.items ++ spaced (name.now ∷ decimal number ∷ [])) }
 {
     push_word(text, name)?;
     push_number_word(alloc, text, u64::from(number))

@@ -21,7 +21,8 @@ fn push_digest(
     word: &[u8],
     digest: &Digest,
 ) -> Result<(), NoMemory>
-    ensures { OnOk result (text.new.items ≡ text.old.items ++ spaced (word.now ∷ digest_words digest.now)) }
+    ensures { OnOk result
+        (text.new.items ≡ text.old.items ++ spaced (word.now ∷ digest_words digest.now)) }
 {
     push_word(text, word)?;
     push_number_word(alloc, text, digest.length)?;
@@ -95,7 +96,8 @@ fn push_reply(
     phase: &Phase,
     reply: &Reply,
 ) -> Result<(), NoMemory>
-    ensures { OnOk result (text.new.items ≡ text.old.items ++ spaced (reply_words phase.now reply.now)) }
+    ensures { OnOk result
+        (text.new.items ≡ text.old.items ++ spaced (reply_words phase.now reply.now)) }
 {
     match reply {
         Reply::Good | Reply::Answer(_) => push_word(text, b"ok"),
@@ -134,7 +136,8 @@ fn push_command(
     command: &Command,
     reply: &Reply,
 ) -> Result<(), NoMemory>
-    ensures { OnOk result (text.new.items ≡ text.old.items ++ command_lines phase.now number command.now reply.now) }
+    ensures { OnOk result
+        (text.new.items ≡ text.old.items ++ command_lines phase.now number command.now reply.now) }
 {
     push_number(alloc, text, number)?;
     push_word(text, word_of(command))?;
@@ -150,7 +153,8 @@ fn push_commands(
     commands: &[Command],
     replies: &[Reply],
 ) -> Result<(), NoMemory>
-    ensures { OnOk result (text.new.items ≡ text.old.items ++ lines_from phase.now 1 commands.now replies.now) }
+    ensures { OnOk result
+        (text.new.items ≡ text.old.items ++ lines_from phase.now 1 commands.now replies.now) }
 {
     let (mut left, mut answers) = (commands, replies);
     let mut number = 1u64;
@@ -173,7 +177,8 @@ fn push_lane(
     lane: &Lane,
     replies: &[Reply],
 ) -> Result<(), NoMemory>
-    ensures { OnOk result (text.new.items ≡ text.old.items ++ lane_lines phase.now (Some lane.now) replies.now) }
+    ensures { OnOk result
+        (text.new.items ≡ text.old.items ++ lane_lines phase.now (Some lane.now) replies.now) }
 {
     push_bytes(text, b"lane ")?;
     push_bytes(text, lane.name.as_bytes())?;

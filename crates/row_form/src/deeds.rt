@@ -325,7 +325,10 @@ fn read_plain(
     code: u8,
     here: Unread,
 ) -> Result<Deed, Or<Unread>>
-    ensures { (bytes : List ℕ) → here.left ≡ length bytes → Answers result (read_fields plain_deeds code bytes cursor.old.rest.now) cursor.new.rest.now }
+    ensures { (bytes : List ℕ)
+        → here.left ≡ length bytes
+        → Answers result (read_fields plain_deeds code bytes cursor.old.rest.now)
+          cursor.new.rest.now }
 {
     match code {
         1 => read_mkview(alloc, cursor),

@@ -250,7 +250,8 @@ fn put_pair(out: &mut Vec<u8>, first: u64, second: u64) -> Result<(), NoMemory>
 }
 
 fn put_extent(out: &mut Vec<u8>, extent: Extent) -> Result<(), NoMemory>
-    ensures { OnOk result (out.new.items ≡ out.old.items ++ (long extent.place ++ long extent.length)) }
+    ensures { OnOk result
+        (out.new.items ≡ out.old.items ++ (long extent.place ++ long extent.length)) }
 {
     put_pair(out, extent.place, extent.length)
 }
@@ -303,7 +304,11 @@ fn put_object(
     requires targets { length targets.now < 2 ^ 32 }
     requires script { IsText script.now }
     requires entries { length entries.now < 2 ^ 32 }
-    ensures { OnOk result (out.new.items ≡ out.old.items ++ (text view.now ++ (listed text targets.now ++ (text script.now ++ listed entry entries.now)))) }
+    ensures { OnOk result
+        (out.new.items
+            ≡ out.old.items
+              ++ (text view.now
+                  ++ (listed text targets.now ++ (text script.now ++ listed entry entries.now)))) }
 {
     put_name(out, view)?;
     put_list(out, targets)?;

@@ -69,7 +69,8 @@ impl Model for Macros {
 
     ghost Value = { List Macro };
 
-    ghost view = { λ macros. map (λ entry. record { name = entry.0.items; value = entry.1 }) macros.entries.entries };
+    ghost view = { λ macros.
+        map (λ entry. record { name = entry.0.items; value = entry.1 }) macros.entries.entries };
 }
 
 impl Macros {
@@ -119,7 +120,9 @@ impl Model for Asked {
 
     ghost Value = { Asked };
 
-    ghost view = { λ s. record { file = s.file; own_only = s.own_only; rebuild = s.rebuild; jobs = s.jobs; macros = s.macros; goals = s.goals.items } };
+    ghost view = { λ s.
+        record
+        { file = s.file; own_only = s.own_only; rebuild = s.rebuild; jobs = s.jobs; macros = s.macros; goals = s.goals.items } };
 }
 
 impl Asked {
@@ -158,7 +161,8 @@ impl Asked {
 
     /// Takes in a macro or a goal.
     fn add_word(&mut self, alloc: Global, word: &[u8]) -> Result<(), Or<SessionCause>>
-        ensures { Takes result (with_word self.old word.now (position is_equals word.now)) self.new }
+        ensures { Takes result (with_word self.old word.now (position is_equals word.now))
+            self.new }
     {
         match first_equals(word) {
             Some(place) => self.define(alloc, &word[..place], &word[place + 1..]),

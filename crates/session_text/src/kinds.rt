@@ -135,7 +135,8 @@ impl<'a> Rest<'a> {
 
     /// The next line. Takes time linear in it.
     pub(crate) fn next(&mut self) -> Option<Kind<'a>>
-        ensures { MatchOption result (IsAtEnd self.old self.new) (λ kind. IsNext self.old kind self.new) }
+        ensures { MatchOption result (IsAtEnd self.old self.new)
+            (λ kind. IsNext self.old kind self.new) }
     {
         let line = self.lines.next()?;
         self.number += 1;

@@ -45,7 +45,8 @@ fn read_command(
     words: Words<'_>,
     behind: &Rest<'_>,
 ) -> Result<Command, Or<SessionError>>
-    ensures { Gives result (error_at behind.now.number (command_of word.now words.entry (body_of behind.now.kinds))) }
+    ensures { Gives result
+        (error_at behind.now.number (command_of word.now words.entry (body_of behind.now.kinds))) }
 {
     match command_of(alloc, word.as_slice(), words, behind) {
         Ok(command) => Ok(command),
@@ -123,7 +124,8 @@ fn read_name(
     words: Words<'_>,
     behind: &Rest<'_>,
 ) -> Result<Name, Or<SessionError>>
-    ensures { Gives result (error_at behind.now.number (lane_of (map lane_name lanes.now) words.entry)) }
+    ensures { Gives result
+        (error_at behind.now.number (lane_of (map lane_name lanes.now) words.entry)) }
 {
     match lane_of(alloc, lanes, words) {
         Ok(name) => Ok(name),
@@ -134,7 +136,8 @@ fn read_name(
 /// Reads the lanes of a phase, up to the next phase.
 fn read_lanes(alloc: Global, rest: &mut Rest<'_>) -> Result<List<Lane>, Or<SessionError>>
     ensures read { IfOk result (HasLanes rest.old rest.new) }
-    ensures wrong { IfErr result (λ fault. IsWrong fault (first_error rest.old.number (in_phase [] false) rest.old.kinds)) }
+    ensures wrong { IfErr result
+        (λ fault. IsWrong fault (first_error rest.old.number (in_phase [] false) rest.old.kinds)) }
 {
     let mut lanes = Vec::new(alloc);
     let mut behind = rest.again();

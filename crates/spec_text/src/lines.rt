@@ -60,7 +60,9 @@ fn rule(
     selector: &[u8],
     options: Options,
 ) -> Result<Line, Or<SpecCause>>
-    ensures { Gives result (rule_of place.line place.block pattern.now behind_config selector.now (plain_options options.entry)) }
+    ensures { Gives result
+        (rule_of place.line place.block pattern.now behind_config selector.now
+            (plain_options options.entry)) }
 {
     let pattern = read_pattern(alloc, pattern)?;
     let selector = read_selector(alloc, behind_config, selector)?;

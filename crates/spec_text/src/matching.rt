@@ -108,7 +108,8 @@ fn next_step<'a>(segments: &'a [Segment], names: Option<&'a [u8]>) -> Step<'a>
 /// Whether segments match the names that are left of a path: all of them where they are anchored, else those from some
 /// name on or behind the last.
 pub(crate) fn matches_where(anchored: bool, segments: &[Segment], names: Option<&[u8]>) -> bool
-    ensures { result ≡ matches_where anchored segments.now (parts_left 47 (option_copied names.entry)) }
+    ensures { result
+        ≡ matches_where anchored segments.now (parts_left 47 (option_copied names.entry)) }
 {
     let mut cards = segments;
     let mut left = names;

@@ -63,7 +63,8 @@ fn with_nocheckout<'a>(options: Options<'a>) -> Option<Options<'a>>
 }
 
 fn with_mkbranch<'a>(options: Options<'a>, word: &'a [u8]) -> Option<Options<'a>>
-    ensures { option_map plain_options result ≡ with_mkbranch word.now (plain_options options.entry) }
+    ensures { option_map plain_options result
+        ≡ with_mkbranch word.now (plain_options options.entry) }
 {
     match options.mkbranch {
         Some(_) => None,
@@ -76,7 +77,8 @@ fn with_mkbranch<'a>(options: Options<'a>, word: &'a [u8]) -> Option<Options<'a>
 
 /// The option that a word names with the word behind it that it takes, beside others.
 fn next_option<'a>(options: Options<'a>, word: &[u8], words: &mut Words<'a>) -> Option<Options<'a>>
-    ensures { IsNextOption word.now words.old (plain_options options.entry) words.new (option_map plain_options result) }
+    ensures { IsNextOption word.now words.old (plain_options options.entry) words.new
+        (option_map plain_options result) }
 {
     match option_named(word) {
         Named::NoCheckout => with_nocheckout(options),

@@ -32,7 +32,8 @@ fn on_branch(names: Vec<Name>, end: &[u8]) -> Option<Selector>
 
 /// The selector by what stands behind `/main/`.
 fn behind_main(alloc: Global, parts: Option<&[u8]>) -> Result<Option<Selector>, NoMemory>
-    ensures { IfOk result (λ selector. selector ≡ behind_main (parts_left 47 (option_copied parts.entry)) []) }
+    ensures { IfOk result
+        (λ selector. selector ≡ behind_main (parts_left 47 (option_copied parts.entry)) []) }
 {
     let mut names = Vec::new(alloc);
     let mut left = parts;
@@ -51,7 +52,8 @@ fn behind_main(alloc: Global, parts: Option<&[u8]>) -> Result<Option<Selector>, 
 
 /// The selector by what stands behind `.../`.
 fn behind_dots(alloc: Global, parts: Option<&[u8]>) -> Result<Option<Selector>, NoMemory>
-    ensures { IfOk result (λ selector. selector ≡ behind_dots (parts_left 47 (option_copied parts.entry))) }
+    ensures { IfOk result
+        (λ selector. selector ≡ behind_dots (parts_left 47 (option_copied parts.entry))) }
 {
     let Some((name, rest)) = split_part(parts, b'/') else {
         return Ok(None);
@@ -69,7 +71,8 @@ fn behind_dots(alloc: Global, parts: Option<&[u8]>) -> Result<Option<Selector>, 
 }
 
 fn after_slash(alloc: Global, parts: Option<&[u8]>) -> Result<Option<Selector>, NoMemory>
-    ensures { IfOk result (λ selector. selector ≡ selector_of_parts (parts_left 47 (option_copied parts.entry))) }
+    ensures { IfOk result
+        (λ selector. selector ≡ selector_of_parts (parts_left 47 (option_copied parts.entry))) }
 {
     let Some((first, rest)) = split_part(parts, b'/') else {
         return Ok(None);

@@ -42,7 +42,8 @@ impl Model for Reader {
 
     ghost Value = { State };
 
-    ghost view = { λ reader. record { rules = reader.rules.items; blocks = reverse reader.blocks.items } };
+    ghost view = { λ reader.
+        record { rules = reader.rules.items; blocks = reverse reader.blocks.items } };
 }
 
 impl Reader {
@@ -88,7 +89,8 @@ impl Reader {
 
     /// Reads the line of this number and takes in what it says.
     fn next(self, alloc: Global, number: u32, bytes: &[u8]) -> Result<Reader, Or<SpecCause>>
-        ensures { Gives result (after_read (line_of number (slice_get self.blocks 0) bytes.now) self) }
+        ensures { Gives result
+            (after_read (line_of number (slice_get self.blocks 0) bytes.now) self) }
     {
         let place = Place {
             line: number,

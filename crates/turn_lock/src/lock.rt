@@ -35,7 +35,8 @@ impl<T: Storied> Model for TurnLock<T> {
 
     ghost view = { λ l. record { id = l.table.shared.table_id; whole = l.table.shared.key.whole } };
 
-    ghost invariant = { λ l. (l.table.shared.table_id.words ≡ 2) × (l.table.shared.table_id.slots ≡ 1) };
+    ghost invariant = { λ l.
+        (l.table.shared.table_id.words ≡ 2) × (l.table.shared.table_id.slots ≡ 1) };
 }
 
 /// The right to take turns at the value of one lock, and what its bearer has seen of the value's story. It has no bytes.
@@ -54,9 +55,11 @@ impl<T: Storied> Model for Pass<T> {
 
     ghost Value = { Sight T.Told };
 
-    ghost view = { λ p. record { lock = p.seat.table_id; seen = p.seat.me.0.seen; weight = p.seat.me.0.weight } };
+    ghost view = { λ p.
+        record { lock = p.seat.table_id; seen = p.seat.me.0.seen; weight = p.seat.me.0.weight } };
 
-    ghost invariant = { λ p. (p.seat.me.0.stage ≡ Idle) × (p.seat.me.1 ≡ []) × (0 < p.seat.me.0.weight) };
+    ghost invariant = { λ p.
+        (p.seat.me.0.stage ≡ Idle) × (p.seat.me.1 ≡ []) × (0 < p.seat.me.0.weight) };
 }
 
 /// A pass whose bearer has taken the value. It has no bytes, and cannot be let go: only `give` ends it.
@@ -74,9 +77,13 @@ impl<T: Storied> Model for Held<T> {
 
     ghost Value = { Hold T.Told };
 
-    ghost view = { λ h. record { lock = h.seat.table_id; story = noted_of h.seat.me.0.stage; weight = h.seat.me.0.weight } };
+    ghost view = { λ h.
+        record
+        { lock = h.seat.table_id; story = noted_of h.seat.me.0.stage; weight = h.seat.me.0.weight } };
 
-    ghost invariant = { λ h. ((ticket : ℕ) × (h.seat.me.0.stage ≡ Turn ticket (noted_of h.seat.me.0.stage))) × (h.seat.me.1 ≡ (0, None) ∷ []) × (0 < h.seat.me.0.weight) };
+    ghost invariant = { λ h.
+        ((ticket : ℕ) × (h.seat.me.0.stage ≡ Turn ticket (noted_of h.seat.me.0.stage)))
+        × (h.seat.me.1 ≡ (0, None) ∷ []) × (0 < h.seat.me.0.weight) };
 }
 
 impl<T: Storied> TurnLock<T> {
@@ -86,7 +93,10 @@ impl<T: Storied> TurnLock<T> {
     /// words.
     pub fn new(alloc: Global, value: T, weight: u64) -> Result<(TurnLock<T>, Pass<T>), T>
         requires { 1 ≤ weight }
-        ensures ok { IfOk result (λ r. (r.1.lock ≡ r.0.id) × (r.0.whole ≡ weight) × (r.1.seen ≡ T.story value) × (r.1.weight ≡ weight)) }
+        ensures ok { IfOk result
+            (λ r.
+                (r.1.lock ≡ r.0.id) × (r.0.whole ≡ weight) × (r.1.seen ≡ T.story value)
+                × (r.1.weight ≡ weight)) }
         ensures err { IfErr result (λ back. back ≡ value) }
     {
         let opening = Opening {
@@ -110,7 +120,8 @@ impl<T: Storied> TurnLock<T> {
         requires own { pass.lock ≡ self.now.id }
         requires weight { 2 ≤ pass.weight }
         ensures own { (result.0.lock ≡ pass.lock) × (result.1.lock ≡ pass.lock) }
-        ensures weight { (result.0.weight ≡ pass.weight - pass.weight / 2) × (result.1.weight ≡ pass.weight / 2) }
+        ensures weight { (result.0.weight ≡ pass.weight - pass.weight / 2)
+            × (result.1.weight ≡ pass.weight / 2) }
         ensures seen { (result.0.seen ≡ pass.seen) × (result.1.seen ≡ pass.seen) }
     {
         let Pass { mut seat } = pass;

@@ -21,7 +21,12 @@ fn noted_by_lanes<R: Threads + Wait + Sync>(
     count: u32,
 ) -> Option<Tally>
     requires { (1 ≤ lanes) × (lanes < 2 ^ 16) }
-    ensures { IfSome result (λ tally. (lane : ℕ) → lane < lanes → Sublist (map (λ n. record { lane = lane; number = n }) (range_with_len 0 count)) tally.notes.items) }
+    ensures { IfSome result
+        (λ tally.
+            (lane : ℕ)
+            → lane < lanes
+            → Sublist (map (λ n. record { lane = lane; number = n }) (range_with_len 0 count))
+              tally.notes.items) }
 {
     let empty = Tally {
         notes: Vec::new(alloc),

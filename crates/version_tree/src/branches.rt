@@ -50,7 +50,8 @@ fn is_before(before: Option<u64>, moment: u64) -> bool
 
 /// The last of these versions that was made before the moment. The clock may have gone back, so it walks back from the end.
 fn last_before(later: &[Later], before: Option<u64>) -> Option<u64>
-    ensures { result ≡ option_map (λ v. v.row) (find (λ v. is_before before v.moment) (reverse later.now)) }
+    ensures { result
+        ≡ option_map (λ v. v.row) (find (λ v. is_before before v.moment) (reverse later.now)) }
 {
     later
         .iter()
@@ -72,7 +73,9 @@ impl Branch {
     /// The last version in the first `rows` rows that was made before the moment.
     pub fn latest(&self, rows: u64, before: Option<u64>) -> Option<u64>
         requires { Falls (map row_of_later (reverse self.now.later.items)) }
-        ensures { result ≡ option_map row_of_version (find (λ v. is_before before v.moment) (kept_of_first_rows rows self.now)) }
+        ensures { result
+            ≡ option_map row_of_version
+              (find (λ v. is_before before v.moment) (kept_of_first_rows rows self.now)) }
     {
         let count = count_below(&self.later, rows);
         match last_before(&self.later[..count], before) {
@@ -83,7 +86,8 @@ impl Branch {
 
     // Version 0, where it is among the first `rows` rows and before the moment.
     fn first_before(&self, rows: u64, before: Option<u64>) -> Option<u64>
-        ensures { result ≡ row_if (nat_lt self.now.row rows) (is_before before self.now.moment) self.now.row }
+        ensures { result
+            ≡ row_if (nat_lt self.now.row rows) (is_before before self.now.moment) self.now.row }
     {
         if self.row < rows && is_before(before, self.moment) {
             Some(self.row)
@@ -94,7 +98,9 @@ impl Branch {
 
     /// The version with the number, where it is among the first `rows` rows.
     pub fn numbered(&self, number: u64, rows: u64) -> Option<u64>
-        ensures { result ≡ option_map row_of_version (find (λ v. v.number == number) (kept_of_first_rows rows self.now)) }
+        ensures { result
+            ≡ option_map row_of_version
+              (find (λ v. v.number == number) (kept_of_first_rows rows self.now)) }
     {
         within(self.row_numbered(number), rows)
     }
@@ -114,7 +120,8 @@ impl Branch {
     /// The number of the version that a row made on this branch.
     pub fn number_of(&self, row: u64) -> Option<u64>
         requires { Falls (map row_of_later (reverse self.now.later.items)) }
-        ensures { result ≡ option_map number_of_version (find (λ v. v.row == row) (versions_kept self.now)) }
+        ensures { result
+            ≡ option_map number_of_version (find (λ v. v.row == row) (versions_kept self.now)) }
     {
         match place_of(&self.later, row) {
             Some(behind) => Some(behind as u64 + 1),

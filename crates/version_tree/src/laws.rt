@@ -10,17 +10,26 @@ ghost use Rattle.version_tree.specs.Laws.{numbers_below};
 /// A change does nothing to what the first rows made, where its own row is not among them. So no add changes an answer
 /// at a smaller number of rows.
 pub fn older_rows_stay()
-    ensures { (rows : ℕ) (change : TreeChange) (older : List TreeChange) → rows ≤ row_of_change change → of_first_rows rows (change ∷ older) ≡ of_first_rows rows older }
+    ensures { (rows : ℕ) (change : TreeChange) (older : List TreeChange)
+        → rows ≤ row_of_change change
+        → of_first_rows rows (change ∷ older) ≡ of_first_rows rows older }
 {}
 
 /// The numbers of the versions on a branch count from 0 without a gap, whatever the order in which branches grow.
 pub fn numbers_have_no_gap()
-    ensures { (changes : List TreeChange) (branch : ℕ) → map number_of_version (versions_on changes branch) ≡ numbers_below (length (versions_on changes branch)) }
+    ensures { (changes : List TreeChange) (branch : ℕ)
+        → map number_of_version (versions_on changes branch)
+          ≡ numbers_below (length (versions_on changes branch)) }
 {}
 
 /// What a row made is told by no later change, nor where its version stands. So kinds, origins, names, branches and places
 /// stay as they are.
 pub fn what_was_made_stays()
-    ensures made { (change : TreeChange) (older : List TreeChange) (row : ℕ) → row < row_of_change change → change_at (change ∷ older) row ≡ change_at older row }
-    ensures placed { (change : TreeChange) (older : List TreeChange) (row : ℕ) (at : Place) → IsAbove (row_of_change change) (map row_of_change older) → place older row ≡ Some at → place (change ∷ older) row ≡ Some at }
+    ensures made { (change : TreeChange) (older : List TreeChange) (row : ℕ)
+        → row < row_of_change change
+        → change_at (change ∷ older) row ≡ change_at older row }
+    ensures placed { (change : TreeChange) (older : List TreeChange) (row : ℕ) (at : Place)
+        → IsAbove (row_of_change change) (map row_of_change older)
+        → place older row ≡ Some at
+        → place (change ∷ older) row ≡ Some at }
 {}

@@ -80,7 +80,8 @@ fn push_within<T: Drop>(items: &mut Vec<T>, item: T)
 /// Sets the value at a key of a map that has room for one key more.
 fn put_within<V: Drop>(map: &mut HashMap<u64, V>, key: u64, value: V)
     requires { 0 < spare map.old }
-    ensures gets { (q : ℕ) → get nat_eq map.new q ≡ (if key == q then Some value else get nat_eq map.old q) }
+    ensures gets { (q : ℕ)
+        → get nat_eq map.new q ≡ (if key == q then Some value else get nat_eq map.old q) }
     ensures room { spare map.old ≤ spare map.new + 1 }
 {
     match map.insert(key, value) {
@@ -105,7 +106,8 @@ impl Tree {
 
     /// The trees of a base with the root alone, a directory that row 0 made. Takes constant time.
     pub fn new(alloc: Global) -> Result<Tree, NoMemory>
-        ensures root { IfOk result (λ tree. tree.changes ≡ changes.ElementMade 0 0 Kind.Directory ∷ []) }
+        ensures root { IfOk result
+            (λ tree. tree.changes ≡ changes.ElementMade 0 0 Kind.Directory ∷ []) }
         ensures empty { IfOk result (λ tree. (v : ℕ) → contents_of tree v ≡ None) }
     {
         let mut made = Vec::new(alloc);
@@ -139,7 +141,9 @@ impl Tree {
         ensures stay { (b : ℕ) → IsTrue (is_ready self.old b) → IsTrue (is_ready self.new b) }
         ensures room { OnOk result (0 < self.new.room) }
         ensures content_room { OnOk result (0 < self.new.content_room) }
-        ensures ready { OnOk result (IfSome branch (λ b. IsSome (latest self.old.changes b None) → IsTrue (is_ready self.new b))) }
+        ensures ready { OnOk result
+            (IfSome branch
+                (λ b. IsSome (latest self.old.changes b None) → IsTrue (is_ready self.new b))) }
     {
         self.reserve_change()?;
         match branch {
@@ -166,7 +170,8 @@ impl Tree {
     fn reserve_version(&mut self, branch: u64) -> Result<(), NoMemory>
         ensures kept { KeepsAll self.old self.new }
         ensures stay { (b : ℕ) → IsTrue (is_ready self.old b) → IsTrue (is_ready self.new b) }
-        ensures ready { OnOk result (IsSome (latest self.old.changes branch None) → IsTrue (is_ready self.new branch)) }
+        ensures ready { OnOk result
+            (IsSome (latest self.old.changes branch None) → IsTrue (is_ready self.new branch)) }
     {
         if let Some(place) = place_of(&self.branches, branch) {
             let on = &mut self.branches[place];
@@ -245,9 +250,13 @@ impl Tree {
 
     // The branch that a row made, with its versions.
     fn branch_at(&self, branch: u64) -> Option<&Branch>
-        ensures versions { versions_by (option_copied result) ≡ versions_on self.now.changes branch }
-        ensures first_rows { (rows : ℕ) → filter (λ v. nat_lt v.row rows) (versions_by (option_copied result)) ≡ versions_on (of_first_rows rows self.now.changes) branch }
-        ensures falls { IfSome result (λ found. Falls (map row_of_later (reverse found.now.later.items))) }
+        ensures versions { versions_by (option_copied result)
+            ≡ versions_on self.now.changes branch }
+        ensures first_rows { (rows : ℕ)
+            → filter (λ v. nat_lt v.row rows) (versions_by (option_copied result))
+              ≡ versions_on (of_first_rows rows self.now.changes) branch }
+        ensures falls { IfSome result
+            (λ found. Falls (map row_of_later (reverse found.now.later.items))) }
     {
         item_of(&self.branches, branch)
     }

@@ -54,7 +54,8 @@ fn makes_branch(change: &TreeChange, element: u64, name: &Name) -> bool
 
 // The same, where the change is among the first `rows` rows.
 fn makes_branch_within(change: &TreeChange, rows: u64, element: u64, name: &Name) -> bool
-    ensures { result ≡ (nat_lt (row_of_change change.now) rows && makes_branch element name.now change.now) }
+    ensures { result
+        ≡ (nat_lt (row_of_change change.now) rows && makes_branch element name.now change.now) }
 {
     row_of(change) < rows && makes_branch(change, element, name)
 }
@@ -70,7 +71,8 @@ pub fn find_branch(
 ) -> Option<u64>
     requires linked { AreLinked (reverse made.now) }
     requires newest { newest ≡ newest_with (key_of element name.now) (reverse made.now) }
-    ensures { result ≡ branch_named (of_first_rows rows (changes_of (reverse made.now))) element name.now }
+    ensures { result
+        ≡ branch_named (of_first_rows rows (changes_of (reverse made.now))) element name.now }
 {
     let mut older = made;
     let mut next = newest;

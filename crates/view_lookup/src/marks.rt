@@ -20,7 +20,8 @@ pub(crate) struct Link {
 fn mark(links: &mut Vec<Link>, newest: &mut HashMap<u64, usize>, row: u64, key: u64)
     requires links { vec_len links.old < vec_capacity links.old }
     requires newest { 0 < spare newest.old }
-    ensures marks { Marks row key links.old.items (get nat_eq newest.old) links.new.items (get nat_eq newest.new) }
+    ensures marks { Marks row key links.old.items (get nat_eq newest.old) links.new.items
+        (get nat_eq newest.new) }
     ensures len { vec_len links.new ≡ vec_len links.old + 1 }
     ensures capacity { vec_capacity links.old ≤ vec_capacity links.new }
     ensures spare { spare newest.old ≤ spare newest.new + 1 }
@@ -43,7 +44,8 @@ pub(crate) fn mark_all(
 )
     requires links { vec_len links.old + length (keys_of deed.now) ≤ vec_capacity links.old }
     requires newest { length (keys_of deed.now) ≤ spare newest.old }
-    ensures { MarksAll row (keys_of deed.now) links.old.items (get nat_eq newest.old) links.new.items (get nat_eq newest.new) }
+    ensures { MarksAll row (keys_of deed.now) links.old.items (get nat_eq newest.old)
+        links.new.items (get nat_eq newest.new) }
 {
     let mut index = 0;
     while let Some(subject) = subject_at(deed, index) {

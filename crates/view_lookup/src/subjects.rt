@@ -24,14 +24,16 @@ pub(crate) enum Subject<'a> {
 }
 
 fn one<'a>(first: Subject<'a>, index: usize) -> Option<Subject<'a>>
-    ensures subject { option_map model.plain result ≡ slice_get (model.plain first.entry ∷ []) index }
+    ensures subject { option_map model.plain result
+        ≡ slice_get (model.plain first.entry ∷ []) index }
     ensures within { IfSome result (λ _. index < 2 ^ 32) }
 {
     if index == 0 { Some(first) } else { None }
 }
 
 fn two<'a>(first: Subject<'a>, second: Subject<'a>, index: usize) -> Option<Subject<'a>>
-    ensures subject { option_map model.plain result ≡ slice_get (model.plain first.entry ∷ model.plain second.entry ∷ []) index }
+    ensures subject { option_map model.plain result
+        ≡ slice_get (model.plain first.entry ∷ model.plain second.entry ∷ []) index }
     ensures within { IfSome result (λ _. index < 2 ^ 32) }
 {
     match index {
@@ -43,7 +45,8 @@ fn two<'a>(first: Subject<'a>, second: Subject<'a>, index: usize) -> Option<Subj
 
 /// The object that a view holds at one of its targets.
 fn object_at<'a>(view: &'a Name, targets: &'a [Path], index: usize) -> Option<Subject<'a>>
-    ensures subject { option_map model.plain result ≡ slice_get (map (model.Object view.now) targets.now) index }
+    ensures subject { option_map model.plain result
+        ≡ slice_get (map (model.Object view.now) targets.now) index }
     ensures within { IfSome result (λ _. index < 2 ^ 63) }
 {
     let target = targets.get(index)?;

@@ -48,7 +48,8 @@ impl<D: Disk> Model for Journal<D> {
       left = j.left;
     } };
 
-    ghost invariant = { λ j. IsKept (D.sight j.disk).told j.ended j.settled j.tail j.size j.window };
+    ghost invariant = { λ j.
+        IsKept (D.sight j.disk).told j.ended j.settled j.tail j.size j.window };
 }
 
 impl<D: Disk> Journal<D> {
@@ -66,12 +67,25 @@ impl<D: Disk> Journal<D> {
     /// comes back. Either way both files are as they were.
     pub fn open(disk: D) -> Result<Journal<D>, D>
         requires { IfTold (D.sight disk).told (λ d. file_of 0 d ≡ stable (bytes_of 0 d)) }
-        ensures list { IfOk result (λ journal. IfTold (D.sight disk).told (λ d. journal.list ≡ frames (bytes_of 0 d))) }
-        ensures begins { IfOk result (λ journal. (journal.rest ≡ journal.list) × (journal.loose ≡ []) × (journal.tail ≡ 0) × (journal.ended ≡ false) × (journal.left ≡ lefts.Nothing)) }
-        ensures told { MatchResult result (λ journal. Both (Measures 0) (D.sight disk).told (D.sight journal.disk).told) (λ back. Both Idles (D.sight disk).told (D.sight back).told) }
-        ensures moves { IfOk result (λ journal. Both (Moves journal.list [] journal.list journal.loose) (D.sight disk).told (D.sight journal.disk).told) }
-        ensures files { MatchResult result (λ journal. Both SameFiles (D.sight disk).told (D.sight journal.disk).told) (λ back. Both SameFiles (D.sight disk).told (D.sight back).told) }
-        ensures counts { MatchResult result (λ journal. OneMore (D.sight disk) (D.sight journal.disk)) (λ back. OneFault (D.sight disk) (D.sight back)) }
+        ensures list { IfOk result
+            (λ journal. IfTold (D.sight disk).told (λ d. journal.list ≡ frames (bytes_of 0 d))) }
+        ensures begins { IfOk result
+            (λ journal.
+                (journal.rest ≡ journal.list) × (journal.loose ≡ []) × (journal.tail ≡ 0)
+                × (journal.ended ≡ false) × (journal.left ≡ lefts.Nothing)) }
+        ensures told { MatchResult result
+            (λ journal. Both (Measures 0) (D.sight disk).told (D.sight journal.disk).told)
+            (λ back. Both Idles (D.sight disk).told (D.sight back).told) }
+        ensures moves { IfOk result
+            (λ journal.
+                Both (Moves journal.list [] journal.list journal.loose) (D.sight disk).told
+                (D.sight journal.disk).told) }
+        ensures files { MatchResult result
+            (λ journal. Both SameFiles (D.sight disk).told (D.sight journal.disk).told)
+            (λ back. Both SameFiles (D.sight disk).told (D.sight back).told) }
+        ensures counts { MatchResult result
+            (λ journal. OneMore (D.sight disk) (D.sight journal.disk))
+            (λ back. OneFault (D.sight disk) (D.sight back)) }
     {
         let mut disk = disk;
         match disk.length(0) {
@@ -91,14 +105,21 @@ impl<D: Disk> Journal<D> {
     /// The next payload, or None at the end of the list. Reads in pieces of at least 64 KiB, so that all payloads take
     /// time linear in the journal. Whatever it answers, both files are as they were.
     pub fn next(&mut self, alloc: Global) -> Result<Option<Text>, Or<DiskFault>>
-        ensures gives { IfOk result (λ found. IfTold (D.sight self.old.disk).told (λ _. Gives found self.old.rest self.new.rest)) }
+        ensures gives { IfOk result
+            (λ found.
+                IfTold (D.sight self.old.disk).told
+                (λ _. Gives found self.old.rest self.new.rest)) }
         ensures ends { Ends result self.old.ended self.new.ended }
-        ensures settled { IfOk result (λ found. IfTold (D.sight self.old.disk).told (SettledAtEnd found self.old.ended self.new.settled self.new.tail)) }
+        ensures settled { IfOk result
+            (λ found.
+                IfTold (D.sight self.old.disk).told
+                (SettledAtEnd found self.old.ended self.new.settled self.new.tail)) }
         ensures list { self.new.list ≡ self.old.list }
         ensures loose { self.new.loose ≡ self.old.loose }
         ensures err { OnErr result (self.new.rest ≡ self.old.rest) }
         ensures left { self.new.left ≡ self.old.left }
-        ensures moves { Both (Moves self.old.list self.old.loose self.new.list self.new.loose) (D.sight self.old.disk).told (D.sight self.new.disk).told }
+        ensures moves { Both (Moves self.old.list self.old.loose self.new.list self.new.loose)
+            (D.sight self.old.disk).told (D.sight self.new.disk).told }
         ensures files { Both SameFiles (D.sight self.old.disk).told (D.sight self.new.disk).told }
         ensures counts { CountsReads 2 result (D.sight self.old.disk) (D.sight self.new.disk) }
     {
@@ -127,16 +148,27 @@ impl<D: Disk> Journal<D> {
     /// linear in the frame.
     pub fn append(&mut self, frame: &Frame) -> Result<u64, DiskFault>
         requires { self.old.ended ≡ true }
-        ensures moves { Both (Moves self.old.list self.old.loose self.new.list self.new.loose) (D.sight self.old.disk).told (D.sight self.new.disk).told }
-        ensures calls { OnOk result (Both (λ d e. e ≡ committed self.old.settled self.old.tail frame.now d) (D.sight self.old.disk).told (D.sight self.new.disk).told) }
+        ensures moves { Both (Moves self.old.list self.old.loose self.new.list self.new.loose)
+            (D.sight self.old.disk).told (D.sight self.new.disk).told }
+        ensures calls { OnOk result
+            (Both (λ d e. e ≡ committed self.old.settled self.old.tail frame.now d)
+                (D.sight self.old.disk).told (D.sight self.new.disk).told) }
         ensures tick { IfOk result (λ tick. tick ≡ (D.sight self.new.disk).ticks) }
-        ensures ok { OnOk result (IfTold (D.sight self.old.disk).told (λ _. (self.new.list ≡ self.old.list ++ frame.now ∷ []) × (self.new.loose ≡ []))) }
-        ensures tail { self.new.tail ≡ (if is_ok result then self.old.tail + (5 + length frame.now) else self.old.tail) }
-        ensures err { OnErr result (IfTold (D.sight self.old.disk).told (λ _. (self.new.list ≡ self.old.list) × (self.new.loose ≡ loose_after self.new.left self.old.loose frame.now))) }
+        ensures ok { OnOk result
+            (IfTold (D.sight self.old.disk).told
+                (λ _. (self.new.list ≡ self.old.list ++ frame.now ∷ []) × (self.new.loose ≡ []))) }
+        ensures tail { self.new.tail
+            ≡ (if is_ok result then self.old.tail + (5 + length frame.now) else self.old.tail) }
+        ensures err { OnErr result
+            (IfTold (D.sight self.old.disk).told
+                (λ _.
+                    (self.new.list ≡ self.old.list)
+                    × (self.new.loose ≡ loose_after self.new.left self.old.loose frame.now))) }
         ensures left { OnOk result (self.new.left ≡ lefts.Nothing) }
         ensures settled { self.new.settled ≡ settled_after self.new.left }
         ensures ended { self.new.ended ≡ true }
-        ensures costs { Spends (calls_of self.old.settled) result (D.sight self.old.disk) (D.sight self.new.disk) }
+        ensures costs { Spends (calls_of self.old.settled) result (D.sight self.old.disk)
+            (D.sight self.new.disk) }
     {
         match commit(&mut self.disk, self.settled, self.tail, frame) {
             Ok(()) => {
@@ -157,16 +189,22 @@ impl<D: Disk> Journal<D> {
     /// was. Afterwards each stop leaves the list and no more.
     pub fn settle(&mut self) -> Result<(), DiskFault>
         requires { self.old.ended ≡ true }
-        ensures moves { Both (Moves self.old.list self.old.loose self.new.list self.new.loose) (D.sight self.old.disk).told (D.sight self.new.disk).told }
-        ensures calls { OnOk result (Both (λ d e. e ≡ settled_first self.old.settled self.old.tail d) (D.sight self.old.disk).told (D.sight self.new.disk).told) }
+        ensures moves { Both (Moves self.old.list self.old.loose self.new.list self.new.loose)
+            (D.sight self.old.disk).told (D.sight self.new.disk).told }
+        ensures calls { OnOk result
+            (Both (λ d e. e ≡ settled_first self.old.settled self.old.tail d)
+                (D.sight self.old.disk).told (D.sight self.new.disk).told) }
         ensures list { self.new.list ≡ self.old.list }
-        ensures loose { MatchResult result (λ _. self.new.loose ≡ []) (λ _. self.new.loose ≡ self.old.loose) }
+        ensures loose { MatchResult result (λ _. self.new.loose ≡ [])
+            (λ _. self.new.loose ≡ self.old.loose) }
         ensures tail { self.new.tail ≡ self.old.tail }
-        ensures left { MatchResult result (λ _. self.new.left ≡ lefts.Nothing) (λ _. self.new.left ≡ lefts.Earlier) }
+        ensures left { MatchResult result (λ _. self.new.left ≡ lefts.Nothing)
+            (λ _. self.new.left ≡ lefts.Earlier) }
         ensures settled { self.new.settled ≡ settled_after self.new.left }
         ensures ended { self.new.ended ≡ true }
         ensures rests { self.old.settled ≡ true → MakesNoCall result self.old.disk self.new.disk }
-        ensures costs { Spends (if self.old.settled then 0 else 2) result (D.sight self.old.disk) (D.sight self.new.disk) }
+        ensures costs { Spends (if self.old.settled then 0 else 2) result (D.sight self.old.disk)
+            (D.sight self.new.disk) }
     {
         match settle_tail(&mut self.disk, self.settled, self.tail) {
             Ok(()) => {
@@ -193,7 +231,11 @@ impl<D: Disk> Journal<D> {
     pub fn counts(&self) -> Counts
         ensures ticks { result.ticks ≡ (D.sight self.now.disk).ticks }
         ensures faults { result.faults ≡ (D.sight self.now.disk).faults }
-        ensures now { IfTold (D.sight self.now.disk).told (λ d. (image : List ℕ) → LeavesNow 0 d image → Stands self.now.list self.now.loose image) }
+        ensures now { IfTold (D.sight self.now.disk).told
+            (λ d.
+                (image : List ℕ)
+                → LeavesNow 0 d image
+                → Stands self.now.list self.now.loose image) }
     {
         self.disk.counts()
     }

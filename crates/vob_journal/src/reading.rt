@@ -35,7 +35,10 @@ pub(crate) enum Found {
 /// What stands at the head, by the first five bytes, or all where there are fewer, of so many that are left.
 fn head_of(bytes: &[u8], left: u64) -> Head
     ensures fits { FitsIn left result }
-    ensures tells { (rest : List ℕ) → length rest ≡ left → bytes.now ≡ take (min left 5) rest → Tells result rest }
+    ensures tells { (rest : List ℕ)
+        → length rest ≡ left
+        → bytes.now ≡ take (min left 5) rest
+        → Tells result rest }
 {
     if bytes.is_empty() {
         return Head::Cut;
@@ -66,7 +69,8 @@ pub(crate) fn read_frame<D: Disk>(
     requires small { size ≤ 2 ^ 62 }
     requires all { IfTold (D.sight disk.old).told (λ d. size ≡ length (bytes_of 0 d)) }
     requires shows { IfShows window (D.sight disk.old).told }
-    ensures found { IfOk result (λ found. IfTold (D.sight disk.old).told (λ d. Finds found (drop tail (bytes_of 0 d)))) }
+    ensures found { IfOk result
+        (λ found. IfTold (D.sight disk.old).told (λ d. Finds found (drop tail (bytes_of 0 d)))) }
     ensures within { IfOk result (IsWithin tail size) }
     ensures shows { IfOk result (ShowsOn (D.sight disk.new).told) }
     ensures rests { Both Rests (D.sight disk.old).told (D.sight disk.new).told }
@@ -100,7 +104,10 @@ fn read_payload<D: Disk>(
     requires small { size ≤ 2 ^ 62 }
     requires all { IfTold (D.sight disk.old).told (λ d. size ≡ length (bytes_of 0 d)) }
     requires shows { IfShows (Some window) (D.sight disk.old).told }
-    ensures found { IfOk result (λ found. IfTold (D.sight disk.old).told (λ d. IsPayload found (take count (drop 5 (drop tail (bytes_of 0 d)))))) }
+    ensures found { IfOk result
+        (λ found.
+            IfTold (D.sight disk.old).told
+            (λ d. IsPayload found (take count (drop 5 (drop tail (bytes_of 0 d)))))) }
     ensures within { IfOk result (IsWithin tail size) }
     ensures shows { IfOk result (ShowsOn (D.sight disk.new).told) }
     ensures rests { Both Rests (D.sight disk.old).told (D.sight disk.new).told }

@@ -20,7 +20,11 @@ const SHUT: [u8; 1] = [0];
 fn put_down<D: Disk>(disk: &mut D, place: u64, piece: &[u8]) -> Result<(), DiskFault>
     requires { IfTold (D.sight disk.old).told (λ d. place ≤ length (bytes_of 0 d)) }
     ensures most { IfOk result (λ _. place + length piece.now ≤ 2 ^ 62) }
-    ensures told { MatchResult result (λ _. Both (PutsDown place piece.now) (D.sight disk.old).told (D.sight disk.new).told) (λ _. Both (FailsToPut place (length piece.now)) (D.sight disk.old).told (D.sight disk.new).told) }
+    ensures told { MatchResult result
+        (λ _. Both (PutsDown place piece.now) (D.sight disk.old).told (D.sight disk.new).told)
+        (λ _.
+            Both (FailsToPut place (length piece.now)) (D.sight disk.old).told
+            (D.sight disk.new).told) }
     ensures counts { Spends 2 result (D.sight disk.old) (D.sight disk.new) }
 {
     if let Err(fault) = disk.write_at(0, place, piece) {
@@ -32,9 +36,12 @@ fn put_down<D: Disk>(disk: &mut D, place: u64, piece: &[u8]) -> Result<(), DiskF
 /// Settles the tail, if it is not settled: shuts its gate and syncs that.
 pub(crate) fn settle_tail<D: Disk>(disk: &mut D, settled: bool, tail: u64) -> Result<(), DiskFault>
     requires { IfTold (D.sight disk.old).told (IsTail settled tail) }
-    ensures told { MatchResult result (λ _. Both (Settles settled tail) (D.sight disk.old).told (D.sight disk.new).told) (λ _. Both (StaysLoose settled tail) (D.sight disk.old).told (D.sight disk.new).told) }
+    ensures told { MatchResult result
+        (λ _. Both (Settles settled tail) (D.sight disk.old).told (D.sight disk.new).told)
+        (λ _. Both (StaysLoose settled tail) (D.sight disk.old).told (D.sight disk.new).told) }
     ensures rests { settled ≡ true → MakesNoCall result disk.old disk.new }
-    ensures counts { Spends (if settled then 0 else 2) result (D.sight disk.old) (D.sight disk.new) }
+    ensures counts { Spends (if settled then 0 else 2) result (D.sight disk.old)
+        (D.sight disk.new) }
 {
     if settled {
         return Ok(());
@@ -47,7 +54,9 @@ fn stage<D: Disk>(disk: &mut D, tail: u64, frame: &Frame) -> Result<(), DiskFaul
     requires small { tail ≤ 2 ^ 62 }
     requires shut { IfTold (D.sight disk.old).told (IsTail true tail) }
     ensures most { IfOk result (λ _. tail + (5 + length frame.now) ≤ 2 ^ 62) }
-    ensures told { MatchResult result (λ _. Both (Stages tail frame.now) (D.sight disk.old).told (D.sight disk.new).told) (λ _. Both (Keeps true true tail) (D.sight disk.old).told (D.sight disk.new).told) }
+    ensures told { MatchResult result
+        (λ _. Both (Stages tail frame.now) (D.sight disk.old).told (D.sight disk.new).told)
+        (λ _. Both (Keeps true true tail) (D.sight disk.old).told (D.sight disk.new).told) }
     ensures counts { Spends 2 result (D.sight disk.old) (D.sight disk.new) }
 {
     put_down(disk, tail + 1, frame.as_bytes())
@@ -56,7 +65,9 @@ fn stage<D: Disk>(disk: &mut D, tail: u64, frame: &Frame) -> Result<(), DiskFaul
 /// Opens the gate in front of a frame that was staged.
 fn open_gate<D: Disk>(disk: &mut D, tail: u64, frame: &Frame) -> Result<(), DiskFault>
     requires { IfTold (D.sight disk.old).told (IsStagedAt tail frame.now) }
-    ensures told { MatchResult result (λ _. Both (Opens tail frame.now) (D.sight disk.old).told (D.sight disk.new).told) (λ _. Both (MayOpen tail frame.now) (D.sight disk.old).told (D.sight disk.new).told) }
+    ensures told { MatchResult result
+        (λ _. Both (Opens tail frame.now) (D.sight disk.old).told (D.sight disk.new).told)
+        (λ _. Both (MayOpen tail frame.now) (D.sight disk.old).told (D.sight disk.new).told) }
     ensures counts { Spends 2 result (D.sight disk.old) (D.sight disk.new) }
 {
     let _frame = frame.as_bytes();
@@ -73,7 +84,11 @@ pub(crate) fn commit<D: Disk>(
     requires small { tail ≤ 2 ^ 62 }
     requires ends { IfTold (D.sight disk.old).told (IsTail settled tail) }
     ensures most { IfOk result (λ _. tail + (5 + length frame.now) ≤ 2 ^ 62) }
-    ensures told { MatchResult result (λ _. Both (Commits settled tail frame.now) (D.sight disk.old).told (D.sight disk.new).told) (λ left. Both (Fails settled tail frame.now left) (D.sight disk.old).told (D.sight disk.new).told) }
+    ensures told { MatchResult result
+        (λ _. Both (Commits settled tail frame.now) (D.sight disk.old).told (D.sight disk.new).told)
+        (λ left.
+            Both (Fails settled tail frame.now left) (D.sight disk.old).told
+            (D.sight disk.new).told) }
     ensures counts { Spends (calls_of settled) result (D.sight disk.old) (D.sight disk.new) }
 {
     if let Err(_) = settle_tail(disk, settled, tail) {

@@ -23,7 +23,9 @@ pub(crate) struct Window {
 impl Window {
     fn covers(&self, place: u64, needed: u64) -> bool
         requires { place + needed ≤ 2 ^ 62 }
-        ensures { IsTrue result ↔ ((self.now.start ≤ place) × (place + needed ≤ self.now.start + length self.now.bytes.items)) }
+        ensures { IsTrue result ↔
+            ((self.now.start ≤ place)
+                × (place + needed ≤ self.now.start + length self.now.bytes.items)) }
     {
         self.start <= place && place - self.start + needed <= self.bytes.len() as u64
     }

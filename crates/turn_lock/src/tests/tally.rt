@@ -38,7 +38,9 @@ pub fn write_notes<R: Wait>(
 ) -> (Pass<Tally>, bool)
     requires { pass.lock ≡ lock.now.id }
     ensures own { (result.0.lock ≡ pass.lock) × (result.0.weight ≡ pass.weight) }
-    ensures noted { OnTrue result.1 (Sublist (map (λ n. record { lane = lane; number = n }) (range_with_len 0 count)) result.0.seen) }
+    ensures noted { OnTrue result.1
+        (Sublist (map (λ n. record { lane = lane; number = n }) (range_with_len 0 count))
+            result.0.seen) }
 {
     let mut pass = pass;
     for number in 0..count {
@@ -64,7 +66,12 @@ pub fn run_lanes<R: Threads + Wait + Sync>(
     requires own { pass.lock ≡ lock.now.id }
     requires lanes { (1 ≤ lanes) × (lanes ≤ pass.weight) × (first + lanes < 2 ^ 32) }
     ensures own { (result.0.lock ≡ pass.lock) × (result.0.weight ≡ pass.weight) }
-    ensures noted { OnTrue result.1 ((lane : ℕ) → first ≤ lane → lane < first + lanes → Sublist (map (λ n. record { lane = lane; number = n }) (range_with_len 0 count)) result.0.seen) }
+    ensures noted { OnTrue result.1
+        ((lane : ℕ)
+            → first ≤ lane
+            → lane < first + lanes
+            → Sublist (map (λ n. record { lane = lane; number = n }) (range_with_len 0 count))
+              result.0.seen) }
 {
     if lanes == 1 {
         return write_notes(rt, lock, pass, first, count);
@@ -76,14 +83,28 @@ pub fn run_lanes<R: Threads + Wait + Sync>(
     let ((one, noted), (two, others_noted)) = join(
         rt,
         || -> (Pass<Tally>, bool)
-            requires { IsSync R.row × (one.lock ≡ lock.now.id) × (1 ≤ here) × (here ≤ one.weight) × (first + here < 2 ^ 32) }
+            requires { IsSync R.row × (one.lock ≡ lock.now.id) × (1 ≤ here) × (here ≤ one.weight)
+                × (first + here < 2 ^ 32) }
             ensures own { (result.0.lock ≡ one.lock) × (result.0.weight ≡ one.weight) }
-            ensures noted { OnTrue result.1 ((lane : ℕ) → first ≤ lane → lane < first + here → Sublist (map (λ n. record { lane = lane; number = n }) (range_with_len 0 count)) result.0.seen) }
+            ensures noted { OnTrue result.1
+                ((lane : ℕ)
+                    → first ≤ lane
+                    → lane < first + here
+                    → Sublist
+                      (map (λ n. record { lane = lane; number = n }) (range_with_len 0 count))
+                      result.0.seen) }
         { run_lanes(rt, lock, one, first, here, count) },
         || -> (Pass<Tally>, bool)
-            requires { IsSync R.row × (two.lock ≡ lock.now.id) × (1 ≤ others) × (others ≤ two.weight) × (next + others < 2 ^ 32) }
+            requires { IsSync R.row × (two.lock ≡ lock.now.id) × (1 ≤ others)
+                × (others ≤ two.weight) × (next + others < 2 ^ 32) }
             ensures own { (result.0.lock ≡ two.lock) × (result.0.weight ≡ two.weight) }
-            ensures noted { OnTrue result.1 ((lane : ℕ) → next ≤ lane → lane < next + others → Sublist (map (λ n. record { lane = lane; number = n }) (range_with_len 0 count)) result.0.seen) }
+            ensures noted { OnTrue result.1
+                ((lane : ℕ)
+                    → next ≤ lane
+                    → lane < next + others
+                    → Sublist
+                      (map (λ n. record { lane = lane; number = n }) (range_with_len 0 count))
+                      result.0.seen) }
         { run_lanes(rt, lock, two, next, others, count) },
     );
     (lock.join(one, two), noted && others_noted)
