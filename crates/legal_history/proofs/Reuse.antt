@@ -10,6 +10,7 @@ pub mod GivenCommits
 pub mod GivenRows
 pub mod GivenSteps
 pub mod KeptObjects
+pub mod LeftByStops
 pub mod Matched
 pub mod MatchedEntries
 pub mod Members

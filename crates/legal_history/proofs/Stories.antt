@@ -8,6 +8,7 @@ pub mod Grows
 pub mod Leaving
 pub mod Rising
 pub mod Room
+pub mod Scrubs
 pub mod SoundStories
 pub mod Started
 pub mod Tables

@@ -14,5 +14,7 @@ pub mod Objects
 pub mod RecordLaws
 pub mod ReuseLaws
 pub mod Selected
+pub mod StopLaws
+pub mod Stops
 pub mod StoryLaws
 pub mod Unfinished

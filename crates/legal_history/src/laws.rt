@@ -5,4 +5,5 @@ pub mod builds;
 pub mod decisions;
 pub mod records;
 pub mod reuse;
+pub mod stops;
 pub mod stories;

@@ -1,8 +1,11 @@
--- A scrub lists exactly the objects that are due.
-use Rattle.std.proofs.Common.{◌≡◌, refl, ap, sym, ◌∙◌, ℕ, suc, ◌<◌, Bool, true, false, ◌||◌, ◌==◌, Option, Some, None, Ok, List, [], ◌∷◌, arith}
+-- A scrub lists exactly the objects that are due, in ascending order.
+use Rattle.std.proofs.Common.{◌≡◌, refl, ap, sym, subst, ◌∙◌, ℕ, zero, suc, ◌+◌, ◌-◌, ◌<◌, Bool, true, false, ◌||◌, ◌==◌, Option, Some, None, Ok, List, [], ◌∷◌, length, get_or, arith}
 use Rattle.std.proofs.lemmas.Bool.Decides.{nat_tests}
+use Rattle.std.proofs.lemmas.List.{get_or-reverse, length-reverse}
 use Rattle.std.proofs.lemmas.List.Sorted.{IsPermutation-reverse, list_any-IsPermutation}
+use Rattle.std.specs.Bool.{⊤}
 use Rattle.std.specs.List.{list_any}
+use Rattle.std.specs.List.Sorted.{IsStrictlyIncreasing}
 use Rattle.std.specs.Prelude.{reverse}
 use Rattle.cc_names.specs.Formed.{Plain}
 use Rattle.cc_names.specs.Versions.{put_if}
@@ -51,3 +54,40 @@ scrub_lists s age objects id h =
     ap (list_any (λ object. object == id)) (scrubbed_of s (due s.base s.moment age) objects h)
     ∙ sym (list_any-IsPermutation (λ object. object == id) (due_among s.base s.moment age s.base) (reverse (due_among s.base s.moment age s.base)) (IsPermutation-reverse (due_among s.base s.moment age s.base)))
     ∙ listed_among s.base s.moment age id s.base
+
+-- numbers that fall, each below the one before it and the first below this one
+abbrev FallsBelow : ℕ → List ℕ → Type 0
+FallsBelow n [] = ⊤
+FallsBelow n (x ∷ xs) = (x < n) × FallsBelow x xs
+
+falls_wider : (n : ℕ) (xs : List ℕ) → FallsBelow n xs → FallsBelow (suc n) xs
+falls_wider n [] h = tt
+falls_wider n (x ∷ xs) h = let low : x < n = h.0 in (omega arith, h.1)
+
+falls_with : (due : Bool) (n : ℕ) (xs : List ℕ) → FallsBelow n xs → FallsBelow (suc n) (put_if due n xs)
+falls_with true n xs h = (omega arith, h)
+falls_with false n xs h = falls_wider n xs h
+
+due_falls : (b : Base) (moment age : ℕ) (rows : Base) → FallsBelow (size rows) (due_among b moment age rows)
+due_falls b moment age [] = tt
+due_falls b moment age (row ∷ older) = falls_with (is_due b moment age (size older) row.moment) (size older) (due_among b moment age older) (due_falls b moment age older)
+
+falls_at : (n : ℕ) (xs : List ℕ) (k : ℕ) → FallsBelow n xs → suc k < length xs → get_or xs (suc k) 0 < get_or xs k 0
+falls_at n [] k h low = absurd (omega arith)
+falls_at n (x ∷ []) k h low = absurd (omega arith)
+falls_at n (x ∷ y ∷ xs) zero h low = h.1.0
+falls_at n (x ∷ y ∷ xs) (suc k) h low = falls_at x (y ∷ xs) k h.1 (omega arith)
+
+-- what falls, read from its end, rises
+rises_back : (n : ℕ) (xs : List ℕ) → FallsBelow n xs → IsStrictlyIncreasing (reverse xs)
+rises_back n xs h k low =
+    let within : k + 1 < length xs = subst (λ m. k + 1 < m) (length-reverse xs) low in
+    let later : length xs - 1 - k ≡ suc (length xs - 1 - (k + 1)) = omega (arith, within) in
+    subst (λ m. m < get_or (reverse xs) (k + 1) 0) (sym (get_or-reverse xs k 0 (omega (arith, within)) ∙ ap (λ m. get_or xs m 0) later))
+    (subst (λ m. get_or xs (suc (length xs - 1 - (k + 1))) 0 < m) (sym (get_or-reverse xs (k + 1) 0 within))
+    (falls_at n xs (length xs - 1 - (k + 1)) h (omega (arith, within))))
+
+pub scrub_ascends : (s : Scene) (age : ℕ) (objects : List ℕ) → scrub_of s (due s.base s.moment age) ≡ Ok (Makes (deeds.Scrub objects)) → IsStrictlyIncreasing objects
+scrub_ascends s age objects h =
+    subst IsStrictlyIncreasing (sym (scrubbed_of s (due s.base s.moment age) objects h))
+    (rises_back (size s.base) (due_among s.base s.moment age s.base) (due_falls s.base s.moment age s.base))

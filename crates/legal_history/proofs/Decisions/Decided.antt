@@ -24,7 +24,7 @@ use Rattle.legal_history.specs.Queries.RecordTexts.{catcr_text, diffcr_text, cov
 use Rattle.legal_history.specs.Base.Seen.{at}
 use Rattle.legal_history.specs.Commands.Tests.{needs_view, needs_object, needs_free_type}
 use Rattle.legal_history.specs.Base.Views.{spec_text}
-use Rattle.legal_history.proofs.Decisions.DecidedSays.{Says, by_row, by_answer, was_idle, saved_spares, checkout_spares, by_labels, by_scrub, by_build}
+use Rattle.legal_history.proofs.Decisions.DecidedSays.{Says, by_row, by_answer, was_idle, saved_suits, checkout_suits, by_labels, by_scrub, by_build}
 
 -- What was decided of a command says this.
 pub decided_says : (s : Scene) (command : Command) (d : Decision) → decision s command ≡ Ok d → Says s command d
@@ -35,10 +35,10 @@ decided_says s (commands.Mkelem v nco path) d = by_row s _ (mkelem_tests s v pat
 decided_says s (commands.Mkdir v nco path) d = by_row s _ (mkelem_tests s v path) (deeds.Mkelem v (directory_of s.base v path) (last_name path) Directory (not nco)) d (λ p. tt)
 decided_says s (commands.Checkout v unreserved path) d =
     by_row s _ (checkout_tests s v unreserved path) (checkout_deed v unreserved (at s.base v path) (branch_by (deciding_rule s.base v (at s.base v path)))) d
-    (λ p. checkout_spares s.active v unreserved (at s.base v path) (branch_by (deciding_rule s.base v (at s.base v path))))
+    (λ p. checkout_suits s.active (commands.Checkout v unreserved path) v unreserved (at s.base v path) (branch_by (deciding_rule s.base v (at s.base v path))))
 decided_says s (commands.Mkbranch v nco branch path) d =
     by_row s _ (mkbranch_tests s v branch path (at s.base v path)) (deeds.Branch v (element_of (at s.base v path)) (picked_of (at s.base v path)).row branch (out_unless nco)) d (λ p. tt)
-decided_says s (commands.Save v path text) d = by_row s _ (save_tests s v path) (save_deed v path text (at s.base v path)) d (λ p. saved_spares s.active v path text (at s.base v path))
+decided_says s (commands.Save v path text) d = by_row s _ (save_tests s v path) (save_deed v path text (at s.base v path)) d (λ p. saved_suits s.active (commands.Save v path text) v path text (at s.base v path))
 decided_says s (commands.Rm v path) d = by_row s _ (rm_tests s v path) (deeds.Rm v path) d (λ p. tt)
 decided_says s (commands.Checkin v identical path) d = by_row s _ (checkin_tests s v identical path (at s.base v path)) (deeds.Checkin v (element_of (at s.base v path))) d (λ p. tt)
 decided_says s (commands.Uncheckout v path) d = by_row s _ (uncheckout_tests s v path (at s.base v path)) (deeds.Uncheckout v (element_of (at s.base v path))) d (λ p. tt)
@@ -50,7 +50,7 @@ decided_says s (commands.Mklabel v replace label path) d =
     by_row s _ (mklabel_tests s v replace label path (at s.base v path)) (deeds.Label label (element_of (at s.base v path)) (picked_of (at s.base v path)).row) d (λ p. tt)
 decided_says s (commands.Rmlabel v label path) d = by_row s _ (rmlabel_tests s v label path (at s.base v path)) (deeds.Unlabel label (element_of (at s.base v path))) d (λ p. tt)
 decided_says s (commands.Rmdo v path) d = by_row s _ (rmdo_tests s v path) (deeds.Drop v path) d (λ p. tt)
-decided_says s (commands.Scrub age) d = by_scrub s _ (due s.base s.moment age) d
+decided_says s (commands.Scrub age) d = by_scrub s age (due s.base s.moment age) d
 decided_says s (commands.Clearmake v file own_only rebuild jobs macros goals) d = by_build s v file own_only rebuild jobs macros goals d
 decided_says s (commands.MklabelConfig v replace path label) d =
     by_labels s _ (mklabel_config_tests s v replace path label (object_held s.base v path)) label (placed_by s.base (object_held s.base v path)) d

@@ -1,5 +1,5 @@
--- What it says of a command that something was decided on it: of a row that there is room for one more and that no view
--- goes in which a build is active; of a build what its units are.
+-- What it says of a command that something was decided on it: of a row that there is room for one more, that no view goes in
+-- which a build is active, and that it scrubs only where the command does; of a build what its units are.
 use Rattle.std.proofs.Common.{◌≡◌, refl, subst, ℕ, ◌+◌, ◌≤◌, Bool, true, false, Option, Some, None, Result, Ok, Err, List, [], ◌∷◌, ◌++◌, length}
 use Rattle.std.proofs.lemmas.Bool.{ltb-false}
 use Rattle.std.specs.Bool.{⊤}
@@ -34,10 +34,37 @@ abbrev pub Spares : Active → Deed → Type 0
 Spares active (deeds.Rmview v) = building active v ≡ None
 Spares active deed = ⊤
 
+-- a command that scrubs
+pub record IsScrub (command : Command) : Type 0 where
+  pub age : ℕ
+  pub is : command ≡ commands.Scrub age
+
+-- a row scrubs only where the command does
+abbrev pub ScrubsBy : Command → Deed → Type 0
+ScrubsBy command (deeds.Scrub objects) = IsScrub command
+ScrubsBy command deed = ⊤
+
+-- both
+abbrev Suits : Active → Command → Deed → Type 0
+Suits active command (deeds.Rmview v) = building active v ≡ None
+Suits active command (deeds.Scrub objects) = IsScrub command
+Suits active command deed = ⊤
+
+spares_of : (active : Active) (command : Command) (deed : Deed) → Suits active command deed → Spares active deed
+spares_of active command (deeds.Rmview v) h = h
+spares_of active command (deeds.Scrub objects) h = tt
+spares_of active command deed h = h
+
+scrubs_of : (active : Active) (command : Command) (deed : Deed) → Suits active command deed → ScrubsBy command deed
+scrubs_of active command (deeds.Rmview v) h = tt
+scrubs_of active command (deeds.Scrub objects) h = h
+scrubs_of active command deed h = h
+
 -- a row that was decided
-pub record IsMade (s : Scene) (deed : Deed) : Type 0 where
+pub record IsMade (s : Scene) (command : Command) (deed : Deed) : Type 0 where
   pub room : size s.base + reserved s.active + 1 ≤ row_limit
   pub spares : Spares s.active deed
+  pub scrubs : ScrubsBy command deed
 
 -- a build that was decided: by a command that builds, in a view that exists, of the units of its makefile
 pub record BeginsBy (s : Scene) (command : Command) (us : List Unit) : Type 0 where
@@ -54,7 +81,7 @@ pub record BeginsBy (s : Scene) (command : Command) (us : List Unit) : Type 0 wh
   pub room : size s.base + reserved s.active + length us ≤ row_limit
 
 abbrev pub Says : Scene → Command → Decision → Type 0
-Says s command (Makes deed) = IsMade s deed
+Says s command (Makes deed) = IsMade s command deed
 Says s command (Answers text) = ⊤
 Says s command (Begins us) = BeginsBy s command us
 
@@ -70,13 +97,15 @@ not_refused false refusal h = refl
 has_room : (s : Scene) (rows : ℕ) → needs_room s rows ≡ None → size s.base + reserved s.active + rows ≤ row_limit
 has_room s rows h = ltb-false _ _ (not_refused _ _ h)
 
-pub by_row : (s : Scene) (command : Command) (tests : List (Option Refusal)) (deed : Deed) (d : Decision) → (AllPass tests → Spares s.active deed) → makes s tests deed ≡ Ok d → Says s command d
-by_row s command tests deed d spares h =
+pub by_row : (s : Scene) (command : Command) (tests : List (Option Refusal)) (deed : Deed) (d : Decision) → (AllPass tests → Suits s.active command deed) → makes s tests deed ≡ Ok d → Says s command d
+by_row s command tests deed d suits h =
     let p = passed (first_refusal (tests ++ needs_room s 1 ∷ [])) (Makes deed) d h in
     let all = all_pass (tests ++ needs_room s 1 ∷ []) p.0 in
+    let suit = suits (front_passes tests (needs_room s 1 ∷ []) all) in
     subst (Says s command) p.1 (record {
       room = has_room s 1 (rest_passes tests (needs_room s 1 ∷ []) all).0;
-      spares = spares (front_passes tests (needs_room s 1 ∷ []) all);
+      spares = spares_of s.active command deed suit;
+      scrubs = scrubs_of s.active command deed suit;
     })
 
 pub by_answer : (s : Scene) (command : Command) (tests : List (Option Refusal)) (text : List ℕ) (d : Decision) → answers tests text ≡ Ok d → Says s command d
@@ -86,23 +115,23 @@ pub was_idle : (o : Option Tag) → option_map Building o ≡ None → o ≡ Non
 was_idle None h = refl
 was_idle (Some tag) h = absurd (cc)
 
-pub saved_spares : (active : Active) (v path text : List ℕ) (seen : Seen) → Spares active (save_deed v path text seen)
-saved_spares active v path text (Element e picked) = tt
-saved_spares active v path text (Unselected e) = tt
-saved_spares active v path text (Private row) = tt
-saved_spares active v path text Nothing = tt
+pub saved_suits : (active : Active) (command : Command) (v path text : List ℕ) (seen : Seen) → Suits active command (save_deed v path text seen)
+saved_suits active command v path text (Element e picked) = tt
+saved_suits active command v path text (Unselected e) = tt
+saved_suits active command v path text (Private row) = tt
+saved_suits active command v path text Nothing = tt
 
-pub checkout_spares : (active : Active) (v : List ℕ) (unreserved : Bool) (seen : Seen) (o : Option (List ℕ)) → Spares active (checkout_deed v unreserved seen o)
-checkout_spares active v unreserved seen None = tt
-checkout_spares active v unreserved seen (Some name) = tt
+pub checkout_suits : (active : Active) (command : Command) (v : List ℕ) (unreserved : Bool) (seen : Seen) (o : Option (List ℕ)) → Suits active command (checkout_deed v unreserved seen o)
+checkout_suits active command v unreserved seen None = tt
+checkout_suits active command v unreserved seen (Some name) = tt
 
 pub by_labels : (s : Scene) (command : Command) (tests : List (Option Refusal)) (label : List ℕ) (placed : List Placed) (d : Decision) → labels_or_nothing s tests label placed ≡ Ok d → Says s command d
 by_labels s command tests label [] d h = by_answer s command tests [] d h
 by_labels s command tests label (one ∷ more) d h = by_row s command tests (deeds.Labels label (one ∷ more)) d (λ p. tt) h
 
-pub by_scrub : (s : Scene) (command : Command) (objects : List ℕ) (d : Decision) → scrub_of s objects ≡ Ok d → Says s command d
-by_scrub s command [] d h = by_answer s command [] [] d h
-by_scrub s command (id ∷ ids) d h = by_row s command [] (deeds.Scrub (id ∷ ids)) d (λ p. tt) h
+pub by_scrub : (s : Scene) (age : ℕ) (objects : List ℕ) (d : Decision) → scrub_of s objects ≡ Ok d → Says s (commands.Scrub age) d
+by_scrub s age [] d h = by_answer s (commands.Scrub age) [] [] d h
+by_scrub s age (id ∷ ids) d h = by_row s (commands.Scrub age) [] (deeds.Scrub (id ∷ ids)) d (λ p. record { age = age; is = refl }) h
 
 pub by_build : (s : Scene) (v : List ℕ) (file : Option (List ℕ)) (own_only rebuild : Bool) (jobs : ℕ) (macros : List Macro) (goals : List (List ℕ)) (d : Decision) →
     build_unless s (first_refusal (clearmake_tests s v)) (units (texts s.base v) file macros goals) ≡ Ok d → Says s (commands.Clearmake v file own_only rebuild jobs macros goals) d

@@ -50,7 +50,7 @@ nothing_is_next tag = none_left (is_next start tag) (command_behind (done_of sta
 nothing_is_decided : (tag : Tag) → decided start tag ≡ None
 nothing_is_decided tag = rw (nothing_is_next tag) refl
 
-nothing_is_committed : (row : Plain) (deed : Deed) → MakesRow start row deed → ⊥
+pub nothing_is_committed : (row : Plain) (deed : Deed) → MakesRow start row deed → ⊥
 nothing_is_committed row (deeds.Publish view targets script entries outputs) h = let e = h.running.waits.active in cc
 nothing_is_committed row (deeds.Wink view id) h = elim h.may [ inl o ↦ let e = o.waits.active in cc | inr r ↦ let e = r.waits.active in cc ]
 nothing_is_committed row deed h = let e = nothing_is_decided row.tag in cc

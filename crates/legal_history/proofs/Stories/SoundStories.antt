@@ -96,11 +96,11 @@ base_within [] h = omega arith
 base_within (row ∷ older) h = let low : size older < row_limit = ltb-true _ _ (and_first _ _ (and_first _ _ h)) in omega arith
 
 -- the first step of a legal story is that one
-abbrev IsOpening : Told → Type 0
+abbrev pub IsOpening : Told → Type 0
 IsOpening (told.Opened rows counts tells) = ⊤
 IsOpening x = ⊥
 
-opens_first : (x : Told) → Lawful start x → IsOpening x
+pub opens_first : (x : Told) → Lawful start x → IsOpening x
 opens_first (told.Opened rows counts tells) e = tt
 opens_first (told.Plan phase moment) e = let opened = first_opens (told.Plan phase moment) e in cc
 opens_first (told.Commit row tick) e = let opened = first_opens (told.Commit row tick) e in cc

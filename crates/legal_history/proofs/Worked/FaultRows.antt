@@ -9,7 +9,9 @@ use Rattle.cc_names.specs.declared.rows.Deed.TheVariants as deeds
 use Rattle.cc_names.specs.declared.steps.Step.TheVariants as steps
 use Rattle.cc_names.specs.declared.steps.Told.{Told}
 use Rattle.cc_names.specs.declared.steps.Told.TheVariants as told
+use Rattle.legal_history.specs.Base.Values.{first_unsound}
 use Rattle.legal_history.specs.Builds.Active.{Given}
+use Rattle.legal_history.specs.Laws.Stops.{IsLeftByStop, WithRowLeft}
 use Rattle.legal_history.specs.Stories.States.{all_done, build_by}
 use Rattle.legal_history.specs.Stories.Steps.{state_of}
 use Rattle.legal_history.specs.Stories.Lawful.{Legal}
@@ -44,6 +46,18 @@ fault = told.Other (steps.Fault (tag 1 1 4) (Some (published 4)) 0 1 19)
 
 the_first_build_meets_it : option_map (λ build. build.faulted) (build_by (state_of (before_fault ++ (fault ∷ []))) (tag 1 1 4)) ≡ Some true
 the_first_build_meets_it = refl
+
+-- a stop then may leave the object behind the rows, and it is true; one with another text would not be
+the_object_may_be_left : IsLeftByStop (state_of (before_fault ++ (fault ∷ []))) (published 4 ∷ (state_of before_build).base)
+the_object_may_be_left = WithRowLeft (published 4) refl refl
+
+it_is_sound : first_unsound (published 4 ∷ (state_of before_build).base) ≡ None
+it_is_sound = refl
+
+another_text_is_not :
+    first_unsound (row 4 (deeds.Publish v (codes "out" ∷ []) script (record { path = codes "in"; row = 3 } ∷ []) (makefile ∷ [])) ∷ (state_of before_build).base)
+    ≡ Some 4
+another_text_is_not = refl
 
 -- the second build makes the row anew, two calls of the disk settle what the fault left, and four commit the row
 abbrev fails_once : List Told

@@ -1,5 +1,5 @@
 -- Both views drop their object, a scrub takes it once nobody holds it, and a build makes another one.
-use Rattle.std.proofs.Common.{◌≡◌, refl, true, Some, None, Ok, [], ◌∷◌, ◌++◌}
+use Rattle.std.proofs.Common.{◌≡◌, refl, true, false, Some, None, Ok, [], ◌∷◌, ◌++◌}
 use Rattle.std.specs.Prelude.{codes}
 use Rattle.cc_names.specs.declared.commands.Command.TheVariants as commands
 use Rattle.cc_names.specs.declared.rows.Deed.TheVariants as deeds
@@ -10,6 +10,7 @@ use Rattle.legal_history.specs.Base.Fits.{is_base}
 use Rattle.legal_history.specs.Builds.Fresh.{fresh}
 use Rattle.legal_history.specs.Builds.Reuse.{reusable}
 use Rattle.legal_history.specs.Base.Texts.{text}
+use Rattle.legal_history.specs.Laws.Dues.{is_due_object}
 use Rattle.legal_history.specs.Worked.{base_of, decisions}
 use Rattle.legal_history.proofs.Worked.ReuseRows.{build_in, publish_in}
 use Rattle.legal_history.proofs.Worked.TwoViews.{v, w, hi, unit, built, clearmake, all_deeds, two_views}
@@ -24,6 +25,19 @@ scrubs_are_decided = refl
 -- the rows that were made of this, and the object of the build
 abbrev scrubbed : Base
 scrubbed = base_of (all_deeds ++ (deeds.Drop w (codes "out") ∷ deeds.Drop v (codes "out") ∷ deeds.Scrub (10 ∷ []) ∷ publish_in w ∷ []))
+
+-- it is due once no view holds it, and it has the age; the row that drops it is no object
+it_is_held_by_one : is_due_object (first_rows 14 scrubbed) 1700000000 0 10 ≡ false
+it_is_held_by_one = refl
+
+it_is_due : is_due_object (first_rows 15 scrubbed) 1700000000 0 10 ≡ true
+it_is_due = refl
+
+it_is_too_young : is_due_object (first_rows 15 scrubbed) 1700000000 1 10 ≡ false
+it_is_too_young = refl
+
+a_drop_is_not_due : is_due_object (first_rows 15 scrubbed) 1700000000 0 14 ≡ false
+a_drop_is_not_due = refl
 
 scrubbed_is_a_base : is_base scrubbed ≡ true
 scrubbed_is_a_base = refl

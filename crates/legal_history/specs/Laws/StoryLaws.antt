@@ -1,12 +1,18 @@
 -- What holds of every legal story. Each is promised by a function of `laws::stories`.
-use Rattle.std.specs.Prelude.{◌≡◌, ℕ, ◌+◌, ◌≤◌, List, [], ◌∷◌, ◌++◌, Some, true}
+use Rattle.std.specs.Prelude.{◌≡◌, ℕ, ◌+◌, ◌≤◌, List, [], ◌∷◌, ◌++◌, Some, is_some, true}
+use Rattle.cc_names.specs.Formed.{Plain}
+use Rattle.cc_names.specs.References.{held_at}
+use Rattle.cc_names.specs.declared.rows.Deed.TheVariants as deeds
 use Rattle.cc_names.specs.declared.steps.Told.{Told}
+use Rattle.cc_names.specs.declared.steps.Told.TheVariants as told
 use Rattle.legal_history.specs.Base.Rows.{size}
 use Rattle.legal_history.specs.Builds.Active.{Build, build_of}
+use Rattle.legal_history.specs.Base.Changes.{held, live}
 use Rattle.legal_history.specs.Base.Fits.{is_base, row_limit}
 use Rattle.legal_history.specs.Stories.Growth.{Extends}
 use Rattle.legal_history.specs.Stories.Steps.{state_of}
 use Rattle.legal_history.specs.Stories.Lawful.{Lawful, Legal}
+use Rattle.legal_history.specs.Laws.Dues.{AreDue}
 use Rattle.legal_history.specs.Laws.Ends.{AreRising}
 use Rattle.legal_history.specs.Laws.Unfinished.{all_unfinished}
 
@@ -50,3 +56,15 @@ abbrev pub ViewHasOneBuild : Type 0
 ViewHasOneBuild = (story : List Told) (lane other : ℕ) (one two : Build) → Legal story
     → build_of (state_of story).active lane ≡ Some one
     → build_of (state_of story).active other ≡ Some two → one.view ≡ two.view → lane ≡ other
+
+-- Each scrub that is committed in a legal story lists exactly the objects that are due there.
+abbrev pub ScrubOfAStoryListsWhatIsDue : Type 0
+ScrubOfAStoryListsWhatIsDue = (front rest : List Told) (row : Plain) (tick : ℕ) (objects : List ℕ)
+    → Legal (front ++ told.Commit row tick ∷ rest) → row.deed ≡ deeds.Scrub objects
+    → AreDue (state_of front) row.tag objects
+
+-- At each step of a legal story every object that a view holds at a path is live.
+abbrev pub HeldObjectIsLiveAtEachStep : Type 0
+HeldObjectIsLiveAtEachStep = (front rest : List Told) (v path : List ℕ) (id : ℕ)
+    → Legal (front ++ rest) → held_at (held (state_of front).base) v path ≡ Some id
+    → is_some (live (state_of front).base id) ≡ true

@@ -1,6 +1,6 @@
 // The laws of legal stories. Each is the contract of a function with an empty body.
 
-ghost use Rattle.legal_history.specs.Laws.StoryLaws.{StoryGoesOnByALawfulStepOn, StoryGoesOnByALawfulStepLast, BaseFits, BaseOnlyGrowsFront, BaseOnlyGrowsBase, RowsStayWithinTheLimit, TicksRise, ViewHasOneBuild};
+ghost use Rattle.legal_history.specs.Laws.StoryLaws.{StoryGoesOnByALawfulStepOn, StoryGoesOnByALawfulStepLast, BaseFits, BaseOnlyGrowsFront, BaseOnlyGrowsBase, RowsStayWithinTheLimit, TicksRise, ViewHasOneBuild, ScrubOfAStoryListsWhatIsDue, HeldObjectIsLiveAtEachStep};
 
 /// Promises `StoryGoesOnByALawfulStepOn` and `StoryGoesOnByALawfulStepLast`.
 pub fn a_story_goes_on_by_a_lawful_step()
@@ -32,4 +32,14 @@ pub fn ticks_rise()
 /// Promises `ViewHasOneBuild`.
 pub fn a_view_has_one_build()
     ensures { ViewHasOneBuild }
+{}
+
+/// Promises `ScrubOfAStoryListsWhatIsDue`.
+pub fn a_scrub_of_a_story_lists_what_is_due()
+    ensures { ScrubOfAStoryListsWhatIsDue }
+{}
+
+/// Promises `HeldObjectIsLiveAtEachStep`.
+pub fn a_held_object_is_live_at_each_step()
+    ensures { HeldObjectIsLiveAtEachStep }
 {}
