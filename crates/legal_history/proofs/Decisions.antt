@@ -7,4 +7,6 @@ pub mod DecidedSays
 pub mod DirectoryFits
 pub mod ElementFits
 pub mod FileFits
+pub mod Handed
 pub mod Passed
+pub mod Queried

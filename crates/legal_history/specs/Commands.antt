@@ -4,6 +4,7 @@ pub mod CheckoutTests
 pub mod Decisions
 pub mod DirectoryLines
 pub mod FileLines
+pub mod Found
 pub mod LabelLines
 pub mod Lines
 pub mod ObjectLines

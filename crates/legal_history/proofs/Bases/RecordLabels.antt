@@ -1,30 +1,33 @@
 -- A record is labelled as listed.
 use Rattle.std.proofs.Common.{◌≡◌, refl, ap, sym, subst, ◌∙◌, ℕ, zero, suc, ◌+◌, ◌<◌, ◌⊎◌, inl, inr, Bool, true, false, cond, ◌&&◌, ◌==◌, Option, Some, None, Ok, List, [], ◌∷◌, map, length, Contains, get_or, arith, nat_lt}
 use Rattle.std.proofs.lemmas.Bool.Decides.{nat_tests}
+use Rattle.std.specs.Bool.{⊤}
 use Rattle.std.specs.Cmp.{unsigned_tied, nat_cmp_is}
 use Rattle.std.specs.FinMap.Entries.{find, is_sorted, below_all}
 use Rattle.std.specs.List.Sorted.{IsStrictlyIncreasing}
 use Rattle.std.specs.Option.{option_or}
 use Rattle.std.specs.Ordering.{nat_cmp, is_lt}
-use Rattle.std.specs.Prelude.{◌↔◌, is_some, is_none, unwrap_or, option_map}
+use Rattle.std.specs.Prelude.{◌↔◌, is_some, is_none, option_map}
 use Rattle.std.specs.declared.cmp.Ordering.TheVariants.{Equal, Greater}
 use Rattle.cc_names.specs.References.{held_at}
 use Rattle.cc_names.specs.Versions.{place}
 use Rattle.cc_names.specs.declared.commands.Command.TheVariants as commands
 use Rattle.cc_names.specs.declared.refusals.Refusal.{Refusal}
 use Rattle.cc_names.specs.declared.refusals.Refusal.TheVariants as refusals
-use Rattle.cc_names.specs.declared.rows.Deed.{Deed}
 use Rattle.cc_names.specs.declared.rows.Deed.TheVariants as deeds
 use Rattle.cc_names.specs.declared.rows.Placed.{Placed}
 use Rattle.legal_history.specs.Base.Rows.{Base, only_where}
 use Rattle.legal_history.specs.Base.Changes.{held, targets_of, tree}
 use Rattle.legal_history.specs.Base.Closures.{Source, Sources, Listing, closure, is_among, listing, listed}
-use Rattle.legal_history.specs.Commands.Decisions.{Scene, Makes}
-use Rattle.legal_history.specs.Commands.LabelLines.{as_placed, placed_by, labels_or_nothing, mklabel_config_tests, object_held, outsider_among}
+use Rattle.legal_history.specs.Commands.Decisions.{Decision, Scene, Makes}
+use Rattle.legal_history.specs.Commands.LabelLines.{as_placed, placed_by, labels_or_nothing, mklabel_config_of, mklabel_config_tests, outsider_among}
+use Rattle.legal_history.specs.Commands.Found.{for_object}
 use Rattle.legal_history.specs.Commands.Lines.{decision}
+use Rattle.legal_history.specs.Commands.Tests.{needs_view}
+use Rattle.legal_history.proofs.Decisions.Handed.{IfDecided, past_is, object_is, row_is, answer_is}
 use Rattle.legal_history.proofs.Stories.Goes.{same_number}
 use Rattle.legal_history.proofs.Bases.Owned.{and_first, and_second}
-use Rattle.legal_history.proofs.Decisions.Passed.{AllPass, made_by, answers_nothing}
+use Rattle.legal_history.proofs.Decisions.Passed.{AllPass}
 use Rattle.legal_history.specs.Laws.Listed.{IsListed}
 use Rattle.legal_history.proofs.Bases.HeldObjects.{true_by}
 use Rattle.legal_history.proofs.Bases.Listings.{SaysOf, one_of, in_front, behind, none_of, listing_says, in_order}
@@ -112,43 +115,57 @@ all_versions b (first ∷ sources) source none among there = by (nat_lt 0 first.
     by false (Some at) above is none (inr later) rest = rest none later
     by false None above is none (inr later) rest = rest none later
 
--- the labels of a row
-labels_in : List Placed → Deed → List Placed
-labels_in before (deeds.Labels label places) = places
-labels_in before deed = before
-
 no_refusal : {A : Type 0} (f : A → Refusal) (o : Option A) → option_map f o ≡ None → o ≡ None
 no_refusal f None h = refl
 no_refusal f (Some a) h = absurd (cc)
 
--- the labels of a row that was decided, and what was tested
-record Labelled (tests : List (Option Refusal)) (places given : List Placed) : Type 0 where
-  pass : AllPass tests
-  are : given ≡ places
+-- the labels of a row that was decided: of the object that the view holds, with what was tested
+record Labelled (s : Scene) (v path label : List ℕ) (replace : Bool) (given : List Placed) : Type 0 where
+  id : ℕ
+  is_held : held_at (held s.base) v path ≡ Some id
+  pass : AllPass (mklabel_config_tests s replace label id)
+  are : given ≡ placed_by s.base id
 
-labelled : (s : Scene) (tests : List (Option Refusal)) (label name : List ℕ) (places given : List Placed) → labels_or_nothing s tests label places ≡ Ok (Makes (deeds.Labels name given)) → Labelled tests places given
-unfolding labels_in
-labelled s tests label name [] given h = absurd (answers_nothing tests [] (deeds.Labels name given) h)
-labelled s tests label name (one ∷ places) given h =
-    let made = made_by s tests (deeds.Labels label (one ∷ places)) (deeds.Labels name given) h in
-    record { pass = made.pass; are = ap (labels_in []) made.is }
+IsLabelled : (s : Scene) (v path label : List ℕ) (replace : Bool) → Decision → Type 0
+IsLabelled s v path label replace (Makes (deeds.Labels name given)) = Labelled s v path label replace given
+IsLabelled s v path label replace d = ⊤
 
--- the object that the view holds
-held_is : (b : Base) (v path : List ℕ) (id : ℕ) → held_at (held b) v path ≡ Some id → object_held b v path ≡ id
-held_is b v path id is = ap (λ o. unwrap_or o 0) is
+labelled_by : (s : Scene) (v path label : List ℕ) (replace : Bool) (id : ℕ) (places : List Placed) → held_at (held s.base) v path ≡ Some id → places ≡ placed_by s.base id →
+    IfDecided (IsLabelled s v path label replace) (labels_or_nothing s (mklabel_config_tests s replace label id) label places)
+unfolding IsLabelled
+labelled_by s v path label replace id [] is are = answer_is (IsLabelled s v path label replace) (mklabel_config_tests s replace label id) [] tt
+labelled_by s v path label replace id (one ∷ places) is are =
+    row_is (IsLabelled s v path label replace) s (mklabel_config_tests s replace label id) (deeds.Labels label (one ∷ places))
+    (λ m. record { id = id; is_held = is; pass = m.pass; are = are })
+
+labelled : (s : Scene) (v path label name : List ℕ) (replace : Bool) (given : List Placed) → decision s (commands.MklabelConfig v replace path label) ≡ Ok (Makes (deeds.Labels name given)) →
+    Labelled s v path label replace given
+unfolding IsLabelled
+labelled s v path label name replace given h = by (Makes (deeds.Labels name given)) h
+  where
+    by : IfDecided (IsLabelled s v path label replace) (decision s (commands.MklabelConfig v replace path label))
+    by =
+        past_is (IsLabelled s v path label replace) (needs_view s.base v ∷ []) (for_object path (held_at (held s.base) v path) (mklabel_config_of s replace label))
+        (λ before. object_is (IsLabelled s v path label replace) path (held_at (held s.base) v path) (mklabel_config_of s replace label)
+        (λ id is. labelled_by s v path label replace id (placed_by s.base id) is refl))
+
+-- the object is the one that is held
+same_object : (s : Scene) (v path label : List ℕ) (replace : Bool) (given : List Placed) (l : Labelled s v path label replace given) (id : ℕ) → held_at (held s.base) v path ≡ Some id → l.id ≡ id
+same_object s v path label replace given l id is = let held_is = l.is_held in cc
 
 pub labels_in_order : (s : Scene) (v path label name : List ℕ) (replace : Bool) (given : List Placed) → decision s (commands.MklabelConfig v replace path label) ≡ Ok (Makes (deeds.Labels name given)) → IsStrictlyIncreasing (map (λ one. one.element) given)
 labels_in_order s v path label name replace given h =
-    let sorted = true_by (is_sorted nat_cmp (listing s.base (object_held s.base v path))) (in_order s.base (closure s.base (object_held s.base v path))) in
-    subst (λ places. IsStrictlyIncreasing (map (λ one. one.element) places)) (sym (labelled s (mklabel_config_tests s v replace path label (object_held s.base v path)) label name (placed_by s.base (object_held s.base v path)) given h).are)
-    (ascending (listing s.base (object_held s.base v path)) sorted)
+    let l = labelled s v path label name replace given h in
+    let sorted = true_by (is_sorted nat_cmp (listing s.base l.id)) (in_order s.base (closure s.base l.id)) in
+    subst (λ places. IsStrictlyIncreasing (map (λ one. one.element) places)) (sym l.are) (ascending (listing s.base l.id) sorted)
 
 -- what is labelled is what is found
 labels_found : (s : Scene) (v path label name : List ℕ) (replace : Bool) (given : List Placed) (id : ℕ) (one : Placed) → decision s (commands.MklabelConfig v replace path label) ≡ Ok (Makes (deeds.Labels name given)) → held_at (held s.base) v path ≡ Some id →
     Contains given one ↔ (find nat_cmp one.element (listing s.base id) ≡ Some one.version)
 labels_found s v path label name replace given id one h is =
     let sorted = true_by (is_sorted nat_cmp (listing s.base id)) (in_order s.base (closure s.base id)) in
-    let are : given ≡ placed_by s.base id = (labelled s (mklabel_config_tests s v replace path label (object_held s.base v path)) label name (placed_by s.base (object_held s.base v path)) given h).are ∙ ap (placed_by s.base) (held_is s.base v path id is) in (
+    let l = labelled s v path label name replace given h in
+    let are : given ≡ placed_by s.base id = l.are ∙ ap (placed_by s.base) (same_object s v path label replace given l id is) in (
       λ among. found (listing s.base id) one sorted (subst (λ places. Contains places one) are among),
       λ at. subst (λ places. Contains places one) (sym are) (placed (listing s.base id) one at),
     )
@@ -174,5 +191,7 @@ labels_selected s v path label name replace given id target one h is of_object =
 pub labels_versions : (s : Scene) (v path label name : List ℕ) (replace : Bool) (given : List Placed) (id : ℕ) (source : Source × ℕ) → decision s (commands.MklabelConfig v replace path label) ≡ Ok (Makes (deeds.Labels name given)) → held_at (held s.base) v path ≡ Some id →
     Contains (closure s.base id) source → 0 < source.1 → is_some (place (tree s.base) source.1) ≡ true
 labels_versions s v path label name replace given id source h is among there =
-    let pass = (labelled s (mklabel_config_tests s v replace path label (object_held s.base v path)) label name (placed_by s.base (object_held s.base v path)) given h).pass in
-    all_versions s.base (closure s.base id) source (subst (λ n. outsider_among s.base (closure s.base n) ≡ None) (held_is s.base v path id is) (no_refusal refusals.NotVersion (outsider_among s.base (closure s.base (object_held s.base v path))) pass.1.1.1.0)) among there
+    let l = labelled s v path label name replace given h in
+    let same = same_object s v path label replace given l id is in
+    all_versions s.base (closure s.base id) source
+    (subst (λ n. outsider_among s.base (closure s.base n) ≡ None) same (no_refusal refusals.NotVersion (outsider_among s.base (closure s.base l.id)) l.pass.1.0)) among there

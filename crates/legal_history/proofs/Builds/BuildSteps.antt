@@ -109,7 +109,7 @@ committed_fine s tag moment (deeds.Wink view id) base h e =
     (keeps_with (row ∷ s.base) e.build e.n id e.unit (Given id) w.is_unit w.waits (w.ready (h.holds tag.lane e.build w.there).consistent) refl
     (is_object_stays row s.base e.unit id (chosen_object s.base e.build e.n e.unit id base e.chosen)))
 committed_fine s tag moment deed base h e =
-    fine_stays s (record { tag = tag; moment = moment; deed = deed }) (says_of s tag (Makes deed) (decided_of s tag (Makes deed) e)).spares h
+    fine_stays s (record { tag = tag; moment = moment; deed = deed }) (says_of s tag (Makes deed) (decided_of s tag (Makes deed) e)).idle h
 
 -- Each lawful step leaves each active build fine.
 pub step_fine : (s : State) (x : Told) → is_base s.base ≡ true → is_some s.opened ≡ true → Each (λ lane. IsFine s.base) s.active → Lawful s x → Each (λ lane. IsFine (after s x).base) (after s x).active

@@ -20,7 +20,7 @@ use Rattle.legal_history.proofs.Stories.Goes.{of_lane}
 use Rattle.legal_history.proofs.Builds.ConsistentStays.{KeepsConsistent, consistent_came, consistent_row}
 use Rattle.legal_history.proofs.Builds.AllBuilds.{Each, each_noted, builds_there}
 use Rattle.legal_history.proofs.Builds.ReadyUnits.{ready_by}
-use Rattle.legal_history.proofs.Decisions.DecidedSays.{Spares}
+use Rattle.legal_history.proofs.Decisions.DecidedSays.{Idle}
 
 -- a build is consistent, and its view exists
 pub record IsFine (b : Base) (build : Build) : Type 0 where
@@ -28,7 +28,7 @@ pub record IsFine (b : Base) (build : Build) : Type 0 where
   pub there : exists b build.view ≡ true
 
 -- the view of an active build stays when a row is added
-view_stays : (s : State) (tag : Tag) (moment : ℕ) (deed : Deed) (lane : ℕ) (build : Build) → Spares s.active deed → build_of s.active lane ≡ Some build →
+view_stays : (s : State) (tag : Tag) (moment : ℕ) (deed : Deed) (lane : ℕ) (build : Build) → Idle s.active deed → build_of s.active lane ≡ Some build →
     exists s.base build.view ≡ true → exists (record { tag = tag; moment = moment; deed = deed } ∷ s.base) build.view ≡ true
 view_stays s tag moment (deeds.Mkview w) lane build spares is there = by (bytes_eq w build.view)
   where
@@ -44,7 +44,7 @@ view_stays s tag moment (deeds.Rmview w) lane build spares is there = by (bytes_
     by false other = there
 view_stays s tag moment deed lane build spares is there = there
 
-pub fine_stays : (s : State) (row : Plain) → Spares s.active row.deed → Each (λ lane. IsFine s.base) s.active → Each (λ lane. IsFine (row ∷ s.base)) s.active
+pub fine_stays : (s : State) (row : Plain) → Idle s.active row.deed → Each (λ lane. IsFine s.base) s.active → Each (λ lane. IsFine (row ∷ s.base)) s.active
 fine_stays s row spares h = record {
   holds = λ lane build is. record {
     consistent = consistent_row row s.base build (h.holds lane build is).consistent;

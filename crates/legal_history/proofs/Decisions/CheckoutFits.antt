@@ -11,20 +11,23 @@ use Rattle.cc_names.specs.declared.rows.Kind.TheVariants.{File, Directory}
 use Rattle.legal_history.specs.Base.Rows.{Base}
 use Rattle.legal_history.specs.Base.Changes.{tree}
 use Rattle.legal_history.specs.Base.Checkouts.{latest_beside, is_latest, other_reserver, branch_of}
-use Rattle.legal_history.specs.Commands.CheckoutLines.{checkin, checkin_tests}
+use Rattle.legal_history.specs.Commands.CheckoutLines.{checkin, checkin_of, checkin_tests}
 use Rattle.legal_history.specs.Base.Closures.{is_version_of}
 use Rattle.legal_history.specs.Base.Conditions.{has_out, is_file, is_directory, is_file_kind, is_directory_kind, may_check_in}
 use Rattle.legal_history.specs.Commands.Decisions.{Scene}
-use Rattle.legal_history.specs.Commands.FileLines.{save, element_of}
+use Rattle.legal_history.specs.Commands.FileLines.{save}
+use Rattle.legal_history.specs.Commands.Found.{for_element}
 use Rattle.legal_history.specs.Base.Fits.{is_base}
 use Rattle.legal_history.specs.Base.Seen.{at}
 use Rattle.legal_history.specs.Commands.CheckoutTests.{needs_no_other, needs_latest_origin, refused_unless_same}
+use Rattle.legal_history.specs.Commands.Tests.{needs_view, needs_idle}
 use Rattle.legal_history.specs.Base.Views.{Checkout, out}
 use Rattle.legal_history.proofs.Decisions.DirectoryFits.{save_fits_by, was_out}
-use Rattle.legal_history.proofs.Decisions.FileFits.{RowFits}
+use Rattle.legal_history.proofs.Decisions.FileFits.{Fits, RowFits}
+use Rattle.legal_history.proofs.Decisions.Handed.{past_is, element_is, row_is}
 use Rattle.legal_history.proofs.Bases.Origins.{out_is_version}
 use Rattle.legal_history.proofs.Bases.Owned.{version_has_kind}
-use Rattle.legal_history.proofs.Decisions.Passed.{made_by, unless_passes, fits_by}
+use Rattle.legal_history.proofs.Decisions.Passed.{unless_passes, fits_by}
 use Rattle.legal_history.proofs.Bases.VersionsStay.{parts_of, of_element}
 
 -- what is there, by its test
@@ -77,8 +80,12 @@ checked_in b v e (Some c) known there free newest =
     rw (alone, last) refl
 
 pub checkin_fits : (s : Scene) (v : List ℕ) (identical : Bool) (path : List ℕ) → is_base s.base ≡ true → RowFits s (checkin s v identical path)
-checkin_fits s v identical path h made decided =
-    let e = element_of (at s.base v path) in
-    let m = made_by s (checkin_tests s v identical path (at s.base v path)) (deeds.Checkin v e) made decided in
-    fits_by s.base (deeds.Checkin v e) made m.room m.is
-    (checked_in s.base v e (out s.base v e) (λ c is. out_is_version s.base v e c h is) (was_out path (out s.base v e) m.pass.1.1.1.1.0) m.pass.1.1.1.1.1.0 m.pass.1.1.1.1.1.1.0)
+checkin_fits s v identical path h =
+    past_is (Fits s) (needs_view s.base v ∷ needs_idle s v ∷ []) (for_element path (at s.base v path) (checkin_of s v identical path))
+    (λ before. element_is (Fits s) path (at s.base v path) (checkin_of s v identical path) of_element)
+  where
+    of_element : (e : ℕ) → RowFits s (checkin_of s v identical path e)
+    of_element e =
+        row_is (Fits s) s (checkin_tests s v identical path e) (deeds.Checkin v e)
+        (λ m. fits_by s.base (deeds.Checkin v e) m.room
+        (checked_in s.base v e (out s.base v e) (λ c is. out_is_version s.base v e c h is) (was_out path (out s.base v e) m.pass.0) m.pass.1.0 m.pass.1.1.0))

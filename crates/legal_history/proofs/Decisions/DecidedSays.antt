@@ -1,5 +1,5 @@
--- What it says of a command that something was decided on it: of a row that there is room for one more, that no view goes in
--- which a build is active, and that it scrubs only where the command does; of a build what its units are.
+-- What it says of a command that something was decided on it: of a row that there is room for one more, that it takes nothing
+-- from a view in which a build is active, and that it scrubs only where the command does; of a build what its units are.
 use Rattle.std.proofs.Common.{◌≡◌, refl, subst, ℕ, ◌+◌, ◌≤◌, Bool, true, false, Option, Some, None, Result, Ok, Err, List, [], ◌∷◌, ◌++◌, length}
 use Rattle.std.proofs.lemmas.Bool.{ltb-false}
 use Rattle.std.specs.Bool.{⊤}
@@ -13,13 +13,15 @@ use Rattle.cc_names.specs.declared.rows.Deed.{Deed}
 use Rattle.cc_names.specs.declared.rows.Deed.TheVariants as deeds
 use Rattle.cc_names.specs.declared.rows.Placed.{Placed}
 use Rattle.cc_names.specs.declared.rows.Tag.{Tag}
+use Rattle.cc_names.specs.declared.selection.Picked.{Picked}
+use Rattle.cc_names.specs.declared.selection.Rule.{Rule}
 use Rattle.cc_names.specs.declared.selection.Seen.{Seen}
 use Rattle.cc_names.specs.declared.selection.Seen.TheVariants.{Private, Element, Unselected, Nothing}
 use Rattle.cc_names.specs.declared.units.Unit.{Unit}
 use Rattle.make_text.specs.Units.{units}
 use Rattle.legal_history.specs.Base.Rows.{size}
 use Rattle.legal_history.specs.Builds.Active.{Active, building, reserved}
-use Rattle.legal_history.specs.Commands.CheckoutLines.{checkout_deed}
+use Rattle.legal_history.specs.Commands.CheckoutLines.{checkout_of, checkout_by_rule, checkout_tests, checkout_deed, branch_by, deciding_rule}
 use Rattle.legal_history.specs.Base.Conditions.{exists}
 use Rattle.legal_history.specs.Commands.Decisions.{Decision, Makes, Answers, Begins, Scene, first_refusal, unless_refused, needs_room, makes, answers}
 use Rattle.legal_history.specs.Commands.FileLines.{save_deed}
@@ -27,12 +29,14 @@ use Rattle.legal_history.specs.Base.Fits.{row_limit}
 use Rattle.legal_history.specs.Builds.Fresh.{texts}
 use Rattle.legal_history.specs.Commands.LabelLines.{labels_or_nothing}
 use Rattle.legal_history.specs.Commands.ObjectLines.{scrub_of, clearmake_tests, build_unless}
+use Rattle.legal_history.proofs.Decisions.Handed.{IfDecided, answer_is}
 use Rattle.legal_history.proofs.Decisions.Passed.{AllPass, all_pass, front_passes, rest_passes, unless_passes}
 
--- a view that goes is none in which a build is active
-abbrev pub Spares : Active → Deed → Type 0
-Spares active (deeds.Rmview v) = building active v ≡ None
-Spares active deed = ⊤
+-- a deed takes a view or an object only where no build of the view is active
+abbrev pub Idle : Active → Deed → Type 0
+Idle active (deeds.Rmview v) = building active v ≡ None
+Idle active (deeds.Drop v path) = building active v ≡ None
+Idle active deed = ⊤
 
 -- a command that scrubs
 pub record IsScrub (command : Command) : Type 0 where
@@ -47,23 +51,26 @@ ScrubsBy command deed = ⊤
 -- both
 abbrev Suits : Active → Command → Deed → Type 0
 Suits active command (deeds.Rmview v) = building active v ≡ None
+Suits active command (deeds.Drop v path) = building active v ≡ None
 Suits active command (deeds.Scrub objects) = IsScrub command
 Suits active command deed = ⊤
 
-spares_of : (active : Active) (command : Command) (deed : Deed) → Suits active command deed → Spares active deed
-spares_of active command (deeds.Rmview v) h = h
-spares_of active command (deeds.Scrub objects) h = tt
-spares_of active command deed h = h
+idle_of : (active : Active) (command : Command) (deed : Deed) → Suits active command deed → Idle active deed
+idle_of active command (deeds.Rmview v) h = h
+idle_of active command (deeds.Drop v path) h = h
+idle_of active command (deeds.Scrub objects) h = tt
+idle_of active command deed h = h
 
 scrubs_of : (active : Active) (command : Command) (deed : Deed) → Suits active command deed → ScrubsBy command deed
 scrubs_of active command (deeds.Rmview v) h = tt
+scrubs_of active command (deeds.Drop v path) h = tt
 scrubs_of active command (deeds.Scrub objects) h = h
 scrubs_of active command deed h = h
 
 -- a row that was decided
 pub record IsMade (s : Scene) (command : Command) (deed : Deed) : Type 0 where
   pub room : size s.base + reserved s.active + 1 ≤ row_limit
-  pub spares : Spares s.active deed
+  pub idle : Idle s.active deed
   pub scrubs : ScrubsBy command deed
 
 -- a build that was decided: by a command that builds, in a view that exists, of the units of its makefile
@@ -97,19 +104,19 @@ not_refused false refusal h = refl
 has_room : (s : Scene) (rows : ℕ) → needs_room s rows ≡ None → size s.base + reserved s.active + rows ≤ row_limit
 has_room s rows h = ltb-false _ _ (not_refused _ _ h)
 
-pub by_row : (s : Scene) (command : Command) (tests : List (Option Refusal)) (deed : Deed) (d : Decision) → (AllPass tests → Suits s.active command deed) → makes s tests deed ≡ Ok d → Says s command d
-by_row s command tests deed d suits h =
+pub by_row : (s : Scene) (command : Command) (tests : List (Option Refusal)) (deed : Deed) → (AllPass tests → Suits s.active command deed) → IfDecided (Says s command) (makes s tests deed)
+by_row s command tests deed suits d h =
     let p = passed (first_refusal (tests ++ needs_room s 1 ∷ [])) (Makes deed) d h in
     let all = all_pass (tests ++ needs_room s 1 ∷ []) p.0 in
     let suit = suits (front_passes tests (needs_room s 1 ∷ []) all) in
     subst (Says s command) p.1 (record {
       room = has_room s 1 (rest_passes tests (needs_room s 1 ∷ []) all).0;
-      spares = spares_of s.active command deed suit;
+      idle = idle_of s.active command deed suit;
       scrubs = scrubs_of s.active command deed suit;
     })
 
-pub by_answer : (s : Scene) (command : Command) (tests : List (Option Refusal)) (text : List ℕ) (d : Decision) → answers tests text ≡ Ok d → Says s command d
-by_answer s command tests text d h = subst (Says s command) (passed (first_refusal tests) (Answers text) d h).1 tt
+by_answer : (s : Scene) (command : Command) (tests : List (Option Refusal)) (text : List ℕ) → IfDecided (Says s command) (answers tests text)
+by_answer s command tests text = answer_is (Says s command) tests text tt
 
 pub was_idle : (o : Option Tag) → option_map Building o ≡ None → o ≡ None
 was_idle None h = refl
@@ -121,20 +128,27 @@ saved_suits active command v path text (Unselected e) = tt
 saved_suits active command v path text (Private row) = tt
 saved_suits active command v path text Nothing = tt
 
-pub checkout_suits : (active : Active) (command : Command) (v : List ℕ) (unreserved : Bool) (seen : Seen) (o : Option (List ℕ)) → Suits active command (checkout_deed v unreserved seen o)
-checkout_suits active command v unreserved seen None = tt
-checkout_suits active command v unreserved seen (Some name) = tt
+pub by_checkout : (s : Scene) (command : Command) (v : List ℕ) (unreserved : Bool) (e : ℕ) (picked : Picked) → IfDecided (Says s command) (checkout_of s v unreserved e picked)
+by_checkout s command v unreserved e picked = by (deciding_rule s.base v picked)
+  where
+    suits : (o : Option (List ℕ)) → Suits s.active command (checkout_deed v unreserved e picked o)
+    suits None = tt
+    suits (Some name) = tt
 
-pub by_labels : (s : Scene) (command : Command) (tests : List (Option Refusal)) (label : List ℕ) (placed : List Placed) (d : Decision) → labels_or_nothing s tests label placed ≡ Ok d → Says s command d
-by_labels s command tests label [] d h = by_answer s command tests [] d h
-by_labels s command tests label (one ∷ more) d h = by_row s command tests (deeds.Labels label (one ∷ more)) d (λ p. tt) h
+    by : (rule : Option Rule) → IfDecided (Says s command) (checkout_by_rule s v unreserved e picked rule)
+    by rule = by_row s command (checkout_tests s v unreserved e picked rule) (checkout_deed v unreserved e picked (branch_by rule)) (λ p. suits (branch_by rule))
 
-pub by_scrub : (s : Scene) (age : ℕ) (objects : List ℕ) (d : Decision) → scrub_of s objects ≡ Ok d → Says s (commands.Scrub age) d
-by_scrub s age [] d h = by_answer s (commands.Scrub age) [] [] d h
-by_scrub s age (id ∷ ids) d h = by_row s (commands.Scrub age) [] (deeds.Scrub (id ∷ ids)) d (λ p. record { age = age; is = refl }) h
+pub by_labels : (s : Scene) (command : Command) (tests : List (Option Refusal)) (label : List ℕ) (placed : List Placed) → IfDecided (Says s command) (labels_or_nothing s tests label placed)
+by_labels s command tests label [] = by_answer s command tests []
+by_labels s command tests label (one ∷ more) = by_row s command tests (deeds.Labels label (one ∷ more)) (λ p. tt)
 
-pub by_build : (s : Scene) (v : List ℕ) (file : Option (List ℕ)) (own_only rebuild : Bool) (jobs : ℕ) (macros : List Macro) (goals : List (List ℕ)) (d : Decision) →
-    build_unless s (first_refusal (clearmake_tests s v)) (units (texts s.base v) file macros goals) ≡ Ok d → Says s (commands.Clearmake v file own_only rebuild jobs macros goals) d
+pub by_scrub : (s : Scene) (age : ℕ) (objects : List ℕ) → IfDecided (Says s (commands.Scrub age)) (scrub_of s objects)
+by_scrub s age [] = by_answer s (commands.Scrub age) [] []
+by_scrub s age (id ∷ ids) =
+    by_row s (commands.Scrub age) [] (deeds.Scrub (id ∷ ids)) (λ p. record { age = age; is = refl })
+
+pub by_build : (s : Scene) (v : List ℕ) (file : Option (List ℕ)) (own_only rebuild : Bool) (jobs : ℕ) (macros : List Macro) (goals : List (List ℕ)) →
+    IfDecided (Says s (commands.Clearmake v file own_only rebuild jobs macros goals)) (build_unless s (first_refusal (clearmake_tests s v)) (units (texts s.base v) file macros goals))
 by_build s v file own_only rebuild jobs macros goals d h = by (first_refusal (clearmake_tests s v)) (units (texts s.base v) file macros goals) refl refl h
   where
     by : (o : Option Refusal) (r : Result (List Unit) Refusal) → first_refusal (clearmake_tests s v) ≡ o → units (texts s.base v) file macros goals ≡ r → build_unless s o r ≡ Ok d →

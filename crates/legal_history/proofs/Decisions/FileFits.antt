@@ -1,10 +1,10 @@
 -- The rows of the commands on views and private files fit.
 use Rattle.std.proofs.Common.{◌≡◌, refl, ap, subst, ◌∙◌, ℕ, Bool, true, false, not, Option, Some, None, Result, Ok, Err, List, [], ◌∷◌}
 use Rattle.std.proofs.lemmas.List.{reverse-reverse}
+use Rattle.std.specs.Bool.{⊤}
 use Rattle.std.specs.Prelude.{is_ok, reverse}
 use Rattle.cc_names.specs.declared.refusals.Refusal.{Refusal}
 use Rattle.cc_names.specs.declared.refusals.SpecError.{SpecError}
-use Rattle.cc_names.specs.declared.rows.Deed.{Deed}
 use Rattle.cc_names.specs.declared.rows.Deed.TheVariants as deeds
 use Rattle.cc_names.specs.declared.rows.TypeKind.{TypeKind}
 use Rattle.cc_names.specs.declared.selection.Rule.{Rule}
@@ -18,7 +18,7 @@ use Rattle.legal_history.specs.Base.Rows.{Base}
 use Rattle.legal_history.specs.Base.Catalogs.{Catalog, named}
 use Rattle.legal_history.specs.Base.Views.{private}
 use Rattle.legal_history.specs.Base.Conditions.{exists}
-use Rattle.legal_history.specs.Commands.Decisions.{Decision, Makes, Scene}
+use Rattle.legal_history.specs.Commands.Decisions.{Decision, Makes, Answers, Begins, Scene}
 use Rattle.legal_history.specs.Commands.FileLines.{mkview, mkview_tests, rmview, rmview_tests, setcs, setcs_tests, rm, rm_tests}
 use Rattle.legal_history.specs.Base.Fits.{fits}
 use Rattle.legal_history.specs.Base.Seen.{at, at_names, below, private_or, as_seen, element_at, entries_of, selected}
@@ -26,33 +26,40 @@ use Rattle.legal_history.specs.Commands.LabelLines.{mktype}
 use Rattle.legal_history.specs.Commands.ObjectLines.{rmdo, rmdo_tests}
 use Rattle.legal_history.specs.Commands.Tests.{needs_rules, needs_private, needs_free_type}
 use Rattle.legal_history.proofs.Bases.Makings.{short_is_seen}
-use Rattle.legal_history.proofs.Decisions.Passed.{made_by, where_passes, unless_passes, fits_by}
+use Rattle.legal_history.proofs.Decisions.Handed.{IfDecided, row_is}
+use Rattle.legal_history.proofs.Decisions.Passed.{Made, where_passes, unless_passes, fits_by}
 
--- Fits s decided: whatever row is decided fits
+-- a decision's row, where it makes one, fits
+abbrev pub Fits : Scene → Decision → Type 0
+Fits s (Makes deed) = fits s.base deed ≡ true
+Fits s (Answers text) = ⊤
+Fits s (Begins us) = ⊤
+
+-- whatever row is decided fits
 abbrev pub RowFits : Scene → Result Decision Refusal → Type 0
-RowFits s decided = (made : Deed) → decided ≡ Ok (Makes made) → fits s.base made ≡ true
+RowFits s decided = IfDecided (Fits s) decided
 
 pub mkview_fits : (s : Scene) (v : List ℕ) → RowFits s (mkview s v)
-mkview_fits s v made h =
-    let m = made_by s (mkview_tests s v) (deeds.Mkview v) made h in
-    let new : exists s.base v ≡ false = where_passes _ _ m.pass.0 in
-    fits_by s.base (deeds.Mkview v) made m.room m.is (ap not new)
+mkview_fits s v = row_is (Fits s) s (mkview_tests s v) (deeds.Mkview v) by
+  where
+    by : Made s (mkview_tests s v) (deeds.Mkview v) (deeds.Mkview v) → fits s.base (deeds.Mkview v) ≡ true
+    by m = let new : exists s.base v ≡ false = where_passes _ _ m.pass.0 in fits_by s.base (deeds.Mkview v) m.room (ap not new)
 
 pub rmview_fits : (s : Scene) (v : List ℕ) (force : Bool) → RowFits s (rmview s v force)
-rmview_fits s v force made h =
-    let m = made_by s (rmview_tests s v force) (deeds.Rmview v) made h in
-    fits_by s.base (deeds.Rmview v) made m.room m.is (unless_passes _ _ m.pass.0)
+rmview_fits s v force = row_is (Fits s) s (rmview_tests s v force) (deeds.Rmview v) (λ m. fits_by s.base (deeds.Rmview v) m.room (unless_passes _ _ m.pass.0))
 
 were_read : (rules : Result (List Rule) SpecError) → needs_rules rules ≡ None → is_ok rules ≡ true
 were_read (Ok rules) e = refl
 were_read (Err error) e = absurd (cc)
 
 pub setcs_fits : (s : Scene) (v text : List ℕ) → RowFits s (setcs s v text)
-setcs_fits s v text made h =
-    let m = made_by s (setcs_tests s v text) (deeds.Setcs v text) made h in
-    let there : exists s.base v ≡ true = unless_passes _ _ m.pass.0 in
-    let ok : is_ok (rules_of text) ≡ true = were_read _ m.pass.1.1.0 in
-    fits_by s.base (deeds.Setcs v text) made m.room m.is (rw (there, ok) refl)
+setcs_fits s v text = row_is (Fits s) s (setcs_tests s v text) (deeds.Setcs v text) by
+  where
+    by : Made s (setcs_tests s v text) (deeds.Setcs v text) (deeds.Setcs v text) → fits s.base (deeds.Setcs v text) ≡ true
+    by m =
+        let there : exists s.base v ≡ true = unless_passes _ _ m.pass.0 in
+        let ok : is_ok (rules_of text) ≡ true = were_read _ m.pass.1.1.0 in
+        fits_by s.base (deeds.Setcs v text) m.room (rw (there, ok) refl)
 
 -- a private file that stands somewhere is the view's
 private_of_or : (o : Option ℕ) (seen : Seen) (row : ℕ) → ((r : ℕ) → seen ≡ Private r → ⊥) → private_or o seen ≡ Private row → o ≡ Some row
@@ -85,21 +92,19 @@ was_private path (Unselected e) h = absurd (cc)
 was_private path Nothing h = absurd (cc)
 
 pub rm_fits : (s : Scene) (v path : List ℕ) → RowFits s (rm s v path)
-rm_fits s v path made h =
-    let m = made_by s (rm_tests s v path) (deeds.Rm v path) made h in
-    let seen = was_private path (at s.base v path) m.pass.1.1.0 in
-    let there : private s.base v path ≡ Some seen.0 = subst (λ p. private s.base v p ≡ Some seen.0) back (private_at s.base v (reverse (names_of path)) seen.0 seen.1) in
-    fits_by s.base (deeds.Rm v path) made m.room m.is (rw there refl)
+rm_fits s v path = row_is (Fits s) s (rm_tests s v path) (deeds.Rm v path) by
   where
     back : joined (reverse (reverse (names_of path))) ≡ path
     back = ap joined (reverse-reverse (names_of path)) ∙ joined-names_of path
 
+    by : Made s (rm_tests s v path) (deeds.Rm v path) (deeds.Rm v path) → fits s.base (deeds.Rm v path) ≡ true
+    by m =
+        let seen = was_private path (at s.base v path) m.pass.1.1.0 in
+        let there : private s.base v path ≡ Some seen.0 = subst (λ p. private s.base v p ≡ Some seen.0) back (private_at s.base v (reverse (names_of path)) seen.0 seen.1) in
+        fits_by s.base (deeds.Rm v path) m.room (rw there refl)
+
 pub mktype_fits : (s : Scene) (kind : TypeKind) (name : List ℕ) → RowFits s (mktype s kind name)
-mktype_fits s kind name made h =
-    let m = made_by s (needs_free_type s.base name ∷ []) (deeds.Mktype kind name) made h in
-    fits_by s.base (deeds.Mktype kind name) made m.room m.is (ap not (where_passes _ _ m.pass.0))
+mktype_fits s kind name = row_is (Fits s) s (needs_free_type s.base name ∷ []) (deeds.Mktype kind name) (λ m. fits_by s.base (deeds.Mktype kind name) m.room (ap not (where_passes _ _ m.pass.0)))
 
 pub rmdo_fits : (s : Scene) (v path : List ℕ) → RowFits s (rmdo s v path)
-rmdo_fits s v path made h =
-    let m = made_by s (rmdo_tests s v path) (deeds.Drop v path) made h in
-    fits_by s.base (deeds.Drop v path) made m.room m.is (unless_passes _ _ m.pass.1.1.0)
+rmdo_fits s v path = row_is (Fits s) s (rmdo_tests s v path) (deeds.Drop v path) (λ m. fits_by s.base (deeds.Drop v path) m.room (unless_passes _ _ m.pass.1.1.0))

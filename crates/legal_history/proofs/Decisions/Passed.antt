@@ -76,5 +76,5 @@ unless_passes true refusal e = refl
 unless_passes false refusal e = absurd (cc)
 
 -- a deed with room fits where its own test holds
-pub fits_by : (b : Base) (deed made : Deed) → nat_lt (size b) row_limit ≡ true → made ≡ deed → deed_fits b deed ≡ true → fits b made ≡ true
-fits_by b deed made room same fit = rw (same, room, fit) refl
+pub fits_by : (b : Base) (deed : Deed) → nat_lt (size b) row_limit ≡ true → deed_fits b deed ≡ true → fits b deed ≡ true
+fits_by b deed room fit = rw (room, fit) refl

@@ -26,7 +26,7 @@ use Rattle.legal_history.proofs.Builds.AllBuilds.{builds_there}
 use Rattle.legal_history.proofs.Bases.HeldObjects.{is_held_there, held_lives_on}
 use Rattle.legal_history.proofs.Bases.HeldPaths.{Leaves, held_after_won, path_stays}
 use Rattle.legal_history.specs.Laws.Given.{IsHeld, HoldsGiven}
-use Rattle.legal_history.proofs.Decisions.DecidedIdle.{Idle}
+use Rattle.legal_history.proofs.Decisions.DecidedSays.{Idle}
 
 pub given_stays : (row : Plain) (b : Base) (build : Build) (n id : ℕ) → deed_fits b row.deed ≡ true →
     ((unit : Unit) (path : List ℕ) → unit_at build n ≡ Some unit → makes path unit ≡ true → Leaves b build.view path row.deed) → IsHeld b build n id → IsHeld (row ∷ b) build n id

@@ -30,7 +30,7 @@ abbrev pub joined_sources : Sources → Sources → Sources
 joined_sources [] others = others
 joined_sources (source ∷ sources) others = joined_sources sources (put source_cmp source.0 source.1 others)
 
--- the entries of an object's record
+-- the entries of an object's record; any other row has none
 abbrev pub entries_of_deed : Option Deed → List ReadOf
 entries_of_deed (Some (deeds.Publish v targets script entries outputs)) = entries
 entries_of_deed _ = []

@@ -23,7 +23,7 @@ use Rattle.legal_history.specs.Base.Texts.{text, output_at}
 abbrev pub digest_of : List ℕ → Digest
 digest_of output = record { length = length output; sha256 = sha256 output }
 
--- the digest of an output that is there
+-- the digest of an output; it is asked for at a target of the object alone, and there the object has one
 abbrev pub digest_at : Option (List ℕ) → Digest
 digest_at output = digest_of (unwrap_or output [])
 

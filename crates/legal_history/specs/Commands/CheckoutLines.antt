@@ -7,24 +7,17 @@ use Rattle.cc_names.specs.declared.rows.Out.{Out}
 use Rattle.cc_names.specs.declared.rows.Out.TheVariants as outs
 use Rattle.cc_names.specs.declared.selection.Picked.{Picked}
 use Rattle.cc_names.specs.declared.selection.Rule.{Rule}
-use Rattle.cc_names.specs.declared.selection.Seen.{Seen}
-use Rattle.cc_names.specs.declared.selection.Seen.TheVariants.{Element}
 use Rattle.legal_history.specs.Base.Rows.{Base}
-use Rattle.legal_history.specs.Commands.Decisions.{Scene, Decision, makes}
-use Rattle.legal_history.specs.Commands.FileLines.{element_of}
+use Rattle.legal_history.specs.Commands.Decisions.{Scene, Decision, past, makes}
+use Rattle.legal_history.specs.Commands.Found.{for_selected, for_element}
 use Rattle.legal_history.specs.Base.Seen.{at, rules}
 use Rattle.legal_history.specs.Commands.CheckoutTests.{needs_out, needs_not_out, needs_unreserved, needs_no_other, needs_latest, needs_latest_origin, needs_change, needs_checkout_rule}
-use Rattle.legal_history.specs.Commands.Tests.{needs_view, needs_idle, needs_something, needs_selected, needs_element, needs_branch_type, needs_no_branch}
+use Rattle.legal_history.specs.Commands.Tests.{needs_view, needs_idle, needs_branch_type, needs_no_branch}
 use Rattle.legal_history.specs.Base.Views.{out}
 
--- what was picked of an element, where one is selected
-abbrev pub picked_of : Seen → Picked
-picked_of (Element e picked) = picked
-picked_of seen = record { row = 0; line = 0; out = false }
-
--- the rule of the view's config spec that decided on what stands somewhere
-abbrev pub deciding_rule : Base → List ℕ → Seen → Option Rule
-deciding_rule b v seen = find (λ rule. rule.line == (picked_of seen).line) (rules b v)
+-- the rule of the view's config spec that decided on an element of which this was picked
+abbrev pub deciding_rule : Base → List ℕ → Picked → Option Rule
+deciding_rule b v picked = find (λ rule. rule.line == picked.line) (rules b v)
 
 -- the type of the branch that a checkout by this rule makes
 abbrev pub branch_by : Option Rule → Option (List ℕ)
@@ -41,17 +34,10 @@ abbrev pub checkout_by : Base → Bool → ℕ → Picked → Option (List ℕ) 
 checkout_by b unreserved e picked (Some name) = needs_branch_type b name ∷ needs_no_branch b e name ∷ []
 checkout_by b unreserved e picked None = needs_latest b picked.row ∷ reserves_if b picked.row unreserved
 
--- the tests of a checkout of what is seen at a path, where this rule decides
-abbrev pub checkout_tests_of : Scene → List ℕ → Bool → List ℕ → Seen → Option Rule → List (Option Refusal)
-checkout_tests_of s v unreserved path seen rule =
-    needs_view s.base v ∷ needs_idle s v ∷ needs_selected path seen ∷ needs_element path seen
-    ∷ needs_not_out (out s.base v (element_of seen)) ∷ needs_checkout_rule rule
-    ∷ checkout_by s.base unreserved (element_of seen) (picked_of seen) (branch_by rule)
-
--- the tests of `checkout V [-unreserved] P`
-abbrev pub checkout_tests : Scene → List ℕ → Bool → List ℕ → List (Option Refusal)
-checkout_tests s v unreserved path =
-    checkout_tests_of s v unreserved path (at s.base v path) (deciding_rule s.base v (at s.base v path))
+-- the tests of a checkout of an element of which this was picked, where this rule decided
+abbrev pub checkout_tests : Scene → List ℕ → Bool → ℕ → Picked → Option Rule → List (Option Refusal)
+checkout_tests s v unreserved e picked rule =
+    needs_not_out (out s.base v e) ∷ needs_checkout_rule rule ∷ checkout_by s.base unreserved e picked (branch_by rule)
 
 -- how a new branch is checked out
 abbrev pub out_by : Bool → Out
@@ -59,33 +45,41 @@ out_by true = outs.Unreserved
 out_by false = outs.Reserved
 
 -- a checkout, or a new branch that is checked out
-abbrev pub checkout_deed : List ℕ → Bool → Seen → Option (List ℕ) → Deed
-checkout_deed v unreserved seen None = deeds.Checkout v (element_of seen) (picked_of seen).row (not unreserved)
-checkout_deed v unreserved seen (Some name) = deeds.Branch v (element_of seen) (picked_of seen).row name (out_by unreserved)
+abbrev pub checkout_deed : List ℕ → Bool → ℕ → Picked → Option (List ℕ) → Deed
+checkout_deed v unreserved e picked None = deeds.Checkout v e picked.row (not unreserved)
+checkout_deed v unreserved e picked (Some name) = deeds.Branch v e picked.row name (out_by unreserved)
+
+-- a checkout of an element of which this was picked, where this rule decided
+abbrev pub checkout_by_rule : Scene → List ℕ → Bool → ℕ → Picked → Option Rule → Result Decision Refusal
+checkout_by_rule s v unreserved e picked rule =
+    makes s (checkout_tests s v unreserved e picked rule) (checkout_deed v unreserved e picked (branch_by rule))
+
+-- a checkout of an element of which this was picked
+abbrev pub checkout_of : Scene → List ℕ → Bool → ℕ → Picked → Result Decision Refusal
+checkout_of s v unreserved e picked = checkout_by_rule s v unreserved e picked (deciding_rule s.base v picked)
 
 -- `checkout V [-unreserved] P`: the selected version is checked out, or a new branch by the rule that decides
 abbrev pub checkout : Scene → List ℕ → Bool → List ℕ → Result Decision Refusal
 checkout s v unreserved path =
-    makes s (checkout_tests s v unreserved path)
-    (checkout_deed v unreserved (at s.base v path) (branch_by (deciding_rule s.base v (at s.base v path))))
+    past (needs_view s.base v ∷ needs_idle s v ∷ []) (for_selected path (at s.base v path) (checkout_of s v unreserved))
 
--- the tests of `mkbranch V [-nco] B P`
-abbrev pub mkbranch_tests : Scene → List ℕ → List ℕ → List ℕ → Seen → List (Option Refusal)
-mkbranch_tests s v name path seen =
-    needs_view s.base v ∷ needs_idle s v ∷ needs_selected path seen ∷ needs_element path seen
-    ∷ needs_not_out (out s.base v (element_of seen)) ∷ needs_branch_type s.base name
-    ∷ needs_no_branch s.base (element_of seen) name ∷ []
+-- the tests of a new branch of an element
+abbrev pub mkbranch_tests : Scene → List ℕ → List ℕ → ℕ → List (Option Refusal)
+mkbranch_tests s v name e = needs_not_out (out s.base v e) ∷ needs_branch_type s.base name ∷ needs_no_branch s.base e name ∷ []
 
 -- whether a new branch is checked out: unless `-nco` is given, and reserved
 abbrev pub out_unless : Bool → Out
 out_unless true = outs.No
 out_unless false = outs.Reserved
 
+-- a new branch of an element of which this was picked
+abbrev pub mkbranch_of : Scene → List ℕ → Bool → List ℕ → ℕ → Picked → Result Decision Refusal
+mkbranch_of s v nco name e picked = makes s (mkbranch_tests s v name e) (deeds.Branch v e picked.row name (out_unless nco))
+
 -- `mkbranch V [-nco] B P`: a branch at the selected version
 abbrev pub mkbranch : Scene → List ℕ → Bool → List ℕ → List ℕ → Result Decision Refusal
 mkbranch s v nco name path =
-    makes s (mkbranch_tests s v name path (at s.base v path))
-    (deeds.Branch v (element_of (at s.base v path)) (picked_of (at s.base v path)).row name (out_unless nco))
+    past (needs_view s.base v ∷ needs_idle s v ∷ []) (for_selected path (at s.base v path) (mkbranch_of s v nco name))
 
 -- an identical text is refused unless `-identical` is given
 abbrev pub changes_unless : Bool → Option Refusal → List (Option Refusal)
@@ -93,28 +87,25 @@ changes_unless true test = []
 changes_unless false test = test ∷ []
 
 -- the tests of a checkin of an element
-abbrev pub checkin_of : Scene → List ℕ → Bool → List ℕ → ℕ → List (Option Refusal)
-checkin_of s v identical path e =
+abbrev pub checkin_tests : Scene → List ℕ → Bool → List ℕ → ℕ → List (Option Refusal)
+checkin_tests s v identical path e =
     needs_out path (out s.base v e) ∷ needs_no_other s.base v (out s.base v e) ∷ needs_latest_origin s.base (out s.base v e)
     ∷ changes_unless identical (needs_change s.base v path e (out s.base v e))
 
--- the tests of `checkin V [-identical] P`
-abbrev pub checkin_tests : Scene → List ℕ → Bool → List ℕ → Seen → List (Option Refusal)
-checkin_tests s v identical path seen =
-    needs_view s.base v ∷ needs_idle s v ∷ needs_something path seen ∷ needs_element path seen
-    ∷ checkin_of s v identical path (element_of seen)
+-- a checkin of an element
+abbrev pub checkin_of : Scene → List ℕ → Bool → List ℕ → ℕ → Result Decision Refusal
+checkin_of s v identical path e = makes s (checkin_tests s v identical path e) (deeds.Checkin v e)
 
 -- `checkin V [-identical] P`: the view's checkout becomes a version
 abbrev pub checkin : Scene → List ℕ → Bool → List ℕ → Result Decision Refusal
 checkin s v identical path =
-    makes s (checkin_tests s v identical path (at s.base v path)) (deeds.Checkin v (element_of (at s.base v path)))
+    past (needs_view s.base v ∷ needs_idle s v ∷ []) (for_element path (at s.base v path) (checkin_of s v identical path))
 
--- the tests of `uncheckout V P`
-abbrev pub uncheckout_tests : Scene → List ℕ → List ℕ → Seen → List (Option Refusal)
-uncheckout_tests s v path seen =
-    needs_view s.base v ∷ needs_idle s v ∷ needs_something path seen ∷ needs_element path seen
-    ∷ needs_out path (out s.base v (element_of seen)) ∷ []
+-- an uncheckout of an element
+abbrev pub uncheckout_of : Scene → List ℕ → List ℕ → ℕ → Result Decision Refusal
+uncheckout_of s v path e = makes s (needs_out path (out s.base v e) ∷ []) (deeds.Uncheckout v e)
 
 -- `uncheckout V P`: the view's checkout ends without a version
 abbrev pub uncheckout : Scene → List ℕ → List ℕ → Result Decision Refusal
-uncheckout s v path = makes s (uncheckout_tests s v path (at s.base v path)) (deeds.Uncheckout v (element_of (at s.base v path)))
+uncheckout s v path =
+    past (needs_view s.base v ∷ needs_idle s v ∷ []) (for_element path (at s.base v path) (uncheckout_of s v path))

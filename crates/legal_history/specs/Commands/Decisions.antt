@@ -26,6 +26,12 @@ first_refusal [] = None
 first_refusal (Some refusal ∷ tests) = Some refusal
 first_refusal (None ∷ tests) = first_refusal tests
 
+-- what is decided past some tests: the first refusal among them, else what follows
+abbrev pub past : List (Option Refusal) → Result Decision Refusal → Result Decision Refusal
+past [] decided = decided
+past (Some refusal ∷ tests) decided = Err refusal
+past (None ∷ tests) decided = past tests decided
+
 -- the refusal, where there is one, else the decision
 abbrev pub unless_refused : Option Refusal → Decision → Result Decision Refusal
 unless_refused (Some refusal) decision = Err refusal

@@ -18,19 +18,14 @@ use Rattle.legal_history.specs.Commands.CheckoutTests.{needs_out}
 use Rattle.legal_history.specs.Commands.Tests.{refused_where, needs_view, needs_new_view, needs_idle, needs_no_checkouts, needs_rules, needs_selected, needs_directory, needs_private}
 use Rattle.legal_history.specs.Base.Views.{Checkout, out}
 
--- the path of the directory in which a path lies; that of the root is never asked for
+-- The path of the directory in which a path lies. That of the root is never asked for: commands that ask are given paths
+-- below the root, and so are rows.
 abbrev pub parent : List ℕ → List ℕ
 parent path = unwrap_or (parent_of path) root
 
--- the last name of a path; that of the root is never asked for
+-- the last name of a path; that of the root is never asked for, as above
 abbrev pub last_name : List ℕ → List ℕ
 last_name path = unwrap_or (last_of path) []
-
--- the element that stands somewhere, where there is one
-abbrev pub element_of : Seen → ℕ
-element_of (Element e picked) = e
-element_of (Unselected e) = e
-element_of seen = 0
 
 -- the tests of `mkview V`
 abbrev pub mkview_tests : Scene → List ℕ → List (Option Refusal)

@@ -47,11 +47,6 @@ abbrev pub needs_rules : Result (List Rule) SpecError → Option Refusal
 needs_rules (Ok rules) = None
 needs_rules (Err error) = Some (refusals.BadSpec error.line error.cause)
 
--- something stands at the path, an unselected element too
-abbrev pub needs_something : List ℕ → Seen → Option Refusal
-needs_something path Nothing = Some (refusals.NoPath path)
-needs_something path seen = None
-
 -- something is selected at the path
 abbrev pub needs_selected : List ℕ → Seen → Option Refusal
 needs_selected path Nothing = Some (refusals.NoPath path)

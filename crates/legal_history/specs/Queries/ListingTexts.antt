@@ -65,7 +65,7 @@ object_names b v directory (entry ∷ held) names =
     with_name_if (bytes_eq entry.0.0 v && bytes_eq (parent entry.0.1) directory) (last_name entry.0.1) (at b v entry.0.1)
     (object_names b v directory held names)
 
--- the catalog of a directory; where there is none the command is refused
+-- a catalog, of no names where there is none: of what is no directory with a selected version
 abbrev pub catalog_or_none : Option Catalog → Catalog
 catalog_or_none None = []
 catalog_or_none (Some catalog) = catalog
@@ -80,7 +80,7 @@ names_in b v directory =
 abbrev pub by_rule : ℕ → List ℕ
 by_rule number = codes " rule " ++ decimal number
 
--- the version from which a checkout was made
+-- the version from which the view's checkout was made; it is asked for where that is selected, so there is one
 abbrev pub origin_name : Base → Option Checkout → List ℕ
 origin_name b taken = option_map_or (λ checkout. version_name b checkout.origin) taken []
 

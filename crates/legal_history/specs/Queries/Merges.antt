@@ -78,7 +78,8 @@ branch_of_type b e name = option_or (only_where (bytes_eq name (codes "main")) (
 abbrev pub merge_source : Base → ℕ → List ℕ → Option ℕ
 merge_source b e name = option_and_then (λ branch. latest (tree b) branch None) (branch_of_type b e name)
 
--- the selected version, or the origin of the view's checkout
+-- The selected version, or the origin of the view's checkout. Where that is what is selected, the view has one, so no
+-- other row is taken in its place.
 abbrev pub merge_target : Bool → Picked → Option Checkout → ℕ
 merge_target true picked taken = option_map_or (λ checkout. checkout.origin) taken picked.row
 merge_target false picked taken = picked.row

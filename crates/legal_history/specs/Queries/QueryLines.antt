@@ -5,26 +5,26 @@ use Rattle.cc_names.specs.References.{held_at}
 use Rattle.cc_names.specs.declared.commands.VersionName.{VersionName}
 use Rattle.cc_names.specs.declared.refusals.Refusal.{Refusal}
 use Rattle.cc_names.specs.declared.refusals.Refusal.TheVariants as refusals
+use Rattle.cc_names.specs.declared.selection.Picked.{Picked}
 use Rattle.cc_names.specs.declared.selection.Seen.{Seen}
 use Rattle.cc_names.specs.declared.selection.Seen.TheVariants.{Element, Unselected, Nothing}
 use Rattle.legal_history.specs.Base.Rows.{Base}
 use Rattle.legal_history.specs.Base.Changes.{held}
-use Rattle.legal_history.specs.Commands.CheckoutLines.{picked_of}
 use Rattle.legal_history.specs.Base.Conditions.{is_branch_type}
-use Rattle.legal_history.specs.Commands.Decisions.{Scene, Decision, answers}
+use Rattle.legal_history.specs.Commands.Decisions.{Scene, Decision, past, answers}
 use Rattle.legal_history.specs.Queries.ElementTexts.{describe_text, lsvtree_text}
-use Rattle.legal_history.specs.Commands.FileLines.{element_of}
+use Rattle.legal_history.specs.Commands.Found.{for_selected, for_object}
 use Rattle.legal_history.specs.Queries.HistoryTexts.{lshistory_text}
-use Rattle.legal_history.specs.Commands.LabelLines.{object_held, version_named}
+use Rattle.legal_history.specs.Commands.LabelLines.{version_named}
 use Rattle.legal_history.specs.Queries.ListingTexts.{ls_text, lsdo_text}
 use Rattle.legal_history.specs.Queries.Merges.{findmerge_text}
 use Rattle.legal_history.specs.Queries.RecordTexts.{catcr_text, diffcr_text, covers_text, uncovered}
 use Rattle.legal_history.specs.Base.Seen.{at, file_at}
-use Rattle.legal_history.specs.Commands.Tests.{refused_where, refused_unless, needs_view, needs_selected, needs_directory, needs_no_directory, needs_element, needs_object}
+use Rattle.legal_history.specs.Commands.Tests.{refused_where, refused_unless, needs_view, needs_selected, needs_directory, needs_no_directory, needs_element}
 use Rattle.legal_history.specs.Base.Texts.{text}
 use Rattle.legal_history.specs.Base.Views.{spec_text}
 
--- `catcs V`: the view's config spec as it was set
+-- `catcs V`: the view's config spec as it was set; a view that exists has one
 abbrev pub catcs : Scene → List ℕ → Result Decision Refusal
 catcs s v = answers (needs_view s.base v ∷ []) (unwrap_or (spec_text s.base v) [])
 
@@ -37,7 +37,7 @@ abbrev pub ls_tests : Scene → List ℕ → List ℕ → List (Option Refusal)
 ls_tests s v path =
     needs_view s.base v ∷ needs_selected path (at s.base v path) ∷ needs_directory s.base path (at s.base v path) ∷ []
 
--- the root where no directory is named
+-- `ls V [P]`: the names of a directory, of the root where none is named
 abbrev pub ls : Scene → List ℕ → Option (List ℕ) → Result Decision Refusal
 ls s v path = answers (ls_tests s v (unwrap_or path root)) (ls_text s.base v (unwrap_or path root))
 
@@ -51,7 +51,8 @@ abbrev pub text_row : Base → List ℕ → List ℕ → Seen → Option ℕ
 text_row b v path Nothing = held_at (held b) v path
 text_row b v path seen = file_at b v path
 
--- the text that a row made at a path, where there is one
+-- The text that a row made at a path. It is asked for behind the tests of `cat` alone, which leave a row, and each makes
+-- the text of a file or of an object there.
 abbrev pub text_at : Base → List ℕ → Option ℕ → List ℕ
 text_at b path row = unwrap_or (option_and_then (λ r. text b r path) row) []
 
@@ -77,43 +78,41 @@ cat s v path None = answers (cat_tests s v path (at s.base v path)) (text_at s.b
 cat s v path (Some name) =
     answers (cat_version_tests s v path (at s.base v path) name) (text_at s.base path (version_seen s.base (at s.base v path) name))
 
--- an element is selected at the path
-abbrev pub element_tests : Scene → List ℕ → List ℕ → Seen → List (Option Refusal)
-element_tests s v path seen = needs_view s.base v ∷ needs_selected path seen ∷ needs_element path seen ∷ []
+-- what is answered of the element that the view selects at a path, and of what it picks of it
+abbrev pub answers_of : Scene → List ℕ → List ℕ → (ℕ → Picked → List ℕ) → Result Decision Refusal
+answers_of s v path text = past (needs_view s.base v ∷ []) (for_selected path (at s.base v path) (λ e picked. answers [] (text e picked)))
 
 -- `describe V P`: the element, its kind, what is selected of it, and its labels
 abbrev pub describe : Scene → List ℕ → List ℕ → Result Decision Refusal
-describe s v path =
-    answers (element_tests s v path (at s.base v path))
-    (describe_text s.base v (element_of (at s.base v path)) (picked_of (at s.base v path)))
+describe s v path = answers_of s v path (describe_text s.base v)
 
 -- `lsvtree V P`: the versions of the element, branch by branch
 abbrev pub lsvtree : Scene → List ℕ → List ℕ → Result Decision Refusal
-lsvtree s v path = answers (element_tests s v path (at s.base v path)) (lsvtree_text s.base path (element_of (at s.base v path)))
+lsvtree s v path = answers_of s v path (λ e picked. lsvtree_text s.base path e)
 
 -- `lshistory V P`: what made the element, its branches and versions and moved its labels, newest first
 abbrev pub lshistory : Scene → List ℕ → List ℕ → Result Decision Refusal
-lshistory s v path = answers (element_tests s v path (at s.base v path)) (lshistory_text s.base (element_of (at s.base v path)))
+lshistory s v path = answers_of s v path (λ e picked. lshistory_text s.base e)
+
+-- what is answered of the object that the view holds at a path
+abbrev pub answers_of_object : Scene → List ℕ → List ℕ → (ℕ → List ℕ) → Result Decision Refusal
+answers_of_object s v path text = for_object path (held_at (held s.base) v path) (λ id. answers [] (text id))
 
 -- `catcr V P`: the record of the view's object
 abbrev pub catcr : Scene → List ℕ → List ℕ → Result Decision Refusal
-catcr s v path = answers (needs_view s.base v ∷ needs_object s.base v path ∷ []) (catcr_text s.base (object_held s.base v path))
-
--- the tests of `diffcr V P W Q`
-abbrev pub diffcr_tests : Scene → List ℕ → List ℕ → List ℕ → List ℕ → List (Option Refusal)
-diffcr_tests s v path w second =
-    needs_view s.base v ∷ needs_view s.base w ∷ needs_object s.base v path ∷ needs_object s.base w second ∷ []
+catcr s v path = past (needs_view s.base v ∷ []) (answers_of_object s v path (catcr_text s.base))
 
 -- `diffcr V P W Q`: where the records of two objects differ
 abbrev pub diffcr : Scene → List ℕ → List ℕ → List ℕ → List ℕ → Result Decision Refusal
 diffcr s v path w second =
-    answers (diffcr_tests s v path w second) (diffcr_text s.base (object_held s.base v path) (object_held s.base w second))
+    past (needs_view s.base v ∷ needs_view s.base w ∷ [])
+    (for_object path (held_at (held s.base) v path) (λ one. answers_of_object s w second (diffcr_text s.base one)))
 
 -- `covers V W P`: whether view V sees each source of W's object
 abbrev pub covers : Scene → List ℕ → List ℕ → List ℕ → Result Decision Refusal
 covers s seer v path =
-    answers (needs_view s.base seer ∷ needs_view s.base v ∷ needs_object s.base v path ∷ [])
-    (covers_text (uncovered s.base seer (object_held s.base v path)))
+    past (needs_view s.base seer ∷ needs_view s.base v ∷ [])
+    (answers_of_object s v path (λ id. covers_text (uncovered s.base seer id)))
 
 -- `main`, or a branch type
 abbrev pub needs_branch : Base → List ℕ → Option Refusal

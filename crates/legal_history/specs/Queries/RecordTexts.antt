@@ -21,7 +21,7 @@ use Rattle.legal_history.specs.Queries.VersionNames.{line, row_name}
 abbrev pub record_of : Base → ℕ → List ReadOf
 record_of b id = entries_of_deed (deed_at b id)
 
--- the script of an object's record
+-- the script of an object's record; no other row is asked for one
 abbrev pub script_of_deed : Option Deed → List ℕ
 script_of_deed (Some (deeds.Publish v targets script entries outputs)) = script
 script_of_deed _ = []

@@ -26,7 +26,7 @@ branch_name b branch = behind_slashes (codes "main" ∷ names_of_branch (tree b)
 abbrev pub name_of_place : Base → Place → List ℕ
 name_of_place b place = branch_name b place.branch ++ 47 ∷ decimal place.number
 
--- the name of the version that a row made, which is one
+-- the name of the version that a row made; only rows of versions are asked for theirs
 abbrev pub version_name : Base → ℕ → List ℕ
 version_name b row = option_map_or (name_of_place b) (place (tree b) row) []
 
