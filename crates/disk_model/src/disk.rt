@@ -51,12 +51,12 @@ pub trait Disk {
             (λ d. place + length into.old ≤ length (bytes_of file d)) }
         ensures bytes { IfOk result
             (λ _.
-                IfTold (sight self.old).told
-                (λ d. into.new ≡ take (length into.old) (drop place (bytes_of file d)))) }
+            IfTold (sight self.old).told
+            (λ d. into.new ≡ take (length into.old) (drop place (bytes_of file d)))) }
         ensures told { MatchResult result
             (λ _.
-                Both (Fetches file place (length into.old)) (sight self.old).told
-                (sight self.new).told)
+            Both (Fetches file place (length into.old)) (sight self.old).told
+            (sight self.new).told)
             (λ _. Both Idles (sight self.old).told (sight self.new).told) }
         ensures counts { Counted result (sight self.old) (sight self.new) };
 
@@ -69,8 +69,8 @@ pub trait Disk {
         ensures told { MatchResult result
             (λ _. Both (Writes file place piece.now) (sight self.old).told (sight self.new).told)
             (λ _.
-                Both (Tears file place (length piece.now)) (sight self.old).told
-                (sight self.new).told) }
+            Both (Tears file place (length piece.now)) (sight self.old).told
+            (sight self.new).told) }
         ensures counts { Counted result (sight self.old) (sight self.new) };
 
     /// After Ok the file is on the disk as it reads.

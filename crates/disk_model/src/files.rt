@@ -7,23 +7,35 @@ ghost use Rattle.disk_model.specs.Told.{Sight};
 use crate::Counts;
 use crate::disk::{Disk, DiskFault};
 use crate::named::NamedFile;
+use std::alloc::{AllocError, Global};
 use std::fs::File;
+use std::io;
 use std::rt::Files;
-use std::{fmt, io};
 
 /// The length that no file of a disk passes, 2^62.
 const MAX_LENGTH: u64 = 1 << 62;
 
-/// Why a call failed: the name of the file, and the system's words.
+/// Why a call failed: the name of the file, and the system's error.
 #[derive(Clone, Copy, Debug)]
 pub struct Trouble<'a> {
     pub file: &'a str,
     pub cause: io::Error,
 }
 
-impl fmt::Display for Trouble<'_> {
-    fn fmt<W: fmt::Write>(&self, f: &mut fmt::Formatter<W>) -> fmt::Result {
-        write!(f, "{}: {}", self.file, self.cause)
+impl Trouble<'_> {
+    /// `FILE: WORDS`, where the words are the system's.
+    pub fn words(&self, alloc: Global) -> Result<String, AllocError> {
+        let told = format!(in alloc; "{}", self.cause)?;
+        let words = without_number(told.as_str());
+        format!(in alloc; "{}: {words}", self.file)
+    }
+}
+
+/// The system's words for a failure, from what std writes of it: behind the words it writes a number.
+fn without_number(told: &str) -> &str {
+    match told.split_once(" (os error ") {
+        Some((words, _)) => words,
+        None => told,
     }
 }
 

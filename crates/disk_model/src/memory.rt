@@ -29,7 +29,7 @@ impl Contents {
     fn of(alloc: Global, journal: &[u8], objects: &[u8]) -> Result<Contents, NoMemory>
         ensures { IfOk result
             (λ contents.
-                (contents.journal.items ≡ journal.now) × (contents.objects.items ≡ objects.now)) }
+            (contents.journal.items ≡ journal.now) × (contents.objects.items ≡ objects.now)) }
     {
         Ok(Contents {
             journal: Vec::from_slice(alloc, journal)?,
@@ -188,8 +188,8 @@ impl MemoryDisk {
         requires { file ≤ 1 }
         ensures told { MatchResult result
             (λ _.
-                told_by self.new
-                ≡ called (calls.Write file place landed.now lost) (told_by self.old))
+            told_by self.new
+            ≡ called (calls.Write file place landed.now lost) (told_by self.old))
             (λ _. Idles (told_by self.old) (told_by self.new)) }
         ensures counts { Counted result (sight_of self.old) (sight_of self.new) }
     {

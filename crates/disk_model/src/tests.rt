@@ -157,8 +157,7 @@ fn tell_trouble(
     trouble: Option<Trouble<'_>>,
     words: &str,
 ) -> Result<(), Fail> {
-    let trouble = trouble.ok_or("no trouble")?;
-    let told = format!(in alloc; "{trouble}")?;
+    let told = trouble.ok_or("no trouble")?.words(alloc)?;
     assert_eq!(rt; told.as_str(), words);
     Ok(())
 }
@@ -173,7 +172,7 @@ fn failures_are_told(rt: HostRuntime) -> Result<(), Fail> {
             "disk_model_held",
             "disk_model_held: in use by another program",
         ),
-        ("nope/x", "nope/x: No such file or directory (os error 2)"),
+        ("nope/x", "nope/x: No such file or directory"),
     ] {
         let mut disk = files_of(&rt, name)?;
         assert!(rt; disk.length(0).is_err());

@@ -1,8 +1,10 @@
 pub mod Finding
 pub mod Framing
 pub mod Journals
+pub mod Leaving
 pub mod Passing
 pub mod Phasing
 pub mod Settling
 pub mod Staying
 pub mod Telling
+mod WorkedForeign

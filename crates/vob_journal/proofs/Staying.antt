@@ -1,8 +1,10 @@
 -- Calls that leave both files as they were.
 use Rattle.std.proofs.Common.{Option, Some, None, refl, sym, ◌∙◌, subst, inl, inr}
-use Rattle.disk_model.specs.Devices.{Device, Measures, Idles}
+use Rattle.disk_model.specs.Files.{IsImage}
+use Rattle.disk_model.specs.Devices.{Device, Measures, Idles, LeavesNow}
 use Rattle.disk_model.specs.Told.{Both}
 use Rattle.vob_journal.specs.Reads.{Rests, SameFiles}
+use Rattle.vob_journal.proofs.Passing.{passes_then, passes_weaker}
 use Rattle.vob_journal.proofs.Telling.{both_map, both_then}
 
 pub files_stay : (d : Device) → SameFiles d d
@@ -21,6 +23,13 @@ idle_files d e (inr missed) = subst (SameFiles d) (sym missed) (record { journal
 rests_files : (d e : Device) → Rests d e → SameFiles d e
 rests_files d e rests = record { journal = rests.same; objects = rests.passes.objects }
 
+pub rests_then : (d e f : Device) → Rests d e → Rests e f → Rests d f
+rests_then d e f one two = record {
+  same = two.same ∙ one.same;
+  passes = passes_then d e f (LeavesNow 0 d) one.passes
+      (passes_weaker e f (LeavesNow 0 e) (LeavesNow 0 d) (λ image left. subst (λ s. IsImage s image) one.same left) two.passes);
+}
+
 -- the same of what is told before and after
 pub told_stay : (told : Option Device) → Both SameFiles told told
 told_stay None = tt
@@ -37,3 +46,6 @@ told_idle old new idles = both_map Idles SameFiles old new idle_files idles
 
 pub told_rests : (old new : Option Device) → Both Rests old new → Both SameFiles old new
 told_rests old new rests = both_map Rests SameFiles old new rests_files rests
+
+pub told_rest_on : (old mid new : Option Device) → Both Rests old mid → Both Rests mid new → Both Rests old new
+told_rest_on old mid new one two = both_then Rests Rests Rests old mid new rests_then one two

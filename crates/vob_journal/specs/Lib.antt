@@ -1,5 +1,6 @@
 pub mod Answered
 pub mod Calls
+pub mod Foreign
 pub mod Found
 pub mod Frames
 pub mod Lefts

@@ -35,3 +35,7 @@ FaultsOf (Err (Is fault)) old new = new ≡ raised old
 -- at most so many device calls, and a fault only where the answer is one
 abbrev pub CountsReads : {T E : Type 0} → ℕ → Result T (Or E) → Sight → Sight → Type 0
 CountsReads most result old new = (old.ticks ≤ new.ticks) × (new.ticks ≤ old.ticks + most) × FaultsOf result old.faults new.faults
+
+-- any number of device calls, and a fault only where the answer is one
+abbrev pub CountsOn : {T E : Type 0} → Result T (Or E) → Sight → Sight → Type 0
+CountsOn result old new = (old.ticks ≤ new.ticks) × FaultsOf result old.faults new.faults

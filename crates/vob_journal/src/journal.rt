@@ -71,15 +71,15 @@ impl<D: Disk> Journal<D> {
             (λ journal. IfTold (D.sight disk).told (λ d. journal.list ≡ frames (bytes_of 0 d))) }
         ensures begins { IfOk result
             (λ journal.
-                (journal.rest ≡ journal.list) × (journal.loose ≡ []) × (journal.tail ≡ 0)
-                × (journal.ended ≡ false) × (journal.left ≡ lefts.Nothing)) }
+            (journal.rest ≡ journal.list) × (journal.loose ≡ []) × (journal.tail ≡ 0)
+            × (journal.ended ≡ false) × (journal.left ≡ lefts.Nothing)) }
         ensures told { MatchResult result
             (λ journal. Both (Measures 0) (D.sight disk).told (D.sight journal.disk).told)
             (λ back. Both Idles (D.sight disk).told (D.sight back).told) }
         ensures moves { IfOk result
             (λ journal.
-                Both (Moves journal.list [] journal.list journal.loose) (D.sight disk).told
-                (D.sight journal.disk).told) }
+            Both (Moves journal.list [] journal.list journal.loose) (D.sight disk).told
+            (D.sight journal.disk).told) }
         ensures files { MatchResult result
             (λ journal. Both SameFiles (D.sight disk).told (D.sight journal.disk).told)
             (λ back. Both SameFiles (D.sight disk).told (D.sight back).told) }
@@ -107,13 +107,13 @@ impl<D: Disk> Journal<D> {
     pub fn next(&mut self, alloc: Global) -> Result<Option<Text>, Or<DiskFault>>
         ensures gives { IfOk result
             (λ found.
-                IfTold (D.sight self.old.disk).told
-                (λ _. Gives found self.old.rest self.new.rest)) }
+            IfTold (D.sight self.old.disk).told
+            (λ _. Gives found self.old.rest self.new.rest)) }
         ensures ends { Ends result self.old.ended self.new.ended }
         ensures settled { IfOk result
             (λ found.
-                IfTold (D.sight self.old.disk).told
-                (SettledAtEnd found self.old.ended self.new.settled self.new.tail)) }
+            IfTold (D.sight self.old.disk).told
+            (SettledAtEnd found self.old.ended self.new.settled self.new.tail)) }
         ensures list { self.new.list ≡ self.old.list }
         ensures loose { self.new.loose ≡ self.old.loose }
         ensures err { OnErr result (self.new.rest ≡ self.old.rest) }
@@ -152,18 +152,18 @@ impl<D: Disk> Journal<D> {
             (D.sight self.old.disk).told (D.sight self.new.disk).told }
         ensures calls { OnOk result
             (Both (λ d e. e ≡ committed self.old.settled self.old.tail frame.now d)
-                (D.sight self.old.disk).told (D.sight self.new.disk).told) }
+            (D.sight self.old.disk).told (D.sight self.new.disk).told) }
         ensures tick { IfOk result (λ tick. tick ≡ (D.sight self.new.disk).ticks) }
         ensures ok { OnOk result
             (IfTold (D.sight self.old.disk).told
-                (λ _. (self.new.list ≡ self.old.list ++ frame.now ∷ []) × (self.new.loose ≡ []))) }
+            (λ _. (self.new.list ≡ self.old.list ++ frame.now ∷ []) × (self.new.loose ≡ []))) }
         ensures tail { self.new.tail
             ≡ (if is_ok result then self.old.tail + (5 + length frame.now) else self.old.tail) }
         ensures err { OnErr result
             (IfTold (D.sight self.old.disk).told
-                (λ _.
-                    (self.new.list ≡ self.old.list)
-                    × (self.new.loose ≡ loose_after self.new.left self.old.loose frame.now))) }
+            (λ _.
+            (self.new.list ≡ self.old.list)
+            × (self.new.loose ≡ loose_after self.new.left self.old.loose frame.now))) }
         ensures left { OnOk result (self.new.left ≡ lefts.Nothing) }
         ensures settled { self.new.settled ≡ settled_after self.new.left }
         ensures ended { self.new.ended ≡ true }
@@ -193,7 +193,7 @@ impl<D: Disk> Journal<D> {
             (D.sight self.old.disk).told (D.sight self.new.disk).told }
         ensures calls { OnOk result
             (Both (λ d e. e ≡ settled_first self.old.settled self.old.tail d)
-                (D.sight self.old.disk).told (D.sight self.new.disk).told) }
+            (D.sight self.old.disk).told (D.sight self.new.disk).told) }
         ensures list { self.new.list ≡ self.old.list }
         ensures loose { MatchResult result (λ _. self.new.loose ≡ [])
             (λ _. self.new.loose ≡ self.old.loose) }
@@ -233,9 +233,9 @@ impl<D: Disk> Journal<D> {
         ensures faults { result.faults ≡ (D.sight self.now.disk).faults }
         ensures now { IfTold (D.sight self.now.disk).told
             (λ d.
-                (image : List ℕ)
-                → LeavesNow 0 d image
-                → Stands self.now.list self.now.loose image) }
+            (image : List ℕ)
+            → LeavesNow 0 d image
+            → Stands self.now.list self.now.loose image) }
     {
         self.disk.counts()
     }

@@ -10,6 +10,7 @@
 // What it stands on: disk_model, and cc_names below it.
 #![tactic(auto)]
 
+mod foreign;
 mod frame;
 mod journal;
 mod left;
@@ -19,6 +20,7 @@ mod tail;
 mod tests;
 mod window;
 
+pub use foreign::foreign_bytes;
 pub use frame::Frame;
 pub use journal::Journal;
 pub use left::Left;

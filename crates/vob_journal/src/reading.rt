@@ -106,8 +106,8 @@ fn read_payload<D: Disk>(
     requires shows { IfShows (Some window) (D.sight disk.old).told }
     ensures found { IfOk result
         (λ found.
-            IfTold (D.sight disk.old).told
-            (λ d. IsPayload found (take count (drop 5 (drop tail (bytes_of 0 d)))))) }
+        IfTold (D.sight disk.old).told
+        (λ d. IsPayload found (take count (drop 5 (drop tail (bytes_of 0 d)))))) }
     ensures within { IfOk result (IsWithin tail size) }
     ensures shows { IfOk result (ShowsOn (D.sight disk.new).told) }
     ensures rests { Both Rests (D.sight disk.old).told (D.sight disk.new).told }

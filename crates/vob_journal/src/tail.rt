@@ -23,8 +23,8 @@ fn put_down<D: Disk>(disk: &mut D, place: u64, piece: &[u8]) -> Result<(), DiskF
     ensures told { MatchResult result
         (λ _. Both (PutsDown place piece.now) (D.sight disk.old).told (D.sight disk.new).told)
         (λ _.
-            Both (FailsToPut place (length piece.now)) (D.sight disk.old).told
-            (D.sight disk.new).told) }
+        Both (FailsToPut place (length piece.now)) (D.sight disk.old).told
+        (D.sight disk.new).told) }
     ensures counts { Spends 2 result (D.sight disk.old) (D.sight disk.new) }
 {
     if let Err(fault) = disk.write_at(0, place, piece) {
@@ -87,8 +87,8 @@ pub(crate) fn commit<D: Disk>(
     ensures told { MatchResult result
         (λ _. Both (Commits settled tail frame.now) (D.sight disk.old).told (D.sight disk.new).told)
         (λ left.
-            Both (Fails settled tail frame.now left) (D.sight disk.old).told
-            (D.sight disk.new).told) }
+        Both (Fails settled tail frame.now left) (D.sight disk.old).told
+        (D.sight disk.new).told) }
     ensures counts { Spends (calls_of settled) result (D.sight disk.old) (D.sight disk.new) }
 {
     if let Err(_) = settle_tail(disk, settled, tail) {

@@ -25,7 +25,7 @@ impl Window {
         requires { place + needed ≤ 2 ^ 62 }
         ensures { IsTrue result ↔
             ((self.now.start ≤ place)
-                × (place + needed ≤ self.now.start + length self.now.bytes.items)) }
+            × (place + needed ≤ self.now.start + length self.now.bytes.items)) }
     {
         self.start <= place && place - self.start + needed <= self.bytes.len() as u64
     }
