@@ -15,3 +15,8 @@ pub mod Steps
 pub mod Contents
 pub mod Statements
 pub mod Grammar
+pub mod Numbers
+pub mod Serving
+pub mod Walks
+pub mod Graphs
+pub mod UnitLaws

@@ -1,5 +1,5 @@
-use Rattle.std.proofs.Common.{◌≡◌, ◌<◌, ◌∙◌, sym, ap, subst, length, arith}
-use Rattle.make_text.specs.Macros.{Expansion, expansion_of}
+use Rattle.std.proofs.Common.{◌<◌, ◌∙◌, sym, subst, length, arith}
+use Rattle.make_text.specs.Macros.{expansion_of}
 use Rattle.make_text.specs.Steps.{automatic_of, opened_of, IsOutcome}
 use Rattle.make_text.proofs.RunLemmas.{runs_longer}
 use Rattle.make_text.proofs.StepLemmas.{is_started, too_long}

@@ -1,9 +1,9 @@
-use Rattle.std.proofs.Common.{◌≡◌, [], ◌<◌, length, refl, sym, ap, ◌∙◌, arith}
+use Rattle.std.proofs.Common.{◌≡◌, [], ◌<◌, refl, arith}
 use Rattle.std.proofs.lemmas.List.{nil_from_length}
 use Rattle.make_text.specs.Macros.{Expansion}
 use Rattle.make_text.specs.Steps.{automatic_of, IsRunning, Took, Went, FallsBelow, work_of}
 use Rattle.make_text.specs.declared.expansions.Expanding.{Expanding}
-use Rattle.make_text.proofs.StepLemmas.{ends_safely, refers_safely, ended_went, ended_falls, took_went, took_falls, where_ok}
+use Rattle.make_text.proofs.StepLemmas.{ends_safely, ended_went, ended_falls, took_went, took_falls, where_ok}
 use Rattle.make_text.proofs.expansions.Expanding.step.Goals as goal
 
 pub end-requires : goal.end-requires

@@ -1,4 +1,4 @@
-use Rattle.std.proofs.Common.{◌≡◌, ap, sym, ◌∙◌, map, subst}
+use Rattle.std.proofs.Common.{ap, ◌∙◌, map, subst}
 use Rattle.std.specs.List.{position}
 use Rattle.std.specs.Str.{bytes_eq}
 use Rattle.make_text.specs.Runs.{IsFound}
