@@ -17,7 +17,7 @@ use std::alloc::Global;
 use std::marker::Model;
 
 /// A makefile of the language in full. Contracts see it as what it says.
-#[derive(Debug, Drop)]
+#[derive(Drop)]
 pub struct Makefile {
     rules: Vec<MakeRule>,
     suffix_rules: Vec<SuffixRule>,
@@ -27,10 +27,11 @@ pub struct Makefile {
 
 impl Model for Makefile {
     ghost use Rattle.make_text.specs.Contents.{Contents};
+    ghost use Rattle.make_text.specs.Statements.{macros_of};
 
     ghost Value = { Contents };
 
-    ghost view = { λ make. record { rules = make.rules.items; suffix_rules = make.suffix_rules.items; phony = make.phony.keys; macros = make.macros } };
+    ghost view = { λ make. record { rules = make.rules.items; suffix_rules = make.suffix_rules.items; phony = make.phony.keys; macros = macros_of make.macros } };
 }
 
 impl Makefile {
