@@ -70,7 +70,12 @@ fn makes_any(paths: &[Path], unit: &Unit) -> bool
 }
 
 /// The units below a number that make what is wanted, and what those are made of in turn, the last one first.
-fn needed(alloc: Global, units: &[Unit], below: u32, paths: &[Path]) -> Result<Vec<u32>, NoMemory>
+pub(crate) fn needed(
+    alloc: Global,
+    units: &[Unit],
+    below: u32,
+    paths: &[Path],
+) -> Result<Vec<u32>, NoMemory>
     requires { below ≤ length units.now }
     ensures { IfOk result (λ numbers. numbers.items ≡ needed (reverse (take below units.now)) paths.now) }
 {
@@ -90,7 +95,7 @@ fn needed(alloc: Global, units: &[Unit], below: u32, paths: &[Path]) -> Result<V
 }
 
 /// Whether each unit that makes one of these paths is done.
-fn are_done(paths: &[Path], units: &[Unit], done: &[bool]) -> bool
+pub(crate) fn are_done(paths: &[Path], units: &[Unit], done: &[bool]) -> bool
     requires { length done.now ≡ length units.now }
     ensures { result ≡ are_done paths.now units.now done.now }
 {

@@ -41,7 +41,7 @@ impl Exists for OneFile {
     }
 }
 
-fn words_of_unit(alloc: Global, unit: &Unit) -> Result<String, AllocError> {
+pub(crate) fn words_of_unit(alloc: Global, unit: &Unit) -> Result<String, AllocError> {
     let mut words = String::new(alloc);
     for target in unit.targets.as_slice() {
         words.push_str(format!(in alloc; "{target} ")?.as_str())?;

@@ -1,13 +1,12 @@
 -- How an expansion goes on from one piece to the next.
-use Rattle.std.proofs.Common.{◌≡◌, ℕ, zero, suc, ◌+◌, ◌-◌, ◌<◌, ◌≤◌, Bool, true, false, cond, not, ◌||◌, Option, Some, None, List, [], ◌∷◌, ◌++◌, length, map, take, drop, refl, sym, ap, ◌∙◌, subst, append_assoc, one-add, add-one, arith, length-take, length-append}
+use Rattle.std.proofs.Common.{◌≡◌, ℕ, zero, suc, ◌+◌, ◌-◌, ◌<◌, Bool, true, false, ◌||◌, Some, None, List, [], ◌∷◌, ◌++◌, length, map, take, drop, refl, sym, ap, ◌∙◌, subst, append_assoc, arith, length-append}
 use Rattle.std.specs.Prelude.{if◌then◌else◌}
-use Rattle.std.specs.List.{list_any}
 use Rattle.std.specs.Str.{bytes_eq}
-use Rattle.std.proofs.lemmas.List.{append-nil, take-append-drop, take-take, take_all, drop_all, drop-append-le, take-append-le}
+use Rattle.std.proofs.lemmas.List.{append-nil, take-append-drop, take_all, drop_all, drop-append-le, take-append-le}
 use Rattle.std.proofs.lemmas.Slice.Eq.{bytes_eq-Decides}
 use Rattle.std.proofs.lemmas.Bool.{false_from_ne_true}
 use Rattle.cc_names.specs.declared.commands.Macro.{Macro}
-use Rattle.make_text.specs.Macros.{Piece, Byte, Reference, Automatic, Bad, Expansion, plain, loop, followed, pieces_of, piece_expansion, pieces_expansion, reference_expansion, value_in, value_expansion, is_among}
+use Rattle.make_text.specs.Macros.{Piece, Byte, Reference, Expansion, plain, loop, followed, pieces_of, piece_expansion, pieces_expansion, value_in, is_among}
 use Rattle.make_text.specs.Expanding.{Memo, Opened, names_of, refer, goes_on, left_of, still, Admits, Settled, Gives, AllGive}
 
 -- ---- expansions one after the other

@@ -5,5 +5,11 @@ pub mod ExpansionLemmas
 pub mod RunLemmas
 pub mod MacroLemmas
 pub mod StepLemmas
+mod Places
+mod NumberLaws
+mod WalkLaws
+mod ServingLaws
+pub mod UnitLaws
 mod Worked
+mod WorkedGraphs
 mod WorkedMakefiles

@@ -1,15 +1,15 @@
 -- The steps of an expansion.
-use Rattle.std.proofs.Common.{◌≡◌, ◌≢◌, inl, inr, ℕ, zero, suc, ◌+◌, ◌-◌, ◌*◌, ◌<◌, ◌≤◌, Bool, true, false, cond, not, ◌||◌, Option, Some, None, List, [], ◌∷◌, ◌++◌, length, map, take, drop, set, replicate, get_or, refl, sym, ap, ◌∙◌, subst, append_assoc, one-add, add-one, arith, length-append, length-set}
+use Rattle.std.proofs.Common.{◌≡◌, ◌≢◌, inl, inr, ℕ, zero, suc, ◌+◌, ◌-◌, ◌<◌, ◌≤◌, true, false, ◌||◌, Some, None, List, [], ◌∷◌, ◌++◌, length, map, take, drop, set, replicate, refl, sym, ap, ◌∙◌, subst, one-add, arith, length-append, length-set}
 use Rattle.std.specs.Prelude.{if◌then◌else◌, sum_by}
 use Rattle.std.specs.Str.{bytes_eq}
-use Rattle.std.proofs.lemmas.List.{append-nil, take_rest, take_all, drop_all, drop-append-le, take-append-le, get_or-set_same, get_or-set_other, get_or-replicate, length-drop, length-replicate}
+use Rattle.std.proofs.lemmas.List.{append-nil, take_rest, drop-append-le, take-append-le, get_or-set_same, get_or-set_other, get_or-replicate, length-drop, length-replicate}
 use Rattle.std.proofs.lemmas.List.Sums.{sum_by-cons, sum_by-set}
-use Rattle.std.proofs.lemmas.Bool.{cases_eq, false_from_ne_true}
+use Rattle.std.proofs.lemmas.Bool.{cases_eq}
 use Rattle.std.proofs.lemmas.Slice.Eq.{bytes_eq-Decides}
 use Rattle.cc_names.specs.declared.commands.Macro.{Macro}
-use Rattle.make_text.specs.Macros.{Piece, Byte, Reference, Automatic, Bad, Expansion, plain, loop, followed, pieces_of, expansion_of, value_in, is_among}
-use Rattle.make_text.specs.Expanding.{Memo, Opened, names_of, refer, goes_on, left_of, still, Admits, Settled, AllGive}
-use Rattle.make_text.specs.Runs.{macro_at, HasNamesApart, result_in, EndsIn, is_begun, untouched, state_at, Runs, work}
+use Rattle.make_text.specs.Macros.{Piece, Byte, Reference, Automatic, Bad, Expansion, plain, followed, pieces_of, expansion_of, value_in, is_among}
+use Rattle.make_text.specs.Expanding.{Opened, names_of, refer, goes_on, left_of, still, Admits}
+use Rattle.make_text.specs.Runs.{macro_at, HasNamesApart, result_in, EndsIn, is_begun, untouched, state_at, Runs}
 use Rattle.make_text.specs.declared.expansions.State.{State}
 use Rattle.make_text.specs.declared.expansions.State.TheVariants.{Untouched, Begun, Expanded}
 use Rattle.make_text.proofs.ExpansionLemmas.{neither, other_bytes, with_result, one_of, not_with, none_or_some, none_or_defined, known_expansion, undefined_expansion, loop_expansion, bytes_expansion, all_cut, all_step, all_begun, all_finished, still_cut, still_begun, followed_assoc}

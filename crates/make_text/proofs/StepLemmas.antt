@@ -1,13 +1,13 @@
 -- The steps by which the code expands a text are steps of the expansion.
-use Rattle.std.proofs.Common.{◌≡◌, inl, inr, ℕ, zero, suc, ◌+◌, ◌-◌, ◌*◌, ◌<◌, ◌≤◌, Bool, true, false, Option, Some, None, List, [], ◌∷◌, ◌++◌, length, map, reverse, take, drop, set, replicate, get_or, refl, sym, ap, ◌∙◌, subst, one-add, add-one, arith, length-append}
+use Rattle.std.proofs.Common.{◌≡◌, inl, inr, ℕ, zero, suc, ◌+◌, ◌-◌, ◌*◌, ◌<◌, ◌≤◌, true, Some, List, [], ◌∷◌, ◌++◌, length, map, set, replicate, get_or, refl, sym, ap, ◌∙◌, subst, arith, length-append}
 use Rattle.std.specs.Prelude.{sum_by, All, Result, Ok, Err, IfOk}
-use Rattle.std.proofs.lemmas.List.{append-nil, reverse-append, get_or_append_left, get_or_push, length_push}
+use Rattle.std.proofs.lemmas.List.{reverse-append, get_or_append_left, get_or_push, length_push}
 use Rattle.std.proofs.lemmas.List.Sums.{sum_by-cons, sum_by-set}
 use Rattle.std.proofs.lemmas.Bool.{cases_eq, lt-ltb}
 use Rattle.cc_names.specs.declared.commands.Macro.{Macro}
-use Rattle.make_text.specs.Macros.{Piece, Byte, Reference, Automatic, Bad, Expansion, expansion_of, is_too_long, plain, pieces_of, value_in}
-use Rattle.make_text.specs.Expanding.{Opened, names_of}
-use Rattle.make_text.specs.Runs.{macro_at, HasNamesApart, IsFound, untouched, is_begun, state_at, Runs, work, EndsIn}
+use Rattle.make_text.specs.Macros.{Piece, Reference, Expansion, expansion_of, is_too_long, plain, pieces_of, value_in}
+use Rattle.make_text.specs.Expanding.{Opened}
+use Rattle.make_text.specs.Runs.{macro_at, HasNamesApart, untouched, state_at, Runs, work}
 use Rattle.make_text.specs.Scanning.{pieces_in}
 use Rattle.make_text.specs.Steps.{opened_in, opened_of, IsRunning, work_of, EndsSafely, Ended, RefersSafely, Referred, Undefined, Known, Begins, Meets, Took, Went, FallsBelow}
 use Rattle.make_text.specs.declared.expansions.Expanding.{Expanding}
@@ -18,7 +18,7 @@ use Rattle.make_text.specs.declared.expansions.Step.{Step}
 use Rattle.make_text.specs.declared.expansions.Step.TheVariants.{Goes, Ends, Loops}
 use Rattle.make_text.specs.declared.pieces.Part as parts
 use Rattle.make_text.specs.declared.pieces.Part.TheVariants as variants
-use Rattle.make_text.proofs.RunLemmas.{runs_cut, runs_bytes, runs_automatic, runs_bad, runs_undefined, runs_known, runs_begin, runs_end, runs_loop, runs_done, runs_start, begun_is_touched}
+use Rattle.make_text.proofs.RunLemmas.{runs_cut, runs_bytes, runs_automatic, runs_bad, runs_undefined, runs_known, runs_begin, runs_end, runs_loop, runs_done, runs_start}
 
 -- ---- the innermost macro
 

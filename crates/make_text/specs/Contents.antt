@@ -1,11 +1,11 @@
 -- What a makefile says, by the rule lines that were read.
-use Rattle.std.specs.Prelude.{ℕ, Bool, true, false, not, ◌&&◌, ◌==◌, Option, Some, None, List, [], ◌∷◌, ◌++◌, length, map, filter, find, flat_map, fold, is_some, is_none, unwrap_or, if◌then◌else◌}
+use Rattle.std.specs.Prelude.{ℕ, Bool, not, ◌&&◌, ◌==◌, Option, None, List, [], ◌∷◌, ◌++◌, length, filter, find, flat_map, fold, is_some, unwrap_or, if◌then◌else◌}
 use Rattle.std.specs.List.{list_any}
 use Rattle.std.specs.Option.{option_or}
 use Rattle.std.specs.Str.{bytes_eq}
 use Rattle.cc_names.specs.declared.commands.Macro.{Macro}
 use Rattle.make_text.specs.Macros.{Expansion, is_among, expansion_of, in_script, is_too_long}
-use Rattle.make_text.specs.Makefiles.{each_once, with_path}
+use Rattle.make_text.specs.Makefiles.{with_path}
 use Rattle.make_text.specs.declared.makefiles.Expanded.{Expanded}
 use Rattle.make_text.specs.declared.makefiles.Expanded.TheVariants as expansions
 use Rattle.make_text.specs.declared.rules.MakeRule.{MakeRule}

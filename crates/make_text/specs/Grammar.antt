@@ -8,7 +8,7 @@ use Rattle.cc_names.specs.declared.refusals.MakeError.{MakeError}
 use Rattle.make_text.specs.LogicalLines.{logical_lines}
 use Rattle.make_text.specs.Macros.{is_among, no_automatic, reference_expansion}
 use Rattle.make_text.specs.Contents.{Contents, RuleLine, contents_from, groups_of, joined_rules}
-use Rattle.make_text.specs.Statements.{Files, Definition, Reading, depth_limit, expansion_fault, included, macro_of, override, and_then, read_lines}
+use Rattle.make_text.specs.Statements.{Files, Definition, Reading, depth_limit, expansion_fault, included, macros_of, override, and_then, read_lines}
 
 -- the suffixes of a makefile that says nothing of them
 abbrev pub first_suffixes : List (List ℕ)
@@ -68,14 +68,14 @@ unless_fault (Some fault) make = Err fault
 -- what a makefile says whose rule lines are these, the oldest first
 abbrev pub contents_of : Reading → List RuleLine → Contents
 contents_of reading lines =
-    contents_from reading.suffixes reading.phony (map macro_of reading.macros) (groups_of lines) (joined_rules lines)
+    contents_from reading.suffixes reading.phony (macros_of reading.macros) (groups_of lines) (joined_rules lines)
 
 -- what is tested behind the last line: each macro in the order of first definition, and then the phony targets
 abbrev pub checked : Result Reading MakeError → Result Contents MakeError
 checked (Err fault) = Err fault
 checked (Ok reading) =
     unless_fault
-    (fault_or (macros_fault (map macro_of reading.macros) reading.macros) (phony_fault reading.phony (reverse reading.rules)))
+    (fault_or (macros_fault (macros_of reading.macros) reading.macros) (phony_fault reading.phony (reverse reading.rules)))
     (contents_of reading (reverse reading.rules))
 
 -- the lines of a makefile, read behind the macros of the command line

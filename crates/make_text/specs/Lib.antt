@@ -8,10 +8,15 @@ pub mod LineKinds
 pub mod SeenKinds
 pub mod Macros
 pub mod Scanning
-pub mod MacroEntries
 pub mod Expanding
 pub mod Runs
 pub mod Steps
 pub mod Contents
 pub mod Statements
+pub mod MacroEntries
 pub mod Grammar
+pub mod Numbers
+pub mod Serving
+pub mod Walks
+pub mod Graphs
+pub mod UnitLaws

@@ -1,18 +1,26 @@
 -- The macros that a map holds by their names.
-use Rattle.std.specs.Prelude.{ℕ, List, [], ◌∷◌, map, if◌then◌else◌}
-use Rattle.std.specs.Str.{bytes_eq}
+use Rattle.std.specs.Prelude.{ℕ, List, map}
 use Rattle.cc_names.specs.declared.commands.Macro.{Macro}
+use Rattle.make_text.specs.Statements.{Definition}
+use Rattle.make_text.specs.declared.macros.Defined.{Defined}
 
--- an entry of the map as a macro
-abbrev pub macro_in : List ℕ × List ℕ → Macro
-macro_in entry = record { name = entry.0; value = entry.1 }
+-- an entry of the map as a macro, and as a definition
+abbrev pub macro_in : List ℕ × Defined → Macro
+macro_in entry = record { name = entry.0; value = entry.1.value }
 
--- the entries of the map as macros
-abbrev pub macros_in : List (List ℕ × List ℕ) → List Macro
+abbrev pub definition_in : List ℕ × Defined → Definition
+definition_in entry =
+    record {
+      name = entry.0;
+      value = entry.1.value;
+      file = entry.1.file.value;
+      line = entry.1.line;
+      is_fixed = entry.1.is_fixed;
+    }
+
+-- the entries of the map as macros, and as definitions
+abbrev pub macros_in : List (List ℕ × Defined) → List Macro
 macros_in entries = map macro_in entries
 
--- macros with this one: a name that is there keeps its place and takes the value, and a new one goes last
-abbrev pub with_macro : List ℕ → List ℕ → List Macro → List Macro
-with_macro name value [] = record { name = name; value = value } ∷ []
-with_macro name value (macro ∷ macros) =
-    if bytes_eq name macro.name then record macro { value = value } ∷ macros else macro ∷ with_macro name value macros
+abbrev pub definitions_in : List (List ℕ × Defined) → List Definition
+definitions_in entries = map definition_in entries

@@ -1,6 +1,6 @@
 -- An expansion as the code runs it: what is left of the text, the macros that are being expanded, what is known of each
 -- macro, and the bytes that were written.
-use Rattle.std.specs.Prelude.{◌≡◌, ℕ, ◌+◌, ◌*◌, ◌≤◌, ◌<◌, Bool, true, false, Option, Some, None, List, [], ◌∷◌, ◌++◌, length, map, reverse, take, drop, sum_by, slice_index_or}
+use Rattle.std.specs.Prelude.{◌≡◌, ℕ, ◌+◌, ◌*◌, ◌≤◌, ◌<◌, Bool, true, false, Option, Some, None, List, [], length, take, drop, sum_by, slice_index_or}
 use Rattle.cc_names.specs.declared.commands.Macro.{Macro}
 use Rattle.make_text.specs.Macros.{Piece, Expansion, plain, followed, value_in, is_among}
 use Rattle.make_text.specs.Expanding.{Memo, Opened, names_of, goes_on, left_of, still, Settled, AllGive}

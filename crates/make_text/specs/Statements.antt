@@ -76,9 +76,13 @@ within_limits file n reading =
 abbrev pub macro_of : Definition → Macro
 macro_of definition = record { name = definition.name; value = definition.value }
 
+-- macros as they are expanded
+abbrev pub macros_of : List Definition → List Macro
+macros_of definitions = map macro_of definitions
+
 -- a text expanded by the macros that were read
 abbrev pub expanded_by : Reading → List ℕ → Expansion
-expanded_by reading text = expansion_of (map macro_of reading.macros) no_automatic text
+expanded_by reading text = expansion_of (macros_of reading.macros) no_automatic text
 
 -- the fault of an expansion of a line, if it has one
 abbrev pub expansion_fault : Expansion → Option MakeCause
@@ -105,9 +109,15 @@ unless_cause file n None reading = Ok reading
 abbrev pub with_definition : Definition → List Definition → List Definition
 with_definition definition [] = definition ∷ []
 with_definition definition (older ∷ others) =
-    if bytes_eq older.name definition.name
+    if bytes_eq definition.name older.name
     then (if older.is_fixed && not definition.is_fixed then older else definition) ∷ others
     else older ∷ with_definition definition others
+
+-- whether the macro of this name is there and fixed
+abbrev pub has_fixed : List Definition → List ℕ → Bool
+has_fixed [] name = false
+has_fixed (definition ∷ definitions) name =
+    if bytes_eq name definition.name then definition.is_fixed else has_fixed definitions name
 
 -- the fault of a macro's name and value
 abbrev pub macro_fault : List ℕ → List ℕ → Option MakeCause

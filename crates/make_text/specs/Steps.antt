@@ -1,6 +1,5 @@
 -- The steps by which the code expands a text.
-use Rattle.std.specs.Prelude.{◌≡◌, ℕ, ◌-◌, ◌<◌, ◌≤◌, true, false, Option, Some, None, List, [], ◌∷◌, ◌++◌, length, map, reverse, take, drop, slice_set, option_copied, All}
-use Rattle.std.specs.Borrow.{Bor}
+use Rattle.std.specs.Prelude.{◌≡◌, ℕ, ◌-◌, ◌<◌, ◌≤◌, true, false, Some, None, List, [], ◌∷◌, ◌++◌, length, map, reverse, take, drop, slice_set, option_copied, All}
 use Rattle.cc_names.specs.declared.commands.Macro.{Macro}
 use Rattle.make_text.specs.Macros.{Piece, Expansion, plain, in_script, is_too_long, value_in}
 use Rattle.make_text.specs.Expanding.{Opened}

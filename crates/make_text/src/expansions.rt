@@ -3,6 +3,7 @@
 ghost use Rattle.std.specs.Prelude.{◌≡◌, ◌<◌, IfOk, [], length, replicate};
 ghost use Rattle.make_text.specs.Macros.{Expansion, expansion_of, is_too_long};
 ghost use Rattle.make_text.specs.Runs.{HasNamesApart};
+ghost use Rattle.make_text.specs.Statements.{macros_of};
 ghost use Rattle.make_text.specs.Steps.{automatic_of, IsRunning, work_of, EndsSafely, Ended, RefersSafely, Referred, Took, Went, FallsBelow, IsSomeRun, IsOutcome};
 ghost use Rattle.make_text.specs.declared.expansions.State.TheVariants as states;
 
@@ -128,8 +129,8 @@ impl<'a> Expanding<'a> {
         macros: &'a MacroTable,
         name: &[u8],
     ) -> Result<Step, NoMemory>
-        requires { RefersSafely macros.now self.old }
-        ensures { IfOk result (λ step. Referred macros.now name.now self.old self.new step) }
+        requires { RefersSafely (macros_of macros.now) self.old }
+        ensures { IfOk result (λ step. Referred (macros_of macros.now) name.now self.old self.new step) }
     {
         let Some(index) = macros.find(alloc, name)? else {
             return Ok(Step::Goes);
@@ -162,8 +163,8 @@ impl<'a> Expanding<'a> {
         automatic: &Automatic<'a>,
         part: Part<'_>,
     ) -> Result<Step, NoMemory>
-        requires { RefersSafely macros.now self.old }
-        ensures { IfOk result (λ step. Took macros.now (automatic_of automatic.now) part.entry self.old self.new step) }
+        requires { RefersSafely (macros_of macros.now) self.old }
+        ensures { IfOk result (λ step. Took (macros_of macros.now) (automatic_of automatic.now) part.entry self.old self.new step) }
     {
         match part {
             Part::Bytes(bytes) => self.written.extend_from_slice(bytes)?,
@@ -181,10 +182,10 @@ impl<'a> Expanding<'a> {
         macros: &'a MacroTable,
         automatic: &Automatic<'a>,
     ) -> Result<Step, NoMemory>
-        requires apart { HasNamesApart macros.now }
-        requires runs { IsSomeRun macros.now (automatic_of automatic.now) self.old }
-        ensures went { IfOk result (λ step. (total : Expansion) → IsRunning macros.now (automatic_of automatic.now) total [] self.old → Went macros.now (automatic_of automatic.now) total step self.new) }
-        ensures falls { IfOk result (λ step. FallsBelow (work_of macros.now self.old) step (work_of macros.now self.new)) }
+        requires apart { HasNamesApart (macros_of macros.now) }
+        requires runs { IsSomeRun (macros_of macros.now) (automatic_of automatic.now) self.old }
+        ensures went { IfOk result (λ step. (total : Expansion) → IsRunning (macros_of macros.now) (automatic_of automatic.now) total [] self.old → Went (macros_of macros.now) (automatic_of automatic.now) total step self.new) }
+        ensures falls { IfOk result (λ step. FallsBelow (work_of (macros_of macros.now) self.old) step (work_of (macros_of macros.now) self.new)) }
     {
         if self.rest.is_empty() {
             return Ok(self.end());
@@ -217,7 +218,7 @@ pub(crate) fn expand<'a>(
     automatic: &Automatic<'a>,
     text: &'a [u8],
 ) -> Result<Outcome, NoMemory>
-    ensures { IfOk result (λ outcome. IsOutcome (expansion_of macros.now (automatic_of automatic.now) text.now) outcome) }
+    ensures { IfOk result (λ outcome. IsOutcome (expansion_of (macros_of macros.now) (automatic_of automatic.now) text.now) outcome) }
 {
     let count = macros.len();
     let mut expanding = Expanding::of(alloc, count, text)?;

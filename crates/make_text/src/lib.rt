@@ -11,7 +11,9 @@
 // `indexmap` for prerequisites in order, each once.
 #![tactic(auto)]
 
+pub mod contents;
 mod expansions;
+pub mod laws;
 mod line_kinds;
 #[cfg(test)]
 mod line_tests;
@@ -22,6 +24,8 @@ pub mod makefiles;
 mod piece_tests;
 mod pieces;
 pub mod rules;
+pub mod serving;
 #[cfg(test)]
 mod tests;
+pub mod walks;
 mod words;

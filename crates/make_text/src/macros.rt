@@ -1,30 +1,43 @@
 // The macros of a makefile, by their names.
 
-ghost use Rattle.std.specs.Prelude.{◌≡◌, ◌<◌, IfOk, OnOk, [], length};
-ghost use Rattle.make_text.specs.MacroEntries.{with_macro};
+ghost use Rattle.std.specs.Prelude.{◌≡◌, ◌<◌, ◌&&◌, not, IfOk, OnOk, [], length};
+ghost use Rattle.make_text.specs.MacroEntries.{definition_in};
 ghost use Rattle.make_text.specs.Runs.{macro_at, HasNamesApart, IsFound};
+ghost use Rattle.make_text.specs.Statements.{macros_of, has_fixed, with_definition};
 
 use cc_names::memory::NoMemory;
+use cc_names::paths::Path;
 use cc_names::texts::Text;
 use indexmap::IndexMap;
 use std::alloc::Global;
 use std::marker::Model;
+use std::rc::Rc;
+
+/// What a macro is defined as: its value, with the place of its last definition.
+#[derive(Drop)]
+pub(crate) struct Defined {
+    pub(crate) value: Text,
+    pub(crate) file: Rc<Path>,
+    pub(crate) line: u32,
+    /// Whether the command line defines it, which no line of the makefile changes.
+    pub(crate) is_fixed: bool,
+}
 
 /// The macros of a makefile: of each name the definition that counts, in the order of first definition. Contracts see them
 /// as their list.
-#[derive(Debug, Drop)]
+#[derive(Drop)]
 pub(crate) struct MacroTable {
-    values: IndexMap<Text, Text>,
+    defined: IndexMap<Text, Defined>,
 }
 
 impl Model for MacroTable {
     ghost use Rattle.std.specs.Prelude.{List};
-    ghost use Rattle.cc_names.specs.declared.commands.Macro.{Macro};
-    ghost use Rattle.make_text.specs.MacroEntries.{macros_in};
+    ghost use Rattle.make_text.specs.Statements.{Definition};
+    ghost use Rattle.make_text.specs.MacroEntries.{definitions_in};
 
-    ghost Value = { List Macro };
+    ghost Value = { List Definition };
 
-    ghost view = { λ table. macros_in table.values.entries };
+    ghost view = { λ table. definitions_in table.defined.entries };
 }
 
 impl MacroTable {
@@ -33,41 +46,62 @@ impl MacroTable {
         ensures { result ≡ [] }
     {
         MacroTable {
-            values: IndexMap::new(alloc),
+            defined: IndexMap::new(alloc),
         }
     }
 
-    /// Defines a macro: a name that is there keeps its place and takes the value, and a new one goes last.
-    pub(crate) fn define(&mut self, name: Text, value: Text) -> Result<(), NoMemory>
-        ensures { OnOk result (self.new ≡ with_macro name value self.old) }
+    /// Whether a macro of this name is there and fixed.
+    fn has_fixed(&self, name: &Text) -> bool
+        ensures { result ≡ has_fixed self.now name.now }
     {
-        self.values.insert(name, value)?;
+        match self.defined.get(name) {
+            Some(older) => older.is_fixed,
+            None => false,
+        }
+    }
+
+    /// Whether a macro keeps its definition, since it is fixed and another is not.
+    fn keeps(&self, name: &Text, is_fixed: bool) -> bool
+        ensures { result ≡ (not is_fixed && has_fixed self.now name.now) }
+    {
+        !is_fixed && self.has_fixed(name)
+    }
+
+    /// Defines a macro: a name that is there keeps its place and takes the value, unless it is fixed and this is not, and a
+    /// new one goes last.
+    pub(crate) fn define(&mut self, name: Text, defined: Defined) -> Result<(), NoMemory>
+        ensures { OnOk result (self.new ≡ with_definition (definition_in (name, defined)) self.old) }
+    {
+        if self.keeps(&name, defined.is_fixed) {
+            return Ok(());
+        }
+        self.defined.insert(name, defined)?;
         Ok(())
     }
 
     /// How many there are.
     pub(crate) fn len(&self) -> usize
-        ensures count { result ≡ length self.now }
-        ensures apart { HasNamesApart self.now }
+        ensures count { result ≡ length (macros_of self.now) }
+        ensures apart { HasNamesApart (macros_of self.now) }
     {
-        self.values.len()
+        self.defined.len()
     }
 
     /// The index of the macro of this name. Takes time linear in the name.
     pub(crate) fn find(&self, alloc: Global, name: &[u8]) -> Result<Option<usize>, NoMemory>
-        ensures { IfOk result (λ found. IsFound self.now name.now found) }
+        ensures { IfOk result (λ found. IsFound (macros_of self.now) name.now found) }
     {
         let name = Text::from_bytes(alloc, name)?;
-        Ok(self.values.get_index_of(&name))
+        Ok(self.defined.get_index_of(&name))
     }
 
     /// The value of the macro at an index.
     pub(crate) fn value(&self, index: usize) -> &[u8]
-        requires { index < length self.now }
-        ensures { result.now ≡ (macro_at self.now index).value }
+        requires { index < length (macros_of self.now) }
+        ensures { result.now ≡ (macro_at (macros_of self.now) index).value }
     {
-        match self.values.get_index(index) {
-            Some((_, value)) => value.as_bytes(),
+        match self.defined.get_index(index) {
+            Some((_, defined)) => defined.value.as_bytes(),
             None => unreachable!(),
         }
     }

@@ -93,8 +93,8 @@ fn may_be_rule(alloc: Global, line: &[u8]) -> Result<bool, AllocError>
     Ok(has_rule_bytes(line) && !begins_with_include(words.as_slice()))
 }
 
-/// A word as a path below the root, where it is one.
-fn read_path(alloc: Global, word: &[u8]) -> Result<Option<Path>, NoMemory>
+/// A word as a path below the root, where it is one. Takes time linear in the word.
+pub fn read_path(alloc: Global, word: &[u8]) -> Result<Option<Path>, NoMemory>
     ensures { IfOk result (λ read. read ≡ path_in word.now) }
 {
     match Path::read(alloc, word) {

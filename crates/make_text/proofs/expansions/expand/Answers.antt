@@ -1,5 +1,6 @@
-use Rattle.std.proofs.Common.{◌≡◌, ◌<◌, ◌∙◌, sym, ap, subst, length, arith}
-use Rattle.make_text.specs.Macros.{Expansion, expansion_of}
+use Rattle.std.proofs.Common.{◌<◌, ◌∙◌, sym, subst, length, arith}
+use Rattle.make_text.specs.Statements.{macros_of}
+use Rattle.make_text.specs.Macros.{expansion_of}
 use Rattle.make_text.specs.Steps.{automatic_of, opened_of, IsOutcome}
 use Rattle.make_text.proofs.RunLemmas.{runs_longer}
 use Rattle.make_text.proofs.StepLemmas.{is_started, too_long}
@@ -9,24 +10,24 @@ pub steps-init : goal.steps-init
 steps-init c =
     let e = c.in_ok-expanding.ensures in (
       c.len-count.ensures.apart,
-      is_started c.args.macros.now (automatic_of c.args.automatic.now) c.args.text.now c.len-count.result c.in_ok-expanding.expanding c.len-count.ensures.count e.rest e.opened e.states e.written,
+      is_started (macros_of c.args.macros.now) (automatic_of c.args.automatic.now) c.args.text.now c.len-count.result c.in_ok-expanding.expanding c.len-count.ensures.count e.rest e.opened e.states e.written,
     )
 
 pub returns-in-Ends : goal.returns-in-Ends
 returns-in-Ends c =
-    let total = expansion_of c.args.macros.now (automatic_of c.args.automatic.now) c.args.text.now in
+    let total = expansion_of (macros_of c.args.macros.now) (automatic_of c.args.automatic.now) c.args.text.now in
     let went = rw c.in-Ends.is at (c.in_ok-step.ensures.went total c.steps.invariant.1) in
     subst (λ t. IsOutcome t c.bounded.result) (sym went) c.bounded.ensures
 
 pub returns-in-Loops : goal.returns-in-Loops
 returns-in-Loops c =
-    let total = expansion_of c.args.macros.now (automatic_of c.args.automatic.now) c.args.text.now in
+    let total = expansion_of (macros_of c.args.macros.now) (automatic_of c.args.automatic.now) c.args.text.now in
     let went = rw c.in-Loops.is at (c.in_ok-step.ensures.went total c.steps.invariant.1) in
     subst (λ t. IsOutcome t c.bounded-in-Loops.result) (sym went) c.bounded-in-Loops.ensures
 
 pub returns-then-len-gt-EXPANSION_LIMIT : goal.returns-then-len-gt-EXPANSION_LIMIT
 returns-then-len-gt-EXPANSION_LIMIT c =
-    let macros = c.args.macros.now in
+    let macros = (macros_of c.args.macros.now) in
     let automatic = automatic_of c.args.automatic.now in
     let total = expansion_of macros automatic c.args.text.now in
     let went = rw c.in-Goes.is at (c.in_ok-step.ensures.went total c.steps.invariant.1) in
@@ -38,6 +39,6 @@ returns-then-len-gt-EXPANSION_LIMIT c =
 
 pub steps-preserved : goal.steps-preserved
 steps-preserved c =
-    let total = expansion_of c.args.macros.now (automatic_of c.args.automatic.now) c.args.text.now in
+    let total = expansion_of (macros_of c.args.macros.now) (automatic_of c.args.automatic.now) c.args.text.now in
     let went = rw c.in-Goes.is at (c.in_ok-step.ensures.went total c.steps.invariant.1) in
     (c.steps.invariant.0, went)

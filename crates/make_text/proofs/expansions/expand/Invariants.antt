@@ -1,4 +1,5 @@
 use Rattle.std.proofs.Common.{[]}
+use Rattle.make_text.specs.Statements.{macros_of}
 use Rattle.make_text.specs.Macros.{expansion_of}
 use Rattle.make_text.specs.Steps.{automatic_of, IsRunning, work_of}
 use Rattle.make_text.specs.Runs.{HasNamesApart}
@@ -6,8 +7,8 @@ use Rattle.make_text.proofs.expansions.expand.Given as goal
 
 abbrev pub invariant-steps : goal.invariant-steps
 invariant-steps l =
-    HasNamesApart l.macros
-    × IsRunning l.macros (automatic_of l.automatic) (expansion_of l.macros (automatic_of l.automatic) l.text) [] l.expanding
+    HasNamesApart (macros_of l.macros)
+    × IsRunning (macros_of l.macros) (automatic_of l.automatic) (expansion_of (macros_of l.macros) (automatic_of l.automatic) l.text) [] l.expanding
 
 abbrev pub decreases-steps : goal.decreases-steps
-decreases-steps l = work_of l.macros l.expanding
+decreases-steps l = work_of (macros_of l.macros) l.expanding

@@ -1,4 +1,4 @@
-use Rattle.std.proofs.Common.{refl, ◌≡◌, ◌∷◌, ◌+◌, ◌-◌, ◌<◌, ◌∙◌, sym, ap, length, take, drop, arith, length-drop}
+use Rattle.std.proofs.Common.{refl, ◌∷◌, ◌+◌, ◌∙◌, sym, ap, take, arith, length-drop}
 use Rattle.std.proofs.lemmas.List.{take_rest}
 use Rattle.std.specs.List.{slice_split}
 use Rattle.cc_names.specs.Cuts.{is_newline}

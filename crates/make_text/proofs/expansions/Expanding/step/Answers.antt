@@ -1,27 +1,28 @@
-use Rattle.std.proofs.Common.{◌≡◌, [], ◌<◌, length, refl, sym, ap, ◌∙◌, arith}
+use Rattle.std.proofs.Common.{◌≡◌, [], ◌<◌, refl, arith}
 use Rattle.std.proofs.lemmas.List.{nil_from_length}
+use Rattle.make_text.specs.Statements.{macros_of}
 use Rattle.make_text.specs.Macros.{Expansion}
 use Rattle.make_text.specs.Steps.{automatic_of, IsRunning, Took, Went, FallsBelow, work_of}
 use Rattle.make_text.specs.declared.expansions.Expanding.{Expanding}
-use Rattle.make_text.proofs.StepLemmas.{ends_safely, refers_safely, ended_went, ended_falls, took_went, took_falls, where_ok}
+use Rattle.make_text.proofs.StepLemmas.{ends_safely, ended_went, ended_falls, took_went, took_falls, where_ok}
 use Rattle.make_text.proofs.expansions.Expanding.step.Goals as goal
 
 pub end-requires : goal.end-requires
-end-requires c = ends_safely c.args.macros.now (automatic_of c.args.automatic.now) c.requires.runs.0 c.args.self.now c.requires.runs.1
+end-requires c = ends_safely (macros_of c.args.macros.now) (automatic_of c.args.automatic.now) c.requires.runs.0 c.args.self.now c.requires.runs.1
 
 pub returns-then-is_empty-clause-went : goal.returns-then-is_empty-clause-went
 returns-then-is_empty-clause-went c total h =
     let none : c.args.self.now.rest.now ≡ [] = nil_from_length c.args.self.now.rest.now (grind arith) in
-    ended_went c.args.macros.now (automatic_of c.args.automatic.now) total c.args.self.now c.end.new.self c.end.result c.requires.apart h none c.end.ensures
+    ended_went (macros_of c.args.macros.now) (automatic_of c.args.automatic.now) total c.args.self.now c.end.new.self c.end.result c.requires.apart h none c.end.ensures
 
 pub returns-then-is_empty-clause-falls : goal.returns-then-is_empty-clause-falls
 returns-then-is_empty-clause-falls c =
     let none : c.args.self.now.rest.now ≡ [] = nil_from_length c.args.self.now.rest.now (grind arith) in
-    ended_falls c.args.macros.now (automatic_of c.args.automatic.now) c.requires.runs.0 c.args.self.now c.end.new.self c.end.result c.requires.runs.1 none c.end.ensures
+    ended_falls (macros_of c.args.macros.now) (automatic_of c.args.automatic.now) c.requires.runs.0 c.args.self.now c.end.new.self c.end.result c.requires.runs.1 none c.end.ensures
 
 pub returns-clause-went : goal.returns-clause-went
 returns-clause-went c =
-    let macros = c.args.macros.now in
+    let macros = (macros_of c.args.macros.now) in
     let automatic = automatic_of c.args.automatic.now in
     let cut : Expanding = record c.args.self.now { rest = c.cut_part.result.1 } in
     where_ok (λ step. Took macros automatic c.cut_part.result.0 cut c.take.new.self step)
@@ -31,7 +32,7 @@ returns-clause-went c =
 
 pub returns-clause-falls : goal.returns-clause-falls
 returns-clause-falls c =
-    let macros = c.args.macros.now in
+    let macros = (macros_of c.args.macros.now) in
     let automatic = automatic_of c.args.automatic.now in
     let cut : Expanding = record c.args.self.now { rest = c.cut_part.result.1 } in
     let shorter : work_of macros cut < work_of macros c.args.self.now = let l = c.cut_part.ensures.shorter in omega arith in

@@ -1,0 +1,19 @@
+use Rattle.std.proofs.Common.{Ok, ap, sym, ◌∙◌, subst, [], ◌∷◌, Result, List, ℕ, arith}
+use Rattle.make_text.specs.Walks.{Walk, number_of}
+use Rattle.make_graph.specs.Frames.{Goes, resume, news}
+use Rattle.make_graph.proofs.FrameLemmas.{news_opened, news_few, entered_new, enter_first}
+use Rattle.make_graph.proofs.walks.take.Goals as goal
+
+pub run-requires-clause-room : goal.run-requires-clause-room
+run-requires-clause-room c =
+    let was_new = (entered_new c.args.walk.now.marks (number_of c.args.units.now c.args.path.now) c.in-Enter.unit (sym c.meet.ensures ∙ c.in-Enter.is)).1 in
+    let fewer = news_opened c.args.walk.now.marks c.in-Enter.unit was_new in
+    let same = ap (λ (v : Walk). news v.marks) c.mark.ensures in
+    let few = news_few c.args.walk.now.marks in
+    omega (arith, fewer, same, few, c.requires.size)
+
+pub returns-in-Enter-clause-goes : goal.returns-in-Enter-clause-goes
+returns-in-Enter-clause-goes c =
+    let all = enter_first c.args.units.now c.args.path.now c.args.walk.now c.in-Enter.unit (sym c.meet.ensures ∙ c.in-Enter.is)
+    ∙ ap (resume c.args.units.now 0 (record { unit = c.in-Enter.unit; next = 0 } ∷ [])) (sym c.mark.ensures) in
+    subst (λ (r : Result Walk (List ℕ)). Goes c.run.result r (Ok c.run.new.walk)) (sym all) c.run.ensures.goes

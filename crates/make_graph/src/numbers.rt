@@ -1,0 +1,90 @@
+// What makes a path, by its number.
+
+ghost use Rattle.std.specs.Prelude.{◌≡◌, ◌<◌, ◌^◌, ℕ, List, OnOk, IfOk, length};
+ghost use Rattle.std.specs.HashMap.{get};
+ghost use Rattle.std.specs.Str.{bytes_eq};
+ghost use Rattle.make_text.specs.Numbers.{number_from};
+ghost use Rattle.make_graph.specs.Numbered.{with_number, with_numbers};
+
+use cc_names::memory::NoMemory;
+use cc_names::paths::Path;
+use cc_names::units::Unit;
+use make_text::rules::MakeRule;
+use make_text::serving::Serving;
+use std::alloc::Global;
+use std::collections::HashMap;
+
+/// The number of what makes each path.
+pub(crate) type Numbers = HashMap<Path, u32>;
+
+/// What makes paths.
+pub(crate) trait Makes {
+    ghost targets: { Self → List (List ℕ) };
+
+    /// The paths that it makes.
+    fn targets(&self) -> &[Path]
+        ensures { result.now ≡ targets self.now };
+}
+
+impl Makes for MakeRule {
+    ghost targets = { λ rule. rule.targets };
+
+    fn targets(&self) -> &[Path] {
+        self.targets.as_slice()
+    }
+}
+
+impl Makes for Serving {
+    ghost targets = { λ serving. serving.targets };
+
+    fn targets(&self) -> &[Path] {
+        self.targets.as_slice()
+    }
+}
+
+impl Makes for Unit {
+    ghost targets = { λ unit. unit.targets };
+
+    fn targets(&self) -> &[Path] {
+        self.targets.as_slice()
+    }
+}
+
+/// The number of what makes the path, in constant time.
+pub(crate) fn number(numbers: &Numbers, path: &Path) -> Option<u32>
+    ensures { result ≡ get bytes_eq numbers.now path.now }
+{
+    numbers.get(path).copied()
+}
+
+/// Numbers a path, unless it has a number.
+fn put_path(alloc: Global, numbers: &mut Numbers, path: &Path, number: u32) -> Result<(), NoMemory>
+    ensures { OnOk result ((other : List ℕ) → get bytes_eq numbers.new other ≡ with_number number path.now other (get bytes_eq numbers.old other)) }
+{
+    if !numbers.contains_key(path) {
+        numbers.insert(path.copy(alloc)?, number)?;
+    }
+    Ok(())
+}
+
+/// Numbers paths, except those that have a number.
+fn put(alloc: Global, numbers: &mut Numbers, paths: &[Path], number: u32) -> Result<(), NoMemory>
+    ensures { OnOk result ((other : List ℕ) → get bytes_eq numbers.new other ≡ with_numbers number paths.now other (get bytes_eq numbers.old other)) }
+{
+    for path in paths {
+        put_path(alloc, numbers, path, number)?;
+    }
+    Ok(())
+}
+
+/// Numbers all that these make, from 0 on. Takes time linear in the targets.
+pub(crate) fn number_all<X: Makes>(alloc: Global, items: &[X]) -> Result<Numbers, NoMemory>
+    requires { length items.now < 2 ^ 32 }
+    ensures { IfOk result (λ numbers. (path : List ℕ) → get bytes_eq numbers path ≡ number_from X.targets 0 path items.now) }
+{
+    let mut numbers = HashMap::new(alloc);
+    for (index, item) in items.iter().enumerate() {
+        put(alloc, &mut numbers, item.targets(), index as u32)?;
+    }
+    Ok(numbers)
+}

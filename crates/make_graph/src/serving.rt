@@ -1,0 +1,280 @@
+// All that may serve a build: rules, and what suffix rules make.
+
+ghost use Rattle.std.specs.Prelude.{◌≡◌, [], ◌∷◌, IfOk, OnOk, not, map, filter, fold};
+ghost use Rattle.make_text.specs.Makefiles.{with_path};
+ghost use Rattle.make_text.specs.Serving.{stem_of, source_at, inference_at, inference, may_be_served, with_first, by_suffix, by_itself, helped, inference_for, serving_of, bare_rule, serving_alone, without_rule, servings};
+ghost use Rattle.make_text.specs.Units.{is_target};
+ghost use Rattle.make_graph.specs.Numbered.{KnowsRules};
+
+use crate::goals::Exists;
+use crate::numbers::{Numbers, number};
+use cc_names::copies::Copied;
+use cc_names::lists::List;
+use cc_names::memory::{NoMemory, Or};
+use cc_names::paths::Path;
+use cc_names::texts::Text;
+use indexmap::IndexSet;
+use make_text::contents::Makefile;
+use make_text::rules::{MakeRule, SuffixRule, read_path};
+use make_text::serving::{Inference, Serving};
+use std::alloc::Global;
+
+/// Whether the path is the target of a rule, in constant time.
+fn is_target(make: &Makefile, rules: &Numbers, path: &Path) -> bool
+    requires { KnowsRules rules.now make.now }
+    ensures { result ≡ is_target make.now.rules path.now }
+{
+    number(rules, path).is_some()
+}
+
+/// The path of this stem and suffix, where it is a file or the target of a rule.
+fn source<E: Exists>(
+    alloc: Global,
+    make: &Makefile,
+    rules: &Numbers,
+    files: &E,
+    stem: &[u8],
+    suffix: &[u8],
+) -> Result<Option<Path>, NoMemory>
+    requires { KnowsRules rules.now make.now }
+    ensures { IfOk result (λ source. source ≡ source_at make.now (E.is_file files.now) suffix.now stem.now) }
+{
+    let mut bytes = Vec::from_slice(alloc, stem)?;
+    bytes.extend_from_slice(suffix)?;
+    let Some(path) = read_path(alloc, bytes.as_slice())? else {
+        return Ok(None);
+    };
+    if files.exists(&path) || is_target(make, rules, &path) {
+        Ok(Some(path))
+    } else {
+        Ok(None)
+    }
+}
+
+/// How a suffix rule serves a path, where it does.
+fn infer_by<E: Exists>(
+    alloc: Global,
+    make: &Makefile,
+    rules: &Numbers,
+    files: &E,
+    rule: &SuffixRule,
+    path: &Path,
+) -> Result<Option<Inference>, NoMemory>
+    requires { KnowsRules rules.now make.now }
+    ensures { IfOk result (λ found. found ≡ inference_at make.now (E.is_file files.now) rule.now (stem_of rule.now.to path.now)) }
+{
+    let Some(stem) = path.as_bytes().strip_suffix(rule.to.as_bytes()) else {
+        return Ok(None);
+    };
+    let Some(source) = source(alloc, make, rules, files, stem, rule.from.as_bytes())? else {
+        return Ok(None);
+    };
+    Ok(Some(Inference {
+        stem: Text::from_bytes(alloc, stem)?,
+        source,
+        script: rule.script.copy(alloc)?,
+    }))
+}
+
+/// Whether a suffix rule may serve a path that has no script.
+fn may_be_served<E: Exists>(make: &Makefile, files: &E, path: &Path) -> bool
+    ensures { result ≡ may_be_served make.now (E.is_file files.now) path.now }
+{
+    let _below = path.as_bytes();
+    !path.is_root() && !(files.exists(path) || make.is_phony(path))
+}
+
+/// How the first suffix rule that serves a path without a script does.
+fn infer<E: Exists>(
+    alloc: Global,
+    make: &Makefile,
+    rules: &Numbers,
+    files: &E,
+    path: &Path,
+) -> Result<Option<Inference>, NoMemory>
+    requires { KnowsRules rules.now make.now }
+    ensures { IfOk result (λ found. found ≡ inference make.now (E.is_file files.now) path.now) }
+{
+    if !may_be_served(make, files, path) {
+        return Ok(None);
+    }
+    for rule in make.suffix_rules() {
+        let found = infer_by(alloc, make, rules, files, rule, path)?;
+        if found.is_some() {
+            return Ok(found);
+        }
+    }
+    Ok(None)
+}
+
+/// The paths with this one at the front.
+fn with_first(alloc: Global, first: &Path, paths: &[Path]) -> Result<List<Path>, NoMemory>
+    ensures { IfOk result (λ all. all ≡ with_first first.now paths.now) }
+{
+    let mut all = Vec::new(alloc);
+    all.push(first.copy(alloc)?)?;
+    for path in paths {
+        if first != path {
+            all.push(path.copy(alloc)?)?;
+        }
+    }
+    Ok(List::of(all))
+}
+
+fn copy_script(alloc: Global, script: &Option<Text>) -> Result<Option<Text>, NoMemory>
+    ensures { IfOk result (λ copy. copy ≡ script.now) }
+{
+    match script {
+        Some(script) => Ok(Some(script.copy(alloc)?)),
+        None => Ok(None),
+    }
+}
+
+/// A rule by itself, or with the script and the source of a suffix rule.
+fn helped(alloc: Global, rule: &MakeRule, found: Option<Inference>) -> Result<Serving, NoMemory>
+    ensures { IfOk result (λ serving. serving ≡ helped rule.now found) }
+{
+    let targets = rule.targets.copy(alloc)?;
+    match found {
+        Some(found) => Ok(Serving {
+            targets,
+            prerequisites: with_first(alloc, &found.source, rule.prerequisites.as_slice())?,
+            script: Some(found.script),
+            stem: found.stem,
+        }),
+        None => Ok(Serving {
+            targets,
+            prerequisites: rule.prerequisites.copy(alloc)?,
+            script: copy_script(alloc, &rule.script)?,
+            stem: Text::of(Vec::new(alloc)),
+        }),
+    }
+}
+
+/// How a suffix rule serves the target of a rule, if it has no script.
+fn infer_for<E: Exists>(
+    alloc: Global,
+    make: &Makefile,
+    rules: &Numbers,
+    files: &E,
+    rule: &MakeRule,
+) -> Result<Option<Inference>, NoMemory>
+    requires { KnowsRules rules.now make.now }
+    ensures { IfOk result (λ found. found ≡ inference_for make.now (E.is_file files.now) rule.now.targets rule.now.script) }
+{
+    if rule.script.is_some() {
+        return Ok(None);
+    }
+    match rule.targets.as_slice().first() {
+        Some(target) => infer(alloc, make, rules, files, target),
+        None => Ok(None),
+    }
+}
+
+/// The rules as they serve.
+fn own_servings<E: Exists>(
+    alloc: Global,
+    make: &Makefile,
+    rules: &Numbers,
+    files: &E,
+) -> Result<Vec<Serving>, NoMemory>
+    requires { KnowsRules rules.now make.now }
+    ensures { IfOk result (λ units. units.items ≡ map (serving_of make.now (E.is_file files.now)) make.now.rules) }
+{
+    let mut units = Vec::new(alloc);
+    for rule in make.rules() {
+        let found = infer_for(alloc, make, rules, files, rule)?;
+        units.push(helped(alloc, rule, found)?)?;
+    }
+    Ok(units)
+}
+
+/// Puts those of the paths that have no rule behind others, each once.
+fn put_without_rule(
+    make: &Makefile,
+    rules: &Numbers,
+    others: &mut IndexSet<Path>,
+    paths: &[Path],
+    alloc: Global,
+) -> Result<(), NoMemory>
+    requires { KnowsRules rules.now make.now }
+    ensures { OnOk result (others.new.keys ≡ fold with_path others.old.keys (filter (λ path. not (is_target make.now.rules path)) paths.now)) }
+{
+    for path in paths {
+        if !is_target(make, rules, path) && !others.contains(path) {
+            others.insert(path.copy(alloc)?)?;
+        }
+    }
+    Ok(())
+}
+
+/// The goals and prerequisites that have no rule, each once.
+fn without_rule(
+    alloc: Global,
+    make: &Makefile,
+    rules: &Numbers,
+    goals: &[Path],
+) -> Result<Vec<Path>, NoMemory>
+    requires { KnowsRules rules.now make.now }
+    ensures { IfOk result (λ paths. paths.items ≡ without_rule make.now goals.now) }
+{
+    let mut others = IndexSet::new(alloc);
+    put_without_rule(make, rules, &mut others, goals, alloc)?;
+    for rule in make.rules() {
+        put_without_rule(
+            make,
+            rules,
+            &mut others,
+            rule.prerequisites.as_slice(),
+            alloc,
+        )?;
+    }
+    Ok(others.into_iter().collect(alloc)?)
+}
+
+/// What a suffix rule makes of a path without a rule.
+fn alone(alloc: Global, path: &Path, found: Inference) -> Result<Serving, NoMemory>
+    ensures { IfOk result (λ serving. serving ≡ by_suffix (bare_rule path.now) found) }
+{
+    let Inference {
+        stem,
+        source,
+        script,
+    } = found;
+    Ok(Serving {
+        targets: one_path(alloc, path)?,
+        prerequisites: one_path(alloc, &source)?,
+        script: Some(script),
+        stem,
+    })
+}
+
+fn one_path(alloc: Global, path: &Path) -> Result<List<Path>, NoMemory>
+    ensures { IfOk result (λ paths. paths ≡ path.now ∷ []) }
+{
+    let mut paths = Vec::new(alloc);
+    paths.push(path.copy(alloc)?)?;
+    Ok(List::of(paths))
+}
+
+/// All that may serve a build of these goals: the rules, and the paths without a rule that a suffix rule serves. Takes time
+/// linear in the rules, the goals and the prerequisites, for each suffix rule.
+pub(crate) fn servings<E: Exists>(
+    alloc: Global,
+    make: &Makefile,
+    rules: &Numbers,
+    files: &E,
+    goals: &[Path],
+) -> Result<Vec<Serving>, NoMemory>
+    requires { KnowsRules rules.now make.now }
+    ensures { IfOk result (λ units. units.items ≡ servings make.now (E.is_file files.now) goals.now) }
+{
+    let mut units = own_servings(alloc, make, rules, files)?;
+    let paths = without_rule(alloc, make, rules, goals)?;
+    for path in &paths {
+        if let Some(found) = infer(alloc, make, rules, files, path)? {
+            units.push(alone(alloc, path, found)?)?;
+        }
+    }
+    Ok(units)
+}

@@ -1,0 +1,125 @@
+// The graph of a build over any makefile.
+
+ghost use Rattle.std.specs.Prelude.{◌≡◌, ◌<◌, ◌^◌, IfOk, length};
+ghost use Rattle.cc_names.specs.Answers.{Gives};
+ghost use Rattle.make_text.specs.Graphs.{graph_of};
+ghost use Rattle.make_text.specs.Numbers.{number_from};
+ghost use Rattle.make_text.specs.UnitLaws.{made_by_unit};
+ghost use Rattle.make_graph.specs.Waits.{closure_of, is_ready};
+
+use crate::goals::Exists;
+use crate::graphs::{are_done, needed};
+use crate::numbers::{Numbers, number, number_all};
+use crate::units::units_of_build;
+use cc_names::memory::{NoMemory, Or};
+use cc_names::paths::Path;
+use cc_names::refusals::GraphFault;
+use cc_names::units::Unit;
+use make_text::contents::Makefile;
+use std::alloc::Global;
+use std::marker::Model;
+
+/// The units of a build, prerequisites first, each found by any of its targets. Contracts see it as the list of them.
+#[derive(Drop)]
+pub struct Graph {
+    units: Vec<Unit>,
+    numbers: Numbers,
+}
+
+impl Model for Graph {
+    ghost use Rattle.std.specs.Prelude.{List};
+    ghost use Rattle.cc_names.specs.declared.units.Unit.{Unit};
+    ghost use Rattle.make_graph.specs.UnitNumbers.{KnowsAll};
+
+    ghost Value = { List Unit };
+
+    ghost view = { λ graph. graph.units.items };
+
+    ghost invariant = { λ graph. KnowsAll graph.numbers graph.units.items };
+}
+
+/// The most units of a graph.
+const UNIT_LIMIT: usize = 0x7fff_ffff;
+
+/// The graph of these units. There is no memory for 2^31 of them.
+fn with_numbers(alloc: Global, units: Vec<Unit>) -> Result<Graph, NoMemory>
+    ensures { IfOk result (λ graph. graph ≡ units.items) }
+{
+    if units.len() > UNIT_LIMIT {
+        return Err(NoMemory);
+    }
+    let numbers = number_all(alloc, units.as_slice())?;
+    Ok(Graph { units, numbers })
+}
+
+impl Graph {
+    /// The units of a build of these goals, or the fault in their place: the first goal that is neither a unit nor a file,
+    /// with the root where no goal is named and no default exists (G1); then the path by which a unit on the walk over the
+    /// goals is met again (G2); then the first target of a unit with a script that is a file (G3). Fails also where memory
+    /// runs out.
+    ///
+    /// Takes time linear in the rules, the goals and the bytes of the units, for each suffix rule; asks `files` about each
+    /// goal, each target of a unit with a script, and each source that a suffix rule may have.
+    pub fn of<E: Exists>(
+        alloc: Global,
+        make: &Makefile,
+        goals: &[Path],
+        files: &E,
+    ) -> Result<Graph, Or<GraphFault>>
+        ensures { Gives result (graph_of make.now goals.now (E.is_file files.now)) }
+    {
+        let units = units_of_build(alloc, make, goals, files)?;
+        Ok(with_numbers(alloc, units)?)
+    }
+
+    /// The units, in order, in constant time.
+    pub fn units(&self) -> &[Unit]
+        ensures units { result.now ≡ self.now }
+        ensures few { length result.now < 2 ^ 31 }
+    {
+        self.units.as_slice()
+    }
+
+    /// The units themselves, in order, in constant time.
+    pub fn into_units(self) -> Vec<Unit>
+        ensures units { result.items ≡ self }
+        ensures few { length result.items < 2 ^ 31 }
+    {
+        let Graph { units, numbers: _ } = self;
+        units
+    }
+
+    /// The number of the unit that makes a path, if one does, in constant time.
+    pub fn unit_of(&self, path: &Path) -> Option<u32>
+        ensures { result ≡ number_from made_by_unit 0 path.now self.now }
+    {
+        number(&self.numbers, path)
+    }
+
+    /// The units that a unit stands on, by their numbers, in order: those that make its prerequisites, and those that
+    /// these stand on. Fails only where memory runs out.
+    ///
+    /// Takes time that grows with the number of targets before the unit times that of the prerequisites met.
+    pub fn closure(&self, alloc: Global, unit: u32) -> Result<Vec<u32>, NoMemory>
+        requires { unit < length self.now }
+        ensures { IfOk result (λ numbers. numbers.items ≡ closure_of self.now unit) }
+    {
+        let units = self.units.as_slice();
+        let wanted = units[unit as usize].prerequisites.as_slice();
+        let mut numbers = needed(alloc, units, unit, wanted)?;
+        numbers.reverse();
+        Ok(numbers)
+    }
+
+    /// Whether the units that make a unit's prerequisites are done; `done` has a member for each unit.
+    ///
+    /// Takes time that grows with the number of targets times that of the unit's prerequisites.
+    pub fn ready(&self, unit: u32, done: &[bool]) -> bool
+        requires unit { unit < length self.now }
+        requires done { length done.now ≡ length self.now }
+        ensures { result ≡ is_ready self.now unit done.now }
+    {
+        let units = self.units.as_slice();
+        are_done(units[unit as usize].prerequisites.as_slice(), units, done)
+    }
+}

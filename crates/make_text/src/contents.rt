@@ -1,0 +1,119 @@
+// What a makefile says.
+
+ghost use Rattle.std.specs.Prelude.{◌≡◌, IfOk, option_copied, []};
+ghost use Rattle.make_text.specs.Contents.{unless_too_long, expansion};
+ghost use Rattle.make_text.specs.Macros.{Expansion, is_among, in_script};
+ghost use Rattle.make_text.specs.Steps.{automatic_of, IsOutcome};
+
+use crate::expansions::{Automatic, Outcome, expand};
+use crate::macros::MacroTable;
+use crate::makefiles::Expanded;
+use crate::rules::{MakeRule, SuffixRule};
+use cc_names::memory::NoMemory;
+use cc_names::paths::Path;
+use cc_names::texts::Text;
+use indexmap::IndexSet;
+use std::alloc::Global;
+use std::marker::Model;
+
+/// A makefile of the language in full. Contracts see it as what it says.
+#[derive(Drop)]
+pub struct Makefile {
+    rules: Vec<MakeRule>,
+    suffix_rules: Vec<SuffixRule>,
+    phony: IndexSet<Path>,
+    macros: MacroTable,
+}
+
+impl Model for Makefile {
+    ghost use Rattle.make_text.specs.Contents.{Contents};
+    ghost use Rattle.make_text.specs.Statements.{macros_of};
+
+    ghost Value = { Contents };
+
+    ghost view = { λ make. record { rules = make.rules.items; suffix_rules = make.suffix_rules.items; phony = make.phony.keys; macros = macros_of make.macros } };
+}
+
+impl Makefile {
+    /// A makefile of these rules alone, without phony targets and macros. Takes no memory.
+    pub fn of_rules(alloc: Global, rules: Vec<MakeRule>, suffix_rules: Vec<SuffixRule>) -> Makefile
+        ensures { result ≡ record { rules = rules.items; suffix_rules = suffix_rules.items; phony = []; macros = [] } }
+    {
+        Makefile {
+            rules,
+            suffix_rules,
+            phony: IndexSet::new(alloc),
+            macros: MacroTable::new(alloc),
+        }
+    }
+
+    /// The rules, in the order of first reading.
+    pub fn rules(&self) -> &[MakeRule]
+        ensures { result.now ≡ self.now.rules }
+    {
+        self.rules.as_slice()
+    }
+
+    /// The suffix rules, in the order in which they are tried.
+    pub fn suffix_rules(&self) -> &[SuffixRule]
+        ensures { result.now ≡ self.now.suffix_rules }
+    {
+        self.suffix_rules.as_slice()
+    }
+
+    /// Whether no script makes the path, in constant time.
+    pub fn is_phony(&self, path: &Path) -> bool
+        ensures { result ≡ is_among self.now.phony path.now }
+    {
+        self.phony.contains(path)
+    }
+
+    /// A script of this makefile with its macros expanded for a target, its first prerequisite and its stem. Takes time
+    /// linear in the script, in the values of the macros that it reaches, each once, and in what it expands to, up to the
+    /// most bytes of a script; and memory for as many bytes, and for one state a macro.
+    pub fn expand(
+        &self,
+        alloc: Global,
+        script: &[u8],
+        target: &Path,
+        first: Option<&Path>,
+        stem: &[u8],
+    ) -> Result<Expanded, NoMemory>
+        ensures { IfOk result (λ expanded. expanded ≡ expansion self.now script.now target.now (option_copied first.entry) stem.now) }
+    {
+        let automatic = automatic_of(target, first, stem);
+        Ok(answer(expand(alloc, &self.macros, &automatic, script)?))
+    }
+}
+
+/// The bytes of a path, if there is one.
+fn bytes_of(path: Option<&Path>) -> Option<&[u8]>
+    ensures { option_copied result ≡ option_copied path.entry }
+{
+    match path {
+        Some(path) => Some(path.as_bytes()),
+        None => None,
+    }
+}
+
+/// The values of `$@`, `$<` and `$*` in a script.
+fn automatic_of<'a>(target: &'a Path, first: Option<&'a Path>, stem: &'a [u8]) -> Automatic<'a>
+    ensures { automatic_of result ≡ in_script target.now (option_copied first.entry) stem.now }
+{
+    Automatic {
+        target: target.as_bytes(),
+        first: bytes_of(first),
+        stem,
+    }
+}
+
+/// What a script expands to, by what its expansion gave. A loop does not come in a makefile that was read.
+fn answer(outcome: Outcome) -> Expanded
+    ensures { (total : Expansion) → IsOutcome total outcome → result ≡ unless_too_long total }
+{
+    match outcome {
+        Outcome::TooLong => Expanded::TooLong,
+        Outcome::Loop(bytes) => Expanded::Lines(Text::of(bytes)),
+        Outcome::Bytes(bytes) => Expanded::Lines(Text::of(bytes)),
+    }
+}
