@@ -12,6 +12,7 @@ use cc_names::rows::{Deed, ReadOf, Row, Tag};
 use cc_names::selection::{Picked, Seen};
 use cc_names::texts::Text;
 use std::alloc::Global;
+use std::hash::RandomState;
 use std::process::Abort;
 use std::test::Fail;
 use view_lookup::{
@@ -174,8 +175,8 @@ fn row(alloc: Global, number: u64) -> Result<Row, Fail> {
     }
 }
 
-fn nine_rows(alloc: Global) -> Result<Rows, Fail> {
-    let mut base = Rows::new(alloc);
+fn nine_rows(alloc: Global, hashing: RandomState) -> Result<Rows, Fail> {
+    let mut base = Rows::new(alloc, hashing);
     for number in 1..10 {
         add(&mut base, row(alloc, number)?)?;
     }
