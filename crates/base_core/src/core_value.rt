@@ -32,6 +32,7 @@ use checkout_desk::{ROW_LIMIT, Stamp, decide, view_of};
 use disk_model::{Disk, DiskFault};
 use legal_history::laws::builds::a_build_is_consistent;
 use std::alloc::Global;
+use std::hash::RandomState;
 use std::marker::Model;
 
 /// What a unit comes to by its start: where its script cannot be read, with this fault, that is its outcome.
@@ -100,13 +101,18 @@ impl<D: Disk> Core<D> {
     ghost use Rattle.legal_history.specs.Builds.Turns.{came_by_start};
 
     /// Opens the base that a disk stands for. Reads its journal once, in time linear in its bytes and the square of the targets of
-    /// one object, and writes nothing. A disk whose base cannot be opened comes back with the cause.
-    pub fn open(alloc: Global, disk: D) -> Result<Core<D>, OpenFault<D>>
+    /// one object, and writes nothing. Names are found by hashing them so. A disk whose base cannot be opened comes back with
+    /// the cause.
+    pub fn open(
+        alloc: Global,
+        hashing: RandomState,
+        disk: D,
+    ) -> Result<Core<D>, OpenFault<D>>
         requires { IfTold (D.sight disk).told (λ d. file_of 0 d ≡ stable (bytes_of 0 d)) }
         ensures ok { IfOk result (λ core. Opens (D.sight disk) core.story core.sight) }
         ensures err { IfErr result (λ fault. FailsToOpen (D.sight disk) fault.cause (D.sight fault.disk)) }
     {
-        match open_log(alloc, disk) {
+        match open_log(alloc, hashing, disk) {
             Ok(log) => Ok(Core {
                 log,
                 replies: Vec::new(alloc),

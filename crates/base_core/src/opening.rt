@@ -15,6 +15,7 @@ use cc_names::texts::Text;
 use disk_model::Disk;
 use row_form::read;
 use std::alloc::Global;
+use std::hash::RandomState;
 use view_lookup::{FirstRows, Rows, fits};
 use vob_journal::Journal;
 
@@ -92,14 +93,18 @@ fn read_row<D: Disk>(
 }
 
 /// The rows of a journal, read to its end: each spells a row that fits those before it.
-fn read_rows<D: Disk>(alloc: Global, journal: &mut Journal<D>) -> Result<Rows, OpenCause>
+fn read_rows<D: Disk>(
+    alloc: Global,
+    hashing: RandomState,
+    journal: &mut Journal<D>,
+) -> Result<Rows, OpenCause>
     requires { IsReadSoFar D.sight [] journal.old }
     ensures reads { OnlyReads D.sight journal.old journal.new }
     ensures ok { IfOk result (λ rows. IsReadThrough D.sight rows.base journal.new) }
     ensures sound { OnOk result ((D.sight journal.new.disk).faults ≡ (D.sight journal.old.disk).faults) }
     ensures err { IfErr result (λ cause. StopsBy (D.sight journal.old.disk).told (λ _. journal.old.list) cause (D.sight journal.old.disk).faults (D.sight journal.new.disk).faults) }
 {
-    let mut rows = Rows::new(alloc);
+    let mut rows = Rows::new(alloc, hashing);
     'frames: loop {
         match read_row(alloc, journal, &rows.all()) {
             Ok(Some(row)) => {
@@ -116,7 +121,11 @@ fn read_rows<D: Disk>(alloc: Global, journal: &mut Journal<D>) -> Result<Rows, O
 
 /// Opens the log of the base that a disk stands for. Reads the journal once, and writes nothing. Takes time linear in the
 /// journal's bytes.
-pub(crate) fn open_log<D: Disk>(alloc: Global, disk: D) -> Result<Log<D>, OpenFault<D>>
+pub(crate) fn open_log<D: Disk>(
+    alloc: Global,
+    hashing: RandomState,
+    disk: D,
+) -> Result<Log<D>, OpenFault<D>>
     requires { IfTold (D.sight disk).told (λ d. file_of 0 d ≡ stable (bytes_of 0 d)) }
     ensures ok { IfOk result (λ log. IsOpened (D.sight disk) log) }
     ensures err { IfErr result (λ fault. FailsToOpen (D.sight disk) fault.cause (D.sight fault.disk)) }
@@ -131,7 +140,7 @@ pub(crate) fn open_log<D: Disk>(alloc: Global, disk: D) -> Result<Log<D>, OpenFa
             });
         }
     };
-    let rows = match read_rows(alloc, &mut journal) {
+    let rows = match read_rows(alloc, hashing, &mut journal) {
         Ok(rows) => rows,
         Err(cause) => {
             return Err(OpenFault {

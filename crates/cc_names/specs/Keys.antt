@@ -1,14 +1,18 @@
--- One number for a number and a name.
-use Rattle.std.specs.Prelude.{ℕ, ◌*◌, ◌%◌, ◌^◌, bit_xor, List, fold}
+-- One number for names.
+use Rattle.std.specs.Prelude.{ℕ, List, [], ◌∷◌, ◌++◌, fold, length}
+use Rattle.std.specs.RandomState.{initial_hasher}
+use Rattle.std.specs.declared.random_state.RandomState.{RandomState}
+use Rattle.std.specs.Hash.{HashWrites, u64, usize}
+use Rattle.std.specs.Hash.DefaultHasher.{write, finish}
 
--- one step of the hash FNV-1a at 64 bits
-abbrev pub hash_step : ℕ → ℕ → ℕ
-hash_step hash byte = (bit_xor hash byte * 1099511628211) % 2 ^ 64
+-- the keyed hash, SipHash-1-3, of what is written one after the other
+abbrev pub hash : RandomState → HashWrites → ℕ
+hash hashing writes = finish (fold write (initial_hasher hashing) writes)
 
--- the hash goes on over more bytes
-abbrev pub key_over : ℕ → List ℕ → ℕ
-key_over key bytes = fold hash_step key bytes
+-- the hash of a number and the bytes of a name
+abbrev pub key_of : RandomState → ℕ → List ℕ → ℕ
+key_of hashing number name = hash hashing (u64 number ++ name ∷ [])
 
--- the hash FNV-1a of a number and the bytes of a name
-abbrev pub key_of : ℕ → List ℕ → ℕ
-key_of number name = fold hash_step (hash_step 14695981039346656037 number) name
+-- the hash of a number, the bytes of a name behind their number, and the bytes of a path
+abbrev pub key_at : RandomState → ℕ → List ℕ → List ℕ → ℕ
+key_at hashing number name path = hash hashing (u64 number ++ usize (length name) ++ name ∷ path ∷ [])

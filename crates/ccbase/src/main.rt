@@ -14,6 +14,7 @@ use cc_outside::{StdSink, StdSource, SystemClock, write_whole};
 use disk_model::FileDisk;
 use session_run::{Status, run_words};
 use std::alloc::Global;
+use std::hash::RandomState;
 use std::process::ExitCode;
 use std::{env, io};
 
@@ -115,12 +116,17 @@ fn tell_cause(
 fn run(rt: HostRuntime, words: &[String]) -> Result<Status, NoMemory> {
     let alloc = rt.alloc();
     let texts = texts_of(alloc, words)?;
+    let Ok(hashing) = RandomState::new(&rt) else {
+        let _ = eprintln!(rt; "ccbase: the system gives no random numbers");
+        return Ok(Status::NoMemory);
+    };
     let disk = disk_of(rt.clone()?, words)?;
     let mut source = StdSource::new(rt.reader());
     let mut sink = StdSink::new(io::writer(&rt));
     let mut clock = SystemClock::new(rt.clone()?);
     let ended = run_words(
         alloc,
+        hashing,
         texts.as_slice(),
         &mut source,
         &mut sink,

@@ -113,7 +113,7 @@ pub fn pick(
 ) -> Option<Picked>
     ensures { result
         ≡ pick (sources_in rows tree.now labels.now rolls.now out) element (names_of path.now)
-          spec.now }
+        spec.now }
 {
     let sight = Sight {
         tree,

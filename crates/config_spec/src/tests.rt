@@ -11,6 +11,7 @@ use cc_names::selection::Picked;
 use label_book::Book;
 use spec_text::Spec;
 use std::alloc::Global;
+use std::hash::RandomState;
 use std::test::Fail;
 use version_tree::Tree;
 
@@ -66,8 +67,8 @@ fn version(alloc: Global, tree: &mut Tree, row: u64, moment: u64, branch: u64) -
 
 // The element `in` of row 1 has the versions /main/1 of row 2 and /main/2 of row 3, a second later; its branch fix of
 // row 4 leaves /main/1 and has a version of row 5; its branch sub of row 6 leaves that.
-fn trees(alloc: Global) -> Result<Tree, Fail> {
-    let mut tree = Tree::new(alloc)?;
+fn trees(alloc: Global, hashing: RandomState) -> Result<Tree, Fail> {
+    let mut tree = Tree::new(alloc, hashing)?;
     element(alloc, &mut tree, 1, 1_700_000_000)?;
     version(alloc, &mut tree, 2, 1_700_000_000, 1)?;
     version(alloc, &mut tree, 3, 1_700_000_001, 1)?;
@@ -98,8 +99,8 @@ fn mark(
 }
 
 // The label REL is put on row 2 by row 7 and on row 3 by row 8, and taken off by row 9.
-fn labels(alloc: Global) -> Result<Book, Fail> {
-    let mut book = Book::new(alloc)?;
+fn labels(alloc: Global, hashing: RandomState) -> Result<Book, Fail> {
+    let mut book = Book::new(alloc, hashing)?;
     let label = name(alloc, b"REL")?;
     mark(alloc, &mut book, 7, &label, Some(2))?;
     mark(alloc, &mut book, 8, &label, Some(3))?;
@@ -220,7 +221,9 @@ const CASES: [Case; 33] = [
 #[test]
 fn the_first_rule_that_decides_picks(rt: HostRuntime) -> Result<(), Fail> {
     let alloc = rt.alloc();
-    let (tree, labels, rolls) = (trees(alloc)?, labels(alloc)?, rolls(alloc)?);
+    let hashing = RandomState::new(&rt)?;
+    let (tree, labels) = (trees(alloc, hashing)?, labels(alloc, hashing)?);
+    let rolls = rolls(alloc)?;
     let path = path(alloc, b"a/in")?;
     for (text, rows, out, wanted) in CASES {
         let spec = spec(alloc, text)?;

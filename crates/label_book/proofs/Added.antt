@@ -13,6 +13,7 @@ use Rattle.label_book.proofs.Chain.{bool_cases, pair_is}
 use Rattle.label_book.proofs.InBook.{SameHead, others_fail}
 use Rattle.label_book.proofs.Newest.{row_by}
 use Rattle.label_book.proofs.Pairs.{holder_of_pair, about_by, of_pair_none, of_pair_at, of_pair_set_other}
+use Rattle.std.specs.declared.random_state.RandomState.{RandomState}
 
 -- the rows of moves, as changes or not
 rows_by : (l : List ℕ) (e : ℕ) (moves : List Move) → map row_of_label_change (map (change_of_move l e) moves) ≡ map row_of_move moves
@@ -31,7 +32,7 @@ changes_more old held move same more =
     ∙ ap (λ e. map (change_of_move old.label e) (reverse held.moves.items)) same.element
     ∙ ap (λ ms. map (change_of_move old.label old.element) ms) (ap reverse more ∙ reverse-append old.moves.items (move ∷ []))
 
-module _ (all : List Held) (heads : ℕ → Option ℕ) (step : InStep all heads) (l : List ℕ) (e p : ℕ) (place : IsPlaceOf l e all p) where
+module _ {hashing : RandomState} (all : List Held) (heads : ℕ → Option ℕ) (step : InStep hashing all heads) (l : List ℕ) (e p : ℕ) (place : IsPlaceOf l e all p) where
   -- the changes of the pair are those at its place
   pub pair_at : (d : Held) → of_pair l e (all_changes all) ≡ changes_held (get_or all p d)
   pair_at d = of_pair_at l e all p d place.within (place.is d) (others_fail all heads step l e p place)

@@ -11,6 +11,7 @@ use Rattle.label_book.specs.BookFields.{InStep}
 use Rattle.label_book.specs.declared.held.Held.{Held}
 use Rattle.label_book.proofs.Chain.{bool_cases, pair_is}
 use Rattle.label_book.proofs.Newest.{is_itself}
+use Rattle.std.specs.declared.random_state.RandomState.{RandomState}
 
 -- the same label on the same element, with the same link
 abbrev pub SameHead : Held → Held → Type 0
@@ -49,26 +50,26 @@ same_length [] (t ∷ twos) same = absurd same
 same_length (o ∷ ones) [] same = absurd same
 same_length (o ∷ ones) (t ∷ twos) same = ap suc (same_length ones twos same.1)
 
-same_key : (one two : Held) → SameHead one two → key_of one.element one.label ≡ key_of two.element two.label
-same_key one two same = ap (λ n. key_of n one.label) same.element ∙ ap (key_of two.element) same.label
+same_key : (hashing : RandomState) (one two : Held) → SameHead one two → key_of hashing one.element one.label ≡ key_of hashing two.element two.label
+same_key hashing one two same = ap (λ n. key_of hashing n one.label) same.element ∙ ap (key_of hashing two.element) same.label
 
-same_newest : (key : ℕ) (ones twos : List Held) → SameHeads ones twos → newest_with key ones ≡ newest_with key twos
-same_newest key [] [] same = refl
-same_newest key [] (t ∷ twos) same = absurd same
-same_newest key (o ∷ ones) [] same = absurd same
-same_newest key (o ∷ ones) (t ∷ twos) same = rw (same_key o t same.0, same_length ones twos same.1, same_newest key ones twos same.1) refl
+same_newest : (hashing : RandomState) (key : ℕ) (ones twos : List Held) → SameHeads ones twos → newest_with hashing key ones ≡ newest_with hashing key twos
+same_newest hashing key [] [] same = refl
+same_newest hashing key [] (t ∷ twos) same = absurd same
+same_newest hashing key (o ∷ ones) [] same = absurd same
+same_newest hashing key (o ∷ ones) (t ∷ twos) same = rw (same_key hashing o t same.0, same_length ones twos same.1, same_newest hashing key ones twos same.1) refl
 
-same_linked : (ones twos : List Held) → SameHeads ones twos → AreLinked twos → AreLinked ones
-same_linked [] [] same linked = tt
-same_linked [] (t ∷ twos) same linked = absurd same
-same_linked (o ∷ ones) [] same linked = absurd same
-same_linked (o ∷ ones) (t ∷ twos) same linked =
-    (same.0.namesake ∙ linked.0 ∙ sym (rw (same_key o t same.0) (same_newest (key_of t.element t.label) ones twos same.1)), same_linked ones twos same.1 linked.1)
+same_linked : (hashing : RandomState) (ones twos : List Held) → SameHeads ones twos → AreLinked hashing twos → AreLinked hashing ones
+same_linked hashing [] [] same linked = tt
+same_linked hashing [] (t ∷ twos) same linked = absurd same
+same_linked hashing (o ∷ ones) [] same linked = absurd same
+same_linked hashing (o ∷ ones) (t ∷ twos) same linked =
+    (same.0.namesake ∙ linked.0 ∙ sym (rw (same_key hashing o t same.0) (same_newest hashing (key_of hashing t.element t.label) ones twos same.1)), same_linked hashing ones twos same.1 linked.1)
 
 -- a pair stands at one place alone
-pub others_fail : (all : List Held) (heads : ℕ → Option ℕ) → InStep all heads → (l : List ℕ) (e p : ℕ) → IsPlaceOf l e all p
+pub others_fail : {hashing : RandomState} (all : List Held) (heads : ℕ → Option ℕ) → InStep hashing all heads → (l : List ℕ) (e p : ℕ) → IsPlaceOf l e all p
     → (k : ℕ) (d : Held) → k < length all → k ≢ p → is_pair l e (get_or all k d) ≡ false
-others_fail all heads step l e p place k d within apart = elim (bool_cases (is_pair l e (get_or all k d))) [
+others_fail {hashing = hashing} all heads step l e p place k d within apart = elim (bool_cases (is_pair l e (get_or all k d))) [
   | inl is ↦
       let (labels, elements) = pair_is l e (get_or all p d) (place.is d) in
       let same : is_pair (get_or all p d).label (get_or all p d).element (get_or all k d) ≡ true = rw (← labels, ← elements) is in
@@ -76,7 +77,7 @@ others_fail all heads step l e p place k d within apart = elim (bool_cases (is_p
   | inr fails ↦ fails
 ]
 
-module _ (all : List Held) (heads : ℕ → Option ℕ) (step : InStep all heads) (p : ℕ) (held : Held) (within : p < length all) (same : (d : Held) → SameHead held (get_or all p d)) where
+module _ {hashing : RandomState} (all : List Held) (heads : ℕ → Option ℕ) (step : InStep hashing all heads) (p : ℕ) (held : Held) (within : p < length all) (same : (d : Held) → SameHead held (get_or all p d)) where
   -- the head at each place is the old one
   head_at : (k : ℕ) (d : Held) → SameHead (get_or (set all p held) k d) (get_or all k d)
   head_at k d = elim (cases_eq k p) [
@@ -85,12 +86,12 @@ module _ (all : List Held) (heads : ℕ → Option ℕ) (step : InStep all heads
   ]
 
   -- one with other moves that are in order
-  pub moves_set : Falls (map row_of_move (reverse held.moves.items)) → InStep (set all p held) heads
+  pub moves_set : Falls (map row_of_move (reverse held.moves.items)) → InStep hashing (set all p held) heads
   moves_set falls =
       let heads_same = same_reversed (set all p held) all (same_set all p held within same) in
       record {
-        linked = same_linked (reverse (set all p held)) (reverse all) heads_same step.linked;
-        newest = λ key. step.newest key ∙ sym (same_newest key (reverse (set all p held)) (reverse all) heads_same);
+        linked = same_linked hashing (reverse (set all p held)) (reverse all) heads_same step.linked;
+        newest = λ key. step.newest key ∙ sym (same_newest hashing key (reverse (set all p held)) (reverse all) heads_same);
         once = λ i j d lt_i lt_j is.
             let hi = head_at i d in
             let hj = head_at j d in
@@ -103,9 +104,9 @@ module _ (all : List Held) (heads : ℕ → Option ℕ) (step : InStep all heads
       }
 
 -- one more without moves
-pub held_added : (all : List Held) (heads heads' : ℕ → Option ℕ) (held : Held) → InStep all heads → HasNoPlace held.label held.element all → held.moves.items ≡ []
-    → held.namesake ≡ newest_with (key_of held.element held.label) (reverse all) → ((key : ℕ) → heads' key ≡ newest_with key (held ∷ reverse all)) → InStep (all ++ held ∷ []) heads'
-held_added all heads heads' held step absent empty link newest = record {
+pub held_added : {hashing : RandomState} (all : List Held) (heads heads' : ℕ → Option ℕ) (held : Held) → InStep hashing all heads → HasNoPlace held.label held.element all → held.moves.items ≡ []
+    → held.namesake ≡ newest_with hashing (key_of hashing held.element held.label) (reverse all) → ((key : ℕ) → heads' key ≡ newest_with hashing key (held ∷ reverse all)) → InStep hashing (all ++ held ∷ []) heads'
+held_added {hashing = hashing} all heads heads' held step absent empty link newest = record {
   linked = rw (reverse-append all (held ∷ [])) (link, step.linked);
   newest = λ key. rw (reverse-append all (held ∷ [])) (newest key);
   once = λ i j d lt_i lt_j is. elim (cases_lt i (length all)) [

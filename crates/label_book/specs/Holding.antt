@@ -1,6 +1,7 @@
 -- The labels that a book keeps, each on one element with its changes.
 use Rattle.std.specs.Prelude.{◌≡◌, ℕ, ◌<◌, ◌==◌, ◌&&◌, nat_lt, Bool, true, false, cond, Option, Some, None, List, [], ◌∷◌, ◌++◌, length, map, reverse, slice_index_or, vec_len, vec_capacity}
 use Rattle.std.specs.Str.{bytes_eq}
+use Rattle.std.specs.declared.random_state.RandomState.{RandomState}
 use Rattle.cc_names.specs.Keys.{key_of}
 use Rattle.cc_names.specs.Versions.{put_if}
 use Rattle.cc_names.specs.declared.changes.LabelChange.{LabelChange}
@@ -42,18 +43,19 @@ ready_pairs (held ∷ others) =
     put_if (nat_lt (vec_len held.moves) (vec_capacity held.moves)) (record { label = held.label; element = held.element }) (ready_pairs others)
 
 -- whether it has this key
-abbrev pub has_key : ℕ → Held → Bool
-has_key key held = key_of held.element held.label == key
+abbrev pub has_key : RandomState → ℕ → Held → Bool
+has_key hashing key held = key_of hashing held.element held.label == key
 
 -- the place, counted from the oldest, of the newest one with the key
-abbrev pub newest_with : ℕ → List Held → Option ℕ
-newest_with key [] = None
-newest_with key (held ∷ older) = cond (has_key key held) (Some (length older)) (newest_with key older)
+abbrev pub newest_with : RandomState → ℕ → List Held → Option ℕ
+newest_with hashing key [] = None
+newest_with hashing key (held ∷ older) = cond (has_key hashing key held) (Some (length older)) (newest_with hashing key older)
 
 -- each names the place of the next older one with its key
-abbrev pub AreLinked : List Held → Type 0
-AreLinked [] = Unit {0}
-AreLinked (held ∷ older) = (held.namesake ≡ newest_with (key_of held.element held.label) older) × AreLinked older
+abbrev pub AreLinked : RandomState → List Held → Type 0
+AreLinked hashing [] = Unit {0}
+AreLinked hashing (held ∷ older) =
+    (held.namesake ≡ newest_with hashing (key_of hashing held.element held.label) older) × AreLinked hashing older
 
 -- where a label on an element stands
 pub record IsPlaceOf (l : List ℕ) (e : ℕ) (all : List Held) (p : ℕ) : Type 0 where

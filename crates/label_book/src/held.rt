@@ -1,11 +1,15 @@
 // A label on one element with its changes, and how one is found among all.
 
-ghost use Rattle.std.specs.Prelude.{◌≡◌, IfSome, IfNone, find, map, option_map, reverse, None};
+ghost use Rattle.std.specs.Prelude.{◌≡◌, ℕ, nat_eq, IfSome, IfNone, find, map, option_map, reverse, None};
+ghost use Rattle.std.specs.HashMap.{get};
 ghost use Rattle.cc_names.specs.Keys.{key_of};
 ghost use Rattle.cc_names.specs.Falling.{Falls};
 
 use cc_names::by_row::{ByRow, count_below};
+use cc_names::keys::key_of;
 use cc_names::names::Name;
+use std::collections::HashMap;
+use std::hash::RandomState;
 
 /// One change of a label on an element: the version on which it was put, or none where it was taken off.
 #[derive(Clone, Copy, Debug)]
@@ -47,7 +51,7 @@ impl Held {
         requires { Falls (map row_of_move (reverse self.now.moves.items)) }
         ensures { result
             ≡ holder (labels_of_first_rows rows (changes_held self.now)) self.now.label
-              self.now.element }
+            self.now.element }
     {
         match count_below(&self.moves, rows) {
             0 => None,
@@ -55,16 +59,23 @@ impl Held {
         }
     }
 
-    /// The place of a label on an element among all, where `newest` is the place of the newest one with its key. Takes time
-    /// linear in the label's name, at most once for each with that key, which mostly is this one alone.
-    pub fn find(held: &[Held], newest: Option<usize>, label: &Name, element: u64) -> Option<usize>
-        requires linked { AreLinked (reverse held.now) }
-        requires newest { newest ≡ newest_with (key_of element label.now) (reverse held.now) }
+    /// The place of a label on an element among all, where `newest` has the place of the newest one of each key. Takes time
+    /// linear in the label's name, at most once for each with its key, which mostly is this one alone.
+    pub fn find(
+        hashing: RandomState,
+        held: &[Held],
+        newest: &HashMap<u64, usize>,
+        label: &Name,
+        element: u64,
+    ) -> Option<usize>
+        requires linked { AreLinked hashing (reverse held.now) }
+        requires newest { (key : ℕ)
+            → get nat_eq newest.now key ≡ newest_with hashing key (reverse held.now) }
         ensures found { IfSome result (IsPlaceOf label.now element held.now) }
         ensures absent { IfNone result (HasNoPlace label.now element held.now) }
     {
         let mut older = held;
-        let mut next = newest;
+        let mut next = newest.get(&key_of(hashing, element, label)).copied();
         while let Some(place) = next {
             let found = &older[place];
             if found.is(label, element) {

@@ -11,7 +11,7 @@ pub fn one_change_more()
         → AddsChange old new change
         → (rows : ℕ) (l : List ℕ) (e : ℕ)
         → holder (labels_of_first_rows rows new.changes) l e
-          ≡ holder (labels_of_first_rows rows (change ∷ old.changes)) l e }
+        ≡ holder (labels_of_first_rows rows (change ∷ old.changes)) l e }
 {}
 
 /// A change moves no label in the first rows, where its own row is not among them. So no change alters an answer at a
@@ -23,7 +23,7 @@ pub fn older_holders_stay()
         → rows ≤ row_of_label_change change
         → (l : List ℕ) (e : ℕ)
         → holder (labels_of_first_rows rows new.changes) l e
-          ≡ holder (labels_of_first_rows rows old.changes) l e }
+        ≡ holder (labels_of_first_rows rows old.changes) l e }
 {}
 
 /// Making room moves no label.
@@ -32,5 +32,5 @@ pub fn room_moves_no_label()
         → KeepsAll old new
         → (rows : ℕ) (l : List ℕ) (e : ℕ)
         → holder (labels_of_first_rows rows new.changes) l e
-          ≡ holder (labels_of_first_rows rows old.changes) l e }
+        ≡ holder (labels_of_first_rows rows old.changes) l e }
 {}

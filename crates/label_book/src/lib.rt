@@ -26,12 +26,14 @@ use cc_names::names::Name;
 use held::{Held, Move};
 use std::alloc::Global;
 use std::collections::HashMap;
+use std::hash::RandomState;
 use std::marker::Model;
 
 /// The labels of a base on its elements. Contracts see the list of changes.
 #[derive(Debug, Drop)]
 pub struct Book {
     alloc: Global,
+    hashing: RandomState,
     held: Vec<Held>,
     newest: HashMap<u64, usize>,
 }
@@ -51,12 +53,13 @@ impl Model for Book {
 impl Book {
     ghost use Rattle.label_book.specs.Holding.{change_by};
 
-    /// A book without labels. Takes constant time.
-    pub fn new(alloc: Global) -> Result<Book, NoMemory>
+    /// A book without labels, in which they are found by hashing their names so. Takes constant time.
+    pub fn new(alloc: Global, hashing: RandomState) -> Result<Book, NoMemory>
         ensures { IfOk result (λ book. book.changes ≡ []) }
     {
         Ok(Book {
             alloc,
+            hashing,
             held: Vec::new(alloc),
             newest: HashMap::new(alloc),
         })
@@ -68,8 +71,8 @@ impl Book {
         ensures kept { KeepsAll self.old self.new }
         ensures ready { OnOk result
             ((k : ℕ)
-                → k < length elements.now
-                → IsTrue (is_ready self.new label.now (slice_index elements.now k))) }
+            → k < length elements.now
+            → IsTrue (is_ready self.new label.now (slice_index elements.now k))) }
     {
         for element in elements {
             self.reserve_one(alloc, label, *element)?;
@@ -82,9 +85,7 @@ impl Book {
         ensures kept { KeepsAll self.old self.new }
         ensures ready { OnOk result (IsTrue (is_ready self.new label.now element)) }
     {
-        let key = key_of(element, label);
-        let namesake = self.newest.get(&key).copied();
-        match Held::find(&self.held, namesake, label, element) {
+        match Held::find(self.hashing, &self.held, &self.newest, label, element) {
             Some(place) => {
                 let held = &mut self.held[place];
                 held.moves.reserve(1)?;
@@ -95,6 +96,8 @@ impl Book {
                 let mut moves = Vec::new(alloc);
                 moves.reserve_exact(1)?;
                 self.newest.reserve(1)?;
+                let key = key_of(self.hashing, element, &label);
+                let namesake = self.newest.get(&key).copied();
                 let place = self.held.len();
                 self.held.push(Held {
                     label,
@@ -145,8 +148,7 @@ impl Book {
         ensures { AddsChange self.old self.new
             (change_by label.now element change.row change.version) }
     {
-        let newest = self.newest.get(&key_of(element, label)).copied();
-        match Held::find(&self.held, newest, label, element) {
+        match Held::find(self.hashing, &self.held, &self.newest, label, element) {
             Some(place) => {
                 let held = &mut self.held[place];
                 match held.moves.push(change) {
@@ -164,8 +166,7 @@ impl Book {
     pub fn at(&self, label: &Name, element: u64, rows: u64) -> Option<u64>
         ensures { result ≡ holder (labels_of_first_rows rows self.now.changes) label.now element }
     {
-        let newest = self.newest.get(&key_of(element, label)).copied();
-        let place = Held::find(&self.held, newest, label, element)?;
+        let place = Held::find(self.hashing, &self.held, &self.newest, label, element)?;
         self.held[place].at(rows)
     }
 }

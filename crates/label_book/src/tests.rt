@@ -8,6 +8,7 @@ ghost use Rattle.label_book.specs.Marks.{rows_of_pair};
 use crate::Book;
 use cc_names::names::Name;
 use std::alloc::Global;
+use std::hash::RandomState;
 use std::test::Fail;
 
 // Puts a label on a version of an element, or takes it off.
@@ -52,8 +53,13 @@ fn names(alloc: Global) -> Result<Vec<Name>, Fail> {
 // One change: its row, the place of its label in `NAMES`, its element, and the version on which the label is put.
 type Line = (u32, usize, u64, Option<u64>);
 
-fn marked(alloc: Global, names: &[Name], lines: &[Line]) -> Result<Book, Fail> {
-    let mut book = Book::new(alloc)?;
+fn marked(
+    alloc: Global,
+    hashing: RandomState,
+    names: &[Name],
+    lines: &[Line],
+) -> Result<Book, Fail> {
+    let mut book = Book::new(alloc, hashing)?;
     let mut next = 0;
     for line in lines {
         let (row, named, element, version) = *line;
@@ -94,7 +100,7 @@ const HOLDERS: [(usize, u64, u64, Option<u64>); 13] = [
 #[test]
 fn holds_as_of_then(rt: HostRuntime) -> Result<(), Fail> {
     let names = names(rt.alloc())?;
-    let book = marked(rt.alloc(), &names, &LINES)?;
+    let book = marked(rt.alloc(), RandomState::new(&rt)?, &names, &LINES)?;
     for (named, element, rows, found) in HOLDERS {
         let label = names.get(named).ok_or("no such label")?;
         assert_eq!(rt;
@@ -128,7 +134,7 @@ fn mark_both(
 #[test]
 fn puts_two_at_once(rt: HostRuntime) -> Result<(), Fail> {
     let label = Name::read(rt.alloc(), b"REL")?;
-    let mut book = Book::new(rt.alloc())?;
+    let mut book = Book::new(rt.alloc(), RandomState::new(&rt)?)?;
     mark_both(rt.alloc(), &mut book, 12, &label, 3, 6)?;
     assert_eq!(rt; book.at(&label, 3, 13), Some(3));
     assert_eq!(rt; book.at(&label, 6, 13), Some(6));
@@ -187,7 +193,7 @@ fn agrees_on_holders(book: &Book, names: &[Name], lines: &[Line], rows: u64) -> 
 fn agrees_at_every_number_of_rows(rt: HostRuntime) -> Result<(), Fail> {
     let names = names(rt.alloc())?;
     let lines = random_lines(rt.alloc())?;
-    let book = marked(rt.alloc(), &names, &lines)?;
+    let book = marked(rt.alloc(), RandomState::new(&rt)?, &names, &lines)?;
     for rows in 0..2001 {
         assert!(rt;
             agrees_on_holders(&book, &names, &lines, rows),

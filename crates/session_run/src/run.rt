@@ -29,6 +29,7 @@ use cc_outside::{Clock, Sink, Source, WriteFault};
 use disk_model::Disk;
 use legal_history::laws::builds::{a_build_is_as_from_nothing, a_build_is_of_its_command};
 use std::alloc::Global;
+use std::hash::RandomState;
 
 /// How a call ended: its status, the disk, and the history of the base that it opened, which is empty where it opened none.
 #[derive(Drop)]
@@ -111,6 +112,7 @@ fn run_opened<K: Sink, D: Disk, C: Clock>(
 /// Opens the base that a disk stands for and runs the phases on it, or writes why it cannot be opened.
 fn run_session<K: Sink, D: Disk, C: Clock>(
     alloc: Global,
+    hashing: RandomState,
     phases: Vec<Phase>,
     sink: &mut K,
     disk: D,
@@ -121,7 +123,7 @@ fn run_session<K: Sink, D: Disk, C: Clock>(
     ensures { RunsSession phases.items result.status result.history (outside_of (K.sight sink.old) (K.sight sink.new) (C.sight clock.old) (C.sight clock.new)) (sink_faults (K.sight sink.old) (K.sight sink.new)) (record { before = D.sight disk; after = D.sight result.disk }) }
 {
     let before = disk.counts().faults;
-    match Core::open(alloc, disk) {
+    match Core::open(alloc, hashing, disk) {
         Ok(core) => run_opened(alloc, core, before, phases, sink, clock),
         Err(OpenFault { cause, disk }) => {
             let stop = stop_of(cause, has_risen(before, disk.counts().faults));
@@ -136,10 +138,12 @@ fn run_session<K: Sink, D: Disk, C: Clock>(
 
 /// Runs the session that the words ask for: reads it from the source, opens the base that the disk stands for, runs the
 /// phases in order, writes the transcript of each when its lanes have ended, and settles the journal. The disk comes back in
-/// every case, and unless a session was read no call was made on it. Takes time linear in the journal, in the square of the
+/// every case, and unless a session was read no call was made on it. Names are found by hashing them so: with random keys nobody
+/// can choose names that make a look-up slow, and the answers are the same with any. Takes time linear in the journal, in the square of the
 /// targets of one object there, and in the session, and what the scripts of its builds take.
 pub fn run_words<S: Source, K: Sink, D: Disk, C: Clock>(
     alloc: Global,
+    hashing: RandomState,
     words: &[Text],
     source: &mut S,
     sink: &mut K,
@@ -160,7 +164,7 @@ pub fn run_words<S: Source, K: Sink, D: Disk, C: Clock>(
     ensures taken { TakesNoMore (record { before = (S.sight source.old).given; after = (S.sight source.new).given }) }
 {
     match session_given(alloc, words, source) {
-        Ok(phases) => run_session(alloc, phases, sink, disk, clock),
+        Ok(phases) => run_session(alloc, hashing, phases, sink, disk, clock),
         Err(stop) => Ended {
             status: refuse(alloc, stop, sink),
             disk,

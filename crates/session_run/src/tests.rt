@@ -10,6 +10,9 @@ use cc_names::texts::Text;
 use cc_outside::{ListClock, MemorySink, MemorySource};
 use disk_model::MemoryDisk;
 use std::alloc::Global;
+use std::hash::RandomState;
+use std::random::RandomSource;
+use std::test::Fail;
 
 mod builds;
 mod disks;
@@ -34,13 +37,14 @@ fn disk_with(alloc: Global, journal: &[u8], fail: &[u64]) -> Result<MemoryDisk, 
 
 // The outcome of words and a text on a disk, where these reads and these writes fail.
 fn outcome_by(
+    rt: &impl RandomSource,
     alloc: Global,
     words: &str,
     text: &str,
     disk: MemoryDisk,
     reads: &[u64],
     writes: &[u64],
-) -> Result<Outcome, NoMemory>
+) -> Result<Outcome, Fail>
     requires { IsHandedIn (sight_of disk) }
 {
     let mut all = Vec::new(alloc);
@@ -56,6 +60,7 @@ fn outcome_by(
         history,
     } = run_words(
         alloc,
+        RandomState::new(rt)?,
         all.as_slice(),
         &mut source,
         &mut sink,
@@ -72,13 +77,15 @@ fn outcome_by(
 
 // The outcome of words and a text on an empty disk.
 fn outcome_of(
+    rt: &impl RandomSource,
     alloc: Global,
     words: &str,
     text: &str,
     reads: &[u64],
     writes: &[u64],
-) -> Result<Outcome, NoMemory> {
+) -> Result<Outcome, Fail> {
     outcome_by(
+        rt,
         alloc,
         words,
         text,
@@ -90,13 +97,14 @@ fn outcome_of(
 
 // The outcome of a session on a disk.
 fn outcome_on(
+    rt: &impl RandomSource,
     alloc: Global,
     text: &str,
     disk: MemoryDisk,
     reads: &[u64],
     writes: &[u64],
-) -> Result<Outcome, NoMemory>
+) -> Result<Outcome, Fail>
     requires { IsHandedIn (sight_of disk) }
 {
-    outcome_by(alloc, "f run", text, disk, reads, writes)
+    outcome_by(rt, alloc, "f run", text, disk, reads, writes)
 }

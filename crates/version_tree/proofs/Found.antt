@@ -14,13 +14,14 @@ use Rattle.version_tree.specs.declared.namesakes.Made.{Made}
 use Rattle.version_tree.specs.declared.branches.Branch.{Branch}
 use Rattle.version_tree.proofs.FirstRows.{versions_of_first_rows, versions_fall, later_falls}
 use Rattle.version_tree.proofs.Steps.{rows_of_made}
+use Rattle.std.specs.declared.random_state.RandomState.{RandomState}
 
 -- what holds of a copy holds of what a reference points to
 pub if_copied : {X : Type 0} (P : X → Type 0) (o : Option (Bor X)) → IfSome (option_copied o) P → IfSome o (λ x. P x.now)
 if_copied P None holds = tt
 if_copied P (Some x) holds = holds
 
-module _ (made : List Made) (branches : List Branch) (heads : ℕ → Option ℕ) (held : ℕ → Option Contents) (step : InStep made branches heads held) where
+module _ {h : RandomState} (made : List Made) (branches : List Branch) (heads : ℕ → Option ℕ) (held : ℕ → Option Contents) (step : InStep h made branches heads held) where
   -- the rows of the changes fall
   pub changes_fall : Falls (map row_of_change (changes_of made))
   changes_fall = rw (rows_of_made made) step.falls
@@ -41,7 +42,7 @@ module _ (made : List Made) (branches : List Branch) (heads : ℕ → Option ℕ
       later_falls branch.row branch.moment (reverse branch.later.items) (rw (versions_found b (Some branch) is) (versions_fall (changes_of made) b changes_fall))
 
   -- other contents in order
-  pub contents_set : (held' : ℕ → Option Contents) → ((v : ℕ) → AreInOrder (entries_in (held' v))) → InStep made branches heads held'
+  pub contents_set : (held' : ℕ → Option Contents) → ((v : ℕ) → AreInOrder (entries_in (held' v))) → InStep h made branches heads held'
   contents_set held' in_order = record {
     falls = step.falls;
     linked = step.linked;
@@ -68,8 +69,8 @@ change_found (m ∷ made) row = at (eqb (row_of_made m) row) (change_found made 
     at false rest = rest
 
 -- nothing is there
-pub nothing_in_step : (heads : ℕ → Option ℕ) (held : ℕ → Option Contents) → ((key : ℕ) → heads key ≡ None) → ((v : ℕ) → held v ≡ None) → InStep [] [] heads held
-nothing_in_step heads held none nothing = record {
+pub nothing_in_step : (h : RandomState) (heads : ℕ → Option ℕ) (held : ℕ → Option Contents) → ((key : ℕ) → heads key ≡ None) → ((v : ℕ) → held v ≡ None) → InStep h [] [] heads held
+nothing_in_step h heads held none nothing = record {
   falls = tt;
   linked = tt;
   newest = none;

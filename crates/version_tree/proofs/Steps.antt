@@ -18,6 +18,7 @@ use Rattle.version_tree.specs.declared.branches.Branch.{Branch}
 use Rattle.version_tree.specs.declared.branches.Later.{Later}
 use Rattle.version_tree.proofs.Links.{bool_cases}
 use Rattle.cc_names.proofs.ByRows.{find_first, find-reverse, rises_below}
+use Rattle.std.specs.declared.random_state.RandomState.{RandomState}
 
 -- the rows of changes
 pub rows_of_made : (made : List Made) → map row_of_change (changes_of made) ≡ map row_of_made made
@@ -34,13 +35,13 @@ abbrev version_of : ℕ → ℕ → ℕ → Version
 version_of row moment branch = record { row = row; moment = moment; branch = branch; number = 0 }
 
 -- a change that begins a branch, and the branch with version 0 alone
-pub branch_added : (m : Made) (b : Branch) (made : List Made) (branches : List Branch) (heads heads' : ℕ → Option ℕ) (held : ℕ → Option Contents)
-    → InStep made branches heads held
+pub branch_added : {h : RandomState} (m : Made) (b : Branch) (made : List Made) (branches : List Branch) (heads heads' : ℕ → Option ℕ) (held : ℕ → Option Contents)
+    → InStep h made branches heads held
     → row_of_change m.change ≡ b.row → branch_of_change m.change ≡ b.row → moment_of_change m.change ≡ b.moment → b.later.items ≡ []
     → IsAbove b.row (map row_of_made made)
-    → ((key : ℕ) → has_key key m.change ≡ true → m.namesake ≡ newest_with key made)
-    → ((key : ℕ) → heads' key ≡ newest_with key (m ∷ made))
-    → InStep (m ∷ made) (b ∷ branches) heads' held
+    → ((key : ℕ) → has_key h key m.change ≡ true → m.namesake ≡ newest_with h key made)
+    → ((key : ℕ) → heads' key ≡ newest_with h key (m ∷ made))
+    → InStep h (m ∷ made) (b ∷ branches) heads' held
 branch_added m b made branches heads heads' held step rows on moments empty above link newest = record {
   falls = (rw rows above, step.falls);
   linked = (link, step.linked);
@@ -165,20 +166,20 @@ kept_more b b' l branch row row' moments more =
     ap (λ vs. version_behind branch l vs ∷ vs) older ∙ sym (by_row ∙ by_moment ∙ by_items)
 
 -- the next version on a branch that is there
-pub version_added : (m : Made) (made : List Made) (items : List Branch) (p : ℕ) (b' : Branch) (row moment branch : ℕ) (heads : ℕ → Option ℕ) (held : ℕ → Option Contents)
-    → InStep made (reverse items) heads held
+pub version_added : {h : RandomState} (m : Made) (made : List Made) (items : List Branch) (p : ℕ) (b' : Branch) (row moment branch : ℕ) (heads : ℕ → Option ℕ) (held : ℕ → Option Contents)
+    → InStep h made (reverse items) heads held
     → m.change ≡ VersionMade row moment branch
     → IsAbove row (map row_of_made made)
     → p < length items → slice_get items p ≡ find (λ b. eqb b.row branch) items
     → b'.row ≡ branch → ((d : Branch) → b'.moment ≡ (get_or items p d).moment) → ((d : Branch) → b'.later.items ≡ (get_or items p d).later.items ++ record { row = row; moment = moment } ∷ [])
-    → InStep (m ∷ made) (reverse (set items p b')) heads held
-version_added m made items p b' row moment branch heads held step is above within found same_row same_moment more =
+    → InStep h (m ∷ made) (reverse (set items p b')) heads held
+version_added {h = h} m made items p b' row moment branch heads held step is above within found same_row same_moment more =
     let there = row_there items branch p step.branches_fall within found in
     let old = get_or items p b' in
     let rows : map row_of_branch (reverse (set items p b')) ≡ map row_of_branch (reverse items) =
     map-reverse row_of_branch (set items p b') ∙ ap reverse (rows_set items p b' within (λ d. there d ∙ sym same_row)) ∙ sym (map-reverse row_of_branch items) in
     let fall_after : Falls (map row_of_branch (reverse (set items p b'))) = rw rows step.branches_fall in
-    let no_key : (key : ℕ) → has_key key m.change ≡ false = λ key. rw is refl in
+    let no_key : (key : ℕ) → has_key h key m.change ≡ false = λ key. rw is refl in
     let old_found : branch_at (reverse items) branch ≡ Some old =
     find-reverse row_of_branch branch items step.branches_fall ∙ sym found ∙ slice_get-get_or items p b' within in
     let new_found : branch_at (reverse (set items p b')) branch ≡ Some b' =
@@ -216,8 +217,8 @@ not_ready branch (x ∷ items) none = elim (bool_cases (eqb x.row branch)) [
     over_put false fails rest = rest
 
 -- the maps in another order
-pub maps_reordered : (made : List Made) (branches : List Branch) (heads heads' : ℕ → Option ℕ) (held held' : ℕ → Option Contents)
-    → InStep made branches heads held → ((key : ℕ) → heads' key ≡ heads key) → ((v : ℕ) → held' v ≡ held v) → InStep made branches heads' held'
+pub maps_reordered : {h : RandomState} (made : List Made) (branches : List Branch) (heads heads' : ℕ → Option ℕ) (held held' : ℕ → Option Contents)
+    → InStep h made branches heads held → ((key : ℕ) → heads' key ≡ heads key) → ((v : ℕ) → held' v ≡ held v) → InStep h made branches heads' held'
 maps_reordered made branches heads heads' held held' step same_heads same_held = record {
   falls = step.falls;
   linked = step.linked;
@@ -229,10 +230,10 @@ maps_reordered made branches heads heads' held held' step same_heads same_held =
 }
 
 -- a branch with more room
-pub room_made : (made : List Made) (items : List Branch) (p : ℕ) (b' : Branch) (branch : ℕ) (heads : ℕ → Option ℕ) (held : ℕ → Option Contents)
-    → InStep made (reverse items) heads held → p < length items → slice_get items p ≡ find (λ b. eqb b.row branch) items
+pub room_made : {h : RandomState} (made : List Made) (items : List Branch) (p : ℕ) (b' : Branch) (branch : ℕ) (heads : ℕ → Option ℕ) (held : ℕ → Option Contents)
+    → InStep h made (reverse items) heads held → p < length items → slice_get items p ≡ find (λ b. eqb b.row branch) items
     → b'.row ≡ branch → ((d : Branch) → b'.moment ≡ (get_or items p d).moment) → ((d : Branch) → b'.later.items ≡ (get_or items p d).later.items)
-    → InStep made (reverse (set items p b')) heads held
+    → InStep h made (reverse (set items p b')) heads held
 room_made made items p b' branch heads held step within found same_row same_moment same_later =
     let there = row_there items branch p step.branches_fall within found in
     let old = get_or items p b' in
@@ -285,8 +286,8 @@ set_ready (x ∷ items) (suc p) b' branch within same room = put_any (ltb (vec_l
     put_any false any = any
 
 -- a branch that is not there has no version
-pub latest_nowhere : (made : List Made) (items : List Branch) (branch : ℕ) (heads : ℕ → Option ℕ) (held : ℕ → Option Contents)
-    → InStep made (reverse items) heads held → find (λ b. eqb b.row branch) items ≡ None → latest (changes_of made) branch None ≡ None
+pub latest_nowhere : {h : RandomState} (made : List Made) (items : List Branch) (branch : ℕ) (heads : ℕ → Option ℕ) (held : ℕ → Option Contents)
+    → InStep h made (reverse items) heads held → find (λ b. eqb b.row branch) items ≡ None → latest (changes_of made) branch None ≡ None
 latest_nowhere made items branch heads held step none =
     let absent : branch_at (reverse items) branch ≡ None = find-reverse row_of_branch branch items step.branches_fall ∙ none in
     let versions : versions_on (changes_of made) branch ≡ [] = step.kept branch ∙ ap versions_by absent in

@@ -1,6 +1,7 @@
 -- The fields of a `Tree`: what contracts see of them, and how they are in step.
 use Rattle.std.specs.Prelude.{◌≡◌, ℕ, ◌-◌, ◌==◌, min, nat_eq, nat_lt, Option, List, [], ◌∷◌, map, reverse, find, vec_len, vec_capacity}
 use Rattle.std.specs.HashMap.{get, spare}
+use Rattle.std.specs.declared.random_state.RandomState.{RandomState}
 use Rattle.cc_names.specs.Versions.{row_of_change, versions_on, put_if}
 use Rattle.cc_names.specs.Falling.{IsAbove, Falls}
 use Rattle.version_tree.specs.Forest.{Forest, AreInOrder, entries_in}
@@ -40,10 +41,10 @@ abbrev pub branch_at : List Branch → ℕ → Option Branch
 branch_at branches b = find (λ branch. branch.row == b) branches
 
 -- The fields are in step: the changes and the branches, each newest first, and the two maps as functions.
-pub record InStep (made : List Made) (branches : List Branch) (heads : ℕ → Option ℕ) (held : ℕ → Option Contents) : Type 0 where
+pub record InStep (hashing : RandomState) (made : List Made) (branches : List Branch) (heads : ℕ → Option ℕ) (held : ℕ → Option Contents) : Type 0 where
   pub falls : Falls (map row_of_made made)
-  pub linked : AreLinked made
-  pub newest : (key : ℕ) → heads key ≡ newest_with key made
+  pub linked : AreLinked hashing made
+  pub newest : (key : ℕ) → heads key ≡ newest_with hashing key made
   pub branches_fall : Falls (map row_of_branch branches)
   pub branches_made : (row : ℕ) → IsAbove row (map row_of_made made) → IsAbove row (map row_of_branch branches)
   pub kept : (b : ℕ) → versions_on (changes_of made) b ≡ versions_by (branch_at branches b)
@@ -52,4 +53,4 @@ pub record InStep (made : List Made) (branches : List Branch) (heads : ℕ → O
 -- the fields of a tree are in step
 abbrev pub IsInStep : Inside → Type 0
 IsInStep inside =
-    InStep (reverse inside.made.items) (reverse inside.branches.items) (get nat_eq inside.newest) (get nat_eq inside.contents)
+    InStep inside.hashing (reverse inside.made.items) (reverse inside.branches.items) (get nat_eq inside.newest) (get nat_eq inside.contents)

@@ -75,7 +75,7 @@ impl Branch {
         requires { Falls (map row_of_later (reverse self.now.later.items)) }
         ensures { result
             ≡ option_map row_of_version
-              (find (λ v. is_before before v.moment) (kept_of_first_rows rows self.now)) }
+            (find (λ v. is_before before v.moment) (kept_of_first_rows rows self.now)) }
     {
         let count = count_below(&self.later, rows);
         match last_before(&self.later[..count], before) {
@@ -100,7 +100,7 @@ impl Branch {
     pub fn numbered(&self, number: u64, rows: u64) -> Option<u64>
         ensures { result
             ≡ option_map row_of_version
-              (find (λ v. v.number == number) (kept_of_first_rows rows self.now)) }
+            (find (λ v. v.number == number) (kept_of_first_rows rows self.now)) }
     {
         within(self.row_numbered(number), rows)
     }

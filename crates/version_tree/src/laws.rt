@@ -19,7 +19,7 @@ pub fn older_rows_stay()
 pub fn numbers_have_no_gap()
     ensures { (changes : List TreeChange) (branch : ℕ)
         → map number_of_version (versions_on changes branch)
-          ≡ numbers_below (length (versions_on changes branch)) }
+        ≡ numbers_below (length (versions_on changes branch)) }
 {}
 
 /// What a row made is told by no later change, nor where its version stands. So kinds, origins, names, branches and places

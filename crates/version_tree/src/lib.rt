@@ -40,12 +40,14 @@ use contents::Contents;
 use namesakes::{Made, find_branch};
 use std::alloc::Global;
 use std::collections::HashMap;
+use std::hash::RandomState;
 use std::marker::Model;
 
 /// The trees of versions of all elements of a base, with what each version holds. Contracts see the list of changes.
 #[derive(Drop)]
 pub struct Tree {
     alloc: Global,
+    hashing: RandomState,
     made: Vec<Made>,
     branches: Vec<Branch>,
     newest: HashMap<u64, usize>,
@@ -104,8 +106,9 @@ fn branch_of(change: &TreeChange) -> u64
 impl Tree {
     ghost use Rattle.version_tree.specs.Branches.{row_of_later, versions_by};
 
-    /// The trees of a base with the root alone, a directory that row 0 made. Takes constant time.
-    pub fn new(alloc: Global) -> Result<Tree, NoMemory>
+    /// The trees of a base with the root alone, a directory that row 0 made, in which names are found by hashing them so.
+    /// Takes constant time.
+    pub fn new(alloc: Global, hashing: RandomState) -> Result<Tree, NoMemory>
         ensures root { IfOk result
             (λ tree. tree.changes ≡ changes.ElementMade 0 0 Kind.Directory ∷ []) }
         ensures empty { IfOk result (λ tree. (v : ℕ) → contents_of tree v ≡ None) }
@@ -127,6 +130,7 @@ impl Tree {
         })?;
         Ok(Tree {
             alloc,
+            hashing,
             made,
             branches,
             newest: HashMap::new(alloc),
@@ -143,7 +147,7 @@ impl Tree {
         ensures content_room { OnOk result (0 < self.new.content_room) }
         ensures ready { OnOk result
             (IfSome branch
-                (λ b. IsSome (latest self.old.changes b None) → IsTrue (is_ready self.new b))) }
+            (λ b. IsSome (latest self.old.changes b None) → IsTrue (is_ready self.new b))) }
     {
         self.reserve_change()?;
         match branch {
@@ -205,7 +209,7 @@ impl Tree {
         requires room { 0 < self.old.room }
         ensures { AddsChange self.old self.new (changes.BranchMade row moment element origin name) }
     {
-        let key = key_of(element, &name);
+        let key = key_of(self.hashing, element, &name);
         let namesake = self.newest.get(&key).copied();
         put_within(&mut self.newest, key, self.made.len());
         let change = TreeChange::BranchMade {
@@ -254,7 +258,7 @@ impl Tree {
             ≡ versions_on self.now.changes branch }
         ensures first_rows { (rows : ℕ)
             → filter (λ v. nat_lt v.row rows) (versions_by (option_copied result))
-              ≡ versions_on (of_first_rows rows self.now.changes) branch }
+            ≡ versions_on (of_first_rows rows self.now.changes) branch }
         ensures falls { IfSome result
             (λ found. Falls (map row_of_later (reverse found.now.later.items))) }
     {
@@ -288,8 +292,7 @@ impl Tree {
     pub fn branch_named(&self, element: u64, name: &Name, rows: u64) -> Option<u64>
         ensures { result ≡ branch_named (of_first_rows rows self.now.changes) element name.now }
     {
-        let newest = self.newest.get(&key_of(element, name)).copied();
-        find_branch(&self.made, newest, element, name, rows)
+        find_branch(self.hashing, &self.made, &self.newest, element, name, rows)
     }
 
     /// What kind an element is of. Takes time logarithmic in the changes.

@@ -1,6 +1,7 @@
 // Branches by element and name: the changes that made branches with one key are linked, the newest first.
 
-ghost use Rattle.std.specs.Prelude.{◌≡◌, ◌&&◌, nat_lt, reverse};
+ghost use Rattle.std.specs.Prelude.{◌≡◌, ℕ, ◌&&◌, nat_eq, nat_lt, reverse};
+ghost use Rattle.std.specs.HashMap.{get};
 ghost use Rattle.cc_names.specs.Versions.{row_of_change, of_first_rows};
 ghost use Rattle.cc_names.specs.Branches.{makes_branch, branch_named};
 ghost use Rattle.cc_names.specs.Keys.{key_of};
@@ -8,7 +9,10 @@ ghost use Rattle.version_tree.specs.Namesakes.{changes_of, newest_with, AreLinke
 
 use cc_names::by_row::ByRow;
 use cc_names::changes::TreeChange;
+use cc_names::keys::key_of;
 use cc_names::names::Name;
+use std::collections::HashMap;
+use std::hash::RandomState;
 
 /// A change; where it made a branch, with the place of the next older change that made a branch with the same key.
 #[derive(Drop)]
@@ -60,22 +64,24 @@ fn makes_branch_within(change: &TreeChange, rows: u64, element: u64, name: &Name
     row_of(change) < rows && makes_branch(change, element, name)
 }
 
-/// The element's branch of a name among the first `rows` rows, where `newest` is the place of the newest change with
-/// its key. Takes time linear in the name, at most once for each change with that key, which mostly is this branch alone.
+/// The element's branch of a name among the first `rows` rows, where `newest` has the place of the newest change of each
+/// key. Takes time linear in the name, at most once for each change with that key, which mostly is this branch alone.
 pub fn find_branch(
+    hashing: RandomState,
     made: &[Made],
-    newest: Option<usize>,
+    newest: &HashMap<u64, usize>,
     element: u64,
     name: &Name,
     rows: u64,
 ) -> Option<u64>
-    requires linked { AreLinked (reverse made.now) }
-    requires newest { newest ≡ newest_with (key_of element name.now) (reverse made.now) }
+    requires linked { AreLinked hashing (reverse made.now) }
+    requires newest { (key : ℕ)
+        → get nat_eq newest.now key ≡ newest_with hashing key (reverse made.now) }
     ensures { result
         ≡ branch_named (of_first_rows rows (changes_of (reverse made.now))) element name.now }
 {
     let mut older = made;
-    let mut next = newest;
+    let mut next = newest.get(&key_of(hashing, element, name)).copied();
     while let Some(place) = next {
         let found = &older[place];
         if makes_branch_within(&found.change, rows, element, name) {

@@ -9,6 +9,7 @@ use cc_names::changes::Place;
 use cc_names::names::Name;
 use cc_names::rows::Kind;
 use std::alloc::Global;
+use std::hash::RandomState;
 use std::test::Fail;
 
 const NAMES: [&[u8]; 3] = [b"fix", b"rel2", b"dev"];
@@ -66,10 +67,10 @@ fn rising(next: u64, row: u64) -> Option<u64>
     if next <= row { Some(row) } else { None }
 }
 
-fn grown(alloc: Global, steps: &[Step]) -> Result<Tree, Fail>
+fn grown(alloc: Global, hashing: RandomState, steps: &[Step]) -> Result<Tree, Fail>
     ensures { IfOk result (λ tree. IsAbove (2 ^ 32) (map row_of_change tree.changes)) }
 {
-    let mut tree = Tree::new(alloc)?;
+    let mut tree = Tree::new(alloc, hashing)?;
     let mut next = 1;
     for step in steps {
         let (row, moment, what) = *step;
@@ -135,14 +136,14 @@ const CLOCK_BACK: [Step; 4] = [
     (4, 70, What::Version { branch: 1 }),
 ];
 
-fn worked_tree(alloc: Global, tree: Worked) -> Result<Tree, Fail>
+fn worked_tree(alloc: Global, hashing: RandomState, tree: Worked) -> Result<Tree, Fail>
     ensures { IfOk result (λ tree. IsAbove (2 ^ 32) (map row_of_change tree.changes)) }
 {
     match tree {
-        Worked::TwoCheckouts => grown(alloc, &TWO_CHECKOUTS),
-        Worked::BranchOfARule => grown(alloc, &BRANCH_OF_A_RULE),
-        Worked::TwoMoments => grown(alloc, &TWO_MOMENTS),
-        Worked::ClockBack => grown(alloc, &CLOCK_BACK),
+        Worked::TwoCheckouts => grown(alloc, hashing, &TWO_CHECKOUTS),
+        Worked::BranchOfARule => grown(alloc, hashing, &BRANCH_OF_A_RULE),
+        Worked::TwoMoments => grown(alloc, hashing, &TWO_MOMENTS),
+        Worked::ClockBack => grown(alloc, hashing, &CLOCK_BACK),
     }
 }
 
@@ -184,7 +185,7 @@ const NUMBERED: [(Worked, u64, u64, u64, Option<u64>); 9] = [
 #[test]
 fn finds_versions(rt: HostRuntime) -> Result<(), Fail> {
     for (tree, branch, rows, before, found) in LATEST {
-        let tree = worked_tree(rt.alloc(), tree)?;
+        let tree = worked_tree(rt.alloc(), RandomState::new(&rt)?, tree)?;
         assert_eq!(rt;
             tree.latest(branch, rows, before),
             found,
@@ -192,7 +193,7 @@ fn finds_versions(rt: HostRuntime) -> Result<(), Fail> {
         );
     }
     for (tree, branch, number, rows, found) in NUMBERED {
-        let tree = worked_tree(rt.alloc(), tree)?;
+        let tree = worked_tree(rt.alloc(), RandomState::new(&rt)?, tree)?;
         assert_eq!(rt;
             tree.numbered(branch, number, rows),
             found,
@@ -214,14 +215,14 @@ const NAMED: [(Worked, u64, u64, Option<u64>); 4] = [
 fn finds_branches(rt: HostRuntime) -> Result<(), Fail> {
     let fix = Name::read(rt.alloc(), b"fix")?;
     for (tree, element, rows, found) in NAMED {
-        let tree = worked_tree(rt.alloc(), tree)?;
+        let tree = worked_tree(rt.alloc(), RandomState::new(&rt)?, tree)?;
         assert_eq!(rt;
             tree.branch_named(element, &fix, rows),
             found,
             "of {element} at {rows}"
         );
     }
-    let tree = worked_tree(rt.alloc(), Worked::BranchOfARule)?;
+    let tree = worked_tree(rt.alloc(), RandomState::new(&rt)?, Worked::BranchOfARule)?;
     let name = tree.name(15).ok_or("no name")?.as_bytes();
     assert_eq!(rt; name, b"fix".as_slice());
     assert!(rt; tree.name(6).is_none());
@@ -248,7 +249,7 @@ const KINDS: [(u64, Option<Kind>, Option<u64>); 4] = [
 
 #[test]
 fn tells_what_rows_made(rt: HostRuntime) -> Result<(), Fail> {
-    let tree = worked_tree(rt.alloc(), Worked::BranchOfARule)?;
+    let tree = worked_tree(rt.alloc(), RandomState::new(&rt)?, Worked::BranchOfARule)?;
     for (row, place) in PLACES {
         let place = place.map(|(element, branch, number)| Place {
             element,
@@ -266,7 +267,7 @@ fn tells_what_rows_made(rt: HostRuntime) -> Result<(), Fail> {
 
 #[test]
 fn holds_texts_and_catalogs(rt: HostRuntime) -> Result<(), Fail> {
-    let mut tree = worked_tree(rt.alloc(), Worked::TwoCheckouts)?;
+    let mut tree = worked_tree(rt.alloc(), RandomState::new(&rt)?, Worked::TwoCheckouts)?;
     tree.reserve(rt.alloc(), None)?;
     tree.set_text(17, 16);
     assert_eq!(rt; tree.text(17), Some(16));
@@ -317,7 +318,7 @@ const PAIRS: [(Worked, (u64, u64), (u64, u64)); 5] = [
 #[test]
 fn keeps_the_room_of_other_branches(rt: HostRuntime) -> Result<(), Fail> {
     for (tree, (one, first), (two, second)) in PAIRS {
-        let mut tree = worked_tree(rt.alloc(), tree)?;
+        let mut tree = worked_tree(rt.alloc(), RandomState::new(&rt)?, tree)?;
         let two = other(one, two).ok_or("one branch")?;
         add_both(rt.alloc(), &mut tree, one, two)?;
         assert_eq!(rt; tree.numbered(one, first, LATE + 2), Some(LATE), "on {one}");
@@ -434,13 +435,13 @@ fn what_of(line: &Line) -> What {
     }
 }
 
-fn tree_of(alloc: Global, lines: &[Line]) -> Result<Tree, Fail> {
+fn tree_of(alloc: Global, hashing: RandomState, lines: &[Line]) -> Result<Tree, Fail> {
     let mut steps = Vec::new(alloc);
     for line in lines.iter().skip(1) {
         let row = u32::try_from(line.row).ok().ok_or("no such row")?;
         steps.push((row, line.moment, what_of(line)))?;
     }
-    grown(alloc, &steps)
+    grown(alloc, hashing, &steps)
 }
 
 // Whether all numbers lead to these versions of a branch, and the next one to none.
@@ -501,7 +502,7 @@ fn names(alloc: Global) -> Result<Vec<Name>, Fail> {
 #[test]
 fn agrees_at_every_number_of_rows(rt: HostRuntime) -> Result<(), Fail> {
     let lines = random_lines(rt.alloc())?;
-    let tree = tree_of(rt.alloc(), &lines)?;
+    let tree = tree_of(rt.alloc(), RandomState::new(&rt)?, &lines)?;
     let names = names(rt.alloc())?;
     for rows in 0..2002 {
         assert!(rt;
@@ -538,7 +539,7 @@ fn agrees_on_line(alloc: Global, tree: &Tree, lines: &[Line], line: &Line) -> Re
 #[test]
 fn agrees_on_every_row(rt: HostRuntime) -> Result<(), Fail> {
     let lines = random_lines(rt.alloc())?;
-    let tree = tree_of(rt.alloc(), &lines)?;
+    let tree = tree_of(rt.alloc(), RandomState::new(&rt)?, &lines)?;
     for line in &lines {
         assert!(rt;
             agrees_on_line(rt.alloc(), &tree, &lines, line)?,

@@ -9,6 +9,7 @@ use Rattle.legal_history.specs.Base.Rows.{Base, size, first_rows, row_at, deed_o
 use Rattle.view_lookup.specs.Bearing.{last_on, bearing, deed_on, numbered_or, first_on}
 use Rattle.view_lookup.specs.Subjects.{Subject, Life, End, File, Object, is_same, key, subjects, bears, keys_of}
 use Rattle.view_lookup.specs.Marked.{with_marks, marked}
+use Rattle.std.specs.declared.random_state.RandomState.{RandomState}
 
 -- a row that does not bear on the subject is passed, however often it is marked
 passed_once : (at : ℕ → Option Deed) (n : ℕ) (is : Bool) (rest : List ℕ) → at n ≡ None → first_on at (put_if is n rest) ≡ first_on at rest
@@ -56,29 +57,29 @@ same_text : (a b : List ℕ) → bytes_eq a b ≡ true → a ≡ b
 same_text a b is = (bytes_eq-Decides a b).0 is
 
 -- subjects that are one have one key
-same_key : (one two : Subject) → is_same one two ≡ true → key two ≡ key one
-same_key (Life v) (Life w) is = ap (λ name. key (Life name)) (same_text w v is)
-same_key (End v) (End w) is = ap (λ name. key (End name)) (same_text w v is)
-same_key (File v path) (File w q) is =
+same_key : (hashing : RandomState) (one two : Subject) → is_same one two ≡ true → key hashing two ≡ key hashing one
+same_key hashing (Life v) (Life w) is = ap (λ name. key hashing (Life name)) (same_text w v is)
+same_key hashing (End v) (End w) is = ap (λ name. key hashing (End name)) (same_text w v is)
+same_key hashing (File v path) (File w q) is =
     let parts = both (bytes_eq w v) (bytes_eq q path) is in
-    ap₂ (λ name place. key (File name place)) (same_text w v parts.0) (same_text q path parts.1)
-same_key (Object v path) (Object w q) is =
+    ap₂ (λ name place. key hashing (File name place)) (same_text w v parts.0) (same_text q path parts.1)
+same_key hashing (Object v path) (Object w q) is =
     let parts = both (bytes_eq w v) (bytes_eq q path) is in
-    ap₂ (λ name place. key (Object name place)) (same_text w v parts.0) (same_text q path parts.1)
-same_key one two is = absurd (cc)
+    ap₂ (λ name place. key hashing (Object name place)) (same_text w v parts.0) (same_text q path parts.1)
+same_key hashing one two is = absurd (cc)
 
 -- a deed is marked for the key of each subject on which it bears
-has_key : (subject : Subject) (all : List Subject) → list_any (is_same subject) all ≡ true → list_any (λ k. k == key subject) (map key all) ≡ true
-has_key subject [] is = absurd (cc)
-has_key subject (first ∷ rest) is = or_cases (is_same subject first) (list_any (is_same subject) rest) _ is
-    (λ here. or_first (key first == key subject) (list_any (λ k. k == key subject) (map key rest)) ((Decides-eqb (key first) (key subject)).1 (same_key subject first here)))
-    (λ later. or_last (key first == key subject) (list_any (λ k. k == key subject) (map key rest)) (has_key subject rest later))
+has_key : (hashing : RandomState) (subject : Subject) (all : List Subject) → list_any (is_same subject) all ≡ true → list_any (λ k. k == key hashing subject) (map (key hashing) all) ≡ true
+has_key hashing subject [] is = absurd (cc)
+has_key hashing subject (first ∷ rest) is = or_cases (is_same subject first) (list_any (is_same subject) rest) _ is
+    (λ here. or_first (key hashing first == key hashing subject) (list_any (λ k. k == key hashing subject) (map (key hashing) rest)) ((Decides-eqb (key hashing first) (key hashing subject)).1 (same_key hashing subject first here)))
+    (λ later. or_last (key hashing first == key hashing subject) (list_any (λ k. k == key hashing subject) (map (key hashing) rest)) (has_key hashing subject rest later))
 
 -- among rows of which each number tells whether its deed bears on the subject
-marks_tell : (subject : Subject) (at : ℕ → Option Deed) (b : Base) → ((n : ℕ) → n ≤ length b → at n ≡ deed_on subject b n) → first_on at (marked (key subject) b) ≡ last_on subject b
-marks_tell subject at [] agree = refl
-marks_tell subject at (row ∷ older) agree =
-    let rest = marked (key subject) older in
+marks_tell : (hashing : RandomState) (subject : Subject) (at : ℕ → Option Deed) (b : Base) → ((n : ℕ) → n ≤ length b → at n ≡ deed_on subject b n) → first_on at (marked hashing (key hashing subject) b) ≡ last_on subject b
+marks_tell hashing subject at [] agree = refl
+marks_tell hashing subject at (row ∷ older) agree =
+    let rest = marked hashing (key hashing subject) older in
     let newest : (size older == size older) ≡ true = (Decides-eqb (size older) (size older)).1 refl in
     let here : at (size older) ≡ bearing subject (Some row.deed) =
     agree (size older) (omega arith) ∙ ap (λ is. bearing subject (deed_of (elim is [ true ↦ Some row | false ↦ row_at older (size older) ]))) newest in
@@ -86,9 +87,9 @@ marks_tell subject at (row ∷ older) agree =
     let apart : (size older == n) ≡ false = grind (arith, nat_tests) in
     agree n (omega arith) ∙ ap (λ is. bearing subject (deed_of (elim is [ true ↦ Some row | false ↦ row_at older n ]))) apart in
     elim (bears subject row.deed) as (λ is. bears subject row.deed ≡ is → at (size older) ≡ elim is [ true ↦ Some row.deed | false ↦ None ]
-    → first_on at (with_marks (size older) (key subject) (keys_of row.deed) rest) ≡ elim is [ true ↦ Some (size older, row.deed) | false ↦ last_on subject older ]) [
-      | true ↦ λ e now. found at (size older) (key subject) row.deed (keys_of row.deed) rest now (has_key subject (subjects row.deed) e)
-      | false ↦ λ e now. passed at (size older) (key subject) (keys_of row.deed) rest now ∙ marks_tell subject at older before
+    → first_on at (with_marks (size older) (key hashing subject) (keys_of hashing row.deed) rest) ≡ elim is [ true ↦ Some (size older, row.deed) | false ↦ last_on subject older ]) [
+      | true ↦ λ e now. found at (size older) (key hashing subject) row.deed (keys_of hashing row.deed) rest now (has_key hashing subject (subjects row.deed) e)
+      | false ↦ λ e now. passed at (size older) (key hashing subject) (keys_of hashing row.deed) rest now ∙ marks_tell hashing subject at older before
     ] refl here
 
 -- no row has a number behind the last one
@@ -110,17 +111,17 @@ first_shorter t (row ∷ older) = elim (nat_lt (size older) t) as (λ within. le
 ]
 
 -- the rows behind the first ones are passed
-only_first : (subject : Subject) (t : ℕ) (b : Base) (at : ℕ → Option Deed) → ((n : ℕ) → at n ≡ deed_on subject (first_rows t b) n) → first_on at (marked (key subject) b) ≡ last_on subject (first_rows t b)
-only_first subject t [] at agree = refl
-only_first subject t (row ∷ older) at agree =
+only_first : (hashing : RandomState) (subject : Subject) (t : ℕ) (b : Base) (at : ℕ → Option Deed) → ((n : ℕ) → at n ≡ deed_on subject (first_rows t b) n) → first_on at (marked hashing (key hashing subject) b) ≡ last_on subject (first_rows t b)
+only_first hashing subject t [] at agree = refl
+only_first hashing subject t (row ∷ older) at agree =
     elim (nat_lt (size older) t) as (λ within. ((n : ℕ) → at n ≡ deed_on subject (elim within [ true ↦ row ∷ older | false ↦ first_rows t older ]) n)
-    → first_on at (marked (key subject) (row ∷ older)) ≡ last_on subject (elim within [ true ↦ row ∷ older | false ↦ first_rows t older ])) [
-      | true ↦ λ all. marks_tell subject at (row ∷ older) (λ n within. all n)
+    → first_on at (marked hashing (key hashing subject) (row ∷ older)) ≡ last_on subject (elim within [ true ↦ row ∷ older | false ↦ first_rows t older ])) [
+      | true ↦ λ all. marks_tell hashing subject at (row ∷ older) (λ n within. all n)
       | false ↦ λ all.
           let none : at (size older) ≡ None = all (size older) ∙ ap (λ found. bearing subject (deed_of found)) (no_later (first_rows t older) (size older) (omega (arith, first_shorter t older))) in
-          passed at (size older) (key subject) (keys_of row.deed) (marked (key subject) older) none ∙ only_first subject t older at all
+          passed at (size older) (key hashing subject) (keys_of hashing row.deed) (marked hashing (key hashing subject) older) none ∙ only_first hashing subject t older at all
     ] agree
 
 -- The first of a subject's marks whose row is among the first rows and bears on it is the last of the first rows that does.
-pub marks_of_first : (subject : Subject) (t : ℕ) (b : Base) → first_on (deed_on subject (first_rows t b)) (marked (key subject) b) ≡ last_on subject (first_rows t b)
-marks_of_first subject t b = only_first subject t b (deed_on subject (first_rows t b)) (λ n. refl)
+pub marks_of_first : (hashing : RandomState) (subject : Subject) (t : ℕ) (b : Base) → first_on (deed_on subject (first_rows t b)) (marked hashing (key hashing subject) b) ≡ last_on subject (first_rows t b)
+marks_of_first hashing subject t b = only_first hashing subject t b (deed_on subject (first_rows t b)) (λ n. refl)

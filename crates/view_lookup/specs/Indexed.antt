@@ -16,4 +16,4 @@ shown_of inside = record {
 -- The rows are a base that is carried out so far, and the links with the newest row of each key are its marks.
 pub record IsIndexed (inside : Inside) : Type 0 where
   pub known : IsKnown (reverse inside.rows.items)
-  pub marks : IsMarked inside.links.items (get nat_eq inside.newest) (reverse inside.rows.items)
+  pub marks : IsMarked inside.hashing inside.links.items (get nat_eq inside.newest) (reverse inside.rows.items)

@@ -1,5 +1,6 @@
 -- The marks that rows leave for the keys of what they bear on: links, each of which names the next older one of its key.
 use Rattle.std.specs.Prelude.{◌≡◌, ℕ, ◌<◌, ◌==◌, Bool, true, false, Option, Some, None, List, [], ◌∷◌, length, reverse, IfSome}
+use Rattle.std.specs.declared.random_state.RandomState.{RandomState}
 use Rattle.cc_names.specs.Versions.{put_if}
 use Rattle.legal_history.specs.Base.Rows.{Base, size}
 use Rattle.view_lookup.specs.Subjects.{keys_of}
@@ -35,11 +36,11 @@ with_marks row key [] rows = rows
 with_marks row key (k ∷ keys) rows = with_marks row key keys (put_if (k == key) row rows)
 
 -- the rows of a base that bear on something of this key
-abbrev pub marked : ℕ → Base → List ℕ
-marked key [] = []
-marked key (row ∷ older) = with_marks (size older) key (keys_of row.deed) (marked key older)
+abbrev pub marked : RandomState → ℕ → Base → List ℕ
+marked hashing key [] = []
+marked hashing key (row ∷ older) = with_marks (size older) key (keys_of hashing row.deed) (marked hashing key older)
 
 -- the links are the marks of a base's rows
-pub record IsMarked (links : List Link) (heads : ℕ → Option ℕ) (b : Base) : Type 0 where
+pub record IsMarked (hashing : RandomState) (links : List Link) (heads : ℕ → Option ℕ) (b : Base) : Type 0 where
   pub chained : IsChained links heads
-  pub rows : (key : ℕ) → rows_by links heads key ≡ marked key b
+  pub rows : (key : ℕ) → rows_by links heads key ≡ marked hashing key b

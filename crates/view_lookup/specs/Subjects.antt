@@ -2,7 +2,8 @@
 -- it. Marks, and all that is looked up by them, rest on this alone.
 use Rattle.std.specs.Prelude.{ℕ, Bool, false, ◌&&◌, List, [], ◌∷◌, map, bytes_eq}
 use Rattle.std.specs.List.{list_any}
-use Rattle.cc_names.specs.Keys.{key_of, key_over}
+use Rattle.std.specs.declared.random_state.RandomState.{RandomState}
+use Rattle.cc_names.specs.Keys.{key_at, key_of}
 use Rattle.cc_names.specs.declared.rows.Deed.{Deed}
 use Rattle.cc_names.specs.declared.rows.Deed.TheVariants as deeds
 use Rattle.view_lookup.specs.declared.subjects.Subject as code
@@ -33,19 +34,19 @@ is_same (Object v path) (Object w q) = bytes_eq w v && bytes_eq q path
 is_same one two = false
 
 -- The key by which the marks of a subject are found. Subjects that share one are told apart by the rows.
-abbrev pub key : Subject → ℕ
-key (Life v) = key_of 0 v
-key (End v) = key_of 1 v
-key (File v path) = key_over (key_of 2 v) path
-key (Object v path) = key_over (key_of 3 v) path
+abbrev pub key : RandomState → Subject → ℕ
+key hashing (Life v) = key_of hashing 0 v
+key hashing (End v) = key_of hashing 1 v
+key hashing (File v path) = key_at hashing 2 v path
+key hashing (Object v path) = key_at hashing 3 v path
 
 -- whether a deed bears on a subject
 abbrev pub bears : Subject → Deed → Bool
 bears subject deed = list_any (is_same subject) (subjects deed)
 
 -- the keys of the subjects on which a deed bears
-abbrev pub keys_of : Deed → List ℕ
-keys_of deed = map key (subjects deed)
+abbrev pub keys_of : RandomState → Deed → List ℕ
+keys_of hashing deed = map (key hashing) (subjects deed)
 
 -- a subject without where its names lie in memory
 abbrev pub plain : code.Subject → Subject

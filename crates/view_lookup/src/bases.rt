@@ -17,12 +17,14 @@ use cc_names::memory::NoMemory;
 use cc_names::rows::{Deed, Row};
 use std::alloc::Global;
 use std::collections::HashMap;
+use std::hash::RandomState;
 use std::marker::Model;
 
 /// A base, and what bears on what. Contracts see the base as the model has it, its newest row first, and the room. That it
 /// is a base, whose rows were made by what is carried out so far, is part of the type.
 #[derive(Drop)]
 pub struct Rows {
+    hashing: RandomState,
     rows: Vec<Row>,
     links: Vec<Link>,
     newest: HashMap<u64, usize>,
@@ -41,11 +43,12 @@ impl Model for Rows {
 }
 
 impl Rows {
-    /// A base with row 0 alone. Takes no memory.
-    pub fn new(alloc: Global) -> Rows
+    /// A base with row 0 alone, in which names are found by hashing them so. Takes no memory.
+    pub fn new(alloc: Global, hashing: RandomState) -> Rows
         ensures { result.base ≡ [] }
     {
         Rows {
+            hashing,
             rows: Vec::new(alloc),
             links: Vec::new(alloc),
             newest: HashMap::new(alloc),
@@ -73,7 +76,13 @@ impl Rows {
         ensures { self.new.base ≡ row ∷ self.old.base }
     {
         let number = self.rows.len() as u64 + 1;
-        mark_all(&mut self.links, &mut self.newest, number, row.deed());
+        mark_all(
+            self.hashing,
+            &mut self.links,
+            &mut self.newest,
+            number,
+            row.deed(),
+        );
         self.rows.push(row).unwrap();
     }
 
@@ -99,6 +108,7 @@ impl Rows {
         ensures { result.items ≡ reverse self.base }
     {
         let Rows {
+            hashing: _,
             rows,
             links: _,
             newest: _,
@@ -198,7 +208,7 @@ impl<'a> FirstRows<'a> {
     {
         let base = self.base;
         let mut links = base.links.as_slice();
-        let mut next = base.newest.get(&subject.key()).copied();
+        let mut next = base.newest.get(&subject.key(base.hashing)).copied();
         while let Some(place) = next {
             let link = &links[place];
             if let Some(deed) = deed_on(self, link.row, subject) {

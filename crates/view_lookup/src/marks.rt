@@ -3,11 +3,12 @@
 ghost use Rattle.std.specs.Prelude.{◌≡◌, ◌+◌, ◌<◌, ◌≤◌, nat_eq, length, vec_len, vec_capacity};
 ghost use Rattle.std.specs.HashMap.{get, spare};
 ghost use Rattle.view_lookup.specs.MarkSteps.{Marks, MarksAll};
-ghost use Rattle.view_lookup.specs.Subjects.{keys_of};
+ghost use Rattle.view_lookup.specs.Subjects.{keys_of, subjects};
 
 use crate::subjects::subject_at;
 use cc_names::rows::Deed;
 use std::collections::HashMap;
+use std::hash::RandomState;
 
 /// A row that bears on something with a key, and the place of the next older one of the key.
 #[derive(Clone, Copy)]
@@ -37,19 +38,20 @@ fn mark(links: &mut Vec<Link>, newest: &mut HashMap<u64, usize>, row: u64, key: 
 
 /// Marks a row for each subject on which its deed bears. Takes time linear in the names that the deed has, and no memory.
 pub(crate) fn mark_all(
+    hashing: RandomState,
     links: &mut Vec<Link>,
     newest: &mut HashMap<u64, usize>,
     row: u64,
     deed: &Deed,
 )
-    requires links { vec_len links.old + length (keys_of deed.now) ≤ vec_capacity links.old }
-    requires newest { length (keys_of deed.now) ≤ spare newest.old }
-    ensures { MarksAll row (keys_of deed.now) links.old.items (get nat_eq newest.old)
+    requires links { vec_len links.old + length (subjects deed.now) ≤ vec_capacity links.old }
+    requires newest { length (subjects deed.now) ≤ spare newest.old }
+    ensures { MarksAll row (keys_of hashing deed.now) links.old.items (get nat_eq newest.old)
         links.new.items (get nat_eq newest.new) }
 {
     let mut index = 0;
     while let Some(subject) = subject_at(deed, index) {
-        mark(links, newest, row, subject.key());
+        mark(links, newest, row, subject.key(hashing));
         index += 1;
     }
 }

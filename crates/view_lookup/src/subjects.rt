@@ -2,13 +2,13 @@
 
 ghost use Rattle.std.specs.Prelude.{◌≡◌, ◌<◌, ◌^◌, ◌∷◌, [], IfSome, length, map, option_map, bytes_eq, ◌&&◌};
 ghost use Rattle.std.specs.List.{slice_get};
-ghost use Rattle.cc_names.specs.Keys.{key_of, key_over};
 ghost use Rattle.view_lookup.specs.Subjects as model;
 
-use cc_names::keys::{key_of, key_over};
+use cc_names::keys::{key_at, key_of};
 use cc_names::names::Name;
 use cc_names::paths::Path;
 use cc_names::rows::Deed;
+use std::hash::RandomState;
 
 /// Something on which rows bear: the last such row says what has become of it.
 #[derive(Clone, Copy)]
@@ -79,13 +79,6 @@ pub(crate) fn count_subjects(deed: &Deed) -> usize
     count
 }
 
-// The key of a view goes on over a path.
-fn key_at(kind: u64, view: &Name, path: &Path) -> u64
-    ensures { result ≡ key_over (key_of kind view.now) path.now }
-{
-    key_over(key_of(kind, view), path.as_bytes())
-}
-
 fn same_name(one: &Name, two: &Name) -> bool
     ensures { result ≡ bytes_eq two.now one.now }
 {
@@ -102,15 +95,15 @@ impl Subject<'_> {
     ghost use Rattle.std.specs.Prelude.{◌≡◌};
     ghost use Rattle.view_lookup.specs.Subjects as model;
 
-    /// Its key. Takes time linear in its names.
-    pub(crate) fn key(self) -> u64
-        ensures { result ≡ model.key (model.plain self.entry) }
+    /// Its key, by this hashing. Takes time linear in its names.
+    pub(crate) fn key(self, hashing: RandomState) -> u64
+        ensures { result ≡ model.key hashing (model.plain self.entry) }
     {
         match self {
-            Subject::Life(view) => key_of(0, view),
-            Subject::End(view) => key_of(1, view),
-            Subject::File(view, path) => key_at(2, view, path),
-            Subject::Object(view, path) => key_at(3, view, path),
+            Subject::Life(view) => key_of(hashing, 0, view),
+            Subject::End(view) => key_of(hashing, 1, view),
+            Subject::File(view, path) => key_at(hashing, 2, view, path),
+            Subject::Object(view, path) => key_at(hashing, 3, view, path),
         }
     }
 

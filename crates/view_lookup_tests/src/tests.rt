@@ -12,6 +12,7 @@ use cc_names::rows::{Deed, ReadOf, Row, Tag};
 use cc_names::selection::{Picked, Seen};
 use cc_names::texts::Text;
 use std::alloc::Global;
+use std::hash::RandomState;
 use std::process::Abort;
 use std::test::Fail;
 use view_lookup::{
@@ -174,8 +175,8 @@ fn row(alloc: Global, number: u64) -> Result<Row, Fail> {
     }
 }
 
-fn nine_rows(alloc: Global) -> Result<Rows, Fail> {
-    let mut base = Rows::new(alloc);
+fn nine_rows(alloc: Global, hashing: RandomState) -> Result<Rows, Fail> {
+    let mut base = Rows::new(alloc, hashing);
     for number in 1..10 {
         add(&mut base, row(alloc, number)?)?;
     }
@@ -228,7 +229,7 @@ const SEEN: [(u64, &[u8], &[u8], Seen, Option<u64>, Option<&[u8]>); 14] = [
 #[test]
 fn views_see_and_hold(rt: HostRuntime) -> Result<(), Fail> {
     let alloc = rt.alloc();
-    let base = nine_rows(alloc)?;
+    let base = nine_rows(alloc, RandomState::new(&rt)?)?;
     let rows = base.all();
     for (count, view, bytes, seen, held, text) in SEEN {
         let view = name(alloc, view)?;
@@ -251,7 +252,7 @@ fn views_see_and_hold(rt: HostRuntime) -> Result<(), Fail> {
 #[test]
 fn views_begin_with_their_rows(rt: HostRuntime) -> Result<(), Fail> {
     let alloc = rt.alloc();
-    let base = nine_rows(alloc)?;
+    let base = nine_rows(alloc, RandomState::new(&rt)?)?;
     let rows = base.all();
     let table: [(u64, &[u8], Option<u64>); 6] = [
         (8, b"v", Some(1)),
@@ -271,7 +272,7 @@ fn views_begin_with_their_rows(rt: HostRuntime) -> Result<(), Fail> {
 #[test]
 fn rows_have_texts(rt: HostRuntime) -> Result<(), Fail> {
     let alloc = rt.alloc();
-    let base = nine_rows(alloc)?;
+    let base = nine_rows(alloc, RandomState::new(&rt)?)?;
     let rows = base.all();
     let table: [(u64, &[u8], Option<&[u8]>); 7] = [
         (0, b"a", None),
@@ -297,7 +298,7 @@ fn is_directory_there(rt: &impl Abort, rows: &FirstRows<'_>, view: &Name, path: 
 #[test]
 fn the_root_is_the_directory(rt: HostRuntime) -> Result<(), Fail> {
     let alloc = rt.alloc();
-    let base = nine_rows(alloc)?;
+    let base = nine_rows(alloc, RandomState::new(&rt)?)?;
     let rows = base.all();
     let view = name(alloc, b"v")?;
     assert!(rt; is_directory_there(&rt, &rows, &view, &path(alloc, b".")?));
@@ -342,7 +343,7 @@ const OBJECTS_MADE: [(u64, &[u8], &[u8], u64, bool); 12] = [
 #[test]
 fn a_view_fits_where_it_is_not(rt: HostRuntime) -> Result<(), Fail> {
     let alloc = rt.alloc();
-    let base = nine_rows(alloc)?;
+    let base = nine_rows(alloc, RandomState::new(&rt)?)?;
     let rows = base.all();
     for (count, view, fit) in VIEWS_MADE {
         let row = mkview(alloc, view)?;
@@ -354,7 +355,7 @@ fn a_view_fits_where_it_is_not(rt: HostRuntime) -> Result<(), Fail> {
 #[test]
 fn a_private_file_fits_in_a_view(rt: HostRuntime) -> Result<(), Fail> {
     let alloc = rt.alloc();
-    let base = nine_rows(alloc)?;
+    let base = nine_rows(alloc, RandomState::new(&rt)?)?;
     let rows = base.all();
     for (count, view, path, fit) in FILES_PUT {
         let row = put(alloc, view, path, b"text")?;
@@ -366,7 +367,7 @@ fn a_private_file_fits_in_a_view(rt: HostRuntime) -> Result<(), Fail> {
 #[test]
 fn an_object_fits_behind_what_it_read(rt: HostRuntime) -> Result<(), Fail> {
     let alloc = rt.alloc();
-    let base = nine_rows(alloc)?;
+    let base = nine_rows(alloc, RandomState::new(&rt)?)?;
     let rows = base.all();
     for (count, view, path, source, fit) in OBJECTS_MADE {
         let read = one_read(alloc, path, source)?;

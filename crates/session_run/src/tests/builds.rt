@@ -4,11 +4,12 @@ use super::outcome_of;
 use crate::Status;
 use std::alloc::Global;
 use std::process::Abort;
+use std::random::RandomSource;
 use std::test::Fail;
 
 // A session with one view and some saves, and then a build of `out`.
 fn assert_build(
-    rt: &impl Abort,
+    rt: &(impl Abort + RandomSource),
     alloc: Global,
     saves: &str,
     saved: &str,
@@ -18,7 +19,7 @@ fn assert_build(
 ) -> Result<(), Fail> {
     let session = format!(in alloc; "phase\nlane a\nmkview v\n{saves}{command}\n")?;
     let written = format!(in alloc; "phase 1\nlane a\n1 mkview ok\n{saved}{reply}")?;
-    let outcome = outcome_of(alloc, "f run", session.as_str(), &[], &[])?;
+    let outcome = outcome_of(rt, alloc, "f run", session.as_str(), &[], &[])?;
     assert_eq!(rt; outcome.written.as_bytes(), written.as_bytes());
     assert_eq!(rt; outcome.status, status);
     Ok(())

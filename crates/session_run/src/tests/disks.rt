@@ -7,6 +7,7 @@ use cc_names::memory::NoMemory;
 use disk_model::{Call, Counts, Disk, MemoryDisk};
 use std::alloc::Global;
 use std::process::Abort;
+use std::random::RandomSource;
 use std::test::Fail;
 
 const FIRST: &str =
@@ -49,7 +50,7 @@ fn calls_on(alloc: Global, disk: &MemoryDisk) -> Result<String, NoMemory> {
 
 // What a stop at this call leaves of the journal.
 fn stopped_at(
-    rt: &impl Abort,
+    rt: &(impl Abort + RandomSource),
     alloc: Global,
     disk: &MemoryDisk,
     call: u64,
@@ -61,8 +62,8 @@ fn stopped_at(
 }
 
 // How many rows the base has that such a journal stands for.
-fn rows_in(rt: &impl Abort, alloc: Global, journal: &[u8]) -> Result<usize, Fail> {
-    let outcome = outcome_on(alloc, "", disk_with(alloc, journal, &[])?, &[], &[])?;
+fn rows_in(rt: &(impl Abort + RandomSource), alloc: Global, journal: &[u8]) -> Result<usize, Fail> {
+    let outcome = outcome_on(rt, alloc, "", disk_with(alloc, journal, &[])?, &[], &[])?;
     assert_eq!(rt; outcome.status.code(), 0);
     Ok(outcome.rows)
 }
@@ -70,7 +71,7 @@ fn rows_in(rt: &impl Abort, alloc: Global, journal: &[u8]) -> Result<usize, Fail
 #[test]
 fn a_first_build_makes_19_device_calls(rt: HostRuntime) -> Result<(), Fail> {
     let alloc = rt.alloc();
-    let outcome = outcome_on(alloc, FIRST, disk_with(alloc, &[], &[])?, &[], &[])?;
+    let outcome = outcome_on(&rt, alloc, FIRST, disk_with(alloc, &[], &[])?, &[], &[])?;
     let calls = calls_on(alloc, &outcome.disk)?;
     assert_eq!(rt; calls.as_str(), "LWSWSWSWSWSWSWSWSWS");
     let counts = Counts {
@@ -91,7 +92,7 @@ fn a_first_build_makes_19_device_calls(rt: HostRuntime) -> Result<(), Fail> {
 #[test]
 fn a_stopped_disk_holds_a_prefix(rt: HostRuntime) -> Result<(), Fail> {
     let alloc = rt.alloc();
-    let outcome = outcome_on(alloc, FIRST, disk_with(alloc, &[], &[])?, &[], &[])?;
+    let outcome = outcome_on(&rt, alloc, FIRST, disk_with(alloc, &[], &[])?, &[], &[])?;
     for (call, none, all, filled) in [
         (1, 0, 0, 0),
         (2, 0, 0, 0),
@@ -126,7 +127,7 @@ fn a_stopped_disk_holds_a_prefix(rt: HostRuntime) -> Result<(), Fail> {
 // What a session on an empty disk comes to whose calls of these numbers fail: what it writes, the calls and their number, and the
 // rows.
 fn assert_fault(
-    rt: &impl Abort,
+    rt: &(impl Abort + RandomSource),
     alloc: Global,
     session: &str,
     fail: &[u64],
@@ -135,7 +136,7 @@ fn assert_fault(
     ticks: u64,
     rows: usize,
 ) -> Result<(), Fail> {
-    let outcome = outcome_on(alloc, session, disk_with(alloc, &[], fail)?, &[], &[])?;
+    let outcome = outcome_on(rt, alloc, session, disk_with(alloc, &[], fail)?, &[], &[])?;
     assert_eq!(rt; outcome.status.code(), 7);
     assert_eq!(rt; outcome.written.as_bytes(), written.as_bytes());
     assert_eq!(rt; calls_on(alloc, &outcome.disk)?.as_str(), calls);
@@ -170,7 +171,7 @@ fn the_next_command_goes_on(rt: HostRuntime) -> Result<(), Fail> {
 #[test]
 fn a_row_that_a_fault_left_may_be_found(rt: HostRuntime) -> Result<(), Fail> {
     let alloc = rt.alloc();
-    let outcome = outcome_on(alloc, FIRST, disk_with(alloc, &[], &[19])?, &[], &[])?;
+    let outcome = outcome_on(&rt, alloc, FIRST, disk_with(alloc, &[], &[19])?, &[], &[])?;
     for (call, none, all) in [(18, 3, 4), (19, 3, 4), (20, 3, 3), (21, 3, 3), (22, 3, 3)] {
         for (pick, rows) in [(0, none), (1, all)] {
             let journal = stopped_at(&rt, alloc, &outcome.disk, call, pick)?;
@@ -184,10 +185,10 @@ fn a_row_that_a_fault_left_may_be_found(rt: HostRuntime) -> Result<(), Fail> {
 #[test]
 fn a_base_is_found_again(rt: HostRuntime) -> Result<(), Fail> {
     let alloc = rt.alloc();
-    let first = outcome_on(alloc, FIRST, disk_with(alloc, &[], &[])?, &[], &[])?;
+    let first = outcome_on(&rt, alloc, FIRST, disk_with(alloc, &[], &[])?, &[], &[])?;
     let session = "phase\nlane a\nmkview v\nclearmake v out\n";
     let disk = disk_with(alloc, first.disk.bytes(0), &[])?;
-    let again = outcome_on(alloc, session, disk, &[], &[])?;
+    let again = outcome_on(&rt, alloc, session, disk, &[], &[])?;
     let written = format!(in alloc;
         "phase 1\nlane a\n1 mkview refused C2 ViewExists\n2 clearmake ok\n{BUILT}"
     )?;
@@ -199,14 +200,14 @@ fn a_base_is_found_again(rt: HostRuntime) -> Result<(), Fail> {
 
 // What an empty session comes to on a disk that holds this journal, which stays as it is.
 fn assert_found(
-    rt: &impl Abort,
+    rt: &(impl Abort + RandomSource),
     alloc: Global,
     journal: &[u8],
     written: &str,
     code: u8,
     rows: usize,
 ) -> Result<(), Fail> {
-    let outcome = outcome_on(alloc, "", disk_with(alloc, journal, &[])?, &[], &[])?;
+    let outcome = outcome_on(rt, alloc, "", disk_with(alloc, journal, &[])?, &[], &[])?;
     assert_eq!(rt; outcome.status.code(), code, "at {journal:?}");
     assert_eq!(rt; outcome.written.as_bytes(), written.as_bytes());
     assert_eq!(rt; outcome.rows, rows);
@@ -215,8 +216,8 @@ fn assert_found(
 }
 
 // The journal of a session on an empty disk.
-fn journal_of(alloc: Global, session: &str) -> Result<Vec<u8>, Fail> {
-    let outcome = outcome_on(alloc, session, disk_with(alloc, &[], &[])?, &[], &[])?;
+fn journal_of(rt: &impl RandomSource, alloc: Global, session: &str) -> Result<Vec<u8>, Fail> {
+    let outcome = outcome_on(rt, alloc, session, disk_with(alloc, &[], &[])?, &[], &[])?;
     Ok(outcome.disk.bytes(0).to_vec(alloc)?)
 }
 
@@ -232,7 +233,7 @@ fn first_bytes(alloc: Global, bytes: &[u8], count: usize) -> Result<Vec<u8>, Fai
 #[test]
 fn a_journal_is_read_to_its_end(rt: HostRuntime) -> Result<(), Fail> {
     let alloc = rt.alloc();
-    let mut journal = journal_of(alloc, VIEWS)?;
+    let mut journal = journal_of(&rt, alloc, VIEWS)?;
     assert_eq!(rt; journal.len(), 65);
     assert_found(&rt, alloc, &journal, "", 0, 2)?;
     let cut = first_bytes(alloc, &journal, 40)?;
@@ -244,7 +245,7 @@ fn a_journal_is_read_to_its_end(rt: HostRuntime) -> Result<(), Fail> {
 }
 
 // The first two frames of the journal of two views, and the first of them once more.
-fn first_again(alloc: Global, journal: &[u8]) -> Result<Vec<u8>, Fail> {
+fn first_again(rt: &impl RandomSource, alloc: Global, journal: &[u8]) -> Result<Vec<u8>, Fail> {
     let mut twice = first_bytes(alloc, journal, 64)?;
     for byte in journal.iter().take(32) {
         twice.push(*byte)?;
@@ -258,10 +259,10 @@ fn a_damaged_journal_is_told(rt: HostRuntime) -> Result<(), Fail> {
     let alloc = rt.alloc();
     assert_found(&rt, alloc, b"\x01\x01\0\0\0\x09\0", "damaged 1\n", 4, 0)?;
     assert_found(&rt, alloc, b"\x01\0\0\0\0\0", "damaged 1\n", 4, 0)?;
-    let views = journal_of(alloc, VIEWS)?;
-    let twice = first_again(alloc, &views)?;
+    let views = journal_of(&rt, alloc, VIEWS)?;
+    let twice = first_again(&rt, alloc, &views)?;
     assert_found(&rt, alloc, &twice, "damaged 3\n", 4, 0)?;
-    let journal = journal_of(alloc, "phase\nlane a\nmkview v\nsave v in\n|hi\n")?;
+    let journal = journal_of(&rt, alloc, "phase\nlane a\nmkview v\nsave v in\n|hi\n")?;
     assert!(rt; journal.len() > 32);
     assert_found(&rt, alloc, &journal[32..], "damaged 1\n", 4, 0)
 }
@@ -274,6 +275,7 @@ fn a_source_and_a_sink_that_fail_leave_the_disk(rt: HostRuntime) -> Result<(), F
         (0, 1, 6, "", 19, 4),
     ] {
         let outcome = outcome_on(
+            &rt,
             alloc,
             FIRST,
             disk_with(alloc, &[], &[])?,

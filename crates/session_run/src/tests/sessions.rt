@@ -64,7 +64,7 @@ fn each_session_is_answered(rt: HostRuntime) -> Result<(), Fail> {
             2,
         ),
     ] {
-        let outcome = outcome_of(rt.alloc(), words, text, &[], &[])?;
+        let outcome = outcome_of(&rt, rt.alloc(), words, text, &[], &[])?;
         assert_eq!(rt; outcome.status.code(), code, "at {text:?}");
         assert_eq!(rt;
             outcome.written.as_bytes(),
@@ -85,7 +85,7 @@ fn a_source_and_a_sink_that_fail_are_told(rt: HostRuntime) -> Result<(), Fail> {
         ("f run", 1, 1, 6, "", 0),
         ("f", 0, 1, 6, "", 0),
     ] {
-        let outcome = outcome_of(rt.alloc(), words, SAVES, &[reads], &[writes])?;
+        let outcome = outcome_of(&rt, rt.alloc(), words, SAVES, &[reads], &[writes])?;
         assert_eq!(rt; outcome.status.code(), code);
         assert_eq!(rt; outcome.written.as_bytes(), written.as_bytes());
         assert_eq!(rt; outcome.rows, rows);
@@ -110,7 +110,7 @@ fn a_text_past_the_limit_is_too_long(rt: HostRuntime) -> Result<(), Fail> {
         (16_777_217, 9, "too long\n", 0),
     ] {
         let text = note_of(rt.alloc(), bytes)?;
-        let outcome = outcome_of(rt.alloc(), "f run", text.as_str(), &[], &[])?;
+        let outcome = outcome_of(&rt, rt.alloc(), "f run", text.as_str(), &[], &[])?;
         assert_eq!(rt; outcome.status.code(), code);
         assert_eq!(rt; outcome.written.as_bytes(), written.as_bytes());
         assert_eq!(rt; outcome.disk.counts().ticks, ticks);

@@ -109,12 +109,12 @@ invariant_of-self-in-Ok c =
     let same_label : label ≡ c.args.label.now = search rules in
     let pushed : c.push.new.self.items ≡ all ++ held ∷ [] = search rules in
     let absent : HasNoPlace c.args.label.now c.args.element all = search rules in
-    let key = key_of c.args.element label in
-    let same_key : c.key_of-key.result ≡ key = c.key_of-key.ensures ∙ ap (key_of c.args.element) (sym same_label) in
+    let key = key_of c.self.inside.hashing c.args.element label in
+    let same_key : c.key_of-key.result ≡ key = c.key_of-key.ensures in
     let found : c.copied-namesake.result ≡ get nat_eq c.self.inside.newest c.key_of-key.result = search rules in
-    let link : c.copied-namesake.result ≡ newest_with key (reverse all) = found ∙ c.self.invariant.newest c.key_of-key.result ∙ ap (λ k. newest_with k (reverse all)) same_key in
+    let link : c.copied-namesake.result ≡ newest_with c.self.inside.hashing key (reverse all) = found ∙ c.self.invariant.newest c.key_of-key.result ∙ ap (λ k. newest_with c.self.inside.hashing k (reverse all)) same_key in
     let count : c.len-place.result ≡ length (reverse all) = grind (arith, common_steps, length-reverse all) in
-    let newest : (k : ℕ) → get nat_eq c.insert.new.self k ≡ newest_with k (held ∷ reverse all) = λ k.
+    let newest : (k : ℕ) → get nat_eq c.insert.new.self k ≡ newest_with c.self.inside.hashing k (held ∷ reverse all) = λ k.
     c.in-Ok.ensures.updates.0 k
     ∙ ap (λ q. cond (eqb q k) (Some c.len-place.result) (get nat_eq c.reserve-in-None.new.self k)) same_key
     ∙ ap (λ n. cond (eqb key k) (Some n) (get nat_eq c.reserve-in-None.new.self k)) count

@@ -21,16 +21,16 @@ invariant_of-self c =
     let branches = c.self.inside.branches.items in
     let key = c.key_of-key.result in
     let kept : c.copied-namesake.result ≡ get nat_eq c.self.inside.newest key = search rules in
-    let namesake : c.copied-namesake.result ≡ newest_with key (reverse made) = kept ∙ c.self.invariant.newest key in
+    let namesake : c.copied-namesake.result ≡ newest_with c.self.inside.hashing key (reverse made) = kept ∙ c.self.invariant.newest key in
     let m : Made = record { change = BranchMade c.args.row c.args.moment c.args.element c.args.origin c.args.name; namesake = c.copied-namesake.result } in
     let b : Branch = record { row = c.args.row; moment = c.args.moment; later = c.new-later.result } in
     let above : IsAbove c.args.row (map row_of_made (reverse made)) = rw (rows_of_made (reverse made)) at (rw (← c.self.view_is) at c.requires.above) in
-    let link = λ (k : ℕ) (has : eqb (key_of c.args.element c.args.name) k ≡ true).
-    let same : key ≡ k = c.key_of-key.ensures ∙ (Decides-eqb (key_of c.args.element c.args.name) k).0 has in
-    namesake ∙ ap (λ q. newest_with q (reverse made)) same in
+    let link = λ (k : ℕ) (has : eqb (key_of c.self.inside.hashing c.args.element c.args.name) k ≡ true).
+    let same : key ≡ k = c.key_of-key.ensures ∙ (Decides-eqb (key_of c.self.inside.hashing c.args.element c.args.name) k).0 has in
+    namesake ∙ ap (λ q. newest_with c.self.inside.hashing q (reverse made)) same in
     let count : c.len.result ≡ length (reverse made) = grind (arith, common_steps, length-reverse made) in
-    let named = key_of c.args.element c.args.name in
-    let newest : (k : ℕ) → get nat_eq c.put_within.new.map k ≡ newest_with k (m ∷ reverse made) = λ k.
+    let named = key_of c.self.inside.hashing c.args.element c.args.name in
+    let newest : (k : ℕ) → get nat_eq c.put_within.new.map k ≡ newest_with c.self.inside.hashing k (m ∷ reverse made) = λ k.
     c.put_within.ensures.gets k
     ∙ ap (λ q. cond (eqb q k) (Some c.len.result) (get nat_eq c.self.inside.newest k)) c.key_of-key.ensures
     ∙ ap (λ n. cond (eqb named k) (Some n) (get nat_eq c.self.inside.newest k)) count

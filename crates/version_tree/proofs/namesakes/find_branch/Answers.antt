@@ -7,19 +7,19 @@ use Rattle.version_tree.proofs.namesakes.find_branch.Goals as goal
 
 pub bounds-older-place : goal.bounds-older-place
 bounds-older-place c =
-    let newest = newest_of c.args.rows c.args.element c.args.name.now c.loop-next.older.now c.in-Some.place c.loop-next.invariant.linked (sym c.loop-next.invariant.next ∙ c.in-Some.is) in
+    let newest = newest_of c.args.hashing c.args.rows c.args.element c.args.name.now c.loop-next.older.now c.in-Some.place c.loop-next.invariant.linked (sym c.loop-next.invariant.next ∙ c.in-Some.is) in
     newest.within
 
 pub offset_bounds-older-place : goal.offset_bounds-older-place
 offset_bounds-older-place c =
-    let newest = newest_of c.args.rows c.args.element c.args.name.now c.loop-next.older.now c.in-Some.place c.loop-next.invariant.linked (sym c.loop-next.invariant.next ∙ c.in-Some.is) in
+    let newest = newest_of c.args.hashing c.args.rows c.args.element c.args.name.now c.loop-next.older.now c.in-Some.place c.loop-next.invariant.linked (sym c.loop-next.invariant.next ∙ c.in-Some.is) in
     let within : c.in-Some.place < length c.args.made.now = omega (arith, newest.within, c.loop-next.invariant.shorter) in
     search rules
 
 -- the branch is found
 pub returns-then-makes_branch_within : goal.returns-then-makes_branch_within
 returns-then-makes_branch_within c =
-    let newest = newest_of c.args.rows c.args.element c.args.name.now c.loop-next.older.now c.in-Some.place c.loop-next.invariant.linked (sym c.loop-next.invariant.next ∙ c.in-Some.is) in
+    let newest = newest_of c.args.hashing c.args.rows c.args.element c.args.name.now c.loop-next.older.now c.in-Some.place c.loop-next.invariant.linked (sym c.loop-next.invariant.next ∙ c.in-Some.is) in
     let made = c.index-older-place.result in
     let within : c.in-Some.place < length c.loop-next.older.now = newest.within in
     let there : get_or c.loop-next.older.now c.in-Some.place made ≡ made = search rules in
@@ -29,19 +29,19 @@ returns-then-makes_branch_within c =
 
 pub slice_bounds-older-end : goal.slice_bounds-older-end
 slice_bounds-older-end c =
-    let newest = newest_of c.args.rows c.args.element c.args.name.now c.loop-next.older.now c.in-Some.place c.loop-next.invariant.linked (sym c.loop-next.invariant.next ∙ c.in-Some.is) in
+    let newest = newest_of c.args.hashing c.args.rows c.args.element c.args.name.now c.loop-next.older.now c.in-Some.place c.loop-next.invariant.linked (sym c.loop-next.invariant.next ∙ c.in-Some.is) in
     let within : c.in-Some.place < length c.loop-next.older.now = newest.within in
     omega (arith, length-take c.in-Some.place c.loop-next.older.now)
 
 pub loop-next-smaller : goal.loop-next-smaller
 loop-next-smaller c =
-    let newest = newest_of c.args.rows c.args.element c.args.name.now c.loop-next.older.now c.in-Some.place c.loop-next.invariant.linked (sym c.loop-next.invariant.next ∙ c.in-Some.is) in
+    let newest = newest_of c.args.hashing c.args.rows c.args.element c.args.name.now c.loop-next.older.now c.in-Some.place c.loop-next.invariant.linked (sym c.loop-next.invariant.next ∙ c.in-Some.is) in
     let within : c.in-Some.place < length c.loop-next.older.now = newest.within in
     omega (arith, length-take c.in-Some.place c.loop-next.older.now)
 
 pub loop-next-preserved : goal.loop-next-preserved
 loop-next-preserved c =
-    let newest = newest_of c.args.rows c.args.element c.args.name.now c.loop-next.older.now c.in-Some.place c.loop-next.invariant.linked (sym c.loop-next.invariant.next ∙ c.in-Some.is) in
+    let newest = newest_of c.args.hashing c.args.rows c.args.element c.args.name.now c.loop-next.older.now c.in-Some.place c.loop-next.invariant.linked (sym c.loop-next.invariant.next ∙ c.in-Some.is) in
     let made = c.index-older-place.result in
     let within : c.in-Some.place < length c.loop-next.older.now = newest.within in
     let there : get_or c.loop-next.older.now c.in-Some.place made ≡ made = search rules in
@@ -57,4 +57,4 @@ loop-next-preserved c =
 pub returns : goal.returns
 returns c =
     let none : c.loop-next.next ≡ None = search rules in
-    sym (c.loop-next.invariant.rest ∙ newest_none c.args.rows c.args.element c.args.name.now _ (sym c.loop-next.invariant.next ∙ none))
+    sym (c.loop-next.invariant.rest ∙ newest_none c.args.hashing c.args.rows c.args.element c.args.name.now _ (sym c.loop-next.invariant.next ∙ none))

@@ -9,8 +9,8 @@ use Rattle.version_tree.proofs.namesakes.find_branch.Given as goal
 abbrev pub invariant-loop-next : goal.invariant-loop-next
 invariant-loop-next l = record {
   shorter : length l.older ≤ length l.made;
-  linked : AreLinked (reverse l.older);
-  next : l.next ≡ newest_with (key_of l.element l.name) (reverse l.older);
+  linked : AreLinked l.fn.hashing (reverse l.older);
+  next : l.next ≡ newest_with l.fn.hashing (key_of l.fn.hashing l.element l.name) (reverse l.older);
   rest : branch_named (of_first_rows l.rows (changes_of (reverse l.made))) l.element l.name ≡ branch_named (of_first_rows l.rows (changes_of (reverse l.older))) l.element l.name;
 }
 

@@ -12,12 +12,13 @@ use Rattle.view_lookup.proofs.marks.mark_all.Goals as goal
 
 pub loop-subject-preserved : goal.loop-subject-preserved
 loop-subject-preserved c =
-    let keys = keys_of c.args.deed.now in
+    let keys = keys_of c.args.hashing c.args.deed.now in
     let index = c.loop-subject.index in
-    let at : slice_get keys index ≡ Some (key (plain c.in-Some.subject)) =
-    slice_get-map key (subjects c.args.deed.now) index ∙ ap (option_map key) (sym c.in-Some.ensures.subject) in
-    let left : drop index keys ≡ key (plain c.in-Some.subject) ∷ drop (index + 1) keys = drop_at keys index (key (plain c.in-Some.subject)) at in
-    let within : index < length keys = within_at keys index (key (plain c.in-Some.subject)) at in
+    let at : slice_get keys index ≡ Some (key c.args.hashing (plain c.in-Some.subject)) =
+    slice_get-map (key c.args.hashing) (subjects c.args.deed.now) index ∙ ap (option_map (key c.args.hashing)) (sym c.in-Some.ensures.subject) in
+    let left : drop index keys ≡ key c.args.hashing (plain c.in-Some.subject) ∷ drop (index + 1) keys = drop_at keys index (key c.args.hashing (plain c.in-Some.subject)) at in
+    let within : index < length (subjects c.args.deed.now) =
+    within_at (subjects c.args.deed.now) index (plain c.in-Some.subject) (sym c.in-Some.ensures.subject) in
     record {
       chained = λ before. c.mark.ensures.marks.chained (c.loop-subject.invariant.chained before);
       rows = λ before q.
@@ -34,9 +35,9 @@ loop-subject-preserved c =
 
 pub returns : goal.returns
 returns c =
-    let keys = keys_of c.args.deed.now in
+    let keys = keys_of c.args.hashing c.args.deed.now in
     let index = c.loop-subject.index in
-    let none : slice_get keys index ≡ None = slice_get-map key (subjects c.args.deed.now) index ∙ ap (option_map key) (sym c.in_default.ensures.subject) in
+    let none : slice_get keys index ≡ None = slice_get-map (key c.args.hashing) (subjects c.args.deed.now) index ∙ ap (option_map (key c.args.hashing)) (sym c.in_default.ensures.subject) in
     record {
       chained = c.loop-subject.invariant.chained;
       rows = λ before q.

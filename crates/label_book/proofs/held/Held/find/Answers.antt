@@ -9,19 +9,19 @@ use Rattle.label_book.proofs.held.Held.find.Goals as goal
 
 pub bounds-older-place : goal.bounds-older-place
 bounds-older-place c =
-    let key = key_of c.args.element c.args.label.now in
+    let key = key_of c.args.hashing c.args.element c.args.label.now in
     let older = c.loop-next.older.now in
     let place = c.in-Some.place in
-    let newest = newest_of key older place c.loop-next.invariant.linked (sym c.loop-next.invariant.next ∙ c.in-Some.is) in
+    let newest = newest_of c.args.hashing key older place c.loop-next.invariant.linked (sym c.loop-next.invariant.next ∙ c.in-Some.is) in
     let within : place < length older = newest.within in
     within
 
 pub offset_bounds-older-place : goal.offset_bounds-older-place
 offset_bounds-older-place c =
-    let key = key_of c.args.element c.args.label.now in
+    let key = key_of c.args.hashing c.args.element c.args.label.now in
     let older = c.loop-next.older.now in
     let place = c.in-Some.place in
-    let newest = newest_of key older place c.loop-next.invariant.linked (sym c.loop-next.invariant.next ∙ c.in-Some.is) in
+    let newest = newest_of c.args.hashing key older place c.loop-next.invariant.linked (sym c.loop-next.invariant.next ∙ c.in-Some.is) in
     let within : place < length older = newest.within in
     let in_range : place < length c.args.held.now = omega (arith, c.loop-next.invariant.shorter) in
     search rules
@@ -29,10 +29,10 @@ offset_bounds-older-place c =
 -- it is the label on the element
 pub returns-then-is-clause-found : goal.returns-then-is-clause-found
 returns-then-is-clause-found c =
-    let key = key_of c.args.element c.args.label.now in
+    let key = key_of c.args.hashing c.args.element c.args.label.now in
     let older = c.loop-next.older.now in
     let place = c.in-Some.place in
-    let newest = newest_of key older place c.loop-next.invariant.linked (sym c.loop-next.invariant.next ∙ c.in-Some.is) in
+    let newest = newest_of c.args.hashing key older place c.loop-next.invariant.linked (sym c.loop-next.invariant.next ∙ c.in-Some.is) in
     let within : place < length older = newest.within in
     let found = c.index-older-place.result in
     let there : get_or older place found ≡ found = search rules in
@@ -47,29 +47,29 @@ returns-then-is-clause-found c =
 
 pub slice_bounds-older-end : goal.slice_bounds-older-end
 slice_bounds-older-end c =
-    let key = key_of c.args.element c.args.label.now in
+    let key = key_of c.args.hashing c.args.element c.args.label.now in
     let older = c.loop-next.older.now in
     let place = c.in-Some.place in
-    let newest = newest_of key older place c.loop-next.invariant.linked (sym c.loop-next.invariant.next ∙ c.in-Some.is) in
+    let newest = newest_of c.args.hashing key older place c.loop-next.invariant.linked (sym c.loop-next.invariant.next ∙ c.in-Some.is) in
     let within : place < length older = newest.within in
     omega (arith, length-take place older)
 
 pub loop-next-smaller : goal.loop-next-smaller
 loop-next-smaller c =
-    let key = key_of c.args.element c.args.label.now in
+    let key = key_of c.args.hashing c.args.element c.args.label.now in
     let older = c.loop-next.older.now in
     let place = c.in-Some.place in
-    let newest = newest_of key older place c.loop-next.invariant.linked (sym c.loop-next.invariant.next ∙ c.in-Some.is) in
+    let newest = newest_of c.args.hashing key older place c.loop-next.invariant.linked (sym c.loop-next.invariant.next ∙ c.in-Some.is) in
     let within : place < length older = newest.within in
     omega (arith, length-take place older)
 
 -- the walk goes on among the older ones
 pub loop-next-preserved : goal.loop-next-preserved
 loop-next-preserved c =
-    let key = key_of c.args.element c.args.label.now in
+    let key = key_of c.args.hashing c.args.element c.args.label.now in
     let older = c.loop-next.older.now in
     let place = c.in-Some.place in
-    let newest = newest_of key older place c.loop-next.invariant.linked (sym c.loop-next.invariant.next ∙ c.in-Some.is) in
+    let newest = newest_of c.args.hashing key older place c.loop-next.invariant.linked (sym c.loop-next.invariant.next ∙ c.in-Some.is) in
     let within : place < length older = newest.within in
     let found = c.index-older-place.result in
     let there : get_or older place found ≡ found = search rules in
@@ -85,7 +85,7 @@ loop-next-preserved c =
       behind = λ k d low high. elim (cases_lt k (length older)) [
         | inl inside ↦ elim (cases_eq k place) [
           | inl same ↦ rw (same, in_all place d within, get_or_default older place d found within, there) fails
-          | inr apart ↦ rw (in_all k d inside) (other_key c.args.label.now c.args.element (get_or older k d) (newest.behind k d (omega (arith, fewer)) inside))
+          | inr apart ↦ rw (in_all k d inside) (other_key c.args.hashing c.args.label.now c.args.element (get_or older k d) (newest.behind k d (omega (arith, fewer)) inside))
         ]
         | inr past ↦ c.loop-next.invariant.behind k d past high
       ];
@@ -94,14 +94,14 @@ loop-next-preserved c =
 -- none is left with the key
 pub returns-clause-absent : goal.returns-clause-absent
 returns-clause-absent c =
-    let key = key_of c.args.element c.args.label.now in
+    let key = key_of c.args.hashing c.args.element c.args.label.now in
     let older = c.loop-next.older.now in
     let none : c.loop-next.next ≡ None = search rules in
     let in_all : (k : ℕ) (d : Held) → k < length older → get_or c.args.held.now k d ≡ get_or older k d =
     λ k d lt. sym (ap (λ xs. get_or xs k d) c.loop-next.invariant.front ∙ get_or-take (length older) c.args.held.now k d lt) in
     record {
       none = λ k d high. elim (cases_lt k (length older)) [
-        | inl inside ↦ rw (in_all k d inside) (other_key c.args.label.now c.args.element (get_or older k d) (none_of key older (sym c.loop-next.invariant.next ∙ none) k d inside))
+        | inl inside ↦ rw (in_all k d inside) (other_key c.args.hashing c.args.label.now c.args.element (get_or older k d) (none_of c.args.hashing key older (sym c.loop-next.invariant.next ∙ none) k d inside))
         | inr past ↦ c.loop-next.invariant.behind k d past high
       ];
     }

@@ -9,8 +9,8 @@ abbrev pub invariant-loop-next : goal.invariant-loop-next
 invariant-loop-next l = record {
   shorter : length l.older ≤ length l.held;
   front : l.older ≡ take (length l.older) l.held;
-  linked : AreLinked (reverse l.older);
-  next : l.next ≡ newest_with (key_of l.element l.label) (reverse l.older);
+  linked : AreLinked l.fn.hashing (reverse l.older);
+  next : l.next ≡ newest_with l.fn.hashing (key_of l.fn.hashing l.element l.label) (reverse l.older);
   behind : (k : ℕ) (d : Held) → length l.older ≤ k → k < length l.held → is_pair l.label l.element (get_or l.held k d) ≡ false;
 }
 

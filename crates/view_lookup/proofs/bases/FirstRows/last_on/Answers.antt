@@ -23,15 +23,15 @@ loop-next-init c =
     let links = c.base.inside.links.items in
     let heads : ℕ → Option ℕ = get nat_eq c.base.inside.newest in
     let found : c.copied-next.result ≡ heads c.key.result = search rules in
-    let next : c.copied-next.result ≡ heads (key subject) = found ∙ ap heads c.key.ensures in
+    let next : c.copied-next.result ≡ heads (key c.base.inside.hashing subject) = found ∙ ap heads c.key.ensures in
     let same : c.as_slice-links.result.now ≡ links = c.as_slice-links.ensures.value in
     let first : first_rows (suc count) all ≡ c.args.self.now = ap (λ (shown : Shown). first_rows (suc count) shown.base) c.base.view_is ∙ c.self.view_is in
-    let told : first_on (deed_on subject c.args.self.now) (marked (key subject) all) ≡ last_on subject c.args.self.now =
-    subst (λ (b : Base). first_on (deed_on subject b) (marked (key subject) all) ≡ last_on subject b) first (marks_of_first subject (suc count) all) in
-    let from : rows_from (reverse c.as_slice-links.result.now) c.copied-next.result ≡ marked (key subject) all =
-    ap (λ (ls : List Link). rows_from (reverse ls) c.copied-next.result) same ∙ ap (rows_from (reverse links)) next ∙ c.base.invariant.marks.rows (key subject) in
+    let told : first_on (deed_on subject c.args.self.now) (marked c.base.inside.hashing (key c.base.inside.hashing subject) all) ≡ last_on subject c.args.self.now =
+    subst (λ (b : Base). first_on (deed_on subject b) (marked c.base.inside.hashing (key c.base.inside.hashing subject) all) ≡ last_on subject b) first (marks_of_first c.base.inside.hashing subject (suc count) all) in
+    let from : rows_from (reverse c.as_slice-links.result.now) c.copied-next.result ≡ marked c.base.inside.hashing (key c.base.inside.hashing subject) all =
+    ap (λ (ls : List Link). rows_from (reverse ls) c.copied-next.result) same ∙ ap (rows_from (reverse links)) next ∙ c.base.invariant.marks.rows (key c.base.inside.hashing subject) in
     record {
-      within = rw (next, same) (c.base.invariant.marks.chained.within (key subject));
+      within = rw (next, same) (c.base.invariant.marks.chained.within (key c.base.inside.hashing subject));
       shorter = omega arith;
       linked = rw same c.base.invariant.marks.chained.linked;
       left = ap (first_on (deed_on subject c.args.self.now)) from ∙ told;
