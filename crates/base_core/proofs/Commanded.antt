@@ -1,5 +1,5 @@
 -- The command that a lane has next is one of the phase: it has the form of one, and is carried out.
-use Rattle.std.proofs.Common.{◌≡◌, ℕ, zero, suc, true, false, Option, Some, None, List, length, refl, ap, sym, ◌∙◌}
+use Rattle.std.proofs.Common.{◌≡◌, ℕ, zero, suc, true, false, Option, Some, None, List, refl, ap, sym, ◌∙◌}
 use Rattle.std.specs.Prelude.{option_and_then, slice_get}
 use Rattle.std.specs.List.{AllByRecursion}
 use Rattle.cc_names.specs.declared.commands.Command.{Command}
@@ -7,20 +7,14 @@ use Rattle.cc_names.specs.declared.commands.Command.TheVariants as commands
 use Rattle.cc_names.specs.declared.commands.Lane.{Lane}
 use Rattle.cc_names.specs.declared.commands.Phase.{Phase}
 use Rattle.cc_names.specs.declared.desks.Next.TheVariants as nexts
-use Rattle.cc_names.specs.declared.replies.Reply.{Reply}
 use Rattle.cc_names.specs.declared.rows.Tag.{Tag}
-use Rattle.cc_names.specs.declared.steps.Told.{Told}
 use Rattle.session_text.specs.Formed.{IsCommand, IsLane, IsPhase}
-use Rattle.legal_history.specs.Builds.Active.{Build}
-use Rattle.legal_history.specs.Stories.States.{lane_at, command_behind, next_tag}
-use Rattle.legal_history.specs.Stories.Steps.{state_of}
+use Rattle.legal_history.specs.Stories.States.{State, lane_at, command_behind, next_tag}
 use Rattle.build_core.specs.Plans.{is_clearmake, view_of as build_view}
 use Rattle.checkout_desk.specs.Commands.{builds, view_of}
 use Rattle.carried_out.specs.CarriedOut.{AreCarriedOut, IsLaneCarriedOut, is_carried_out}
-use Rattle.base_core.specs.Kept.{command_limit, last_phase, replies_at, IsKept}
-use Rattle.base_core.specs.Logs.{Logged}
+use Rattle.base_core.specs.Kept.{command_limit}
 use Rattle.base_core.specs.Nexts.{next_by, next_of, waiting}
-use Rattle.base_core.proofs.NextCommands.{waits}
 use Rattle.base_core.proofs.ObjectSteps.{all_at}
 
 -- what holds of all commands of all lanes holds of the one that is next
@@ -48,21 +42,11 @@ building : (command : Command) (tag : Tag) → next_by (Some command) tag ≡ ne
 building (commands.Clearmake view file own_only rebuild jobs macros goals) tag builds = refl
 building command tag builds = cc
 
--- the command that waits is the one behind the replies that are kept
-waiting_is : (log : Logged) (lanes : List (List Reply)) (builds : List (Option Build)) (now lane : ℕ) (story : List Told) (command : Command) → log.story ≡ story → IsKept log lanes builds now
-    → option_and_then (command_behind (length (replies_at lanes lane))) (lane_at (last_phase log.phases) lane) ≡ Some command → waiting (state_of story) lane ≡ Some command
-waiting_is log lanes builds now lane story command is h e = ap (λ told. waiting (state_of told) lane) (sym is) ∙ waits log lanes builds now lane command h e
+pub acts : (s : State) (lane : ℕ) (command : Command) → waiting s lane ≡ Some command → next_of s lane ≡ nexts.Act → builds command ≡ false
+acts s lane command e act = acting command (next_tag s lane) (ap (λ found. next_by found (next_tag s lane)) (sym e) ∙ act)
 
-pub acts : (log : Logged) (lanes : List (List Reply)) (builds_of : List (Option Build)) (now lane : ℕ) (story : List Told) (command : Command) → log.story ≡ story → IsKept log lanes builds_of now
-    → next_of (state_of story) lane ≡ nexts.Act → option_and_then (command_behind (length (replies_at lanes lane))) (lane_at (last_phase log.phases) lane) ≡ Some command → builds command ≡ false
-acts log lanes builds_of now lane story command is h act e =
-    acting command (next_tag (state_of story) lane)
-    (ap (λ found. next_by found (next_tag (state_of story) lane)) (sym (waiting_is log lanes builds_of now lane story command is h e)) ∙ act)
-
-pub builds_next : (log : Logged) (lanes : List (List Reply)) (builds : List (Option Build)) (now lane : ℕ) (story : List Told) (command : Command) → log.story ≡ story → IsKept log lanes builds now
-    → next_of (state_of story) lane ≡ nexts.Build (next_tag (state_of story) lane) → option_and_then (command_behind (length (replies_at lanes lane))) (lane_at (last_phase log.phases) lane) ≡ Some command → is_clearmake command ≡ true
-builds_next log lanes builds now lane story command is h build e =
-    building command (next_tag (state_of story) lane) (ap (λ found. next_by found (next_tag (state_of story) lane)) (sym (waiting_is log lanes builds now lane story command is h e)) ∙ build)
+pub builds_next : (s : State) (lane : ℕ) (command : Command) → waiting s lane ≡ Some command → next_of s lane ≡ nexts.Build (next_tag s lane) → is_clearmake command ≡ true
+builds_next s lane command e build = building command (next_tag s lane) (ap (λ found. next_by found (next_tag s lane)) (sym e) ∙ build)
 
 -- the view in which a command builds is the one that it names
 pub same_view : (command : Command) → is_clearmake command ≡ true → view_of command ≡ build_view command

@@ -1,5 +1,5 @@
 -- What is kept, and how the story went on, after the end of a build.
-use Rattle.std.proofs.Common.{◌≡◌, ℕ, ◌-◌, true, Option, Some, None, List, [], ◌∷◌, ◌++◌, set, ap, sym, subst, ◌∙◌, arith}
+use Rattle.std.proofs.Common.{◌≡◌, ℕ, true, Some, List, [], ◌∷◌, ◌++◌, ap, sym, subst, ◌∙◌}
 use Rattle.cc_names.specs.declared.replies.Reply.{Reply}
 use Rattle.cc_names.specs.declared.rows.Tag.{Tag}
 use Rattle.cc_names.specs.declared.steps.Step.TheVariants as steps
@@ -13,26 +13,27 @@ use Rattle.legal_history.specs.Stories.Steps.{state_of, without_build}
 use Rattle.legal_history.specs.Builds.Turns.{is_complete}
 use Rattle.base_core.specs.BuildCalls.{IsOver}
 use Rattle.base_core.specs.Going.{Finishes}
-use Rattle.base_core.specs.Kept.{with_reply, IsKept}
+use Rattle.base_core.specs.Kept.{IsKept}
+use Rattle.base_core.specs.Lanes.{LaneKept, with_closed}
 use Rattle.base_core.specs.Logs.{Logged, with_step}
 use Rattle.base_core.proofs.Closing.{kept_end}
-use Rattle.base_core.proofs.FoundBuilds.{IsFound}
 use Rattle.base_core.proofs.Growing.{state_from-more}
 use Rattle.base_core.proofs.Idle.{some_same}
-use Rattle.base_core.proofs.Lanes.{done_same, done_other}
+use Rattle.base_core.proofs.LaneCounts.{done_same, done_other}
 use Rattle.base_core.proofs.LaneSlots.{lane_slot}
 
 -- what is kept
-pub kept_ended : (log : Logged) (lanes : List (List Reply)) (builds : List (Option Build)) (now lane : ℕ) (story : List Told) (rows : Base) (tag : Tag) (build : Build) (reply : Reply) → log.story ≡ story → IsKept log lanes builds now → IsOver (state_of story) lane → IsFound story lane build → (state_of story).base ≡ rows → tag ≡ next_tag (state_of story) lane → reply ≡ reply_of rows build → IsKept (with_step log (steps.End tag)) (with_reply lanes lane reply) (set builds (lane - 1) None) now
-kept_ended log lanes builds now lane story rows tag build reply same h over f base tagged replied =
-    let active : build_of (state_of log.story).active lane ≡ Some build = ap (λ t. build_of (state_of t).active lane) same ∙ f.active in
-    let slot = lane_slot log lanes builds now lane build h active in
+pub kept_ended : (log : Logged) (lanes : List LaneKept) (now lane : ℕ) (story : List Told) (rows : Base) (tag : Tag) (build : Build) (reply : Reply) → log.story ≡ story → IsKept log lanes now → IsOver (state_of story) lane → build_of (state_of story).active lane ≡ Some build
+    → (state_of story).base ≡ rows → tag ≡ next_tag (state_of story) lane → reply ≡ reply_of rows build → IsKept (with_step log (steps.End tag)) (with_closed lanes lane reply) now
+kept_ended log lanes now lane story rows tag build reply same h over found base tagged replied =
+    let active : build_of (state_of log.story).active lane ≡ Some build = ap (λ t. build_of (state_of t).active lane) same ∙ found in
+    let slot = lane_slot log lanes now lane build h active in
     let tag_is : next_tag (state_of log.story) lane ≡ tag = ap (λ t. next_tag (state_of t) lane) same ∙ sym tagged in
     let reply_is : reply_of (state_of log.story).base build ≡ reply = ap (λ t. reply_of (state_of t).base build) same ∙ ap (λ b. reply_of b build) base ∙ sym replied in
-    let complete : is_complete build ≡ true = ap is_complete (sym (some_same over.build build (sym over.active ∙ f.active))) ∙ over.complete in
-    subst (λ r. IsKept (with_step log (steps.End tag)) (with_reply lanes lane r) (set builds (lane - 1) None) now) reply_is
-    (subst (λ t. IsKept (with_step log (steps.End t)) (with_reply lanes lane (reply_of (state_of log.story).base build)) (set builds (lane - 1) None) now) tag_is
-    (kept_end log lanes builds now lane build h slot.from (omega (arith, slot.upto, h.count)) active complete))
+    let complete : is_complete build ≡ true = ap is_complete (sym (some_same over.build build (sym over.active ∙ found))) ∙ over.complete in
+    subst (λ r. IsKept (with_step log (steps.End tag)) (with_closed lanes lane r) now) reply_is
+    (subst (λ t. IsKept (with_step log (steps.End t)) (with_closed lanes lane (reply_of (state_of log.story).base build)) now) tag_is
+    (kept_end log lanes now lane build h slot.from slot.upto active complete))
 
 -- how the story went on
 pub ended_finishes : (log : Logged) (story : List Told) (lane : ℕ) (tag : Tag) → log.story ≡ story → tag ≡ next_tag (state_of story) lane → Finishes story (with_step log (steps.End tag)).story lane

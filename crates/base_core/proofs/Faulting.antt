@@ -1,32 +1,30 @@
 -- What a core keeps after a fault of the disk under a command that builds nothing.
-use Rattle.std.proofs.Common.{◌≡◌, ℕ, ◌-◌, ◌≤◌, inl, inr, true, Option, Some, None, Ok, List, [], ◌∷◌, ◌++◌, length, refl, ap, sym, subst, ◌∙◌, arith}
-use Rattle.std.proofs.lemmas.List.{length-set}
+use Rattle.std.proofs.Common.{◌≡◌, ℕ, ◌≤◌, inl, inr, true, Option, Some, None, Ok, List, [], ◌∷◌, ◌++◌, length, refl, ap, sym, subst, ◌∙◌, arith}
 use Rattle.std.specs.Prelude.{option_and_then}
 use Rattle.cc_names.specs.Formed.{Plain, IsFormed}
-use Rattle.cc_names.specs.declared.replies.Reply.{Reply}
 use Rattle.cc_names.specs.declared.replies.Reply.TheVariants as replies
 use Rattle.cc_names.specs.declared.steps.Step.TheVariants as steps
 use Rattle.cc_names.specs.declared.steps.Told.{Told}
 use Rattle.cc_names.specs.declared.steps.Told.TheVariants as told
 use Rattle.disk_model.specs.Told.{Sight}
-use Rattle.legal_history.specs.Builds.Active.{Build, reserved}
+use Rattle.legal_history.specs.Builds.Active.{build_of}
 use Rattle.legal_history.specs.Commands.Decisions.{Makes}
-use Rattle.legal_history.specs.Base.Fits.{row_limit}
-use Rattle.legal_history.specs.Stories.States.{State, start, with_done, decided, build_if, build_by, ticks_of, faults_of}
+use Rattle.legal_history.specs.Stories.States.{State, decided, build_if, build_by, ticks_of, faults_of}
 use Rattle.legal_history.specs.Stories.Steps.{after, state_of, done_by_fault, faulted_in}
 use Rattle.legal_history.specs.Stories.Committing.{Leaves, MayCommit}
 use Rattle.cc_names.specs.Counts.{rises}
 use Rattle.cc_names.specs.declared.desks.Done.TheVariants.{Faulted}
 use Rattle.base_core.specs.Acting.{Acts, IsNextRow, FinishesCommand}
 use Rattle.base_core.specs.Appending.{MayLeave}
-use Rattle.base_core.specs.Kept.{last_phase, replies_at, with_reply, Agrees, IsKept}
+use Rattle.base_core.specs.Kept.{IsKept}
+use Rattle.base_core.specs.Lanes.{LaneKept, with_reply}
 use Rattle.base_core.specs.Logs.{Logged, with_step_on}
 use Rattle.base_core.specs.Readable.{IsReadable}
 use Rattle.base_core.specs.Replying.{in_lane, reply_to_fault, replies_of}
-use Rattle.base_core.proofs.Finishing.{finished, others_kept}
-use Rattle.base_core.proofs.Growing.{state_from-more, legal_more}
 use Rattle.base_core.proofs.Idle.{decided_is_free}
-use Rattle.base_core.proofs.Naming.{left_named, names_more}
+use Rattle.base_core.proofs.KeptBuilds.{same_rows}
+use Rattle.base_core.proofs.KeptSteps.{kept_finished}
+use Rattle.base_core.proofs.Naming.{left_named}
 
 -- what a fault left is what it may leave
 pub leaves_so : (s : State) (row : Plain) (left : Option Plain) → MayCommit s row → MayLeave s row left → Leaves s row.tag left
@@ -35,31 +33,25 @@ leaves_so s row (Some left) may (inl e) = inl (ap (λ r. r.tag) e, subst (MayCom
 leaves_so s row (Some left) may (inr e) = inr e
 
 -- what is kept then
-pub kept_fault : (log : Logged) (lanes : List (List Reply)) (builds : List (Option Build)) (now : ℕ) (row : Plain) (left : Option Plain) (before faults tick : ℕ) (sight : Sight) → rises before faults ≡ true → faults_of (state_of log.story).opened (state_of log.story).ends ≤ before → MayLeave (state_of log.story) row left → rises (ticks_of (state_of log.story).opened (state_of log.story).ends) tick ≡ true → IsKept log lanes builds now → FinishesCommand row.deed → row.moment ≡ now → decided (state_of log.story) row.tag ≡ Some (Ok (Makes row.deed)) → 1 ≤ row.tag.lane → row.tag.lane ≤ length lanes → IsReadable row → IsKept (with_step_on log (steps.Fault row.tag left before faults tick) sight) (with_reply lanes row.tag.lane replies.DiskFault) builds now
-kept_fault log lanes builds now row left before faults tick sight rose later leaves ticked h finishes in_time made low high readable =
-    record {
-      legal = legal_more start story x h.legal (record { wanted = record { row = row; of_tag = refl; may = may }; rose = rose; later = later; leaves = leaves_so s row left may leaves; ticked = ticked });
-      agrees = subst (λ t. Agrees t log.base log.phases builds now) (sym (state_from-more start story x))
-          (record {
-            opened = h.agrees.opened;
-            base = h.agrees.base;
-            phase = h.agrees.phase;
-            number = h.agrees.number;
-            moment = h.agrees.moment;
-            active = active ∙ h.agrees.active;
-          });
-      replies = finished story x lanes (last_phase log.phases) row.tag replies.DiskFault h.replies low high
-          (λ l. ap (λ o. replies_of story l ++ in_lane l row.tag (reply_to_fault o)) no_build) done;
-      count = h.count ∙ sym (length-set lanes (row.tag.lane - 1) (replies_at lanes row.tag.lane ++ replies.DiskFault ∷ []));
-      building = others_kept log lanes builds now x row.tag h (decided_is_free s row.tag (Ok (Makes row.deed)) made) active refl refl done (λ t within. refl) (omega arith);
-      reserves = subst (λ t. reserved t.active ≤ row_limit) (sym (state_from-more start story x)) (subst (λ a. reserved a ≤ row_limit) (sym active) h.reserves);
-      phase = h.phase;
-      readable = names_more IsReadable story x h.readable (left_named IsReadable story row left leaves readable h.readable);
-    }
+kept_fault : (log : Logged) (lanes : List LaneKept) (now : ℕ) (row : Plain) (left : Option Plain) (before faults tick : ℕ) (sight : Sight) → rises before faults ≡ true → faults_of (state_of log.story).opened (state_of log.story).ends ≤ before → MayLeave (state_of log.story) row left
+    → rises (ticks_of (state_of log.story).opened (state_of log.story).ends) tick ≡ true → IsKept log lanes now → FinishesCommand row.deed → row.moment ≡ now → decided (state_of log.story) row.tag ≡ Some (Ok (Makes row.deed)) → 1 ≤ row.tag.lane → row.tag.lane ≤ length lanes → IsReadable row
+    → IsKept (with_step_on log (steps.Fault row.tag left before faults tick) sight) (with_reply lanes row.tag.lane replies.DiskFault) now
+kept_fault log lanes now row left before faults tick sight rose later leaves ticked h finishes in_time made low high readable =
+    kept_finished log lanes now x log.base sight row.tag replies.DiskFault h low high
+    (record {
+      lawful = record { wanted = record { row = row; of_tag = refl; may = may }; rose = rose; later = later; leaves = leaves_so s row left may leaves; ticked = ticked };
+      names = left_named IsReadable log.story row left leaves readable h.story.readable;
+      leads = h.story.base;
+    })
+    (record {
+      free = free;
+      same = record { phase = refl; number = refl; moment = refl };
+      rows = same_rows s (after s x) refl;
+      active = ap (faulted_in s.active row.tag.lane) no_build;
+      done = ap (done_by_fault s.done row.tag.lane) no_build;
+      said = λ l. ap (λ o. replies_of log.story l ++ in_lane l row.tag (reply_to_fault o)) no_build;
+    })
   where
-    story : List Told
-    story = log.story
-
     s : State
     s = state_of log.story
 
@@ -67,24 +59,23 @@ kept_fault log lanes builds now row left before faults tick sight rose later lea
     x = told.Other (steps.Fault row.tag left before faults tick)
 
     may : MayCommit s row
-    may = record { moment = in_time ∙ sym h.agrees.moment; made = finishes.made s row made }
+    may = record { moment = in_time ∙ sym h.phase.moment; made = finishes.made s row made }
+
+    free : build_of s.active row.tag.lane ≡ None
+    free = decided_is_free s row.tag (Ok (Makes row.deed)) made
 
     no_build : build_by s row.tag ≡ None
-    no_build = ap (option_and_then (build_if row.tag)) (decided_is_free s row.tag (Ok (Makes row.deed)) made)
-
-    done : (after s x).done ≡ with_done s.done row.tag.lane
-    done = ap (done_by_fault s.done row.tag.lane) no_build
-
-    active : (after s x).active ≡ s.active
-    active = ap (faulted_in s.active row.tag.lane) no_build
+    no_build = ap (option_and_then (build_if row.tag)) free
 
 -- what is kept after a fault under a lane's next command
-pub kept_next_fault : (log : Logged) (lanes : List (List Reply)) (builds : List (Option Build)) (now : ℕ) (story : List Told) (row : Plain) (lane : ℕ) (left : Option Plain) (before faults tick : ℕ) (sight : Sight) → rises before faults ≡ true → faults_of (state_of log.story).opened (state_of log.story).ends ≤ before → MayLeave (state_of log.story) row left → rises (ticks_of (state_of log.story).opened (state_of log.story).ends) tick ≡ true → log.story ≡ story → lane ≡ row.tag.lane → IsKept log lanes builds now → IsNextRow (state_of story) row → IsFormed row → IsKept (with_step_on log (steps.Fault row.tag left before faults tick) sight) (with_reply lanes lane replies.DiskFault) builds now
-kept_next_fault log lanes builds now story row lane left before faults tick sight rose later leaves ticked same at_lane h next formed =
+pub kept_next_fault : (log : Logged) (lanes : List LaneKept) (now : ℕ) (story : List Told) (row : Plain) (lane : ℕ) (left : Option Plain) (before faults tick : ℕ) (sight : Sight) → rises before faults ≡ true → faults_of (state_of log.story).opened (state_of log.story).ends ≤ before → MayLeave (state_of log.story) row left
+    → rises (ticks_of (state_of log.story).opened (state_of log.story).ends) tick ≡ true → log.story ≡ story → lane ≡ row.tag.lane → IsKept log lanes now → IsNextRow (state_of story) row → IsFormed row
+    → IsKept (with_step_on log (steps.Fault row.tag left before faults tick) sight) (with_reply lanes lane replies.DiskFault) now
+kept_next_fault log lanes now story row lane left before faults tick sight rose later leaves ticked same at_lane h next formed =
     let here : IsNextRow (state_of log.story) row = subst (λ t. IsNextRow (state_of t) row) (sym same) next in
-    subst (λ l. IsKept (with_step_on log (steps.Fault row.tag left before faults tick) sight) (with_reply lanes l replies.DiskFault) builds now) (sym at_lane)
-    (kept_fault log lanes builds now row left before faults tick sight rose later leaves ticked h here.finishes (here.at_moment ∙ h.agrees.moment) here.made here.of_next.from
-    (omega (arith, here.of_next.upto, h.replies.count, ap (λ p. length p.lanes) h.agrees.phase)) (record { formed = formed; made = here.carried_out }))
+    subst (λ l. IsKept (with_step_on log (steps.Fault row.tag left before faults tick) sight) (with_reply lanes l replies.DiskFault) now) (sym at_lane)
+    (kept_fault log lanes now row left before faults tick sight rose later leaves ticked h here.finishes (here.at_moment ∙ h.phase.moment) here.made here.of_next.from
+    (omega (arith, here.of_next.upto, h.replies.count)) (record { formed = formed; made = here.carried_out }))
 
 -- how the story went on
 pub next_faults : (old new : List Told) (row : Plain) (left : Option Plain) (before faults tick : ℕ) → new ≡ old ++ told.Other (steps.Fault row.tag left before faults tick) ∷ [] → IsNextRow (state_of old) row → Acts old new row.tag.lane Faulted

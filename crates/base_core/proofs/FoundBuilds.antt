@@ -1,75 +1,45 @@
 -- The build that is found in a lane's slot: what is kept of it, and how a unit of it goes on.
-use Rattle.std.proofs.Common.{◌≡◌, ◌≢◌, ℕ, ◌+◌, ◌<◌, ◌≤◌, ◌&&◌, ◌⊎◌, inl, inr, true, Option, Some, Result, Ok, Err, List, [], ◌∷◌, length, refl, ap, sym, subst, ◌∙◌, arith}
+use Rattle.std.proofs.Common.{◌≡◌, ◌≢◌, ℕ, ◌+◌, ◌<◌, ◌≤◌, ◌&&◌, ◌⊎◌, inl, inr, true, false, Option, Some, Result, Ok, Err, List, [], ◌∷◌, length, refl, ap, sym, subst, ◌∙◌, arith}
 use Rattle.std.specs.Prelude.{IfOk, IsSome, slice_get}
 use Rattle.std.proofs.lemmas.Option.{slice_get_within}
 use Rattle.cc_names.specs.declared.refusals.ScriptFault.{ScriptFault}
 use Rattle.cc_names.specs.declared.refusals.UnitFault.TheVariants as faults
-use Rattle.cc_names.specs.declared.replies.Reply.{Reply}
 use Rattle.cc_names.specs.declared.steps.Told.{Told}
 use Rattle.cc_names.specs.declared.steps.UnitEnd.TheVariants as ends
 use Rattle.cc_names.specs.declared.units.Unit.{Unit}
-use Rattle.build_core.specs.Slots.{numbered}
-use Rattle.build_core.specs.UnitSteps.{IsStep}
-use Rattle.build_core.specs.declared.steps.UnitStep.{UnitStep}
 use Rattle.build_script.specs.Run.{Ran}
 use Rattle.build_script.specs.declared.lines.Line.{Line}
 use Rattle.legal_history.specs.Base.Rows.{Base, first_rows}
 use Rattle.legal_history.specs.Builds.Active.{Build, Started, build_of, came_to, is_outcome}
-use Rattle.legal_history.specs.Builds.Consistency.{IsConsistent}
 use Rattle.legal_history.specs.Stories.States.{State}
 use Rattle.legal_history.specs.Stories.Steps.{state_of}
-use Rattle.legal_history.specs.Stories.Lawful.{Legal}
 use Rattle.legal_history.specs.Builds.Turns.{all_over}
 use Rattle.legal_history.specs.Base.Views.{view_row}
-use Rattle.base_core.specs.BuildCalls.{IsCarried, IsTurn, StepsTo, MaySettle, HasScript, IsStarted, HasRun, IsOver, Noted}
+use Rattle.base_core.specs.BuildCalls.{IsCarried, IsTurn, MaySettle, HasScript, IsStarted, HasRun, IsOver, Noted, Settled, Tries, WaitsFor}
 use Rattle.base_core.specs.Building.{IsBuildKept}
-use Rattle.base_core.specs.declared.tried.Carried.{Carried}
-use Rattle.base_core.specs.declared.tried.Carried.TheVariants as carries
+use Rattle.base_core.specs.declared.turns.UnitTurn.{UnitTurn}
+use Rattle.base_core.specs.declared.turns.UnitTurn.TheVariants as turns
 use Rattle.base_core.specs.Going.{StillBuilds, GoesOn, HasOutcome}
 use Rattle.base_core.specs.Kept.{IsKept}
+use Rattle.base_core.specs.Lanes.{LaneKept}
 use Rattle.base_core.specs.Logs.{Logged}
 use Rattle.base_core.proofs.Closing.{build_is_by}
 use Rattle.base_core.proofs.Goings.{goes_further, finishes_further}
 use Rattle.base_core.proofs.Idle.{some_same}
-use Rattle.base_core.proofs.Lanes.{one_or_two}
-use Rattle.base_core.proofs.StepsSo.{steps_so}
+use Rattle.base_core.proofs.LaneCounts.{one_or_two}
 
 -- what holds of a value that was answered
 pub if_ok : {A E : Type 0} (r : Result A E) (P Q : A → Type 0) → ((a : A) → P a → Q a) → IfOk r P → IfOk r Q
 if_ok (Ok a) P Q f h = f a h
 if_ok (Err e) P Q f h = h
 
--- a build that is found in a lane's slot is the lane's, and it is kept
-pub record IsFound (story : List Told) (lane : ℕ) (build : Build) : Type 0 where
-  pub active : build_of (state_of story).active lane ≡ Some build
-  pub kept : IsBuildKept (state_of story) lane build
-  pub legal : Legal story
-
-pub is_found : (log : Logged) (lanes : List (List Reply)) (builds : List (Option Build)) (now : ℕ) (story : List Told) (lane : ℕ) (build : Build) → log.story ≡ story → IsKept log lanes builds now → build_of (state_of story).active lane ≡ Some build → IsFound story lane build
-is_found log lanes builds now story lane build same h is = record {
-  active = is;
-  kept = subst (λ t. IsBuildKept (state_of t) lane build) same (h.building lane build (ap (λ t. build_of (state_of t).active lane) same ∙ is));
-  legal = subst Legal same h.legal;
-}
-
-pub found : (log : Logged) (lanes : List (List Reply)) (builds slots : List (Option Build)) (now : ℕ) (story : List Told) (lane : ℕ) (build : Build) → log.story ≡ story → IsKept log lanes builds now → slots ≡ builds → Some build ≡ build_of (numbered 1 slots) lane → IsFound story lane build
-found log lanes builds slots now story lane build same h e is =
-    is_found log lanes builds now story lane build same h
-    (ap (λ t. build_of (state_of t).active lane) (sym same) ∙ ap (λ a. build_of a lane) h.agrees.active ∙ ap (λ bs. build_of (numbered 1 bs) lane) (sym e) ∙ sym is)
-
--- the base is the one that is kept
-pub base_of_rows : (log : Logged) (lanes : List (List Reply)) (builds : List (Option Build)) (now : ℕ) (story : List Told) (rows : Base) → log.story ≡ story → IsKept log lanes builds now → rows ≡ log.base → (state_of story).base ≡ rows
-base_of_rows log lanes builds now story rows same h e = ap (λ t. (state_of t).base) (sym same) ∙ h.agrees.base ∙ sym e
+-- the build of a lane is kept
+pub build_kept : (log : Logged) (lanes : List LaneKept) (now : ℕ) (story : List Told) (lane : ℕ) (build : Build) → log.story ≡ story → IsKept log lanes now → build_of (state_of story).active lane ≡ Some build → IsBuildKept (state_of story) lane build
+build_kept log lanes now story lane build same h is = subst (λ t. IsBuildKept (state_of t) lane build) same (h.builds.kept lane build (ap (λ t. build_of (state_of t).active lane) same ∙ is))
 
 -- a build's view was there in its reference rows
-pub view_there : (story : List Told) (lane : ℕ) (build : Build) (b : Base) → IsFound story lane build → (state_of story).base ≡ b → IsSome (view_row (first_rows build.rows b) build.view)
-view_there story lane build b h e = subst (λ b. IsSome (view_row (first_rows build.rows b) build.view)) e h.kept.view
-
--- what comes next for a unit whose turn it is
-pub turn_steps : (story : List Told) (b : Base) (lane n : ℕ) (build : Build) (step : UnitStep) → IsTurn (state_of story) lane n → IsFound story lane build → IsConsistent (state_of story).base build → (state_of story).base ≡ b → IsStep b build n step → StepsTo (state_of story) lane n step
-turn_steps story b lane n build step turn h consistent same so =
-    let is : turn.build ≡ build = some_same turn.build build (sym turn.active ∙ h.active) in
-    steps_so (state_of story) b lane n build step h.kept h.active (subst (λ t. n < length t.units) is turn.within) (subst (λ t. (k : ℕ) → k < n → is_outcome (came_to t k) ≡ true) is turn.earlier) consistent same so
+pub view_there : (s : State) (lane : ℕ) (build : Build) (b : Base) → IsBuildKept s lane build → b ≡ s.base → IsSome (view_row (first_rows build.rows b) build.view)
+view_there s lane build b kept e = subst (λ b. IsSome (view_row (first_rows build.rows b) build.view)) (sym e) kept.view
 
 -- a unit whose script was started has it still
 pub started_has : (old new : List Told) (lane n : ℕ) (script : List Line) (targets : List (List ℕ)) → HasScript (state_of old) lane n script targets → Noted old new lane n Started → GoesOn old new lane × IsStarted (state_of new) lane n script targets
@@ -138,7 +108,29 @@ carried_over old new lane n count past h = (
 )
 
 -- what became of a unit after the story went on
-pub carried_further : {E : Type 0} → (old mid new : List Told) (lane n : ℕ) → GoesOn old mid lane → (r : Result Carried E) → IfOk r (IsCarried mid new lane n) → IfOk r (IsCarried old new lane n)
+pub carried_further : {E : Type 0} → (old mid new : List Told) (lane n : ℕ) → GoesOn old mid lane → (r : Result UnitTurn E) → IfOk r (IsCarried mid new lane n) → IfOk r (IsCarried old new lane n)
 carried_further old mid new lane n goes (Err e) h = tt
-carried_further old mid new lane n goes (Ok carries.Settled) h = (goes_further old mid new lane goes h.0, h.1)
-carried_further old mid new lane n goes (Ok carries.Faulted) h = finishes_further old mid new lane goes h
+carried_further old mid new lane n goes (Ok turns.Settled) h = (goes_further old mid new lane goes h.0, h.1)
+carried_further old mid new lane n goes (Ok (turns.NotReady m)) h = absurd h
+carried_further old mid new lane n goes (Ok (turns.Run script targets)) h = absurd h
+carried_further old mid new lane n goes (Ok turns.Faulted) h = finishes_further old mid new lane goes h
+
+-- a unit whose turn it is waits for none
+pub waits_for_none : (s : State) (lane n m : ℕ) → IsTurn s lane n → WaitsFor s lane n m → ⊥
+waits_for_none s lane n m turn h =
+    let over : is_outcome (came_to h.build m) ≡ true = ap (λ b. is_outcome (came_to b m)) (some_same h.build turn.build (sym h.active ∙ turn.active)) ∙ turn.earlier m h.earlier in
+    absurd (let waits : is_outcome (came_to h.build m) ≡ false = h.awaits.waits in cc)
+
+-- so a unit that was tried in its turn, and whose script was not started, was carried out
+pub tried_in_turn : (old new : List Told) (lane n : ℕ) (turn : UnitTurn) → IsTurn (state_of old) lane n → ((script : List Line) (targets : List (List ℕ)) → turn ≢ turns.Run script targets) → Tries old new lane n turn → IsCarried old new lane n turn
+tried_in_turn old new lane n turns.Settled is no_run h = h
+tried_in_turn old new lane n (turns.NotReady m) is no_run h = waits_for_none (state_of old) lane n m is h.1
+tried_in_turn old new lane n (turns.Run script targets) is no_run h = absurd (no_run script targets refl)
+tried_in_turn old new lane n turns.Faulted is no_run h = h
+
+-- a unit that was carried out, under which no disk failed, has its outcome
+pub settled_so : (old new : List Told) (lane n : ℕ) (turn : UnitTurn) → turn ≢ turns.Faulted → IsCarried old new lane n turn → Settled old new lane n
+settled_so old new lane n turns.Settled sound h = h
+settled_so old new lane n (turns.NotReady m) sound h = absurd h
+settled_so old new lane n (turns.Run script targets) sound h = absurd h
+settled_so old new lane n turns.Faulted sound h = absurd (sound refl)

@@ -1,6 +1,6 @@
 -- How stories go on: not at all, by one step, and by one way after another.
 use Rattle.std.proofs.Common.{ℕ, ◌+◌, Result, Ok, Err, List, [], ◌++◌, refl, ap, sym, subst, ◌∙◌, ◌≡◌}
-use Rattle.std.specs.Prelude.{OnErr}
+use Rattle.std.specs.Prelude.{OnErr, OnOk}
 use Rattle.std.proofs.lemmas.List.{append-nil}
 use Rattle.std.proofs.Common.{append_assoc}
 use Rattle.cc_names.specs.declared.steps.Told.{Told}
@@ -54,3 +54,12 @@ on_err (Err e) P p = p
 pub stays_on_err : {A E : Type 0} (story : List Told) (lane : ℕ) (old new : Shown) → GoesOn story old.story lane → (r : Result A E) → OnErr r (new ≡ old) → OnErr r (GoesOn story new.story lane)
 stays_on_err story lane old new goes (Ok a) h = tt
 stays_on_err story lane old new goes (Err e) h = subst (λ s. GoesOn story s.story lane) (sym h) goes
+
+-- a lane's build that went on, and then went on or was finished by a call
+pub goes_further_on_err : {A E : Type 0} (one two three : List Told) (lane : ℕ) → GoesOn one two lane → (r : Result A E) → OnErr r (GoesOn two three lane) → OnErr r (GoesOn one three lane)
+goes_further_on_err one two three lane goes (Ok a) h = tt
+goes_further_on_err one two three lane goes (Err e) h = goes_further one two three lane goes h
+
+pub finishes_further_on_ok : {A E : Type 0} (one two three : List Told) (lane : ℕ) → GoesOn one two lane → (r : Result A E) → OnOk r (Finishes two three lane) → OnOk r (Finishes one three lane)
+finishes_further_on_ok one two three lane goes (Ok a) h = finishes_further one two three lane goes h
+finishes_further_on_ok one two three lane goes (Err e) h = tt

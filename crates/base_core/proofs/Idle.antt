@@ -1,5 +1,5 @@
 -- Where nobody builds, and where a lane does not.
-use Rattle.std.proofs.Common.{◌≡◌, ℕ, zero, suc, ◌+◌, ◌==◌, Bool, true, false, ◌&&◌, Option, Some, None, Result, List, [], ◌∷◌, length, refl, ap, ◌∙◌, arith}
+use Rattle.std.proofs.Common.{◌≡◌, ℕ, zero, suc, ◌+◌, ◌==◌, Bool, true, false, ◌&&◌, Option, Some, None, Result, List, [], ◌∷◌, length, refl, ap, sym, subst, ◌∙◌, arith}
 use Rattle.std.specs.Prelude.{IsSome, option_and_then, option_map, is_none, slice_get}
 use Rattle.std.proofs.lemmas.Bool.{eqb-true}
 use Rattle.std.proofs.lemmas.Option.{slice_get_past}
@@ -7,7 +7,6 @@ use Rattle.cc_names.specs.declared.commands.Command.{Command}
 use Rattle.cc_names.specs.declared.commands.Lane.{Lane}
 use Rattle.cc_names.specs.declared.desks.Next.TheVariants as nexts
 use Rattle.cc_names.specs.declared.refusals.Refusal.{Refusal}
-use Rattle.cc_names.specs.declared.replies.Reply.{Reply}
 use Rattle.cc_names.specs.declared.rows.Tag.{Tag}
 use Rattle.build_core.specs.Slots.{numbered, held_in}
 use Rattle.build_core.specs.SlotLaws.{find_numbered}
@@ -18,6 +17,7 @@ use Rattle.legal_history.specs.Commands.Lines.{decision}
 use Rattle.legal_history.specs.Stories.States.{State, scene, done_of, lane_at, command_behind, lanes_done, all_done, same_tag, next_tag, decided}
 use Rattle.legal_history.specs.Stories.Steps.{state_of}
 use Rattle.base_core.specs.Kept.{IsKept}
+use Rattle.base_core.specs.Lanes.{LaneKept, builds_in}
 use Rattle.base_core.specs.Logs.{Logged}
 use Rattle.base_core.specs.Nexts.{waiting, next_by, next_of}
 
@@ -69,24 +69,27 @@ pub build_in_slot : (s : State) (builds : List (Option Build)) (i : ℕ) → s.a
 build_in_slot s builds i e = ap (λ active. build_of active (suc i)) e ∙ find_numbered (suc i) 1 i builds (omega arith)
 
 -- where each command is finished, nobody builds
-pub nobody_builds : (log : Logged) (lanes : List (List Reply)) (builds : List (Option Build)) (now : ℕ) → IsKept log lanes builds now → all_done (state_of log.story) ≡ true → (state_of log.story).active ≡ []
-nobody_builds log lanes builds now h finished = h.agrees.active ∙ none_numbered 1 builds (λ i. by i (held_in builds i) refl)
+pub nobody_builds : (log : Logged) (lanes : List LaneKept) (now : ℕ) → IsKept log lanes now → all_done (state_of log.story) ≡ true → (state_of log.story).active ≡ []
+nobody_builds log lanes now h finished = h.builds.active ∙ none_numbered 1 builds (λ i. by i (held_in builds i) refl)
   where
+    builds : List (Option Build)
+    builds = builds_in lanes
+
     by : (i : ℕ) (held : Option Build) → held_in builds i ≡ held → held ≡ None
     by i None is = refl
     by i (Some build) is =
-        let kept = h.building (suc i) build (build_in_slot (state_of log.story) builds i h.agrees.active ∙ is) in
+        let kept = h.builds.kept (suc i) build (build_in_slot (state_of log.story) builds i h.builds.active ∙ is) in
         let waits : next_of (state_of log.story) (suc i) ≡ nexts.Build (next_tag (state_of log.story) (suc i)) = kept.waits in
         let done : next_of (state_of log.story) (suc i) ≡ nexts.Done = ap (λ command. next_by command (next_tag (state_of log.story) (suc i))) (none_waits (state_of log.story) (suc i) finished) in
         absurd (cc)
 
 -- a lane that is to act does not build
-pub acting_is_free : (log : Logged) (lanes : List (List Reply)) (builds : List (Option Build)) (now lane : ℕ) → IsKept log lanes builds now → next_of (state_of log.story) lane ≡ nexts.Act → build_of (state_of log.story).active lane ≡ None
-acting_is_free log lanes builds now lane h act = by (build_of (state_of log.story).active lane) refl
+pub acting_is_free : (log : Logged) (lanes : List LaneKept) (now lane : ℕ) → IsKept log lanes now → next_of (state_of log.story) lane ≡ nexts.Act → build_of (state_of log.story).active lane ≡ None
+acting_is_free log lanes now lane h act = by (build_of (state_of log.story).active lane) refl
   where
     by : (found : Option Build) → build_of (state_of log.story).active lane ≡ found → found ≡ None
     by None is = refl
-    by (Some build) is = let waits : next_of (state_of log.story) lane ≡ nexts.Build (next_tag (state_of log.story) lane) = (h.building lane build is).waits in absurd (cc)
+    by (Some build) is = let waits : next_of (state_of log.story) lane ≡ nexts.Build (next_tag (state_of log.story) lane) = (h.builds.kept lane build is).waits in absurd (cc)
 
 -- nor does the lane of a command of which something is decided
 pub decided_is_free : (s : State) (tag : Tag) (result : Result Decision Refusal) → decided s tag ≡ Some result → build_of s.active tag.lane ≡ None
@@ -99,3 +102,12 @@ decided_is_free s tag result e = by (same_tag tag (next_tag s tag.lane)) (build_
     by same None is none e = refl
     by true (Some build) is some e = absurd (cc)
     by false (Some build) is some e = absurd (cc)
+
+-- and that lane waits with a command
+pub decided_waits : (s : State) (tag : Tag) (result : Result Decision Refusal) → decided s tag ≡ Some result → IsSome (waiting s tag.lane)
+decided_waits s tag result e = by (same_tag tag (next_tag s tag.lane) && is_none (build_of s.active tag.lane)) (waiting s tag.lane) refl e
+  where
+    by : (free : Bool) (found : Option Command) → waiting s tag.lane ≡ found → option_map (decision (scene s)) (only_where free found) ≡ Some result → IsSome (waiting s tag.lane)
+    by free (Some command) is e = subst IsSome (sym is) refl
+    by true None is e = absurd (cc)
+    by false None is e = absurd (cc)

@@ -9,7 +9,11 @@ pub mod Goings
 pub mod Growing
 pub mod Idle
 pub mod LaneSlots
-pub mod Lanes
+pub mod KeptBuilds
+pub mod KeptReplies
+pub mod KeptSteps
+pub mod LaneCounts
+pub mod LaneSets
 pub mod LogSteps
 pub mod NextCommands
 pub mod Noting
@@ -18,6 +22,7 @@ pub mod Phases
 pub mod PlainRows
 pub mod Publishing
 pub mod Reserving
+pub mod Rooms
 pub mod SlotLists
 pub mod Staying
 pub mod Stories

@@ -8,30 +8,26 @@ use Rattle.cc_names.specs.Formed.{Plain}
 use Rattle.cc_names.specs.declared.commands.Command.{Command}
 use Rattle.cc_names.specs.declared.commands.Lane.{Lane}
 use Rattle.cc_names.specs.declared.commands.Phase.{Phase}
-use Rattle.cc_names.specs.declared.desks.Next.TheVariants as nexts
 use Rattle.cc_names.specs.declared.memory.Or.{Or}
 use Rattle.cc_names.specs.declared.memory.Or.TheVariants.{NoMemory, Is}
 use Rattle.cc_names.specs.declared.refusals.Refusal.{Refusal}
-use Rattle.cc_names.specs.declared.replies.Reply.{Reply}
 use Rattle.cc_names.specs.declared.rows.Tag.{Tag}
 use Rattle.cc_names.specs.declared.steps.Told.{Told}
-use Rattle.checkout_desk.specs.Commands.{builds, view_of}
+use Rattle.checkout_desk.specs.Commands.{builds}
 use Rattle.checkout_desk.specs.Deciding.{Decides, Sees, room_of}
-use Rattle.build_core.specs.Slots.{numbered}
-use Rattle.legal_history.specs.Base.Rows.{Base, size, only_where}
-use Rattle.legal_history.specs.Builds.Active.{Build, building, build_of, reserved}
+use Rattle.legal_history.specs.Base.Rows.{Base, only_where}
+use Rattle.legal_history.specs.Builds.Active.{building, build_of}
 use Rattle.legal_history.specs.Commands.Decisions.{Scene}
-use Rattle.legal_history.specs.Base.Fits.{row_limit}
 use Rattle.legal_history.specs.Commands.Lines.{decision}
 use Rattle.legal_history.specs.Stories.States.{State, scene, done_of, lane_at, command_behind, same_tag, next_tag, next_command, decided}
 use Rattle.legal_history.specs.Stories.Steps.{state_of}
 use Rattle.legal_history.specs.Stories.Lawful.{Legal}
 use Rattle.base_core.specs.Acting.{DecidesNext}
-use Rattle.base_core.specs.Kept.{last_phase, replies_at, IsKept}
+use Rattle.base_core.specs.Kept.{last_phase, IsKept}
+use Rattle.base_core.specs.Lanes.{LaneKept, replies_at}
 use Rattle.base_core.specs.Logs.{Logged}
-use Rattle.base_core.specs.Nexts.{next_of}
+use Rattle.base_core.specs.Nexts.{waiting}
 use Rattle.base_core.proofs.Fitting.{may_fits}
-use Rattle.base_core.proofs.Idle.{acting_is_free}
 use Rattle.base_core.proofs.PlainRows.{command_finishes}
 
 -- the lane of a command is one of the phase
@@ -91,28 +87,25 @@ decides_next story lane room now command (Err (Is refusal)) legal carried idle f
     }
 
 -- a lane's next command by the replies that are kept is that by the story
-pub waits : (log : Logged) (lanes : List (List Reply)) (builds : List (Option Build)) (now lane : ℕ) (command : Command) → IsKept log lanes builds now → option_and_then (command_behind (length (replies_at lanes lane))) (lane_at (last_phase log.phases) lane) ≡ Some command → option_and_then (command_behind (done_of (state_of log.story).done lane)) (lane_at (state_of log.story).phase lane) ≡ Some command
-waits log lanes builds now lane command h e =
-    let within = in_phase (last_phase log.phases) lane (length (replies_at lanes lane)) command e in
-    let done : done_of (state_of log.story).done lane ≡ length (replies_at lanes lane) = h.replies.done lane ∙ ap length (sym (h.replies.replies lane within.0 (omega (arith, within.1, h.replies.count)))) in
-    ap₂ (λ n phase. option_and_then (command_behind n) (lane_at phase lane)) done h.agrees.phase ∙ e
+pub waiting_kept : (log : Logged) (lanes : List LaneKept) (now lane : ℕ) → IsKept log lanes now → option_and_then (command_behind (length (replies_at lanes lane))) (lane_at (last_phase log.phases) lane) ≡ waiting (state_of log.story) lane
+waiting_kept log lanes now zero h = refl
+waiting_kept log lanes now (suc n) h = ap (λ p. option_and_then (command_behind (length (replies_at lanes (suc n)))) (lane_at p (suc n))) (sym h.phase.phase) ∙ by (slice_get s.phase.lanes n) refl
+  where
+    s : State
+    s = state_of log.story
 
--- the scene of a core, by what is kept
-pub sees : (log : Logged) (lanes : List (List Reply)) (builds : List (Option Build)) (now room : ℕ) (view : List ℕ) (busy : Option Tag) → IsKept log lanes builds now → busy ≡ building (numbered 1 builds) view → room ≡ row_limit - (size log.base + reserved (numbered 1 builds)) → Sees (scene (state_of log.story)) log.base now view busy room
-sees log lanes builds now room view busy h is e = record {
-  base = h.agrees.base;
-  moment = h.agrees.moment;
-  busy = ap (λ active. building active view) h.agrees.active ∙ sym is;
-  room = ap₂ (λ (b : Base) active. row_limit - (size b + reserved active)) h.agrees.base h.agrees.active ∙ sym e;
-}
+    by : (found : Option Lane) → slice_get s.phase.lanes n ≡ found → option_and_then (command_behind (length (replies_at lanes (suc n)))) (slice_get s.phase.lanes n) ≡ option_and_then (command_behind (done_of s.done (suc n))) (slice_get s.phase.lanes n)
+    by None is = ap (option_and_then (command_behind (length (replies_at lanes (suc n))))) is ∙ sym (ap (option_and_then (command_behind (done_of s.done (suc n)))) is)
+    by (Some one) is =
+        let within = slice_get_within s.phase.lanes n one is in
+        let counted : length (replies_at lanes (suc n)) ≡ done_of s.done (suc n) = ap length (h.replies.replies (suc n) (omega arith) (omega (arith, within, h.replies.count))) ∙ sym (h.replies.done (suc n)) in
+        ap (λ k. option_and_then (command_behind k) (slice_get s.phase.lanes n)) counted
 
--- what is decided of a lane's next command, by what is kept
-pub decided_so : (log : Logged) (lanes : List (List Reply)) (builds_of : List (Option Build)) (now lane room : ℕ) (story : List Told) (tag : Tag) (command : Command) (busy : Option Tag) (result : Result Plain (Or Refusal)) → log.story ≡ story → IsKept log lanes builds_of now → is_carried_out command ≡ true → builds command ≡ false → next_of (state_of story) lane ≡ nexts.Act → option_and_then (command_behind (length (replies_at lanes lane))) (lane_at (last_phase log.phases) lane) ≡ Some command → tag ≡ next_tag (state_of story) lane → busy ≡ building (numbered 1 builds_of) (view_of command) → room ≡ row_limit - (size log.base + reserved (numbered 1 builds_of)) → ((scene : Scene) (moment : ℕ) → Sees scene log.base moment (view_of command) busy room → Decides tag now result (decision scene command)) → IfOk result (λ row. is_made row.deed ≡ true) → OnOk result (0 < room) → DecidesNext (state_of story) (next_tag (state_of story) lane) result
-decided_so log lanes builds_of now lane room story tag command busy result same h carried idle act e of_lane is count decides made_row space =
-    let s = state_of log.story in
-    let here : tag ≡ next_tag s lane = of_lane ∙ ap (λ t. next_tag (state_of t) lane) (sym same) in
-    let scene_is = sees log lanes builds_of now room (view_of command) busy h is count in
-    let decided : Decides (next_tag s lane) now result (decision (scene s) command) = subst (λ t. Decides t now result (decision (scene s) command)) here (decides (scene s) now scene_is) in
-    let free : build_of s.active lane ≡ None = acting_is_free log lanes builds_of now lane h (ap (λ t. next_of (state_of t) lane) same ∙ act) in
-    subst (λ t. DecidesNext (state_of t) (next_tag (state_of t) lane) result) same
-    (decides_next log.story lane room now command result h.legal carried idle free h.agrees.moment (waits log lanes builds_of now lane command h e) (sym scene_is.room) decided made_row space)
+-- what is decided of a lane's next command
+pub decided_so : (story : List Told) (lane room now : ℕ) (tag : Tag) (command : Command) (view : List ℕ) (rows : Base) (busy : Option Tag) (result : Result Plain (Or Refusal)) → Legal story → is_carried_out command ≡ true → builds command ≡ false → build_of (state_of story).active lane ≡ None
+    → (state_of story).moment ≡ now → waiting (state_of story) lane ≡ Some command → tag ≡ next_tag (state_of story) lane → rows ≡ (state_of story).base → busy ≡ building (state_of story).active view → room ≡ room_of (scene (state_of story))
+    → ((scene : Scene) (moment : ℕ) → Sees scene rows moment view busy room → Decides tag now result (decision scene command)) → IfOk result (λ row. is_made row.deed ≡ true) → OnOk result (0 < room) → DecidesNext (state_of story) (next_tag (state_of story) lane) result
+decided_so story lane room now tag command view rows busy result legal carried idle free moment e tagged rows_are is count decides made space =
+    let s = state_of story in
+    let sees : Sees (scene s) rows now view busy room = record { base = sym rows_are; moment = moment; busy = sym is; room = sym count } in
+    decides_next story lane room now command result legal carried idle free moment e count (subst (λ t. Decides t now result (decision (scene s) command)) tagged (decides (scene s) now sees)) made space

@@ -1,5 +1,5 @@
 -- What is kept, and how the story went on, after the row of what a unit's run gave.
-use Rattle.std.proofs.Common.{◌≡◌, ◌≢◌, ℕ, zero, suc, ◌-◌, ◌||◌, true, Option, Some, Result, Ok, Err, List, [], ◌∷◌, ◌++◌, set, refl, ap, sym, subst, ◌∙◌, arith}
+use Rattle.std.proofs.Common.{◌≡◌, ◌≢◌, ℕ, zero, suc, ◌||◌, true, Option, Some, Result, Ok, Err, List, [], ◌∷◌, ◌++◌, refl, ap, sym, subst, ◌∙◌}
 use Rattle.std.proofs.lemmas.Slice.Eq.{bytes_eq-Decides}
 use Rattle.std.specs.List.{AllByRecursion}
 use Rattle.std.specs.Ordering.{nat_cmp}
@@ -8,7 +8,6 @@ use Rattle.std.specs.Prelude.{slice_get}
 use Rattle.carried_out.specs.CarriedOut.{is_made}
 use Rattle.cc_names.specs.Formed.{Plain, IsFormed}
 use Rattle.cc_names.specs.declared.refusals.ScriptFault.{ScriptFault}
-use Rattle.cc_names.specs.declared.replies.Reply.{Reply}
 use Rattle.cc_names.specs.declared.rows.Deed.{Deed}
 use Rattle.cc_names.specs.declared.rows.Deed.TheVariants as deeds
 use Rattle.cc_names.specs.declared.rows.ReadOf.{ReadOf}
@@ -16,7 +15,6 @@ use Rattle.cc_names.specs.declared.steps.Told.{Told}
 use Rattle.cc_names.specs.declared.steps.Told.TheVariants as told
 use Rattle.cc_names.specs.declared.units.Unit.{Unit}
 use Rattle.build_core.specs.BuildForms.{IsUnitFormed}
-use Rattle.build_core.specs.Slots.{held_in}
 use Rattle.legal_history.specs.Base.Rows.{Base, size}
 use Rattle.legal_history.specs.Builds.Active.{Build, Given, build_of, is_outcome, unit_at, unit_with_first}
 use Rattle.legal_history.specs.Builds.Choices.{entries, here, publish_by, visible}
@@ -33,6 +31,7 @@ use Rattle.legal_history.specs.Stories.Lawful.{Legal}
 use Rattle.base_core.specs.BuildCalls.{IsObjectRow}
 use Rattle.base_core.specs.Going.{GoesOn, HasOutcome, StillBuilds}
 use Rattle.base_core.specs.Kept.{IsKept}
+use Rattle.base_core.specs.Lanes.{LaneKept, build_at, put_build}
 use Rattle.base_core.specs.Logs.{Logged, with_row}
 use Rattle.base_core.proofs.Fitting.{may_fits}
 use Rattle.base_core.proofs.Growing.{state_from-more}
@@ -79,40 +78,42 @@ pub object_made : (s : State) (lane n : ℕ) (row : Plain) → IsObjectRow s lan
 object_made s lane n row h = ap is_made (row_told s lane n row h).is
 
 -- the row may be committed
-pub object_may : (log : Logged) (lanes : List (List Reply)) (builds : List (Option Build)) (now lane n : ℕ) (row : Plain) → IsKept log lanes builds now → (here : IsObjectRow (state_of log.story) lane n row) → ((told : List Told) (l : ℕ) (b : Build) → Legal told → build_of (state_of told).active l ≡ Some b → IsConsistent (state_of told).base b) → MayCommit (state_of log.story) row
-object_may log lanes builds now lane n row h here consistent =
+pub object_may : (log : Logged) (lanes : List LaneKept) (now lane n : ℕ) (row : Plain) → IsKept log lanes now → (here : IsObjectRow (state_of log.story) lane n row) → ((told : List Told) (l : ℕ) (b : Build) → Legal told → build_of (state_of told).active l ≡ Some b → IsConsistent (state_of told).base b) → MayCommit (state_of log.story) row
+object_may log lanes now lane n row h here consistent =
     let s = state_of log.story in
     let told = row_told s lane n row here in
-    let formed : IsUnitFormed here.unit = all_at IsUnitFormed here.build.units n here.unit (h.building lane here.build here.active).formed.units here.is_unit in
-    let place : unit_with_first here.build told.targets ≡ Some n = first_place s.base here.build n here.unit told.targets (consistent log.story lane here.build h.legal here.active) here.is_unit told.of_unit (λ e. formed.0.1 (sym told.of_unit ∙ e)) in
-    subst (MayCommit s) (sym (row_is s lane n now row here told h.agrees.moment))
-    (may_publish log lanes builds now lane n here.build here.unit here.build.view told.targets told.script told.reads told.outputs h here.active here.is_unit here.started place (here.made ∙ ap Some told.is))
+    let formed : IsUnitFormed here.unit = all_at IsUnitFormed here.build.units n here.unit (h.builds.kept lane here.build here.active).formed.units here.is_unit in
+    let place : unit_with_first here.build told.targets ≡ Some n = first_place s.base here.build n here.unit told.targets (consistent log.story lane here.build h.story.legal here.active) here.is_unit told.of_unit (λ e. formed.0.1 (sym told.of_unit ∙ e)) in
+    subst (MayCommit s) (sym (row_is s lane n now row here told h.phase.moment))
+    (may_publish log lanes now lane n here.build here.unit here.build.view told.targets told.script told.reads told.outputs h here.active here.is_unit here.started place (here.made ∙ ap Some told.is))
 
 -- and fits the base
-pub object_fits : (log : Logged) (lanes : List (List Reply)) (builds : List (Option Build)) (now lane n : ℕ) (story : List Told) (row : Plain) → log.story ≡ story → IsKept log lanes builds now → IsObjectRow (state_of story) lane n row → ((told : List Told) (l : ℕ) (b : Build) → Legal told → build_of (state_of told).active l ≡ Some b → IsConsistent (state_of told).base b) → fits log.base row.deed ≡ true
-object_fits log lanes builds now lane n story row same h object consistent =
+pub object_fits : (log : Logged) (lanes : List LaneKept) (now lane n : ℕ) (story : List Told) (row : Plain) → log.story ≡ story → IsKept log lanes now → IsObjectRow (state_of story) lane n row → ((told : List Told) (l : ℕ) (b : Build) → Legal told → build_of (state_of told).active l ≡ Some b → IsConsistent (state_of told).base b) → fits log.base row.deed ≡ true
+object_fits log lanes now lane n story row same h object consistent =
     let here : IsObjectRow (state_of log.story) lane n row = subst (λ t. IsObjectRow (state_of t) lane n row) (sym same) object in
-    subst (λ b. fits b row.deed ≡ true) h.agrees.base (may_fits log.story row h.legal (object_may log lanes builds now lane n row h here consistent))
+    subst (λ b. fits b row.deed ≡ true) h.story.base (may_fits log.story row h.story.legal (object_may log lanes now lane n row h here consistent))
 
 -- what is kept then
-pub kept_object : (log : Logged) (lanes : List (List Reply)) (builds more : List (Option Build)) (now : ℕ) (story : List Told) (lane n number : ℕ) (row : Plain) (tick : ℕ) (sight : Sight) → rises (ticks_of (state_of log.story).opened (state_of log.story).ends) tick ≡ true → log.story ≡ story → IsKept log lanes builds now → IsObjectRow (state_of story) lane n row → number ≡ size log.base → ((told : List Told) (l : ℕ) (b : Build) → Legal told → build_of (state_of told).active l ≡ Some b → IsConsistent (state_of told).base b) → ((build : Build) → held_in builds (lane - 1) ≡ Some build → more ≡ set builds (lane - 1) (Some (with_came build (Some n) (Given number)))) → IsFormed row → IsKept (with_row log row tick sight) lanes more now
-kept_object log lanes builds more now story lane n number row tick sight ticked same h object counted consistent set_so formed_row =
+pub kept_object : (log : Logged) (lanes more : List LaneKept) (now : ℕ) (story : List Told) (lane n number : ℕ) (row : Plain) (tick : ℕ) (sight : Sight) → rises (ticks_of (state_of log.story).opened (state_of log.story).ends) tick ≡ true → log.story ≡ story → IsKept log lanes now → IsObjectRow (state_of story) lane n row → number ≡ size log.base
+    → ((told : List Told) (l : ℕ) (b : Build) → Legal told → build_of (state_of told).active l ≡ Some b → IsConsistent (state_of told).base b)
+    → ((build : Build) → build_at lanes lane ≡ Some build → more ≡ put_build lanes lane (Some (with_came build (Some n) (Given number)))) → IsFormed row → IsKept (with_row log row tick sight) more now
+kept_object log lanes more now story lane n number row tick sight ticked same h object counted consistent set_so formed_row =
     let s = state_of log.story in
     let here : IsObjectRow s lane n row = subst (λ t. IsObjectRow (state_of t) lane n row) (sym same) object in
-    let slot = lane_slot log lanes builds now lane here.build h here.active in
+    let slot = lane_slot log lanes now lane here.build h here.active in
     let told = row_told s lane n row here in
-    let formed : IsUnitFormed here.unit = all_at IsUnitFormed here.build.units n here.unit (h.building lane here.build here.active).formed.units here.is_unit in
-    let place : unit_with_first here.build told.targets ≡ Some n = first_place s.base here.build n here.unit told.targets (consistent log.story lane here.build h.legal here.active) here.is_unit told.of_unit (λ e. formed.0.1 (sym told.of_unit ∙ e)) in
-    let newest : number ≡ size s.base = counted ∙ ap size (sym h.agrees.base) in
-    subst (λ bs. IsKept (with_row log row tick sight) lanes bs now) (sym (set_so here.build slot.held))
-    (subst (λ k. IsKept (with_row log row tick sight) lanes (set builds (lane - 1) (Some (with_came here.build (Some n) (Given k)))) now) (sym newest)
-    (subst (λ r. IsKept (with_row log r tick sight) lanes (set builds (lane - 1) (Some (with_came here.build (Some n) (Given (size s.base))))) now) (sym (row_is s lane n now row here told h.agrees.moment))
-    (kept_publish log lanes builds now lane n here.build here.unit here.build.view told.targets told.script told.reads told.outputs tick sight ticked h slot.from (omega (arith, slot.upto, h.count)) here.active here.is_unit here.started place (here.made ∙ ap Some told.is)
-    (subst IsFormed (row_is s lane n now row here told h.agrees.moment) formed_row))))
+    let formed : IsUnitFormed here.unit = all_at IsUnitFormed here.build.units n here.unit (h.builds.kept lane here.build here.active).formed.units here.is_unit in
+    let place : unit_with_first here.build told.targets ≡ Some n = first_place s.base here.build n here.unit told.targets (consistent log.story lane here.build h.story.legal here.active) here.is_unit told.of_unit (λ e. formed.0.1 (sym told.of_unit ∙ e)) in
+    let newest : number ≡ size s.base = counted ∙ ap size (sym h.story.base) in
+    subst (λ ls. IsKept (with_row log row tick sight) ls now) (sym (set_so here.build slot.held))
+    (subst (λ k. IsKept (with_row log row tick sight) (put_build lanes lane (Some (with_came here.build (Some n) (Given k)))) now) (sym newest)
+    (subst (λ r. IsKept (with_row log r tick sight) (put_build lanes lane (Some (with_came here.build (Some n) (Given (size s.base))))) now) (sym (row_is s lane n now row here told h.phase.moment))
+    (kept_publish log lanes now lane n here.build here.unit here.build.view told.targets told.script told.reads told.outputs tick sight ticked h slot.from slot.upto here.active here.is_unit here.started place (here.made ∙ ap Some told.is)
+    (subst IsFormed (row_is s lane n now row here told h.phase.moment) formed_row))))
 
 -- how the story went on
-pub object_so : (log : Logged) (lanes : List (List Reply)) (builds : List (Option Build)) (now : ℕ) (story : List Told) (lane n : ℕ) (row : Plain) (tick : ℕ) (sight : Sight) → log.story ≡ story → IsKept log lanes builds now → IsObjectRow (state_of story) lane n row → ((told : List Told) (l : ℕ) (b : Build) → Legal told → build_of (state_of told).active l ≡ Some b → IsConsistent (state_of told).base b) → GoesOn story (with_row log row tick sight).story lane × HasOutcome (state_of (with_row log row tick sight).story) lane n
-object_so log lanes builds now story lane n row tick sight same h object consistent = (
+pub object_so : (log : Logged) (lanes : List LaneKept) (now : ℕ) (story : List Told) (lane n : ℕ) (row : Plain) (tick : ℕ) (sight : Sight) → log.story ≡ story → IsKept log lanes now → IsObjectRow (state_of story) lane n row → ((told : List Told) (l : ℕ) (b : Build) → Legal told → build_of (state_of told).active l ≡ Some b → IsConsistent (state_of told).base b) → GoesOn story (with_row log row tick sight).story lane × HasOutcome (state_of (with_row log row tick sight).story) lane n
+object_so log lanes now story lane n row tick sight same h object consistent = (
   record {
     steps = x ∷ [];
     grows = ap (λ t. t ++ x ∷ []) same;
@@ -136,10 +137,10 @@ object_so log lanes builds now story lane n row tick sight same h object consist
     deed = row_told s lane n row object
 
     formed : IsUnitFormed object.unit
-    formed = all_at IsUnitFormed object.build.units n object.unit (h.building lane object.build (ap (λ t. build_of (state_of t).active lane) same ∙ object.active)).formed.units object.is_unit
+    formed = all_at IsUnitFormed object.build.units n object.unit (h.builds.kept lane object.build (ap (λ t. build_of (state_of t).active lane) same ∙ object.active)).formed.units object.is_unit
 
     place : unit_with_first object.build deed.targets ≡ Some n
-    place = first_place s.base object.build n object.unit deed.targets (subst (λ t. IsConsistent (state_of t).base object.build) same (consistent log.story lane object.build h.legal (ap (λ t. build_of (state_of t).active lane) same ∙ object.active))) object.is_unit deed.of_unit (λ e. formed.0.1 (sym deed.of_unit ∙ e))
+    place = first_place s.base object.build n object.unit deed.targets (subst (λ t. IsConsistent (state_of t).base object.build) same (consistent log.story lane object.build h.story.legal (ap (λ t. build_of (state_of t).active lane) same ∙ object.active))) object.is_unit deed.of_unit (λ e. formed.0.1 (sym deed.of_unit ∙ e))
 
     grown : State
     grown = record s { base = row ∷ s.base; active = put nat_cmp lane noted s.active; ends = Committed row tick ∷ s.ends }

@@ -3,7 +3,6 @@ use Rattle.std.proofs.Common.{◌≡◌, ℕ, ◌-◌, Option, Some, Ok, List, [
 use Rattle.std.specs.Ordering.{nat_cmp}
 use Rattle.std.specs.FinMap.Entries.{put}
 use Rattle.cc_names.specs.declared.desks.Done.TheVariants as dones
-use Rattle.cc_names.specs.declared.replies.Reply.{Reply}
 use Rattle.cc_names.specs.declared.rows.Tag.{Tag}
 use Rattle.cc_names.specs.declared.steps.Step.TheVariants as steps
 use Rattle.cc_names.specs.declared.steps.Told.{Told}
@@ -18,22 +17,24 @@ use Rattle.base_core.specs.BuildCalls.{IsBuilding}
 use Rattle.base_core.specs.Building.{IsNextBuild}
 use Rattle.base_core.specs.Going.{GoesOn, Finishes}
 use Rattle.base_core.specs.Kept.{IsKept}
+use Rattle.base_core.specs.Lanes.{LaneKept, put_build}
 use Rattle.base_core.specs.Logs.{Logged, with_step}
 use Rattle.base_core.proofs.Growing.{state_from-more}
 use Rattle.base_core.proofs.Idle.{decided_is_free, not_both}
-use Rattle.base_core.proofs.Lanes.{done_same, done_other}
+use Rattle.base_core.proofs.LaneCounts.{done_same, done_other}
 use Rattle.base_core.proofs.LaneSlots.{found_put}
 use Rattle.base_core.proofs.BuildBegins.{kept_begin}
 
 -- what is kept where a build begins
-pub kept_opened : (log : Logged) (lanes : List (List Reply)) (builds : List (Option Build)) (now rows count : ℕ) (story : List Told) (tag : Tag) (build : Build) → log.story ≡ story → IsKept log lanes builds now → IsNextBuild (state_of story) build → tag ≡ build.tag → rows ≡ build.rows → count ≡ length build.units → IsKept (with_step log (steps.Begin tag rows count)) lanes (set builds (tag.lane - 1) (Some build)) now
-kept_opened log lanes builds now rows count story tag build same h next tagged at_rows counted =
+pub kept_opened : (log : Logged) (lanes : List LaneKept) (now rows count : ℕ) (story : List Told) (tag : Tag) (build : Build) → log.story ≡ story → IsKept log lanes now → IsNextBuild (state_of story) build → tag ≡ build.tag → rows ≡ build.rows → count ≡ length build.units
+    → IsKept (with_step log (steps.Begin tag rows count)) (put_build lanes tag.lane (Some build)) now
+kept_opened log lanes now rows count story tag build same h next tagged at_rows counted =
     let s = state_of log.story in
     let here : IsNextBuild s build = subst (λ t. IsNextBuild (state_of t) build) (sym same) next in
-    subst (λ t. IsKept (with_step log (steps.Begin t rows count)) lanes (set builds (t.lane - 1) (Some build)) now) (sym tagged)
-    (subst (λ r. IsKept (with_step log (steps.Begin build.tag r count)) lanes (set builds (build.tag.lane - 1) (Some build)) now) (sym (at_rows ∙ here.at_rows))
-    (subst (λ c. IsKept (with_step log (steps.Begin build.tag (size s.base) c)) lanes (set builds (build.tag.lane - 1) (Some build)) now) (sym counted)
-    (kept_begin log lanes builds now build.tag build h here.of_next.from (omega (arith, here.of_next.upto, h.replies.count, ap (λ p. length p.lanes) h.agrees.phase)) here.made here.begins here.kept here.room)))
+    subst (λ t. IsKept (with_step log (steps.Begin t rows count)) (put_build lanes t.lane (Some build)) now) (sym tagged)
+    (subst (λ r. IsKept (with_step log (steps.Begin build.tag r count)) (put_build lanes build.tag.lane (Some build)) now) (sym (at_rows ∙ here.at_rows))
+    (subst (λ c. IsKept (with_step log (steps.Begin build.tag (size s.base) c)) (put_build lanes build.tag.lane (Some build)) now) (sym counted)
+    (kept_begin log lanes now build.tag build h here.of_next.from (omega (arith, here.of_next.upto, h.replies.count)) here.made here.begins here.kept here.room)))
 
 -- how the story went on
 pub opened_so : (log : Logged) (rows count : ℕ) (story : List Told) (tag : Tag) (build : Build) → log.story ≡ story → IsNextBuild (state_of story) build → tag ≡ build.tag → GoesOn story (with_step log (steps.Begin tag rows count)).story build.tag.lane × IsBuilding (state_of (with_step log (steps.Begin tag rows count)).story) build.tag.lane (length build.units)

@@ -8,26 +8,21 @@ use Rattle.cc_names.specs.declared.desks.Next.TheVariants as nexts
 use Rattle.cc_names.specs.declared.memory.Or.{Or}
 use Rattle.cc_names.specs.declared.memory.Or.TheVariants.{NoMemory, Is}
 use Rattle.cc_names.specs.declared.refusals.Refusal.{Refusal}
-use Rattle.cc_names.specs.declared.replies.Reply.{Reply}
 use Rattle.cc_names.specs.declared.rows.Tag.{Tag}
-use Rattle.cc_names.specs.declared.steps.Told.{Told}
 use Rattle.cc_names.specs.declared.units.Unit.{Unit}
 use Rattle.build_core.specs.BuildForms.{IsBuildFormed}
-use Rattle.build_core.specs.Plans.{view_of, Meets, Plans}
-use Rattle.build_core.specs.Slots.{numbered}
+use Rattle.build_core.specs.Plans.{Meets, Plans}
 use Rattle.legal_history.specs.Base.Rows.{Base, size, first_rows}
 use Rattle.legal_history.specs.Builds.Active.{Build, build_of, building, reserved}
 use Rattle.legal_history.specs.Commands.Decisions.{Scene, Begins}
 use Rattle.legal_history.specs.Base.Fits.{row_limit}
 use Rattle.legal_history.specs.Commands.Lines.{decision}
 use Rattle.legal_history.specs.Stories.States.{State, scene, done_of, lane_at, command_behind, next_tag, next_command, decided}
-use Rattle.legal_history.specs.Stories.Steps.{begun, new_build, state_of, units_begun}
+use Rattle.legal_history.specs.Stories.Steps.{begun, new_build, units_begun}
 use Rattle.legal_history.specs.Base.Views.{view_row}
 use Rattle.base_core.specs.Building.{IsBuildKept, PlansNext}
-use Rattle.base_core.specs.Kept.{last_phase, replies_at, IsKept}
-use Rattle.base_core.specs.Logs.{Logged}
-use Rattle.base_core.specs.Nexts.{next_of}
-use Rattle.base_core.proofs.NextCommands.{in_phase, next_is, waits}
+use Rattle.base_core.specs.Nexts.{next_of, waiting}
+use Rattle.base_core.proofs.NextCommands.{in_phase, next_is}
 
 -- all rows are the first of as many
 all_rows : (b : Base) → first_rows (size b) b ≡ b
@@ -86,23 +81,13 @@ planned s lane command (Err (Is refusal)) free waiting e plans view formed room 
       made = ap (option_map (decision (scene s))) (next_is s lane command free e) ∙ ap Some plans;
     }
 
--- what is planned for a lane's next command, by what is kept
-pub plans_so : (log : Logged) (lanes : List (List Reply)) (builds : List (Option Build)) (now lane taken : ℕ) (story : List Told) (tag : Tag) (command : Command) (busy : Option Tag) (result : Result Build (Or Refusal)) → log.story ≡ story → IsKept log lanes builds now → next_of (state_of story) lane ≡ nexts.Build (next_tag (state_of story) lane) → build_of (state_of story).active lane ≡ None → option_and_then (command_behind (length (replies_at lanes lane))) (lane_at (last_phase log.phases) lane) ≡ Some command → tag ≡ next_tag (state_of story) lane → busy ≡ building (numbered 1 builds) (view_of command) → taken ≡ size log.base + reserved (numbered 1 builds) → ((scene : Scene) → Meets scene log.base (view_of command) busy taken → Plans tag scene command result) → IfOk result (λ build. IsSome (view_row log.base build.view)) → IfOk result IsBuildFormed → IfOk result (λ build. taken + length build.units ≤ row_limit) → PlansNext (state_of story) (next_tag (state_of story) lane) result
-plans_so log lanes builds now lane taken story tag command busy result same h waiting free e of_lane is count plans view formed room =
-    let s = state_of log.story in
-    let here : tag ≡ next_tag s lane = of_lane ∙ ap (λ t. next_tag (state_of t) lane) (sym same) in
-    let taken_is : size s.base + reserved s.active ≡ taken = ap₂ (λ (b : Base) active. size b + reserved active) h.agrees.base h.agrees.active ∙ sym count in
-    let meets : Meets (scene s) log.base (view_of command) busy taken = record {
-      base = h.agrees.base;
-      busy = ap (λ active. building active (view_of command)) h.agrees.active ∙ sym is;
-      taken = taken_is;
-    } in
-    subst (λ t. PlansNext (state_of t) (next_tag (state_of t) lane) result) same
-    (planned s lane command result
-    (ap (λ t. build_of (state_of t).active lane) same ∙ free)
-    (ap (λ t. next_of (state_of t) lane) same ∙ waiting ∙ ap (λ t. nexts.Build (next_tag (state_of t) lane)) (sym same))
-    (waits log lanes builds now lane command h e)
-    (subst (λ t. Plans t (scene s) command result) here (plans (scene s) meets))
-    (subst (λ b. IfOk result (λ build. IsSome (view_row b build.view))) (sym h.agrees.base) view)
+-- what is planned for a lane's next command
+pub plans_so : (s : State) (lane taken : ℕ) (tag : Tag) (command : Command) (view : List ℕ) (rows : Base) (busy : Option Tag) (result : Result Build (Or Refusal)) → next_of s lane ≡ nexts.Build (next_tag s lane) → build_of s.active lane ≡ None → waiting s lane ≡ Some command → tag ≡ next_tag s lane
+    → rows ≡ s.base → busy ≡ building s.active view → taken ≡ size s.base + reserved s.active → ((scene : Scene) → Meets scene rows view busy taken → Plans tag scene command result)
+    → IfOk result (λ build. IsSome (view_row rows build.view)) → IfOk result IsBuildFormed → IfOk result (λ build. taken + length build.units ≤ row_limit) → PlansNext s (next_tag s lane) result
+plans_so s lane taken tag command view rows busy result waiting free e tagged rows_are is count plans found formed room =
+    planned s lane command result free waiting e
+    (subst (λ t. Plans t (scene s) command result) tagged (plans (scene s) (record { base = sym rows_are; busy = sym is; taken = sym count })))
+    (subst (λ b. IfOk result (λ build. IsSome (view_row b build.view))) rows_are found)
     formed
-    (subst (λ n. IfOk result (λ build. n + length build.units ≤ row_limit)) (sym taken_is) room))
+    (subst (λ n. IfOk result (λ build. n + length build.units ≤ row_limit)) count room)

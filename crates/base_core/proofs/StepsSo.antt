@@ -18,7 +18,7 @@ use Rattle.legal_history.specs.Builds.Turns.{fault_of, standing_of_unit}
 use Rattle.base_core.specs.BuildCalls.{MayStart, StepsTo}
 use Rattle.base_core.specs.Building.{IsBuildKept}
 use Rattle.base_core.proofs.Closing.{build_is_by}
-use Rattle.base_core.proofs.UnitCalls.{early_is, early_settles, waits_for_none}
+use Rattle.base_core.proofs.UnitCalls.{early_is, early_settles, awaits_earlier}
 
 -- a unit without an outcome waits
 waiting_unit : (s : State) (lane n : ℕ) (build : Build) (unit : Unit) → IsBuildKept s lane build → build_of s.active lane ≡ Some build → unit_at build n ≡ Some unit → is_outcome (came_to build n) ≡ false → Waits s (next_tag s lane) n build unit
@@ -37,12 +37,12 @@ starts s lane n build unit fault kept active within is waits runs fault_is = rec
 }
 
 -- what comes next, in the words of the calls
-pub steps_so : (s : State) (b : Base) (lane n : ℕ) (build : Build) (step : UnitStep) → IsBuildKept s lane build → build_of s.active lane ≡ Some build → n < length build.units → ((k : ℕ) → k < n → is_outcome (came_to build k) ≡ true) → IsConsistent s.base build → s.base ≡ b → IsStep b build n step → StepsTo s lane n step
-steps_so s b lane n build step kept active within earlier consistent same h = here step (subst (λ c. IsStep c build n step) (sym same) h)
+pub steps_so : (s : State) (b : Base) (lane n : ℕ) (build : Build) (step : UnitStep) → IsBuildKept s lane build → build_of s.active lane ≡ Some build → n < length build.units → IsConsistent s.base build → s.base ≡ b → IsStep b build n step → StepsTo s lane n step
+steps_so s b lane n build step kept active within consistent same h = here step (subst (λ c. IsStep c build n step) (sym same) h)
   where
     here : (step : UnitStep) → IsStep s.base build n step → StepsTo s lane n step
     here next.Settled h = record { build = build; active = active; outcome = h }
-    here (next.NotReady m) h = waits_for_none s.base build n m h.unit consistent h.is_unit earlier h.next
+    here (next.NotReady m) h = record { build = build; active = active; unit = h.unit; is_unit = h.is_unit; awaits = h.next; earlier = awaits_earlier s.base build n m h.unit consistent h.is_unit h.next }
     here (next.Settle end) h = record {
       build = build;
       active = active;

@@ -33,6 +33,14 @@ builds_waits s lane tag e = by (waiting s lane) refl e
     by None is e = absurd (cc)
     by (Some command) is e = subst IsSome (sym is) refl
 
+-- and so does a lane that is to act
+pub acts_waits : (s : State) (lane : ℕ) → next_of s lane ≡ nexts.Act → IsSome (waiting s lane)
+acts_waits s lane e = by (waiting s lane) refl e
+  where
+    by : (found : Option Command) → waiting s lane ≡ found → next_by found (next_tag s lane) ≡ nexts.Act → IsSome (waiting s lane)
+    by None is e = absurd (cc)
+    by (Some command) is e = subst IsSome (sym is) refl
+
 -- an end without a run is that of no object and of no script
 abbrev IsEarly : UnitEnd → Type 0
 IsEarly (ends.Kept id) = ⊥
@@ -98,12 +106,8 @@ awaited_is : (build : Build) (paths : List (List ℕ)) (m : ℕ) → first_await
 awaited_is build [] m e = absurd (cc)
 awaited_is build (path ∷ paths) m e = awaited_or build path paths m (unit_with build path) refl (awaited_is build paths m) e
 
--- where the units before it have their outcomes, a unit waits for none
-pub waits_for_none : (b : Base) (build : Build) (n m : ℕ) (unit : Unit) → IsConsistent b build → unit_at build n ≡ Some unit → ((k : ℕ) → k < n → is_outcome (came_to build k) ≡ true) → Awaits build unit m → ⊥
-waits_for_none b build n m unit consistent is earlier awaits =
-    let r = awaited_is build unit.prerequisites m awaits.first in
-    let over : is_outcome (came_to build m) ≡ true = earlier m (consistent.in_order.earlier n m unit r.0 is r.1 r.2) in
-    true_and_false (is_outcome (came_to build m)) over awaits.waits
-  where
-    true_and_false : (b : Bool) → b ≡ true → b ≡ false → ⊥
-    true_and_false b t f = cc
+-- and stands before the unit that waits
+pub awaits_earlier : (b : Base) (build : Build) (n m : ℕ) (unit : Unit) → IsConsistent b build → unit_at build n ≡ Some unit → Awaits build unit m → m < n
+awaits_earlier b build n m unit consistent is awaits =
+    let made = awaited_is build unit.prerequisites m awaits.first in
+    consistent.in_order.earlier n m unit made.0 is made.1 made.2

@@ -7,19 +7,19 @@ use Rattle.cc_names.specs.declared.replies.Reply.{Reply}
 use Rattle.cc_names.specs.declared.steps.Step.{Step}
 use Rattle.cc_names.specs.declared.steps.Told.{Told}
 use Rattle.cc_names.specs.declared.steps.Told.TheVariants as told
-use Rattle.build_core.specs.Slots.{held_in}
 use Rattle.legal_history.specs.Builds.Active.{Build, Came, build_of, came_to, is_outcome}
 use Rattle.legal_history.specs.Stories.States.{State, start}
 use Rattle.legal_history.specs.Stories.Steps.{state_of, with_came}
 use Rattle.base_core.specs.BuildCalls.{Notes, Noted}
 use Rattle.base_core.specs.Going.{StillBuilds}
 use Rattle.base_core.specs.Kept.{IsKept}
+use Rattle.base_core.specs.Lanes.{LaneKept, build_at, put_build}
 use Rattle.base_core.specs.Logs.{Logged, with_step}
 use Rattle.base_core.specs.Replying.{replies_after, replies_by, replies_of}
 use Rattle.base_core.specs.Telling.{stands_alone}
 use Rattle.base_core.proofs.Growing.{state_from-more}
 use Rattle.base_core.proofs.Idle.{some_same}
-use Rattle.base_core.proofs.Lanes.{one_or_two}
+use Rattle.base_core.proofs.LaneCounts.{one_or_two}
 use Rattle.base_core.proofs.LaneSlots.{lane_slot, found_put, found_else}
 use Rattle.base_core.proofs.Noting.{kept_note}
 
@@ -32,12 +32,13 @@ true_or_false : (b : Bool) → b ≡ true → b ≡ false → ⊥
 true_or_false b t f = cc
 
 -- what is kept then
-pub kept_noted : (log : Logged) (lanes : List (List Reply)) (builds more : List (Option Build)) (now : ℕ) (story : List Told) (lane n : ℕ) (step : Step) (came : Came) → log.story ≡ story → IsKept log lanes builds now → Notes (state_of story) lane n step came → ((build : Build) → held_in builds (lane - 1) ≡ Some build → more ≡ set builds (lane - 1) (Some (with_came build (Some n) came))) → IsKept (with_step log step) lanes more now
-kept_noted log lanes builds more now story lane n step came same h notes set_so =
+pub kept_noted : (log : Logged) (lanes more : List LaneKept) (now : ℕ) (story : List Told) (lane n : ℕ) (step : Step) (came : Came) → log.story ≡ story → IsKept log lanes now → Notes (state_of story) lane n step came
+    → ((build : Build) → build_at lanes lane ≡ Some build → more ≡ put_build lanes lane (Some (with_came build (Some n) came))) → IsKept (with_step log step) more now
+kept_noted log lanes more now story lane n step came same h notes set_so =
     let here : Notes (state_of log.story) lane n step came = subst (λ t. Notes (state_of t) lane n step came) (sym same) notes in
-    let slot = lane_slot log lanes builds now lane here.build h here.active in
-    subst (λ bs. IsKept (with_step log step) lanes bs now) (sym (set_so here.build slot.held))
-    (kept_note log lanes builds now step lane n here.build came h slot.from (omega (arith, slot.upto, h.count)) here.active here.lawful here.leaves
+    let slot = lane_slot log lanes now lane here.build h here.active in
+    subst (λ ls. IsKept (with_step log step) ls now) (sym (set_so here.build slot.held))
+    (kept_note log lanes now step lane n here.build came h slot.from slot.upto here.active here.lawful here.leaves
     (λ l. replies_alone (state_of log.story) step (replies_of log.story) l here.alone ∙ ap (λ more. replies_of log.story l ++ more) (here.silent l) ∙ append-nil (replies_of log.story l)) here.sound)
 
 -- a unit's outcomes after it was noted

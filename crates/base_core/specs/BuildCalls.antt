@@ -11,6 +11,7 @@ use Rattle.cc_names.specs.declared.steps.UnitEnd.{UnitEnd}
 use Rattle.cc_names.specs.declared.steps.Told.{Told}
 use Rattle.cc_names.specs.declared.steps.Told.TheVariants as told
 use Rattle.cc_names.specs.declared.units.Unit.{Unit}
+use Rattle.build_core.specs.UnitSteps.{Awaits}
 use Rattle.build_core.specs.declared.steps.UnitStep.{UnitStep}
 use Rattle.build_core.specs.declared.steps.UnitStep.TheVariants as next
 use Rattle.build_script.specs.Lines.{script_of}
@@ -29,10 +30,8 @@ use Rattle.base_core.specs.Going.{GoesOn, HasOutcome, Finishes}
 use Rattle.base_core.specs.Faults.{is_fault}
 use Rattle.base_core.specs.Replying.{replies_by}
 use Rattle.base_core.specs.Telling.{stands_alone}
-use Rattle.base_core.specs.declared.tried.Carried.{Carried}
-use Rattle.base_core.specs.declared.tried.Carried.TheVariants as carries
-use Rattle.base_core.specs.declared.tried.Tried.{Tried}
-use Rattle.base_core.specs.declared.tried.Tried.TheVariants as tries
+use Rattle.base_core.specs.declared.turns.UnitTurn.{UnitTurn}
+use Rattle.base_core.specs.declared.turns.UnitTurn.TheVariants as turns
 
 -- a lane builds so many units
 pub record IsBuilding (s : State) (lane count : ℕ) : Type 0 where
@@ -50,6 +49,7 @@ Begins old new lane begins.Refused = Finishes old new lane
 pub record IsTurn (s : State) (lane n : ℕ) : Type 0 where
   pub build : Build
   pub active : build_of s.active lane ≡ Some build
+  pub few : length build.units < 2 ^ 32
   pub within : n < length build.units
   pub earlier : (m : ℕ) → m < n → is_outcome (came_to build m) ≡ true
 
@@ -100,10 +100,19 @@ pub record HasScript (s : State) (lane n : ℕ) (script : List Line) (targets : 
   pub script_is : script_of (script_text unit.script) ≡ Ok script
   pub targets_are : targets ≡ unit.targets
 
--- what comes next for unit n of a lane's build whose turn it is
+-- unit n of a lane's build waits for this earlier unit, which makes one of its prerequisites and has no outcome
+pub record WaitsFor (s : State) (lane n m : ℕ) : Type 0 where
+  pub build : Build
+  pub active : build_of s.active lane ≡ Some build
+  pub unit : Unit
+  pub is_unit : unit_at build n ≡ Some unit
+  pub awaits : Awaits build unit m
+  pub earlier : m < n
+
+-- what comes next for unit n of a lane's build
 abbrev pub StepsTo : State → ℕ → ℕ → UnitStep → Type 0
 StepsTo s lane n next.Settled = HasOutcome s lane n
-StepsTo s lane n (next.NotReady m) = ⊥
+StepsTo s lane n (next.NotReady m) = WaitsFor s lane n m
 StepsTo s lane n (next.Settle end) = MaySettle s lane n end
 StepsTo s lane n (next.Start script targets) = MayStart s lane n None × HasScript s lane n script targets
 StepsTo s lane n (next.Unreadable fault) = MayStart s lane n (Some fault)
@@ -140,21 +149,20 @@ pub record IsOver (s : State) (lane : ℕ) : Type 0 where
   pub active : build_of s.active lane ≡ Some build
   pub complete : is_complete build ≡ true
 
--- a unit whose turn it is has its outcome, or its script was started
-abbrev pub Tries : List Told → List Told → ℕ → ℕ → Tried → Type 0
-Tries old new lane n tries.Settled = GoesOn old new lane × HasOutcome (state_of new) lane n
-Tries old new lane n (tries.Run script targets) = GoesOn old new lane × IsStarted (state_of new) lane n script targets
-
 -- a unit of a lane's build has its outcome, and the story went on
 abbrev pub Settled : List Told → List Told → ℕ → ℕ → Type 0
 Settled old new lane n = GoesOn old new lane × HasOutcome (state_of new) lane n
 
--- what became of a unit that was carried out: it has its outcome, or the disk failed and its lane's command is finished
-abbrev pub IsCarried : List Told → List Told → ℕ → ℕ → Carried → Type 0
-IsCarried old new lane n carries.Settled = Settled old new lane n
-IsCarried old new lane n carries.Faulted = Finishes old new lane
+-- what became of a unit that was tried: it has its outcome, it waits for another and nothing changed, or its script was started
+abbrev pub Tries : List Told → List Told → ℕ → ℕ → UnitTurn → Type 0
+Tries old new lane n turns.Settled = Settled old new lane n
+Tries old new lane n (turns.NotReady m) = (new ≡ old) × WaitsFor (state_of old) lane n m
+Tries old new lane n (turns.Run script targets) = GoesOn old new lane × IsStarted (state_of new) lane n script targets
+Tries old new lane n turns.Faulted = Finishes old new lane
 
--- what became of the units of a lane's build
-abbrev pub AreAllCarried : List Told → List Told → ℕ → Carried → Type 0
-AreAllCarried old new lane carries.Settled = GoesOn old new lane × IsOver (state_of new) lane
-AreAllCarried old new lane carries.Faulted = Finishes old new lane
+-- what became of a unit that was carried out: it has its outcome, or the disk failed and its lane's command is finished
+abbrev pub IsCarried : List Told → List Told → ℕ → ℕ → UnitTurn → Type 0
+IsCarried old new lane n turns.Settled = Settled old new lane n
+IsCarried old new lane n (turns.NotReady m) = ⊥
+IsCarried old new lane n (turns.Run script targets) = ⊥
+IsCarried old new lane n turns.Faulted = Finishes old new lane

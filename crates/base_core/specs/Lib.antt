@@ -9,6 +9,7 @@ pub mod Founds
 pub mod Going
 pub mod Handed
 pub mod Kept
+pub mod Lanes
 pub mod Leaving
 pub mod Logs
 pub mod Nexts

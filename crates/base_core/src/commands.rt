@@ -2,11 +2,10 @@
 
 ghost use Rattle.std.specs.Prelude.{◌≡◌, ◌<◌, option_and_then, length};
 ghost use Rattle.std.specs.Option.{option_copied};
-ghost use Rattle.base_core.specs.Kept.{last_phase, replies_at};
+ghost use Rattle.base_core.specs.Kept.{last_phase};
 ghost use Rattle.base_core.specs.Nexts.{next_by};
 ghost use Rattle.legal_history.specs.Stories.States.{command_behind, lane_at};
 
-use crate::lane_replies::LaneReplies;
 use cc_names::commands::{Command, Lane, Phase};
 use cc_names::desks::Next;
 use cc_names::rows::Tag;
@@ -39,28 +38,14 @@ pub fn command_at(phase: &Phase, lane: u32, done: usize) -> Option<&Command>
     }
 }
 
-/// How many commands a lane has finished: one for each reply.
-fn done_at(replies: &[LaneReplies], lane: u32) -> usize
-    ensures { result ≡ length (replies_at replies.now lane) }
-{
-    match replies.get((lane as usize).saturating_sub(1)) {
-        Some(replies) => replies.len(),
-        None => 0,
-    }
-}
-
-/// The first command of a lane that is not finished.
-pub fn next_command<'a>(
-    phases: &'a [Phase],
-    replies: &[LaneReplies],
-    lane: u32,
-) -> Option<&'a Command>
-    ensures { option_copied result ≡ option_and_then (command_behind (length (replies_at replies.now lane))) (lane_at (last_phase phases.now) lane) }
+/// The command of a lane behind as many as this, in the phase that began last.
+pub fn next_command(phases: &[Phase], lane: u32, done: usize) -> Option<&Command>
+    ensures { option_copied result ≡ option_and_then (command_behind done) (lane_at (last_phase phases.now) lane) }
 {
     if phases.is_empty() {
         return None;
     }
-    command_at(last_phase(phases), lane, done_at(replies, lane))
+    command_at(last_phase(phases), lane, done)
 }
 
 /// What a lane has to do whose next command this is, with its tag.

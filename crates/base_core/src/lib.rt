@@ -21,12 +21,11 @@
 mod commands;
 mod core_value;
 mod history;
-mod lane_builds;
-mod lane_replies;
+mod lanes;
 pub mod laws;
 mod logs;
 mod opening;
-mod tried;
+mod turns;
 
 pub use core_value::Core;
 pub use history::History;

@@ -241,9 +241,9 @@ line_is stops.BadWords = refl
 line_is stops.ReadFault = refl
 line_is stops.TooLong = refl
 line_is (stops.BadSession error) = refl
-line_is (stops.Damaged row) = refl
-line_is stops.DiskFault = refl
-line_is stops.NoMemory = refl
+line_is (stops.Unopened (opens.Damaged row)) = refl
+line_is (stops.Unopened opens.DiskFault) = refl
+line_is (stops.Unopened opens.NoMemory) = refl
 
 -- where the session is what stops, this is its first error
 IsFirst : Stop → Intake → Type 0
@@ -255,9 +255,9 @@ first_is stops.BadWords intake h e = absurd (cc)
 first_is stops.ReadFault intake h e = absurd (cc)
 first_is stops.TooLong intake h e = absurd (cc)
 first_is (stops.BadSession error) intake h e = h.1
-first_is (stops.Damaged row) intake h e = absurd h
-first_is stops.DiskFault intake h e = absurd h
-first_is stops.NoMemory intake h e = absurd (cc)
+first_is (stops.Unopened (opens.Damaged row)) intake h e = absurd h
+first_is (stops.Unopened opens.DiskFault) intake h e = absurd h
+first_is (stops.Unopened opens.NoMemory) intake h e = absurd (cc)
 
 none_read : (intake : Intake) (error : SessionError) → IfSome intake.text.before (λ bytes. session_of bytes ≡ Err error) → IfSome intake.text.before (λ bytes. is_session bytes ≡ false)
 none_read intake error h = told_so intake.text.before _ (λ bytes. is_session bytes ≡ false) h (λ bytes e. ap is_read e)
@@ -270,9 +270,9 @@ stop_cause stops.BadWords intake faults disk h = (h.0, h.1, untouched disk)
 stop_cause stops.ReadFault intake faults disk h = (h, untouched disk)
 stop_cause stops.TooLong intake faults disk h = (h, untouched disk)
 stop_cause (stops.BadSession error) intake faults disk h = (h.0, none_read intake error h.1, untouched disk)
-stop_cause (stops.Damaged row) intake faults disk h = absurd h
-stop_cause stops.DiskFault intake faults disk h = absurd h
-stop_cause stops.NoMemory intake faults disk h = tt
+stop_cause (stops.Unopened (opens.Damaged row)) intake faults disk h = absurd h
+stop_cause (stops.Unopened opens.DiskFault) intake faults disk h = absurd h
+stop_cause (stops.Unopened opens.NoMemory) intake faults disk h = tt
 
 -- a status that is no stop's is that of a cut
 cut_cause : (status : Status) (intake : Intake) (faults : Change ℕ) (disk : Change Sight) → is_cut status ≡ true → (status ≡ statuses.WriteFault → Rose faults.before faults.after) → HasCause status intake faults disk []
@@ -290,9 +290,9 @@ stop_not_through stops.BadWords = refl
 stop_not_through stops.ReadFault = refl
 stop_not_through stops.TooLong = refl
 stop_not_through (stops.BadSession error) = refl
-stop_not_through (stops.Damaged row) = refl
-stop_not_through stops.DiskFault = refl
-stop_not_through stops.NoMemory = refl
+stop_not_through (stops.Unopened (opens.Damaged row)) = refl
+stop_not_through (stops.Unopened opens.DiskFault) = refl
+stop_not_through (stops.Unopened opens.NoMemory) = refl
 
 not_through : (stop : Stop) (status : Status) (is : Bool) → is_cut status ≡ is → (is_cut status ≡ false → status ≡ stop_status stop) → is_through status [] ≡ false
 not_through stop status true e h = cut_not_through status e

@@ -32,13 +32,13 @@ pub record GivesPhases (intake : Intake) (phases : List Phase) : Type 0 where
 
 -- what a source that was not read stops
 abbrev pub unread_stop : Or Unread → Stop
-unread_stop ors.NoMemory = stops.NoMemory
+unread_stop ors.NoMemory = stops.Unopened opens.NoMemory
 unread_stop (ors.Is Fault) = stops.ReadFault
 unread_stop (ors.Is unreads.TooLong) = stops.TooLong
 
 -- what a text that is no session stops
 abbrev pub unsaid_stop : Or SessionError → Stop
-unsaid_stop ors.NoMemory = stops.NoMemory
+unsaid_stop ors.NoMemory = stops.Unopened opens.NoMemory
 unsaid_stop (ors.Is error) = stops.BadSession error
 
 -- the cause of a stop before the disk is opened
@@ -46,17 +46,17 @@ abbrev pub HasStop : Stop → Intake → Type 0
 HasStop stops.BadWords intake = (is_run intake.words ≡ false) × IsUnread intake
 HasStop stops.ReadFault intake = SourceFailed intake
 HasStop stops.TooLong intake = GaveTooMuch intake
-HasStop (stops.Damaged row) intake = ⊥
-HasStop stops.DiskFault intake = ⊥
+HasStop (stops.Unopened (opens.Damaged row)) intake = ⊥
+HasStop (stops.Unopened opens.DiskFault) intake = ⊥
 HasStop (stops.BadSession error) intake = IsRead intake × IfSome intake.text.before (λ bytes. session_of bytes ≡ Err error)
-HasStop stops.NoMemory intake = Unit {0}
+HasStop (stops.Unopened opens.NoMemory) intake = Unit {0}
 
 -- the stop of a base that could not be opened: where the disk's faults rose, the disk failed
 abbrev pub open_stop : OpenCause → Bool → Stop
-open_stop opens.NoMemory rose = stops.NoMemory
-open_stop (opens.Damaged row) true = stops.DiskFault
-open_stop (opens.Damaged row) false = stops.Damaged row
-open_stop opens.DiskFault rose = stops.DiskFault
+open_stop opens.NoMemory rose = stops.Unopened opens.NoMemory
+open_stop (opens.Damaged row) true = stops.Unopened opens.DiskFault
+open_stop (opens.Damaged row) false = stops.Unopened (opens.Damaged row)
+open_stop opens.DiskFault rose = stops.Unopened opens.DiskFault
 
 -- the status of a stop
 abbrev pub stop_status : Stop → Status
@@ -64,9 +64,9 @@ stop_status stops.BadWords = statuses.BadWords
 stop_status stops.ReadFault = statuses.ReadFault
 stop_status stops.TooLong = statuses.TooLong
 stop_status (stops.BadSession error) = statuses.BadSession
-stop_status (stops.Damaged row) = statuses.Damaged row
-stop_status stops.DiskFault = statuses.DiskFault
-stop_status stops.NoMemory = statuses.NoMemory
+stop_status (stops.Unopened (opens.Damaged row)) = statuses.Damaged row
+stop_status (stops.Unopened opens.DiskFault) = statuses.DiskFault
+stop_status (stops.Unopened opens.NoMemory) = statuses.NoMemory
 
 -- the line of a stop
 abbrev pub stop_line : Stop → List ℕ
@@ -74,9 +74,9 @@ stop_line stops.BadWords = codes "bad words\n"
 stop_line stops.ReadFault = codes "read fault\n"
 stop_line stops.TooLong = codes "too long\n"
 stop_line (stops.BadSession error) = codes "bad session " ++ error_words error ++ 10 ∷ []
-stop_line (stops.Damaged row) = codes "damaged " ++ decimal row ++ 10 ∷ []
-stop_line stops.DiskFault = codes "disk fault\n"
-stop_line stops.NoMemory = []
+stop_line (stops.Unopened (opens.Damaged row)) = codes "damaged " ++ decimal row ++ 10 ∷ []
+stop_line (stops.Unopened opens.DiskFault) = codes "disk fault\n"
+stop_line (stops.Unopened opens.NoMemory) = []
 
 -- the line of a stop was written, unless the sink failed, which then took a front of it, or memory ran out, when nothing was
 pub record WritesStop (stop : Stop) (status : Status) (old new : Option (List ℕ)) (faults : Change ℕ) : Type 0 where

@@ -1,6 +1,7 @@
 // The line that is written where no base is opened.
 
 ghost use Rattle.std.specs.Prelude.{◌≡◌, ◌++◌, IfOk, OnOk};
+ghost use Rattle.base_core.specs.declared.opening.OpenCause.TheVariants as opens;
 ghost use Rattle.session_run.specs.declared.sessions.Stop.TheVariants as stops;
 ghost use Rattle.session_run.specs.Causes.{sink_faults};
 ghost use Rattle.session_run.specs.Statuses.{cause_word, error_words};
@@ -8,6 +9,7 @@ ghost use Rattle.session_run.specs.Stops.{stop_status, stop_line, WritesStop};
 
 use crate::sessions::Stop;
 use crate::statuses::Status;
+use base_core::OpenCause;
 use cc_names::memory::NoMemory;
 use cc_names::numbers::push_number;
 use cc_names::refusals::{SessionCause, SessionError};
@@ -39,9 +41,9 @@ fn status_of(stop: Stop) -> Status
         Stop::ReadFault => Status::ReadFault,
         Stop::TooLong => Status::TooLong,
         Stop::BadSession(_) => Status::BadSession,
-        Stop::Damaged(row) => Status::Damaged(row),
-        Stop::DiskFault => Status::DiskFault,
-        Stop::NoMemory => Status::NoMemory,
+        Stop::Unopened(OpenCause::Damaged(row)) => Status::Damaged(row),
+        Stop::Unopened(OpenCause::DiskFault) => Status::DiskFault,
+        Stop::Unopened(OpenCause::NoMemory) => Status::NoMemory,
     }
 }
 
@@ -64,7 +66,7 @@ fn error_line(alloc: Global, error: SessionError) -> Result<Text, NoMemory>
 }
 
 fn damaged_line(alloc: Global, row: u64) -> Result<Text, NoMemory>
-    ensures { IfOk result (λ line. line ≡ stop_line (stops.Damaged row)) }
+    ensures { IfOk result (λ line. line ≡ stop_line (stops.Unopened (opens.Damaged row))) }
 {
     let mut text = Vec::from_slice(alloc, b"damaged ")?;
     push_number(alloc, &mut text, row)?;
@@ -80,9 +82,9 @@ fn line_of(alloc: Global, stop: Stop) -> Result<Text, NoMemory>
         Stop::ReadFault => Text::from_bytes(alloc, b"read fault\n"),
         Stop::TooLong => Text::from_bytes(alloc, b"too long\n"),
         Stop::BadSession(error) => error_line(alloc, error),
-        Stop::Damaged(row) => damaged_line(alloc, row),
-        Stop::DiskFault => Text::from_bytes(alloc, b"disk fault\n"),
-        Stop::NoMemory => Text::from_bytes(alloc, b""),
+        Stop::Unopened(OpenCause::Damaged(row)) => damaged_line(alloc, row),
+        Stop::Unopened(OpenCause::DiskFault) => Text::from_bytes(alloc, b"disk fault\n"),
+        Stop::Unopened(OpenCause::NoMemory) => Text::from_bytes(alloc, b""),
     }
 }
 

@@ -64,9 +64,8 @@ fn stop_of(cause: OpenCause, rose: bool) -> Stop
     ensures { result ≡ open_stop cause rose }
 {
     match cause {
-        OpenCause::NoMemory => Stop::NoMemory,
-        OpenCause::Damaged(row) if !rose => Stop::Damaged(row),
-        _ => Stop::DiskFault,
+        OpenCause::Damaged(_) if rose => Stop::Unopened(OpenCause::DiskFault),
+        cause => Stop::Unopened(cause),
     }
 }
 

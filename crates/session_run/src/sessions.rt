@@ -5,6 +5,7 @@ ghost use Rattle.session_run.specs.Causes.{intake_of, TakesNoMore};
 ghost use Rattle.session_run.specs.Stops.{GivesPhases, HasStop, unread_stop, unsaid_stop};
 
 use crate::words::is_run;
+use base_core::OpenCause;
 use cc_names::commands::{Phase, Session};
 use cc_names::memory::Or;
 use cc_names::refusals::SessionError;
@@ -23,9 +24,8 @@ pub(crate) enum Stop {
     ReadFault,
     TooLong,
     BadSession(SessionError),
-    Damaged(u64),
-    DiskFault,
-    NoMemory,
+    /// The base cannot be opened, or memory ran out before.
+    Unopened(OpenCause),
 }
 
 fn stop_unread(unread: Or<Unread>) -> Stop
@@ -34,7 +34,7 @@ fn stop_unread(unread: Or<Unread>) -> Stop
     match unread {
         Or::Is(Unread::Fault) => Stop::ReadFault,
         Or::Is(Unread::TooLong) => Stop::TooLong,
-        Or::NoMemory => Stop::NoMemory,
+        Or::NoMemory => Stop::Unopened(OpenCause::NoMemory),
     }
 }
 
@@ -43,7 +43,7 @@ fn stop_unsaid(error: Or<SessionError>) -> Stop
 {
     match error {
         Or::Is(error) => Stop::BadSession(error),
-        Or::NoMemory => Stop::NoMemory,
+        Or::NoMemory => Stop::Unopened(OpenCause::NoMemory),
     }
 }
 

@@ -1,20 +1,23 @@
 -- a build begins, goes on, or its command is refused
 use Rattle.std.proofs.Common.{length, ap, sym, subst, arith}
 use Rattle.base_core.specs.Going.{Finishes}
-use Rattle.base_core.proofs.FoundBuilds.{found}
 use Rattle.base_core.proofs.Goings.{goes_nowhere}
 use Rattle.base_core.proofs.OpenSteps.{refused_finishes}
 use Rattle.base_core.proofs.core_value.Core.begin.Goals as goal
 
 pub overflow_cast-result : goal.overflow_cast-result
-overflow_cast-result g c = let h = found c.self.inside.log c.self.inside.replies.items c.self.inside.builds.items c.as_slice.result.now c.self.inside.moment c.args.self.now.story c.args.lane c.in-Some.build.now (ap (λ v. v.story) c.self.view_is) c.self.invariant c.as_slice.ensures.value c.in-Some.ensures in omega (arith, h.kept.formed.few, ap length c.units.ensures)
+overflow_cast-result g c = omega (arith, (c.find_build.ensures.kept c.in-Some.build.now (sym c.in-Some.ensures.active)).formed.few, ap length c.units.ensures)
 
 pub returns-in-Some-clause-ok : goal.returns-in-Some-clause-ok
-returns-in-Some-clause-ok g c =
-    let h = found c.self.inside.log c.self.inside.replies.items c.self.inside.builds.items c.as_slice.result.now c.self.inside.moment c.args.self.now.story c.args.lane c.in-Some.build.now (ap (λ v. v.story) c.self.view_is) c.self.invariant c.as_slice.ensures.value c.in-Some.ensures in (
-      goes_nowhere c.args.self.now.story c.args.lane,
-      record { build = c.in-Some.build.now; active = h.active; of_units = ap length (sym c.units.ensures); few = omega (arith, h.kept.formed.few, ap length c.units.ensures) },
-    )
+returns-in-Some-clause-ok g c = (
+  goes_nowhere c.args.self.now.story c.args.lane,
+  record {
+    build = c.in-Some.build.now;
+    active = sym c.in-Some.ensures.active;
+    of_units = ap length (sym c.units.ensures);
+    few = omega (arith, (c.find_build.ensures.kept c.in-Some.build.now (sym c.in-Some.ensures.active)).formed.few, ap length c.units.ensures);
+  },
+)
 
 pub returns-in_ok-refuse-in-Err-Is-clause-ok : goal.returns-in_ok-refuse-in-Err-Is-clause-ok
 returns-in_ok-refuse-in-Err-Is-clause-ok g c =

@@ -6,5 +6,5 @@ use Rattle.base_core.proofs.core_value.Core.finish.Goals as goal
 
 pub invariant_of-self : goal.invariant_of-self
 invariant_of-self g c =
-    subst (λ log. IsKept log c.self.inside.replies.items c.self.inside.builds.items c.self.inside.moment) (sym c.settle.ensures.same)
-    (kept_sight c.self.inside.log c.self.inside.replies.items c.self.inside.builds.items c.self.inside.moment c.settle.new.self.sight c.self.invariant)
+    subst (λ log. IsKept log c.self.inside.lanes c.self.inside.moment) (sym c.settle.ensures.same)
+    (kept_sight c.self.inside.log c.self.inside.lanes c.self.inside.moment c.settle.new.self.sight c.self.invariant)

@@ -6,31 +6,28 @@ use Rattle.legal_history.specs.Builds.Choices.{publish_of}
 use Rattle.legal_history.specs.Builds.Consistency.{IsConsistent}
 use Rattle.legal_history.specs.Stories.Steps.{state_of}
 use Rattle.base_core.specs.BuildCalls.{IsObjectRow}
-use Rattle.base_core.proofs.FoundBuilds.{if_ok, found, base_of_rows}
+use Rattle.base_core.proofs.FoundBuilds.{if_ok}
 use Rattle.base_core.proofs.Idle.{some_same}
 use Rattle.base_core.proofs.core_value.Core.object_row.Goals as goal
 
 pub publish_row-requires-clause-formed : goal.publish_row-requires-clause-formed
 publish_row-requires-clause-formed g c =
-    let h = found c.self.inside.log c.self.inside.replies.items c.self.inside.builds.items c.as_slice.result.now c.self.inside.moment c.args.self.now.story c.args.lane c.in-Some.build.now (ap (λ v. v.story) c.self.view_is) c.self.invariant c.as_slice.ensures.value c.in-Some.ensures in
-    let base = base_of_rows c.self.inside.log c.self.inside.replies.items c.self.inside.builds.items c.self.inside.moment c.args.self.now.story c.rows.result (ap (λ v. v.story) c.self.view_is) c.self.invariant c.rows.ensures in
-    λ it is. c.a_unit_may_publish.ensures c.rows.result c.in-Some.build.now c.args.unit it h.kept.formed.named h.kept.formed.units
-    (subst (λ b. IsConsistent b c.in-Some.build.now) base (c.a_build_is_consistent.ensures c.args.self.now.story c.args.lane c.in-Some.build.now h.legal h.active)) is
+    λ it is. c.a_unit_may_publish.ensures c.rows.result c.build_at.result.now c.args.unit it c.build_at.ensures.kept.formed.named c.build_at.ensures.kept.formed.units
+    (subst (λ b. IsConsistent b c.build_at.result.now) (sym c.rows.ensures) (c.a_build_is_consistent.ensures c.args.self.now.story c.args.lane c.build_at.result.now c.build_at.ensures.legal c.build_at.ensures.active)) is
 
 pub returns : goal.returns
 returns g c =
-    let h = found c.self.inside.log c.self.inside.replies.items c.self.inside.builds.items c.as_slice.result.now c.self.inside.moment c.args.self.now.story c.args.lane c.in-Some.build.now (ap (λ v. v.story) c.self.view_is) c.self.invariant c.as_slice.ensures.value c.in-Some.ensures in
-    let is : c.requires.build ≡ c.in-Some.build.now = some_same c.requires.build c.in-Some.build.now (sym c.requires.active ∙ h.active) in
-    let is_unit : unit_at c.in-Some.build.now c.args.unit ≡ Some c.requires.unit = ap (λ b. unit_at b c.args.unit) (sym is) ∙ c.requires.is_unit in
-    if_ok c.publish_row.result (IsPublishOf c.rows.result c.in-Some.build.now c.args.unit c.requires.unit c.self.inside.moment) (IsObjectRow (state_of c.args.self.now.story) c.args.lane c.args.unit)
+    let is : c.requires.build ≡ c.build_at.result.now = some_same c.requires.build c.build_at.result.now (sym c.requires.active ∙ c.build_at.ensures.active) in
+    let is_unit : unit_at c.build_at.result.now c.args.unit ≡ Some c.requires.unit = ap (λ b. unit_at b c.args.unit) (sym is) ∙ c.requires.is_unit in
+    if_ok c.publish_row.result (IsPublishOf c.rows.result c.build_at.result.now c.args.unit c.requires.unit c.self.inside.moment) (IsObjectRow (state_of c.args.self.now.story) c.args.lane c.args.unit)
     (λ row p. record {
-      build = c.in-Some.build.now;
-      active = h.active;
+      build = c.build_at.result.now;
+      active = c.build_at.ensures.active;
       unit = c.requires.unit;
       is_unit = is_unit;
       started = ap (λ b. came_to b c.args.unit) (sym is) ∙ c.requires.started;
-      of_tag = p.tag ∙ h.kept.tag;
-      at_moment = p.made ∙ sym (ap (λ v. (state_of v.story).moment) (sym c.self.view_is) ∙ c.self.invariant.agrees.moment);
-      made = ap (λ b. publish_of b c.in-Some.build.now c.args.unit c.requires.unit) (base_of_rows c.self.inside.log c.self.inside.replies.items c.self.inside.builds.items c.self.inside.moment c.args.self.now.story c.rows.result (ap (λ v. v.story) c.self.view_is) c.self.invariant c.rows.ensures) ∙ p.deed;
+      of_tag = p.tag ∙ c.build_at.ensures.kept.tag;
+      at_moment = p.made ∙ sym (ap (λ v. (state_of v.story).moment) (sym c.self.view_is) ∙ c.self.invariant.phase.moment);
+      made = ap (λ b. publish_of b c.build_at.result.now c.args.unit c.requires.unit) (sym c.rows.ensures) ∙ p.deed;
     })
     (c.publish_row.ensures.row c.requires.unit is_unit)

@@ -5,10 +5,7 @@ use Rattle.base_core.proofs.Freshly.{kept_opened, opens_so}
 use Rattle.base_core.proofs.core_value.Core.open.Goals as goal
 
 pub invariant_of-result : goal.invariant_of-result
-invariant_of-result g c =
-    subst (λ builds. IsKept c.in-Ok.log c.new.result.items builds 0) (sym c.new-in-Ok.ensures.items)
-    (subst (λ replies. IsKept c.in-Ok.log replies [] 0) (sym c.new.ensures.items)
-    (kept_opened (g.D.Disk.sight c.args.disk) c.in-Ok.log c.in-Ok.ensures.ok))
+invariant_of-result g c = subst (λ lanes. IsKept c.in-Ok.log lanes 0) (sym c.none.ensures) (kept_opened (g.D.Disk.sight c.args.disk) c.in-Ok.log c.in-Ok.ensures.ok)
 
 pub returns-in-Ok-clause-ok : goal.returns-in-Ok-clause-ok
 returns-in-Ok-clause-ok g c = opens_so (g.D.Disk.sight c.args.disk) c.in-Ok.log c.in-Ok.ensures.ok

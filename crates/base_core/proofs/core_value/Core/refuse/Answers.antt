@@ -2,13 +2,22 @@
 use Rattle.std.proofs.Common.{ap, sym, subst, ◌∙◌}
 use Rattle.cc_names.specs.declared.replies.Reply.TheVariants as replies
 use Rattle.cc_names.specs.declared.steps.Step.TheVariants as steps
-use Rattle.base_core.specs.Kept.{IsKept, with_reply}
+use Rattle.base_core.specs.Kept.{IsKept}
+use Rattle.base_core.specs.Lanes.{with_reply}
 use Rattle.base_core.specs.Logs.{with_step}
-use Rattle.base_core.proofs.Finishing.{done_well, kept_next_refusal}
+use Rattle.base_core.proofs.Counts.{log_stays}
+use Rattle.base_core.proofs.Finishing.{kept_next_refusal}
+use Rattle.base_core.proofs.Rooms.{refusal_has_room}
 use Rattle.base_core.proofs.core_value.Core.refuse.Goals as goal
 
-pub invariant_of-self-else-is_err : goal.invariant_of-self-else-is_err
-invariant_of-self-else-is_err g c =
-    subst (λ log. IsKept log c.add_reply.new.lanes.items c.self.inside.builds.items c.self.inside.moment) (sym (done_well c.tell.result (sym c.is_err.ensures.value ∙ c.if-is_err.false) c.tell.ensures.ok))
-    (subst (λ lanes. IsKept (with_step c.self.inside.log (steps.Refused c.args.tag c.args.refusal)) lanes c.self.inside.builds.items c.self.inside.moment) (sym (c.in_ok-add_reply.ensures.ok ∙ ap (λ told. with_reply c.self.inside.replies.items c.args.tag.lane (replies.Refused told)) c.in_ok-told.ensures))
-    (kept_next_refusal c.self.inside.log c.self.inside.replies.items c.self.inside.builds.items c.self.inside.moment c.args.self.now.story c.args.tag c.args.refusal (ap (λ v. v.story) c.self.view_is) c.self.invariant c.requires))
+pub reply-requires-clause-room : goal.reply-requires-clause-room
+reply-requires-clause-room g c = (refusal_has_room c.self.inside.log c.self.inside.lanes c.self.inside.moment c.args.self.now.story c.args.tag c.args.refusal (ap (λ v. v.story) c.self.view_is) c.self.invariant c.requires).room
+
+pub returns-in_err-tell-clause-counted : goal.returns-in_err-tell-clause-counted
+returns-in_err-tell-clause-counted g c = log_stays c.self.inside.log c.tell.new.self c.args.self.now c.self.view_is c.in_err-tell.ensures.err
+
+pub invariant_of-self-2 : goal.invariant_of-self-2
+invariant_of-self-2 g c =
+    subst (λ log. IsKept log c.reply.new.self c.self.inside.moment) (sym c.in_ok-tell.ensures.ok)
+    (subst (λ lanes. IsKept (with_step c.self.inside.log (steps.Refused c.args.tag c.args.refusal)) lanes c.self.inside.moment) (sym (c.reply.ensures ∙ ap (λ told. with_reply c.self.inside.lanes c.args.tag.lane (replies.Refused told)) c.in_ok-told.ensures))
+    (kept_next_refusal c.self.inside.log c.self.inside.lanes c.self.inside.moment c.args.self.now.story c.args.tag c.args.refusal (ap (λ v. v.story) c.self.view_is) c.self.invariant c.requires))

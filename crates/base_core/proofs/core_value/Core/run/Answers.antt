@@ -5,26 +5,25 @@ use Rattle.legal_history.specs.Builds.Active.{came_to, unit_at}
 use Rattle.legal_history.specs.Builds.Choices.{here}
 use Rattle.legal_history.specs.Stories.Steps.{state_of}
 use Rattle.base_core.specs.BuildCalls.{HasRun}
-use Rattle.base_core.proofs.FoundBuilds.{if_ok, found, base_of_rows, view_there}
+use Rattle.base_core.proofs.FoundBuilds.{if_ok, view_there}
 use Rattle.base_core.proofs.Idle.{some_same}
 use Rattle.base_core.proofs.core_value.Core.run.Goals as goal
 
 pub run_unit-requires-clause-view : goal.run_unit-requires-clause-view
-run_unit-requires-clause-view g c = view_there c.args.self.now.story c.args.lane c.in-Some.build.now c.rows.result (found c.self.inside.log c.self.inside.replies.items c.self.inside.builds.items c.as_slice.result.now c.self.inside.moment c.args.self.now.story c.args.lane c.in-Some.build.now (ap (λ v. v.story) c.self.view_is) c.self.invariant c.as_slice.ensures.value c.in-Some.ensures) (base_of_rows c.self.inside.log c.self.inside.replies.items c.self.inside.builds.items c.self.inside.moment c.args.self.now.story c.rows.result (ap (λ v. v.story) c.self.view_is) c.self.invariant c.rows.ensures)
+run_unit-requires-clause-view g c = view_there (state_of c.args.self.now.story) c.args.lane c.build_at.result.now c.rows.result c.build_at.ensures.kept c.rows.ensures
 
 pub returns : goal.returns
 returns g c =
-    let h = found c.self.inside.log c.self.inside.replies.items c.self.inside.builds.items c.as_slice.result.now c.self.inside.moment c.args.self.now.story c.args.lane c.in-Some.build.now (ap (λ v. v.story) c.self.view_is) c.self.invariant c.as_slice.ensures.value c.in-Some.ensures in
-    let is : c.requires.has.build ≡ c.in-Some.build.now = some_same c.requires.has.build c.in-Some.build.now (sym c.requires.has.active ∙ h.active) in
-    let is_unit : unit_at c.in-Some.build.now c.args.unit ≡ Some c.requires.has.unit = ap (λ b. unit_at b c.args.unit) (sym is) ∙ c.requires.has.is_unit in
-    if_ok c.run_unit.result (λ ended. ran_of ended ≡ here c.rows.result c.in-Some.build.now c.args.unit c.requires.has.unit) (λ ended. HasRun (state_of c.args.self.now.story) c.args.lane c.args.unit (ran_of ended))
+    let is : c.requires.has.build ≡ c.build_at.result.now = some_same c.requires.has.build c.build_at.result.now (sym c.requires.has.active ∙ c.build_at.ensures.active) in
+    let is_unit : unit_at c.build_at.result.now c.args.unit ≡ Some c.requires.has.unit = ap (λ b. unit_at b c.args.unit) (sym is) ∙ c.requires.has.is_unit in
+    if_ok c.run_unit.result (λ ended. ran_of ended ≡ here c.rows.result c.build_at.result.now c.args.unit c.requires.has.unit) (λ ended. HasRun (state_of c.args.self.now.story) c.args.lane c.args.unit (ran_of ended))
     (λ ended ran. record {
-      build = c.in-Some.build.now;
-      active = h.active;
+      build = c.build_at.result.now;
+      active = c.build_at.ensures.active;
       unit = c.requires.has.unit;
       is_unit = is_unit;
       started = ap (λ b. came_to b c.args.unit) (sym is) ∙ c.requires.started;
-      kept = h.kept;
-      run = ran ∙ ap (λ b. here b c.in-Some.build.now c.args.unit c.requires.has.unit) (sym (base_of_rows c.self.inside.log c.self.inside.replies.items c.self.inside.builds.items c.self.inside.moment c.args.self.now.story c.rows.result (ap (λ v. v.story) c.self.view_is) c.self.invariant c.rows.ensures));
+      kept = c.build_at.ensures.kept;
+      run = ran ∙ ap (λ b. here b c.build_at.result.now c.args.unit c.requires.has.unit) c.rows.ensures;
     })
     (c.run_unit.ensures c.requires.has.unit is_unit)

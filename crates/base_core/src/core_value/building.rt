@@ -1,0 +1,128 @@
+// How a core carries out a command that builds.
+
+use super::Core;
+use crate::turns::UnitTurn;
+use build_core::{ActiveBuild, plan_build, reply_of};
+use cc_names::desks::Begun;
+use cc_names::memory::{NoMemory, Or};
+use cc_names::refusals::Refusal;
+use cc_names::steps::Step;
+use checkout_desk::view_of;
+use disk_model::Disk;
+use std::alloc::Global;
+
+impl<D: Disk> Core<D> {
+    ghost use Rattle.std.specs.Prelude.{◌≡◌, OnOk, OnErr, IfOk, None, length};
+    ghost use Rattle.cc_names.specs.declared.desks.Begun.TheVariants as begins;
+    ghost use Rattle.cc_names.specs.declared.desks.Next.TheVariants as nexts;
+    ghost use Rattle.legal_history.specs.Builds.Active.{build_of};
+    ghost use Rattle.legal_history.specs.Stories.States.{next_tag};
+    ghost use Rattle.legal_history.specs.Stories.Steps.{state_of};
+    ghost use Rattle.base_core.specs.BuildCalls.{Begins, IsBuilding, IsOver};
+    ghost use Rattle.base_core.specs.Building.{IsNextBuild, PlansNext};
+    ghost use Rattle.base_core.specs.Counted.{KeepsCount};
+    ghost use Rattle.base_core.specs.Going.{GoesOn, Finishes};
+    ghost use Rattle.base_core.specs.Nexts.{next_of};
+
+    /// What is decided of a lane's next command, which builds: the build to begin, or the first refusal.
+    fn plan(&self, alloc: Global, lane: u32) -> Result<ActiveBuild, Or<Refusal>>
+        requires builds { next_of (state_of self.now.story) lane ≡ nexts.Build (next_tag (state_of self.now.story) lane) }
+        requires free { build_of (state_of self.now.story).active lane ≡ None }
+        ensures { PlansNext (state_of self.now.story) (next_tag (state_of self.now.story) lane) result }
+    {
+        let command = self.command(lane);
+        let busy = self.busy(view_of(command));
+        let taken = self.taken();
+        plan_build(alloc, &self.rows(), command, self.tag(lane), busy, taken)
+    }
+
+    /// Begins the build that was decided for the next command of its lane. An `Err` changes nothing.
+    fn open_build(&mut self, build: ActiveBuild) -> Result<(), NoMemory>
+        requires { IsNextBuild (state_of self.old.story) build }
+        ensures ok { OnOk result (Begins self.old.story self.new.story build.tag.lane (begins.Units (length build.units))) }
+        ensures err { OnErr result (self.new ≡ self.old) }
+        ensures counted { KeepsCount self.old self.new }
+    {
+        let tag = build.tag();
+        self.log.tell(Step::Begin {
+            tag,
+            rows: build.rows(),
+            units: build.units().len() as u32,
+        })?;
+        self.lanes.open(tag.lane, build);
+        Ok(())
+    }
+
+    /// Begins the build of a lane's next command, or refuses the command. A build that is active goes on. An `Err` changes
+    /// nothing. Takes time linear in the makefile.
+    fn begin(&mut self, alloc: Global, lane: u32) -> Result<Begun, NoMemory>
+        requires { next_of (state_of self.old.story) lane ≡ nexts.Build (next_tag (state_of self.old.story) lane) }
+        ensures ok { IfOk result (λ begun. Begins self.old.story self.new.story lane begun) }
+        ensures err { OnErr result (self.new ≡ self.old) }
+        ensures counted { KeepsCount self.old self.new }
+    {
+        if let Some(build) = self.find_build(lane) {
+            return Ok(Begun::Units(build.units().len() as u32));
+        }
+        let tag = self.tag(lane);
+        match self.plan(alloc, lane) {
+            Ok(build) => {
+                let count = build.units().len() as u32;
+                self.open_build(build)?;
+                Ok(Begun::Units(count))
+            }
+            Err(Or::Is(refusal)) => {
+                self.refuse(alloc, tag, refusal)?;
+                Ok(Begun::Refused)
+            }
+            Err(Or::NoMemory) => Err(NoMemory),
+        }
+    }
+
+    /// Carries out the units of a lane's build, one after the other, up to the first under which the disk fails, and ends the
+    /// build. After an `Err` the story may have gone on.
+    fn carry_out_all(&mut self, alloc: Global, lane: u32, count: u32) -> Result<(), NoMemory>
+        requires { IsBuilding (state_of self.old.story) lane count }
+        ensures ok { OnOk result (Finishes self.old.story self.new.story lane) }
+        ensures err { OnErr result (GoesOn self.old.story self.new.story lane) }
+        ensures counted { KeepsCount self.old self.new }
+    {
+        for unit in 0..count {
+            if let UnitTurn::Faulted = self.carry_out(alloc, lane, unit)? {
+                return Ok(());
+            }
+        }
+        self.end(alloc, lane)
+    }
+
+    /// Ends a lane's build, whose units all have their outcomes. An `Err` changes nothing.
+    fn end(&mut self, alloc: Global, lane: u32) -> Result<(), NoMemory>
+        requires { IsOver (state_of self.old.story) lane }
+        ensures ok { OnOk result (Finishes self.old.story self.new.story lane) }
+        ensures err { OnErr result (self.new ≡ self.old) }
+        ensures counted { KeepsCount self.old self.new }
+    {
+        let tag = self.tag(lane);
+        let reply = reply_of(alloc, &self.rows(), self.build_at(lane))?;
+        self.log.tell(Step::End { tag })?;
+        self.lanes.close(lane, reply);
+        Ok(())
+    }
+
+    /// Carries out a lane's next command, which builds: it is refused, or its units are carried out one after the other and
+    /// the build ends. After an `Err` the story may have gone on by steps of this build, which is then active. Each commit
+    /// and fault among the steps has the disk's counts as `act` says, of its own turn; beside them no device call is made,
+    /// whatever is answered. Takes time linear in the makefile, in what the scripts read and write, and in the steps since the
+    /// last commit or fault; and for each read in the units before its own.
+    pub fn build(&mut self, alloc: Global, lane: u32) -> Result<(), NoMemory>
+        requires { next_of (state_of self.old.story) lane ≡ nexts.Build (next_tag (state_of self.old.story) lane) }
+        ensures ok { OnOk result (Finishes self.old.story self.new.story lane) }
+        ensures err { OnErr result (GoesOn self.old.story self.new.story lane) }
+        ensures counted { KeepsCount self.old self.new }
+    {
+        match self.begin(alloc, lane)? {
+            Begun::Refused => Ok(()),
+            Begun::Units(count) => self.carry_out_all(alloc, lane, count),
+        }
+    }
+}

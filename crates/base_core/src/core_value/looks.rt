@@ -1,0 +1,107 @@
+// What a core looks at: its rows, and a lane's next command and build.
+
+use super::Core;
+use crate::commands::{next_by, next_command};
+use build_core::ActiveBuild;
+use cc_names::commands::Command;
+use cc_names::desks::Next;
+use cc_names::rows::Tag;
+use disk_model::Disk;
+use view_lookup::FirstRows;
+
+impl<D: Disk> Core<D> {
+    ghost use Rattle.std.specs.Prelude.{◌≡◌, ◌<◌, ◌+◌, ◌^◌, true, Some, IsSome, option_copied};
+    ghost use Rattle.carried_out.specs.CarriedOut.{is_carried_out};
+    ghost use Rattle.session_text.specs.Formed.{IsCommand};
+    ghost use Rattle.legal_history.specs.Base.Rows.{size};
+    ghost use Rattle.cc_names.specs.declared.commands.Command.{Command};
+    ghost use Rattle.legal_history.specs.Builds.Active.{Build, build_of, building, reserved};
+    ghost use Rattle.legal_history.specs.Stories.Lawful.{Legal};
+    ghost use Rattle.legal_history.specs.Stories.States.{next_tag};
+    ghost use Rattle.legal_history.specs.Stories.Steps.{state_of};
+    ghost use Rattle.base_core.specs.Building.{IsBuildKept};
+    ghost use Rattle.base_core.specs.Kept.{command_limit};
+    ghost use Rattle.base_core.specs.Nexts.{next_of, waiting};
+
+    /// The base, all its rows.
+    pub(super) fn rows(&self) -> FirstRows<'_>
+        ensures { result ≡ (state_of self.now.story).base }
+    {
+        self.log.rows()
+    }
+
+    /// How many rows there are, with those that are reserved for the units of active builds.
+    pub(super) fn taken(&self) -> u64
+        ensures sum { result ≡ size (state_of self.now.story).base + reserved (state_of self.now.story).active }
+        ensures small { result < 2 ^ 63 }
+    {
+        self.log.rows().size() + self.lanes.reserved()
+    }
+
+    /// The tag of the command that builds in the view, if one does.
+    pub(super) fn busy(&self, view: &[u8]) -> Option<Tag>
+        ensures { result ≡ building (state_of self.now.story).active view.now }
+    {
+        self.lanes.building(view)
+    }
+
+    /// The tag of a lane's next command.
+    pub(super) fn tag(&self, lane: u32) -> Tag
+        requires { IsSome (waiting (state_of self.now.story) lane) }
+        ensures { result ≡ next_tag (state_of self.now.story) lane }
+    {
+        Tag {
+            phase: self.log.phases().len() as u32,
+            lane,
+            command: self.lanes.finished(lane) as u32 + 1,
+        }
+    }
+
+    /// The first command of a lane that is not finished.
+    fn find_command(&self, lane: u32) -> Option<&Command>
+        ensures next { option_copied result ≡ waiting (state_of self.now.story) lane }
+        ensures formed { (command : Command) → waiting (state_of self.now.story) lane ≡ Some command → IsCommand command_limit command }
+        ensures carried_out { (command : Command) → waiting (state_of self.now.story) lane ≡ Some command → is_carried_out command ≡ true }
+    {
+        next_command(self.log.phases(), lane, self.lanes.finished(lane))
+    }
+
+    /// The next command of a lane that has one.
+    pub(super) fn command(&self, lane: u32) -> &Command
+        requires { IsSome (waiting (state_of self.now.story) lane) }
+        ensures next { waiting (state_of self.now.story) lane ≡ Some result.now }
+        ensures formed { IsCommand command_limit result.now }
+        ensures carried_out { is_carried_out result.now ≡ true }
+    {
+        self.find_command(lane).unwrap()
+    }
+
+    /// What a lane has to do next. Takes the same time whatever was done before.
+    pub fn next(&self, lane: u32) -> Next
+        ensures { result ≡ next_of (state_of self.now.story) lane }
+    {
+        match self.find_command(lane) {
+            None => Next::Done,
+            Some(command) => next_by(command, self.tag(lane)),
+        }
+    }
+
+    /// The active build of a lane.
+    pub(super) fn find_build(&self, lane: u32) -> Option<&ActiveBuild>
+        ensures active { option_copied result ≡ build_of (state_of self.now.story).active lane }
+        ensures kept { (build : Build) → build_of (state_of self.now.story).active lane ≡ Some build
+            → IsBuildKept (state_of self.now.story) lane build }
+    {
+        self.lanes.build(lane)
+    }
+
+    /// The active build of a lane that builds.
+    pub(super) fn build_at(&self, lane: u32) -> &ActiveBuild
+        requires { IsSome (build_of (state_of self.now.story).active lane) }
+        ensures active { build_of (state_of self.now.story).active lane ≡ Some result.now }
+        ensures kept { IsBuildKept (state_of self.now.story) lane result.now }
+        ensures legal { Legal self.now.story }
+    {
+        self.lanes.build_at(lane)
+    }
+}
