@@ -1,25 +1,26 @@
 // The laws of stops and of journals.
 
-ghost use Rattle.std.specs.Prelude.{◌≡◌, ℕ, IfSome, List, Some, true};
+ghost use Rattle.std.specs.Prelude.{◌≡◌, ℕ, IfSome, List, true};
 ghost use Rattle.cc_names.specs.declared.steps.Told.{Told};
 ghost use Rattle.legal_history.specs.Base.Rows.{Base};
 ghost use Rattle.legal_history.specs.Base.Fits.{is_base};
-ghost use Rattle.legal_history.specs.Stories.States.{Opening, hanging};
+ghost use Rattle.legal_history.specs.Stories.States.{hanging};
 ghost use Rattle.legal_history.specs.Stories.Steps.{state_of};
-ghost use Rattle.legal_history.specs.Stories.Lawful.{Legal};
-ghost use Rattle.base_core.specs.Founds.{OpensAgain, SpellsBase};
+ghost use Rattle.base_core.specs.Founds.{FoundBaseIsSound, StopLeavesABase, StopOpensAgain};
 ghost use Rattle.base_core.specs.Opening.{IsDamaged, IsUndamaged};
 ghost use Rattle.base_core.specs.Readable.{AreReadable, IsReadable, TellsOnly};
-ghost use Rattle.base_core.specs.Standing.{MayBeFound, payloads};
+ghost use Rattle.base_core.specs.Standing.{payloads};
 
-use legal_history::laws::stories::a_base_fits;
+use legal_history::laws::stops;
 
-/// Whatever a stop may find of a legal story spells the rows of a base, each of which fits those before it: that of the
-/// commits so far, or that and a row which a command would have committed there.
+/// Promises `StopLeavesABase`: whatever a stop may find of a legal story spells the rows of a base, each of which fits those
+/// before it: that of the commits so far, or that and a row which a command would have committed there. It is sound where the
+/// base was sound as it was opened.
 pub fn a_stop_leaves_a_base()
-    ensures { (story : List Told) (opening : Opening) (k : ℕ) (found : List (List ℕ)) → Legal story → (state_of story).opened ≡ Some opening → MayBeFound opening (state_of story).ends k found → SpellsBase found }
+    ensures { StopLeavesABase }
 {
-    a_base_fits();
+    stops::a_stop_leaves_a_base();
+    stops::a_stop_leaves_a_base_sound();
 }
 
 /// A journal that stands for a base of readable rows is not damaged, and stands for no other such base.
@@ -39,10 +40,17 @@ pub fn a_story_keeps_its_base_readable()
     ensures left { (story : List Told) → TellsOnly IsReadable story → IfSome (hanging (state_of story).ends) IsReadable }
 {}
 
-/// Whatever a stop may find of a legal story that names only readable rows opens again, without damage and to one base: that
-/// of the commits so far, or that and a row which a command would have committed there.
+/// Promises `StopOpensAgain`: whatever a stop may find of a legal story that names only readable rows opens again, without
+/// damage and to one base: that of the commits so far, or that and a row which a command would have committed there. It is
+/// sound where the base was sound as it was opened.
 pub fn a_stop_opens_again()
-    ensures { (story : List Told) (opening : Opening) (k : ℕ) (found : List (List ℕ)) → Legal story → TellsOnly IsReadable story → (state_of story).opened ≡ Some opening → MayBeFound opening (state_of story).ends k found → OpensAgain found }
+    ensures { StopOpensAgain }
 {
-    a_base_fits();
+    stops::a_stop_leaves_a_base();
+    stops::a_stop_leaves_a_base_sound();
 }
+
+/// Promises `FoundBaseIsSound`: what a stop leaves is opened to a sound base, where the base was sound that had been opened.
+pub fn a_found_base_is_sound()
+    ensures { FoundBaseIsSound }
+{}

@@ -24,5 +24,6 @@ is_due_object b moment age id = due_by b moment age id (row_at b id)
 pub record AreDue (s : State) (tag : Tag) (objects : List ℕ) : Type 0 where
   pub age : ℕ
   pub command : next_command s tag ≡ Some (commands.Scrub age)
-  pub exactly : (id : ℕ) → list_any (λ object. object == id) objects ≡ is_due_object s.base s.moment age id
+  pub exactly : (id : ℕ)
+      → list_any (λ object. object == id) objects ≡ is_due_object s.base s.moment age id
   pub ascend : IsStrictlyIncreasing objects
