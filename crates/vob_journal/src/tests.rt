@@ -3,6 +3,7 @@
 ghost use Rattle.std.specs.Prelude.{◌≡◌, true, IfOk, OnOk};
 
 use super::*;
+use cc_names::memory::Or;
 use disk_model::{Call, Counts, Disk, DiskFault, MemoryDisk};
 use std::alloc::Global;
 use std::process::Abort;
@@ -265,4 +266,57 @@ fn a_journal_is_read_in_pieces(rt: HostRuntime) -> Result<(), Fail> {
         assert_eq!(rt; kind_of(&entry.call), *kind);
     }
     Ok(())
+}
+
+/// How many bytes of these are foreign, on a disk that fails at these calls, and whether they are as they were.
+fn tell_foreign(
+    rt: &impl Abort,
+    alloc: Global,
+    bytes: &[u8],
+    fail: &[u64],
+    wanted: Result<u64, Or<DiskFault>>,
+) -> Result<(), Fail> {
+    let mut disk = MemoryDisk::new(alloc, bytes, b"objects", fail)?;
+    let found = foreign_bytes(alloc, &mut disk);
+    assert!(rt;
+        found == wanted && disk.bytes(0) == bytes && disk.bytes(1) == b"objects".as_slice()
+    );
+    Ok(())
+}
+
+#[test]
+fn what_no_frame_can_be_is_foreign(rt: HostRuntime) -> Result<(), Fail> {
+    // a journal, and how many of its bytes are foreign
+    let table: [(&[u8], u64); 12] = [
+        (b"", 0),
+        (b"\x00", 0),
+        // a whole frame, alone and with a shut gate
+        (b"\x01\x02\x00\x00\x00ab", 0),
+        (b"\x01\x02\x00\x00\x00ab\x00", 0),
+        // a length cut short, a payload cut short, and a frame whose gate was not opened
+        (b"\x01\x01\x00\x00\x00a\x00\x02\x00", 0),
+        (b"\x01\x01\x00\x00\x00a\x01\x02\x00\x00\x00b", 0),
+        (b"\x01\x01\x00\x00\x00a\x00\x02\x00\x00\x00bc\x00", 0),
+        // one byte more than that, and a gate byte that is neither
+        (b"\x01\x01\x00\x00\x00a\x00\x02\x00\x00\x00bc\x00\x00", 9),
+        (b"\x02", 1),
+        (b"\x07\x00\x00\x00\x00", 5),
+        // texts
+        (b"hello, world", 12),
+        (b"\x01\x01\x00\x00\x00a\x01\x00\x00\x00\x00hello, world", 12),
+    ];
+    for (bytes, count) in table {
+        tell_foreign(&rt, rt.alloc(), bytes, &[], Ok(count))?;
+    }
+    Ok(())
+}
+
+#[test]
+fn a_fault_is_answered_for_what_is_foreign(rt: HostRuntime) -> Result<(), Fail> {
+    // three calls: the length, the frames, and what stands behind them
+    let bytes = b"\x01\x01\x00\x00\x00ahello, world";
+    for call in [1, 2, 3] {
+        tell_foreign(&rt, rt.alloc(), bytes, &[call], Err(Or::Is(DiskFault)))?;
+    }
+    tell_foreign(&rt, rt.alloc(), bytes, &[4], Ok(12))
 }
