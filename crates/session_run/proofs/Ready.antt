@@ -24,7 +24,7 @@ all_wider P Q [] f h = tt
 all_wider P Q (x ∷ xs) f h = (f x h.0, all_wider P Q xs f h.1)
 
 wider_macro : (l m : ℕ) → l ≤ m → (x : Macro) → IsMacro l x → IsMacro m x
-wider_macro l m le x h = (h.0, h.1, omega (arith, le, h.2), omega (arith, le, h.3))
+wider_macro l m le x h = (h.0, h.1, omega (arith, le, h.2), omega (arith, le, h.3), h.4)
 
 wider_command : (l m : ℕ) → l ≤ m → (command : Command) → IsCommand l command → IsCommand m command
 wider_command l m le (commands.Setcs view text) h = (h.0, omega (arith, le, h.1))

@@ -8,8 +8,8 @@ use Rattle.cc_names.specs.Names.{IsName}
 use Rattle.cc_names.specs.Paths.{IsPath}
 use Rattle.cc_names.specs.declared.commands.Macro.{Macro}
 use Rattle.cc_names.specs.declared.refusals.SessionCause.TheVariants.{BadWord}
-use Rattle.session_text.specs.Clearmake.{is_equals, is_word_byte, with_macro, Asked, nothing_asked, with_goal, with_definition, with_word, with_one, with_jobs, with_file, asked_behind, is_option, with_option, asked_by, build_of, clearmake}
-use Rattle.session_text.specs.Formed.{is_macro_byte, IsMacro, macro_name, IsCommand}
+use Rattle.session_text.specs.Clearmake.{is_equals, with_macro, Asked, nothing_asked, with_goal, with_definition, with_word, with_one, with_jobs, with_file, asked_behind, is_option, with_option, asked_by, build_of, clearmake}
+use Rattle.session_text.specs.Formed.{is_macro_byte, is_word_byte, IsMacro, macro_name, IsCommand}
 use Rattle.session_text.specs.Shapes.{first_name, behind_first}
 use Rattle.session_text.specs.Words.{Said, path_word, jobs_word, both, says}
 use Rattle.session_text.proofs.FormedWords.{both_is, says_is, path_word_is, jobs_word_is, first_name_is}
@@ -24,15 +24,15 @@ pub record IsAsked (limit count : ℕ) (asked : Asked) : Type 0 where
   pub goals : AllByRecursion IsPath asked.goals
   pub few_goals : length asked.goals ≤ count
 
-macro_replaced : (limit : ℕ) (macro : Macro) (macros : List Macro) (name text : List ℕ) (same : Bool) (more : List Macro) → IsMacro limit macro → AllByRecursion (IsMacro limit) macros → AllByRecursion (IsMacro limit) more → length text ≤ limit
+macro_replaced : (limit : ℕ) (macro : Macro) (macros : List Macro) (name text : List ℕ) (same : Bool) (more : List Macro) → IsMacro limit macro → AllByRecursion (IsMacro limit) macros → AllByRecursion (IsMacro limit) more → length text ≤ limit → list_all is_word_byte text ≡ true
     → AllByRecursion (IsMacro limit) (cond same (record { name = macro.name; value = text } ∷ macros) (macro ∷ more))
-macro_replaced limit macro macros name text true more m ms mores t = ((m.0, m.1, m.2, t), ms)
-macro_replaced limit macro macros name text false more m ms mores t = (m, mores)
+macro_replaced limit macro macros name text true more m ms mores t w = ((m.0, m.1, m.2, t, w), ms)
+macro_replaced limit macro macros name text false more m ms mores t w = (m, mores)
 
 macros_with : (limit : ℕ) (macros : List Macro) (name text : List ℕ) → AllByRecursion (IsMacro limit) macros → IsMacro limit (record { name = name; value = text }) → AllByRecursion (IsMacro limit) (with_macro macros name text)
 macros_with limit [] name text ms m = (m, tt)
 macros_with limit (macro ∷ macros) name text ms m =
-    macro_replaced limit macro macros name text (bytes_eq name macro.name) (with_macro macros name text) ms.0 ms.1 (macros_with limit macros name text ms.1 m) m.3
+    macro_replaced limit macro macros name text (bytes_eq name macro.name) (with_macro macros name text) ms.0 ms.1 (macros_with limit macros name text ms.1 m) m.3 m.4
 
 few_with : (macros : List Macro) (name text : List ℕ) → length (with_macro macros name text) ≤ length macros + 1
 few_with [] name text = omega arith
@@ -90,16 +90,16 @@ some_name [] h e = cc
 some_name (b ∷ bs) h e = let l : length (b ∷ bs) ≡ 0 = ap length e in absurd (omega arith)
 
 definition_is : (limit count : ℕ) (asked : Asked) (name text : List ℕ) → IsAsked limit count asked → length name ≤ limit → length text ≤ limit → IfOk (with_definition asked name text) (IsAsked limit (count + 1))
-definition_is limit count asked name text h n t = by (not (length name == 0)) (list_all is_macro_byte name) (list_all is_word_byte text) refl refl
+definition_is limit count asked name text h n t = by (not (length name == 0)) (list_all is_macro_byte name) (list_all is_word_byte text) refl refl refl
   where
-    by : (some letters plain : Bool) → not (length name == 0) ≡ some → list_all is_macro_byte name ≡ letters → IfOk (cond ((some && letters) && plain) (Ok (record asked { macros = with_macro asked.macros name text })) (Err BadWord)) (IsAsked limit (count + 1))
-    by false letters plain s l = tt
-    by true false plain s l = tt
-    by true true false s l = tt
-    by true true true s l = record {
+    by : (some letters plain : Bool) → not (length name == 0) ≡ some → list_all is_macro_byte name ≡ letters → list_all is_word_byte text ≡ plain → IfOk (cond ((some && letters) && plain) (Ok (record asked { macros = with_macro asked.macros name text })) (Err BadWord)) (IsAsked limit (count + 1))
+    by false letters plain s l w = tt
+    by true false plain s l w = tt
+    by true true false s l w = tt
+    by true true true s l w = record {
       file = h.file;
       jobs = h.jobs;
-      macros = macros_with limit asked.macros name text h.macros (some_name name s, l, n, t);
+      macros = macros_with limit asked.macros name text h.macros (some_name name s, l, n, t, w);
       distinct = distinct_with asked.macros name text h.distinct;
       few_macros = omega (arith, h.few_macros, few_with asked.macros name text);
       goals = h.goals;

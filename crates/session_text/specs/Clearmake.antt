@@ -6,17 +6,13 @@ use Rattle.cc_names.specs.declared.commands.Command.{Command}
 use Rattle.cc_names.specs.declared.commands.Command.TheVariants as commands
 use Rattle.cc_names.specs.declared.commands.Macro.{Macro}
 use Rattle.cc_names.specs.declared.refusals.SessionCause.TheVariants.{BadWord}
-use Rattle.session_text.specs.Formed.{is_macro_byte}
+use Rattle.session_text.specs.Formed.{is_macro_byte, is_word_byte}
 use Rattle.session_text.specs.Shapes.{first_name, behind_first}
 use Rattle.session_text.specs.Words.{Said, path_word, jobs_word, both, says}
 
 -- a `=`
 abbrev pub is_equals : ℕ → Bool
 is_equals b = b == 61
-
--- a byte of a word
-abbrev pub is_word_byte : ℕ → Bool
-is_word_byte b = nat_le 33 b && nat_le b 126
 
 -- whether bytes are the name of a macro
 abbrev pub is_macro_name : List ℕ → Bool

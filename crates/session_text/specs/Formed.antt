@@ -22,10 +22,15 @@ abbrev pub is_macro_byte : ℕ → Bool
 is_macro_byte b =
     (nat_le 97 b && nat_le b 122) || (nat_le 65 b && nat_le b 90) || (nat_le 48 b && nat_le b 57) || (b == 95) || (b == 46)
 
--- a macro of a command line
+-- a byte of a word
+abbrev pub is_word_byte : ℕ → Bool
+is_word_byte b = nat_le 33 b && nat_le b 126
+
+-- a macro of a command line, whose text is of a word
 abbrev pub IsMacro : ℕ → Macro → Type 0
 IsMacro limit macro =
     (macro.name ≢ []) × (list_all is_macro_byte macro.name ≡ true) × (length macro.name ≤ limit) × (length macro.value ≤ limit)
+    × (list_all is_word_byte macro.value ≡ true)
 
 -- the name of a macro
 abbrev pub macro_name : Macro → List ℕ
