@@ -1,8 +1,10 @@
 pub mod Exactly
 mod Files
 pub mod FromNothing
+pub mod HandedOn
 pub mod LaneSteps
 pub mod MoreSteps
+pub mod Objects
 pub mod PhaseSteps
 pub mod Promises
 pub mod Ready

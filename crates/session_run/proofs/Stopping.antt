@@ -64,15 +64,15 @@ none_hangs s (told.Other (steps.Fault tag left before faults tick) ∷ story) no
 none_hangs s (told.Other step ∷ story) none sound = none_hangs (after s (told.Other step)) story none sound
 
 -- what a story that begins with this opening came from
-abbrev opening_of : List Plain → Counts → Bool → Opening
+abbrev pub opening_of : List Plain → Counts → Bool → Opening
 opening_of rows counts tells = record { base = reverse rows; counts = counts; tells = tells }
 
 -- of a legal story that begins with an opening
-record IsBegun (story : List Told) (rows : List Plain) (counts : Counts) (tells : Bool) : Type 0 where
-  opened : (state_of story).opened ≡ Some (opening_of rows counts tells)
+pub record IsBegun (story : List Told) (rows : List Plain) (counts : Counts) (tells : Bool) : Type 0 where
+  pub opened : (state_of story).opened ≡ Some (opening_of rows counts tells)
   apart : AreApart counts.faults (rises_of story) (faults_of (state_of story).opened (state_of story).ends)
 
-is_begun : (story : List Told) (rows : List Plain) (counts : Counts) (tells : Bool) → first_step story ≡ Some (told.Opened rows counts tells) → Legal story → IsBegun story rows counts tells
+pub is_begun : (story : List Told) (rows : List Plain) (counts : Counts) (tells : Bool) → first_step story ≡ Some (told.Opened rows counts tells) → Legal story → IsBegun story rows counts tells
 is_begun [] rows counts tells first legal = absurd (cc)
 is_begun (x ∷ story) rows counts tells first legal = subst (λ y. IsBegun (y ∷ story) rows counts tells) (sym same) (begun (subst (λ y. Legal (y ∷ story)) same legal))
   where
@@ -110,7 +110,7 @@ keeps_prefix before now story begins legal accounted mended again = record {
         told_map now.told _ (λ d. (k : ℕ) (image : List ℕ) → before.ticks < k → MayLeave 0 d k image → MayBeFound accounted.opening (state_of story).ends k (frames image)) accounted.stops
         (λ d h k image later. h k image (omega (arith, later, ap (λ c. c.ticks) counts.0, begins.on.ticks)));
     again =
-        told_map now.told _ (λ d. (k : ℕ) (image : List ℕ) → before.ticks < k → MayLeave 0 d k image → OpensAgain (frames image)) accounted.stops
+        told_map now.told _ (λ d. (k : ℕ) (image : List ℕ) → before.ticks < k → MayLeave 0 d k image → OpensAgain accounted.opening.base (frames image)) accounted.stops
         (λ d h k image later may. again accounted.opening k (frames image) accounted.opened (h k image (omega (arith, later, ap (λ c. c.ticks) counts.0, begins.on.ticks)) may));
     sound = λ sound. accounted.settled (none_without story sound);
     mended = mended;

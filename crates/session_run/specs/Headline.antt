@@ -7,8 +7,9 @@
 -- A call of the program is seen as plain values: its words, what the source had left and gave, what the sink holds, what the
 -- clock tells, what the disk tells as it was handed in and as it came back, its status, and the story of the base that it
 -- opened, which is empty where it opened none. Each record is one promise of the sentence, `IsStopped` in `Stopped` the last
--- of them; `HasCause` adds when each status comes, `IsAccountedFor` in `Accounted` which command met which fault. What they say of bytes, moments and stops holds where the source, the sink,
--- the clock and the disk tell them.
+-- of them; `HasCause` adds when each status comes, `IsAccountedFor` in `Accounted` which command met which fault, `Objects` which
+-- objects a scrub takes and that those that views hold are live. What they say of bytes, moments and stops holds where the
+-- source, the sink, the clock and the disk tell them.
 use Rattle.std.specs.Prelude.{◌≡◌, ◌≢◌, ◌⊎◌, ℕ, zero, suc, ◌+◌, ◌<◌, min, true, false, Option, Some, IfSome, Err, List, [], ◌∷◌, ◌++◌, length}
 use Rattle.std.specs.Io.KnownBytes.{Appends}
 use Rattle.cc_names.specs.declared.refusals.SessionError.{SessionError}

@@ -3,8 +3,10 @@ pub mod Asked
 pub mod Begun
 pub mod Causes
 pub mod FromNothing
+pub mod HandedOn
 pub mod Headline
 pub mod Lanes
+pub mod Objects
 pub mod Outcomes
 pub mod Rendered
 pub mod Runs

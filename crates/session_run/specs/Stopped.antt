@@ -38,8 +38,8 @@ IsMended s disk = faults_of s.opened s.ends ≡ disk.faults → disk.faults < 2 
 
 -- Where a base was opened. A stop at a device call of the session, or after the last, finds the base as it was opened with
 -- the row of each commit that ended before that call; besides it may find the row of the commit within whose call it comes,
--- or the row that a fault left, and no more. What it finds opens again without damage, to the base that it stands for. After
--- the last call it finds the rows of all commits and no more where the history has no fault, and where the count of the
+-- or the row that a fault left, and no more. What it finds opens again without damage, to the base that it stands for, which is
+-- sound where the base was sound as it was opened, also where the one row more is an object. After the last call it finds the rows of all commits and no more where the history has no fault, and where the count of the
 -- disk's faults stands as the last fault left it, below its last number. Each fault of the history has a rise of that count
 -- of its own, within those of the call, and each commit and fault ended at a call that the disk has counted.
 pub record KeepsPrefix (before after : Sight) (story : List Told) : Type 0 where
@@ -47,7 +47,8 @@ pub record KeepsPrefix (before after : Sight) (story : List Told) : Type 0 where
   pub opened : (state_of story).opened ≡ Some opening
   pub ticks : ticks_of (state_of story).opened (state_of story).ends ≤ after.ticks
   pub stops : IfTold after.told (λ d. (k : ℕ) (image : List ℕ) → before.ticks < k → MayLeave 0 d k image → MayBeFound opening (state_of story).ends k (frames image))
-  pub again : IfTold after.told (λ d. (k : ℕ) (image : List ℕ) → before.ticks < k → MayLeave 0 d k image → OpensAgain (frames image))
+  pub again : IfTold after.told (λ d. (k : ℕ) (image : List ℕ) → before.ticks < k
+      → MayLeave 0 d k image → OpensAgain opening.base (frames image))
   pub sound : rises_of story ≡ [] → IsSettled (state_of story) after
   pub mended : IsMended (state_of story) after
   pub apart : AreApart before.faults (rises_of story) after.faults
@@ -56,9 +57,11 @@ pub record KeepsPrefix (before after : Sight) (story : List Told) : Type 0 where
 abbrev pub KeepsFrames : Sight → Sight → Type 0
 KeepsFrames before after = IfTold before.told (λ d. IfTold after.told (λ e. (k : ℕ) (image : List ℕ) → before.ticks < k → MayLeave 0 e k image → frames image ≡ frames (bytes_of 0 d)))
 
--- whatever a stop may find of a story opens again
+-- whatever a stop may find of a story opens again, to a base that is sound where the opened one was
 abbrev pub AllOpenAgain : List Told → Type 0
-AllOpenAgain story = (opening : Opening) (k : ℕ) (found : List (List ℕ)) → (state_of story).opened ≡ Some opening → MayBeFound opening (state_of story).ends k found → OpensAgain found
+AllOpenAgain story = (opening : Opening) (k : ℕ) (found : List (List ℕ))
+    → (state_of story).opened ≡ Some opening
+    → MayBeFound opening (state_of story).ends k found → OpensAgain opening.base found
 
 -- *Stopped*: what a stop at each device call finds, from what the disk told as it was handed in and as it came back. Where no
 -- base was opened both files are as they were.

@@ -11,6 +11,7 @@ ghost use Rattle.session_run.specs.Accounted.{IsAccountedFor, KeepsFiles, Settle
 ghost use Rattle.session_run.specs.Causes.{intake_of, sink_faults, FindsDamage, HasCause, LeavesAlone, TakesNoMore};
 ghost use Rattle.session_run.specs.Begun.{first_step, is_opened};
 ghost use Rattle.session_run.specs.Headline.{clock_readings, IsSession, IsOneHistory, AreFromNothing, ArePrinted};
+ghost use Rattle.session_run.specs.Objects.{HeldObjectsAreLive, ScrubsListWhatIsDue};
 ghost use Rattle.session_run.specs.Outcomes.{RunsOpened, RunsSession};
 ghost use Rattle.session_run.specs.Runs.{IsJustOpened, IsRunnable, outside_of, run_status};
 ghost use Rattle.session_run.specs.Stopped.{IsHandedIn, IsMended, IsStopped};
@@ -28,6 +29,9 @@ use cc_names::texts::Text;
 use cc_outside::{Clock, Sink, Source, WriteFault};
 use disk_model::Disk;
 use legal_history::laws::builds::{a_build_is_as_from_nothing, a_build_is_of_its_command};
+use legal_history::laws::stories::{
+    a_held_object_is_live_at_each_step, a_scrub_of_a_story_lists_what_is_due,
+};
 use std::alloc::Global;
 use std::hash::RandomState;
 
@@ -153,6 +157,8 @@ pub fn run_words<S: Source, K: Sink, D: Disk, C: Clock>(
     ensures session { IsSession result.status result.history (intake_of words.now (S.sight source.old) (S.sight source.new)) (C.sight clock.old).told (clock_readings (C.sight clock.old) (C.sight clock.new)) }
     ensures history { IsOneHistory result.status result.history (D.sight disk) (K.sight sink.old).held (K.sight sink.new).held }
     ensures built { AreFromNothing result.history }
+    ensures scrubs { ScrubsListWhatIsDue result.history }
+    ensures held { HeldObjectsAreLive result.history }
     ensures printed { ArePrinted result.status result.history (intake_of words.now (S.sight source.old) (S.sight source.new)) (sink_faults (K.sight sink.old) (K.sight sink.new)) (record { before = D.sight disk; after = D.sight result.disk }) (K.sight sink.old).held (K.sight sink.new).held }
     ensures stopped { IsStopped (D.sight disk) (D.sight result.disk) result.history }
     ensures cause { HasCause result.status (intake_of words.now (S.sight source.old) (S.sight source.new)) (sink_faults (K.sight sink.old) (K.sight sink.new)) (record { before = D.sight disk; after = D.sight result.disk }) result.history }
@@ -162,6 +168,8 @@ pub fn run_words<S: Source, K: Sink, D: Disk, C: Clock>(
     ensures untouched { LeavesAlone (intake_of words.now (S.sight source.old) (S.sight source.new)) (record { before = D.sight disk; after = D.sight result.disk }) result.history }
     ensures taken { TakesNoMore (record { before = (S.sight source.old).given; after = (S.sight source.new).given }) }
 {
+    a_scrub_of_a_story_lists_what_is_due();
+    a_held_object_is_live_at_each_step();
     match session_given(alloc, words, source) {
         Ok(phases) => run_session(alloc, hashing, phases, sink, disk, clock),
         Err(stop) => Ended {
