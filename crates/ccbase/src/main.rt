@@ -2,12 +2,16 @@
 // keep, and writes its replies to standard output.
 //
 // What it promises: it adds nothing to `session_run::run_words` but the streams of the process, its clock, its two files, the
-// two words `--help` and `--version`, and a line on standard error that says why a session was not carried out.
+// two words `--help` and `--version`, and lines on standard error: what of FILE is no base, and why a session was not carried
+// out.
 //
-// What it stands on: `session_run`, `disk_model` for the files, `cc_outside` for the streams and the clock, and `cc_names` for
-// words.
+// What it stands on: `session_run`, `disk_model` and `vob_journal` for the files, `cc_outside` for the streams and the clock, and
+// `cc_names` for words.
 #![tactic(auto)]
 
+mod looking;
+
+use crate::looking::LookingDisk;
 use cc_names::memory::NoMemory;
 use cc_names::texts::Text;
 use cc_outside::{StdSink, StdSource, SystemClock, write_whole};
@@ -23,8 +27,9 @@ const VERSION: &str = "ccbase 0.1.0\n";
 const HELP: &str = "ccbase FILE run
 
 Reads a session from standard input, runs it on the base that the files FILE and FILE.objects keep, and writes its
-replies to standard output. Files that are absent are made, and are an empty base. FILE is locked meanwhile. Where the
-status is not 0, 1 or 8, a line on standard error says why.
+replies to standard output. Files that are absent are made, and are an empty base. FILE is locked meanwhile. Where it has
+bytes that are no row, a line on standard error says so before the first row is written over them, and where the
+status is not 0, 1 or 8, one says why.
 
 Ends with the status
   0  each command was carried out, and each unit of each build is made
@@ -75,26 +80,14 @@ fn texts_of(alloc: Global, words: &[String]) -> Result<Vec<Text>, NoMemory> {
     Ok(texts)
 }
 
-/// The disk of the files that the words name. Words of no form name none, and then none is opened.
-fn disk_of(rt: HostRuntime, words: &[String]) -> Result<FileDisk<HostRuntime>, NoMemory> {
-    let file = match words {
-        [file, ..] => file.as_str(),
-        [] => "",
-    };
-    let journal = format!(in rt.alloc(); "{file}")?;
-    let objects = format!(in rt.alloc(); "{file}.objects")?;
-    Ok(FileDisk::new(rt, journal, objects))
-}
-
 /// Writes why a call did not carry its session out to standard error, in one line. What was carried out, and what memory was
 /// wanting for, has none.
 fn tell_cause(
     rt: &HostRuntime,
     status: Status,
-    words: &[String],
+    file: &str,
     disk: &FileDisk<HostRuntime>,
 ) -> io::Result<()> {
-    let file = words.first().map_or("", |word| word.as_str());
     match status {
         Status::Good | Status::SomeFailed | Status::NoMemory => Ok(()),
         Status::BadWords => eprintln!(rt; "usage: ccbase FILE run"),
@@ -103,7 +96,7 @@ fn tell_cause(
         Status::ReadFault => eprintln!(rt; "ccbase: standard input: a read failed"),
         Status::WriteFault => eprintln!(rt; "ccbase: standard output: a write failed"),
         Status::DiskFault => match disk.trouble() {
-            Some(trouble) => eprintln!(rt; "ccbase: {trouble}"),
+            Some(trouble) => eprintln!(rt; "ccbase: {}", trouble.words(rt.alloc())?),
             None => eprintln!(rt; "ccbase: {file}: the disk failed"),
         },
         Status::TooLong => eprintln!(rt;
@@ -112,7 +105,7 @@ fn tell_cause(
     }
 }
 
-/// Runs what the words ask for, and answers the status.
+/// Runs what the words ask for, and answers the status. Words of no form name no FILE, and then nothing is opened.
 fn run(rt: HostRuntime, words: &[String]) -> Result<Status, NoMemory> {
     let alloc = rt.alloc();
     let texts = texts_of(alloc, words)?;
@@ -120,7 +113,10 @@ fn run(rt: HostRuntime, words: &[String]) -> Result<Status, NoMemory> {
         let _ = eprintln!(rt; "ccbase: the system gives no random numbers");
         return Ok(Status::NoMemory);
     };
-    let disk = disk_of(rt.clone()?, words)?;
+    let file = words.first().map_or("", |word| word.as_str());
+    let Ok(disk) = LookingDisk::new(rt.clone()?, file) else {
+        return Err(NoMemory);
+    };
     let mut source = StdSource::new(rt.reader());
     let mut sink = StdSink::new(io::writer(&rt));
     let mut clock = SystemClock::new(rt.clone()?);
@@ -133,7 +129,7 @@ fn run(rt: HostRuntime, words: &[String]) -> Result<Status, NoMemory> {
         disk,
         &mut clock,
     );
-    let _ = tell_cause(&rt, ended.status, words, &ended.disk);
+    let _ = tell_cause(&rt, ended.status, file, &ended.disk.disk);
     Ok(ended.status)
 }
 
