@@ -18,8 +18,8 @@ use Rattle.legal_history.specs.Commands.CheckoutTests.{needs_out}
 use Rattle.legal_history.specs.Commands.Tests.{refused_where, needs_view, needs_new_view, needs_idle, needs_no_checkouts, needs_rules, needs_selected, needs_directory, needs_private}
 use Rattle.legal_history.specs.Base.Views.{Checkout, out}
 
--- The path of the directory in which a path lies. That of the root is never asked for: commands that ask are given paths
--- below the root, and so are rows.
+-- The path of the directory in which a path lies. That of the root is never asked for: the paths of the commands that ask
+-- lie below the root, and so do those of rows.
 abbrev pub parent : List ℕ → List ℕ
 parent path = unwrap_or (parent_of path) root
 
