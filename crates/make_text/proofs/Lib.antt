@@ -10,6 +10,8 @@ mod NumberLaws
 mod WalkLaws
 mod ServingLaws
 pub mod UnitLaws
+pub mod WordLemmas
+pub mod SideLemmas
 mod Worked
 mod WorkedGraphs
 mod WorkedMakefiles

@@ -1,5 +1,5 @@
 -- What a makefile says, or its first line that fails: its lines, and what is tested behind the last of them.
-use Rattle.std.specs.Prelude.{ℕ, false, ◌&&◌, Option, Some, None, Result, Ok, Err, List, [], ◌∷◌, length, map, reverse, is_some, if◌then◌else◌, codes}
+use Rattle.std.specs.Prelude.{ℕ, false, ◌&&◌, Option, Some, None, Result, Ok, Err, List, [], ◌∷◌, length, reverse, is_some, if◌then◌else◌, codes}
 use Rattle.std.specs.List.{list_any}
 use Rattle.cc_names.specs.declared.commands.Macro.{Macro}
 use Rattle.cc_names.specs.declared.refusals.MakeCause.{MakeCause}

@@ -14,6 +14,7 @@ pub mod Steps
 pub mod Contents
 pub mod Statements
 pub mod MacroEntries
+pub mod RuleLines
 pub mod Grammar
 pub mod Numbers
 pub mod Serving

@@ -1,6 +1,6 @@
 -- How a makefile is read line by line, with the files that it includes read in place.
-use Rattle.std.specs.Prelude.{ℕ, ◌+◌, zero, suc, Bool, true, false, not, ◌&&◌, ◌||◌, ◌==◌, nat_lt, Option, Some, None, Result, Ok, Err, List, [], ◌∷◌, ◌++◌, length, map, filter, drop, fold, slice_get, is_some, unwrap_or, if◌then◌else◌, codes}
-use Rattle.std.specs.List.{list_any, list_all, last_or}
+use Rattle.std.specs.Prelude.{ℕ, ◌+◌, ◌-◌, zero, suc, Bool, true, false, not, ◌&&◌, ◌||◌, ◌==◌, nat_lt, Option, Some, None, Result, Ok, Err, List, [], ◌∷◌, ◌++◌, length, map, filter, drop, fold, slice_get, is_some, unwrap_or, if◌then◌else◌, codes}
+use Rattle.std.specs.List.{list_any, list_all}
 use Rattle.std.specs.Str.{bytes_eq}
 use Rattle.cc_names.specs.Cuts.{words_of}
 use Rattle.cc_names.specs.Names.{is_name_byte}
@@ -15,6 +15,7 @@ use Rattle.make_text.specs.Macros.{Expansion, expansion_of, followed, plain, has
 use Rattle.make_text.specs.Makefiles.{path_in, with_path, each_once}
 use Rattle.make_text.specs.Contents.{RuleLine}
 use Rattle.make_text.specs.declared.logical_lines.LogicalLine.{LogicalLine}
+use Rattle.make_text.specs.declared.rule_lines.RuleWords.{RuleWords}
 
 -- the text of the file at each path, if there is one
 abbrev pub Files : Type 0
@@ -80,9 +81,9 @@ macro_of definition = record { name = definition.name; value = definition.value 
 abbrev pub macros_of : List Definition → List Macro
 macros_of definitions = map macro_of definitions
 
--- a text expanded by the macros that were read
-abbrev pub expanded_by : Reading → List ℕ → Expansion
-expanded_by reading text = expansion_of (macros_of reading.macros) no_automatic text
+-- a text expanded by macros, outside scripts
+abbrev pub expanded_by : List Macro → List ℕ → Expansion
+expanded_by macros text = expansion_of macros no_automatic text
 
 -- the fault of an expansion of a line, if it has one
 abbrev pub expansion_fault : Expansion → Option MakeCause
@@ -97,6 +98,11 @@ cause_or None later = later
 abbrev pub where_so : Bool → MakeCause → Option MakeCause
 where_so true cause = Some cause
 where_so false cause = None
+
+-- what there is, unless there is a cause to refuse it
+abbrev pub or_cause : {A : Type 0} → Option MakeCause → A → Result A MakeCause
+or_cause (Some cause) x = Err cause
+or_cause None x = Ok x
 
 -- what was read, unless there is a cause to refuse the line
 abbrev pub unless_cause : List ℕ → ℕ → Option MakeCause → Reading → Result Reading MakeError
@@ -166,7 +172,7 @@ is_path word = is_some (path_in word)
 
 -- whether the `:` has a `&` directly before it
 abbrev pub is_grouped : List ℕ → Bool
-is_grouped before = is_byte 38 (last_or None before)
+is_grouped before = is_byte 38 (slice_get before (length before - 1))
 
 -- what stands before the `:`, or before the `&:`
 abbrev pub before_mark : List ℕ → List ℕ
@@ -177,25 +183,51 @@ abbrev pub mark_of : List ℕ → List ℕ
 mark_of before = if is_grouped before then codes "&:" else codes ":"
 
 -- the expansion of a rule line: both sides, with the mark between them
-abbrev pub rule_expansion : Reading → List ℕ → List ℕ → Expansion
-rule_expansion reading before behind =
-    followed (expanded_by reading (before_mark before)) (followed (plain (mark_of before)) (expanded_by reading behind))
+abbrev pub rule_expansion : List Macro → List ℕ → List ℕ → Expansion
+rule_expansion macros before behind =
+    followed (expanded_by macros (before_mark before)) (followed (plain (mark_of before)) (expanded_by macros behind))
+
+-- a `;`
+abbrev pub is_semicolon : ℕ → Bool
+is_semicolon b = b == 59
 
 -- the fault of a rule line's own bytes: a `;`, `::` or `:=`, or else a bad `$`
 abbrev pub rule_bytes_fault : List ℕ → List ℕ → Option MakeCause
 rule_bytes_fault before behind =
     cause_or
-    (where_so (list_any (λ b. b == 59) (before ++ behind) || is_byte 58 (slice_get behind 0) || is_byte 61 (slice_get behind 0)) BadLine)
+    (where_so (list_any is_semicolon before || list_any is_semicolon behind || is_byte 58 (slice_get behind 0) || is_byte 61 (slice_get behind 0)) BadLine)
     (where_so (has_bad_dollar before || has_bad_dollar behind) BadMacro)
 
--- the fault of a rule line's words: no target, a special target in a group, a bad suffix, or else a bad path
+-- the fault of a rule line's words, its paths aside: no target, a special target in a group, or a bad suffix
+abbrev pub line_words_fault : Bool → List (List ℕ) → List (List ℕ) → Option MakeCause
+line_words_fault grouped targets prerequisites =
+    where_so
+    ((length targets == 0) || (grouped && list_any is_special targets)
+    || (is_among targets suffixes_name && not (list_all is_suffix prerequisites))) BadLine
+
+-- the fault of a rule line's words: one of these, or else a bad path
 abbrev pub rule_words_fault : Bool → List (List ℕ) → List (List ℕ) → Option MakeCause
 rule_words_fault grouped targets prerequisites =
-    cause_or
-    (where_so
-    ((length targets == 0) || (grouped && list_any is_special targets)
-    || (is_among targets suffixes_name && not (list_all is_suffix prerequisites))) BadLine)
-    (where_so (not (list_all is_path (targets ++ prerequisites))) BadPath)
+    cause_or (line_words_fault grouped targets prerequisites)
+    (where_so (not (list_all is_path targets && list_all is_path prerequisites)) BadPath)
+
+-- the fault of a rule line
+abbrev pub rule_fault : List Macro → List ℕ → List ℕ → Option MakeCause
+rule_fault macros before behind =
+    cause_or (rule_bytes_fault before behind)
+    (cause_or (expansion_fault (rule_expansion macros before behind))
+    (rule_words_fault (is_grouped before)
+    (words_of (expanded_by macros (before_mark before)).bytes) (words_of (expanded_by macros behind).bytes)))
+
+-- the words of a rule line, or the cause to refuse it
+abbrev pub rule_words : List Macro → List ℕ → List ℕ → Result RuleWords MakeCause
+rule_words macros before behind =
+    or_cause (rule_fault macros before behind)
+    (record {
+      is_group = is_grouped before;
+      targets = words_of (expanded_by macros (before_mark before)).bytes;
+      prerequisites = words_of (expanded_by macros behind).bytes;
+    })
 
 -- the suffixes behind `.SUFFIXES`: added, or where there are none the list is cleared
 abbrev pub with_suffixes : List (List ℕ) → List (List ℕ) → List (List ℕ)
@@ -208,38 +240,32 @@ plain_targets grouped targets =
     if grouped then each_once targets else filter (λ target. not (is_special target)) targets
 
 -- what was read, with a rule line of these words behind it
-abbrev pub with_rule : List ℕ → ℕ → Bool → List (List ℕ) → List (List ℕ) → Reading → Reading
-with_rule file n grouped targets prerequisites reading =
+abbrev pub with_rule : List ℕ → ℕ → RuleWords → Reading → Reading
+with_rule file n words reading =
     record reading {
-      targets = reading.targets + length (plain_targets grouped targets);
-      suffixes = if is_among targets suffixes_name then with_suffixes reading.suffixes prerequisites else reading.suffixes;
-      phony = if is_among targets phony_name then fold with_path reading.phony prerequisites else reading.phony;
+      targets = reading.targets + length (plain_targets words.is_group words.targets);
+      suffixes = if is_among words.targets suffixes_name then with_suffixes reading.suffixes words.prerequisites else reading.suffixes;
+      phony = if is_among words.targets phony_name then fold with_path reading.phony words.prerequisites else reading.phony;
       rules = record {
         file = file;
         line = n;
-        targets = plain_targets grouped targets;
-        prerequisites = prerequisites;
-        is_group = grouped;
-        is_special = list_any is_special targets;
+        targets = plain_targets words.is_group words.targets;
+        prerequisites = words.prerequisites;
+        is_group = words.is_group;
+        is_special = list_any is_special words.targets;
         script = None;
       } ∷ reading.rules;
       takes_script = true;
     }
 
--- a rule line of these words
-abbrev pub rule_of_words : List ℕ → ℕ → Bool → List (List ℕ) → List (List ℕ) → Reading → Result Reading MakeError
-rule_of_words file n grouped targets prerequisites reading =
-    unless_cause file n (rule_words_fault grouped targets prerequisites)
-    (with_rule file n grouped targets prerequisites reading)
+-- a rule line by its words, or its fault
+abbrev pub rule_by_words : List ℕ → ℕ → Reading → Result RuleWords MakeCause → Result Reading MakeError
+rule_by_words file n reading (Err cause) = fault_at file n cause
+rule_by_words file n reading (Ok words) = Ok (with_rule file n words reading)
 
 -- a line `TARGET .. : PREREQUISITE ..`
 abbrev pub rule_line : List ℕ → ℕ → List ℕ → List ℕ → Reading → Result Reading MakeError
-rule_line file n before behind reading =
-    and_then
-    (unless_cause file n
-    (cause_or (rule_bytes_fault before behind) (expansion_fault (rule_expansion reading before behind))) reading)
-    (rule_of_words file n (is_grouped before)
-    (words_of (expanded_by reading (before_mark before)).bytes) (words_of (expanded_by reading behind).bytes))
+rule_line file n before behind reading = rule_by_words file n reading (rule_words (macros_of reading.macros) before behind)
 
 -- ---- scripts
 
@@ -285,16 +311,25 @@ abbrev pub include_words_fault : List (List ℕ) → Option MakeCause
 include_words_fault words = cause_or (where_so (length words == 0) BadLine) (where_so (not (list_all is_path words)) BadPath)
 
 -- the fault of what stands behind `include`
-abbrev pub include_fault : Reading → List ℕ → Option MakeCause
-include_fault reading behind =
+abbrev pub include_fault : List Macro → List ℕ → Option MakeCause
+include_fault macros behind =
     cause_or (where_so (has_bad_dollar behind) BadMacro)
-    (cause_or (expansion_fault (expanded_by reading behind)) (include_words_fault (words_of (expanded_by reading behind).bytes)))
+    (cause_or (expansion_fault (expanded_by macros behind)) (include_words_fault (words_of (expanded_by macros behind).bytes)))
+
+-- the paths behind `include`, or the cause to refuse the line
+abbrev pub include_words : List Macro → List ℕ → Result (List (List ℕ)) MakeCause
+include_words macros behind = or_cause (include_fault macros behind) (words_of (expanded_by macros behind).bytes)
+
+-- an include line by its paths, or its fault
+abbrev pub include_by_words : (Reading → List ℕ → Result Reading MakeError) → List ℕ → ℕ → Reading → Result (List (List ℕ)) MakeCause → Result Reading MakeError
+include_by_words include file n reading (Err cause) = fault_at file n cause
+include_by_words include file n reading (Ok paths) =
+    include_paths include paths (within_limits file n (record reading { takes_script = false }))
 
 -- an include line; it ends the rule above it
 abbrev pub include_line : (Reading → List ℕ → Result Reading MakeError) → List ℕ → ℕ → List ℕ → Reading → Result Reading MakeError
 include_line include file n behind reading =
-    include_paths include (words_of (expanded_by reading behind).bytes)
-    (and_then (unless_cause file n (include_fault reading behind) (record reading { takes_script = false })) (within_limits file n))
+    include_by_words include file n reading (include_words (macros_of reading.macros) behind)
 
 -- ---- lines
 

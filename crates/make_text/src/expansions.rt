@@ -13,7 +13,7 @@ use cc_names::memory::NoMemory;
 use std::alloc::{AllocError, Global};
 
 /// The most bytes that a line, a macro or a script expands to.
-const EXPANSION_LIMIT: usize = 65_536;
+pub(crate) const EXPANSION_LIMIT: usize = 65_536;
 
 /// The values of `$@`, `$<` and `$*`.
 #[derive(Clone, Copy, Drop)]

@@ -12,6 +12,8 @@
 #![tactic(auto)]
 
 pub mod contents;
+#[cfg(test)]
+mod expansion_tests;
 mod expansions;
 pub mod laws;
 mod line_kinds;
@@ -23,6 +25,7 @@ pub mod makefiles;
 #[cfg(test)]
 mod piece_tests;
 mod pieces;
+mod rule_lines;
 pub mod rules;
 pub mod serving;
 #[cfg(test)]

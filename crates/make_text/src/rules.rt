@@ -105,7 +105,7 @@ pub fn read_path(alloc: Global, word: &[u8]) -> Result<Option<Path>, NoMemory>
 }
 
 /// The words as paths below the root, where all of them are so.
-fn read_paths(alloc: Global, words: &[&[u8]]) -> Result<Option<Vec<Path>>, NoMemory>
+pub(crate) fn read_paths(alloc: Global, words: &[&[u8]]) -> Result<Option<Vec<Path>>, NoMemory>
     ensures { IfOk result (λ paths. option_map (λ v. v.items) paths ≡ paths_of (map (λ word. word.now) words.now)) }
 {
     let mut paths = Vec::new(alloc);

@@ -1,0 +1,25 @@
+-- The words of rule lines and include lines as they are read.
+use Rattle.std.specs.Prelude.{ℕ, Bool, not, Result, List}
+use Rattle.std.specs.List.{list_all}
+use Rattle.cc_names.specs.declared.commands.Macro.{Macro}
+use Rattle.cc_names.specs.Cuts.{words_of}
+use Rattle.cc_names.specs.declared.refusals.MakeCause.{MakeCause}
+use Rattle.cc_names.specs.declared.refusals.MakeCause.TheVariants.{BadPath}
+use Rattle.make_text.specs.Statements.{or_cause, where_so, is_path, expanded_by, before_mark, rule_expansion, expansion_fault, rule_words_fault}
+use Rattle.make_text.specs.declared.rule_lines.RuleWords.{RuleWords}
+
+-- words that are paths below the root, or that one is none
+abbrev pub below_root : List (List ℕ) → Result (List (List ℕ)) MakeCause
+below_root words = or_cause (where_so (not (list_all is_path words)) BadPath) words
+
+-- a rule line by what stands before its mark and behind it, once both were expanded
+abbrev pub rule_of_sides : Bool → List ℕ → List ℕ → Result RuleWords MakeCause
+rule_of_sides grouped before behind =
+    or_cause (rule_words_fault grouped (words_of before) (words_of behind))
+    (record { is_group = grouped; targets = words_of before; prerequisites = words_of behind })
+
+-- both sides of a rule line expanded, or the fault of their expansion
+abbrev pub expanded_sides : List Macro → List ℕ → List ℕ → Result (List ℕ × List ℕ) MakeCause
+expanded_sides macros before behind =
+    or_cause (expansion_fault (rule_expansion macros before behind))
+    ((expanded_by macros (before_mark before)).bytes, (expanded_by macros behind).bytes)
