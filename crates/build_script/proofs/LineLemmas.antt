@@ -21,6 +21,6 @@ onto_line read n line (Ok more) = simp append_assoc
 onto_line read n line (Err fault) = refl
 
 -- a line outside the language is not empty
-pub filled_where_bad : (bytes : List ℕ) → line_of bytes ≡ None → 0 < length bytes
-filled_where_bad [] e = absurd (cc)
-filled_where_bad (b ∷ bytes) e = omega arith
+pub filled_where_bad : (n : ℕ) (bytes : List ℕ) → line_of n bytes ≡ None → 0 < length bytes
+filled_where_bad n [] e = absurd (cc)
+filled_where_bad n (b ∷ bytes) e = omega arith

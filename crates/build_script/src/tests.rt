@@ -27,7 +27,7 @@ impl Files for OneFile {
 
     ghost broken = { λ _. 0 };
 
-    ghost follows = { λ _ _. Unit {0} };
+    ghost follows = { λ _ _ _. Unit {0} };
 
     fn read(&mut self, path: &Path) -> Got {
         if *path != self.path {
@@ -39,9 +39,9 @@ impl Files for OneFile {
         }
     }
 
-    ghost reflexive = { λ _. tt };
+    ghost reflexive = { λ _ _. tt };
 
-    ghost transitive = { λ _ _ _ _ _. tt };
+    ghost transitive = { λ _ _ _ _ _ _. tt };
 }
 
 fn words_of_fault(alloc: Global, fault: &ScriptFault) -> Result<String, AllocError> {

@@ -1,0 +1,74 @@
+-- How include lines are looked for and how `pp` goes on.
+use Rattle.std.proofs.Common.{◌≡◌, ℕ, zero, suc, ◌+◌, ◌-◌, ◌<◌, ◌≤◌, Option, Some, None, Bool, true, false, Result, Ok, Err, List, [], ◌∷◌, length, refl, ap, sym, ◌∙◌, subst, arith}
+use Rattle.std.specs.Prelude.{nat_lt}
+use borrow.Author.Tests.{ltb-true, ltb-false}
+use Rattle.cc_names.specs.declared.refusals.ScriptFault.{ScriptFault}
+use Rattle.build_script.specs.Forms.{lines_in}
+use Rattle.build_script.specs.Includes.{include_of}
+use Rattle.build_script.specs.Making.{includes, resumed}
+use Rattle.build_script.specs.Parts.{Carried, gives}
+use Rattle.build_script.specs.Run.{Asking, Done, Asks, and_then, unless_fault, Made, Output, Preprocessing, expanded, lines_expanded, line_expanded, included, said, depth_limit, traced}
+use Rattle.build_script.specs.Standings.{Standing, texts}
+use Rattle.build_script.specs.declared.halts.Halt.{Halt}
+use Rattle.build_script.proofs.CarriedLemmas.{carried_lifted, and_then-assoc, and_then-done}
+
+pub lt_true : (m n : ℕ) → m < n → nat_lt m n ≡ true
+lt_true m n h = by (nat_lt m n) refl
+  where
+    by : (t : Bool) → nat_lt m n ≡ t → t ≡ true
+    by true e = refl
+    by false e = absurd (omega (arith, ltb-false _ _ e))
+
+-- a part, and then what is made of what it comes to
+pub carried_shown : {F X A B : Type 0} {stands : F → List ℕ → Option Standing} {broken : F → ℕ} {follows : List (List ℕ) → F → F → Type 0}
+    {before after : List (List ℕ)} {first : Asking (Result A ScriptFault)} {next : X → Asking (Result A ScriptFault)} {result : Result X Halt} {old new : F}
+    (more : A → Asking (Result B ScriptFault)) →
+    Carried stands broken follows before first next result after old new →
+    Carried stands broken follows before (and_then first (unless_fault more)) (λ x. and_then (next x) (unless_fault more)) result after old new
+carried_shown {stands = stands} {broken = broken} {follows = follows} {before = before} {after = after} {first = first} {next = next} {result = result} {old = old} {new = new} more one =
+    carried_lifted stands broken follows before after first next more result old new one
+
+-- `pp` at so many levels, by what an include line comes to there
+pub expanded-lines : (levels : ℕ) (pp : Preprocessing) (text : List ℕ) → expanded levels pp text ≡ lines_expanded (includes levels pp) pp.output (lines_in text)
+expanded-lines zero pp text = refl
+expanded-lines (suc levels) pp text = refl
+
+-- a part that ended early, wherever it would have gone on
+pub carried_ended : {F X Y A : Type 0} {stands : F → List ℕ → Option Standing} {broken : F → ℕ} {follows : List (List ℕ) → F → F → Type 0}
+    {before after : List (List ℕ)} {asking : Asking (Result A ScriptFault)} {next : X → Asking (Result A ScriptFault)} {halt : Halt} {old new : F}
+    (then : Y → Asking (Result A ScriptFault)) →
+    Carried stands broken follows before asking next (Err halt) after old new → Carried stands broken follows before asking then (Err halt) after old new
+carried_ended then one = record { stays = one.stays; asked = one.asked; went = one.went }
+
+-- a part that passed, by another name for where it goes on
+pub carried_passed : {F X Y A : Type 0} {stands : F → List ℕ → Option Standing} {broken : F → ℕ} {follows : List (List ℕ) → F → F → Type 0}
+    {before after : List (List ℕ)} {asking : Asking (Result A ScriptFault)} {next : X → Asking (Result A ScriptFault)} {x : X} {old new : F}
+    (then : Y → Asking (Result A ScriptFault)) (y : Y) → next x ≡ then y →
+    Carried stands broken follows before asking next (Ok x) after old new → Carried stands broken follows before asking then (Ok y) after old new
+carried_passed {stands = stands} {after = after} {old = old} then y e one =
+    record { stays = one.stays; asked = one.asked; went = one.went ∙ ap (traced (texts (stands old)) after) e }
+
+-- what is said or included behind a stack of texts
+resumed-lines : (pp : Preprocessing) (rest : List ℕ) (below : List (List ℕ)) (made : Made) →
+    resumed pp (rest ∷ below) made ≡ and_then (lines_expanded (includes (depth_limit - length below) pp) pp.output (lines_in rest) made) (unless_fault (resumed pp below))
+resumed-lines pp rest below made = ap (λ (f : Made → Asking (Result Made ScriptFault)). and_then (f made) (unless_fault (resumed pp below))) (expanded-lines (depth_limit - length below) pp rest)
+
+pub resumed-empty : (pp : Preprocessing) (rest : List ℕ) (below : List (List ℕ)) (made : Made) → rest ≡ [] → resumed pp (rest ∷ below) made ≡ resumed pp below made
+resumed-empty pp rest below made e = resumed-lines pp rest below made ∙ rw e refl
+
+pub resumed-said : (pp : Preprocessing) (rest line behind : List ℕ) (below : List (List ℕ)) (made made' : Made) →
+    lines_in rest ≡ line ∷ lines_in behind → include_of line ≡ None → said pp.output line made ≡ Ok made' → resumed pp (rest ∷ below) made ≡ resumed pp (behind ∷ below) made'
+resumed-said pp rest line behind below made made' lines plain says =
+    resumed-lines pp rest below made ∙ rw lines (rw plain (rw says (sym (resumed-lines pp behind below made'))))
+
+pub resumed-unsaid : (pp : Preprocessing) (rest line behind : List ℕ) (below : List (List ℕ)) (made : Made) (fault : ScriptFault) →
+    lines_in rest ≡ line ∷ lines_in behind → include_of line ≡ None → said pp.output line made ≡ Err fault → resumed pp (rest ∷ below) made ≡ Done (Err fault)
+resumed-unsaid pp rest line behind below made fault lines plain says = resumed-lines pp rest below made ∙ rw lines (rw plain (rw says refl))
+
+pub resumed-included : (pp : Preprocessing) (rest line behind path : List ℕ) (below : List (List ℕ)) (made : Made) →
+    lines_in rest ≡ line ∷ lines_in behind → include_of line ≡ Some path →
+    resumed pp (rest ∷ below) made ≡ and_then (includes (depth_limit - length below) pp path made) (unless_fault (resumed pp (behind ∷ below)))
+resumed-included pp rest line behind path below made lines is =
+    resumed-lines pp rest below made ∙ rw lines (rw is
+    (and_then-assoc (includes (depth_limit - length below) pp path made) (lines_expanded (includes (depth_limit - length below) pp) pp.output (lines_in behind)) (resumed pp below)
+    ∙ ap (λ (f : Made → Asking (Result Made ScriptFault)). and_then (includes (depth_limit - length below) pp path made) (unless_fault f)) (λ i made. sym (resumed-lines pp behind below made) i)))
