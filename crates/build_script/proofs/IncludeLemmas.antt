@@ -1,5 +1,5 @@
 -- How include lines are looked for and how `pp` goes on.
-use Rattle.std.proofs.Common.{◌≡◌, ℕ, zero, suc, ◌+◌, ◌-◌, ◌<◌, ◌≤◌, Option, Some, None, Bool, true, false, Result, Ok, Err, List, [], ◌∷◌, length, refl, ap, sym, ◌∙◌, subst, arith}
+use Rattle.std.proofs.Common.{◌≡◌, ℕ, zero, suc, ◌+◌, ◌-◌, ◌<◌, ◌≤◌, Option, Some, None, Bool, true, false, Result, Ok, Err, List, [], ◌∷◌, length, drop, refl, ap, sym, ◌∙◌, subst, arith}
 use Rattle.std.specs.Prelude.{nat_lt}
 use borrow.Author.Tests.{ltb-true, ltb-false}
 use Rattle.cc_names.specs.declared.refusals.ScriptFault.{ScriptFault}
@@ -18,6 +18,13 @@ lt_true m n h = by (nat_lt m n) refl
     by : (t : Bool) → nat_lt m n ≡ t → t ≡ true
     by true e = refl
     by false e = absurd (omega (arith, ltb-false _ _ e))
+
+-- nothing is behind all items
+pub all_dropped : {X : Type 0} (items : List X) (n : ℕ) → length items ≤ n → drop n items ≡ []
+all_dropped [] zero low = refl
+all_dropped [] (suc n) low = refl
+all_dropped (x ∷ items) zero low = absurd (omega arith)
+all_dropped (x ∷ items) (suc n) low = all_dropped items n (omega arith)
 
 -- a part, and then what is made of what it comes to
 pub carried_shown : {F X A B : Type 0} {stands : F → List ℕ → Option Standing} {broken : F → ℕ} {follows : List (List ℕ) → F → F → Type 0}

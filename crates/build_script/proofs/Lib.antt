@@ -6,3 +6,4 @@ pub mod LineLemmas
 pub mod RunLemmas
 pub mod SaidLemmas
 pub mod WordLemmas
+pub mod Worked

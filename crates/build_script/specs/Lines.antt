@@ -38,17 +38,21 @@ abbrev pub link_of : Option (List (List ℕ)) → Option Work
 link_of (Some (path ∷ paths)) = Some (Link (path ∷ paths))
 link_of _ = None
 
--- the directories that pairs of a `-I` and a path name
+-- one word and no more, as a path
+abbrev pub only_path : List (List ℕ) → Option (List ℕ)
+only_path (word ∷ []) = path_in word
+only_path _ = None
+
+-- the directory of a pair of words, `-I` and a path
+abbrev pub directory_of : List (List ℕ) → Option (List ℕ)
+directory_of (flag ∷ words) = if bytes_eq flag (codes "-I") then only_path words else None
+directory_of [] = None
+
+-- the directories that such pairs name
 abbrev pub directories_of : List (List ℕ) → Option (List (List ℕ))
 directories_of [] = Some []
 directories_of (word ∷ []) = None
-directories_of (flag ∷ directory ∷ pairs) =
-    if bytes_eq flag (codes "-I") then path_before (path_in directory) (directories_of pairs) else None
-
--- no directories, where there are no words
-abbrev pub unless_words : {X : Type 0} → List X → Option (List (List ℕ))
-unless_words [] = Some []
-unless_words (word ∷ words) = None
+directories_of (flag ∷ directory ∷ pairs) = path_before (directory_of (flag ∷ directory ∷ [])) (directories_of pairs)
 
 -- `pp` takes such pairs, if any, and one path
 abbrev pub preprocess_of : Option (List (List ℕ)) → Option (List ℕ) → Option Work
@@ -59,11 +63,6 @@ preprocess_of _ _ = None
 abbrev pub preprocess_of_reversed : List (List ℕ) → Option Work
 preprocess_of_reversed [] = None
 preprocess_of_reversed (path ∷ before) = preprocess_of (directories_of (reverse before)) (path_in path)
-
--- one word and no more, as a path
-abbrev pub only_path : List (List ℕ) → Option (List ℕ)
-only_path (word ∷ []) = path_in word
-only_path _ = None
 
 -- `sub` takes two words and a path
 abbrev pub substitute_of : List (List ℕ) → Option Work

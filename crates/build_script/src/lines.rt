@@ -1,7 +1,7 @@
 // What the lines of a script say.
 
-ghost use Rattle.std.specs.Prelude.{◌≡◌, ◌<◌, IfOk, IfSome, MatchOption, length, map, reverse};
-ghost use Rattle.build_script.specs.Lines.{path_in, path_before, paths_of, unless_words, cat_of, link_of, directories_of, preprocess_of, preprocess_of_reversed, only_path, substitute_of, head_by, head_of, digest_of, work_of, appends_of, makes, fail_of, line_of_reversed, line_of};
+ghost use Rattle.std.specs.Prelude.{◌≡◌, IfOk, map, reverse};
+ghost use Rattle.build_script.specs.Lines.{path_in, paths_of, cat_of, link_of, directory_of, directories_of, preprocess_of, preprocess_of_reversed, only_path, substitute_of, head_by, head_of, digest_of, work_of, appends_of, makes, fail_of, line_of_reversed, line_of};
 
 use cc_names::numbers::number;
 use crate::words::{without_at, words};
@@ -104,17 +104,23 @@ fn link_of(paths: Option<List<Path>>) -> Option<Work>
     }
 }
 
-/// The directory of a first pair of a `-I` and a word, and the words behind the pair.
-fn split_pair<'w, 't>(words: &'w [&'t [u8]]) -> Option<(&'t [u8], &'w [&'t [u8]])>
-    ensures pairs { MatchOption result (directories_of (map (λ word. word.now) words.now) ≡ unless_words words.now) (λ pair. directories_of (map (λ word. word.now) words.now) ≡ path_before (path_in pair.0.now) (directories_of (map (λ word. word.now) pair.1.now))) }
-    ensures shorter { IfSome result (λ pair. length pair.1.now < length words.now) }
+/// One word and no more, as a path.
+fn read_only_path(alloc: Global, words: &[&[u8]]) -> Result<Option<Path>, NoMemory>
+    ensures { IfOk result (λ path. path ≡ only_path (map (λ word. word.now) words.now)) }
 {
-    let (flag, behind) = words.split_first()?;
-    let (directory, behind) = behind.split_first()?;
-    if *flag == b"-I".as_slice() {
-        Some((directory, behind))
-    } else {
-        None
+    let [path] = words else {
+        return Ok(None);
+    };
+    read_path(alloc, path)
+}
+
+/// The directory of a pair of `-I` and a path, where the words are such a pair.
+fn read_pair(alloc: Global, words: &[&[u8]]) -> Result<Option<Path>, NoMemory>
+    ensures { IfOk result (λ path. path ≡ directory_of (map (λ word. word.now) words.now)) }
+{
+    match words.split_first() {
+        Some((flag, behind)) if *flag == b"-I".as_slice() => read_only_path(alloc, behind),
+        _ => Ok(None),
     }
 }
 
@@ -123,16 +129,11 @@ fn read_directories(alloc: Global, words: &[&[u8]]) -> Result<Option<List<Path>>
     ensures { IfOk result (λ paths. paths ≡ directories_of (map (λ word. word.now) words.now)) }
 {
     let mut paths = Vec::new(alloc);
-    let mut rest = words;
-    while let Some((directory, behind)) = split_pair(rest) {
-        let Some(path) = read_path(alloc, directory)? else {
+    for pair in words.chunks(2) {
+        let Some(path) = read_pair(alloc, pair)? else {
             return Ok(None);
         };
         paths.push(path)?;
-        rest = behind;
-    }
-    if !rest.is_empty() {
-        return Ok(None);
     }
     Ok(Some(List::of(paths)))
 }
@@ -151,16 +152,6 @@ fn read_preprocess(alloc: Global, words: &[&[u8]]) -> Result<Option<Work>, NoMem
         return Ok(None);
     };
     Ok(Some(Work::Preprocess { directories, path }))
-}
-
-/// One word and no more, as a path.
-fn read_only_path(alloc: Global, words: &[&[u8]]) -> Result<Option<Path>, NoMemory>
-    ensures { IfOk result (λ path. path ≡ only_path (map (λ word. word.now) words.now)) }
-{
-    let [path] = words else {
-        return Ok(None);
-    };
-    read_path(alloc, path)
 }
 
 /// The work of `sub`, which takes two words and a path.
