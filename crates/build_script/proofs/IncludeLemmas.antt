@@ -1,15 +1,19 @@
 -- How include lines are looked for and how `pp` goes on.
-use Rattle.std.proofs.Common.{◌≡◌, ℕ, zero, suc, ◌+◌, ◌-◌, ◌<◌, ◌≤◌, Option, Some, None, Bool, true, false, Result, Ok, Err, List, [], ◌∷◌, length, drop, refl, ap, sym, ◌∙◌, subst, arith}
+use Rattle.std.proofs.Common.{◌≡◌, ℕ, zero, suc, ◌+◌, ◌-◌, ◌<◌, ◌≤◌, Option, Some, None, Bool, true, false, Result, Ok, Err, List, [], ◌∷◌, ◌++◌, length, map, drop, reverse, refl, ap, sym, ◌∙◌, subst, arith}
 use Rattle.std.specs.Prelude.{nat_lt}
+use Rattle.std.proofs.lemmas.List.{map-append, reverse-append, length-reverse, length-map}
 use borrow.Author.Tests.{ltb-true, ltb-false}
 use Rattle.cc_names.specs.declared.refusals.ScriptFault.{ScriptFault}
 use Rattle.build_script.specs.Forms.{lines_in}
 use Rattle.build_script.specs.Includes.{include_of}
 use Rattle.build_script.specs.Making.{includes, resumed}
-use Rattle.build_script.specs.Parts.{Carried, gives}
+use Rattle.build_script.specs.Opens.{rest_of, rests_of}
+use Rattle.build_script.specs.Parts.{Carried, Gave, Halted}
 use Rattle.build_script.specs.Run.{Asking, Done, Asks, and_then, unless_fault, Made, Output, Preprocessing, expanded, lines_expanded, line_expanded, included, said, depth_limit, traced}
 use Rattle.build_script.specs.Standings.{Standing, texts}
 use Rattle.build_script.specs.declared.halts.Halt.{Halt}
+use Rattle.build_script.specs.declared.halts.Halt.TheVariants.{Fault, Stop, NoMemory}
+use Rattle.build_script.specs.declared.opens.OpenText.{OpenText}
 use Rattle.build_script.proofs.CarriedLemmas.{carried_lifted, and_then-assoc, and_then-done}
 
 pub lt_true : (m n : ℕ) → m < n → nat_lt m n ≡ true
@@ -79,3 +83,36 @@ resumed-included pp rest line behind path below made lines is =
     resumed-lines pp rest below made ∙ rw lines (rw is
     (and_then-assoc (includes (depth_limit - length below) pp path made) (lines_expanded (includes (depth_limit - length below) pp) pp.output (lines_in behind)) (resumed pp below)
     ∙ ap (λ (f : Made → Asking (Result Made ScriptFault)). and_then (includes (depth_limit - length below) pp path made) (unless_fault f)) (λ i made. sym (resumed-lines pp behind below made) i)))
+
+-- what is behind a line
+pub lines_behind : (rest line behind past : List ℕ) → lines_in rest ≡ line ∷ lines_in behind → rest ≡ line ++ behind → past ≡ drop (length line) rest → lines_in rest ≡ line ∷ lines_in past
+lines_behind rest line behind past lines whole is =
+    lines ∙ ap (λ (b : List ℕ). line ∷ lines_in b) (sym (is ∙ ap (drop (length line)) whole ∙ behind_front line behind))
+  where
+    behind_front : (front rest : List ℕ) → drop (length front) (front ++ rest) ≡ rest
+    behind_front [] rest = refl
+    behind_front (b ∷ front) rest = behind_front front rest
+
+-- the texts that `pp` is inside of, with one more, and their number
+pub rests_pushed : (opens : List OpenText) (opened : OpenText) → rests_of (opens ++ opened ∷ []) ≡ rest_of opened ∷ rests_of opens
+rests_pushed opens opened = ap reverse (map-append rest_of opens (opened ∷ [])) ∙ reverse-append (map rest_of opens) (rest_of opened ∷ [])
+
+pub rests_length : (opens : List OpenText) → length (rests_of opens) ≡ length opens
+rests_length opens = length-reverse (map rest_of opens) ∙ length-map opens rest_of
+
+-- a part that asks for nothing and ended early, wherever a value goes that was a fault
+pub carried_unsaid : {F X Y A B : Type 0} {stands : F → List ℕ → Option Standing} {broken : F → ℕ} {follows : List (List ℕ) → F → F → Type 0}
+    {asking : Asking (Result A ScriptFault)} {value : Result B ScriptFault} {halt : Halt} {reads : List (List ℕ)} {files : F}
+    (reflexive : (paths : List (List ℕ)) (files : F) → follows paths files files) (shown : Y → B) (then : X → Asking (Result A ScriptFault)) →
+    ((fault : ScriptFault) → value ≡ Err fault → asking ≡ Done (Err fault)) → Gave value shown (Err halt) →
+    Carried stands broken follows reads asking then (Err halt) reads files files
+carried_unsaid {stands = stands} {broken = broken} {asking = asking} {value = value} {halt = halt} {reads = reads} {files = files} reflexive shown then faults gave = record {
+  stays = record { meaning = refl; count = omega arith };
+  asked = λ paths among. reflexive paths files;
+  went = by halt gave;
+}
+  where
+    by : (halt : Halt) → Gave value shown (Err halt) → Halted (texts (stands files)) reads asking halt reads (broken files) (broken files)
+    by (Fault fault) gave = ap (traced (texts (stands files)) reads) (faults fault gave)
+    by (Stop stop) gave = absurd gave
+    by NoMemory gave = tt
