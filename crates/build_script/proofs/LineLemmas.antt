@@ -3,7 +3,7 @@ use Rattle.std.proofs.Common.{◌≡◌, ℕ, ◌<◌, min, Bool, true, false, i
 use Rattle.std.specs.Prelude.{codes}
 use Rattle.std.specs.Str.{bytes_eq}
 use Rattle.cc_names.specs.declared.refusals.ScriptFault.{ScriptFault}
-use Rattle.build_script.specs.Lines.{path_before, directory_of, directories_of, line_before, line_of}
+use Rattle.build_script.specs.Lines.{path_before, directory_of, directories_of, line_before}
 use Rattle.build_script.specs.declared.lines.Line.{Line}
 
 -- paths that were read before those that follow
@@ -44,8 +44,3 @@ pub onto_line : (read : List Line) (n : ℕ) (line : Line) (more : Result (List 
     lines_onto read (line_before n (Some line) more) ≡ lines_onto (read ++ line ∷ []) more
 onto_line read n line (Ok more) = simp append_assoc
 onto_line read n line (Err fault) = refl
-
--- a line outside the language is not empty
-pub filled_where_bad : (n : ℕ) (bytes : List ℕ) → line_of n bytes ≡ None → 0 < length bytes
-filled_where_bad n [] e = absurd (cc)
-filled_where_bad n (b ∷ bytes) e = omega arith

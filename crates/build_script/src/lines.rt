@@ -1,6 +1,6 @@
 // What the lines of a script say.
 
-ghost use Rattle.std.specs.Prelude.{◌≡◌, IfOk, map, reverse};
+ghost use Rattle.std.specs.Prelude.{◌≡◌, ◌+◌, ◌≤◌, ◌^◌, IfOk, length, map, reverse};
 ghost use Rattle.build_script.specs.Lines.{path_in, paths_of, cat_of, link_of, directory_of, directories_of, preprocess_of, preprocess_of_reversed, only_path, substitute_of, head_by, head_of, digest_of, work_of, appends_of, makes, fail_of, line_of_reversed, line_of};
 
 use cc_names::numbers::number;
@@ -279,9 +279,13 @@ fn read_words(alloc: Global, number: u32, words: &[&[u8]]) -> Result<Option<Line
 
 /// The line of this number of a script, or nothing where its words are outside the language. Takes time linear in its
 /// bytes.
-pub(crate) fn read_line(alloc: Global, number: u32, bytes: &[u8]) -> Result<Option<Line>, NoMemory>
+pub(crate) fn read_line(alloc: Global, number: u64, bytes: &[u8]) -> Result<Option<Line>, NoMemory>
+    requires { number + length bytes.now ≤ 2 ^ 32 }
     ensures { IfOk result (λ line. line ≡ line_of number bytes.now) }
 {
+    if bytes.is_empty() {
+        return Ok(Some(Line::Empty));
+    }
     let words = words(alloc, without_at(bytes))?;
-    read_words(alloc, number, words.as_slice())
+    read_words(alloc, number as u32, words.as_slice())
 }
