@@ -2,13 +2,15 @@ mod Cames
 mod FormedUnits
 mod Early
 mod Members
-pub mod RunsAlong
 pub mod RunsEach
 pub mod RunsEnded
 pub mod RunsEntries
 pub mod RunsFormed
+pub mod RunsGo
 pub mod RunsHere
 pub mod RunsOrdered
+pub mod RunsPaths
+pub mod RunsProbed
 pub mod RunsPublished
 pub mod RunsRead
 pub mod RunsReady

@@ -1,9 +1,8 @@
 -- The row that a unit's run publishes has the form of a row.
-use Rattle.std.proofs.Common.{◌≡◌, refl, ap, subst, ℕ, ◌≤◌, Bool, true, false, Some, Result, Ok, Err, is_some, List, [], ◌∷◌, length, arith}
-use Rattle.std.proofs.lemmas.Bool.Decides.{nat_tests}
+use Rattle.std.proofs.Common.{◌≡◌, refl, ap, subst, ℕ, ◌+◌, ◌≤◌, true, Option, Some, None, Result, Ok, Err, List, length, arith}
 use Rattle.std.specs.List.{AllByRecursion}
-use Rattle.cc_names.specs.Formed.{IsText, IsBelowRoot, IsListOf, AreEntries, AreTargets, IsDeedFormed}
-use Rattle.cc_names.specs.Paths.{IsPath, root, is_root}
+use Rattle.cc_names.specs.Formed.{IsText, IsListOf, AreEntries, AreTargets, IsDeedFormed}
+use Rattle.cc_names.specs.Paths.{root}
 use Rattle.cc_names.specs.declared.refusals.ScriptFault.{ScriptFault}
 use Rattle.cc_names.specs.declared.rows.Deed.{Deed}
 use Rattle.cc_names.specs.declared.rows.Deed.TheVariants as deeds
@@ -13,47 +12,32 @@ use Rattle.legal_history.specs.Builds.Active.{Build}
 use Rattle.legal_history.specs.Builds.Choices.{entries, here, publish_by, publish_of, text_of_row, visible}
 use Rattle.legal_history.specs.Builds.Fresh.{script_text}
 use Rattle.build_core.proofs.RunsEach.{each_so}
-use Rattle.build_core.proofs.RunsEnded.{AreOutputs, outputs_short, reads_found}
+use Rattle.build_core.proofs.RunsEnded.{AreOutputs, outputs_short, reads_below}
 use Rattle.build_core.proofs.RunsEntries.{entries_formed}
-use Rattle.build_core.proofs.RunsRead.{reads_few, reads_are_paths}
+use Rattle.build_core.proofs.RunsGo.{AreReads}
 use Rattle.build_core.proofs.RunsSeen.{seen_is_below, nothing_at_root}
 use Rattle.legal_history.specs.Base.Fits.{is_base}
 use Rattle.legal_history.proofs.Reuse.Reusables.{first_are_base}
 use Rattle.build_core.proofs.RunsReady.{base_has_room}
 use Rattle.build_core.specs.Publishing.{HasObjects, CanPublish}
 
--- the root is one path
-the_root : (path : List ℕ) → is_root path ≡ true → path ≡ root
-the_root [] h = absurd (cc)
-the_root (b ∷ []) h = let same : b ≡ 46 = grind (arith, nat_tests) in ap (λ byte. byte ∷ []) same
-the_root (b ∷ c ∷ path) h = absurd (cc)
+-- the texts that a unit sees, none at the root
+abbrev texts_seen : Base → Build → ℕ → Unit → List ℕ → Option (List ℕ)
+texts_seen b build n unit path = text_of_row b path (visible b build n unit path)
 
--- a path with a text is not the root
-found_below : (b : Base) (build : Build) (n : ℕ) (unit : Unit) (path : List ℕ) → HasObjects b build → is_some (text_of_row b path (visible b build n unit path)) ≡ true → IsPath path → IsBelowRoot path
-found_below b build n unit path h found is_path = (is_path, by (is_root path) refl)
-  where
-    by : (t : Bool) → is_root path ≡ t → t ≡ false
-    by false is = refl
-    by true is = absurd (
-        let nothing = ap (text_of_row b root) (nothing_at_root b build n unit h) in
-        let something = subst (λ p. is_some (text_of_row b p (visible b build n unit p)) ≡ true) (the_root path is) found in
-        cc)
-
--- so none of the paths with a text is
-each_below : (b : Base) (build : Build) (n : ℕ) (unit : Unit) (reads : List (List ℕ)) → HasObjects b build → AllByRecursion (λ path. is_some (text_of_row b path (visible b build n unit path)) ≡ true) reads →
-    AllByRecursion IsPath reads → AllByRecursion IsBelowRoot reads
-each_below b build n unit [] h found are = tt
-each_below b build n unit (path ∷ reads) h found are = (found_below b build n unit path h found.0 are.0, each_below b build n unit reads h found.1 are.1)
+rootless : (b : Base) (build : Build) (n : ℕ) (unit : Unit) → HasObjects b build → texts_seen b build n unit root ≡ None
+rootless b build n unit h = ap (text_of_row b root) (nothing_at_root b build n unit h)
 
 reads_formed : (b : Base) (build : Build) (n : ℕ) (unit : Unit) (outputs : List (List ℕ)) → is_base b ≡ true → CanPublish b build unit → (here b build n unit).result ≡ Ok outputs →
     AreEntries (entries (visible b build n unit) (here b build n unit).reads)
 reads_formed b build n unit outputs base h ran =
     entries_formed (visible b build n unit) (here b build n unit).reads
     (λ path row is. let low = seen_is_below b build n unit path row (first_are_base b build.rows base) h.objects is in let room = base_has_room b base in omega arith)
-    (each_below b build n unit (here b build n unit).reads h.objects
-    (reads_found (script_text unit.script) unit.targets (λ path. text_of_row b path (visible b build n unit path)) outputs ran)
-    (reads_are_paths (script_text unit.script) unit.targets (λ path. text_of_row b path (visible b build n unit path))))
-    (let few = reads_few (script_text unit.script) unit.targets (λ path. text_of_row b path (visible b build n unit path)) in let short = h.script in omega arith)
+    are.each
+    (let few = are.few in let short = h.script in omega arith)
+  where
+    are : AreReads (length (script_text unit.script) + 100000) (here b build n unit).reads
+    are = reads_below (script_text unit.script) unit.targets (texts_seen b build n unit) outputs (rootless b build n unit h.objects) ran
 
 outputs_formed : (targets outputs : List (List ℕ)) → AreTargets targets → AreOutputs targets outputs → IsListOf IsText outputs
 outputs_formed targets outputs are h = (
@@ -65,7 +49,7 @@ outputs_formed targets outputs are h = (
 pub publish_is_formed : (b : Base) (build : Build) (n : ℕ) (unit : Unit) (outputs : List (List ℕ)) → is_base b ≡ true → CanPublish b build unit → (here b build n unit).result ≡ Ok outputs →
     IsDeedFormed (deeds.Publish build.view unit.targets (script_text unit.script) (entries (visible b build n unit) (here b build n unit).reads) outputs)
 publish_is_formed b build n unit outputs base h ran =
-    let are = outputs_short (script_text unit.script) unit.targets (λ path. text_of_row b path (visible b build n unit path)) outputs ran in (
+    let are = outputs_short (script_text unit.script) unit.targets (texts_seen b build n unit) outputs (rootless b build n unit h.objects) ran in (
       (h.view, h.targets, (let short = h.script in omega arith), reads_formed b build n unit outputs base h ran, are.many),
       outputs_formed unit.targets outputs h.targets are,
     )

@@ -1,14 +1,11 @@
--- The reads of a run: each once, few, and paths.
-use Rattle.std.proofs.Common.{◌≡◌, refl, ℕ, ◌≤◌, Bool, true, false, List, [], ◌∷◌, ◌++◌, if◌then◌else◌, length, arith}
+-- The reads of a run, each once.
+use Rattle.std.proofs.Common.{◌≡◌, refl, ℕ, Bool, true, false, List, [], ◌∷◌, ◌++◌, if◌then◌else◌}
 use Rattle.std.proofs.lemmas.Map.Keys.{IsDistinct-push}
 use Rattle.std.proofs.lemmas.Cmp.{nat_list_eq_equiv}
-use Rattle.std.specs.List.{AllByRecursion, IsDistinct, list_any}
+use Rattle.std.specs.List.{IsDistinct, list_any}
 use Rattle.std.specs.Str.{bytes_eq}
-use Rattle.cc_names.specs.Paths.{IsPath}
 use Rattle.build_script.specs.Lines.{script_of}
 use Rattle.build_script.specs.Run.{Files, Asking, Done, Asks, traced, noted, run, run_of}
-use Rattle.build_core.proofs.RunsAlong.{run_along}
-use Rattle.build_core.proofs.RunsScripts.{script_read}
 
 noted_once : (reads : List (List ℕ)) (path : List ℕ) → IsDistinct bytes_eq reads → IsDistinct bytes_eq (noted reads path)
 noted_once reads path once = by (list_any (bytes_eq path) reads) refl
@@ -25,14 +22,3 @@ traced_once files reads (Asks path next) once = traced_once files (noted reads p
 pub reads_once : (script : List ℕ) (targets : List (List ℕ)) (files : Files) → IsDistinct bytes_eq (run script targets files).reads
 unfolding IsDistinct
 reads_once script targets files = traced_once files [] (run_of targets (script_of script)) tt
-
--- A run reads no more paths than its script has bytes.
-pub reads_few : (script : List ℕ) (targets : List (List ℕ)) (files : Files) → length (run script targets files).reads ≤ length script
-reads_few script targets files =
-    let few = (run_along files IsPath targets (script_of script)).few [] in
-    let are = (script_read script).few in
-    omega arith
-
--- Each read of a run is a path.
-pub reads_are_paths : (script : List ℕ) (targets : List (List ℕ)) (files : Files) → AllByRecursion IsPath (run script targets files).reads
-reads_are_paths script targets files = (run_along files IsPath targets (script_of script)).only (script_read script).each [] tt

@@ -1,16 +1,18 @@
--- How a run goes without a fault: what it writes is within the limit, and what it asks for is there.
-use Rattle.std.proofs.Common.{◌≡◌, refl, ap, sym, subst, ℕ, ◌≤◌, Bool, true, false, Option, Some, None, Result, Ok, Err, is_some, List, [], ◌∷◌, ◌++◌, length, nat_lt, if◌then◌else◌, arith}
-use Rattle.std.proofs.lemmas.Bool.{ltb-false}
-use Rattle.std.specs.List.{AllByRecursion, list_any}
+-- How a run goes without a fault, line by line: what it writes is within the limit, and its reads are those of the paths that its
+-- script has and of its probes.
+use Rattle.std.proofs.Common.{◌≡◌, refl, sym, subst, ◌∙◌, ℕ, ◌+◌, ◌≤◌, Bool, true, false, Option, Some, None, Ok, Err, List, [], ◌∷◌, ◌++◌, length, if◌then◌else◌, arith, length-append}
+use Rattle.std.specs.List.{AllByRecursion, flat_map, list_any}
 use Rattle.std.specs.Str.{bytes_eq}
-use Rattle.cc_names.specs.declared.refusals.ScriptFault.{ScriptFault}
-use Rattle.cc_names.specs.declared.refusals.ScriptFault.TheVariants.{TooBig, StrayWrite}
-use Rattle.build_script.specs.Run.{Files, Asking, Done, Traced, traced, noted, and_then, Part, Says, TextOf, parts_of, see, output_limit, lengthened, lengthened_by, with_part, with_parts, unless_fault, begun, wrote, write_output, after_line, after_lines}
+use Rattle.cc_names.specs.Paths.{IsPath, root}
+use Rattle.cc_names.specs.declared.refusals.ScriptFault.TheVariants.{StrayWrite, Failed}
+use Rattle.build_script.specs.Run.{Files, State, Done, Part, Says, TextOf, Preprocessed, Preprocessing, parts_of, Output, Made, said, text_at, expanded, depth_limit, with_part, with_parts, begun, wrote, write_output, after_line, after_lines}
 use Rattle.build_script.specs.declared.lines.Line.{Line}
-use Rattle.build_script.specs.declared.lines.Line.TheVariants.{Empty, Makes}
+use Rattle.build_script.specs.declared.lines.Line.TheVariants.{Empty, Makes, Fail}
 use Rattle.build_script.specs.declared.lines.Work.{Work}
-use Rattle.build_script.proofs.RunLemmas.{traced-and_then}
-use Rattle.build_core.proofs.RunsAlong.{noted_only}
+use Rattle.build_core.proofs.RunsEach.{each_of_first, each_of_second}
+use Rattle.build_core.proofs.RunsGo.{Leads, ends_so, leads_done, leads_then, AreReads, reads_wider, text_leads}
+use Rattle.build_core.proofs.RunsPaths.{part_paths, line_paths}
+use Rattle.build_core.proofs.RunsProbed.{MadeWell, said_leads, expanded_leads}
 
 -- an output within the limit
 abbrev pub IsShort : List ℕ → Type 0
@@ -19,69 +21,45 @@ IsShort output = length output ≤ 1048576
 abbrev pub AreShort : Files → Type 0
 AreShort own = (path bytes : List ℕ) → own path ≡ Some bytes → IsShort bytes
 
--- the files have a text at each of these paths
-abbrev pub AreFound : Files → List (List ℕ) → Type 0
-AreFound files = AllByRecursion (λ path. is_some (files path) ≡ true)
-
--- what is made where there was no fault
-abbrev pub Gives : {A : Type 0} → (A → Type 0) → Result A ScriptFault → Type 0
-Gives P (Ok a) = P a
-Gives P (Err fault) = Unit {0}
-
--- a part of a run that is without fault by then, with what it came to and has read
-abbrev pub Ends : {A : Type 0} → Files → (A → Type 0) → Result A ScriptFault → List (List ℕ) → Type 0
-Ends files P (Ok a) reads = P a × AreFound files reads
-Ends files P (Err fault) reads = Unit {0}
-
-pub record GoesWell {A : Type 0} (files : Files) (P : A → Type 0) (asking : Asking (Result A ScriptFault)) : Type 0 where
-  pub ends : (reads : List (List ℕ)) → AreFound files reads → Ends files P (traced files reads asking).value (traced files reads asking).reads
-
-pub well_done : {A : Type 0} (files : Files) (P : A → Type 0) (r : Result A ScriptFault) → Gives P r → GoesWell files P (Done r)
-well_done files P (Ok a) h = record { ends = λ reads found. (h, found) }
-well_done files P (Err fault) h = record { ends = λ reads found. tt }
-
-pub well_then : {A B : Type 0} (files : Files) (P : A → Type 0) (Q : B → Type 0) (first : Asking (Result A ScriptFault)) (next : A → Asking (Result B ScriptFault)) →
-    GoesWell files P first → ((a : A) → P a → GoesWell files Q (next a)) → GoesWell files Q (and_then first (unless_fault next))
-well_then {A} {B} files P Q first next before after = record {
-  ends = λ reads found.
-      subst (λ (t : Traced (Result B ScriptFault)). Ends files Q t.value t.reads) (sym (traced-and_then files reads first (unless_fault next)))
-      (by (traced files reads first).value (traced files reads first).reads (before.ends reads found));
+-- a text that has to be there, and then what is made of it
+text_then : (files own : Files) (output : Output) (path : List ℕ) (n : ℕ) (made : Made) → files root ≡ None → IsPath path →
+    Leads files (MadeWell output n made) (λ (text : List ℕ). MadeWell output (n + 1) made) (text_at own path)
+text_then files own output path n made rootless is_path = record {
+  ends = λ reads h. ends_so (λ (text : List ℕ). AreReads (n + made.probes + 1)) (λ (text : List ℕ). MadeWell output (n + 1) made)
+      (λ text after well. record { fits = h.fits; within = h.within; are = reads_wider (n + made.probes + 1) (n + 1 + made.probes) after (omega arith) well }) _ _
+      ((text_leads files own path (n + made.probes) rootless is_path).ends reads h.are);
 }
-  where
-    by : (r : Result A ScriptFault) (reads : List (List ℕ)) → Ends files P r reads → Ends files Q (traced files reads (unless_fault next r)).value (traced files reads (unless_fault next r)).reads
-    by (Ok a) reads h = (after a h.0).ends reads h.1
-    by (Err fault) reads h = tt
 
-lengthened_short : (output bytes more : List ℕ) → Gives IsShort (lengthened output bytes more)
-lengthened_short output bytes more = by (nat_lt output_limit (length (bytes ++ more))) refl
-  where
-    by : (t : Bool) → nat_lt output_limit (length (bytes ++ more)) ≡ t → Gives IsShort (if t then Err (TooBig output) else Ok (bytes ++ more))
-    by true test = tt
-    by false test = ltb-false _ _ test
+-- so many paths and none more
+none_more : (n : ℕ) → n ≡ n + 0
+none_more n = omega arith
 
-text_well : (files : Files) (output bytes path : List ℕ) (reads : List (List ℕ)) → AreFound files reads → Ends files IsShort (lengthened_by output bytes path (files path)) (noted reads path)
-text_well files output bytes path reads found = by (files path) refl
-  where
-    by_made : (r : Result (List ℕ) ScriptFault) → Gives IsShort r → AreFound files (noted reads path) → Ends files IsShort r (noted reads path)
-    by_made (Ok made) short all = (short, all)
-    by_made (Err fault) short all = tt
+part_leads : (files own : Files) (output : Output) (n : ℕ) (part : Part) (made : Made) → files root ≡ None → AllByRecursion IsPath (part_paths part) →
+    Leads files (MadeWell output n made) (MadeWell output (n + length (part_paths part))) (with_part own output part made)
+part_leads files own output n (Says more) made rootless are =
+    subst (λ k. Leads files (MadeWell output n made) (MadeWell output k) (Done (said output more made))) (none_more n) (said_leads files output more n made)
+part_leads files own output n (TextOf form path) made rootless are =
+    leads_then files (MadeWell output n made) (λ (text : List ℕ). MadeWell output (n + 1) made) (MadeWell output (n + 1)) (text_at own path) (λ text. Done (said output (form text) made))
+    (text_then files own output path n made rootless are.0) (λ text. said_leads files output (form text) (n + 1) made)
+part_leads files own output n (Preprocessed directories path) made rootless are =
+    let pp : Preprocessing = record { own = own; directories = directories; output = output } in
+    leads_then files (MadeWell output n made) (λ (text : List ℕ). MadeWell output (n + 1) made) (MadeWell output (n + 1)) (text_at own path) (λ text. expanded depth_limit pp text made)
+    (text_then files own output path n made rootless are.0) (λ text. expanded_leads files depth_limit pp (n + 1) rootless text made)
 
-    by : (o : Option (List ℕ)) → files path ≡ o → Ends files IsShort (lengthened_by output bytes path o) (noted reads path)
-    by None is = tt
-    by (Some text) is = by_made (lengthened output bytes text) (lengthened_short output bytes text) (noted_only (λ p. is_some (files p) ≡ true) reads path (ap is_some is) found)
+-- so many paths and so many more
+behind_both : (n : ℕ) (one two : List (List ℕ)) → n + length one + length two ≡ n + length (one ++ two)
+behind_both n one two = omega (arith, length-append one two)
 
-part_well : (files own : Files) (output bytes : List ℕ) (part : Part) → GoesWell files IsShort (with_part own output bytes part)
-part_well files own output bytes (Says more) = well_done files IsShort (lengthened output bytes more) (lengthened_short output bytes more)
-part_well files own output bytes (TextOf path) = by (own path)
-  where
-    by : (o : Option (List ℕ)) → GoesWell files IsShort (and_then (see o path) (λ found. Done (lengthened_by output bytes path found)))
-    by (Some text) = well_done files IsShort (lengthened output bytes text) (lengthened_short output bytes text)
-    by None = record { ends = λ reads found. text_well files output bytes path reads found }
-
-parts_well : (files own : Files) (output : List ℕ) (parts : List Part) (bytes : List ℕ) → IsShort bytes → GoesWell files IsShort (with_parts own output parts bytes)
-parts_well files own output [] bytes short = well_done files IsShort (Ok bytes) short
-parts_well files own output (part ∷ parts) bytes short =
-    well_then files IsShort IsShort (with_part own output bytes part) (with_parts own output parts) (part_well files own output bytes part) (parts_well files own output parts)
+parts_leads : (files own : Files) (output : Output) (n : ℕ) (parts : List Part) (made : Made) → files root ≡ None → AllByRecursion IsPath (flat_map part_paths parts) →
+    Leads files (MadeWell output n made) (MadeWell output (n + length (flat_map part_paths parts))) (with_parts own output parts made)
+parts_leads files own output n [] made rootless are =
+    subst (λ k. Leads files (MadeWell output n made) (MadeWell output k) (Done (Ok made))) (none_more n) (leads_done files (MadeWell output n made) (MadeWell output n) (Ok made) (λ reads h. h))
+parts_leads files own output n (part ∷ parts) made rootless are =
+    subst (λ k. Leads files (MadeWell output n made) (MadeWell output k) (with_parts own output (part ∷ parts) made)) (behind_both n (part_paths part) (flat_map part_paths parts))
+    (leads_then files (MadeWell output n made) (MadeWell output (n + length (part_paths part))) (MadeWell output (n + length (part_paths part) + length (flat_map part_paths parts)))
+    (with_part own output part made) (with_parts own output parts)
+    (part_leads files own output n part made rootless (each_of_first IsPath (part_paths part) (flat_map part_paths parts) are))
+    (λ after. parts_leads files own output (n + length (part_paths part)) parts after rootless (each_of_second IsPath (part_paths part) (flat_map part_paths parts) are)))
 
 begun_short : (appends : Bool) (o : Option (List ℕ)) → ((bytes : List ℕ) → o ≡ Some bytes → IsShort bytes) → IsShort (begun appends o)
 begun_short true (Some bytes) short = short bytes refl
@@ -95,19 +73,62 @@ wrote_short own output made short here path bytes = by (bytes_eq output path)
     by true is = let same : made ≡ bytes = cc in subst IsShort same here
     by false is = short path bytes is
 
-output_well : (files own : Files) (work : Work) (appends : Bool) (output : List ℕ) → AreShort own → GoesWell files AreShort (write_output own work appends output)
-output_well files own work appends output short =
-    well_then files IsShort AreShort (with_parts own output (parts_of work) (begun appends (own output))) (λ bytes. Done (Ok (wrote output bytes own)))
-    (parts_well files own output (parts_of work) (begun appends (own output)) (begun_short appends (own output) (short output)))
-    (λ bytes here. well_done files AreShort (Ok (wrote output bytes own)) (wrote_short own output bytes short here))
+-- a run whose outputs are within the limit, with the reads of so many texts and its probes
+pub record StateWell (n : ℕ) (state : State) (reads : List (List ℕ)) : Type 0 where
+  pub short : AreShort state.own
+  pub within : state.probes ≤ 100000
+  pub are : AreReads (n + state.probes) reads
 
-line_well : (files : Files) (targets : List (List ℕ)) (line : Line) (own : Files) → AreShort own → GoesWell files AreShort (after_line targets own line)
-line_well files targets Empty own short = well_done files AreShort (Ok own) short
-line_well files targets (Makes work appends output) own short =
-    elim (list_any (λ target. bytes_eq target output) targets) as (λ (t : Bool). GoesWell files AreShort (if t then write_output own work appends output else Done (Err (StrayWrite output))))
-    [ true ↦ output_well files own work appends output short | false ↦ well_done files AreShort (Err (StrayWrite output)) tt ]
+output_leads : (files : Files) (n : ℕ) (state : State) (work : Work) (appends : Bool) (path : List ℕ) → files root ≡ None → AllByRecursion IsPath (flat_map part_paths (parts_of work)) →
+    Leads files (StateWell n state) (StateWell (n + length (flat_map part_paths (parts_of work)))) (write_output state work appends path)
+output_leads files n state work appends path rootless are =
+    leads_then files (StateWell n state) (λ (made : Made) reads. AreShort state.own × MadeWell output more made reads) (StateWell more)
+    (with_parts state.own output (parts_of work) fresh) (λ made. Done (Ok (record { own = wrote path (begin ++ made.bytes) state.own; probes = made.probes })))
+    (record {
+      ends = λ reads h. ends_so (MadeWell output more) (λ (made : Made) after. AreShort state.own × MadeWell output more made after) (λ made after well. (h.short, well)) _ _
+          ((parts_leads files state.own output n (parts_of work) fresh rootless are).ends reads (record { fits = begun_so h.short; within = h.within; are = h.are }));
+    })
+    (λ made. leads_done files (λ reads. AreShort state.own × MadeWell output more made reads) (StateWell more) (Ok (record { own = wrote path (begin ++ made.bytes) state.own; probes = made.probes }))
+    (λ reads h. record {
+      short = wrote_short state.own path (begin ++ made.bytes) h.0 (let fits = h.1.fits in omega (arith, length-append begin made.bytes));
+      within = h.1.within;
+      are = h.1.are;
+    }))
+  where
+    begin : List ℕ
+    begin = begun appends (state.own path)
 
-pub lines_well : (files : Files) (targets : List (List ℕ)) (lines : List Line) (own : Files) → AreShort own → GoesWell files AreShort (after_lines targets lines own)
-lines_well files targets [] own short = well_done files AreShort (Ok own) short
-lines_well files targets (line ∷ lines) own short =
-    well_then files AreShort AreShort (after_line targets own line) (after_lines targets lines) (line_well files targets line own short) (lines_well files targets lines)
+    output : Output
+    output = record { path = path; before = length begin }
+
+    fresh : Made
+    fresh = record { bytes = []; probes = state.probes }
+
+    more : ℕ
+    more = n + length (flat_map part_paths (parts_of work))
+
+    begun_so : AreShort state.own → length begin + 0 ≤ 1048576
+    begun_so short = let fits = begun_short appends (state.own path) (short path) in omega arith
+
+line_leads : (files : Files) (targets : List (List ℕ)) (n : ℕ) (line : Line) (state : State) → files root ≡ None → AllByRecursion IsPath (line_paths line) →
+    Leads files (StateWell n state) (StateWell (n + length (line_paths line))) (after_line targets state line)
+line_leads files targets n Empty state rootless are =
+    subst (λ k. Leads files (StateWell n state) (StateWell k) (Done (Ok state))) (none_more n) (leads_done files (StateWell n state) (StateWell n) (Ok state) (λ reads h. h))
+line_leads files targets n (Fail number) state rootless are = leads_done files (StateWell n state) (StateWell (n + 0)) (Err (Failed number)) (λ reads h. tt)
+line_leads files targets n (Makes work appends output) state rootless are =
+    elim (list_any (λ target. bytes_eq target output) targets)
+    as (λ (t : Bool). Leads files (StateWell n state) (StateWell (n + length (line_paths (Makes work appends output)))) (if t then write_output state work appends output else Done (Err (StrayWrite output)))) [
+      | true ↦ output_leads files n state work appends output rootless are
+      | false ↦ leads_done files (StateWell n state) (StateWell (n + length (line_paths (Makes work appends output)))) (Err (StrayWrite output)) (λ reads h. tt)
+    ]
+
+pub run_leads : (files : Files) (targets : List (List ℕ)) (n : ℕ) (lines : List Line) (state : State) → files root ≡ None → AllByRecursion IsPath (flat_map line_paths lines) →
+    Leads files (StateWell n state) (StateWell (n + length (flat_map line_paths lines))) (after_lines targets lines state)
+run_leads files targets n [] state rootless are =
+    subst (λ k. Leads files (StateWell n state) (StateWell k) (Done (Ok state))) (none_more n) (leads_done files (StateWell n state) (StateWell n) (Ok state) (λ reads h. h))
+run_leads files targets n (line ∷ lines) state rootless are =
+    subst (λ k. Leads files (StateWell n state) (StateWell k) (after_lines targets (line ∷ lines) state)) (behind_both n (line_paths line) (flat_map line_paths lines))
+    (leads_then files (StateWell n state) (StateWell (n + length (line_paths line))) (StateWell (n + length (line_paths line) + length (flat_map line_paths lines)))
+    (after_line targets state line) (after_lines targets lines)
+    (line_leads files targets n line state rootless (each_of_first IsPath (line_paths line) (flat_map line_paths lines) are))
+    (λ after. run_leads files targets (n + length (line_paths line)) lines after rootless (each_of_second IsPath (line_paths line) (flat_map line_paths lines) are)))

@@ -39,15 +39,15 @@ impl Files for UnitFiles<'_> {
 
     ghost broken = { λ files. 0 };
 
-    ghost follows = { λ before after. Unit {0} };
+    ghost follows = { λ paths before after. Unit {0} };
 
     fn read(&mut self, path: &Path) -> Got {
         fetch(self.alloc, self.rows, self.build, self.unit, path)
     }
 
-    ghost reflexive = { λ files. tt };
+    ghost reflexive = { λ paths files. tt };
 
-    ghost transitive = { λ one two three first second. tt };
+    ghost transitive = { λ paths one two three first second. tt };
 }
 
 /// Runs the script of a unit over what the unit sees. The script and the targets are those

@@ -1,13 +1,38 @@
 -- How a script is read word by word and line by line.
-use Rattle.std.proofs.Common.{◌≡◌, ℕ, ◌<◌, Option, Some, None, Result, Ok, Err, List, [], ◌∷◌, ◌++◌, length, refl, append_assoc, arith}
+use Rattle.std.proofs.Common.{◌≡◌, ℕ, ◌<◌, min, Bool, true, false, if◌then◌else◌, Option, Some, None, Result, Ok, Err, List, [], ◌∷◌, ◌++◌, length, map, refl, sym, ap, ◌∙◌, append_assoc, arith, Bor}
+use Rattle.std.specs.Prelude.{codes}
+use Rattle.std.specs.Str.{bytes_eq}
 use Rattle.cc_names.specs.declared.refusals.ScriptFault.{ScriptFault}
-use Rattle.build_script.specs.Lines.{line_before, line_of}
+use Rattle.build_script.specs.Lines.{path_before, directory_of, directories_of, line_before}
 use Rattle.build_script.specs.declared.lines.Line.{Line}
 
 -- paths that were read before those that follow
 abbrev pub paths_onto : List (List ℕ) → Option (List (List ℕ)) → Option (List (List ℕ))
 paths_onto read None = None
 paths_onto read (Some more) = Some (read ++ more)
+
+-- the directories of a first pair and of the pairs behind it
+directories_front : (pair rest : List (Bor (List ℕ))) → length pair ≡ min 2 (length (pair ++ rest)) → 0 < length (pair ++ rest) →
+    directories_of (map (λ word. word.now) (pair ++ rest)) ≡ path_before (directory_of (map (λ word. word.now) pair)) (directories_of (map (λ word. word.now) rest))
+directories_front [] [] e h = absurd (omega arith)
+directories_front [] (a ∷ rest) e h = absurd (omega arith)
+directories_front (a ∷ []) [] e h = by (bytes_eq a.now (codes "-I"))
+  where
+    by : (flagged : Bool) → None ≡ path_before (if flagged then None else None) (Some [])
+    by true = refl
+    by false = refl
+directories_front (a ∷ []) (b ∷ rest) e h = absurd (omega arith)
+directories_front (a ∷ b ∷ []) rest e h = refl
+directories_front (a ∷ b ∷ c ∷ more) rest e h = absurd (omega arith)
+
+pub directories_cut : (words pair rest : List (Bor (List ℕ))) → words ≡ pair ++ rest → length pair ≡ min 2 (length words) → 0 < length words →
+    directories_of (map (λ word. word.now) words) ≡ path_before (directory_of (map (λ word. word.now) pair)) (directories_of (map (λ word. word.now) rest))
+directories_cut words pair rest e two filled = rw e (directories_front pair rest (rw e at two) (rw e at filled))
+
+-- a path that is read joins those before it
+pub onto_path : (read : List (List ℕ)) (path : List ℕ) (more : Option (List (List ℕ))) → paths_onto read (path_before (Some path) more) ≡ paths_onto (read ++ path ∷ []) more
+onto_path read path (Some more) = simp append_assoc
+onto_path read path None = refl
 
 -- lines that were read before those that follow
 abbrev pub lines_onto : List Line → Result (List Line) ScriptFault → Result (List Line) ScriptFault
@@ -19,8 +44,3 @@ pub onto_line : (read : List Line) (n : ℕ) (line : Line) (more : Result (List 
     lines_onto read (line_before n (Some line) more) ≡ lines_onto (read ++ line ∷ []) more
 onto_line read n line (Ok more) = simp append_assoc
 onto_line read n line (Err fault) = refl
-
--- a line outside the language is not empty
-pub filled_where_bad : (bytes : List ℕ) → line_of bytes ≡ None → 0 < length bytes
-filled_where_bad [] e = absurd (cc)
-filled_where_bad (b ∷ bytes) e = omega arith

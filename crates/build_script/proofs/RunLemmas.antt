@@ -1,99 +1,118 @@
--- How a run goes on, part by part.
-use Rattle.std.proofs.Common.{◌≡◌, ℕ, List, [], ◌∷◌, ◌++◌, Bool, Result, Ok, Err, refl, ap, sym, ◌∙◌, ◌+◌, ◌<◌, ◌≤◌, inl, inr, suc, length, drop, get_or, add-one, drop-cons, arith}
+-- How lines and outputs of a run follow each other.
+use Rattle.std.proofs.Common.{◌≡◌, ℕ, List, [], ◌∷◌, ◌++◌, Result, Ok, Err, Bool, true, false, ◌||◌, refl, ap, sym, ◌∙◌, subst, if◌then◌else◌, take, ◌+◌, ◌<◌, suc, length, drop, get_or, add-one, drop-cons}
 use Rattle.std.specs.List.{flat_map, join_with_byte}
 use Rattle.std.proofs.lemmas.List.{append-nil}
+use Rattle.std.proofs.Math.Seq.{take-suc}
 use Rattle.cc_names.specs.declared.refusals.ScriptFault.{ScriptFault}
-use Rattle.build_script.specs.Run.{Files, Asking, Done, Asks, traced, noted, and_then, begun, parts_of, with_parts, wrote, write_output, after_line, after_lines, run_from, outputs_of}
+use Rattle.std.specs.List.{list_any}
+use Rattle.std.specs.Str.{bytes_eq}
+use Rattle.std.proofs.lemmas.Slice.Eq.{bytes_eq-Decides}
 use Rattle.build_script.specs.declared.lines.Line.{Line}
-use Rattle.build_script.specs.Parts.{Halted, Gave, Went}
-use Rattle.build_script.specs.Standings.{Rose}
-use Rattle.build_script.specs.declared.files.Stop.TheVariants.{Broken}
-use Rattle.build_script.specs.declared.halts.Halt.{Halt}
-use Rattle.build_script.specs.declared.halts.Halt.TheVariants.{Fault, Stop, NoMemory}
-use Rattle.build_script.specs.declared.lines.Work.{Work}
+use Rattle.build_script.specs.declared.lines.Line.TheVariants.{Empty, Makes, Fail}
+use Rattle.build_script.specs.Progress.{HoldsEach}
+use Rattle.build_script.specs.Run.{State, Asking, Done, and_then, unless_fault, noted, write_output, after_line, after_lines}
+use Rattle.build_script.specs.Standings.{IsAmong, AreAmong}
+use Rattle.cc_names.specs.declared.refusals.ScriptFault.TheVariants.{StrayWrite}
 
 -- words with a space between each two are the first and the others behind a space each
 pub joined_by_spaces : (first : List ℕ) (others : List (List ℕ)) → join_with_byte 32 (first ∷ others) ≡ first ++ flat_map (λ word. 32 ∷ word) others
 joined_by_spaces first [] = sym (append-nil first)
 joined_by_spaces first (second ∷ others) = ap (λ (more : List ℕ). first ++ 32 ∷ more) (joined_by_spaces second others)
 
--- one after the other is traced one after the other
-pub traced-and_then : {A B : Type 0} (files : Files) (reads : List (List ℕ)) (first : Asking A) (next : A → Asking B) →
-    traced files reads (and_then first next) ≡ traced files (traced files reads first).reads (next (traced files reads first).value)
-traced-and_then files reads (Done a) next = refl
-traced-and_then files reads (Asks path more) next = traced-and_then files (noted reads path) (more (files path)) next
-
--- an output whose parts were put behind each other
-pub output_written : (files : Files) (reads after : List (List ℕ)) (own : Files) (work : Work) (appends : Bool) (output bytes : List ℕ) →
-    traced files reads (with_parts own output (parts_of work) (begun appends (own output))) ≡ record { value = Ok bytes; reads = after } →
-    traced files reads (write_output own work appends output) ≡ record { value = Ok (wrote output bytes own); reads = after }
-output_written files reads after own work appends output bytes e = rw traced-and_then (rw e refl)
-
--- an output whose parts met a fault, or were given up
-pub output_failed : (files : Files) (reads after : List (List ℕ)) (own : Files) (work : Work) (appends : Bool) (output : List ℕ) (halt : Halt) (old new : ℕ) →
-    Halted files reads (with_parts own output (parts_of work) (begun appends (own output))) halt after old new →
-    Halted files reads (write_output own work appends output) halt after old new
-output_failed files reads after own work appends output (Fault fault) old new e = rw traced-and_then (rw e refl)
-output_failed files reads after own work appends output (Stop stop) old new e = e
-output_failed files reads after own work appends output NoMemory old new e = tt
-
--- lines behind one that passed
-pub lines_behind : (files : Files) (reads after : List (List ℕ)) (targets : List (List ℕ)) (own own' : Files) (line : Line) (lines : List Line) →
-    traced files reads (after_line targets own line) ≡ record { value = Ok own'; reads = after } →
-    traced files reads (after_lines targets (line ∷ lines) own) ≡ traced files after (after_lines targets lines own')
-lines_behind files reads after targets own own' line lines e = rw traced-and_then (rw e refl)
-
--- lines behind one that did not
-pub lines_failed : (files : Files) (reads after : List (List ℕ)) (targets : List (List ℕ)) (own : Files) (line : Line) (lines : List Line) (halt : Halt) (old new : ℕ) →
-    Halted files reads (after_line targets own line) halt after old new → Halted files reads (after_lines targets (line ∷ lines) own) halt after old new
-lines_failed files reads after targets own line lines (Fault fault) old new e = rw traced-and_then (rw e refl)
-lines_failed files reads after targets own line lines (Stop stop) old new e = e
-lines_failed files reads after targets own line lines NoMemory old new e = tt
-
--- a whole run whose lines passed, and one whose lines did not
-pub run_behind : (files : Files) (reads after : List (List ℕ)) (targets : List (List ℕ)) (lines : List Line) (own own' : Files) →
-    traced files reads (after_lines targets lines own) ≡ record { value = Ok own'; reads = after } →
-    traced files reads (run_from targets lines own) ≡ record { value = outputs_of targets own'; reads = after }
-run_behind files reads after targets lines own own' e = rw traced-and_then (rw e refl)
-
-pub run_failed : (files : Files) (reads after : List (List ℕ)) (targets : List (List ℕ)) (lines : List Line) (own : Files) (halt : Halt) (old new : ℕ) →
-    Halted files reads (after_lines targets lines own) halt after old new → Halted files reads (run_from targets lines own) halt after old new
-run_failed files reads after targets lines own (Fault fault) old new e = rw traced-and_then (rw e refl)
-run_failed files reads after targets lines own (Stop stop) old new e = e
-run_failed files reads after targets lines own NoMemory old new e = tt
-
--- a run whose last step asks for nothing
-pub run_ended : {X A : Type 0} (files : Files) (reads after : List (List ℕ)) (asking : Asking (Result A ScriptFault)) (shown : X → A) (value : Result A ScriptFault) (result : Result X Halt) (old new : ℕ) →
-    traced files reads asking ≡ record { value = value; reads = after } → Gave value shown result → Went files reads asking shown result after old new
-run_ended files reads after asking shown value (Ok x) old new e gave = rw e (rw gave refl)
-run_ended files reads after asking shown value (Err (Fault fault)) old new e gave = rw e (rw gave refl)
-run_ended files reads after asking shown value (Err (Stop stop)) old new e gave = absurd gave
-run_ended files reads after asking shown value (Err NoMemory) old new e gave = tt
-
--- a count that rose did so from a lower one too
-rose_from : (lower old new : ℕ) → lower ≤ old → Rose old new → Rose lower new
-rose_from lower old new h (inl rose) = inl (omega arith)
-rose_from lower old new h (inr last) = inr last
-
--- what ended early did so from a lower count too
-pub halted_from : {A : Type 0} (files : Files) (reads after : List (List ℕ)) (asking : Asking (Result A ScriptFault)) (halt : Halt) (lower old new : ℕ) →
-    lower ≤ old → Halted files reads asking halt after old new → Halted files reads asking halt after lower new
-halted_from files reads after asking (Fault fault) lower old new h e = e
-halted_from files reads after asking (Stop Broken) lower old new h e = rose_from lower old new h e
-halted_from files reads after asking NoMemory lower old new h e = e
-
--- what ended early did so from where it is traced the same
-pub halted_along : {A : Type 0} (files : Files) (before reads after : List (List ℕ)) (whole rest : Asking (Result A ScriptFault)) (halt : Halt) (old new : ℕ) →
-    traced files before whole ≡ traced files reads rest → Halted files reads rest halt after old new → Halted files before whole halt after old new
-halted_along files before reads after whole rest (Fault fault) old new e h = e ∙ h
-halted_along files before reads after whole rest (Stop stop) old new e h = h
-halted_along files before reads after whole rest NoMemory old new e h = h
-
--- the line at an index and those behind it
-pub lines_at : (lines : List Line) (i : ℕ) (line : Line) → line ≡ get_or lines i line → i < length lines → drop i lines ≡ line ∷ drop (i + 1) lines
-lines_at lines i line is low = rw add-one (drop-cons lines i line low ∙ ap (λ (l : Line). l ∷ drop (suc i) lines) (sym is))
+-- the item at an index and those behind it
+pub item_at : {X : Type 0} (items : List X) (i : ℕ) (item : X) → item ≡ get_or items i item → i < length items → drop i items ≡ item ∷ drop (i + 1) items
+item_at {X = X} items i item is low = rw add-one (drop-cons items i item low ∙ ap (λ (x : X). x ∷ drop (suc i) items) (sym is))
 
 -- outputs that were found before those of the other targets
 abbrev pub outputs_onto : List (List ℕ) → Result (List (List ℕ)) ScriptFault → Result (List (List ℕ)) ScriptFault
 outputs_onto found (Ok more) = Ok (found ++ more)
 outputs_onto found (Err fault) = Err fault
+
+-- a line by the same targets
+after_line_same : (keys targets : List (List ℕ)) → HoldsEach keys targets → (state : State) (line : Line) → after_line keys state line ≡ after_line targets state line
+after_line_same keys targets h state Empty = refl
+after_line_same keys targets h state (Fail n) = refl
+after_line_same keys targets h state (Makes work appends output) =
+    ap (λ (t : Bool). if t then write_output state work appends output else Done (Err (StrayWrite output))) (h.same output)
+
+-- and lines
+pub after_lines_same : (keys targets : List (List ℕ)) → HoldsEach keys targets → (lines : List Line) (state : State) → after_lines keys lines state ≡ after_lines targets lines state
+after_lines_same keys targets h [] state = refl
+after_lines_same keys targets h (line ∷ lines) state =
+    λ i. and_then (after_line_same keys targets h state line i) (unless_fault (λ after. after_lines_same keys targets h lines after i))
+
+any-append : (p : List ℕ → Bool) (one two : List (List ℕ)) → list_any p (one ++ two) ≡ (list_any p one || list_any p two)
+any-append p [] two = refl
+any-append p (x ∷ one) two = by (p x) (any-append p one two)
+  where
+    by : (b : Bool) → list_any p (one ++ two) ≡ (list_any p one || list_any p two) → (b || list_any p (one ++ two)) ≡ ((b || list_any p one) || list_any p two)
+    by true e = refl
+    by false e = e
+
+or-true : (b : Bool) → (b || true) ≡ true
+or-true true = refl
+or-true false = refl
+
+or-false : (b : Bool) → (b || false) ≡ b
+or-false true = refl
+or-false false = refl
+
+-- one path among others passes a test that it passes
+any_among : (p : List ℕ → Bool) (paths : List (List ℕ)) (path : List ℕ) → list_any (bytes_eq path) paths ≡ true → p path ≡ true → list_any p paths ≡ true
+any_among p [] path among passes = cc
+any_among p (first ∷ paths) path among passes = by (bytes_eq path first) refl among (any_among p paths path)
+  where
+    by : (b : Bool) → bytes_eq path first ≡ b → (b || list_any (bytes_eq path) paths) ≡ true → (list_any (bytes_eq path) paths ≡ true → p path ≡ true → list_any p paths ≡ true) →
+        (p first || list_any p paths) ≡ true
+    by true same among rest =
+        let one : path ≡ first = (bytes_eq-Decides path first).0 same in
+        rw (subst (λ q. p q ≡ true) one passes) refl
+    by false other among rest = rw (rest among passes) (or-true (p first))
+
+-- a path that is noted
+any-noted : (p : List ℕ → Bool) (paths : List (List ℕ)) (path : List ℕ) → list_any p (noted paths path) ≡ (list_any p paths || p path)
+any-noted p paths path = by (list_any (bytes_eq path) paths) refl (p path) refl
+  where
+    by : (b : Bool) → list_any (bytes_eq path) paths ≡ b → (t : Bool) → p path ≡ t → list_any p (if b then paths else paths ++ path ∷ []) ≡ (list_any p paths || t)
+    by true among true passes = any_among p paths path among passes ∙ sym (or-true (list_any p paths))
+    by true among false fails = sym (or-false (list_any p paths))
+    by false apart t is = any-append p paths (path ∷ []) ∙ ap (λ (b : Bool). list_any p paths || b) (or-false (p path) ∙ is)
+
+-- one more target
+pub holds_more : (keys targets keys' : List (List ℕ)) (i : ℕ) (target : List ℕ) → HoldsEach keys (take i targets) → keys' ≡ noted keys target → target ≡ get_or targets i target → i < length targets → HoldsEach keys' (take (i + 1) targets)
+holds_more keys targets keys' i target h e is low = record {
+  same = λ path.
+      ap (list_any (λ t. bytes_eq t path)) e ∙ any-noted (λ t. bytes_eq t path) keys target ∙ ap (λ (b : Bool). b || bytes_eq target path) (h.same path)
+      ∙ sym (ap (list_any (λ t. bytes_eq t path)) (rw add-one (take-suc targets i target low ∙ ap (λ (x : List ℕ). take i targets ++ x ∷ []) (sym is)))
+      ∙ any-append (λ t. bytes_eq t path) (take i targets) (target ∷ []) ∙ ap (λ (b : Bool). list_any (λ t. bytes_eq t path) (take i targets) || b) (or-false (bytes_eq target path)));
+}
+
+-- paths are among themselves
+same_path : (path : List ℕ) → bytes_eq path path ≡ true
+same_path path = (bytes_eq-Decides path path).1 refl
+
+wider : (more : List (List ℕ)) (paths : List (List ℕ)) (first : List ℕ) → AreAmong paths more → AreAmong paths (first ∷ more)
+wider more [] first h = tt
+wider more (path ∷ paths) first h = (by (bytes_eq path first) h.0, wider more paths first h.1)
+  where
+    by : (b : Bool) → list_any (bytes_eq path) more ≡ true → (b || list_any (bytes_eq path) more) ≡ true
+    by true e = refl
+    by false e = e
+
+pub among_themselves : (paths : List (List ℕ)) → AreAmong paths paths
+among_themselves [] = tt
+among_themselves (path ∷ paths) = (rw (same_path path) refl, wider paths paths path (among_themselves paths))
+
+turned : (one other : List ℕ) → bytes_eq one other ≡ bytes_eq other one
+turned one other = by (bytes_eq one other) refl (bytes_eq other one) refl
+  where
+    by : (s : Bool) → bytes_eq one other ≡ s → (t : Bool) → bytes_eq other one ≡ t → s ≡ t
+    by true e true h = refl
+    by false e false h = refl
+    by true e false h = absurd (let back = (bytes_eq-Decides other one).1 (sym ((bytes_eq-Decides one other).0 e)) in cc)
+    by false e true h = absurd (let back = (bytes_eq-Decides one other).1 (sym ((bytes_eq-Decides other one).0 h)) in cc)
+
+-- a look among paths, either way round
+pub any-turned : (path : List ℕ) (paths : List (List ℕ)) → list_any (bytes_eq path) paths ≡ list_any (λ target. bytes_eq target path) paths
+any-turned path [] = refl
+any-turned path (first ∷ paths) = λ i. turned path first i || any-turned path paths i

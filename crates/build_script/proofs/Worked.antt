@@ -1,10 +1,12 @@
 -- Runs worked out by hand, checked by computation.
-use Rattle.std.proofs.Common.{◌≡◌, ℕ, if◌then◌else◌, Some, None, Ok, Err, List, [], ◌∷◌, ◌++◌, refl, length, true, false, nat_lt, ◌*◌}
-use Rattle.std.specs.Prelude.{codes}
+use Rattle.std.proofs.Common.{◌≡◌, ℕ, if◌then◌else◌, Some, None, Ok, Err, List, [], ◌∷◌, ◌++◌, refl, length, true, false, nat_lt, ◌+◌, ◌*◌}
+use Rattle.std.specs.Prelude.{codes, decimal}
 use Rattle.std.specs.Str.{bytes_eq}
-use Rattle.cc_names.specs.declared.refusals.ScriptFault.TheVariants.{Absent, BadLine, TooBig, StrayWrite, NotWritten}
+use Rattle.cc_names.specs.declared.refusals.ScriptFault.TheVariants.{Absent, BadLine, TooBig, IncludeDepth, Failed, StrayWrite, NotWritten}
 use Rattle.build_script.specs.Words.{words, without_at}
-use Rattle.build_script.specs.Run.{Files, run, lengthened, output_limit}
+use Rattle.build_script.specs.Forms.{lines_in, first_lines, replaced, listed}
+use Rattle.build_script.specs.Includes.{include_of, probes_of}
+use Rattle.build_script.specs.Run.{Files, run, Output, Made, said, output_limit}
 
 -- a line and its newline
 abbrev line : List ℕ → List ℕ
@@ -77,11 +79,86 @@ empty_script : run [] (codes "a" ∷ []) some_files ≡ record { result = Err (N
 empty_script = refl
 
 -- an output of more bytes than an output may have, such as 524,289 lines of one letter
-too_big : (bytes more : List ℕ) → nat_lt output_limit (length (bytes ++ more)) ≡ true → lengthened (codes "out") bytes more ≡ Err (TooBig (codes "out"))
-too_big bytes more h = rw h refl
+too_big : (output : Output) (more : List ℕ) (made : Made) → nat_lt output_limit (output.before + length made.bytes + length more) ≡ true → said output more made ≡ Err (TooBig output.path)
+too_big output more made h = rw h refl
 
 too_many_lines : nat_lt output_limit (2 * 524289) ≡ true
 too_many_lines = refl
 
 just_enough : nat_lt output_limit (2 * 524288) ≡ false
 just_enough = refl
+
+-- the lines of a text, of which the last may lack its newline
+lines_of_text : lines_in (10 ∷ line (codes "a") ++ codes "b") ≡ (10 ∷ []) ∷ line (codes "a") ∷ codes "b" ∷ []
+lines_of_text = refl
+
+first_two : first_lines 2 (line (codes "a") ++ line (codes "b") ++ line (codes "c")) ≡ line (codes "a") ++ line (codes "b")
+first_two = refl
+
+-- occurrences do not overlap, and what they are replaced by is not looked at again
+replaced_from_the_left : replaced (codes "aa") (codes "ab") (codes "aaaaa") ≡ codes "ababa"
+replaced_from_the_left = refl
+
+listed_text : listed (codes "in") (line (codes "hi")) ≡ codes "in " ++ decimal 3 ++ 10 ∷ line (codes "hi")
+listed_text = refl
+
+-- which lines include a file
+include_with_newline : include_of (line (codes "#include " ++ 34 ∷ codes "two/h" ++ 34 ∷ [])) ≡ Some (codes "two/h")
+include_with_newline = refl
+
+include_at_the_end : include_of (codes "#include " ++ 34 ∷ codes "h" ++ 34 ∷ []) ≡ Some (codes "h")
+include_at_the_end = refl
+
+include_of_no_path : include_of (codes "#include " ++ 34 ∷ codes "a//b" ++ 34 ∷ []) ≡ None
+include_of_no_path = refl
+
+include_and_a_blank : include_of (codes "#include " ++ 34 ∷ codes "h" ++ 34 ∷ 32 ∷ []) ≡ None
+include_and_a_blank = refl
+
+include_behind_a_blank : include_of (codes " #include " ++ 34 ∷ codes "h" ++ 34 ∷ []) ≡ None
+include_behind_a_blank = refl
+
+probes_in_order : probes_of (codes "one" ∷ codes "." ∷ codes "two/a" ∷ []) (codes "h") ≡ codes "h" ∷ codes "one/h" ∷ codes "h" ∷ codes "two/a/h" ∷ []
+probes_in_order = refl
+
+the_root_alone : probes_of (codes "one" ∷ []) (codes ".") ≡ codes "." ∷ []
+the_root_alone = refl
+
+-- sources with include lines: `a.c` includes `h`, which stands in `two` alone; `loop` includes itself
+abbrev sources : Files
+sources path =
+    if bytes_eq path (codes "a.c") then Some (line (codes "#include " ++ 34 ∷ codes "h" ++ 34 ∷ []) ++ line (codes "end"))
+    else if bytes_eq path (codes "two/h") then Some (line (codes "foo"))
+    else if bytes_eq path (codes "loop") then Some (codes "#include " ++ 34 ∷ codes "loop" ++ 34 ∷ [])
+    else None
+
+-- a file that is found in the second directory: the probes before it are reads, and so absent ones
+includes_by_directories : run (line (codes "pp -I one -I two a.c > a")) (codes "a" ∷ []) sources ≡
+    record { result = Ok ((line (codes "foo") ++ line (codes "end")) ∷ []); reads = codes "a.c" ∷ codes "h" ∷ codes "one/h" ∷ codes "two/h" ∷ [] }
+includes_by_directories = refl
+
+include_found_nowhere : run (line (codes "pp -I one a.c > a")) (codes "a" ∷ []) sources ≡
+    record { result = Err (Absent (codes "h")); reads = codes "a.c" ∷ codes "h" ∷ codes "one/h" ∷ [] }
+include_found_nowhere = refl
+
+include_without_end : run (line (codes "pp loop > a")) (codes "a" ∷ []) sources ≡ record { result = Err (IncludeDepth (codes "loop")); reads = codes "loop" ∷ [] }
+include_without_end = refl
+
+-- a text with a letter replaced, and its first line behind it
+two_forms : run (line (codes "sub i a in > out") ++ line (codes "head 1 in >> out")) (codes "out" ∷ []) some_files ≡
+    record { result = Ok ((line (codes "ha") ++ line (codes "hi")) ∷ []); reads = codes "in" ∷ [] }
+two_forms = refl
+
+-- a line `fail`, by its number
+fails : run (line (codes "echo > out") ++ line [] ++ codes "fail") (codes "out" ∷ []) some_files ≡ record { result = Err (Failed 3); reads = [] }
+fails = refl
+
+-- a `fail` with an output, a number with a zero before it, and a `-I` without its path are outside the language
+fail_with_output : run (codes "fail > out") (codes "out" ∷ []) some_files ≡ record { result = Err (BadLine 1); reads = [] }
+fail_with_output = refl
+
+number_with_a_zero : run (codes "head 01 in > out") (codes "out" ∷ []) some_files ≡ record { result = Err (BadLine 1); reads = [] }
+number_with_a_zero = refl
+
+flag_without_a_directory : run (codes "pp -I in > out") (codes "out" ∷ []) some_files ≡ record { result = Err (BadLine 1); reads = [] }
+flag_without_a_directory = refl

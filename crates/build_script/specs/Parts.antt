@@ -1,10 +1,10 @@
 -- What the parts of the code that carry out a run come to.
-use Rattle.std.specs.Prelude.{◌≡◌, ℕ, Result, Ok, Err, List, Vec, option_map}
+use Rattle.std.specs.Prelude.{◌≡◌, ℕ, Option, Result, Ok, Err, List, Vec, option_map}
 use Rattle.std.specs.Str.{bytes_eq}
 use Rattle.std.specs.HashMap.{HashMap, get}
 use Rattle.cc_names.specs.declared.refusals.ScriptFault.{ScriptFault}
-use Rattle.build_script.specs.Run.{Files, Asking, traced}
-use Rattle.build_script.specs.Standings.{Rose}
+use Rattle.build_script.specs.Run.{Files, Asking, Done, traced}
+use Rattle.build_script.specs.Standings.{Standing, Rose, Stays, AreAmong, texts}
 use Rattle.build_script.specs.declared.files.Stop.{Stop}
 use Rattle.build_script.specs.declared.files.Stop.TheVariants.{Broken}
 use Rattle.build_script.specs.declared.halts.Halt.{Halt}
@@ -21,10 +21,22 @@ Halted files before asking (halts.Fault fault) after old new = traced files befo
 Halted files before asking (halts.Stop stop) after old new = IsStop stop old new
 Halted files before asking halts.NoMemory after old new = Unit {0}
 
--- A part of a run that ended early, or came to what it traces, as it is shown.
-abbrev pub Went : {X A : Type 0} → Files → List (List ℕ) → Asking (Result A ScriptFault) → (X → A) → Result X Halt → List (List ℕ) → ℕ → ℕ → Type 0
-Went files before asking shown (Ok x) after old new = traced files before asking ≡ record { value = Ok (shown x); reads = after }
-Went files before asking shown (Err halt) after old new = Halted files before asking halt after old new
+-- A part of a run that ended early, or passed to where it goes on as this says.
+abbrev pub Went : {X A : Type 0} → Files → List (List ℕ) → Asking (Result A ScriptFault) → (X → Asking (Result A ScriptFault)) → Result X Halt → List (List ℕ) → ℕ → ℕ → Type 0
+Went files before asking next (Ok x) after old new = traced files before asking ≡ traced files after (next x)
+Went files before asking next (Err halt) after old new = Halted files before asking halt after old new
+
+-- A part of a run that was carried out over files: the files stay as they are, were asked for nothing but what it asks
+-- for, and it ended early or passed.
+pub record Carried {F X A : Type 0} (stands : F → List ℕ → Option Standing) (broken : F → ℕ) (follows : List (List ℕ) → F → F → Type 0)
+    (before : List (List ℕ)) (asking : Asking (Result A ScriptFault)) (next : X → Asking (Result A ScriptFault)) (result : Result X Halt) (after : List (List ℕ)) (old new : F) : Type 0 where
+  pub stays : Stays stands broken old new
+  pub asked : (paths : List (List ℕ)) → AreAmong (traced (texts (stands old)) before asking).reads paths → follows paths old new
+  pub went : Went (texts (stands old)) before asking next result after (broken old) (broken new)
+
+-- it comes to this, as it is shown
+abbrev pub gives : {X A : Type 0} → (X → A) → X → Asking (Result A ScriptFault)
+gives shown x = Done (Ok (shown x))
 
 -- the same where nothing is asked for
 abbrev pub Gave : {X A : Type 0} → Result A ScriptFault → (X → A) → Result X Halt → Type 0

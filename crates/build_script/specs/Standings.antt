@@ -1,5 +1,7 @@
--- What the files of a run mean.
-use Rattle.std.specs.Prelude.{◌≡◌, ℕ, ◌<◌, ◌≤◌, ◌⊎◌, Option, List, option_map}
+-- What the files of a run mean, and what they were asked for.
+use Rattle.std.specs.Prelude.{◌≡◌, true, ℕ, ◌<◌, ◌≤◌, ◌⊎◌, Option, List, option_map}
+use Rattle.std.specs.List.{AllByRecursion, list_any}
+use Rattle.std.specs.Str.{bytes_eq}
 use Rattle.build_script.specs.Run.{Files}
 
 -- what stands at a path: the row that made it, and its text
@@ -19,9 +21,15 @@ texts stands path = option_map text_of (stands path)
 abbrev pub Rose : ℕ → ℕ → Type 0
 Rose old new = (old < new) ⊎ (new ≡ 18446744073709551615)
 
--- Files after calls, beside files before: they mean the same, their count of broken answers did not fall, and they are
--- in the relation of their own.
-pub record Stays {A : Type 0} (stands : A → List ℕ → Option Standing) (broken : A → ℕ) (follows : A → A → Type 0) (old new : A) : Type 0 where
+-- a path is one of these
+abbrev pub IsAmong : List ℕ → List (List ℕ) → Type 0
+IsAmong path paths = list_any (bytes_eq path) paths ≡ true
+
+-- each of some paths is one of others
+abbrev pub AreAmong : List (List ℕ) → List (List ℕ) → Type 0
+AreAmong some paths = AllByRecursion (λ path. IsAmong path paths) some
+
+-- Files after calls, beside files before: they mean the same, and their count of broken answers did not fall.
+pub record Stays {A : Type 0} (stands : A → List ℕ → Option Standing) (broken : A → ℕ) (old new : A) : Type 0 where
   pub meaning : stands new ≡ stands old
   pub count : broken old ≤ broken new
-  pub followed : follows old new

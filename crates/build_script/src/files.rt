@@ -1,7 +1,7 @@
 // The files that a run reads.
 
 ghost use Rattle.std.specs.Prelude.{◌≡◌, ℕ, Option, List};
-ghost use Rattle.build_script.specs.Standings.{Standing, Stays};
+ghost use Rattle.build_script.specs.Standings.{Standing, Stays, IsAmong};
 ghost use Rattle.build_script.specs.Answers.{IsAnswer};
 
 use cc_names::paths::Path;
@@ -34,15 +34,16 @@ pub trait Files {
     /// How many answers were `Broken`.
     ghost broken: { Self → ℕ };
 
-    /// What one call after the other keeps.
-    ghost follows: { Self → Self → Type 0 };
+    /// What calls at these paths and no others keep, one after the other.
+    ghost follows: { List (List ℕ) → Self → Self → Type 0 };
 
     /// What stands at the path. `Broken` comes only where the count of such answers rose.
     fn read(&mut self, path: &Path) -> Got
-        ensures stays { Stays stands broken follows self.old self.new }
+        ensures stays { Stays stands broken self.old self.new }
+        ensures asked { (paths : List (List ℕ)) → IsAmong path.now paths → follows paths self.old self.new }
         ensures answer { IsAnswer result (stands self.old path.now) (broken self.old) (broken self.new) };
 
-    ghost reflexive: { (files : Self) → follows files files };
+    ghost reflexive: { (paths : List (List ℕ)) (files : Self) → follows paths files files };
 
-    ghost transitive: { (one two three : Self) → follows one two → follows two three → follows one three };
+    ghost transitive: { (paths : List (List ℕ)) (one two three : Self) → follows paths one two → follows paths two three → follows paths one three };
 }

@@ -12,11 +12,16 @@
 #![tactic(auto)]
 
 pub mod files;
+mod forms;
 pub mod frame;
 mod halts;
+mod includes;
 pub mod lines;
+mod making;
+mod opens;
 pub mod outcomes;
-mod parts;
+mod preprocess;
+mod progress;
 pub mod run;
 pub mod scripts;
 #[cfg(test)]

@@ -3,32 +3,44 @@
 ghost use Rattle.std.specs.Prelude.{◌≡◌, ℕ, List, IfOk, IfErr};
 ghost use Rattle.build_script.specs.Run.{after_lines, run_from, run_of_lines, carried_out};
 ghost use Rattle.build_script.specs.Standings.{Stays, texts};
-ghost use Rattle.build_script.specs.Parts.{Went, own_of};
+ghost use Rattle.build_script.specs.Parts.{Carried, gives};
+ghost use Rattle.build_script.specs.Progress.{state_of, HoldsEach};
 ghost use Rattle.build_script.specs.Ended.{ran_of, IsGivenUp};
 
 use crate::files::{Files, Stop};
 use crate::halts::Halt;
 use crate::lines::Line;
+use crate::making::note;
 use crate::outcomes::{Ended, Outcome};
-use crate::parts::{Outputs, Progress, outputs};
+use crate::progress::{Progress, outputs};
 use crate::scripts::Script;
 use cc_names::lists::List;
-use cc_names::memory::Or;
+use cc_names::memory::{NoMemory, Or};
 use cc_names::paths::Path;
 use cc_names::texts::Text;
 use indexmap::IndexSet;
 use std::alloc::{AllocError, Global};
+
+/// The targets by their paths.
+fn set_of(alloc: Global, targets: &[Path]) -> Result<IndexSet<Path>, NoMemory>
+    ensures { IfOk result (λ set. HoldsEach set.keys targets.now) }
+{
+    let mut set = IndexSet::new(alloc);
+    for target in targets {
+        note(alloc, &mut set, target)?;
+    }
+    Ok(set)
+}
 
 /// Carries out lines one after the other, up to the first fault.
 fn run_lines<F: Files>(
     alloc: Global,
     progress: &mut Progress,
     files: &mut F,
-    targets: &[Path],
+    targets: &IndexSet<Path>,
     lines: &[Line],
 ) -> Result<(), Halt>
-    ensures stays { Stays F.stands F.broken F.follows files.old files.new }
-    ensures went { Went (texts (F.stands files.old)) progress.old.reads.keys (after_lines targets.now lines.now (own_of progress.old.written)) (λ _. own_of progress.new.written) result progress.new.reads.keys (F.broken files.old) (F.broken files.new) }
+    ensures { Carried F.stands F.broken F.follows progress.old.reads.keys (after_lines targets.now.keys lines.now (state_of progress.old)) (gives (λ _. state_of progress.new)) result progress.new.reads.keys files.old files.new }
 {
     for line in lines {
         progress.carry_out(alloc, files, targets, line)?;
@@ -44,10 +56,10 @@ fn run_whole<F: Files>(
     targets: &[Path],
     lines: &[Line],
 ) -> Result<List<Text>, Halt>
-    ensures stays { Stays F.stands F.broken F.follows files.old files.new }
-    ensures went { Went (texts (F.stands files.old)) progress.old.reads.keys (run_from targets.now lines.now (own_of progress.old.written)) (λ outputs. outputs) result progress.new.reads.keys (F.broken files.old) (F.broken files.new) }
+    ensures { Carried F.stands F.broken F.follows progress.old.reads.keys (run_from targets.now lines.now (state_of progress.old)) (gives (λ outputs. outputs)) result progress.new.reads.keys files.old files.new }
 {
-    run_lines(alloc, progress, files, targets, lines)?;
+    let set = set_of(alloc, targets)?;
+    run_lines(alloc, progress, files, &set, lines)?;
     outputs(alloc, &progress.written, targets)
 }
 
@@ -59,9 +71,9 @@ fn into_paths(alloc: Global, reads: IndexSet<Path>) -> Result<List<Path>, AllocE
 
 /// Carries out a script with these targets over these files.
 ///
-/// The answer is the outputs or the first fault, and the reads. A run is given up where the files broke, or where there is
-/// no memory. Takes time linear in the bytes of the script, of the texts that it reads and of what it writes, and for each
-/// line a look at the targets.
+/// The answer is the outputs or the first fault, and the reads; the files are asked for nothing else. A run is given up
+/// where the files broke, or where there is no memory. Takes time linear in the bytes of the script and the targets, of
+/// the texts that it reads, of what it writes and of the paths of its probes.
 pub fn run<F: Files>(
     alloc: Global,
     script: &Script,
@@ -70,12 +82,10 @@ pub fn run<F: Files>(
 ) -> Result<Ended, Or<Stop>>
     ensures ran { IfOk result (λ ended. ran_of ended ≡ carried_out (texts (F.stands files.old)) (run_of_lines targets.now script.now)) }
     ensures given_up { IfErr result (λ stop. IsGivenUp stop (F.broken files.old) (F.broken files.new)) }
-    ensures stays { Stays F.stands F.broken F.follows files.old files.new }
+    ensures stays { Stays F.stands F.broken files.old files.new }
+    ensures asks_its_reads { F.follows (carried_out (texts (F.stands files.old)) (run_of_lines targets.now script.now)).reads files.old files.new }
 {
-    let mut progress = Progress {
-        written: Outputs::new(alloc),
-        reads: IndexSet::new(alloc),
-    };
+    let mut progress = Progress::begin(alloc);
     let result = match run_whole(alloc, &mut progress, files, targets, script.lines()) {
         Ok(outputs) => Ok(Outcome { outputs }),
         Err(Halt::Fault(fault)) => Err(fault),

@@ -52,7 +52,7 @@ impl Script {
         while let Some(text) = rest {
             let (bytes, behind) = split_line(text);
             number += 1;
-            let Some(line) = read_line(alloc, bytes)? else {
+            let Some(line) = read_line(alloc, number, bytes)? else {
                 return Err(Or::Is(ScriptFault::BadLine(number as u32)));
             };
             lines.push(line)?;

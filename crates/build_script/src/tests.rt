@@ -1,7 +1,9 @@
-// Runs over a file in memory, and texts that are no scripts.
+// Runs over files in memory, and texts that are no scripts.
 
-ghost use Rattle.std.specs.Prelude.{Some, None, if◌then◌else◌, length, ◌<◌, ◌^◌};
+ghost use Rattle.std.specs.Prelude.{◌<◌, ◌^◌, Some, length, option_map};
 ghost use Rattle.std.specs.Str.{bytes_eq};
+ghost use Rattle.std.specs.HashMap.{get};
+ghost use Rattle.build_script.specs.Answers.{IsAnswer};
 
 use crate::files::{Files, Got};
 use crate::outcomes::Ended;
@@ -12,36 +14,51 @@ use cc_names::paths::Path;
 use cc_names::refusals::ScriptFault;
 use cc_names::texts::Text;
 use std::alloc::{AllocError, Global};
+use std::collections::HashMap;
 use std::test::Fail;
 
-// One file, made by row 1.
+// Some files, each made by row 1.
 #[derive(Drop)]
-struct OneFile {
+struct SomeFiles {
     alloc: Global,
-    path: Path,
-    text: Text,
+    texts: HashMap<Path, Text>,
 }
 
-impl Files for OneFile {
-    ghost stands = { λ file path. if bytes_eq path file.path then Some (record { row = 1; text = file.text }) else None };
+impl Files for SomeFiles {
+    ghost stands = { λ files path. option_map (λ text. record { row = 1; text = text }) (get bytes_eq files.texts path) };
 
     ghost broken = { λ _. 0 };
 
-    ghost follows = { λ _ _. Unit {0} };
+    ghost follows = { λ _ _ _. Unit {0} };
 
     fn read(&mut self, path: &Path) -> Got {
-        if *path != self.path {
-            return Got::Absent;
-        }
-        match self.text.copy(self.alloc) {
-            Ok(text) => Got::Found { row: 1, text },
-            Err(_) => Got::NoMemory,
+        match self.texts.get(path) {
+            Some(text) => found(self.alloc, text),
+            None => Got::Absent,
         }
     }
 
-    ghost reflexive = { λ _. tt };
+    ghost reflexive = { λ _ _. tt };
 
-    ghost transitive = { λ _ _ _ _ _. tt };
+    ghost transitive = { λ _ _ _ _ _ _. tt };
+}
+
+fn found(alloc: Global, text: &Text) -> Got
+    ensures { IsAnswer result (Some (record { row = 1; text = text.now })) 0 0 }
+{
+    match text.copy(alloc) {
+        Ok(text) => Got::Found { row: 1, text },
+        Err(_) => Got::NoMemory,
+    }
+}
+
+fn files_of(alloc: Global, table: &[(&str, &str)]) -> Result<SomeFiles, Fail> {
+    let mut texts = HashMap::new(alloc);
+    for (path, text) in table {
+        let path = Path::read(alloc, path.as_bytes())?;
+        texts.insert(path, Text::from_bytes(alloc, text.as_bytes())?)?;
+    }
+    Ok(SomeFiles { alloc, texts })
 }
 
 fn words_of_fault(alloc: Global, fault: &ScriptFault) -> Result<String, AllocError> {
@@ -49,9 +66,10 @@ fn words_of_fault(alloc: Global, fault: &ScriptFault) -> Result<String, AllocErr
         ScriptFault::Absent(path) => format!(in alloc; "Absent {path}"),
         ScriptFault::BadLine(line) => format!(in alloc; "BadLine {line}"),
         ScriptFault::TooBig(path) => format!(in alloc; "TooBig {path}"),
+        ScriptFault::IncludeDepth(path) => format!(in alloc; "IncludeDepth {path}"),
+        ScriptFault::Failed(line) => format!(in alloc; "Failed {line}"),
         ScriptFault::StrayWrite(path) => format!(in alloc; "StrayWrite {path}"),
         ScriptFault::NotWritten(path) => format!(in alloc; "NotWritten {path}"),
-        ScriptFault::IncludeDepth(_) | ScriptFault::Failed(_) => format!(in alloc; "other"),
     }
 }
 
@@ -75,24 +93,21 @@ fn words_of(alloc: Global, ended: &Ended) -> Result<String, AllocError> {
     Ok(words)
 }
 
-fn run_text(alloc: Global, script: &str, text: &str) -> Result<Ended, Fail>
+// A run with the targets `out` and `log`.
+fn run_text(alloc: Global, script: &str, files: &mut SomeFiles) -> Result<String, Fail>
     requires { length script.now < 2 ^ 32 }
 {
     let script = Script::read(alloc, script.as_bytes())?;
     let mut targets = Vec::new(alloc);
     targets.push(Path::read(alloc, b"out")?)?;
     targets.push(Path::read(alloc, b"log")?)?;
-    let mut files = OneFile {
-        alloc,
-        path: Path::read(alloc, b"in")?,
-        text: Text::from_bytes(alloc, text.as_bytes())?,
-    };
-    let ended = run(alloc, &script, targets.as_slice(), &mut files)?;
-    Ok(ended)
+    let ended = run(alloc, &script, targets.as_slice(), files)?;
+    Ok(words_of(alloc, &ended)?)
 }
 
 #[test]
 fn runs_come_to_outputs_or_the_first_fault(rt: HostRuntime) -> Result<(), Fail> {
+    let mut files = files_of(rt.alloc(), &[("in", "hi\n")])?;
     let table = [
         ("cat in > out\necho > log\n", "[hi\n][\n] < in"),
         ("echo hi there > out\n@echo>log", "[hi there\n][\n] <"),
@@ -107,12 +122,115 @@ fn runs_come_to_outputs_or_the_first_fault(rt: HostRuntime) -> Result<(), Fail> 
         ("cat in none in > out", "Absent none < in none"),
         ("cat none > stray", "StrayWrite stray <"),
         ("cat in > log", "NotWritten out < in"),
+        ("echo > out\n\nfail", "Failed 3 <"),
+        ("cat in > out\n@fail\ncat none > log", "Failed 2 < in"),
     ];
     for (script, want) in table {
         assert!(rt; script.len() < 1000);
-        let ended = run_text(rt.alloc(), script, "hi\n")?;
-        let said = words_of(rt.alloc(), &ended)?;
+        let said = run_text(rt.alloc(), script, &mut files)?;
         assert_eq!(rt; said.as_str(), want, "of {script:?}");
+    }
+    Ok(())
+}
+
+// The digests are those of FIPS 180-2 for `abc`, and of no bytes.
+#[test]
+fn texts_take_their_forms(rt: HostRuntime) -> Result<(), Fail> {
+    let mut files = files_of(rt.alloc(), &[("in", "hi\n"), ("abc", "abc"), ("empty", "")])?;
+    let table = [
+        (
+            "sub i a in > out\nhead 1 in >> out\nlink in >> out\necho > log",
+            "[ha\nhi\nin 3\nhi\n][\n] < in",
+        ),
+        (
+            "sub hi hihi in > out\nsub x y in > log",
+            "[hihi\n][hi\n] < in",
+        ),
+        (
+            "sha abc > out\nsha empty > log",
+            "[ba7816bf8f01cfea414140de5dae2223b00361a396177a9cb410ff61f20015ad\n]\
+             [e3b0c44298fc1c149afbf4c8996fb92427ae41e4649b934ca495991b7852b855\n] < abc empty",
+        ),
+        (
+            "head 0 in > out\nhead 18446744073709551615 in > log",
+            "[][hi\n] < in",
+        ),
+        (
+            "cat in abc in > out\nhead 2 out > out\nlink empty abc > log",
+            "[hi\nabchi\n][empty 0\nabc 3\nabc] < in abc empty",
+        ),
+        ("sha none > out", "Absent none < none"),
+        ("link in none > out", "Absent none < in none"),
+    ];
+    for (script, want) in table {
+        assert!(rt; script.len() < 1000);
+        let said = run_text(rt.alloc(), script, &mut files)?;
+        assert_eq!(rt; said.as_str(), want, "of {script:?}");
+    }
+    Ok(())
+}
+
+#[test]
+fn included_files_are_looked_for(rt: HostRuntime) -> Result<(), Fail> {
+    let sources = [
+        ("a.c", "#include \"h\"\nend\n"),
+        ("two/h", "foo\n"),
+        ("nest", "begin\n#include \"a.c\""),
+        ("own", "#include \"log\"\n"),
+        ("plain", " #include \"h\"\n#include \"h\" \n#include h\n"),
+        ("loop", "#include \"loop\"\n"),
+        ("one", "#include \"two\"\n"),
+        ("two", "#include \"one\"\n"),
+        ("root", "#include \".\"\n"),
+    ];
+    let mut files = files_of(rt.alloc(), &sources)?;
+    let table = [
+        (
+            "pp -I one -I two a.c > out\necho > log",
+            "[foo\nend\n][\n] < a.c h one/h two/h",
+        ),
+        ("pp -I one a.c > out", "Absent h < a.c h one/h"),
+        ("pp a.c > out", "Absent h < a.c h"),
+        (
+            "pp -I . -I two nest > out\necho > log",
+            "[begin\nfoo\nend\n][\n] < nest a.c h two/h",
+        ),
+        ("echo foo > log\npp own > out", "[foo\n][foo\n] < own"),
+        (
+            "pp plain > out\necho > log",
+            "[ #include \"h\"\n#include \"h\" \n#include h\n][\n] < plain",
+        ),
+        ("pp loop > out", "IncludeDepth loop < loop"),
+        ("pp one > out", "IncludeDepth two < one two"),
+        ("pp -I two root > out", "Absent . < root ."),
+        ("pp none > out", "Absent none < none"),
+    ];
+    for (script, want) in table {
+        assert!(rt; script.len() < 1000);
+        let said = run_text(rt.alloc(), script, &mut files)?;
+        assert_eq!(rt; said.as_str(), want, "of {script:?}");
+    }
+    Ok(())
+}
+
+fn repeated(alloc: Global, line: &str, count: usize) -> Result<String, AllocError> {
+    let mut text = String::new(alloc);
+    for _ in 0..count {
+        text.push_str(line)?;
+    }
+    Ok(text)
+}
+
+// A run makes 100,000 probes: two for each line, since the first of each finds nothing.
+#[test]
+fn a_run_makes_so_many_probes(rt: HostRuntime) -> Result<(), Fail> {
+    let table = [(49_999, "NotWritten log"), (50_000, "NotWritten log"), (50_001, "IncludeDepth h")];
+    for (lines, want) in table {
+        let text = repeated(rt.alloc(), "#include \"h\"\n", lines)?;
+        let mut files = files_of(rt.alloc(), &[("in", text.as_str()), ("two/h", "foo\n")])?;
+        let said = run_text(rt.alloc(), "pp -I two in > out", &mut files)?;
+        let want = format!(in rt.alloc(); "{want} < in h two/h")?;
+        assert_eq!(rt; said.as_str(), want.as_str(), "of {lines} lines");
     }
     Ok(())
 }
@@ -128,6 +246,20 @@ fn the_first_line_outside_the_language_is_named(rt: HostRuntime) -> Result<(), F
         ("cat in > in > out", 1),
         ("echo hi > out more", 1),
         ("@@echo hi > out", 1),
+        ("pp > out", 1),
+        ("pp -I in > out", 1),
+        ("pp -J one in > out", 1),
+        ("pp -I a//b in > out", 1),
+        ("pp in in > out", 1),
+        ("sub a in > out", 1),
+        ("sub a b in in > out", 1),
+        ("head in > out", 1),
+        ("head 01 in > out", 1),
+        ("head 18446744073709551616 in > out", 1),
+        ("sha in in > out", 1),
+        ("link > out", 1),
+        ("fail > out", 1),
+        ("echo > out\nfail now", 2),
     ];
     for (text, line) in table {
         assert!(rt; text.len() < 1000);
@@ -141,20 +273,15 @@ fn the_first_line_outside_the_language_is_named(rt: HostRuntime) -> Result<(), F
     Ok(())
 }
 
+// An output has 1,048,576 bytes at most: of 524,288 letters, each replaced by two.
 #[test]
 fn an_output_ends_at_its_limit(rt: HostRuntime) -> Result<(), Fail> {
-    let mut text = String::new(rt.alloc());
-    for _ in 0..524_288 {
-        text.push_str("a\n")?;
+    let table = [(524_288, "NotWritten log < in"), (524_289, "TooBig out < in")];
+    for (letters, want) in table {
+        let text = repeated(rt.alloc(), "a", letters)?;
+        let mut files = files_of(rt.alloc(), &[("in", text.as_str())])?;
+        let said = run_text(rt.alloc(), "sub a bb in > out", &mut files)?;
+        assert_eq!(rt; said.as_str(), want, "of {letters} letters");
     }
-    let ended = run_text(rt.alloc(), "echo > log\ncat in > out", text.as_str())?;
-    let Ok(outcome) = &ended.result else {
-        panic!(&rt; "1,048,576 bytes are an output");
-    };
-    assert_eq!(rt; outcome.outputs.as_slice().len(), 2);
-    text.push_str("a\n")?;
-    let ended = run_text(rt.alloc(), "cat in > out", text.as_str())?;
-    let said = words_of(rt.alloc(), &ended)?;
-    assert_eq!(rt; said.as_str(), "TooBig out < in");
     Ok(())
 }

@@ -7,9 +7,9 @@ use Rattle.cc_names.specs.declared.refusals.ScriptFault.{ScriptFault}
 use Rattle.cc_names.specs.declared.steps.UnitEnd.{UnitEnd}
 use Rattle.cc_names.specs.declared.units.Unit.{Unit}
 use Rattle.build_script.specs.Lines.{script_of}
-use Rattle.build_script.specs.Run.{Files, Done, Ran, run, run_of, after_lines, nothing_written, carried_out, traced, unless_fault, output_before, outputs_of}
+use Rattle.build_script.specs.Run.{Files, State, Done, Ran, run, run_of, after_lines, nothing_written, carried_out, traced, unless_fault, output_before, outputs_of}
 use Rattle.build_script.specs.declared.lines.Line.{Line}
-use Rattle.build_script.proofs.RunLemmas.{traced-and_then}
+use Rattle.build_script.proofs.CarriedLemmas.{traced-and_then}
 use Rattle.legal_history.specs.Base.Rows.{Base, first_rows}
 use Rattle.legal_history.specs.Builds.Active.{Build, came_to, is_outcome, number_from, unit_with}
 use Rattle.legal_history.specs.Builds.Choices.{here}
@@ -86,10 +86,10 @@ outputs_there (target ∷ targets) outputs own h path among = by (own target) (o
         subst (λ outs. is_some (output_at path (target ∷ targets) outs) ≡ true) same
         (at_target bytes more (bytes_eq target path) refl (subst (λ t. (t || is_among path targets) ≡ true) (eq_turned path target) among) (rest more is))
 
-written : (targets outputs : List (List ℕ)) (files : Files) (reads : List (List ℕ)) (after : Result Files ScriptFault) →
-    (traced files reads (unless_fault (λ own. Done (outputs_of targets own)) after)).value ≡ Ok outputs → (own : Files) × (outputs_of targets own ≡ Ok outputs)
+written : (targets outputs : List (List ℕ)) (files : Files) (reads : List (List ℕ)) (after : Result State ScriptFault) →
+    (traced files reads (unless_fault (λ state. Done (outputs_of targets state.own)) after)).value ≡ Ok outputs → (own : Files) × (outputs_of targets own ≡ Ok outputs)
 written targets outputs files reads (Err fault) h = absurd (cc)
-written targets outputs files reads (Ok own) h = (own, h)
+written targets outputs files reads (Ok state) h = (state.own, h)
 
 pub outputs_whole : (script : List ℕ) (targets outputs : List (List ℕ)) (files : Files) → (run script targets files).result ≡ Ok outputs →
     (path : List ℕ) → is_among path targets ≡ true → is_some (output_at path targets outputs) ≡ true
@@ -100,5 +100,5 @@ outputs_whole script targets outputs files h = by (script_of script) refl h
     by (Ok lines) is h =
         let ran = traced files [] (after_lines targets lines nothing_written) in
         let own = written targets outputs files ran.reads ran.value
-        (sym (ap (λ t. t.value) (traced-and_then files [] (after_lines targets lines nothing_written) (unless_fault (λ after. Done (outputs_of targets after))))) ∙ h) in
+        (sym (ap (λ t. t.value) (traced-and_then files [] (after_lines targets lines nothing_written) (unless_fault (λ after. Done (outputs_of targets after.own))))) ∙ h) in
         outputs_there targets outputs own.0 own.1

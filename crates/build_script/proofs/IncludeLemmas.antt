@@ -1,0 +1,118 @@
+-- How include lines are looked for and how `pp` goes on.
+use Rattle.std.proofs.Common.{◌≡◌, ℕ, zero, suc, ◌+◌, ◌-◌, ◌<◌, ◌≤◌, Option, Some, None, Bool, true, false, Result, Ok, Err, List, [], ◌∷◌, ◌++◌, length, map, drop, reverse, refl, ap, sym, ◌∙◌, subst, arith}
+use Rattle.std.specs.Prelude.{nat_lt}
+use Rattle.std.proofs.lemmas.List.{map-append, reverse-append, length-reverse, length-map}
+use borrow.Author.Tests.{ltb-true, ltb-false}
+use Rattle.cc_names.specs.declared.refusals.ScriptFault.{ScriptFault}
+use Rattle.build_script.specs.Forms.{lines_in}
+use Rattle.build_script.specs.Includes.{include_of}
+use Rattle.build_script.specs.Making.{includes, resumed}
+use Rattle.build_script.specs.Opens.{rest_of, rests_of}
+use Rattle.build_script.specs.Parts.{Carried, Gave, Halted}
+use Rattle.build_script.specs.Run.{Asking, Done, Asks, and_then, unless_fault, Made, Output, Preprocessing, expanded, lines_expanded, line_expanded, included, said, depth_limit, traced}
+use Rattle.build_script.specs.Standings.{Standing, texts}
+use Rattle.build_script.specs.declared.halts.Halt.{Halt}
+use Rattle.build_script.specs.declared.halts.Halt.TheVariants.{Fault, Stop, NoMemory}
+use Rattle.build_script.specs.declared.opens.OpenText.{OpenText}
+use Rattle.build_script.proofs.CarriedLemmas.{carried_lifted, and_then-assoc, and_then-done}
+
+pub lt_true : (m n : ℕ) → m < n → nat_lt m n ≡ true
+lt_true m n h = by (nat_lt m n) refl
+  where
+    by : (t : Bool) → nat_lt m n ≡ t → t ≡ true
+    by true e = refl
+    by false e = absurd (omega (arith, ltb-false _ _ e))
+
+-- nothing is behind all items
+pub all_dropped : {X : Type 0} (items : List X) (n : ℕ) → length items ≤ n → drop n items ≡ []
+all_dropped [] zero low = refl
+all_dropped [] (suc n) low = refl
+all_dropped (x ∷ items) zero low = absurd (omega arith)
+all_dropped (x ∷ items) (suc n) low = all_dropped items n (omega arith)
+
+-- a part, and then what is made of what it comes to
+pub carried_shown : {F X A B : Type 0} {stands : F → List ℕ → Option Standing} {broken : F → ℕ} {follows : List (List ℕ) → F → F → Type 0}
+    {before after : List (List ℕ)} {first : Asking (Result A ScriptFault)} {next : X → Asking (Result A ScriptFault)} {result : Result X Halt} {old new : F}
+    (more : A → Asking (Result B ScriptFault)) →
+    Carried stands broken follows before first next result after old new →
+    Carried stands broken follows before (and_then first (unless_fault more)) (λ x. and_then (next x) (unless_fault more)) result after old new
+carried_shown {stands = stands} {broken = broken} {follows = follows} {before = before} {after = after} {first = first} {next = next} {result = result} {old = old} {new = new} more one =
+    carried_lifted stands broken follows before after first next more result old new one
+
+-- `pp` at so many levels, by what an include line comes to there
+pub expanded-lines : (levels : ℕ) (pp : Preprocessing) (text : List ℕ) → expanded levels pp text ≡ lines_expanded (includes levels pp) pp.output (lines_in text)
+expanded-lines zero pp text = refl
+expanded-lines (suc levels) pp text = refl
+
+-- a part that ended early, wherever it would have gone on
+pub carried_ended : {F X Y A : Type 0} {stands : F → List ℕ → Option Standing} {broken : F → ℕ} {follows : List (List ℕ) → F → F → Type 0}
+    {before after : List (List ℕ)} {asking : Asking (Result A ScriptFault)} {next : X → Asking (Result A ScriptFault)} {halt : Halt} {old new : F}
+    (then : Y → Asking (Result A ScriptFault)) →
+    Carried stands broken follows before asking next (Err halt) after old new → Carried stands broken follows before asking then (Err halt) after old new
+carried_ended then one = record { stays = one.stays; asked = one.asked; went = one.went }
+
+-- a part that passed, by another name for where it goes on
+pub carried_passed : {F X Y A : Type 0} {stands : F → List ℕ → Option Standing} {broken : F → ℕ} {follows : List (List ℕ) → F → F → Type 0}
+    {before after : List (List ℕ)} {asking : Asking (Result A ScriptFault)} {next : X → Asking (Result A ScriptFault)} {x : X} {old new : F}
+    (then : Y → Asking (Result A ScriptFault)) (y : Y) → next x ≡ then y →
+    Carried stands broken follows before asking next (Ok x) after old new → Carried stands broken follows before asking then (Ok y) after old new
+carried_passed {stands = stands} {after = after} {old = old} then y e one =
+    record { stays = one.stays; asked = one.asked; went = one.went ∙ ap (traced (texts (stands old)) after) e }
+
+-- what is said or included behind a stack of texts
+resumed-lines : (pp : Preprocessing) (rest : List ℕ) (below : List (List ℕ)) (made : Made) →
+    resumed pp (rest ∷ below) made ≡ and_then (lines_expanded (includes (depth_limit - length below) pp) pp.output (lines_in rest) made) (unless_fault (resumed pp below))
+resumed-lines pp rest below made = ap (λ (f : Made → Asking (Result Made ScriptFault)). and_then (f made) (unless_fault (resumed pp below))) (expanded-lines (depth_limit - length below) pp rest)
+
+pub resumed-empty : (pp : Preprocessing) (rest : List ℕ) (below : List (List ℕ)) (made : Made) → rest ≡ [] → resumed pp (rest ∷ below) made ≡ resumed pp below made
+resumed-empty pp rest below made e = resumed-lines pp rest below made ∙ rw e refl
+
+pub resumed-said : (pp : Preprocessing) (rest line behind : List ℕ) (below : List (List ℕ)) (made made' : Made) →
+    lines_in rest ≡ line ∷ lines_in behind → include_of line ≡ None → said pp.output line made ≡ Ok made' → resumed pp (rest ∷ below) made ≡ resumed pp (behind ∷ below) made'
+resumed-said pp rest line behind below made made' lines plain says =
+    resumed-lines pp rest below made ∙ rw lines (rw plain (rw says (sym (resumed-lines pp behind below made'))))
+
+pub resumed-unsaid : (pp : Preprocessing) (rest line behind : List ℕ) (below : List (List ℕ)) (made : Made) (fault : ScriptFault) →
+    lines_in rest ≡ line ∷ lines_in behind → include_of line ≡ None → said pp.output line made ≡ Err fault → resumed pp (rest ∷ below) made ≡ Done (Err fault)
+resumed-unsaid pp rest line behind below made fault lines plain says = resumed-lines pp rest below made ∙ rw lines (rw plain (rw says refl))
+
+pub resumed-included : (pp : Preprocessing) (rest line behind path : List ℕ) (below : List (List ℕ)) (made : Made) →
+    lines_in rest ≡ line ∷ lines_in behind → include_of line ≡ Some path →
+    resumed pp (rest ∷ below) made ≡ and_then (includes (depth_limit - length below) pp path made) (unless_fault (resumed pp (behind ∷ below)))
+resumed-included pp rest line behind path below made lines is =
+    resumed-lines pp rest below made ∙ rw lines (rw is
+    (and_then-assoc (includes (depth_limit - length below) pp path made) (lines_expanded (includes (depth_limit - length below) pp) pp.output (lines_in behind)) (resumed pp below)
+    ∙ ap (λ (f : Made → Asking (Result Made ScriptFault)). and_then (includes (depth_limit - length below) pp path made) (unless_fault f)) (λ i made. sym (resumed-lines pp behind below made) i)))
+
+-- what is behind a line
+pub lines_behind : (rest line behind past : List ℕ) → lines_in rest ≡ line ∷ lines_in behind → rest ≡ line ++ behind → past ≡ drop (length line) rest → lines_in rest ≡ line ∷ lines_in past
+lines_behind rest line behind past lines whole is =
+    lines ∙ ap (λ (b : List ℕ). line ∷ lines_in b) (sym (is ∙ ap (drop (length line)) whole ∙ behind_front line behind))
+  where
+    behind_front : (front rest : List ℕ) → drop (length front) (front ++ rest) ≡ rest
+    behind_front [] rest = refl
+    behind_front (b ∷ front) rest = behind_front front rest
+
+-- the texts that `pp` is inside of, with one more, and their number
+pub rests_pushed : (opens : List OpenText) (opened : OpenText) → rests_of (opens ++ opened ∷ []) ≡ rest_of opened ∷ rests_of opens
+rests_pushed opens opened = ap reverse (map-append rest_of opens (opened ∷ [])) ∙ reverse-append (map rest_of opens) (rest_of opened ∷ [])
+
+pub rests_length : (opens : List OpenText) → length (rests_of opens) ≡ length opens
+rests_length opens = length-reverse (map rest_of opens) ∙ length-map opens rest_of
+
+-- a part that asks for nothing and ended early, wherever a value goes that was a fault
+pub carried_unsaid : {F X Y A B : Type 0} {stands : F → List ℕ → Option Standing} {broken : F → ℕ} {follows : List (List ℕ) → F → F → Type 0}
+    {asking : Asking (Result A ScriptFault)} {value : Result B ScriptFault} {halt : Halt} {reads : List (List ℕ)} {files : F}
+    (reflexive : (paths : List (List ℕ)) (files : F) → follows paths files files) (shown : Y → B) (then : X → Asking (Result A ScriptFault)) →
+    ((fault : ScriptFault) → value ≡ Err fault → asking ≡ Done (Err fault)) → Gave value shown (Err halt) →
+    Carried stands broken follows reads asking then (Err halt) reads files files
+carried_unsaid {stands = stands} {broken = broken} {asking = asking} {value = value} {halt = halt} {reads = reads} {files = files} reflexive shown then faults gave = record {
+  stays = record { meaning = refl; count = omega arith };
+  asked = λ paths among. reflexive paths files;
+  went = by halt gave;
+}
+  where
+    by : (halt : Halt) → Gave value shown (Err halt) → Halted (texts (stands files)) reads asking halt reads (broken files) (broken files)
+    by (Fault fault) gave = ap (traced (texts (stands files)) reads) (faults fault gave)
+    by (Stop stop) gave = absurd gave
+    by NoMemory gave = tt

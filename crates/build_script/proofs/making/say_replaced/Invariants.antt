@@ -1,0 +1,16 @@
+use Rattle.std.proofs.Common.{◌≡◌, ◌<◌, length}
+use Rattle.build_script.specs.Forms.{replaced_behind, replaced}
+use Rattle.build_script.specs.MadeOf.{made_of}
+use Rattle.build_script.specs.Making.{output_at}
+use Rattle.build_script.specs.Run.{said}
+use Rattle.build_script.proofs.making.say_replaced.Given as goal
+
+abbrev pub invariant-loop-place : goal.invariant-loop-place
+invariant-loop-place l = record {
+  said : said (output_at l.making.path.now l.making.before) (replaced l.from l.to l.text) (made_of l.initial.made)
+      ≡ said (output_at l.making.path.now l.making.before) (replaced_behind l.from l.to 0 l.rest) (made_of l.made);
+  filled : 0 < length l.from;
+}
+
+abbrev pub decreases-loop-place : goal.decreases-loop-place
+decreases-loop-place l = length l.rest

@@ -1,8 +1,0 @@
-use Rattle.std.proofs.Common.{◌≡◌, drop}
-use Rattle.build_script.proofs.RunLemmas.{outputs_onto}
-use Rattle.build_script.specs.Parts.{own_of}
-use Rattle.build_script.specs.Run.{outputs_of}
-use Rattle.build_script.proofs.parts.outputs.Given as goal
-
-abbrev pub invariant-loop-target : goal.invariant-loop-target
-invariant-loop-target l = outputs_onto l.outputs.items (outputs_of (drop l.target-index l.targets) (own_of l.written)) ≡ outputs_of l.targets (own_of l.written)

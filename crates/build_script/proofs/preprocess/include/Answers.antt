@@ -1,0 +1,12 @@
+use Rattle.std.proofs.Common.{◌≡◌, ◌+◌, ◌-◌, suc, arith}
+use Rattle.build_script.specs.Making.{output_at, preprocessing, made_with}
+use Rattle.build_script.specs.Parts.{own_of}
+use Rattle.build_script.specs.Run.{Found, expanded, depth_limit}
+use Rattle.build_script.proofs.IncludeLemmas.{carried_shown}
+use Rattle.build_script.proofs.preprocess.include.Goals as goal
+
+pub returns-clause-went : goal.returns-clause-went
+returns-clause-went g c bytes =
+    let levels : depth_limit - c.args.inside ≡ suc (depth_limit - (c.args.inside + 1)) = omega arith in
+    let pp = preprocessing (own_of c.args.making.written.now) c.args.directories.now (output_at c.args.making.path.now c.args.making.before) in
+    rw levels (carried_shown (λ (found : Found). expanded (depth_limit - (c.args.inside + 1)) pp found.text (made_with bytes found.probes)) c.find.ensures.went)

@@ -1,0 +1,14 @@
+use Rattle.std.proofs.Common.{◌≡◌, ◌+◌, true, arith}
+use Rattle.std.specs.Prelude.{nat_lt}
+use Rattle.build_script.specs.Parts.{own_of}
+use Rattle.build_script.specs.Run.{found_or, probed, probe_limit}
+use Rattle.build_script.proofs.CarriedLemmas.{carried_as, seen_then}
+use Rattle.build_script.proofs.IncludeLemmas.{lt_true, carried_shown}
+use Rattle.build_script.proofs.preprocess.probe.Goals as goal
+
+pub returns-clause-went : goal.returns-clause-went
+returns-clause-went g c more =
+    let low : nat_lt c.args.probes.now probe_limit ≡ true = lt_true _ _ (omega arith) in
+    let own = own_of c.args.making.written.now in
+    rw low (carried_as (seen_then (own c.args.place.now) c.args.place.now (found_or (probed own c.args.include.now more (c.args.probes.now + 1)) (c.args.probes.now + 1)))
+    (carried_shown (found_or (probed own c.args.include.now more (c.args.probes.now + 1)) (c.args.probes.now + 1)) c.see.ensures))
