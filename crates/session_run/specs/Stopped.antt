@@ -36,12 +36,13 @@ AreApart low (rise ∷ more) high = (low ≤ rise.0) × (rises rise.0 rise.1 ≡
 abbrev pub IsMended : State → Sight → Type 0
 IsMended s disk = faults_of s.opened s.ends ≡ disk.faults → disk.faults < 2 ^ 64 - 1 → IsSettled s disk
 
--- Where a base was opened. A stop at a device call of the session, or after the last, finds the base as it was opened with
--- the row of each commit that ended before that call; besides it may find the row of the commit within whose call it comes,
--- or the row that a fault left, and no more. What it finds opens again without damage, to the base that it stands for, which is
--- sound where the base was sound as it was opened, also where the one row more is an object. After the last call it finds the rows of all commits and no more where the history has no fault, and where the count of the
--- disk's faults stands as the last fault left it, below its last number. Each fault of the history has a rise of that count
--- of its own, within those of the call, and each commit and fault ended at a call that the disk has counted.
+-- Where a base was opened. A stop at a device call of the session, or after the last, finds the base as it was opened with the
+-- row of each commit that ended before that call; besides it may find the row of the commit within whose call it comes, or the
+-- row that a fault left, and no more. What it finds opens again without damage, to the base that it stands for, which is sound
+-- where the base was sound as it was opened, also where the one row more is an object. After the last call it finds the rows
+-- of all commits and no more where the history has no fault, and where the count of the disk's faults stands as the last fault
+-- left it, below its last number. Each fault of the history has a rise of that count of its own, within those of the call, and
+-- each commit and fault ended at a call that the disk has counted.
 pub record KeepsPrefix (before after : Sight) (story : List Told) : Type 0 where
   pub opening : Opening
   pub opened : (state_of story).opened ≡ Some opening
