@@ -3,7 +3,7 @@
 
 Usage: check_edge.py CCBASE
 
-CCBASE is the built program. Each check runs it in a new folder:
+CCBASE is the built program: `rt run` in crates/ccbase makes it, as out/ccbase there. Each check runs it in a new folder:
 
 - standard output closed, standard error closed, both: no byte that is printed gets into the base;
 - two programs at once on one base: whoever comes second is told so, and every acknowledged row is there afterwards;
