@@ -8,15 +8,17 @@ use Rattle.cc_names.specs.Formed.{Plain}
 use Rattle.cc_names.specs.declared.commands.Command.{Command}
 use Rattle.cc_names.specs.declared.commands.Lane.{Lane}
 use Rattle.cc_names.specs.declared.commands.Phase.{Phase}
+use Rattle.cc_names.specs.declared.desks.Occasion.{Occasion}
 use Rattle.cc_names.specs.declared.memory.Or.{Or}
 use Rattle.cc_names.specs.declared.memory.Or.TheVariants.{NoMemory, Is}
 use Rattle.cc_names.specs.declared.refusals.Refusal.{Refusal}
 use Rattle.cc_names.specs.declared.rows.Tag.{Tag}
 use Rattle.cc_names.specs.declared.steps.Told.{Told}
 use Rattle.checkout_desk.specs.Commands.{builds}
-use Rattle.checkout_desk.specs.Deciding.{Decides, Sees, room_of}
-use Rattle.legal_history.specs.Base.Rows.{Base, only_where}
-use Rattle.legal_history.specs.Builds.Active.{building, build_of}
+use Rattle.checkout_desk.specs.Deciding.{Decides, Sees}
+use Rattle.legal_history.specs.Base.Fits.{row_limit}
+use Rattle.legal_history.specs.Base.Rows.{Base, size, only_where}
+use Rattle.legal_history.specs.Builds.Active.{building, build_of, reserved}
 use Rattle.legal_history.specs.Commands.Decisions.{Scene}
 use Rattle.legal_history.specs.Commands.Lines.{decision}
 use Rattle.legal_history.specs.Stories.States.{State, scene, done_of, lane_at, command_behind, same_tag, next_tag, next_command, decided}
@@ -53,8 +55,8 @@ next_is s lane command free e =
     ap (λ is. only_where is (option_and_then (command_behind (done_of s.done lane)) (lane_at s.phase lane))) (ap₂ ◌&&◌ (same_as_itself (next_tag s lane)) (ap is_none free)) ∙ e
 
 -- what is decided of the command that waits
-pub decides_next : (story : List Told) (lane room now : ℕ) (command : Command) (result : Result Plain (Or Refusal)) → Legal story → is_carried_out command ≡ true → builds command ≡ false → (let s : State = state_of story in build_of s.active lane ≡ None → s.moment ≡ now → option_and_then (command_behind (done_of s.done lane)) (lane_at s.phase lane) ≡ Some command → room ≡ room_of (scene s) → Decides (next_tag s lane) now result (decision (scene s) command) → IfOk result (λ row. is_made row.deed ≡ true) → OnOk result (0 < room) → DecidesNext s (next_tag s lane) result)
-decides_next story lane room now command (Ok row) legal carried idle free moment e count decides made_row space =
+pub decides_next : (story : List Told) (lane taken now : ℕ) (command : Command) (result : Result Plain (Or Refusal)) → Legal story → is_carried_out command ≡ true → builds command ≡ false → (let s : State = state_of story in build_of s.active lane ≡ None → s.moment ≡ now → option_and_then (command_behind (done_of s.done lane)) (lane_at s.phase lane) ≡ Some command → taken ≡ size s.base + reserved s.active → Decides (next_tag s lane) now result (decision (scene s) command) → IfOk result (λ row. is_made row.deed ≡ true) → OnOk result (taken < row_limit) → DecidesNext s (next_tag s lane) result)
+decides_next story lane taken now command (Ok row) legal carried idle free moment e count decides made_row space =
     let s : State = state_of story in
     let within = in_phase s.phase lane (done_of s.done lane) command e in
     let made : decided s (next_tag s lane) ≡ Some (decision (scene s) command) = ap (option_map (decision (scene s))) (next_is s lane command free e) in
@@ -76,8 +78,8 @@ decides_next story lane room now command (Ok row) legal carried idle free moment
       },
       decides.1,
     )
-decides_next story lane room now command (Err NoMemory) legal carried idle free moment e count decides made_row space = tt
-decides_next story lane room now command (Err (Is refusal)) legal carried idle free moment e count decides made_row space =
+decides_next story lane taken now command (Err NoMemory) legal carried idle free moment e count decides made_row space = tt
+decides_next story lane taken now command (Err (Is refusal)) legal carried idle free moment e count decides made_row space =
     let s : State = state_of story in
     let within = in_phase s.phase lane (done_of s.done lane) command e in
     let made : decided s (next_tag s lane) ≡ Some (decision (scene s) command) = ap (option_map (decision (scene s))) (next_is s lane command free e) in
@@ -102,10 +104,10 @@ waiting_kept log lanes now (suc n) h = ap (λ p. option_and_then (command_behind
         ap (λ k. option_and_then (command_behind k) (slice_get s.phase.lanes n)) counted
 
 -- what is decided of a lane's next command
-pub decided_so : (story : List Told) (lane room now : ℕ) (tag : Tag) (command : Command) (view : List ℕ) (rows : Base) (busy : Option Tag) (result : Result Plain (Or Refusal)) → Legal story → is_carried_out command ≡ true → builds command ≡ false → build_of (state_of story).active lane ≡ None
-    → (state_of story).moment ≡ now → waiting (state_of story) lane ≡ Some command → tag ≡ next_tag (state_of story) lane → rows ≡ (state_of story).base → busy ≡ building (state_of story).active view → room ≡ room_of (scene (state_of story))
-    → ((scene : Scene) (moment : ℕ) → Sees scene rows moment view busy room → Decides tag now result (decision scene command)) → IfOk result (λ row. is_made row.deed ≡ true) → OnOk result (0 < room) → DecidesNext (state_of story) (next_tag (state_of story) lane) result
-decided_so story lane room now tag command view rows busy result legal carried idle free moment e tagged rows_are is count decides made space =
+pub decided_so : (story : List Told) (lane : ℕ) (on : Occasion) (command : Command) (view : List ℕ) (rows : Base) (result : Result Plain (Or Refusal)) → Legal story → is_carried_out command ≡ true → builds command ≡ false → build_of (state_of story).active lane ≡ None
+    → waiting (state_of story) lane ≡ Some command → on.tag ≡ next_tag (state_of story) lane → on.moment ≡ (state_of story).moment → rows ≡ (state_of story).base → on.busy ≡ building (state_of story).active view → on.taken ≡ size (state_of story).base + reserved (state_of story).active
+    → ((scene : Scene) (moment : ℕ) → Sees scene rows moment view on.busy on.taken → Decides on.tag on.moment result (decision scene command)) → IfOk result (λ row. is_made row.deed ≡ true) → OnOk result (on.taken < row_limit) → DecidesNext (state_of story) (next_tag (state_of story) lane) result
+decided_so story lane on command view rows result legal carried idle free e tagged moment rows_are is count decides made space =
     let s = state_of story in
-    let sees : Sees (scene s) rows now view busy room = record { base = sym rows_are; moment = moment; busy = sym is; room = sym count } in
-    decides_next story lane room now command result legal carried idle free moment e count (subst (λ t. Decides t now result (decision (scene s) command)) tagged (decides (scene s) now sees)) made space
+    let sees : Sees (scene s) rows on.moment view on.busy on.taken = record { base = sym rows_are; moment = sym moment; busy = sym is; taken = sym count } in
+    decides_next story lane on.taken on.moment command result legal carried idle free (sym moment) e count (subst (λ t. Decides t on.moment result (decision (scene s) command)) tagged (decides (scene s) on.moment sees)) made space

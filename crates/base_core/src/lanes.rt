@@ -75,7 +75,8 @@ impl Lane {
     /// Notes what a unit of the lane's build has come to. Takes no memory.
     fn note(&mut self, unit: u32, came: Came)
         requires build { IsSome self.old.build }
-        requires unit { (build : Build) → self.old.build ≡ Some build → unit < length build.units }
+        requires unit { (build : Build) → self.old.build ≡ Some build
+            → unit < length build.units }
         ensures replies { self.new.replies ≡ self.old.replies }
         ensures room { self.new.room ≡ self.old.room }
         ensures build { (build : Build) → self.old.build ≡ Some build
@@ -216,7 +217,8 @@ impl Lanes {
         requires from { 1 ≤ lane }
         requires upto { lane ≤ length self.old }
         requires build { IsSome (build_at self.old lane) }
-        requires unit { (build : Build) → build_at self.old lane ≡ Some build → unit < length build.units }
+        requires unit { (build : Build) → build_at self.old lane ≡ Some build
+            → unit < length build.units }
         ensures { (build : Build) → build_at self.old lane ≡ Some build
             → self.new ≡ put_build self.old lane (Some (with_came build (Some unit) (came_of came))) }
     {

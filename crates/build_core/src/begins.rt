@@ -17,6 +17,7 @@ ghost use Rattle.build_core.specs.Plans.{is_clearmake, view_of, Meets, AreUnits,
 use crate::active::ActiveBuild;
 use crate::plans::plan;
 use cc_names::commands::{Command, Macro};
+use cc_names::desks::Occasion;
 use cc_names::memory::Or;
 use cc_names::names::Name;
 use cc_names::paths::Path;
@@ -121,27 +122,23 @@ fn begun(
 }
 
 /// The build that a clearmake begins, or its first refusal: there is no such view (C1), a build of the view is active
-/// (C18), its units cannot be planned, or there is no room for a row of each (C23). `busy` is the active build of the
-/// command's view, and `taken` is how many rows there are, row 0 included, and are reserved. Fails also where memory
-/// runs out.
+/// (C18), its units cannot be planned, or there is no room for a row of each (C23). Fails also where memory runs out.
 ///
 /// Takes what `plan` takes, and for each file that it looks at a look-up by the file's path.
 pub fn plan_build(
     alloc: Global,
     rows: &FirstRows<'_>,
     command: &Command,
-    tag: Tag,
-    busy: Option<Tag>,
-    taken: u64,
+    occasion: Occasion,
 ) -> Result<ActiveBuild, Or<Refusal>>
     requires builds { is_clearmake command.now ≡ true }
     requires formed { IsCommand 16777216 command.now }
-    requires taken { taken < 2 ^ 63 }
-    ensures planned { (scene : Scene) → Meets scene rows.now (view_of command.now) busy taken
-        → Plans tag scene command.now result }
+    requires taken { occasion.taken < 2 ^ 63 }
+    ensures planned { (scene : Scene) → Meets scene rows.now (view_of command.now) occasion.busy occasion.taken
+        → Plans occasion.tag scene command.now result }
     ensures view { IfOk result (λ build. IsSome (view_row rows.now build.view)) }
     ensures formed { IfOk result (λ build. IsBuildFormed build) }
-    ensures room { IfOk result (λ build. taken + length build.units ≤ 4000000) }
+    ensures room { IfOk result (λ build. occasion.taken + length build.units ≤ 4000000) }
 {
     match command {
         Command::Clearmake {
@@ -160,12 +157,20 @@ pub fn plan_build(
                 file.as_ref(),
                 macros.as_slice(),
                 goals.as_slice(),
-                busy,
-                taken,
+                occasion.busy,
+                occasion.taken,
             )?;
             let size = rows.size();
             let view = view.copy(alloc)?;
-            let build = ActiveBuild::begin(alloc, tag, size, view, *own_only, *rebuild, units)?;
+            let build = ActiveBuild::begin(
+                alloc,
+                occasion.tag,
+                size,
+                view,
+                *own_only,
+                *rebuild,
+                units,
+            )?;
             Ok(build)
         }
         _ => unreachable!(),

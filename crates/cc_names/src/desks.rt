@@ -1,6 +1,19 @@
-// What a lane is told of its next command, and what became of it.
+// What a lane is told of its next command, on what occasion it is decided, and what became of it.
 
 use crate::rows::Tag;
+
+/// On what occasion a command is decided.
+#[derive(Clone, Copy)]
+pub struct Occasion {
+    /// The tag of the command.
+    pub tag: Tag,
+    /// The moment of its phase, in seconds since 1970.
+    pub moment: u64,
+    /// The command that builds in the same view, if one does.
+    pub busy: Option<Tag>,
+    /// How many rows there are, row 0 included, and are reserved for the units of active builds.
+    pub taken: u64,
+}
 
 /// What a lane has to do next.
 #[derive(Clone, Copy, Debug, PartialEq, Eq)]

@@ -1,5 +1,5 @@
 -- What a call answers that decides a command.
-use Rattle.std.specs.Prelude.{◌≡◌, ℕ, ◌+◌, ◌-◌, Option, Result, Ok, Err, List}
+use Rattle.std.specs.Prelude.{◌≡◌, ℕ, ◌+◌, Option, Result, Ok, Err, List}
 use Rattle.cc_names.specs.Formed.{Plain}
 use Rattle.cc_names.specs.declared.memory.Or.{Or}
 use Rattle.cc_names.specs.declared.memory.Or.TheVariants.{NoMemory, Is}
@@ -10,7 +10,6 @@ use Rattle.legal_history.specs.Base.Rows.{Base, size}
 use Rattle.legal_history.specs.Builds.Active.{building, reserved}
 use Rattle.legal_history.specs.Commands.Decisions.{Decision, Makes, Scene}
 use Rattle.legal_history.specs.Commands.FileLines.{save_deed}
-use Rattle.legal_history.specs.Base.Fits.{row_limit}
 use Rattle.legal_history.specs.Base.Seen.{at}
 
 -- unless memory ran out, the refusal is the one that was decided
@@ -23,17 +22,13 @@ abbrev pub Decides : Tag → ℕ → Result Plain (Or Refusal) → Result Decisi
 Decides tag moment (Ok row) decision = (decision ≡ Ok (Makes row.deed)) × (row.tag ≡ tag) × (row.moment ≡ moment)
 Decides tag moment (Err refusal) decision = RefusalIs refusal decision
 
--- how many more rows a base may get beside those that active builds reserve
-abbrev pub room_of : Scene → ℕ
-room_of s = row_limit - (size s.base + reserved s.active)
-
--- The scene in which a command is decided: its base, its moment, the active build of this view, and the room that the
--- active builds leave.
+-- The scene in which a command is decided: its base, its moment, the active build of this view, and how many rows there are
+-- and are reserved.
 pub record Sees (s : Scene) (b : Base) (now : ℕ) (v : List ℕ) (build : Option Tag) (rows : ℕ) : Type 0 where
   pub base : s.base ≡ b
   pub moment : s.moment ≡ now
   pub busy : building s.active v ≡ build
-  pub room : room_of s ≡ rows
+  pub taken : size s.base + reserved s.active ≡ rows
 
 -- a save at the path is one of a private file
 abbrev pub SavesPrivate : Base → List ℕ → List ℕ → Type 0

@@ -2,6 +2,7 @@
 
 ghost use Rattle.std.specs.Prelude.{◌≡◌, ℕ, ◌<◌, ◌≤◌, ◌^◌, length, true, false, IfOk, OnOk};
 ghost use Rattle.session_text.specs.Formed.{IsCommand};
+ghost use Rattle.legal_history.specs.Base.Fits.{row_limit};
 ghost use Rattle.legal_history.specs.Commands.Decisions.{Scene};
 ghost use Rattle.legal_history.specs.Commands.Lines.{decision};
 ghost use Rattle.carried_out.specs.CarriedOut.{is_carried_out, is_made};
@@ -9,42 +10,37 @@ ghost use Rattle.checkout_desk.specs.Commands.{builds, view_of};
 ghost use Rattle.checkout_desk.specs.Deciding.{Sees, Decides};
 
 use crate::saves::save;
-use crate::stamps::Stamp;
 use crate::views::{mkview, rmview};
 use cc_names::commands::Command;
+use cc_names::desks::Occasion;
 use cc_names::memory::Or;
 use cc_names::refusals::Refusal;
-use cc_names::rows::{Row, Tag};
+use cc_names::rows::Row;
 use std::alloc::Global;
 use view_lookup::FirstRows;
 
-/// A command's row, or its first refusal in the order of the tests of its line. `busy` is the active build of the
-/// command's view, and `room` is how many rows may still be made. Takes time linear in the command, however
+/// A command's row, or its first refusal in the order of the tests of its line. Takes time linear in the command, however
 /// many rows there are.
 pub fn decide(
     alloc: Global,
     rows: &FirstRows<'_>,
     command: &Command,
-    stamp: Stamp,
-    busy: Option<Tag>,
-    room: u64,
+    occasion: Occasion,
 ) -> Result<Row, Or<Refusal>>
     requires carried_out { is_carried_out command.now ≡ true }
     requires no_build { builds command.now ≡ false }
     requires formed { IsCommand 16777216 command.now }
-    requires in_time { stamp.moment ≤ 253402300799 }
+    requires in_time { occasion.moment ≤ 253402300799 }
 
-    ensures decided { (scene : Scene) (now : ℕ) → Sees scene rows.now now (view_of command.now) busy room
-        → Decides stamp.tag stamp.moment result (decision scene command.now) }
+    ensures decided { (scene : Scene) (now : ℕ) → Sees scene rows.now now (view_of command.now) occasion.busy occasion.taken
+        → Decides occasion.tag occasion.moment result (decision scene command.now) }
     ensures made { IfOk result (λ row. is_made row.deed ≡ true) }
-    ensures room { OnOk result (0 < room) }
+    ensures room { OnOk result (occasion.taken < row_limit) }
 {
     match command {
-        Command::Mkview { view } => mkview(alloc, rows, view, stamp, room),
-        Command::Rmview { view, force } => rmview(alloc, rows, view, *force, stamp, busy, room),
-        Command::Save { view, path, text } => {
-            save(alloc, rows, view, path, text, stamp, busy, room)
-        }
+        Command::Mkview { view } => mkview(alloc, rows, view, occasion),
+        Command::Rmview { view, force } => rmview(alloc, rows, view, *force, occasion),
+        Command::Save { view, path, text } => save(alloc, rows, view, path, text, occasion),
         _ => unreachable!(),
     }
 }

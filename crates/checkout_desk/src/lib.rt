@@ -12,10 +12,7 @@ mod commands;
 mod decisions;
 mod room;
 mod saves;
-mod stamps;
 mod views;
 
 pub use commands::view_of;
 pub use decisions::decide;
-pub use stamps::Stamp;
-pub use view_lookup::ROW_LIMIT;

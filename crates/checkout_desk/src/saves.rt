@@ -4,6 +4,7 @@ ghost use Rattle.std.specs.Prelude.{◌≡◌, ℕ, ◌<◌, ◌≤◌, ◌^◌,
 ghost use Rattle.cc_names.specs.Formed.{IsBelowRoot};
 ghost use Rattle.cc_names.specs.declared.rows.Tag.{Tag};
 ghost use Rattle.legal_history.specs.Commands.Tests.{needs_selected, needs_directory};
+ghost use Rattle.legal_history.specs.Base.Fits.{row_limit};
 ghost use Rattle.legal_history.specs.Base.Seen.{at};
 ghost use Rattle.legal_history.specs.Base.Views.{view_row};
 ghost use Rattle.legal_history.specs.Commands.Decisions.{Scene, first_refusal, needs_room};
@@ -12,7 +13,7 @@ ghost use Rattle.carried_out.specs.CarriedOut.{is_made};
 ghost use Rattle.checkout_desk.specs.Deciding.{Sees, Decides, SavesPrivate};
 
 use crate::room::needs_room;
-use crate::stamps::Stamp;
+use cc_names::desks::Occasion;
 use cc_names::memory::{NoMemory, Or};
 use cc_names::names::Name;
 use cc_names::paths::Path;
@@ -71,12 +72,12 @@ fn save_refusal(
     view: &Name,
     path: &Path,
     busy: Option<Tag>,
-    room: u64,
+    taken: u64,
 ) -> Result<Option<Refusal>, NoMemory>
     requires below { IsBelowRoot path.now }
-    ensures refusal { IfOk result (λ refusal. (scene : Scene) (now : ℕ) → Sees scene rows.now now view.now busy room
+    ensures refusal { IfOk result (λ refusal. (scene : Scene) (now : ℕ) → Sees scene rows.now now view.now busy taken
         → refusal ≡ first_refusal (save_tests scene view.now path.now ++ needs_room scene 1 ∷ [])) }
-    ensures room { IfOk result (λ refusal. IfNone refusal (0 < room)) }
+    ensures room { IfOk result (λ refusal. IfNone refusal (taken < row_limit)) }
     ensures private { IfOk result (λ refusal. IfNone refusal (SavesPrivate rows.now view.now path.now)) }
 {
     if view_row(rows, view).is_none() {
@@ -94,7 +95,7 @@ fn save_refusal(
     }
     match saves_at(alloc, rows, view, path)? {
         Some(refusal) => Ok(Some(refusal)),
-        None => Ok(needs_room(room)),
+        None => Ok(needs_room(taken)),
     }
 }
 
@@ -105,19 +106,17 @@ pub fn save(
     view: &Name,
     path: &Path,
     text: &Text,
-    stamp: Stamp,
-    busy: Option<Tag>,
-    room: u64,
+    occasion: Occasion,
 ) -> Result<Row, Or<Refusal>>
     requires below { IsBelowRoot path.now }
     requires short { length text.now ≤ 16777216 }
-    requires in_time { stamp.moment ≤ 253402300799 }
-    ensures decided { (scene : Scene) (now : ℕ) → Sees scene rows.now now view.now busy room
-        → Decides stamp.tag stamp.moment result (save scene view.now path.now text.now) }
+    requires in_time { occasion.moment ≤ 253402300799 }
+    ensures decided { (scene : Scene) (now : ℕ) → Sees scene rows.now now view.now occasion.busy occasion.taken
+        → Decides occasion.tag occasion.moment result (save scene view.now path.now text.now) }
     ensures made { IfOk result (λ row. is_made row.deed ≡ true) }
-    ensures room { OnOk result (0 < room) }
+    ensures room { OnOk result (occasion.taken < row_limit) }
 {
-    match save_refusal(alloc, rows, view, path, busy, room)? {
+    match save_refusal(alloc, rows, view, path, occasion.busy, occasion.taken)? {
         Some(refusal) => return Err(Or::Is(refusal)),
         None => {}
     }
@@ -126,5 +125,5 @@ pub fn save(
         path: path.copy(alloc)?,
         text: text.copy(alloc)?,
     };
-    Ok(Row::of(stamp.tag, stamp.moment, deed))
+    Ok(Row::of(occasion.tag, occasion.moment, deed))
 }

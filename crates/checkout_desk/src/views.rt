@@ -5,13 +5,14 @@ ghost use Rattle.cc_names.specs.Names.{IsName};
 ghost use Rattle.carried_out.specs.CarriedOut.{is_made};
 ghost use Rattle.legal_history.specs.Commands.Decisions.{Scene, first_refusal, needs_room};
 ghost use Rattle.legal_history.specs.Commands.FileLines.{mkview, mkview_tests, rmview, rmview_tests};
+ghost use Rattle.legal_history.specs.Base.Fits.{row_limit};
 ghost use Rattle.legal_history.specs.Builds.Active.{Active};
 ghost use Rattle.legal_history.specs.Commands.Tests.{needs_no_checkouts};
 ghost use Rattle.checkout_desk.specs.Deciding.{Sees, Decides};
 ghost use Rattle.cc_names.specs.declared.rows.Tag.{Tag};
 
 use crate::room::needs_room;
-use crate::stamps::Stamp;
+use cc_names::desks::Occasion;
 use cc_names::memory::Or;
 use cc_names::names::Name;
 use cc_names::refusals::Refusal;
@@ -20,15 +21,15 @@ use std::alloc::Global;
 use view_lookup::{FirstRows, oldest_out, view_row};
 
 /// The first refusal of `mkview V`, its room included.
-fn mkview_refusal(rows: &FirstRows<'_>, view: &Name, room: u64) -> Option<Refusal>
-    ensures refusal { (scene : Scene) (moment : ℕ) (other : List ℕ) (busy : Option Tag) → Sees scene rows.now moment other busy room
+fn mkview_refusal(rows: &FirstRows<'_>, view: &Name, taken: u64) -> Option<Refusal>
+    ensures refusal { (scene : Scene) (moment : ℕ) (other : List ℕ) (busy : Option Tag) → Sees scene rows.now moment other busy taken
         → result ≡ first_refusal (mkview_tests scene view.now ++ needs_room scene 1 ∷ []) }
-    ensures room { IfNone result (0 < room) }
+    ensures room { IfNone result (taken < row_limit) }
 {
     if view_row(rows, view).is_some() {
         return Some(Refusal::ViewExists);
     }
-    needs_room(room)
+    needs_room(taken)
 }
 
 /// The row of `mkview V`, or its first refusal.
@@ -36,20 +37,19 @@ pub fn mkview(
     alloc: Global,
     rows: &FirstRows<'_>,
     view: &Name,
-    stamp: Stamp,
-    room: u64,
+    occasion: Occasion,
 ) -> Result<Row, Or<Refusal>>
-    requires { stamp.moment ≤ 253402300799 }
-    ensures decided { (scene : Scene) (now : ℕ) (other : List ℕ) (busy : Option Tag) → Sees scene rows.now now other busy room
-        → Decides stamp.tag stamp.moment result (mkview scene view.now) }
+    requires { occasion.moment ≤ 253402300799 }
+    ensures decided { (scene : Scene) (now : ℕ) (other : List ℕ) (busy : Option Tag) → Sees scene rows.now now other busy occasion.taken
+        → Decides occasion.tag occasion.moment result (mkview scene view.now) }
     ensures made { IfOk result (λ row. is_made row.deed ≡ true) }
-    ensures room { OnOk result (0 < room) }
+    ensures room { OnOk result (occasion.taken < row_limit) }
 {
-    if let Some(refusal) = mkview_refusal(rows, view, room) {
+    if let Some(refusal) = mkview_refusal(rows, view, occasion.taken) {
         return Err(Or::Is(refusal));
     }
     let view = view.copy(alloc)?;
-    Ok(Row::of(stamp.tag, stamp.moment, Deed::Mkview { view }))
+    Ok(Row::of(occasion.tag, occasion.moment, Deed::Mkview { view }))
 }
 
 /// The refusal of a view that has checkouts, unless it is to go by force.
@@ -71,11 +71,11 @@ fn rmview_refusal(
     view: &Name,
     force: bool,
     busy: Option<Tag>,
-    room: u64,
+    taken: u64,
 ) -> Option<Refusal>
-    ensures refusal { (scene : Scene) (now : ℕ) → Sees scene rows.now now view.now busy room
+    ensures refusal { (scene : Scene) (now : ℕ) → Sees scene rows.now now view.now busy taken
         → result ≡ first_refusal (rmview_tests scene view.now force ++ needs_room scene 1 ∷ []) }
-    ensures room { IfNone result (0 < room) }
+    ensures room { IfNone result (taken < row_limit) }
 {
     if view_row(rows, view).is_none() {
         return Some(Refusal::NoView);
@@ -86,7 +86,7 @@ fn rmview_refusal(
     }
     match needs_no_checkouts(rows, view, force) {
         Some(refusal) => Some(refusal),
-        None => needs_room(room),
+        None => needs_room(taken),
     }
 }
 
@@ -96,19 +96,17 @@ pub fn rmview(
     rows: &FirstRows<'_>,
     view: &Name,
     force: bool,
-    stamp: Stamp,
-    busy: Option<Tag>,
-    room: u64,
+    occasion: Occasion,
 ) -> Result<Row, Or<Refusal>>
-    requires { stamp.moment ≤ 253402300799 }
-    ensures decided { (scene : Scene) (now : ℕ) → Sees scene rows.now now view.now busy room
-        → Decides stamp.tag stamp.moment result (rmview scene view.now force) }
+    requires { occasion.moment ≤ 253402300799 }
+    ensures decided { (scene : Scene) (now : ℕ) → Sees scene rows.now now view.now occasion.busy occasion.taken
+        → Decides occasion.tag occasion.moment result (rmview scene view.now force) }
     ensures made { IfOk result (λ row. is_made row.deed ≡ true) }
-    ensures room { OnOk result (0 < room) }
+    ensures room { OnOk result (occasion.taken < row_limit) }
 {
-    if let Some(refusal) = rmview_refusal(rows, view, force, busy, room) {
+    if let Some(refusal) = rmview_refusal(rows, view, force, occasion.busy, occasion.taken) {
         return Err(Or::Is(refusal));
     }
     let view = view.copy(alloc)?;
-    Ok(Row::of(stamp.tag, stamp.moment, Deed::Rmview { view }))
+    Ok(Row::of(occasion.tag, occasion.moment, Deed::Rmview { view }))
 }

@@ -9,7 +9,7 @@ use cc_names::refusals::Refusal;
 use cc_names::replies::Reply;
 use cc_names::rows::{Row, Tag};
 use cc_names::steps::Step;
-use checkout_desk::{ROW_LIMIT, Stamp, decide, view_of};
+use checkout_desk::{decide, view_of};
 use disk_model::Disk;
 use std::alloc::Global;
 
@@ -29,13 +29,8 @@ impl<D: Disk> Core<D> {
         ensures { DecidesNext (state_of self.now.story) (next_tag (state_of self.now.story) lane) result }
     {
         let command = self.command(lane);
-        let stamp = Stamp {
-            tag: self.tag(lane),
-            moment: self.moment,
-        };
-        let busy = self.busy(view_of(command));
-        let room = ROW_LIMIT.saturating_sub(self.taken());
-        decide(alloc, &self.rows(), command, stamp, busy, room)
+        let occasion = self.occasion(lane, view_of(command));
+        decide(alloc, &self.log.rows(), command, occasion)
     }
 
     /// Commits the row of its lane's next command, or tells that the disk failed under it. An `Err` changes nothing.

@@ -31,9 +31,8 @@ impl<D: Disk> Core<D> {
         ensures { PlansNext (state_of self.now.story) (next_tag (state_of self.now.story) lane) result }
     {
         let command = self.command(lane);
-        let busy = self.busy(view_of(command));
-        let taken = self.taken();
-        plan_build(alloc, &self.rows(), command, self.tag(lane), busy, taken)
+        let occasion = self.occasion(lane, view_of(command));
+        plan_build(alloc, &self.rows(), command, occasion)
     }
 
     /// Begins the build that was decided for the next command of its lane. An `Err` changes nothing.

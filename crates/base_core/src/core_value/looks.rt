@@ -4,19 +4,19 @@ use super::Core;
 use crate::commands::{next_by, next_command};
 use build_core::ActiveBuild;
 use cc_names::commands::Command;
-use cc_names::desks::Next;
+use cc_names::desks::{Next, Occasion};
 use cc_names::rows::Tag;
 use disk_model::Disk;
 use view_lookup::FirstRows;
 
 impl<D: Disk> Core<D> {
-    ghost use Rattle.std.specs.Prelude.{◌≡◌, ◌<◌, ◌+◌, ◌^◌, true, Some, IsSome, option_copied};
+    ghost use Rattle.std.specs.Prelude.{◌≡◌, ◌<◌, ◌≤◌, ◌+◌, ◌^◌, true, Some, IsSome, option_copied};
     ghost use Rattle.carried_out.specs.CarriedOut.{is_carried_out};
     ghost use Rattle.session_text.specs.Formed.{IsCommand};
     ghost use Rattle.legal_history.specs.Base.Rows.{size};
     ghost use Rattle.cc_names.specs.declared.commands.Command.{Command};
     ghost use Rattle.legal_history.specs.Builds.Active.{Build, build_of, building, reserved};
-    ghost use Rattle.legal_history.specs.Stories.Lawful.{Legal};
+    ghost use Rattle.legal_history.specs.Stories.Lawful.{last_moment, Legal};
     ghost use Rattle.legal_history.specs.Stories.States.{next_tag};
     ghost use Rattle.legal_history.specs.Stories.Steps.{state_of};
     ghost use Rattle.base_core.specs.Building.{IsBuildKept};
@@ -28,21 +28,6 @@ impl<D: Disk> Core<D> {
         ensures { result ≡ (state_of self.now.story).base }
     {
         self.log.rows()
-    }
-
-    /// How many rows there are, with those that are reserved for the units of active builds.
-    pub(super) fn taken(&self) -> u64
-        ensures sum { result ≡ size (state_of self.now.story).base + reserved (state_of self.now.story).active }
-        ensures small { result < 2 ^ 63 }
-    {
-        self.log.rows().size() + self.lanes.reserved()
-    }
-
-    /// The tag of the command that builds in the view, if one does.
-    pub(super) fn busy(&self, view: &[u8]) -> Option<Tag>
-        ensures { result ≡ building (state_of self.now.story).active view.now }
-    {
-        self.lanes.building(view)
     }
 
     /// The tag of a lane's next command.
@@ -57,11 +42,32 @@ impl<D: Disk> Core<D> {
         }
     }
 
+    /// On what occasion the next command of a lane is decided, which names this view.
+    pub(super) fn occasion(&self, lane: u32, view: &[u8]) -> Occasion
+        requires { IsSome (waiting (state_of self.now.story) lane) }
+        ensures tag { result.tag ≡ next_tag (state_of self.now.story) lane }
+        ensures moment { result.moment ≡ (state_of self.now.story).moment }
+        ensures busy { result.busy ≡ building (state_of self.now.story).active view.now }
+        ensures taken { result.taken
+            ≡ size (state_of self.now.story).base + reserved (state_of self.now.story).active }
+        ensures few { result.taken < 2 ^ 63 }
+        ensures in_time { result.moment ≤ last_moment }
+    {
+        Occasion {
+            tag: self.tag(lane),
+            moment: self.moment,
+            busy: self.lanes.building(view),
+            taken: self.log.rows().size() + self.lanes.reserved(),
+        }
+    }
+
     /// The first command of a lane that is not finished.
     fn find_command(&self, lane: u32) -> Option<&Command>
         ensures next { option_copied result ≡ waiting (state_of self.now.story) lane }
-        ensures formed { (command : Command) → waiting (state_of self.now.story) lane ≡ Some command → IsCommand command_limit command }
-        ensures carried_out { (command : Command) → waiting (state_of self.now.story) lane ≡ Some command → is_carried_out command ≡ true }
+        ensures formed { (command : Command) → waiting (state_of self.now.story) lane ≡ Some command
+            → IsCommand command_limit command }
+        ensures carried_out { (command : Command) → waiting (state_of self.now.story) lane ≡ Some command
+            → is_carried_out command ≡ true }
     {
         next_command(self.log.phases(), lane, self.lanes.finished(lane))
     }

@@ -8,11 +8,11 @@ use Rattle.checkout_desk.proofs.decisions.decide.Goals as goal
 pub returns-in-Save-clause-decided : goal.returns-in-Save-clause-decided
 returns-in-Save-clause-decided c =
     λ scene now sees.
-    subst (λ command. Decides c.args.stamp.tag c.args.stamp.moment c.save.result (decision scene command)) (sym c.in-Save.is)
-    (c.save.ensures.decided scene now (subst (λ command. Sees scene c.args.rows.now now (view_of command) c.args.busy c.args.room) c.in-Save.is sees))
+    subst (λ command. Decides c.args.occasion.tag c.args.occasion.moment c.save.result (decision scene command)) (sym c.in-Save.is)
+    (c.save.ensures.decided scene now (subst (λ command. Sees scene c.args.rows.now now (view_of command) c.args.occasion.busy c.args.occasion.taken) c.in-Save.is sees))
 
 pub returns-in-Rmview-clause-decided : goal.returns-in-Rmview-clause-decided
 returns-in-Rmview-clause-decided c =
     λ scene now sees.
-    subst (λ command. Decides c.args.stamp.tag c.args.stamp.moment c.rmview.result (decision scene command)) (sym c.in-Rmview.is)
-    (c.rmview.ensures.decided scene now (subst (λ command. Sees scene c.args.rows.now now (view_of command) c.args.busy c.args.room) c.in-Rmview.is sees))
+    subst (λ command. Decides c.args.occasion.tag c.args.occasion.moment c.rmview.result (decision scene command)) (sym c.in-Rmview.is)
+    (c.rmview.ensures.decided scene now (subst (λ command. Sees scene c.args.rows.now now (view_of command) c.args.occasion.busy c.args.occasion.taken) c.in-Rmview.is sees))

@@ -1,9 +1,8 @@
 -- the decision on a lane's next command is that of its state
-use Rattle.std.proofs.Common.{◌≡◌, ◌-◌, Some, None, ap, sym, subst, ◌∙◌}
+use Rattle.std.proofs.Common.{◌≡◌, None, ap, sym, subst, ◌∙◌}
 use Rattle.checkout_desk.specs.Commands.{view_of}
 use Rattle.checkout_desk.specs.Deciding.{Sees}
 use Rattle.legal_history.specs.Builds.Active.{build_of, building}
-use Rattle.legal_history.specs.Base.Fits.{row_limit}
 use Rattle.legal_history.specs.Stories.Lawful.{Legal}
 use Rattle.legal_history.specs.Stories.Steps.{state_of}
 use Rattle.base_core.specs.Nexts.{next_of}
@@ -24,8 +23,8 @@ returns g c =
     let same = ap (λ v. v.story) c.self.view_is in
     let free : build_of (state_of c.args.self.now.story).active c.args.lane ≡ None = subst (λ t. build_of (state_of t).active c.args.lane ≡ None) same
     (acting_is_free c.self.inside.log c.self.inside.lanes c.self.inside.moment c.args.lane c.self.invariant (ap (λ t. next_of (state_of t) c.args.lane) same ∙ c.requires)) in
-    decided_so c.args.self.now.story c.args.lane c.saturating_sub-room.result c.self.inside.moment c.tag.result c.command-command.result.now (view_of c.command-command.result.now) c.rows.result c.busy-busy.result c.decide.result
+    decided_so c.args.self.now.story c.args.lane c.occasion-occasion.result c.command-command.result.now (view_of c.command-command.result.now) c.rows.result c.decide.result
     (subst Legal same c.self.invariant.story.legal) c.command-command.ensures.carried_out (acts (state_of c.args.self.now.story) c.args.lane c.command-command.result.now c.command-command.ensures.next c.requires) free
-    (ap (λ t. (state_of t).moment) (sym same) ∙ c.self.invariant.phase.moment) c.command-command.ensures.next c.tag.ensures c.rows.ensures
-    (c.busy-busy.ensures ∙ ap (building (state_of c.args.self.now.story).active) c.view_of.ensures) (c.saturating_sub-room.ensures ∙ ap (λ taken. row_limit - taken) c.taken.ensures.sum)
+    c.command-command.ensures.next c.occasion-occasion.ensures.tag c.occasion-occasion.ensures.moment (c.rows.ensures ∙ sym c.self.invariant.story.base ∙ ap (λ t. (state_of t).base) same)
+    (c.occasion-occasion.ensures.busy ∙ ap (building (state_of c.args.self.now.story).active) c.view_of.ensures) c.occasion-occasion.ensures.taken
     (λ scene moment sees. c.decide.ensures.decided scene moment sees) c.decide.ensures.made c.decide.ensures.room

@@ -17,7 +17,7 @@ plan_build-requires-clause-builds g c = builds_next (state_of c.args.self.now.st
 
 pub returns : goal.returns
 returns g c =
-    plans_so (state_of c.args.self.now.story) c.args.lane c.taken-taken.result c.tag.result c.command-command.result.now (view_of c.command-command.result.now) c.rows.result c.busy-busy.result c.plan_build.result
-    c.requires.builds c.requires.free c.command-command.ensures.next c.tag.ensures c.rows.ensures
-    (c.busy-busy.ensures ∙ ap (building (state_of c.args.self.now.story).active) (c.view_of.ensures ∙ same_view c.command-command.result.now (builds_next (state_of c.args.self.now.story) c.args.lane c.command-command.result.now c.command-command.ensures.next c.requires.builds)))
-    c.taken-taken.ensures.sum (λ scene meets. c.plan_build.ensures.planned scene meets) c.plan_build.ensures.view c.plan_build.ensures.formed c.plan_build.ensures.room
+    plans_so (state_of c.args.self.now.story) c.args.lane c.occasion-occasion.result.taken c.occasion-occasion.result.tag c.command-command.result.now (view_of c.command-command.result.now) c.rows.result c.occasion-occasion.result.busy c.plan_build.result
+    c.requires.builds c.requires.free c.command-command.ensures.next c.occasion-occasion.ensures.tag c.rows.ensures
+    (c.occasion-occasion.ensures.busy ∙ ap (building (state_of c.args.self.now.story).active) (c.view_of.ensures ∙ same_view c.command-command.result.now (builds_next (state_of c.args.self.now.story) c.args.lane c.command-command.result.now c.command-command.ensures.next c.requires.builds)))
+    c.occasion-occasion.ensures.taken (λ scene meets. c.plan_build.ensures.planned scene meets) c.plan_build.ensures.view c.plan_build.ensures.formed c.plan_build.ensures.room
