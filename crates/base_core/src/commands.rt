@@ -30,7 +30,8 @@ pub fn last_phase(phases: &[Phase]) -> &Phase
 
 /// The command behind those of the lane that are finished.
 pub fn command_at(phase: &Phase, lane: u32, done: usize) -> Option<&Command>
-    ensures { option_copied result ≡ option_and_then (command_behind done) (lane_at phase.now lane) }
+    ensures { option_copied result
+        ≡ option_and_then (command_behind done) (lane_at phase.now lane) }
 {
     match lane_at(phase, lane) {
         Some(lane) => lane.commands.as_slice().get(done),
@@ -40,7 +41,8 @@ pub fn command_at(phase: &Phase, lane: u32, done: usize) -> Option<&Command>
 
 /// The command of a lane behind as many as this, in the phase that began last.
 pub fn next_command(phases: &[Phase], lane: u32, done: usize) -> Option<&Command>
-    ensures { option_copied result ≡ option_and_then (command_behind done) (lane_at (last_phase phases.now) lane) }
+    ensures { option_copied result
+        ≡ option_and_then (command_behind done) (lane_at (last_phase phases.now) lane) }
 {
     if phases.is_empty() {
         return None;

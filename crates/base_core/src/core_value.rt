@@ -62,14 +62,11 @@ impl<D: Disk> Core<D> {
     /// Opens the base that a disk stands for. Reads its journal once, in time linear in its bytes and the square of the targets of
     /// one object, and writes nothing. Names are found by hashing them so. A disk whose base cannot be opened comes back with
     /// the cause.
-    pub fn open(
-        alloc: Global,
-        hashing: RandomState,
-        disk: D,
-    ) -> Result<Core<D>, OpenFault<D>>
+    pub fn open(alloc: Global, hashing: RandomState, disk: D) -> Result<Core<D>, OpenFault<D>>
         requires { IfTold (D.sight disk).told (λ d. file_of 0 d ≡ stable (bytes_of 0 d)) }
         ensures ok { IfOk result (λ core. Opens (D.sight disk) core.story core.sight) }
-        ensures err { IfErr result (λ fault. FailsToOpen (D.sight disk) fault.cause (D.sight fault.disk)) }
+        ensures err { IfErr result
+            (λ fault. FailsToOpen (D.sight disk) fault.cause (D.sight fault.disk)) }
     {
         match open_log(alloc, hashing, disk) {
             Ok(log) => Ok(Core {
@@ -131,8 +128,11 @@ impl<D: Disk> Core<D> {
     pub fn finish(&mut self) -> Result<(), DiskFault>
         ensures same { self.new.story ≡ self.old.story }
         ensures ok { OnOk result (IsSettled (state_of self.new.story) self.new.sight) }
-        ensures err { OnErr result (rises (faults_of (state_of self.new.story).opened (state_of self.new.story).ends) self.new.sight.faults ≡ true) }
-        ensures faults { MatchResult result (λ _. self.new.sight.faults ≡ self.old.sight.faults) (λ _. self.new.sight.faults ≡ raised self.old.sight.faults) }
+        ensures err { OnErr result
+            (rises (faults_of (state_of self.new.story).opened (state_of self.new.story).ends)
+            self.new.sight.faults ≡ true) }
+        ensures faults { MatchResult result (λ _. self.new.sight.faults ≡ self.old.sight.faults)
+            (λ _. self.new.sight.faults ≡ raised self.old.sight.faults) }
         ensures objects { Both SameObjects self.old.sight.told self.new.sight.told }
         ensures rests { is_faulted (state_of self.old.story).ends ≡ false → self.new ≡ self.old }
     {

@@ -29,7 +29,8 @@ impl<D: Disk> Model for History<D> {
 
     ghost Value = { List Told };
 
-    ghost view = { λ h. story_of (handed_in h.handed D.tells) h.steps.items h.rows.items h.phases.items };
+    ghost view = { λ h.
+        story_of (handed_in h.handed D.tells) h.steps.items h.rows.items h.phases.items };
 
     ghost invariant = { λ h. AreTold 1 0 h.steps.items h.rows.items h.phases.items };
 }

@@ -219,8 +219,10 @@ impl Lanes {
         requires build { IsSome (build_at self.old lane) }
         requires unit { (build : Build) → build_at self.old lane ≡ Some build
             → unit < length build.units }
-        ensures { (build : Build) → build_at self.old lane ≡ Some build
-            → self.new ≡ put_build self.old lane (Some (with_came build (Some unit) (came_of came))) }
+        ensures { (build : Build)
+            → build_at self.old lane ≡ Some build
+            → self.new
+            ≡ put_build self.old lane (Some (with_came build (Some unit) (came_of came))) }
     {
         self.lanes[lane as usize - 1].note(unit, came);
     }

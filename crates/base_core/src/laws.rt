@@ -36,8 +36,12 @@ pub fn a_journal_is_damaged_once()
 
 /// The base of a story that names only readable rows is one of readable rows, and what a fault left behind it is readable.
 pub fn a_story_keeps_its_base_readable()
-    ensures base { (story : List Told) → TellsOnly IsReadable story → AreReadable (state_of story).base }
-    ensures left { (story : List Told) → TellsOnly IsReadable story → IfSome (hanging (state_of story).ends) IsReadable }
+    ensures base { (story : List Told)
+        → TellsOnly IsReadable story
+        → AreReadable (state_of story).base }
+    ensures left { (story : List Told)
+        → TellsOnly IsReadable story
+        → IfSome (hanging (state_of story).ends) IsReadable }
 {}
 
 /// Promises `StopOpensAgain`: whatever a stop may find of a legal story that names only readable rows opens again, without

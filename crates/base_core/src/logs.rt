@@ -47,13 +47,17 @@ impl<D: Disk> Model for Log<D> {
     ghost Value = { Logged };
 
     ghost view = { λ log. record {
-      story = story_of (handed_in log.handed D.tells) log.steps.items (oldest_first log.rows.base) log.phases.items;
+      story = story_of (handed_in log.handed D.tells) log.steps.items
+          (oldest_first log.rows.base) log.phases.items;
       base = log.rows.base;
       phases = log.phases.items;
       sight = D.sight log.journal.disk;
     } };
 
-    ghost invariant = { λ log. IsLogged (handed_in log.handed D.tells) log.steps.items log.rows.base log.phases.items (D.sight log.journal.disk) log.journal.list log.journal.loose log.journal.ended log.journal.left };
+    ghost invariant = { λ log.
+        IsLogged (handed_in log.handed D.tells) log.steps.items log.rows.base log.phases.items
+        (D.sight log.journal.disk) log.journal.list log.journal.loose log.journal.ended
+        log.journal.left };
 }
 
 /// The frame of a row. A row that is spelled in 2^32 bytes or more counts as want of memory.
@@ -139,8 +143,10 @@ impl<D: Disk> Log<D> {
         handed: Counts,
         journal: Journal<D>,
     ) -> Result<Log<D>, Journal<D>>
-        requires { IsBacked (state_of (told.Opened (oldest_first rows.base) handed D.tells ∷ [])) (D.sight journal.disk) journal.list journal.loose journal.ended journal.left }
-        ensures ok { IfOk result (λ log. log ≡ opened_log rows.base (handed_in handed D.tells) (D.sight journal.disk)) }
+        requires { IsBacked (state_of (told.Opened (oldest_first rows.base) handed D.tells ∷ []))
+            (D.sight journal.disk) journal.list journal.loose journal.ended journal.left }
+        ensures ok { IfOk result
+            (λ log. log ≡ opened_log rows.base (handed_in handed D.tells) (D.sight journal.disk)) }
         ensures err { IfErr result (λ back. back ≡ journal) }
     {
         let mut steps = Vec::new(alloc);
@@ -238,8 +244,11 @@ impl<D: Disk> Log<D> {
     pub(crate) fn settle(&mut self) -> Result<(), DiskFault>
         ensures same { self.new ≡ with_sight self.old self.new.sight }
         ensures ok { OnOk result (IsSettled (state_of self.new.story) self.new.sight) }
-        ensures err { OnErr result (rises (faults_of (state_of self.new.story).opened (state_of self.new.story).ends) self.new.sight.faults ≡ true) }
-        ensures faults { MatchResult result (λ _. self.new.sight.faults ≡ self.old.sight.faults) (λ _. self.new.sight.faults ≡ raised self.old.sight.faults) }
+        ensures err { OnErr result
+            (rises (faults_of (state_of self.new.story).opened (state_of self.new.story).ends)
+            self.new.sight.faults ≡ true) }
+        ensures faults { MatchResult result (λ _. self.new.sight.faults ≡ self.old.sight.faults)
+            (λ _. self.new.sight.faults ≡ raised self.old.sight.faults) }
         ensures objects { Both SameObjects self.old.sight.told self.new.sight.told }
         ensures rests { is_faulted (state_of self.old.story).ends ≡ false → self.new ≡ self.old }
     {

@@ -41,7 +41,9 @@ fn next_payload<D: Disk>(alloc: Global, journal: &mut Journal<D>) -> Result<Opti
     requires { journal.old.loose ≡ [] }
     ensures reads { OnlyReads D.sight journal.old journal.new }
     ensures ok { IfOk result (λ found. NextIs D.sight found journal.old journal.new) }
-    ensures err { IfErr result (λ cause. IsMissed cause (D.sight journal.old.disk).faults (D.sight journal.new.disk).faults) }
+    ensures err { IfErr result
+        (λ cause.
+        IsMissed cause (D.sight journal.old.disk).faults (D.sight journal.new.disk).faults) }
 {
     match journal.next(alloc) {
         Ok(payload) => Ok(payload),
@@ -78,8 +80,12 @@ fn read_row<D: Disk>(
     requires { IsReadSoFar D.sight rows.now journal.old }
     ensures reads { OnlyReads D.sight journal.old journal.new }
     ensures ok { IfOk result (λ found. ReadsOn D.sight rows.now found journal.new) }
-    ensures sound { OnOk result ((D.sight journal.new.disk).faults ≡ (D.sight journal.old.disk).faults) }
-    ensures err { IfErr result (λ cause. StopsBy (D.sight journal.old.disk).told (λ _. journal.old.list) cause (D.sight journal.old.disk).faults (D.sight journal.new.disk).faults) }
+    ensures sound { OnOk result
+        ((D.sight journal.new.disk).faults ≡ (D.sight journal.old.disk).faults) }
+    ensures err { IfErr result
+        (λ cause.
+        StopsBy (D.sight journal.old.disk).told (λ _. journal.old.list) cause
+        (D.sight journal.old.disk).faults (D.sight journal.new.disk).faults) }
 {
     let payload = match next_payload(alloc, journal) {
         Ok(Some(payload)) => payload,
@@ -101,8 +107,12 @@ fn read_rows<D: Disk>(
     requires { IsReadSoFar D.sight [] journal.old }
     ensures reads { OnlyReads D.sight journal.old journal.new }
     ensures ok { IfOk result (λ rows. IsReadThrough D.sight rows.base journal.new) }
-    ensures sound { OnOk result ((D.sight journal.new.disk).faults ≡ (D.sight journal.old.disk).faults) }
-    ensures err { IfErr result (λ cause. StopsBy (D.sight journal.old.disk).told (λ _. journal.old.list) cause (D.sight journal.old.disk).faults (D.sight journal.new.disk).faults) }
+    ensures sound { OnOk result
+        ((D.sight journal.new.disk).faults ≡ (D.sight journal.old.disk).faults) }
+    ensures err { IfErr result
+        (λ cause.
+        StopsBy (D.sight journal.old.disk).told (λ _. journal.old.list) cause
+        (D.sight journal.old.disk).faults (D.sight journal.new.disk).faults) }
 {
     let mut rows = Rows::new(alloc, hashing);
     'frames: loop {
@@ -128,7 +138,8 @@ pub(crate) fn open_log<D: Disk>(
 ) -> Result<Log<D>, OpenFault<D>>
     requires { IfTold (D.sight disk).told (λ d. file_of 0 d ≡ stable (bytes_of 0 d)) }
     ensures ok { IfOk result (λ log. IsOpened (D.sight disk) log) }
-    ensures err { IfErr result (λ fault. FailsToOpen (D.sight disk) fault.cause (D.sight fault.disk)) }
+    ensures err { IfErr result
+        (λ fault. FailsToOpen (D.sight disk) fault.cause (D.sight fault.disk)) }
 {
     let handed = disk.counts();
     let mut journal = match Journal::open(disk) {

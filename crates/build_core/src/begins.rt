@@ -57,7 +57,8 @@ fn units_in(
 ) -> Result<Vec<Unit>, Or<Refusal>>
     requires view { IsSome (view_row rows.now view.now) }
     requires goals { length goals.now < 2 ^ 31 }
-    ensures { Gives (result_items result) (units (texts rows.now view.now) (option_copied file.entry) macros.now goals.now) }
+    ensures { Gives (result_items result)
+        (units (texts rows.now view.now) (option_copied file.entry) macros.now goals.now) }
 {
     let files = ViewTexts { rows, owner: view };
     plan(alloc, &files, file, macros, goals)
@@ -65,7 +66,9 @@ fn units_in(
 
 /// The refusal of a build before its units are planned: there is no such view, or a build of it is active.
 fn refusal_of_view(rows: &FirstRows<'_>, view: &Name, busy: Option<Tag>) -> Option<Refusal>
-    ensures refusal { (scene : Scene) → scene.base ≡ rows.now → building scene.active view.now ≡ busy
+    ensures refusal { (scene : Scene)
+        → scene.base ≡ rows.now
+        → building scene.active view.now ≡ busy
         → result ≡ first_refusal (clearmake_tests scene view.now) }
     ensures view { IfNone result (IsSome (view_row rows.now view.now)) }
 {
@@ -82,7 +85,9 @@ fn refusal_of_view(rows: &FirstRows<'_>, view: &Name, busy: Option<Tag>) -> Opti
 fn refusal_of_room(taken: u64, units: u64) -> Option<Refusal>
     requires taken { taken < 2 ^ 63 }
     requires units { units < 2 ^ 63 }
-    ensures refusal { (scene : Scene) → size scene.base + reserved scene.active ≡ taken → result ≡ needs_room scene units }
+    ensures refusal { (scene : Scene)
+        → size scene.base + reserved scene.active ≡ taken
+        → result ≡ needs_room scene units }
     ensures room { IfNone result (taken + units ≤ 4000000) }
 {
     if taken + units > ROW_LIMIT {
@@ -105,8 +110,10 @@ fn begun(
 ) -> Result<Vec<Unit>, Or<Refusal>>
     requires goals { length goals.now < 2 ^ 31 }
     requires taken { taken < 2 ^ 63 }
-    ensures decided { (scene : Scene) → Meets scene rows.now view.now busy taken
-        → Begun (result_items result) (clearmake scene view.now (option_copied file.entry) macros.now goals.now) }
+    ensures decided { (scene : Scene)
+        → Meets scene rows.now view.now busy taken
+        → Begun (result_items result)
+          (clearmake scene view.now (option_copied file.entry) macros.now goals.now) }
     ensures formed { IfOk result (λ units. AreUnits units.items) }
     ensures view { IfOk result (λ units. IsSome (view_row rows.now view.now)) }
     ensures room { IfOk result (λ units. taken + length units.items ≤ 4000000) }
@@ -134,7 +141,8 @@ pub fn plan_build(
     requires builds { is_clearmake command.now ≡ true }
     requires formed { IsCommand 16777216 command.now }
     requires taken { occasion.taken < 2 ^ 63 }
-    ensures planned { (scene : Scene) → Meets scene rows.now (view_of command.now) occasion.busy occasion.taken
+    ensures planned { (scene : Scene)
+        → Meets scene rows.now (view_of command.now) occasion.busy occasion.taken
         → Plans occasion.tag scene command.now result }
     ensures view { IfOk result (λ build. IsSome (view_row rows.now build.view)) }
     ensures formed { IfOk result (λ build. IsBuildFormed build) }

@@ -41,14 +41,18 @@ pub(crate) fn number_of(units: &[Unit], path: &Path) -> Option<usize>
 /// Whether a path is neither a unit's nor a file.
 fn is_missing(rows: &FirstRows<'_>, build: &ActiveBuild, path: &Path) -> bool
     requires view { IsSome (view_row rows.now build.now.view) }
-    ensures { result ≡ is_missing (standing_or_file (sees_file rows.now build.now.view path.now) (standing_of_unit build.now path.now)) }
+    ensures { result
+        ≡ is_missing
+          (standing_or_file (sees_file rows.now build.now.view path.now)
+              (standing_of_unit build.now path.now)) }
 {
     number_of(build.units(), path).is_none() && file_at(rows, build.view(), path).is_none()
 }
 
 /// Whether a path is that of a unit that failed or was blocked.
 fn is_bad(build: &ActiveBuild, path: &Path) -> bool
-    ensures { (is_file : Bool) → result ≡ is_bad (standing_or_file is_file (standing_of_unit build.now path.now)) }
+    ensures { (is_file : Bool)
+        → result ≡ is_bad (standing_or_file is_file (standing_of_unit build.now path.now)) }
 {
     let Some(number) = number_of(build.units(), path) else {
         return false;
@@ -65,7 +69,12 @@ fn first_missing<'a>(
     paths: &'a [Path],
 ) -> Option<&'a Path>
     requires view { IsSome (view_row rows.now build.now.view) }
-    ensures { option_copied result ≡ find (λ path. is_missing (standing_or_file (sees_file rows.now build.now.view path) (standing_of_unit build.now path))) paths.now }
+    ensures { option_copied result
+        ≡ find
+          (λ path.
+              is_missing
+              (standing_or_file (sees_file rows.now build.now.view path)
+                  (standing_of_unit build.now path))) paths.now }
 {
     for path in paths {
         if is_missing(rows, build, path) {
@@ -76,7 +85,12 @@ fn first_missing<'a>(
 }
 
 fn first_bad<'a>(rows: &FirstRows<'_>, build: &ActiveBuild, paths: &'a [Path]) -> Option<&'a Path>
-    ensures { option_copied result ≡ find (λ path. is_bad (standing_or_file (sees_file rows.now build.now.view path) (standing_of_unit build.now path))) paths.now }
+    ensures { option_copied result
+        ≡ find
+          (λ path.
+              is_bad
+              (standing_or_file (sees_file rows.now build.now.view path)
+                  (standing_of_unit build.now path))) paths.now }
 {
     for path in paths {
         if is_bad(build, path) {
@@ -104,7 +118,8 @@ fn outside(
     paths: &[Path],
 ) -> Result<Option<Path>, NoMemory>
     requires { IsSome (view_row rows.now build.now.view) }
-    ensures { IfOk result (λ found. found ≡ outside (sees_directory rows.now build.now.view) paths.now) }
+    ensures { IfOk result
+        (λ found. found ≡ outside (sees_directory rows.now build.now.view) paths.now) }
 {
     for path in paths {
         let directory = parent(alloc, path)?;
@@ -122,7 +137,11 @@ fn no_directory(
     unit: &Unit,
 ) -> Result<Option<UnitEnd>, NoMemory>
     requires { IsSome (view_row rows.now build.now.view) }
-    ensures { IfOk result (λ end. end ≡ no_directory (sees_directory rows.now build.now.view) unit.now.targets unit.now.script) }
+    ensures { IfOk result
+        (λ end.
+            end
+            ≡ no_directory (sees_directory rows.now build.now.view) unit.now.targets
+              unit.now.script) }
 {
     if let UnitScript::Bare = unit.script {
         return Ok(None);

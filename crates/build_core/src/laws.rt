@@ -14,10 +14,18 @@ ghost use Rattle.build_core.specs.Publishing.{CanPublish};
 
 /// Each unit of a consistent build of formed units may publish.
 pub fn a_unit_may_publish()
-    ensures { (b : Base) (build : Build) (n : ℕ) (unit : Unit) → IsName build.view → AllByRecursion IsUnitFormed build.units → IsConsistent b build → unit_at build n ≡ Some unit → CanPublish b build unit }
+    ensures { (b : Base) (build : Build) (n : ℕ) (unit : Unit)
+        → IsName build.view
+        → AllByRecursion IsUnitFormed build.units
+        → IsConsistent b build
+        → unit_at build n ≡ Some unit
+        → CanPublish b build unit }
 {}
 
 /// The units of a build are formed, over any files, makefile, macros and goals.
 pub fn units_are_formed()
-    ensures { (files : Files) (file : Option (List ℕ)) (macros : List Macro) (goals : List (List ℕ)) (made : List Unit) → units files file macros goals ≡ Ok made → AllByRecursion IsUnitFormed made }
+    ensures { (files : Files) (file : Option (List ℕ)) (macros : List Macro) (goals : List (List ℕ))
+        (made : List Unit)
+        → units files file macros goals ≡ Ok made
+        → AllByRecursion IsUnitFormed made }
 {}

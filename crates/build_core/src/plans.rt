@@ -56,7 +56,8 @@ fn path_named(alloc: Global, bytes: &[u8]) -> Result<Path, NoMemory>
 
 /// The main makefile: the one that is named, else `makefile` where it is a file, else `Makefile`.
 fn main_file<X: Texts>(alloc: Global, texts: &X, file: Option<&Path>) -> Result<Path, NoMemory>
-    ensures { IfOk result (λ path. path ≡ main_file (X.texts texts.now) (option_copied file.entry)) }
+    ensures { IfOk result
+        (λ path. path ≡ main_file (X.texts texts.now) (option_copied file.entry)) }
 {
     if let Some(file) = file {
         return file.copy(alloc);
@@ -76,7 +77,8 @@ fn graph_of<X: Texts>(
     goals: &[Path],
 ) -> Result<Graph, Or<Refusal>>
     requires { length goals.now < 2 ^ 31 }
-    ensures { Gives result (unless_refused (graph_of make.now goals.now (λ path. is_some (X.texts texts.now path)))) }
+    ensures { Gives result
+        (unless_refused (graph_of make.now goals.now (λ path. is_some (X.texts texts.now path)))) }
 {
     match Graph::of(alloc, make, goals, &Files { texts }) {
         Ok(graph) => Ok(graph),
@@ -122,7 +124,8 @@ pub fn graph<X: Texts>(
     goals: &[Path],
 ) -> Result<Graph, Or<Refusal>>
     requires { length goals.now < 2 ^ 31 }
-    ensures { Gives result (units (X.texts texts.now) (option_copied file.entry) macros.now goals.now) }
+    ensures { Gives result
+        (units (X.texts texts.now) (option_copied file.entry) macros.now goals.now) }
 {
     let main = main_file(alloc, texts, file)?;
     graph_at(alloc, texts, main, macros, goals)
@@ -137,7 +140,8 @@ pub fn plan<X: Texts>(
     goals: &[Path],
 ) -> Result<Vec<Unit>, Or<Refusal>>
     requires { length goals.now < 2 ^ 31 }
-    ensures { Gives (result_items result) (units (X.texts texts.now) (option_copied file.entry) macros.now goals.now) }
+    ensures { Gives (result_items result)
+        (units (X.texts texts.now) (option_copied file.entry) macros.now goals.now) }
 {
     let graph = graph(alloc, texts, file, macros, goals)?;
     Ok(graph.into_units())

@@ -32,7 +32,10 @@ fn rows_read(
 ) -> Result<BTreeMap<Path, u64>, NoMemory>
     requires unit { unit < length build.now.units }
     requires view { IsSome (view_row (first_rows build.now.rows rows.now) build.now.view) }
-    ensures { (it : units.Unit) → unit_at build.now unit ≡ Some it → IfOk result (λ found. found.entries ≡ in_order (visible rows.now build.now unit it) reads.now) }
+    ensures { (it : units.Unit)
+        → unit_at build.now unit ≡ Some it
+        → IfOk result
+          (λ found. found.entries ≡ in_order (visible rows.now build.now unit it) reads.now) }
 {
     let mut found = BTreeMap::new(alloc);
     // From the last read to the first, as the record of reads is defined.
@@ -71,9 +74,15 @@ pub fn publish_row(
     requires unit { unit < length build.now.units }
     requires view { IsSome (view_row (first_rows build.now.rows rows.now) build.now.view) }
     requires moment { moment ≤ 253402300799 }
-    requires formed { (it : units.Unit) → unit_at build.now unit ≡ Some it → CanPublish rows.now build.now it }
-    requires ran { (it : units.Unit) → unit_at build.now unit ≡ Some it → HasRun rows.now build.now unit it outputs reads.now }
-    ensures row { (it : units.Unit) → unit_at build.now unit ≡ Some it → IfOk result (λ row. IsPublishOf rows.now build.now unit it moment row) }
+    requires formed { (it : units.Unit)
+        → unit_at build.now unit ≡ Some it
+        → CanPublish rows.now build.now it }
+    requires ran { (it : units.Unit)
+        → unit_at build.now unit ≡ Some it
+        → HasRun rows.now build.now unit it outputs reads.now }
+    ensures row { (it : units.Unit)
+        → unit_at build.now unit ≡ Some it
+        → IfOk result (λ row. IsPublishOf rows.now build.now unit it moment row) }
     ensures made { IfOk result (λ row. is_made row.deed ≡ true) }
 {
     rows.size();

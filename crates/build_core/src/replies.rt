@@ -52,7 +52,9 @@ fn is_own(rows: &FirstRows<'_>, build: &ActiveBuild, id: u64) -> bool
 
 /// The word for an object that a unit was given, by its output at a path.
 fn word_of_given(rows: &FirstRows<'_>, build: &ActiveBuild, path: &Path, id: u64) -> UnitWord
-    ensures { result ≡ word_of_object rows.now build.now (Some (Given id)) (digest_at (text rows.now id path.now)) }
+    ensures { result
+        ≡ word_of_object rows.now build.now (Some (Given id))
+          (digest_at (text rows.now id path.now)) }
 {
     let digest = digest_at(text_of(rows, id, path));
     if is_own(rows, build, id) {
@@ -87,7 +89,8 @@ fn word_of(
     unit: u32,
     path: &Path,
 ) -> Result<Option<UnitWord>, NoMemory>
-    ensures { IfOk result (λ word. word ≡ word_of_came rows.now build.now path.now (came_to build.now unit)) }
+    ensures { IfOk result
+        (λ word. word ≡ word_of_came rows.now build.now path.now (came_to build.now unit)) }
 {
     match build.came_to(unit) {
         None | Some(Came::Started) => Ok(None),
@@ -105,7 +108,11 @@ fn push_line(
     path: &Path,
     lines: &mut Vec<UnitLine>,
 ) -> Result<(), NoMemory>
-    ensures { OnOk result (lines.new.items ≡ lines.old.items ++ line_before path.now (word_of_came rows.now build.now path.now (came_to build.now unit)) []) }
+    ensures { OnOk result
+        (lines.new.items
+            ≡ lines.old.items
+              ++ line_before path.now
+                (word_of_came rows.now build.now path.now (came_to build.now unit)) []) }
 {
     if let Some(word) = word_of(alloc, rows, build, unit, path)? {
         let path = path.copy(alloc)?;
@@ -123,7 +130,11 @@ fn push_lines(
     targets: &[Path],
     lines: &mut Vec<UnitLine>,
 ) -> Result<(), NoMemory>
-    ensures { OnOk result (lines.new.items ≡ lines.old.items ++ lines_of (λ path. word_of_came rows.now build.now path (came_to build.now unit)) targets.now) }
+    ensures { OnOk result
+        (lines.new.items
+            ≡ lines.old.items
+              ++ lines_of (λ path. word_of_came rows.now build.now path (came_to build.now unit))
+                targets.now) }
 {
     let mut rest = targets;
     while let Some((path, more)) = rest.split_first() {

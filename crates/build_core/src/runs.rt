@@ -64,9 +64,15 @@ pub fn run_unit(
 ) -> Result<Ended, NoMemory>
     requires unit { unit < length build.now.units }
     requires view { IsSome (view_row (first_rows build.now.rows rows.now) build.now.view) }
-    requires script { (it : units.Unit) → unit_at build.now unit ≡ Some it → script_of (script_text it.script) ≡ Ok script.now }
-    requires targets { (it : units.Unit) → unit_at build.now unit ≡ Some it → targets.now ≡ it.targets }
-    ensures { (it : units.Unit) → unit_at build.now unit ≡ Some it → IfOk result (λ ended. ran_of ended ≡ here rows.now build.now unit it) }
+    requires script { (it : units.Unit)
+        → unit_at build.now unit ≡ Some it
+        → script_of (script_text it.script) ≡ Ok script.now }
+    requires targets { (it : units.Unit)
+        → unit_at build.now unit ≡ Some it
+        → targets.now ≡ it.targets }
+    ensures { (it : units.Unit)
+        → unit_at build.now unit ≡ Some it
+        → IfOk result (λ ended. ran_of ended ≡ here rows.now build.now unit it) }
 {
     let mut files = UnitFiles {
         alloc,

@@ -30,7 +30,8 @@ fn makes_any(unit: &Unit, paths: &[Path]) -> bool
 
 /// The object that a unit was given or kept, where the unit makes the path.
 fn object_at(build: &ActiveBuild, index: usize, unit: &Unit, path: &Path) -> Option<u64>
-    ensures { result ≡ only_where (is_among path.now unit.now.targets) (object_of (came_to build.now index)) }
+    ensures { result
+        ≡ only_where (is_among path.now unit.now.targets) (object_of (came_to build.now index)) }
 {
     if makes(unit, path) {
         build.object_at(index)
@@ -43,7 +44,9 @@ fn object_at(build: &ActiveBuild, index: usize, unit: &Unit, path: &Path) -> Opt
 fn up_to_maker(build: &ActiveBuild, below: u32, paths: &[Path]) -> u32
     requires { below ≤ length build.now.units }
     ensures within { result ≤ below }
-    ensures same { (path : List ℕ) → object_before build.now paths.now result path ≡ object_before build.now paths.now below path }
+    ensures same { (path : List ℕ)
+        → object_before build.now paths.now result path
+          ≡ object_before build.now paths.now below path }
 {
     let units = build.units();
     let mut number = below;
@@ -103,7 +106,9 @@ pub fn visible(
 ) -> Result<Option<u64>, NoMemory>
     requires unit { unit < length build.now.units }
     requires view { IsSome (view_row (first_rows build.now.rows rows.now) build.now.view) }
-    ensures { (it : units.Unit) → unit_at build.now unit ≡ Some it → IfOk result (λ row. row ≡ visible rows.now build.now unit it path.now) }
+    ensures { (it : units.Unit)
+        → unit_at build.now unit ≡ Some it
+        → IfOk result (λ row. row ≡ visible rows.now build.now unit it path.now) }
 {
     let wanted = build.units()[unit as usize].prerequisites.as_slice();
     if let Some(id) = object_below(alloc, build, unit, wanted, path)? {
@@ -137,7 +142,9 @@ pub fn fetch(
 ) -> Got
     requires unit { unit < length build.now.units }
     requires view { IsSome (view_row (first_rows build.now.rows rows.now) build.now.view) }
-    ensures { (it : units.Unit) → unit_at build.now unit ≡ Some it → IsFetched result (stands rows.now build.now unit it path.now) }
+    ensures { (it : units.Unit)
+        → unit_at build.now unit ≡ Some it
+        → IsFetched result (stands rows.now build.now unit it path.now) }
 {
     match visible(alloc, rows, build, unit, path) {
         Ok(Some(row)) => found(alloc, rows, row, path),

@@ -40,10 +40,16 @@ pub trait Files {
     /// What stands at the path. `Broken` comes only where the count of such answers rose.
     fn read(&mut self, path: &Path) -> Got
         ensures stays { Stays stands broken self.old self.new }
-        ensures asked { (paths : List (List ℕ)) → IsAmong path.now paths → follows paths self.old self.new }
-        ensures answer { IsAnswer result (stands self.old path.now) (broken self.old) (broken self.new) };
+        ensures asked { (paths : List (List ℕ))
+            → IsAmong path.now paths
+            → follows paths self.old self.new }
+        ensures answer { IsAnswer result (stands self.old path.now) (broken self.old)
+            (broken self.new) };
 
     ghost reflexive: { (paths : List (List ℕ)) (files : Self) → follows paths files files };
 
-    ghost transitive: { (paths : List (List ℕ)) (one two three : Self) → follows paths one two → follows paths two three → follows paths one three };
+    ghost transitive: { (paths : List (List ℕ)) (one two three : Self)
+        → follows paths one two
+        → follows paths two three
+        → follows paths one three };
 }

@@ -22,8 +22,10 @@ pub(crate) enum Form<'a> {
 
 /// The first line of a text with its newline, which it may lack, and what is behind it.
 pub(crate) fn split_first_line(text: &[u8]) -> Option<(&[u8], &[u8])>
-    ensures lines { MatchOption result (text.now ≡ []) (λ parts. lines_in text.now ≡ parts.0.now ∷ lines_in parts.1.now) }
-    ensures whole { MatchOption result (text.now ≡ []) (λ parts. text.now ≡ parts.0.now ++ parts.1.now) }
+    ensures lines { MatchOption result (text.now ≡ [])
+        (λ parts. lines_in text.now ≡ parts.0.now ∷ lines_in parts.1.now) }
+    ensures whole { MatchOption result (text.now ≡ [])
+        (λ parts. text.now ≡ parts.0.now ++ parts.1.now) }
     ensures filled { MatchOption result (text.now ≡ []) (λ parts. 0 < length parts.0.now) }
 {
     match first_newline(text) {

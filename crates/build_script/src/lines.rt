@@ -140,7 +140,8 @@ fn read_directories(alloc: Global, words: &[&[u8]]) -> Result<Option<List<Path>>
 
 /// The work of `pp`, which takes pairs of a `-I` and a directory, and then a path.
 fn read_preprocess(alloc: Global, words: &[&[u8]]) -> Result<Option<Work>, NoMemory>
-    ensures { IfOk result (λ work. work ≡ preprocess_of_reversed (reverse (map (λ word. word.now) words.now))) }
+    ensures { IfOk result
+        (λ work. work ≡ preprocess_of_reversed (reverse (map (λ word. word.now) words.now))) }
 {
     let Some((path, pairs)) = words.split_last() else {
         return Ok(None);
@@ -239,7 +240,11 @@ fn read_parts(
     arrow: &[u8],
     output: &[u8],
 ) -> Result<Option<Line>, NoMemory>
-    ensures { IfOk result (λ line. line ≡ makes (work_of (map (λ word. word.now) before.now)) (appends_of arrow.now) (path_in output.now)) }
+    ensures { IfOk result
+        (λ line.
+            line
+            ≡ makes (work_of (map (λ word. word.now) before.now)) (appends_of arrow.now)
+              (path_in output.now)) }
 {
     let Some(work) = read_work(alloc, before)? else {
         return Ok(None);
@@ -266,7 +271,8 @@ fn fail_of(number: u32, word: &[u8]) -> Option<Line>
 
 /// The line of this number, by its words.
 fn read_words(alloc: Global, number: u32, words: &[&[u8]]) -> Result<Option<Line>, NoMemory>
-    ensures { IfOk result (λ line. line ≡ line_of_reversed number (reverse (map (λ word. word.now) words.now))) }
+    ensures { IfOk result
+        (λ line. line ≡ line_of_reversed number (reverse (map (λ word. word.now) words.now))) }
 {
     let Some((output, words)) = words.split_last() else {
         return Ok(Some(Line::Empty));

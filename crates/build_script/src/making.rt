@@ -75,7 +75,9 @@ fn ask<F: Files>(
     files: &mut F,
     path: &Path,
 ) -> Result<Option<Text>, Halt>
-    ensures { Carried F.stands F.broken F.follows reads.old.keys (Asks path.now (λ found. Done (Ok found))) (gives (λ found. found)) result reads.new.keys files.old files.new }
+    ensures { Carried F.stands F.broken F.follows reads.old.keys
+        (Asks path.now (λ found. Done (Ok found))) (gives (λ found. found)) result reads.new.keys
+        files.old files.new }
 {
     note(alloc, reads, path)?;
     match files.read(path) {
@@ -93,7 +95,10 @@ pub(crate) fn see<F: Files>(
     files: &mut F,
     path: &Path,
 ) -> Result<Option<Text>, Halt>
-    ensures { Carried F.stands F.broken F.follows reads.old.keys (and_then (see (own_of making.entry.written.now path.now) path.now) (λ found. Done (Ok found))) (gives (λ found. found)) result reads.new.keys files.old files.new }
+    ensures { Carried F.stands F.broken F.follows reads.old.keys
+        (and_then (see (own_of making.entry.written.now path.now) path.now)
+            (λ found. Done (Ok found))) (gives (λ found. found)) result reads.new.keys files.old
+        files.new }
 {
     match making.written.get(path) {
         Some(own) => Ok(Some(Text::from_bytes(making.alloc, own.as_slice())?)),
@@ -118,7 +123,9 @@ pub(crate) fn text_at<F: Files>(
     files: &mut F,
     path: &Path,
 ) -> Result<Text, Halt>
-    ensures { Carried F.stands F.broken F.follows reads.old.keys (text_at (own_of making.entry.written.now) path.now) (gives (λ text. text)) result reads.new.keys files.old files.new }
+    ensures { Carried F.stands F.broken F.follows reads.old.keys
+        (text_at (own_of making.entry.written.now) path.now) (gives (λ text. text)) result
+        reads.new.keys files.old files.new }
 {
     let found = see(making, reads, files, path)?;
     present(making.alloc, path, found)
@@ -133,7 +140,9 @@ fn is_too_big(before: usize, fresh: usize, more: usize) -> bool
 
 /// More bytes behind what the line has made, within the limit.
 pub(crate) fn say(making: Making<'_>, made: &mut Made, more: &[u8]) -> Result<(), Halt>
-    ensures { Gave (said (output_at making.entry.path.now making.entry.before) more.now (made_of made.old)) (λ _. made_of made.new) result }
+    ensures { Gave
+        (said (output_at making.entry.path.now making.entry.before) more.now (made_of made.old))
+        (λ _. made_of made.new) result }
 {
     if is_too_big(making.before, made.bytes.len(), more.len()) {
         let path = making.path.copy(making.alloc)?;
@@ -151,7 +160,9 @@ fn say_replaced(
     to: &[u8],
     text: &[u8],
 ) -> Result<(), Halt>
-    ensures { Gave (said (output_at making.entry.path.now making.entry.before) (replaced from.now to.now text.now) (made_of made.old)) (λ _. made_of made.new) result }
+    ensures { Gave
+        (said (output_at making.entry.path.now making.entry.before)
+            (replaced from.now to.now text.now) (made_of made.old)) (λ _. made_of made.new) result }
 {
     if from.is_empty() {
         return say(making, made, text);
@@ -173,7 +184,10 @@ fn say_as(
     path: &Path,
     text: &[u8],
 ) -> Result<(), Halt>
-    ensures { Gave (said (output_at making.entry.path.now making.entry.before) (form_of form.entry path.now text.now) (made_of made.old)) (λ _. made_of made.new) result }
+    ensures { Gave
+        (said (output_at making.entry.path.now making.entry.before)
+            (form_of form.entry path.now text.now) (made_of made.old)) (λ _. made_of made.new)
+        result }
 {
     match form {
         Form::Whole => say(making, made, text),
@@ -199,7 +213,11 @@ fn pour<F: Files>(
     form: Form<'_>,
     path: &Path,
 ) -> Result<(), Halt>
-    ensures { Carried F.stands F.broken F.follows reads.old.keys (with_part (own_of making.entry.written.now) (output_at making.entry.path.now making.entry.before) (TextOf (form_of form.entry path.now) path.now) (made_of made.old)) (gives (λ _. made_of made.new)) result reads.new.keys files.old files.new }
+    ensures { Carried F.stands F.broken F.follows reads.old.keys
+        (with_part (own_of making.entry.written.now)
+            (output_at making.entry.path.now making.entry.before)
+            (TextOf (form_of form.entry path.now) path.now) (made_of made.old))
+        (gives (λ _. made_of made.new)) result reads.new.keys files.old files.new }
 {
     let text = text_at(making, reads, files, path)?;
     say_as(making, made, form, path, text.as_bytes())
@@ -214,7 +232,11 @@ fn pour_all<F: Files>(
     form: Form<'_>,
     paths: &[Path],
 ) -> Result<(), Halt>
-    ensures { Carried F.stands F.broken F.follows reads.old.keys (with_parts (own_of making.entry.written.now) (output_at making.entry.path.now making.entry.before) (map (λ path. TextOf (form_of form.entry path) path) paths.now) (made_of made.old)) (gives (λ _. made_of made.new)) result reads.new.keys files.old files.new }
+    ensures { Carried F.stands F.broken F.follows reads.old.keys
+        (with_parts (own_of making.entry.written.now)
+            (output_at making.entry.path.now making.entry.before)
+            (map (λ path. TextOf (form_of form.entry path) path) paths.now) (made_of made.old))
+        (gives (λ _. made_of made.new)) result reads.new.keys files.old files.new }
 {
     for path in paths {
         pour(making, reads, files, made, form, path)?;
@@ -224,7 +246,8 @@ fn pour_all<F: Files>(
 
 /// A word, the others with a space before each, and a newline.
 fn spaced(alloc: Global, first: &Text, others: &[Text]) -> Result<Vec<u8>, NoMemory>
-    ensures { IfOk result (λ bytes. bytes.items ≡ (first.now ++ flat_map (λ word. 32 ∷ word) others.now) ++ 10 ∷ []) }
+    ensures { IfOk result
+        (λ bytes. bytes.items ≡ (first.now ++ flat_map (λ word. 32 ∷ word) others.now) ++ 10 ∷ []) }
 {
     let mut bytes = Vec::from_slice(alloc, first.as_bytes())?;
     for word in others {
@@ -248,7 +271,10 @@ fn joined(alloc: Global, words: &[Text]) -> Result<Vec<u8>, NoMemory>
 
 /// The words with one space between, and a newline.
 fn echo(making: Making<'_>, made: &mut Made, words: &[Text]) -> Result<(), Halt>
-    ensures { Gave (said (output_at making.entry.path.now making.entry.before) (join_with_byte 32 words.now ++ 10 ∷ []) (made_of made.old)) (λ _. made_of made.new) result }
+    ensures { Gave
+        (said (output_at making.entry.path.now making.entry.before)
+            (join_with_byte 32 words.now ++ 10 ∷ []) (made_of made.old)) (λ _. made_of made.new)
+        result }
 {
     let bytes = joined(making.alloc, words)?;
     say(making, made, bytes.as_slice())
@@ -262,7 +288,11 @@ pub(crate) fn make<F: Files>(
     made: &mut Made,
     work: &Work,
 ) -> Result<(), Halt>
-    ensures { Carried F.stands F.broken F.follows reads.old.keys (with_parts (own_of making.entry.written.now) (output_at making.entry.path.now making.entry.before) (parts_of work.now) (made_of made.old)) (gives (λ _. made_of made.new)) result reads.new.keys files.old files.new }
+    ensures { Carried F.stands F.broken F.follows reads.old.keys
+        (with_parts (own_of making.entry.written.now)
+            (output_at making.entry.path.now making.entry.before) (parts_of work.now)
+            (made_of made.old)) (gives (λ _. made_of made.new)) result reads.new.keys files.old
+        files.new }
 {
     match work {
         Work::Echo(words) => echo(making, made, words.as_slice()),

@@ -38,7 +38,11 @@ fn probe<F: Files>(
     include: &Path,
     place: &Path,
 ) -> Result<Option<Text>, Halt>
-    ensures went { (more : List (List ℕ)) → Carried F.stands F.broken F.follows reads.old.keys (probed (own_of making.entry.written.now) include.now (place.now ∷ more) probes.old) (found_or (probed (own_of making.entry.written.now) include.now more probes.new) probes.new) result reads.new.keys files.old files.new }
+    ensures went { (more : List (List ℕ))
+        → Carried F.stands F.broken F.follows reads.old.keys
+          (probed (own_of making.entry.written.now) include.now (place.now ∷ more) probes.old)
+          (found_or (probed (own_of making.entry.written.now) include.now more probes.new)
+              probes.new) result reads.new.keys files.old files.new }
     ensures counted { OnOk result (probes.new ≡ probes.old + 1) }
     ensures within { OnOk result (probes.new ≤ 100000) }
 {
@@ -69,7 +73,13 @@ fn probe_under<F: Files>(
     path: &Path,
     directory: &Path,
 ) -> Result<Option<Text>, Halt>
-    ensures went { (more : List (List ℕ)) → Carried F.stands F.broken F.follows reads.old.keys (probed (own_of making.entry.written.now) path.now (filter_map (under path.now) (directory.now ∷ more)) probes.old) (found_or (probed (own_of making.entry.written.now) path.now (filter_map (under path.now) more) probes.new) probes.new) result reads.new.keys files.old files.new }
+    ensures went { (more : List (List ℕ))
+        → Carried F.stands F.broken F.follows reads.old.keys
+          (probed (own_of making.entry.written.now) path.now
+              (filter_map (under path.now) (directory.now ∷ more)) probes.old)
+          (found_or
+              (probed (own_of making.entry.written.now) path.now (filter_map (under path.now) more)
+                  probes.new) probes.new) result reads.new.keys files.old files.new }
     ensures counted { OnOk result (probes.old ≤ probes.new) }
     ensures found { IfOk result (λ found. OnSome found (probes.old < probes.new)) }
     ensures within { IfOk result (λ found. OnSome found (probes.new ≤ 100000)) }
@@ -89,7 +99,10 @@ fn find_under<F: Files>(
     directories: &[Path],
     path: &Path,
 ) -> Result<Text, Halt>
-    ensures went { Carried F.stands F.broken F.follows reads.old.keys (probed (own_of making.entry.written.now) path.now (filter_map (under path.now) directories.now) probes.old) (gives (found_with probes.new)) result reads.new.keys files.old files.new }
+    ensures went { Carried F.stands F.broken F.follows reads.old.keys
+        (probed (own_of making.entry.written.now) path.now
+            (filter_map (under path.now) directories.now) probes.old)
+        (gives (found_with probes.new)) result reads.new.keys files.old files.new }
     ensures counted { OnOk result (probes.old < probes.new) }
     ensures within { OnOk result (probes.new ≤ 100000) }
 {
@@ -111,7 +124,9 @@ fn find<F: Files>(
     directories: &[Path],
     path: &Path,
 ) -> Result<Text, Halt>
-    ensures went { Carried F.stands F.broken F.follows reads.old.keys (probed (own_of making.entry.written.now) path.now (probes_of directories.now path.now) probes.old) (gives (found_with probes.new)) result reads.new.keys files.old files.new }
+    ensures went { Carried F.stands F.broken F.follows reads.old.keys
+        (probed (own_of making.entry.written.now) path.now (probes_of directories.now path.now)
+            probes.old) (gives (found_with probes.new)) result reads.new.keys files.old files.new }
     ensures counted { OnOk result (probes.old < probes.new) }
     ensures within { OnOk result (probes.new ≤ 100000) }
 {
@@ -135,7 +150,17 @@ fn include<F: Files>(
     inside: usize,
     path: &Path,
 ) -> Result<Text, Halt>
-    ensures went { (bytes : List ℕ) → Carried F.stands F.broken F.follows reads.old.keys (includes (depth_limit - inside) (preprocessing (own_of making.entry.written.now) directories.now (output_at making.entry.path.now making.entry.before)) path.now (made_with bytes probes.old)) (λ text. expanded (depth_limit - (inside + 1)) (preprocessing (own_of making.entry.written.now) directories.now (output_at making.entry.path.now making.entry.before)) text (made_with bytes probes.new)) result reads.new.keys files.old files.new }
+    ensures went { (bytes : List ℕ)
+        → Carried F.stands F.broken F.follows reads.old.keys
+          (includes (depth_limit - inside)
+              (preprocessing (own_of making.entry.written.now) directories.now
+                  (output_at making.entry.path.now making.entry.before)) path.now
+              (made_with bytes probes.old))
+          (λ text.
+              expanded (depth_limit - (inside + 1))
+              (preprocessing (own_of making.entry.written.now) directories.now
+                  (output_at making.entry.path.now making.entry.before)) text
+              (made_with bytes probes.new)) result reads.new.keys files.old files.new }
     ensures counted { OnOk result (probes.old < probes.new) }
     ensures within { OnOk result (probes.new ≤ 100000) }
     ensures inside { OnOk result (inside < 32) }
@@ -149,7 +174,8 @@ fn include<F: Files>(
 
 /// Puts a text back behind the others.
 fn put_back(inside: &mut Vec<OpenText>, text: OpenText) -> Result<(), NoMemory>
-    ensures rests { OnOk result (rests_of inside.new.items ≡ rest_of text ∷ rests_of inside.old.items) }
+    ensures rests { OnOk result
+        (rests_of inside.new.items ≡ rest_of text ∷ rests_of inside.old.items) }
     ensures count { OnOk result (length inside.new.items ≡ length inside.old.items + 1) }
 {
     inside.push(text)?;
@@ -158,7 +184,8 @@ fn put_back(inside: &mut Vec<OpenText>, text: OpenText) -> Result<(), NoMemory>
 
 /// Puts a text back, and goes inside of another.
 fn enter(inside: &mut Vec<OpenText>, outer: OpenText, text: Text) -> Result<(), NoMemory>
-    ensures rests { OnOk result (rests_of inside.new.items ≡ text ∷ rest_of outer ∷ rests_of inside.old.items) }
+    ensures rests { OnOk result
+        (rests_of inside.new.items ≡ text ∷ rest_of outer ∷ rests_of inside.old.items) }
     ensures count { OnOk result (length inside.new.items ≡ length inside.old.items + 2) }
 {
     put_back(inside, outer)?;
@@ -175,8 +202,21 @@ fn step<F: Files>(
     inside: &mut Vec<OpenText>,
     innermost: OpenText,
 ) -> Result<(), Halt>
-    ensures went { Carried F.stands F.broken F.follows reads.old.keys (resumed (preprocessing (own_of making.entry.written.now) directories.now (output_at making.entry.path.now making.entry.before)) (rest_of innermost ∷ rests_of inside.old.items) (made_of made.old)) (λ _. resumed (preprocessing (own_of making.entry.written.now) directories.now (output_at making.entry.path.now making.entry.before)) (rests_of inside.new.items) (made_of made.new)) result reads.new.keys files.old files.new }
-    ensures shrinks { OnOk result (left_of (output_at making.entry.path.now making.entry.before) (made_of made.new) (length inside.new.items) < left_of (output_at making.entry.path.now making.entry.before) (made_of made.old) (length inside.old.items + 1)) }
+    ensures went { Carried F.stands F.broken F.follows reads.old.keys
+        (resumed
+            (preprocessing (own_of making.entry.written.now) directories.now
+                (output_at making.entry.path.now making.entry.before))
+            (rest_of innermost ∷ rests_of inside.old.items) (made_of made.old))
+        (λ _.
+            resumed
+            (preprocessing (own_of making.entry.written.now) directories.now
+                (output_at making.entry.path.now making.entry.before)) (rests_of inside.new.items)
+            (made_of made.new)) result reads.new.keys files.old files.new }
+    ensures shrinks { OnOk result
+        (left_of (output_at making.entry.path.now making.entry.before) (made_of made.new)
+            (length inside.new.items)
+            < left_of (output_at making.entry.path.now making.entry.before) (made_of made.old)
+              (length inside.old.items + 1)) }
 {
     let Some((line, _)) = split_first_line(innermost.rest()) else {
         return Ok(());
@@ -201,7 +241,11 @@ fn expand<F: Files>(
     directories: &[Path],
     text: Text,
 ) -> Result<(), Halt>
-    ensures { Carried F.stands F.broken F.follows reads.old.keys (expanded depth_limit (preprocessing (own_of making.entry.written.now) directories.now (output_at making.entry.path.now making.entry.before)) text (made_of made.old)) (gives (λ _. made_of made.new)) result reads.new.keys files.old files.new }
+    ensures { Carried F.stands F.broken F.follows reads.old.keys
+        (expanded depth_limit
+            (preprocessing (own_of making.entry.written.now) directories.now
+                (output_at making.entry.path.now making.entry.before)) text (made_of made.old))
+        (gives (λ _. made_of made.new)) result reads.new.keys files.old files.new }
 {
     let mut inside = Vec::new(making.alloc);
     put_back(&mut inside, OpenText::of(text))?;
@@ -221,7 +265,11 @@ pub(crate) fn preprocess<F: Files>(
     directories: &[Path],
     path: &Path,
 ) -> Result<(), Halt>
-    ensures { Carried F.stands F.broken F.follows reads.old.keys (with_part (own_of making.entry.written.now) (output_at making.entry.path.now making.entry.before) (Preprocessed directories.now path.now) (made_of made.old)) (gives (λ _. made_of made.new)) result reads.new.keys files.old files.new }
+    ensures { Carried F.stands F.broken F.follows reads.old.keys
+        (with_part (own_of making.entry.written.now)
+            (output_at making.entry.path.now making.entry.before)
+            (Preprocessed directories.now path.now) (made_of made.old))
+        (gives (λ _. made_of made.new)) result reads.new.keys files.old files.new }
 {
     let text = text_at(making, reads, files, path)?;
     expand(making, reads, files, made, directories, text)

@@ -28,7 +28,10 @@ fn store(
     appends: bool,
     fresh: Vec<u8>,
 ) -> Result<(), NoMemory>
-    ensures { OnOk result (own_of written.new ≡ wrote output.now (begun appends (own_of written.old output.now) ++ fresh.items) (own_of written.old)) }
+    ensures { OnOk result
+        (own_of written.new
+            ≡ wrote output.now (begun appends (own_of written.old output.now) ++ fresh.items)
+              (own_of written.old)) }
 {
     let bytes = match written.remove(output) {
         Some(mut bytes) if appends => {
@@ -81,7 +84,9 @@ impl Progress {
         appends: bool,
         path: &Path,
     ) -> Result<(), Halt>
-        ensures { Carried F.stands F.broken F.follows self.old.reads.keys (write_output (state_of self.old) work.now appends path.now) (gives (λ _. state_of self.new)) result self.new.reads.keys files.old files.new }
+        ensures { Carried F.stands F.broken F.follows self.old.reads.keys
+            (write_output (state_of self.old) work.now appends path.now)
+            (gives (λ _. state_of self.new)) result self.new.reads.keys files.old files.new }
     {
         let making = Making {
             alloc,
@@ -104,7 +109,9 @@ impl Progress {
         targets: &IndexSet<Path>,
         line: &Line,
     ) -> Result<(), Halt>
-        ensures { Carried F.stands F.broken F.follows self.old.reads.keys (after_line targets.now.keys (state_of self.old) line.now) (gives (λ _. state_of self.new)) result self.new.reads.keys files.old files.new }
+        ensures { Carried F.stands F.broken F.follows self.old.reads.keys
+            (after_line targets.now.keys (state_of self.old) line.now)
+            (gives (λ _. state_of self.new)) result self.new.reads.keys files.old files.new }
     {
         match line {
             Line::Empty => Ok(()),

@@ -40,7 +40,9 @@ fn run_lines<F: Files>(
     targets: &IndexSet<Path>,
     lines: &[Line],
 ) -> Result<(), Halt>
-    ensures { Carried F.stands F.broken F.follows progress.old.reads.keys (after_lines targets.now.keys lines.now (state_of progress.old)) (gives (λ _. state_of progress.new)) result progress.new.reads.keys files.old files.new }
+    ensures { Carried F.stands F.broken F.follows progress.old.reads.keys
+        (after_lines targets.now.keys lines.now (state_of progress.old))
+        (gives (λ _. state_of progress.new)) result progress.new.reads.keys files.old files.new }
 {
     for line in lines {
         progress.carry_out(alloc, files, targets, line)?;
@@ -56,7 +58,9 @@ fn run_whole<F: Files>(
     targets: &[Path],
     lines: &[Line],
 ) -> Result<List<Text>, Halt>
-    ensures { Carried F.stands F.broken F.follows progress.old.reads.keys (run_from targets.now lines.now (state_of progress.old)) (gives (λ outputs. outputs)) result progress.new.reads.keys files.old files.new }
+    ensures { Carried F.stands F.broken F.follows progress.old.reads.keys
+        (run_from targets.now lines.now (state_of progress.old)) (gives (λ outputs. outputs)) result
+        progress.new.reads.keys files.old files.new }
 {
     let set = set_of(alloc, targets)?;
     run_lines(alloc, progress, files, &set, lines)?;
@@ -80,10 +84,16 @@ pub fn run<F: Files>(
     targets: &[Path],
     files: &mut F,
 ) -> Result<Ended, Or<Stop>>
-    ensures ran { IfOk result (λ ended. ran_of ended ≡ carried_out (texts (F.stands files.old)) (run_of_lines targets.now script.now)) }
-    ensures given_up { IfErr result (λ stop. IsGivenUp stop (F.broken files.old) (F.broken files.new)) }
+    ensures ran { IfOk result
+        (λ ended.
+            ran_of ended
+            ≡ carried_out (texts (F.stands files.old)) (run_of_lines targets.now script.now)) }
+    ensures given_up { IfErr result
+        (λ stop. IsGivenUp stop (F.broken files.old) (F.broken files.new)) }
     ensures stays { Stays F.stands F.broken files.old files.new }
-    ensures asks_its_reads { F.follows (carried_out (texts (F.stands files.old)) (run_of_lines targets.now script.now)).reads files.old files.new }
+    ensures asks_its_reads { F.follows
+        (carried_out (texts (F.stands files.old)) (run_of_lines targets.now script.now)).reads
+        files.old files.new }
 {
     let mut progress = Progress::begin(alloc);
     let result = match run_whole(alloc, &mut progress, files, targets, script.lines()) {

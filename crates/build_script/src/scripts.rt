@@ -30,7 +30,8 @@ impl Model for Script {
 
 /// The first line of a text, and what is behind its newline, if it has one.
 fn split_line(text: &[u8]) -> (&[u8], Option<&[u8]>)
-    ensures pieces { slice_split is_newline text.now ≡ result.0.now ∷ pieces (option_copied result.1) }
+    ensures pieces { slice_split is_newline text.now
+        ≡ result.0.now ∷ pieces (option_copied result.1) }
     ensures size { length text.now ≡ length result.0.now + size_of (option_copied result.1) }
 {
     match first_newline(text) {

@@ -25,7 +25,8 @@ struct SomeFiles {
 }
 
 impl Files for SomeFiles {
-    ghost stands = { λ files path. option_map (λ text. record { row = 1; text = text }) (get bytes_eq files.texts path) };
+    ghost stands = { λ files path.
+        option_map (λ text. record { row = 1; text = text }) (get bytes_eq files.texts path) };
 
     ghost broken = { λ _. 0 };
 

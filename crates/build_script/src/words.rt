@@ -34,7 +34,9 @@ pub(crate) fn without_at(line: &[u8]) -> &[u8]
 
 /// Arrows two by two from the left, and a last one by itself.
 fn push_arrows<'a>(found: &mut Vec<&'a [u8]>, run: &'a [u8]) -> Result<(), AllocError>
-    ensures { OnOk result (map (λ word. word.now) found.new.items ≡ map (λ word. word.now) found.old.items ++ arrows run.now) }
+    ensures { OnOk result
+        (map (λ word. word.now) found.new.items
+            ≡ map (λ word. word.now) found.old.items ++ arrows run.now) }
 {
     for pair in run.chunks(2) {
         found.push(pair)?;
@@ -43,7 +45,9 @@ fn push_arrows<'a>(found: &mut Vec<&'a [u8]>, run: &'a [u8]) -> Result<(), Alloc
 }
 
 fn push_words<'a>(found: &mut Vec<&'a [u8]>, run: &'a [u8]) -> Result<(), AllocError>
-    ensures { OnOk result (map (λ word. word.now) found.new.items ≡ map (λ word. word.now) found.old.items ++ words_of_run run.now) }
+    ensures { OnOk result
+        (map (λ word. word.now) found.new.items
+            ≡ map (λ word. word.now) found.old.items ++ words_of_run run.now) }
 {
     match run.first() {
         Some(byte) if is_arrow(*byte) => push_arrows(found, run),

@@ -16,7 +16,8 @@ pub trait ByRow {
 /// How many items have a row below the bound: these are the first ones. Takes time logarithmic in the items.
 pub fn count_below<T: ByRow>(items: &[T], bound: u64) -> usize
     requires { Falls (map T.row_in (reverse items.now)) }
-    ensures below { IsPartitionPoint (λ item. nat_lt (T.row_in item) bound ≡ true) (λ item. nat_lt (T.row_in item) bound ≡ false) items.now result }
+    ensures below { IsPartitionPoint (λ item. nat_lt (T.row_in item) bound ≡ true)
+        (λ item. nat_lt (T.row_in item) bound ≡ false) items.now result }
     ensures within { result ≤ length items.now }
 {
     items.partition_point(|item| item.row() < bound)
@@ -25,7 +26,8 @@ pub fn count_below<T: ByRow>(items: &[T], bound: u64) -> usize
 /// The place of the item that a row made. Takes time logarithmic in the items.
 pub fn place_of<T: ByRow>(items: &[T], row: u64) -> Option<usize>
     requires { Falls (map T.row_in (reverse items.now)) }
-    ensures found { option_and_then (slice_get items.now) result ≡ find (λ item. T.row_in item == row) items.now }
+    ensures found { option_and_then (slice_get items.now) result
+        ≡ find (λ item. T.row_in item == row) items.now }
     ensures within { IfSome result (λ place. place < length items.now) }
 {
     let place = count_below(items, row);

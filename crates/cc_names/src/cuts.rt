@@ -76,7 +76,8 @@ impl<'a> Lines<'a> {
 
     /// The next line, without its newline. Takes time linear in it.
     pub fn next(&mut self) -> Option<&'a [u8]>
-        ensures { MatchOption result ((self.old ≡ []) × (self.new ≡ [])) (λ line. self.old ≡ line.now ∷ self.new) }
+        ensures { MatchOption result ((self.old ≡ []) × (self.new ≡ []))
+            (λ line. self.old ≡ line.now ∷ self.new) }
     {
         if self.rest.is_empty() {
             return None;
@@ -124,7 +125,8 @@ impl<'a> Words<'a> {
 
     /// The next word. Takes time linear in it and the blanks before it.
     pub fn next(&mut self) -> Option<&'a [u8]>
-        ensures { MatchOption result ((self.old ≡ []) × (self.new ≡ [])) (λ word. self.old ≡ word.now ∷ self.new) }
+        ensures { MatchOption result ((self.old ≡ []) × (self.new ≡ []))
+            (λ word. self.old ≡ word.now ∷ self.new) }
     {
         let rest = past_blanks(self.rest);
         if rest.is_empty() {

@@ -123,7 +123,8 @@ fn publish(
     entries: &List<ReadOf>,
     outputs: &List<Text>,
 ) -> Result<Deed, NoMemory>
-    ensures { IfOk result (λ deed. deed ≡ deeds.Publish view.now targets.now script.now entries.now outputs.now) }
+    ensures { IfOk result
+        (λ deed. deed ≡ deeds.Publish view.now targets.now script.now entries.now outputs.now) }
 {
     Ok(Deed::Publish {
         view: view.copy(alloc)?,
@@ -160,7 +161,8 @@ fn publish_at(
     entries: &List<ReadOf>,
     outputs: &List<Stored>,
 ) -> Result<Deed, NoMemory>
-    ensures { IfOk result (λ deed. deed ≡ deeds.PublishAt view.now targets.now script.now entries.now outputs.now) }
+    ensures { IfOk result
+        (λ deed. deed ≡ deeds.PublishAt view.now targets.now script.now entries.now outputs.now) }
 {
     Ok(Deed::PublishAt {
         view: view.copy(alloc)?,

@@ -178,7 +178,8 @@ fn last_slash(path: &[u8]) -> Option<usize>
     requires below { is_root path.now ≡ false }
     ensures within { IfSome result (λ slash. slash < length path.now) }
     ensures below { IfSome result (λ slash. is_root (take slash path.now) ≡ false) }
-    ensures parts { MatchOption result (PartsAre path.now root path.now) (λ slash. PartsAre path.now (take slash path.now) (drop (slash + 1) path.now)) }
+    ensures parts { MatchOption result (PartsAre path.now root path.now)
+        (λ slash. PartsAre path.now (take slash path.now) (drop (slash + 1) path.now)) }
 {
     let mut end = path.len();
     'end: while end > 0 {

@@ -237,7 +237,8 @@ impl Model for Row {
 
     ghost view = { λ row. record { tag = row.tag; moment = row.moment; deed = row.deed } };
 
-    ghost invariant = { λ row. IsFormed (record { tag = row.tag; moment = row.moment; deed = row.deed }) };
+    ghost invariant = { λ row.
+        IsFormed (record { tag = row.tag; moment = row.moment; deed = row.deed }) };
 }
 
 impl Row {

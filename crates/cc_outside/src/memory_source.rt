@@ -29,7 +29,8 @@ impl Model for MemorySource {
 
     ghost view = { λ s.
         record
-        { left = drop s.place s.bytes.items; given = s.place; calls = s.calls; faults = s.faults; fail = s.fail.items } };
+        { left = drop s.place s.bytes.items; given = s.place; calls = s.calls;
+            faults = s.faults; fail = s.fail.items } };
 
     ghost invariant = { λ s. s.place ≤ vec_len s.bytes };
 }

@@ -32,7 +32,8 @@ pub fn decide(
     requires formed { IsCommand 16777216 command.now }
     requires in_time { occasion.moment ≤ 253402300799 }
 
-    ensures decided { (scene : Scene) (now : ℕ) → Sees scene rows.now now (view_of command.now) occasion.busy occasion.taken
+    ensures decided { (scene : Scene) (now : ℕ)
+        → Sees scene rows.now now (view_of command.now) occasion.busy occasion.taken
         → Decides occasion.tag occasion.moment result (decision scene command.now) }
     ensures made { IfOk result (λ row. is_made row.deed ≡ true) }
     ensures room { OnOk result (occasion.taken < row_limit) }

@@ -12,7 +12,9 @@ use view_lookup::ROW_LIMIT;
 /// The refusal of one more row where there is no room beside those that are taken: the rows of the base and the reserved
 /// ones. It names the limit.
 pub fn needs_room(taken: u64) -> Option<Refusal>
-    ensures refusal { (scene : Scene) → size scene.base + reserved scene.active ≡ taken → result ≡ needs_room scene 1 }
+    ensures refusal { (scene : Scene)
+        → size scene.base + reserved scene.active ≡ taken
+        → result ≡ needs_room scene 1 }
     ensures room { IfNone result (taken < row_limit) }
 {
     if taken >= ROW_LIMIT {

@@ -26,7 +26,8 @@ use view_lookup::{FirstRows, at, held, kind_of, view_row};
 
 /// The refusal of a directory in which a file may not be saved: nothing is selected there, or it is no directory.
 fn needs_directory(rows: &FirstRows<'_>, parent: Path, seen: Seen) -> Option<Refusal>
-    ensures { result ≡ first_refusal (needs_selected parent seen ∷ needs_directory rows.now parent seen ∷ []) }
+    ensures { result
+        ≡ first_refusal (needs_selected parent seen ∷ needs_directory rows.now parent seen ∷ []) }
 {
     match seen {
         Seen::Element(element, _) => match kind_of(rows, element) {
@@ -50,7 +51,8 @@ fn saves_at(
 ) -> Result<Option<Refusal>, NoMemory>
     requires view { IsSome (view_row rows.now view.now) }
     requires below { IsBelowRoot path.now }
-    ensures refusal { IfOk result (λ refusal. refusal ≡ saves_at rows.now view.now path.now (at rows.now view.now path.now)) }
+    ensures refusal { IfOk result
+        (λ refusal. refusal ≡ saves_at rows.now view.now path.now (at rows.now view.now path.now)) }
     ensures private { IfOk result (λ refusal. SavesPrivate rows.now view.now path.now) }
 {
     match at(rows, view, path) {
@@ -75,10 +77,15 @@ fn save_refusal(
     taken: u64,
 ) -> Result<Option<Refusal>, NoMemory>
     requires below { IsBelowRoot path.now }
-    ensures refusal { IfOk result (λ refusal. (scene : Scene) (now : ℕ) → Sees scene rows.now now view.now busy taken
-        → refusal ≡ first_refusal (save_tests scene view.now path.now ++ needs_room scene 1 ∷ [])) }
+    ensures refusal { IfOk result
+        (λ refusal.
+            (scene : Scene) (now : ℕ)
+            → Sees scene rows.now now view.now busy taken
+            → refusal
+              ≡ first_refusal (save_tests scene view.now path.now ++ needs_room scene 1 ∷ [])) }
     ensures room { IfOk result (λ refusal. IfNone refusal (taken < row_limit)) }
-    ensures private { IfOk result (λ refusal. IfNone refusal (SavesPrivate rows.now view.now path.now)) }
+    ensures private { IfOk result
+        (λ refusal. IfNone refusal (SavesPrivate rows.now view.now path.now)) }
 {
     if view_row(rows, view).is_none() {
         return Ok(Some(Refusal::NoView));
@@ -111,7 +118,8 @@ pub fn save(
     requires below { IsBelowRoot path.now }
     requires short { length text.now ≤ 16777216 }
     requires in_time { occasion.moment ≤ 253402300799 }
-    ensures decided { (scene : Scene) (now : ℕ) → Sees scene rows.now now view.now occasion.busy occasion.taken
+    ensures decided { (scene : Scene) (now : ℕ)
+        → Sees scene rows.now now view.now occasion.busy occasion.taken
         → Decides occasion.tag occasion.moment result (save scene view.now path.now text.now) }
     ensures made { IfOk result (λ row. is_made row.deed ≡ true) }
     ensures room { OnOk result (occasion.taken < row_limit) }

@@ -22,7 +22,8 @@ use view_lookup::{FirstRows, oldest_out, view_row};
 
 /// The first refusal of `mkview V`, its room included.
 fn mkview_refusal(rows: &FirstRows<'_>, view: &Name, taken: u64) -> Option<Refusal>
-    ensures refusal { (scene : Scene) (moment : ℕ) (other : List ℕ) (busy : Option Tag) → Sees scene rows.now moment other busy taken
+    ensures refusal { (scene : Scene) (moment : ℕ) (other : List ℕ) (busy : Option Tag)
+        → Sees scene rows.now moment other busy taken
         → result ≡ first_refusal (mkview_tests scene view.now ++ needs_room scene 1 ∷ []) }
     ensures room { IfNone result (taken < row_limit) }
 {
@@ -40,7 +41,8 @@ pub fn mkview(
     occasion: Occasion,
 ) -> Result<Row, Or<Refusal>>
     requires { occasion.moment ≤ 253402300799 }
-    ensures decided { (scene : Scene) (now : ℕ) (other : List ℕ) (busy : Option Tag) → Sees scene rows.now now other busy occasion.taken
+    ensures decided { (scene : Scene) (now : ℕ) (other : List ℕ) (busy : Option Tag)
+        → Sees scene rows.now now other busy occasion.taken
         → Decides occasion.tag occasion.moment result (mkview scene view.now) }
     ensures made { IfOk result (λ row. is_made row.deed ≡ true) }
     ensures room { OnOk result (occasion.taken < row_limit) }
@@ -99,7 +101,8 @@ pub fn rmview(
     occasion: Occasion,
 ) -> Result<Row, Or<Refusal>>
     requires { occasion.moment ≤ 253402300799 }
-    ensures decided { (scene : Scene) (now : ℕ) → Sees scene rows.now now view.now occasion.busy occasion.taken
+    ensures decided { (scene : Scene) (now : ℕ)
+        → Sees scene rows.now now view.now occasion.busy occasion.taken
         → Decides occasion.tag occasion.moment result (rmview scene view.now force) }
     ensures made { IfOk result (λ row. is_made row.deed ≡ true) }
     ensures room { OnOk result (occasion.taken < row_limit) }

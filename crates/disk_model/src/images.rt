@@ -91,8 +91,11 @@ impl Picture {
 
     /// The picture within a call: a write may have been carried out, a sync has done nothing yet.
     fn enter(&mut self, alloc: Global, keep: Keep, file: u8, call: &Call) -> Result<(), NoMemory>
-        ensures { OnOk result ((d : Device) → IsPicture (file_of file d) self.old.bytes.items self.old.image.items
-            → IsPicture (during file (event_of call.now d) (file_of file d)) self.new.bytes.items self.new.image.items) }
+        ensures { OnOk result
+            ((d : Device)
+                → IsPicture (file_of file d) self.old.bytes.items self.old.image.items
+                → IsPicture (during file (event_of call.now d) (file_of file d))
+                  self.new.bytes.items self.new.image.items) }
     {
         match call {
             Call::Write {
@@ -118,8 +121,11 @@ impl Picture {
 
     /// The picture after a call.
     fn go_over(&mut self, alloc: Global, keep: Keep, file: u8, call: &Call) -> Result<(), NoMemory>
-        ensures { OnOk result ((d : Device) → IsPicture (file_of file d) self.old.bytes.items self.old.image.items
-            → IsPicture (after file (event_of call.now d) (file_of file d)) self.new.bytes.items self.new.image.items) }
+        ensures { OnOk result
+            ((d : Device)
+                → IsPicture (file_of file d) self.old.bytes.items self.old.image.items
+                → IsPicture (after file (event_of call.now d) (file_of file d)) self.new.bytes.items
+                  self.new.image.items) }
     {
         match call {
             Call::Sync { file: other } => {
@@ -167,9 +173,12 @@ pub(crate) fn image_of(
     keep: Keep,
 ) -> Result<Vec<u8>, NoMemory>
     requires { 1 ≤ call }
-    ensures { IfOk result (λ image. (journal objects : List ℕ) (failed : ℕ) → first_of file (fresh journal objects) ≡ first.now
-        → call ≤ length (device_of journal objects entries.now failed).calls + 1
-        → MayLeave file (device_of journal objects entries.now failed) call image.items) }
+    ensures { IfOk result
+        (λ image.
+            (journal objects : List ℕ) (failed : ℕ)
+            → first_of file (fresh journal objects) ≡ first.now
+            → call ≤ length (device_of journal objects entries.now failed).calls + 1
+            → MayLeave file (device_of journal objects entries.now failed) call image.items) }
 {
     let mut picture = Picture::of(alloc, first)?;
     let mut made = 0u64;

@@ -53,7 +53,8 @@ fn begins_with_period(path: &Path) -> bool
 
 /// The goal of a build that names none: the first target of a rule that does not begin with a period.
 pub(crate) fn default_goal(rules: &[MakeRule]) -> Option<&Path>
-    ensures { option_copied result ≡ find (λ target. not (begins_with_period target)) (flat_map targets_of rules.now) }
+    ensures { option_copied result
+        ≡ find (λ target. not (begins_with_period target)) (flat_map targets_of rules.now) }
 {
     rules
         .iter()
@@ -73,7 +74,8 @@ pub(crate) fn missing<'a, E: Exists>(
     files: &E,
     goals: &'a [Path],
 ) -> Option<&'a Path>
-    ensures { option_copied result ≡ find (λ path. not (is_target rules.now path || E.is_file files.now path)) goals.now }
+    ensures { option_copied result
+        ≡ find (λ path. not (is_target rules.now path || E.is_file files.now path)) goals.now }
 {
     for goal in goals {
         if !is_known(rules, files, goal) {

@@ -39,7 +39,9 @@ fn of_goals<E: Exists>(
     files: &E,
 ) -> Result<Graph, Or<GraphFault>>
     requires { 0 < length goals.now }
-    ensures { Gives result (unless_missing (missing_goal make.now.rules (E.is_file files.now) goals.now) (E.is_file files.now) (wanted make.now.rules goals.now)) }
+    ensures { Gives result
+        (unless_missing (missing_goal make.now.rules (E.is_file files.now) goals.now)
+            (E.is_file files.now) (wanted make.now.rules goals.now)) }
 {
     if let Some(goal) = missing(make.rules(), files, goals) {
         return Err(Or::Is(GraphFault::NoGoal(goal.copy(alloc)?)));
@@ -77,7 +79,8 @@ pub(crate) fn needed(
     paths: &[Path],
 ) -> Result<Vec<u32>, NoMemory>
     requires { below ≤ length units.now }
-    ensures { IfOk result (λ numbers. numbers.items ≡ needed (reverse (take below units.now)) paths.now) }
+    ensures { IfOk result
+        (λ numbers. numbers.items ≡ needed (reverse (take below units.now)) paths.now) }
 {
     let mut wanted = Vec::new(alloc);
     push_paths(alloc, &mut wanted, paths)?;

@@ -59,7 +59,10 @@ pub(crate) fn number(numbers: &Numbers, path: &Path) -> Option<u32>
 
 /// Numbers a path, unless it has a number.
 fn put_path(alloc: Global, numbers: &mut Numbers, path: &Path, number: u32) -> Result<(), NoMemory>
-    ensures { OnOk result ((other : List ℕ) → get bytes_eq numbers.new other ≡ with_number number path.now other (get bytes_eq numbers.old other)) }
+    ensures { OnOk result
+        ((other : List ℕ)
+            → get bytes_eq numbers.new other
+              ≡ with_number number path.now other (get bytes_eq numbers.old other)) }
 {
     if !numbers.contains_key(path) {
         numbers.insert(path.copy(alloc)?, number)?;
@@ -69,7 +72,10 @@ fn put_path(alloc: Global, numbers: &mut Numbers, path: &Path, number: u32) -> R
 
 /// Numbers paths, except those that have a number.
 fn put(alloc: Global, numbers: &mut Numbers, paths: &[Path], number: u32) -> Result<(), NoMemory>
-    ensures { OnOk result ((other : List ℕ) → get bytes_eq numbers.new other ≡ with_numbers number paths.now other (get bytes_eq numbers.old other)) }
+    ensures { OnOk result
+        ((other : List ℕ)
+            → get bytes_eq numbers.new other
+              ≡ with_numbers number paths.now other (get bytes_eq numbers.old other)) }
 {
     for path in paths {
         put_path(alloc, numbers, path, number)?;
@@ -80,7 +86,9 @@ fn put(alloc: Global, numbers: &mut Numbers, paths: &[Path], number: u32) -> Res
 /// Numbers all that these make, from 0 on. Takes time linear in the targets.
 pub(crate) fn number_all<X: Makes>(alloc: Global, items: &[X]) -> Result<Numbers, NoMemory>
     requires { length items.now < 2 ^ 32 }
-    ensures { IfOk result (λ numbers. (path : List ℕ) → get bytes_eq numbers path ≡ number_from X.targets 0 path items.now) }
+    ensures { IfOk result
+        (λ numbers.
+            (path : List ℕ) → get bytes_eq numbers path ≡ number_from X.targets 0 path items.now) }
 {
     let mut numbers = HashMap::new(alloc);
     for (index, item) in items.iter().enumerate() {

@@ -37,7 +37,8 @@ fn source<E: Exists>(
     suffix: &[u8],
 ) -> Result<Option<Path>, NoMemory>
     requires { KnowsRules rules.now make.now }
-    ensures { IfOk result (λ source. source ≡ source_at make.now (E.is_file files.now) suffix.now stem.now) }
+    ensures { IfOk result
+        (λ source. source ≡ source_at make.now (E.is_file files.now) suffix.now stem.now) }
 {
     let mut bytes = Vec::from_slice(alloc, stem)?;
     bytes.extend_from_slice(suffix)?;
@@ -61,7 +62,10 @@ fn infer_by<E: Exists>(
     path: &Path,
 ) -> Result<Option<Inference>, NoMemory>
     requires { KnowsRules rules.now make.now }
-    ensures { IfOk result (λ found. found ≡ inference_at make.now (E.is_file files.now) rule.now (stem_of rule.now.to path.now)) }
+    ensures { IfOk result
+        (λ found.
+            found
+            ≡ inference_at make.now (E.is_file files.now) rule.now (stem_of rule.now.to path.now)) }
 {
     let Some(stem) = path.as_bytes().strip_suffix(rule.to.as_bytes()) else {
         return Ok(None);
@@ -160,7 +164,9 @@ fn infer_for<E: Exists>(
     rule: &MakeRule,
 ) -> Result<Option<Inference>, NoMemory>
     requires { KnowsRules rules.now make.now }
-    ensures { IfOk result (λ found. found ≡ inference_for make.now (E.is_file files.now) rule.now.targets rule.now.script) }
+    ensures { IfOk result
+        (λ found.
+            found ≡ inference_for make.now (E.is_file files.now) rule.now.targets rule.now.script) }
 {
     if rule.script.is_some() {
         return Ok(None);
@@ -179,7 +185,8 @@ fn own_servings<E: Exists>(
     files: &E,
 ) -> Result<Vec<Serving>, NoMemory>
     requires { KnowsRules rules.now make.now }
-    ensures { IfOk result (λ units. units.items ≡ map (serving_of make.now (E.is_file files.now)) make.now.rules) }
+    ensures { IfOk result
+        (λ units. units.items ≡ map (serving_of make.now (E.is_file files.now)) make.now.rules) }
 {
     let mut units = Vec::new(alloc);
     for rule in make.rules() {
@@ -198,7 +205,10 @@ fn put_without_rule(
     alloc: Global,
 ) -> Result<(), NoMemory>
     requires { KnowsRules rules.now make.now }
-    ensures { OnOk result (others.new.keys ≡ fold with_path others.old.keys (filter (λ path. not (is_target make.now.rules path)) paths.now)) }
+    ensures { OnOk result
+        (others.new.keys
+            ≡ fold with_path others.old.keys
+              (filter (λ path. not (is_target make.now.rules path)) paths.now)) }
 {
     for path in paths {
         if !is_target(make, rules, path) && !others.contains(path) {
@@ -267,7 +277,8 @@ pub(crate) fn servings<E: Exists>(
     goals: &[Path],
 ) -> Result<Vec<Serving>, NoMemory>
     requires { KnowsRules rules.now make.now }
-    ensures { IfOk result (λ units. units.items ≡ servings make.now (E.is_file files.now) goals.now) }
+    ensures { IfOk result
+        (λ units. units.items ≡ servings make.now (E.is_file files.now) goals.now) }
 {
     let mut units = own_servings(alloc, make, rules, files)?;
     let paths = without_rule(alloc, make, rules, goals)?;

@@ -50,7 +50,11 @@ fn expand_for(
     serving: &Serving,
     script: &[u8],
 ) -> Result<Expanded, NoMemory>
-    ensures { IfOk result (λ expanded. expanded ≡ expansion make.now script.now (first_target serving.now.targets) (first_of serving.now.prerequisites) serving.now.stem) }
+    ensures { IfOk result
+        (λ expanded.
+            expanded
+            ≡ expansion make.now script.now (first_target serving.now.targets)
+              (first_of serving.now.prerequisites) serving.now.stem) }
 {
     let root = Path::root();
     let target = first_target(serving.targets.as_slice(), &root);
@@ -126,7 +130,9 @@ fn missing<'a, E: Exists>(
     goals: &'a [Path],
 ) -> Option<&'a Path>
     requires { KnowsUnits numbers.now units.now }
-    ensures { option_copied result ≡ find (λ path. not (is_some (number_of units.now path) || E.is_file files.now path)) goals.now }
+    ensures { option_copied result
+        ≡ find (λ path. not (is_some (number_of units.now path) || E.is_file files.now path))
+          goals.now }
 {
     for goal in goals {
         if !is_known(numbers, units, files, goal) {
@@ -182,7 +188,8 @@ fn units_by<E: Exists>(
     units: &[Serving],
     walk: &Walk,
 ) -> Result<Vec<Unit>, Or<GraphFault>>
-    ensures { Gives (result_items result) (unless_cycle make.now units.now (E.is_file files.now) (Ok walk.now)) }
+    ensures { Gives (result_items result)
+        (unless_cycle make.now units.now (E.is_file files.now) (Ok walk.now)) }
 {
     let made = walked(alloc, make, units, walk.order())?;
     if let Some(target) = first_source(files, made.as_slice()) {
@@ -200,7 +207,8 @@ fn units_of_servings<E: Exists>(
     goals: &[Path],
 ) -> Result<Vec<Unit>, Or<GraphFault>>
     requires { 0 < length goals.now }
-    ensures { Gives (result_items result) (graph_by make.now units.now (E.is_file files.now) goals.now) }
+    ensures { Gives (result_items result)
+        (graph_by make.now units.now (E.is_file files.now) goals.now) }
 {
     let numbers = number_servings(alloc, units)?;
     if let Some(goal) = missing(&numbers, units, files, goals) {
@@ -218,7 +226,9 @@ fn units_of_goals<E: Exists>(
     goals: &[Path],
 ) -> Result<Vec<Unit>, Or<GraphFault>>
     requires { 0 < length goals.now }
-    ensures { Gives (result_items result) (graph_by make.now (servings make.now (E.is_file files.now) goals.now) (E.is_file files.now) goals.now) }
+    ensures { Gives (result_items result)
+        (graph_by make.now (servings make.now (E.is_file files.now) goals.now) (E.is_file files.now)
+            goals.now) }
 {
     let rules = number_rules(alloc, make)?;
     let units = servings(alloc, make, &rules, files, goals)?;

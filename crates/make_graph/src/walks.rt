@@ -84,7 +84,8 @@ fn next_path(units: &[Serving], frame: Frame) -> Option<&Path>
 impl Walk {
     /// Marks a unit.
     fn mark(&mut self, unit: u32, mark: Mark)
-        ensures { self.new ≡ record { marks = slice_set self.old.marks unit mark; order = self.old.order } }
+        ensures { self.new
+            ≡ record { marks = slice_set self.old.marks unit mark; order = self.old.order } }
     {
         if (unit as usize) < self.marks.len() {
             self.marks[unit as usize] = mark;
@@ -112,7 +113,8 @@ fn advance(
 ) -> Result<(), Or<Path>>
     requires known { KnowsUnits numbers.now units.now }
     requires room { length stack.old.items + 1 + news walk.old.marks ≤ length units.now }
-    ensures goes { Goes result (resume units.now 0 (stack.old.items ++ top ∷ []) walk.old) (resume units.now 0 stack.new.items walk.new) }
+    ensures goes { Goes result (resume units.now 0 (stack.old.items ++ top ∷ []) walk.old)
+        (resume units.now 0 stack.new.items walk.new) }
     ensures room { OnOk result (length stack.new.items + news walk.new.marks ≤ length units.now) }
     ensures size { OnOk result (length walk.new.marks ≡ length walk.old.marks) }
 {
@@ -171,7 +173,8 @@ fn take(
 ) -> Result<(), Or<Path>>
     requires known { KnowsUnits numbers.now units.now }
     requires size { length walk.old.marks ≡ length units.now }
-    ensures goes { Goes result (take_path (suc (length units.now)) units.now path.now walk.old) (Ok walk.new) }
+    ensures goes { Goes result (take_path (suc (length units.now)) units.now path.now walk.old)
+        (Ok walk.new) }
     ensures size { OnOk result (length walk.new.marks ≡ length units.now) }
 {
     match meet(walk, numbers, units, path) {

@@ -44,7 +44,8 @@ fn has_failure(replies: &[Reply]) -> bool
 pub(crate) fn any_failed<D: Disk>(core: &Core<D>) -> bool
     requires begun { 0 < (state_of core.now.story).number }
     requires few { length (state_of core.now.story).phase.lanes ≤ 64 }
-    ensures { result ≡ lanes_fail 1 (state_of core.now.story).phase.lanes (replies_of core.now.story) }
+    ensures { result
+        ≡ lanes_fail 1 (state_of core.now.story).phase.lanes (replies_of core.now.story) }
 {
     let mut lane = 1u32;
     let mut rest = core.phase().lanes.as_slice();

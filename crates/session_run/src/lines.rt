@@ -90,7 +90,8 @@ fn line_of(alloc: Global, stop: Stop) -> Result<Text, NoMemory>
 
 /// Writes the line of a stop, and answers the status.
 pub(crate) fn refuse<K: Sink>(alloc: Global, stop: Stop, sink: &mut K) -> Status
-    ensures { WritesStop stop result (K.sight sink.old).held (K.sight sink.new).held (sink_faults (K.sight sink.old) (K.sight sink.new)) }
+    ensures { WritesStop stop result (K.sight sink.old).held (K.sight sink.new).held
+        (sink_faults (K.sight sink.old) (K.sight sink.new)) }
 {
     let Ok(line) = line_of(alloc, stop) else {
         return Status::NoMemory;

@@ -29,7 +29,8 @@ use std::alloc::Global;
 /// The moment now, none above the last one of the year 9999.
 fn moment_of<C: Clock>(clock: &mut C) -> u64
     ensures capped { result ≤ last_moment }
-    ensures moment { IfSome (C.sight clock.old).told (λ moments. result ≡ min (moment_at moments (C.sight clock.old).readings) last_moment) }
+    ensures moment { IfSome (C.sight clock.old).told
+        (λ moments. result ≡ min (moment_at moments (C.sight clock.old).readings) last_moment) }
     ensures list { (C.sight clock.new).told ≡ (C.sight clock.old).told }
     ensures counted { (C.sight clock.new).readings ≡ raised (C.sight clock.old).readings 1 }
 {
@@ -66,8 +67,12 @@ fn write_transcript<K: Sink, D: Disk>(
 ) -> Result<(), Or<WriteFault>>
     requires begun { 0 < (state_of core.now.story).number }
     requires few { length (state_of core.now.story).phase.lanes ≤ 64 }
-    ensures ok { OnOk result (Appends (K.sight sink.old).held (K.sight sink.new).held (transcript number (state_of core.now.story).phase (replies_of core.now.story))) }
-    ensures err { OnErr result (AppendsFront (K.sight sink.old).held (K.sight sink.new).held (transcript number (state_of core.now.story).phase (replies_of core.now.story))) }
+    ensures ok { OnOk result
+        (Appends (K.sight sink.old).held (K.sight sink.new).held
+            (transcript number (state_of core.now.story).phase (replies_of core.now.story))) }
+    ensures err { OnErr result
+        (AppendsFront (K.sight sink.old).held (K.sight sink.new).held
+            (transcript number (state_of core.now.story).phase (replies_of core.now.story))) }
     ensures kept { (K.sight sink.old).faults ≤ (K.sight sink.new).faults }
     ensures fault { OnWriteFault result (Rose (K.sight sink.old).faults (K.sight sink.new).faults) }
 {
@@ -88,8 +93,15 @@ pub(crate) fn run_phases<K: Sink, D: Disk, C: Clock>(
 ) -> Result<bool, Or<WriteFault>>
     requires opened { IsJustOpened core.old.story }
     requires runnable { IsRunnable phases.items }
-    ensures ok { IfOk result (HasRun phases.items core.new.story (outside_of (K.sight sink.old) (K.sight sink.new) (C.sight clock.old) (C.sight clock.new))) }
-    ensures err { IfErr result (λ cut. IsGivenUp cut phases.items core.new.story (outside_of (K.sight sink.old) (K.sight sink.new) (C.sight clock.old) (C.sight clock.new))) }
+    ensures ok { IfOk result
+        (HasRun phases.items core.new.story
+            (outside_of (K.sight sink.old) (K.sight sink.new) (C.sight clock.old)
+                (C.sight clock.new))) }
+    ensures err { IfErr result
+        (λ cut.
+            IsGivenUp cut phases.items core.new.story
+            (outside_of (K.sight sink.old) (K.sight sink.new) (C.sight clock.old)
+                (C.sight clock.new))) }
     ensures first { first_step core.new.story ≡ first_step core.old.story }
     ensures counted { KeepsCount core.old core.new }
     ensures fault { OnWriteFault result (Rose (K.sight sink.old).faults (K.sight sink.new).faults) }

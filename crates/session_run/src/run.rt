@@ -78,7 +78,8 @@ fn stop_of(cause: OpenCause, rose: bool) -> Stop
 fn settle<D: Disk>(core: &mut Core<D>)
     ensures same { core.new.story ≡ core.old.story }
     ensures mended { IsMended (state_of core.new.story) core.new.sight }
-    ensures settles { Settles (is_faulted (state_of core.old.story).ends) core.old.sight core.new.sight }
+    ensures settles { Settles (is_faulted (state_of core.old.story).ends) core.old.sight
+        core.new.sight }
 {
     let _ = core.finish();
 }
@@ -95,7 +96,10 @@ fn run_opened<K: Sink, D: Disk, C: Clock>(
 ) -> Ended<D>
     requires opened { IsJustOpened core.story }
     requires runnable { IsRunnable phases.items }
-    ensures { RunsOpened phases.items result.status (first_step core.story) result.history before (record { before = core.sight; after = D.sight result.disk }) (outside_of (K.sight sink.old) (K.sight sink.new) (C.sight clock.old) (C.sight clock.new)) (sink_faults (K.sight sink.old) (K.sight sink.new)) }
+    ensures { RunsOpened phases.items result.status (first_step core.story) result.history before
+        (record { before = core.sight; after = D.sight result.disk })
+        (outside_of (K.sight sink.old) (K.sight sink.new) (C.sight clock.old) (C.sight clock.new))
+        (sink_faults (K.sight sink.old) (K.sight sink.new)) }
 {
     let mut core = core;
     let run = run_phases(alloc, &mut core, phases, sink, clock);
@@ -123,7 +127,10 @@ fn run_session<K: Sink, D: Disk, C: Clock>(
 ) -> Ended<D>
     requires runnable { IsRunnable phases.items }
     requires stable { IfTold (D.sight disk).told (λ d. file_of 0 d ≡ stable (bytes_of 0 d)) }
-    ensures { RunsSession phases.items result.status result.history (outside_of (K.sight sink.old) (K.sight sink.new) (C.sight clock.old) (C.sight clock.new)) (sink_faults (K.sight sink.old) (K.sight sink.new)) (record { before = D.sight disk; after = D.sight result.disk }) }
+    ensures { RunsSession phases.items result.status result.history
+        (outside_of (K.sight sink.old) (K.sight sink.new) (C.sight clock.old) (C.sight clock.new))
+        (sink_faults (K.sight sink.old) (K.sight sink.new))
+        (record { before = D.sight disk; after = D.sight result.disk }) }
 {
     let before = disk.counts().faults;
     match Core::open(alloc, hashing, disk) {
@@ -154,19 +161,36 @@ pub fn run_words<S: Source, K: Sink, D: Disk, C: Clock>(
     clock: &mut C,
 ) -> Ended<D>
     requires { IsHandedIn (D.sight disk) }
-    ensures session { IsSession result.status result.history (intake_of words.now (S.sight source.old) (S.sight source.new)) (C.sight clock.old).told (clock_readings (C.sight clock.old) (C.sight clock.new)) }
-    ensures history { IsOneHistory result.status result.history (D.sight disk) (K.sight sink.old).held (K.sight sink.new).held }
+    ensures session { IsSession result.status result.history
+        (intake_of words.now (S.sight source.old) (S.sight source.new)) (C.sight clock.old).told
+        (clock_readings (C.sight clock.old) (C.sight clock.new)) }
+    ensures history { IsOneHistory result.status result.history (D.sight disk)
+        (K.sight sink.old).held (K.sight sink.new).held }
     ensures built { AreFromNothing result.history }
     ensures scrubs { ScrubsListWhatIsDue result.history }
     ensures held { HeldObjectsAreLive result.history }
-    ensures printed { ArePrinted result.status result.history (intake_of words.now (S.sight source.old) (S.sight source.new)) (sink_faults (K.sight sink.old) (K.sight sink.new)) (record { before = D.sight disk; after = D.sight result.disk }) (K.sight sink.old).held (K.sight sink.new).held }
+    ensures printed { ArePrinted result.status result.history
+        (intake_of words.now (S.sight source.old) (S.sight source.new))
+        (sink_faults (K.sight sink.old) (K.sight sink.new))
+        (record { before = D.sight disk; after = D.sight result.disk }) (K.sight sink.old).held
+        (K.sight sink.new).held }
     ensures stopped { IsStopped (D.sight disk) (D.sight result.disk) result.history }
-    ensures cause { HasCause result.status (intake_of words.now (S.sight source.old) (S.sight source.new)) (sink_faults (K.sight sink.old) (K.sight sink.new)) (record { before = D.sight disk; after = D.sight result.disk }) result.history }
-    ensures accounted { is_opened result.history ≡ true → IsAccountedFor (record { before = D.sight disk; after = D.sight result.disk }) result.history }
-    ensures files { KeepsFiles (record { before = D.sight disk; after = D.sight result.disk }) result.history }
-    ensures damaged { FindsDamage result.status (intake_of words.now (S.sight source.old) (S.sight source.new)) (record { before = D.sight disk; after = D.sight result.disk }) }
-    ensures untouched { LeavesAlone (intake_of words.now (S.sight source.old) (S.sight source.new)) (record { before = D.sight disk; after = D.sight result.disk }) result.history }
-    ensures taken { TakesNoMore (record { before = (S.sight source.old).given; after = (S.sight source.new).given }) }
+    ensures cause { HasCause result.status
+        (intake_of words.now (S.sight source.old) (S.sight source.new))
+        (sink_faults (K.sight sink.old) (K.sight sink.new))
+        (record { before = D.sight disk; after = D.sight result.disk }) result.history }
+    ensures accounted { is_opened result.history ≡ true
+        → IsAccountedFor (record { before = D.sight disk; after = D.sight result.disk })
+          result.history }
+    ensures files { KeepsFiles (record { before = D.sight disk; after = D.sight result.disk })
+        result.history }
+    ensures damaged { FindsDamage result.status
+        (intake_of words.now (S.sight source.old) (S.sight source.new))
+        (record { before = D.sight disk; after = D.sight result.disk }) }
+    ensures untouched { LeavesAlone (intake_of words.now (S.sight source.old) (S.sight source.new))
+        (record { before = D.sight disk; after = D.sight result.disk }) result.history }
+    ensures taken { TakesNoMore
+        (record { before = (S.sight source.old).given; after = (S.sight source.new).given }) }
 {
     a_scrub_of_a_story_lists_what_is_due();
     a_held_object_is_live_at_each_step();

@@ -53,9 +53,14 @@ pub(crate) fn session_given<S: Source>(
     words: &[Text],
     source: &mut S,
 ) -> Result<Vec<Phase>, Stop>
-    ensures gives { IfOk result (λ phases. GivesPhases (intake_of words.now (S.sight source.old) (S.sight source.new)) phases.items) }
-    ensures stops { IfErr result (λ stop. HasStop stop (intake_of words.now (S.sight source.old) (S.sight source.new))) }
-    ensures taken { TakesNoMore (record { before = (S.sight source.old).given; after = (S.sight source.new).given }) }
+    ensures gives { IfOk result
+        (λ phases.
+            GivesPhases (intake_of words.now (S.sight source.old) (S.sight source.new))
+            phases.items) }
+    ensures stops { IfErr result
+        (λ stop. HasStop stop (intake_of words.now (S.sight source.old) (S.sight source.new))) }
+    ensures taken { TakesNoMore
+        (record { before = (S.sight source.old).given; after = (S.sight source.new).given }) }
 {
     if !is_run(words) {
         return Err(Stop::BadWords);

@@ -123,7 +123,8 @@ impl Model for Asked {
 
     ghost view = { λ s.
         record
-        { file = s.file; own_only = s.own_only; rebuild = s.rebuild; jobs = s.jobs; macros = s.macros; goals = s.goals.items } };
+        { file = s.file; own_only = s.own_only; rebuild = s.rebuild; jobs = s.jobs;
+            macros = s.macros; goals = s.goals.items } };
 }
 
 impl Asked {

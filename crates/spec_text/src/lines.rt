@@ -86,8 +86,9 @@ fn rule_with_options(
     selector: &[u8],
     words: Words<'_>,
 ) -> Result<Line, Or<SpecCause>>
-    ensures { Gives result (with_options place.line place.block pattern.now behind_config selector.now
-        (options_from words.entry no_options)) }
+    ensures { Gives result
+        (with_options place.line place.block pattern.now behind_config selector.now
+            (options_from words.entry no_options)) }
 {
     match read_options(words) {
         None => Err(Or::Is(SpecCause::BadRule)),

@@ -79,7 +79,8 @@ impl<T: Storied> Model for Held<T> {
 
     ghost view = { λ h.
         record
-        { lock = h.seat.table_id; story = noted_of h.seat.me.0.stage; weight = h.seat.me.0.weight } };
+        { lock = h.seat.table_id; story = noted_of h.seat.me.0.stage;
+            weight = h.seat.me.0.weight } };
 
     ghost invariant = { λ h.
         ((ticket : ℕ) × (h.seat.me.0.stage ≡ Turn ticket (noted_of h.seat.me.0.stage)))

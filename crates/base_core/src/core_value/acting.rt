@@ -26,7 +26,8 @@ impl<D: Disk> Core<D> {
     /// What is decided of a lane's next command: its row or its first refusal.
     fn decide(&self, alloc: Global, lane: u32) -> Result<Row, Or<Refusal>>
         requires { next_of (state_of self.now.story) lane ≡ nexts.Act }
-        ensures { DecidesNext (state_of self.now.story) (next_tag (state_of self.now.story) lane) result }
+        ensures { DecidesNext (state_of self.now.story) (next_tag (state_of self.now.story) lane)
+            result }
     {
         let command = self.command(lane);
         let occasion = self.occasion(lane, view_of(command));

@@ -26,9 +26,11 @@ impl<D: Disk> Core<D> {
 
     /// What is decided of a lane's next command, which builds: the build to begin, or the first refusal.
     fn plan(&self, alloc: Global, lane: u32) -> Result<ActiveBuild, Or<Refusal>>
-        requires builds { next_of (state_of self.now.story) lane ≡ nexts.Build (next_tag (state_of self.now.story) lane) }
+        requires builds { next_of (state_of self.now.story) lane
+            ≡ nexts.Build (next_tag (state_of self.now.story) lane) }
         requires free { build_of (state_of self.now.story).active lane ≡ None }
-        ensures { PlansNext (state_of self.now.story) (next_tag (state_of self.now.story) lane) result }
+        ensures { PlansNext (state_of self.now.story) (next_tag (state_of self.now.story) lane)
+            result }
     {
         let command = self.command(lane);
         let occasion = self.occasion(lane, view_of(command));
@@ -38,7 +40,9 @@ impl<D: Disk> Core<D> {
     /// Begins the build that was decided for the next command of its lane. An `Err` changes nothing.
     fn open_build(&mut self, build: ActiveBuild) -> Result<(), NoMemory>
         requires { IsNextBuild (state_of self.old.story) build }
-        ensures ok { OnOk result (Begins self.old.story self.new.story build.tag.lane (begins.Units (length build.units))) }
+        ensures ok { OnOk result
+            (Begins self.old.story self.new.story build.tag.lane
+            (begins.Units (length build.units))) }
         ensures err { OnErr result (self.new ≡ self.old) }
         ensures counted { KeepsCount self.old self.new }
     {
@@ -55,7 +59,8 @@ impl<D: Disk> Core<D> {
     /// Begins the build of a lane's next command, or refuses the command. A build that is active goes on. An `Err` changes
     /// nothing. Takes time linear in the makefile.
     fn begin(&mut self, alloc: Global, lane: u32) -> Result<Begun, NoMemory>
-        requires { next_of (state_of self.old.story) lane ≡ nexts.Build (next_tag (state_of self.old.story) lane) }
+        requires { next_of (state_of self.old.story) lane
+            ≡ nexts.Build (next_tag (state_of self.old.story) lane) }
         ensures ok { IfOk result (λ begun. Begins self.old.story self.new.story lane begun) }
         ensures err { OnErr result (self.new ≡ self.old) }
         ensures counted { KeepsCount self.old self.new }
@@ -114,7 +119,8 @@ impl<D: Disk> Core<D> {
     /// whatever is answered. Takes time linear in the makefile, in what the scripts read and write, and in the steps since the
     /// last commit or fault; and for each read in the units before its own.
     pub fn build(&mut self, alloc: Global, lane: u32) -> Result<(), NoMemory>
-        requires { next_of (state_of self.old.story) lane ≡ nexts.Build (next_tag (state_of self.old.story) lane) }
+        requires { next_of (state_of self.old.story) lane
+            ≡ nexts.Build (next_tag (state_of self.old.story) lane) }
         ensures ok { OnOk result (Finishes self.old.story self.new.story lane) }
         ensures err { OnErr result (GoesOn self.old.story self.new.story lane) }
         ensures counted { KeepsCount self.old self.new }

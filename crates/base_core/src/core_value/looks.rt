@@ -66,7 +66,8 @@ impl<D: Disk> Core<D> {
         ensures next { option_copied result ≡ waiting (state_of self.now.story) lane }
         ensures formed { (command : Command) → waiting (state_of self.now.story) lane ≡ Some command
             → IsCommand command_limit command }
-        ensures carried_out { (command : Command) → waiting (state_of self.now.story) lane ≡ Some command
+        ensures carried_out { (command : Command)
+            → waiting (state_of self.now.story) lane ≡ Some command
             → is_carried_out command ≡ true }
     {
         next_command(self.log.phases(), lane, self.lanes.finished(lane))

@@ -91,7 +91,8 @@ impl<D: Disk> Core<D> {
     /// `Err` changes nothing.
     fn start(&mut self, lane: u32, unit: u32, fault: Option<ScriptFault>) -> Result<(), NoMemory>
         requires { MayStart (state_of self.old.story) lane unit fault }
-        ensures ok { OnOk result (Noted self.old.story self.new.story lane unit (came_by_start fault)) }
+        ensures ok { OnOk result
+            (Noted self.old.story self.new.story lane unit (came_by_start fault)) }
         ensures err { OnErr result (self.new ≡ self.old) }
         ensures counted { KeepsCount self.old self.new }
     {
@@ -166,7 +167,8 @@ impl<D: Disk> Core<D> {
         outputs: List<Text>,
         reads: &[Path],
     ) -> Result<Row, NoMemory>
-        requires { HasRun (state_of self.now.story) lane unit (record { result = Ok outputs; reads = reads.now }) }
+        requires { HasRun (state_of self.now.story) lane unit
+            (record { result = Ok outputs; reads = reads.now }) }
         ensures { IfOk result (λ row. IsObjectRow (state_of self.now.story) lane unit row) }
     {
         a_build_is_consistent();
