@@ -84,10 +84,17 @@ impl ActiveBuild {
     ) -> Result<ActiveBuild, NoMemory>
         ensures { IfOk result
             (λ build.
-                build
-                ≡ record
-                  { tag = tag; view = view; rows = rows; own_only = own_only;
-                      rebuild = rebuild; units = units.items; comes = []; faulted = false }) }
+            build
+            ≡ record {
+              tag = tag;
+              view = view;
+              rows = rows;
+              own_only = own_only;
+              rebuild = rebuild;
+              units = units.items;
+              comes = [];
+              faulted = false;
+            }) }
     {
         let comes = slots_for(alloc, units.as_slice())?;
         Ok(ActiveBuild {

@@ -113,7 +113,7 @@ fn begun(
     ensures decided { (scene : Scene)
         → Meets scene rows.now view.now busy taken
         → Begun (result_items result)
-          (clearmake scene view.now (option_copied file.entry) macros.now goals.now) }
+        (clearmake scene view.now (option_copied file.entry) macros.now goals.now) }
     ensures formed { IfOk result (λ units. AreUnits units.items) }
     ensures view { IfOk result (λ units. IsSome (view_row rows.now view.now)) }
     ensures room { IfOk result (λ units. taken + length units.items ≤ 4000000) }

@@ -43,8 +43,8 @@ fn is_missing(rows: &FirstRows<'_>, build: &ActiveBuild, path: &Path) -> bool
     requires view { IsSome (view_row rows.now build.now.view) }
     ensures { result
         ≡ is_missing
-          (standing_or_file (sees_file rows.now build.now.view path.now)
-              (standing_of_unit build.now path.now)) }
+        (standing_or_file (sees_file rows.now build.now.view path.now)
+        (standing_of_unit build.now path.now)) }
 {
     number_of(build.units(), path).is_none() && file_at(rows, build.view(), path).is_none()
 }
@@ -71,10 +71,10 @@ fn first_missing<'a>(
     requires view { IsSome (view_row rows.now build.now.view) }
     ensures { option_copied result
         ≡ find
-          (λ path.
-              is_missing
-              (standing_or_file (sees_file rows.now build.now.view path)
-                  (standing_of_unit build.now path))) paths.now }
+        (λ path.
+        is_missing
+        (standing_or_file (sees_file rows.now build.now.view path)
+        (standing_of_unit build.now path))) paths.now }
 {
     for path in paths {
         if is_missing(rows, build, path) {
@@ -87,10 +87,10 @@ fn first_missing<'a>(
 fn first_bad<'a>(rows: &FirstRows<'_>, build: &ActiveBuild, paths: &'a [Path]) -> Option<&'a Path>
     ensures { option_copied result
         ≡ find
-          (λ path.
-              is_bad
-              (standing_or_file (sees_file rows.now build.now.view path)
-                  (standing_of_unit build.now path))) paths.now }
+        (λ path.
+        is_bad
+        (standing_or_file (sees_file rows.now build.now.view path)
+        (standing_of_unit build.now path))) paths.now }
 {
     for path in paths {
         if is_bad(build, path) {
@@ -139,9 +139,9 @@ fn no_directory(
     requires { IsSome (view_row rows.now build.now.view) }
     ensures { IfOk result
         (λ end.
-            end
-            ≡ no_directory (sees_directory rows.now build.now.view) unit.now.targets
-              unit.now.script) }
+        end
+        ≡ no_directory (sees_directory rows.now build.now.view) unit.now.targets
+        unit.now.script) }
 {
     if let UnitScript::Bare = unit.script {
         return Ok(None);

@@ -35,7 +35,7 @@ fn rows_read(
     ensures { (it : units.Unit)
         → unit_at build.now unit ≡ Some it
         → IfOk result
-          (λ found. found.entries ≡ in_order (visible rows.now build.now unit it) reads.now) }
+        (λ found. found.entries ≡ in_order (visible rows.now build.now unit it) reads.now) }
 {
     let mut found = BTreeMap::new(alloc);
     // From the last read to the first, as the record of reads is defined.

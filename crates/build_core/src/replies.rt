@@ -54,7 +54,7 @@ fn is_own(rows: &FirstRows<'_>, build: &ActiveBuild, id: u64) -> bool
 fn word_of_given(rows: &FirstRows<'_>, build: &ActiveBuild, path: &Path, id: u64) -> UnitWord
     ensures { result
         ≡ word_of_object rows.now build.now (Some (Given id))
-          (digest_at (text rows.now id path.now)) }
+        (digest_at (text rows.now id path.now)) }
 {
     let digest = digest_at(text_of(rows, id, path));
     if is_own(rows, build, id) {
@@ -110,9 +110,9 @@ fn push_line(
 ) -> Result<(), NoMemory>
     ensures { OnOk result
         (lines.new.items
-            ≡ lines.old.items
-              ++ line_before path.now
-                (word_of_came rows.now build.now path.now (came_to build.now unit)) []) }
+        ≡ lines.old.items
+        ++ line_before path.now
+        (word_of_came rows.now build.now path.now (came_to build.now unit)) []) }
 {
     if let Some(word) = word_of(alloc, rows, build, unit, path)? {
         let path = path.copy(alloc)?;
@@ -132,9 +132,9 @@ fn push_lines(
 ) -> Result<(), NoMemory>
     ensures { OnOk result
         (lines.new.items
-            ≡ lines.old.items
-              ++ lines_of (λ path. word_of_came rows.now build.now path (came_to build.now unit))
-                targets.now) }
+        ≡ lines.old.items
+        ++ lines_of (λ path. word_of_came rows.now build.now path (came_to build.now unit))
+        targets.now) }
 {
     let mut rest = targets;
     while let Some((path, more)) = rest.split_first() {

@@ -46,7 +46,7 @@ fn up_to_maker(build: &ActiveBuild, below: u32, paths: &[Path]) -> u32
     ensures within { result ≤ below }
     ensures same { (path : List ℕ)
         → object_before build.now paths.now result path
-          ≡ object_before build.now paths.now below path }
+        ≡ object_before build.now paths.now below path }
 {
     let units = build.units();
     let mut number = below;

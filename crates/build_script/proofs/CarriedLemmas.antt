@@ -51,7 +51,6 @@ first_among {B = B} files before paths first next h =
     (subst (λ (t : Traced B). AreAmong t.reads paths) (traced-and_then files before first next) h)
 
 module _ {F : Type 0} (stands : F → List ℕ → Option Standing) (broken : F → ℕ) (follows : List (List ℕ) → F → F → Type 0) where
-
   -- nothing done yet
   pub carried_here : {X A : Type 0} (reflexive : (paths : List (List ℕ)) (files : F) → follows paths files files) (reads : List (List ℕ)) (asking : X → Asking (Result A ScriptFault)) (x : X) (files : F) →
       Carried stands broken follows reads (asking x) asking (Ok x) reads files files

@@ -160,4 +160,3 @@ replaced-none from to text some none =
 pub replaced-some : (from to text : List ℕ) → 0 < length from → replaced from to text ≡ replaced_behind from to 0 text
 replaced-some [] to text some = absurd (omega arith)
 replaced-some (f ∷ from) to text some = refl
-

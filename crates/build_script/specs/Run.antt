@@ -113,7 +113,7 @@ pub record Preprocessing : Type 0 where
 abbrev pub included : (List ℕ → Made → Asking (Result Made ScriptFault)) → Preprocessing → List ℕ → Made → Asking (Result Made ScriptFault)
 included expand pp path made =
     and_then (probed pp.own path (probes_of pp.directories path) made.probes)
-        (unless_fault (λ found. expand found.text (record made { probes = found.probes })))
+    (unless_fault (λ found. expand found.text (record made { probes = found.probes })))
 
 -- a line, as it is or as what it includes
 abbrev pub line_expanded : (List ℕ → Made → Asking (Result Made ScriptFault)) → Output → List ℕ → Option (List ℕ) → Made → Asking (Result Made ScriptFault)
@@ -153,7 +153,7 @@ with_part own output (Says more) made = Done (said output more made)
 with_part own output (TextOf form path) made = and_then (text_at own path) (unless_fault (λ text. Done (said output (form text) made)))
 with_part own output (Preprocessed directories path) made =
     and_then (text_at own path)
-        (unless_fault (λ text. expanded depth_limit (record { own = own; directories = directories; output = output }) text made))
+    (unless_fault (λ text. expanded depth_limit (record { own = own; directories = directories; output = output }) text made))
 
 -- the same with parts, up to the first fault; every part sees the run's own outputs as they stood before the line
 abbrev pub with_parts : Files → Output → List Part → Made → Asking (Result Made ScriptFault)
@@ -179,7 +179,7 @@ abbrev pub write_output : State → Work → Bool → List ℕ → Asking (Resul
 write_output state work appends path =
     let begin = begun appends (state.own path) in
     and_then (with_parts state.own (record { path = path; before = length begin }) (parts_of work) (record { bytes = []; probes = state.probes }))
-        (unless_fault (λ made. Done (Ok (record { own = wrote path (begin ++ made.bytes) state.own; probes = made.probes }))))
+    (unless_fault (λ made. Done (Ok (record { own = wrote path (begin ++ made.bytes) state.own; probes = made.probes }))))
 
 -- a run after a line; a line that writes no target is a fault before all else
 abbrev pub after_line : List (List ℕ) → State → Line → Asking (Result State ScriptFault)

@@ -3,9 +3,9 @@
 ghost use Rattle.std.specs.Prelude.{◌≡◌, ◌+◌, ◌<◌, ◌++◌, ◌∷◌, [], IfOk, MatchOption, length, take};
 ghost use Rattle.build_script.specs.Forms.{lines_in, first_lines, digest_line, listed};
 
-use cc_names::numbers::push_number;
 use cc_names::cuts::first_newline;
 use cc_names::memory::NoMemory;
+use cc_names::numbers::push_number;
 use cc_names::paths::Path;
 use sha2::{Digest, Sha256};
 use std::alloc::Global;

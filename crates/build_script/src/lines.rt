@@ -3,10 +3,10 @@
 ghost use Rattle.std.specs.Prelude.{◌≡◌, ◌+◌, ◌≤◌, ◌^◌, IfOk, length, map, reverse};
 ghost use Rattle.build_script.specs.Lines.{path_in, paths_of, cat_of, link_of, directory_of, directories_of, preprocess_of, preprocess_of_reversed, only_path, substitute_of, head_by, head_of, digest_of, work_of, appends_of, makes, fail_of, line_of_reversed, line_of};
 
-use cc_names::numbers::number;
 use crate::words::{without_at, words};
 use cc_names::lists::List;
 use cc_names::memory::{NoMemory, Or};
+use cc_names::numbers::number;
 use cc_names::paths::Path;
 use cc_names::texts::Text;
 use std::alloc::Global;
@@ -19,10 +19,7 @@ pub enum Work {
     /// `cat P ..`: the texts one after the other.
     Cat(List<Path>),
     /// `pp -I D .. P`: the text, each include line replaced by what it includes.
-    Preprocess {
-        directories: List<Path>,
-        path: Path,
-    },
+    Preprocess { directories: List<Path>, path: Path },
     /// `sub A B P`: the text, each occurrence of the one word replaced by the other.
     Substitute { from: Text, to: Text, path: Path },
     /// `head N P`: the first lines.
@@ -242,9 +239,9 @@ fn read_parts(
 ) -> Result<Option<Line>, NoMemory>
     ensures { IfOk result
         (λ line.
-            line
-            ≡ makes (work_of (map (λ word. word.now) before.now)) (appends_of arrow.now)
-              (path_in output.now)) }
+        line
+        ≡ makes (work_of (map (λ word. word.now) before.now)) (appends_of arrow.now)
+        (path_in output.now)) }
 {
     let Some(work) = read_work(alloc, before)? else {
         return Ok(None);

@@ -97,7 +97,7 @@ pub(crate) fn see<F: Files>(
 ) -> Result<Option<Text>, Halt>
     ensures { Carried F.stands F.broken F.follows reads.old.keys
         (and_then (see (own_of making.entry.written.now path.now) path.now)
-            (λ found. Done (Ok found))) (gives (λ found. found)) result reads.new.keys files.old
+        (λ found. Done (Ok found))) (gives (λ found. found)) result reads.new.keys files.old
         files.new }
 {
     match making.written.get(path) {
@@ -162,7 +162,7 @@ fn say_replaced(
 ) -> Result<(), Halt>
     ensures { Gave
         (said (output_at making.entry.path.now making.entry.before)
-            (replaced from.now to.now text.now) (made_of made.old)) (λ _. made_of made.new) result }
+        (replaced from.now to.now text.now) (made_of made.old)) (λ _. made_of made.new) result }
 {
     if from.is_empty() {
         return say(making, made, text);
@@ -186,7 +186,7 @@ fn say_as(
 ) -> Result<(), Halt>
     ensures { Gave
         (said (output_at making.entry.path.now making.entry.before)
-            (form_of form.entry path.now text.now) (made_of made.old)) (λ _. made_of made.new)
+        (form_of form.entry path.now text.now) (made_of made.old)) (λ _. made_of made.new)
         result }
 {
     match form {
@@ -215,8 +215,8 @@ fn pour<F: Files>(
 ) -> Result<(), Halt>
     ensures { Carried F.stands F.broken F.follows reads.old.keys
         (with_part (own_of making.entry.written.now)
-            (output_at making.entry.path.now making.entry.before)
-            (TextOf (form_of form.entry path.now) path.now) (made_of made.old))
+        (output_at making.entry.path.now making.entry.before)
+        (TextOf (form_of form.entry path.now) path.now) (made_of made.old))
         (gives (λ _. made_of made.new)) result reads.new.keys files.old files.new }
 {
     let text = text_at(making, reads, files, path)?;
@@ -234,8 +234,8 @@ fn pour_all<F: Files>(
 ) -> Result<(), Halt>
     ensures { Carried F.stands F.broken F.follows reads.old.keys
         (with_parts (own_of making.entry.written.now)
-            (output_at making.entry.path.now making.entry.before)
-            (map (λ path. TextOf (form_of form.entry path) path) paths.now) (made_of made.old))
+        (output_at making.entry.path.now making.entry.before)
+        (map (λ path. TextOf (form_of form.entry path) path) paths.now) (made_of made.old))
         (gives (λ _. made_of made.new)) result reads.new.keys files.old files.new }
 {
     for path in paths {
@@ -273,7 +273,7 @@ fn joined(alloc: Global, words: &[Text]) -> Result<Vec<u8>, NoMemory>
 fn echo(making: Making<'_>, made: &mut Made, words: &[Text]) -> Result<(), Halt>
     ensures { Gave
         (said (output_at making.entry.path.now making.entry.before)
-            (join_with_byte 32 words.now ++ 10 ∷ []) (made_of made.old)) (λ _. made_of made.new)
+        (join_with_byte 32 words.now ++ 10 ∷ []) (made_of made.old)) (λ _. made_of made.new)
         result }
 {
     let bytes = joined(making.alloc, words)?;
@@ -290,8 +290,8 @@ pub(crate) fn make<F: Files>(
 ) -> Result<(), Halt>
     ensures { Carried F.stands F.broken F.follows reads.old.keys
         (with_parts (own_of making.entry.written.now)
-            (output_at making.entry.path.now making.entry.before) (parts_of work.now)
-            (made_of made.old)) (gives (λ _. made_of made.new)) result reads.new.keys files.old
+        (output_at making.entry.path.now making.entry.before) (parts_of work.now)
+        (made_of made.old)) (gives (λ _. made_of made.new)) result reads.new.keys files.old
         files.new }
 {
     match work {
@@ -308,7 +308,14 @@ pub(crate) fn make<F: Files>(
             pour_all(making, reads, files, made, form, from_ref(path))
         }
         Work::Head { lines, path } => {
-            pour_all(making, reads, files, made, Form::FirstLines(*lines), from_ref(path))
+            pour_all(
+                making,
+                reads,
+                files,
+                made,
+                Form::FirstLines(*lines),
+                from_ref(path),
+            )
         }
         Work::Digest(path) => {
             pour_all(making, reads, files, made, Form::DigestLine, from_ref(path))

@@ -40,9 +40,9 @@ fn probe<F: Files>(
 ) -> Result<Option<Text>, Halt>
     ensures went { (more : List (List ℕ))
         → Carried F.stands F.broken F.follows reads.old.keys
-          (probed (own_of making.entry.written.now) include.now (place.now ∷ more) probes.old)
-          (found_or (probed (own_of making.entry.written.now) include.now more probes.new)
-              probes.new) result reads.new.keys files.old files.new }
+        (probed (own_of making.entry.written.now) include.now (place.now ∷ more) probes.old)
+        (found_or (probed (own_of making.entry.written.now) include.now more probes.new)
+        probes.new) result reads.new.keys files.old files.new }
     ensures counted { OnOk result (probes.new ≡ probes.old + 1) }
     ensures within { OnOk result (probes.new ≤ 100000) }
 {
@@ -75,11 +75,11 @@ fn probe_under<F: Files>(
 ) -> Result<Option<Text>, Halt>
     ensures went { (more : List (List ℕ))
         → Carried F.stands F.broken F.follows reads.old.keys
-          (probed (own_of making.entry.written.now) path.now
-              (filter_map (under path.now) (directory.now ∷ more)) probes.old)
-          (found_or
-              (probed (own_of making.entry.written.now) path.now (filter_map (under path.now) more)
-                  probes.new) probes.new) result reads.new.keys files.old files.new }
+        (probed (own_of making.entry.written.now) path.now
+        (filter_map (under path.now) (directory.now ∷ more)) probes.old)
+        (found_or
+        (probed (own_of making.entry.written.now) path.now (filter_map (under path.now) more)
+        probes.new) probes.new) result reads.new.keys files.old files.new }
     ensures counted { OnOk result (probes.old ≤ probes.new) }
     ensures found { IfOk result (λ found. OnSome found (probes.old < probes.new)) }
     ensures within { IfOk result (λ found. OnSome found (probes.new ≤ 100000)) }
@@ -101,7 +101,7 @@ fn find_under<F: Files>(
 ) -> Result<Text, Halt>
     ensures went { Carried F.stands F.broken F.follows reads.old.keys
         (probed (own_of making.entry.written.now) path.now
-            (filter_map (under path.now) directories.now) probes.old)
+        (filter_map (under path.now) directories.now) probes.old)
         (gives (found_with probes.new)) result reads.new.keys files.old files.new }
     ensures counted { OnOk result (probes.old < probes.new) }
     ensures within { OnOk result (probes.new ≤ 100000) }
@@ -126,7 +126,7 @@ fn find<F: Files>(
 ) -> Result<Text, Halt>
     ensures went { Carried F.stands F.broken F.follows reads.old.keys
         (probed (own_of making.entry.written.now) path.now (probes_of directories.now path.now)
-            probes.old) (gives (found_with probes.new)) result reads.new.keys files.old files.new }
+        probes.old) (gives (found_with probes.new)) result reads.new.keys files.old files.new }
     ensures counted { OnOk result (probes.old < probes.new) }
     ensures within { OnOk result (probes.new ≤ 100000) }
 {
@@ -152,15 +152,15 @@ fn include<F: Files>(
 ) -> Result<Text, Halt>
     ensures went { (bytes : List ℕ)
         → Carried F.stands F.broken F.follows reads.old.keys
-          (includes (depth_limit - inside)
-              (preprocessing (own_of making.entry.written.now) directories.now
-                  (output_at making.entry.path.now making.entry.before)) path.now
-              (made_with bytes probes.old))
-          (λ text.
-              expanded (depth_limit - (inside + 1))
-              (preprocessing (own_of making.entry.written.now) directories.now
-                  (output_at making.entry.path.now making.entry.before)) text
-              (made_with bytes probes.new)) result reads.new.keys files.old files.new }
+        (includes (depth_limit - inside)
+        (preprocessing (own_of making.entry.written.now) directories.now
+        (output_at making.entry.path.now making.entry.before)) path.now
+        (made_with bytes probes.old))
+        (λ text.
+        expanded (depth_limit - (inside + 1))
+        (preprocessing (own_of making.entry.written.now) directories.now
+        (output_at making.entry.path.now making.entry.before)) text
+        (made_with bytes probes.new)) result reads.new.keys files.old files.new }
     ensures counted { OnOk result (probes.old < probes.new) }
     ensures within { OnOk result (probes.new ≤ 100000) }
     ensures inside { OnOk result (inside < 32) }
@@ -204,19 +204,19 @@ fn step<F: Files>(
 ) -> Result<(), Halt>
     ensures went { Carried F.stands F.broken F.follows reads.old.keys
         (resumed
-            (preprocessing (own_of making.entry.written.now) directories.now
-                (output_at making.entry.path.now making.entry.before))
-            (rest_of innermost ∷ rests_of inside.old.items) (made_of made.old))
+        (preprocessing (own_of making.entry.written.now) directories.now
+        (output_at making.entry.path.now making.entry.before))
+        (rest_of innermost ∷ rests_of inside.old.items) (made_of made.old))
         (λ _.
-            resumed
-            (preprocessing (own_of making.entry.written.now) directories.now
-                (output_at making.entry.path.now making.entry.before)) (rests_of inside.new.items)
-            (made_of made.new)) result reads.new.keys files.old files.new }
+        resumed
+        (preprocessing (own_of making.entry.written.now) directories.now
+        (output_at making.entry.path.now making.entry.before)) (rests_of inside.new.items)
+        (made_of made.new)) result reads.new.keys files.old files.new }
     ensures shrinks { OnOk result
         (left_of (output_at making.entry.path.now making.entry.before) (made_of made.new)
-            (length inside.new.items)
-            < left_of (output_at making.entry.path.now making.entry.before) (made_of made.old)
-              (length inside.old.items + 1)) }
+        (length inside.new.items)
+        < left_of (output_at making.entry.path.now making.entry.before) (made_of made.old)
+        (length inside.old.items + 1)) }
 {
     let Some((line, _)) = split_first_line(innermost.rest()) else {
         return Ok(());
@@ -227,7 +227,15 @@ fn step<F: Files>(
         put_back(inside, innermost.past(count))?;
         return Ok(());
     };
-    let text = include(making, reads, files, &mut made.probes, directories, inside.len(), &path)?;
+    let text = include(
+        making,
+        reads,
+        files,
+        &mut made.probes,
+        directories,
+        inside.len(),
+        &path,
+    )?;
     enter(inside, innermost.past(count), text)?;
     Ok(())
 }
@@ -243,14 +251,22 @@ fn expand<F: Files>(
 ) -> Result<(), Halt>
     ensures { Carried F.stands F.broken F.follows reads.old.keys
         (expanded depth_limit
-            (preprocessing (own_of making.entry.written.now) directories.now
-                (output_at making.entry.path.now making.entry.before)) text (made_of made.old))
+        (preprocessing (own_of making.entry.written.now) directories.now
+        (output_at making.entry.path.now making.entry.before)) text (made_of made.old))
         (gives (λ _. made_of made.new)) result reads.new.keys files.old files.new }
 {
     let mut inside = Vec::new(making.alloc);
     put_back(&mut inside, OpenText::of(text))?;
     while let Some(innermost) = inside.pop() {
-        step(making, reads, files, made, directories, &mut inside, innermost)?;
+        step(
+            making,
+            reads,
+            files,
+            made,
+            directories,
+            &mut inside,
+            innermost,
+        )?;
     }
     Ok(())
 }
@@ -267,8 +283,8 @@ pub(crate) fn preprocess<F: Files>(
 ) -> Result<(), Halt>
     ensures { Carried F.stands F.broken F.follows reads.old.keys
         (with_part (own_of making.entry.written.now)
-            (output_at making.entry.path.now making.entry.before)
-            (Preprocessed directories.now path.now) (made_of made.old))
+        (output_at making.entry.path.now making.entry.before)
+        (Preprocessed directories.now path.now) (made_of made.old))
         (gives (λ _. made_of made.new)) result reads.new.keys files.old files.new }
 {
     let text = text_at(making, reads, files, path)?;

@@ -30,8 +30,8 @@ fn store(
 ) -> Result<(), NoMemory>
     ensures { OnOk result
         (own_of written.new
-            ≡ wrote output.now (begun appends (own_of written.old output.now) ++ fresh.items)
-              (own_of written.old)) }
+        ≡ wrote output.now (begun appends (own_of written.old output.now) ++ fresh.items)
+        (own_of written.old)) }
 {
     let bytes = match written.remove(output) {
         Some(mut bytes) if appends => {

@@ -86,8 +86,8 @@ pub fn run<F: Files>(
 ) -> Result<Ended, Or<Stop>>
     ensures ran { IfOk result
         (λ ended.
-            ran_of ended
-            ≡ carried_out (texts (F.stands files.old)) (run_of_lines targets.now script.now)) }
+        ran_of ended
+        ≡ carried_out (texts (F.stands files.old)) (run_of_lines targets.now script.now)) }
     ensures given_up { IfErr result
         (λ stop. IsGivenUp stop (F.broken files.old) (F.broken files.new)) }
     ensures stays { Stays F.stands F.broken files.old files.new }

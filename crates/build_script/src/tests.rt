@@ -225,7 +225,11 @@ fn repeated(alloc: Global, line: &str, count: usize) -> Result<String, AllocErro
 // A run makes 100,000 probes: two for each line, since the first of each finds nothing.
 #[test]
 fn a_run_makes_so_many_probes(rt: HostRuntime) -> Result<(), Fail> {
-    let table = [(49_999, "NotWritten log"), (50_000, "NotWritten log"), (50_001, "IncludeDepth h")];
+    let table = [
+        (49_999, "NotWritten log"),
+        (50_000, "NotWritten log"),
+        (50_001, "IncludeDepth h"),
+    ];
     for (lines, want) in table {
         let text = repeated(rt.alloc(), "#include \"h\"\n", lines)?;
         let mut files = files_of(rt.alloc(), &[("in", text.as_str()), ("two/h", "foo\n")])?;
@@ -277,7 +281,10 @@ fn the_first_line_outside_the_language_is_named(rt: HostRuntime) -> Result<(), F
 // An output has 1,048,576 bytes at most: of 524,288 letters, each replaced by two.
 #[test]
 fn an_output_ends_at_its_limit(rt: HostRuntime) -> Result<(), Fail> {
-    let table = [(524_288, "NotWritten log < in"), (524_289, "TooBig out < in")];
+    let table = [
+        (524_288, "NotWritten log < in"),
+        (524_289, "TooBig out < in"),
+    ];
     for (letters, want) in table {
         let text = repeated(rt.alloc(), "a", letters)?;
         let mut files = files_of(rt.alloc(), &[("in", text.as_str())])?;

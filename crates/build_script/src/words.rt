@@ -36,7 +36,7 @@ pub(crate) fn without_at(line: &[u8]) -> &[u8]
 fn push_arrows<'a>(found: &mut Vec<&'a [u8]>, run: &'a [u8]) -> Result<(), AllocError>
     ensures { OnOk result
         (map (λ word. word.now) found.new.items
-            ≡ map (λ word. word.now) found.old.items ++ arrows run.now) }
+        ≡ map (λ word. word.now) found.old.items ++ arrows run.now) }
 {
     for pair in run.chunks(2) {
         found.push(pair)?;
@@ -47,7 +47,7 @@ fn push_arrows<'a>(found: &mut Vec<&'a [u8]>, run: &'a [u8]) -> Result<(), Alloc
 fn push_words<'a>(found: &mut Vec<&'a [u8]>, run: &'a [u8]) -> Result<(), AllocError>
     ensures { OnOk result
         (map (λ word. word.now) found.new.items
-            ≡ map (λ word. word.now) found.old.items ++ words_of_run run.now) }
+        ≡ map (λ word. word.now) found.old.items ++ words_of_run run.now) }
 {
     match run.first() {
         Some(byte) if is_arrow(*byte) => push_arrows(found, run),

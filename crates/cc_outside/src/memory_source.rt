@@ -28,9 +28,13 @@ impl Model for MemorySource {
     ghost Value = { Feed };
 
     ghost view = { λ s.
-        record
-        { left = drop s.place s.bytes.items; given = s.place; calls = s.calls;
-            faults = s.faults; fail = s.fail.items } };
+        record {
+          left = drop s.place s.bytes.items;
+          given = s.place;
+          calls = s.calls;
+          faults = s.faults;
+          fail = s.fail.items;
+        } };
 
     ghost invariant = { λ s. s.place ≤ vec_len s.bytes };
 }

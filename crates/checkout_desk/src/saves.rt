@@ -79,10 +79,10 @@ fn save_refusal(
     requires below { IsBelowRoot path.now }
     ensures refusal { IfOk result
         (λ refusal.
-            (scene : Scene) (now : ℕ)
-            → Sees scene rows.now now view.now busy taken
-            → refusal
-              ≡ first_refusal (save_tests scene view.now path.now ++ needs_room scene 1 ∷ [])) }
+        (scene : Scene) (now : ℕ)
+        → Sees scene rows.now now view.now busy taken
+        → refusal
+        ≡ first_refusal (save_tests scene view.now path.now ++ needs_room scene 1 ∷ [])) }
     ensures room { IfOk result (λ refusal. IfNone refusal (taken < row_limit)) }
     ensures private { IfOk result
         (λ refusal. IfNone refusal (SavesPrivate rows.now view.now path.now)) }

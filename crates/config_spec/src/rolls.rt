@@ -50,9 +50,10 @@ impl Model for Rolls {
     ghost Value = { Enrolled };
 
     ghost view = { λ fields.
-        record
-        { rolls = reverse fields.rolls.items;
-            room = vec_capacity fields.rolls - vec_len fields.rolls } };
+        record {
+          rolls = reverse fields.rolls.items;
+          room = vec_capacity fields.rolls - vec_len fields.rolls;
+        } };
 
     ghost invariant = { λ fields. Falls (map object_of (reverse fields.rolls.items)) };
 }

@@ -93,9 +93,9 @@ impl Picture {
     fn enter(&mut self, alloc: Global, keep: Keep, file: u8, call: &Call) -> Result<(), NoMemory>
         ensures { OnOk result
             ((d : Device)
-                → IsPicture (file_of file d) self.old.bytes.items self.old.image.items
-                → IsPicture (during file (event_of call.now d) (file_of file d))
-                  self.new.bytes.items self.new.image.items) }
+            → IsPicture (file_of file d) self.old.bytes.items self.old.image.items
+            → IsPicture (during file (event_of call.now d) (file_of file d))
+            self.new.bytes.items self.new.image.items) }
     {
         match call {
             Call::Write {
@@ -123,9 +123,9 @@ impl Picture {
     fn go_over(&mut self, alloc: Global, keep: Keep, file: u8, call: &Call) -> Result<(), NoMemory>
         ensures { OnOk result
             ((d : Device)
-                → IsPicture (file_of file d) self.old.bytes.items self.old.image.items
-                → IsPicture (after file (event_of call.now d) (file_of file d)) self.new.bytes.items
-                  self.new.image.items) }
+            → IsPicture (file_of file d) self.old.bytes.items self.old.image.items
+            → IsPicture (after file (event_of call.now d) (file_of file d)) self.new.bytes.items
+            self.new.image.items) }
     {
         match call {
             Call::Sync { file: other } => {
@@ -175,10 +175,10 @@ pub(crate) fn image_of(
     requires { 1 ≤ call }
     ensures { IfOk result
         (λ image.
-            (journal objects : List ℕ) (failed : ℕ)
-            → first_of file (fresh journal objects) ≡ first.now
-            → call ≤ length (device_of journal objects entries.now failed).calls + 1
-            → MayLeave file (device_of journal objects entries.now failed) call image.items) }
+        (journal objects : List ℕ) (failed : ℕ)
+        → first_of file (fresh journal objects) ≡ first.now
+        → call ≤ length (device_of journal objects entries.now failed).calls + 1
+        → MayLeave file (device_of journal objects entries.now failed) call image.items) }
 {
     let mut picture = Picture::of(alloc, first)?;
     let mut made = 0u64;

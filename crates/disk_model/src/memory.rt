@@ -232,9 +232,11 @@ impl Disk for MemoryDisk {
     ghost as_typed = { λ disk. refl };
 
     ghost counted = { λ disk.
-        record
-        { ticks = disk.replayed.ticks_fit; faults = disk.replayed.faults_fit;
-            told = disk.replayed.a_tick_each } };
+        record {
+          ticks = disk.replayed.ticks_fit;
+          faults = disk.replayed.faults_fit;
+          told = disk.replayed.a_tick_each;
+        } };
 
     fn length(&mut self, file: u8) -> Result<u64, DiskFault> {
         let length = self.bytes(file).len() as u64;

@@ -41,7 +41,7 @@ fn of_goals<E: Exists>(
     requires { 0 < length goals.now }
     ensures { Gives result
         (unless_missing (missing_goal make.now.rules (E.is_file files.now) goals.now)
-            (E.is_file files.now) (wanted make.now.rules goals.now)) }
+        (E.is_file files.now) (wanted make.now.rules goals.now)) }
 {
     if let Some(goal) = missing(make.rules(), files, goals) {
         return Err(Or::Is(GraphFault::NoGoal(goal.copy(alloc)?)));

@@ -61,8 +61,8 @@ pub(crate) fn number(numbers: &Numbers, path: &Path) -> Option<u32>
 fn put_path(alloc: Global, numbers: &mut Numbers, path: &Path, number: u32) -> Result<(), NoMemory>
     ensures { OnOk result
         ((other : List ℕ)
-            → get bytes_eq numbers.new other
-              ≡ with_number number path.now other (get bytes_eq numbers.old other)) }
+        → get bytes_eq numbers.new other
+        ≡ with_number number path.now other (get bytes_eq numbers.old other)) }
 {
     if !numbers.contains_key(path) {
         numbers.insert(path.copy(alloc)?, number)?;
@@ -74,8 +74,8 @@ fn put_path(alloc: Global, numbers: &mut Numbers, path: &Path, number: u32) -> R
 fn put(alloc: Global, numbers: &mut Numbers, paths: &[Path], number: u32) -> Result<(), NoMemory>
     ensures { OnOk result
         ((other : List ℕ)
-            → get bytes_eq numbers.new other
-              ≡ with_numbers number paths.now other (get bytes_eq numbers.old other)) }
+        → get bytes_eq numbers.new other
+        ≡ with_numbers number paths.now other (get bytes_eq numbers.old other)) }
 {
     for path in paths {
         put_path(alloc, numbers, path, number)?;
@@ -88,7 +88,7 @@ pub(crate) fn number_all<X: Makes>(alloc: Global, items: &[X]) -> Result<Numbers
     requires { length items.now < 2 ^ 32 }
     ensures { IfOk result
         (λ numbers.
-            (path : List ℕ) → get bytes_eq numbers path ≡ number_from X.targets 0 path items.now) }
+        (path : List ℕ) → get bytes_eq numbers path ≡ number_from X.targets 0 path items.now) }
 {
     let mut numbers = HashMap::new(alloc);
     for (index, item) in items.iter().enumerate() {

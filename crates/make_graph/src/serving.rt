@@ -64,8 +64,8 @@ fn infer_by<E: Exists>(
     requires { KnowsRules rules.now make.now }
     ensures { IfOk result
         (λ found.
-            found
-            ≡ inference_at make.now (E.is_file files.now) rule.now (stem_of rule.now.to path.now)) }
+        found
+        ≡ inference_at make.now (E.is_file files.now) rule.now (stem_of rule.now.to path.now)) }
 {
     let Some(stem) = path.as_bytes().strip_suffix(rule.to.as_bytes()) else {
         return Ok(None);
@@ -166,7 +166,7 @@ fn infer_for<E: Exists>(
     requires { KnowsRules rules.now make.now }
     ensures { IfOk result
         (λ found.
-            found ≡ inference_for make.now (E.is_file files.now) rule.now.targets rule.now.script) }
+        found ≡ inference_for make.now (E.is_file files.now) rule.now.targets rule.now.script) }
 {
     if rule.script.is_some() {
         return Ok(None);
@@ -207,8 +207,8 @@ fn put_without_rule(
     requires { KnowsRules rules.now make.now }
     ensures { OnOk result
         (others.new.keys
-            ≡ fold with_path others.old.keys
-              (filter (λ path. not (is_target make.now.rules path)) paths.now)) }
+        ≡ fold with_path others.old.keys
+        (filter (λ path. not (is_target make.now.rules path)) paths.now)) }
 {
     for path in paths {
         if !is_target(make, rules, path) && !others.contains(path) {

@@ -52,9 +52,9 @@ fn expand_for(
 ) -> Result<Expanded, NoMemory>
     ensures { IfOk result
         (λ expanded.
-            expanded
-            ≡ expansion make.now script.now (first_target serving.now.targets)
-              (first_of serving.now.prerequisites) serving.now.stem) }
+        expanded
+        ≡ expansion make.now script.now (first_target serving.now.targets)
+        (first_of serving.now.prerequisites) serving.now.stem) }
 {
     let root = Path::root();
     let target = first_target(serving.targets.as_slice(), &root);
@@ -132,7 +132,7 @@ fn missing<'a, E: Exists>(
     requires { KnowsUnits numbers.now units.now }
     ensures { option_copied result
         ≡ find (λ path. not (is_some (number_of units.now path) || E.is_file files.now path))
-          goals.now }
+        goals.now }
 {
     for goal in goals {
         if !is_known(numbers, units, files, goal) {
@@ -228,7 +228,7 @@ fn units_of_goals<E: Exists>(
     requires { 0 < length goals.now }
     ensures { Gives (result_items result)
         (graph_by make.now (servings make.now (E.is_file files.now) goals.now) (E.is_file files.now)
-            goals.now) }
+        goals.now) }
 {
     let rules = number_rules(alloc, make)?;
     let units = servings(alloc, make, &rules, files, goals)?;

@@ -328,7 +328,7 @@ fn read_plain(
     ensures { (bytes : List ℕ)
         → here.left ≡ length bytes
         → Answers result (read_fields plain_deeds code bytes cursor.old.rest.now)
-          cursor.new.rest.now }
+        cursor.new.rest.now }
 {
     match code {
         1 => read_mkview(alloc, cursor),

@@ -306,9 +306,9 @@ fn put_object(
     requires entries { length entries.now < 2 ^ 32 }
     ensures { OnOk result
         (out.new.items
-            ≡ out.old.items
-              ++ (text view.now
-                  ++ (listed text targets.now ++ (text script.now ++ listed entry entries.now)))) }
+        ≡ out.old.items
+        ++ (text view.now
+        ++ (listed text targets.now ++ (text script.now ++ listed entry entries.now)))) }
 {
     put_name(out, view)?;
     put_list(out, targets)?;

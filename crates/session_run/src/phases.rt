@@ -69,10 +69,10 @@ fn write_transcript<K: Sink, D: Disk>(
     requires few { length (state_of core.now.story).phase.lanes ≤ 64 }
     ensures ok { OnOk result
         (Appends (K.sight sink.old).held (K.sight sink.new).held
-            (transcript number (state_of core.now.story).phase (replies_of core.now.story))) }
+        (transcript number (state_of core.now.story).phase (replies_of core.now.story))) }
     ensures err { OnErr result
         (AppendsFront (K.sight sink.old).held (K.sight sink.new).held
-            (transcript number (state_of core.now.story).phase (replies_of core.now.story))) }
+        (transcript number (state_of core.now.story).phase (replies_of core.now.story))) }
     ensures kept { (K.sight sink.old).faults ≤ (K.sight sink.new).faults }
     ensures fault { OnWriteFault result (Rose (K.sight sink.old).faults (K.sight sink.new).faults) }
 {
@@ -95,13 +95,13 @@ pub(crate) fn run_phases<K: Sink, D: Disk, C: Clock>(
     requires runnable { IsRunnable phases.items }
     ensures ok { IfOk result
         (HasRun phases.items core.new.story
-            (outside_of (K.sight sink.old) (K.sight sink.new) (C.sight clock.old)
-                (C.sight clock.new))) }
+        (outside_of (K.sight sink.old) (K.sight sink.new) (C.sight clock.old)
+        (C.sight clock.new))) }
     ensures err { IfErr result
         (λ cut.
-            IsGivenUp cut phases.items core.new.story
-            (outside_of (K.sight sink.old) (K.sight sink.new) (C.sight clock.old)
-                (C.sight clock.new))) }
+        IsGivenUp cut phases.items core.new.story
+        (outside_of (K.sight sink.old) (K.sight sink.new) (C.sight clock.old)
+        (C.sight clock.new))) }
     ensures first { first_step core.new.story ≡ first_step core.old.story }
     ensures counted { KeepsCount core.old core.new }
     ensures fault { OnWriteFault result (Rose (K.sight sink.old).faults (K.sight sink.new).faults) }

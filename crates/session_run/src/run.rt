@@ -181,7 +181,7 @@ pub fn run_words<S: Source, K: Sink, D: Disk, C: Clock>(
         (record { before = D.sight disk; after = D.sight result.disk }) result.history }
     ensures accounted { is_opened result.history ≡ true
         → IsAccountedFor (record { before = D.sight disk; after = D.sight result.disk })
-          result.history }
+        result.history }
     ensures files { KeepsFiles (record { before = D.sight disk; after = D.sight result.disk })
         result.history }
     ensures damaged { FindsDamage result.status

@@ -55,8 +55,8 @@ pub(crate) fn session_given<S: Source>(
 ) -> Result<Vec<Phase>, Stop>
     ensures gives { IfOk result
         (λ phases.
-            GivesPhases (intake_of words.now (S.sight source.old) (S.sight source.new))
-            phases.items) }
+        GivesPhases (intake_of words.now (S.sight source.old) (S.sight source.new))
+        phases.items) }
     ensures stops { IfErr result
         (λ stop. HasStop stop (intake_of words.now (S.sight source.old) (S.sight source.new))) }
     ensures taken { TakesNoMore

@@ -32,8 +32,8 @@ fn push_lane<D: Disk>(
     requires upto { lane ≤ length (state_of core.now.story).phase.lanes }
     ensures { OnOk result
         (text.new.items
-            ≡ text.old.items
-              ++ render (state_of core.now.story).phase lane (replies_of core.now.story lane)) }
+        ≡ text.old.items
+        ++ render (state_of core.now.story).phase lane (replies_of core.now.story lane)) }
 {
     let lines = render(alloc, core.phase(), lane, core.replies(lane))?;
     text.extend_from_slice(lines.as_bytes())?;
@@ -45,9 +45,9 @@ fn push_lanes<D: Disk>(alloc: Global, text: &mut Vec<u8>, core: &Core<D>) -> Res
     requires few { length (state_of core.now.story).phase.lanes ≤ 64 }
     ensures { OnOk result
         (text.new.items
-            ≡ text.old.items
-              ++ lanes_text (state_of core.now.story).phase 1 (state_of core.now.story).phase.lanes
-                (replies_of core.now.story)) }
+        ≡ text.old.items
+        ++ lanes_text (state_of core.now.story).phase 1 (state_of core.now.story).phase.lanes
+        (replies_of core.now.story)) }
 {
     let mut lane = 1u32;
     let mut rest = core.phase().lanes.as_slice();
@@ -69,7 +69,7 @@ pub(crate) fn transcript<D: Disk>(
     requires few { length (state_of core.now.story).phase.lanes ≤ 64 }
     ensures { IfOk result
         (λ text.
-            text ≡ transcript number (state_of core.now.story).phase (replies_of core.now.story)) }
+        text ≡ transcript number (state_of core.now.story).phase (replies_of core.now.story)) }
 {
     let mut text = Vec::new(alloc);
     push_phase_line(alloc, &mut text, number)?;

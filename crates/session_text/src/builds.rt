@@ -122,9 +122,14 @@ impl Model for Asked {
     ghost Value = { Asked };
 
     ghost view = { λ s.
-        record
-        { file = s.file; own_only = s.own_only; rebuild = s.rebuild; jobs = s.jobs;
-            macros = s.macros; goals = s.goals.items } };
+        record {
+          file = s.file;
+          own_only = s.own_only;
+          rebuild = s.rebuild;
+          jobs = s.jobs;
+          macros = s.macros;
+          goals = s.goals.items;
+        } };
 }
 
 impl Asked {

@@ -62,7 +62,7 @@ fn rule(
 ) -> Result<Line, Or<SpecCause>>
     ensures { Gives result
         (rule_of place.line place.block pattern.now behind_config selector.now
-            (plain_options options.entry)) }
+        (plain_options options.entry)) }
 {
     let pattern = read_pattern(alloc, pattern)?;
     let selector = read_selector(alloc, behind_config, selector)?;
@@ -88,7 +88,7 @@ fn rule_with_options(
 ) -> Result<Line, Or<SpecCause>>
     ensures { Gives result
         (with_options place.line place.block pattern.now behind_config selector.now
-            (options_from words.entry no_options)) }
+        (options_from words.entry no_options)) }
 {
     match read_options(words) {
         None => Err(Or::Is(SpecCause::BadRule)),

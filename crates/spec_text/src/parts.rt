@@ -24,8 +24,8 @@ fn behind(bytes: &[u8], place: usize) -> &[u8]
 pub(crate) fn split_part<'a>(left: Option<&'a [u8]>, at: u8) -> Option<(&'a [u8], Option<&'a [u8]>)>
     ensures { MatchOption result (parts_left at (option_copied left.entry) ≡ [])
         (λ part.
-            parts_left at (option_copied left.entry)
-            ≡ part.0.now ∷ parts_left at (option_copied part.1)) }
+        parts_left at (option_copied left.entry)
+        ≡ part.0.now ∷ parts_left at (option_copied part.1)) }
 {
     let Some(bytes) = left else {
         return None;

@@ -78,9 +78,11 @@ impl<T: Storied> Model for Held<T> {
     ghost Value = { Hold T.Told };
 
     ghost view = { λ h.
-        record
-        { lock = h.seat.table_id; story = noted_of h.seat.me.0.stage;
-            weight = h.seat.me.0.weight } };
+        record {
+          lock = h.seat.table_id;
+          story = noted_of h.seat.me.0.stage;
+          weight = h.seat.me.0.weight;
+        } };
 
     ghost invariant = { λ h.
         ((ticket : ℕ) × (h.seat.me.0.stage ≡ Turn ticket (noted_of h.seat.me.0.stage)))
@@ -96,8 +98,8 @@ impl<T: Storied> TurnLock<T> {
         requires { 1 ≤ weight }
         ensures ok { IfOk result
             (λ r.
-                (r.1.lock ≡ r.0.id) × (r.0.whole ≡ weight) × (r.1.seen ≡ T.story value)
-                × (r.1.weight ≡ weight)) }
+            (r.1.lock ≡ r.0.id) × (r.0.whole ≡ weight) × (r.1.seen ≡ T.story value)
+            × (r.1.weight ≡ weight)) }
         ensures err { IfErr result (λ back. back ≡ value) }
     {
         let opening = Opening {

@@ -23,10 +23,10 @@ fn noted_by_lanes<R: Threads + Wait + Sync>(
     requires { (1 ≤ lanes) × (lanes < 2 ^ 16) }
     ensures { IfSome result
         (λ tally.
-            (lane : ℕ)
-            → lane < lanes
-            → Sublist (map (λ n. record { lane = lane; number = n }) (range_with_len 0 count))
-              tally.notes.items) }
+        (lane : ℕ)
+        → lane < lanes
+        → Sublist (map (λ n. record { lane = lane; number = n }) (range_with_len 0 count))
+        tally.notes.items) }
 {
     let empty = Tally {
         notes: Vec::new(alloc),

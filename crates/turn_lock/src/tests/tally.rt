@@ -40,7 +40,7 @@ pub fn write_notes<R: Wait>(
     ensures own { (result.0.lock ≡ pass.lock) × (result.0.weight ≡ pass.weight) }
     ensures noted { OnTrue result.1
         (Sublist (map (λ n. record { lane = lane; number = n }) (range_with_len 0 count))
-            result.0.seen) }
+        result.0.seen) }
 {
     let mut pass = pass;
     for number in 0..count {
@@ -68,10 +68,10 @@ pub fn run_lanes<R: Threads + Wait + Sync>(
     ensures own { (result.0.lock ≡ pass.lock) × (result.0.weight ≡ pass.weight) }
     ensures noted { OnTrue result.1
         ((lane : ℕ)
-            → first ≤ lane
-            → lane < first + lanes
-            → Sublist (map (λ n. record { lane = lane; number = n }) (range_with_len 0 count))
-              result.0.seen) }
+        → first ≤ lane
+        → lane < first + lanes
+        → Sublist (map (λ n. record { lane = lane; number = n }) (range_with_len 0 count))
+        result.0.seen) }
 {
     if lanes == 1 {
         return write_notes(rt, lock, pass, first, count);
@@ -88,11 +88,11 @@ pub fn run_lanes<R: Threads + Wait + Sync>(
             ensures own { (result.0.lock ≡ one.lock) × (result.0.weight ≡ one.weight) }
             ensures noted { OnTrue result.1
                 ((lane : ℕ)
-                    → first ≤ lane
-                    → lane < first + here
-                    → Sublist
-                      (map (λ n. record { lane = lane; number = n }) (range_with_len 0 count))
-                      result.0.seen) }
+                → first ≤ lane
+                → lane < first + here
+                → Sublist
+                (map (λ n. record { lane = lane; number = n }) (range_with_len 0 count))
+                result.0.seen) }
         { run_lanes(rt, lock, one, first, here, count) },
         || -> (Pass<Tally>, bool)
             requires { IsSync R.row × (two.lock ≡ lock.now.id) × (1 ≤ others)
@@ -100,11 +100,11 @@ pub fn run_lanes<R: Threads + Wait + Sync>(
             ensures own { (result.0.lock ≡ two.lock) × (result.0.weight ≡ two.weight) }
             ensures noted { OnTrue result.1
                 ((lane : ℕ)
-                    → next ≤ lane
-                    → lane < next + others
-                    → Sublist
-                      (map (λ n. record { lane = lane; number = n }) (range_with_len 0 count))
-                      result.0.seen) }
+                → next ≤ lane
+                → lane < next + others
+                → Sublist
+                (map (λ n. record { lane = lane; number = n }) (range_with_len 0 count))
+                result.0.seen) }
         { run_lanes(rt, lock, two, next, others, count) },
     );
     (lock.join(one, two), noted && others_noted)

@@ -11,4 +11,4 @@ invariant-loop-path g l =
     let own = own_of l.making.written.now in
     let output = output_at l.making.path.now l.making.before in
     Carried g.F.Files.stands g.F.Files.broken g.F.Files.follows l.initial.reads.keys (with_parts own output (put l.paths) (made_of l.initial.made))
-        (λ (u : Unit {0}). with_parts own output (put (drop l.path-index l.paths)) (made_of l.made)) (Ok tt) l.reads.keys l.initial.files l.files
+    (λ (u : Unit {0}). with_parts own output (put (drop l.path-index l.paths)) (made_of l.made)) (Ok tt) l.reads.keys l.initial.files l.files

@@ -10,7 +10,7 @@ abbrev pub invariant-loop-innermost : goal.invariant-loop-innermost
 invariant-loop-innermost g l =
     let pp = preprocessing (own_of l.making.written.now) l.directories (output_at l.making.path.now l.making.before) in
     Carried g.F.Files.stands g.F.Files.broken g.F.Files.follows l.initial.reads.keys (expanded depth_limit pp l.fn.text (made_of l.initial.made))
-        (λ (u : Unit {0}). resumed pp (rests_of l.inside.items) (made_of l.made)) (Ok tt) l.reads.keys l.initial.files l.files
+    (λ (u : Unit {0}). resumed pp (rests_of l.inside.items) (made_of l.made)) (Ok tt) l.reads.keys l.initial.files l.files
 
 abbrev pub decreases-loop-innermost : goal.decreases-loop-innermost
 decreases-loop-innermost g l = left_of (output_at l.making.path.now l.making.before) (made_of l.made) (length l.inside.items)

@@ -78,7 +78,7 @@ returns-clause-went g c =
     let more = resumed pp (past ∷ below) in
     let goes = resumed-included pp (rest_of c.args.innermost) c.in-Some.line.now past c.in-Some-2.path below made lines is in
     let enters = ap (λ (rests : List (List ℕ)). resumed pp rests after) c.in_ok-enter.ensures.rests
-        ∙ ap (λ (n : ℕ). and_then (expanded (depth_limit - n) pp c.in_ok-text.text after) (unless_fault more)) deeper in
+    ∙ ap (λ (n : ℕ). and_then (expanded (depth_limit - n) pp c.in_ok-text.text after) (unless_fault more)) deeper in
     carried_as (ap (λ (n : ℕ). and_then (includes (depth_limit - n) pp c.in-Some-2.path made) (unless_fault more)) levels ∙ sym goes)
     (carried_then g.met.F.Files.transitive more (c.in_ok-text.ensures.went c.args.made.now.bytes.items)
     (carried_as enters (carried_here _ _ _ g.met.F.Files.reflexive _ (λ (u : Unit {0}). resumed pp (rests_of c.enter.new.inside.items) after) tt _)))

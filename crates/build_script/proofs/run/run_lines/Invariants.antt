@@ -7,4 +7,4 @@ use Rattle.build_script.proofs.run.run_lines.Given as goal
 abbrev pub invariant-loop-line : goal.invariant-loop-line
 invariant-loop-line g l =
     Carried g.F.Files.stands g.F.Files.broken g.F.Files.follows l.initial.progress.reads.keys (after_lines l.targets.keys l.lines (state_of l.initial.progress))
-        (λ (u : Unit {0}). after_lines l.targets.keys (drop l.line-index l.lines) (state_of l.progress)) (Ok tt) l.progress.reads.keys l.initial.files l.files
+    (λ (u : Unit {0}). after_lines l.targets.keys (drop l.line-index l.lines) (state_of l.progress)) (Ok tt) l.progress.reads.keys l.initial.files l.files
