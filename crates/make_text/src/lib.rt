@@ -26,6 +26,7 @@ pub mod makefiles;
 #[cfg(test)]
 mod piece_tests;
 mod pieces;
+mod readings;
 mod rule_lines;
 pub mod rules;
 pub mod serving;
