@@ -15,6 +15,7 @@ pub mod Contents
 pub mod Statements
 pub mod MacroEntries
 pub mod RuleLines
+pub mod ReadingSteps
 pub mod Grammar
 pub mod Numbers
 pub mod Serving

@@ -137,7 +137,7 @@ fn split_sides(line: &[u8]) -> (&[u8], &[u8])
 }
 
 /// The paths, each of them once.
-fn each_once(alloc: Global, paths: Vec<Path>) -> Result<List<Path>, AllocError>
+pub(crate) fn each_once(alloc: Global, paths: Vec<Path>) -> Result<List<Path>, AllocError>
     ensures { IfOk result (λ once. once ≡ each_once paths.items) }
 {
     let mut once = IndexSet::new(alloc);
