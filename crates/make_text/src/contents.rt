@@ -31,13 +31,21 @@ impl Model for Makefile {
 
     ghost Value = { Contents };
 
-    ghost view = { λ make. record { rules = make.rules.items; suffix_rules = make.suffix_rules.items; phony = make.phony.keys; macros = macros_of make.macros } };
+    ghost view = { λ make.
+        record {
+          rules = make.rules.items;
+          suffix_rules = make.suffix_rules.items;
+          phony = make.phony.keys;
+          macros = macros_of make.macros;
+        } };
 }
 
 impl Makefile {
     /// A makefile of these rules alone, without phony targets and macros. Takes no memory.
     pub fn of_rules(alloc: Global, rules: Vec<MakeRule>, suffix_rules: Vec<SuffixRule>) -> Makefile
-        ensures { result ≡ record { rules = rules.items; suffix_rules = suffix_rules.items; phony = []; macros = [] } }
+        ensures { result
+            ≡ record
+            { rules = rules.items; suffix_rules = suffix_rules.items; phony = []; macros = [] } }
     {
         Makefile {
             rules,
@@ -79,7 +87,10 @@ impl Makefile {
         first: Option<&Path>,
         stem: &[u8],
     ) -> Result<Expanded, NoMemory>
-        ensures { IfOk result (λ expanded. expanded ≡ expansion self.now script.now target.now (option_copied first.entry) stem.now) }
+        ensures { IfOk result
+            (λ expanded.
+            expanded
+            ≡ expansion self.now script.now target.now (option_copied first.entry) stem.now) }
     {
         let automatic = automatic_of(target, first, stem);
         Ok(answer(expand(alloc, &self.macros, &automatic, script)?))

@@ -130,7 +130,8 @@ impl<'a> Expanding<'a> {
         name: &[u8],
     ) -> Result<Step, NoMemory>
         requires { RefersSafely (macros_of macros.now) self.old }
-        ensures { IfOk result (λ step. Referred (macros_of macros.now) name.now self.old self.new step) }
+        ensures { IfOk result
+            (λ step. Referred (macros_of macros.now) name.now self.old self.new step) }
     {
         let Some(index) = macros.find(alloc, name)? else {
             return Ok(Step::Goes);
@@ -164,7 +165,10 @@ impl<'a> Expanding<'a> {
         part: Part<'_>,
     ) -> Result<Step, NoMemory>
         requires { RefersSafely (macros_of macros.now) self.old }
-        ensures { IfOk result (λ step. Took (macros_of macros.now) (automatic_of automatic.now) part.entry self.old self.new step) }
+        ensures { IfOk result
+            (λ step.
+            Took (macros_of macros.now) (automatic_of automatic.now) part.entry self.old
+            self.new step) }
     {
         match part {
             Part::Bytes(bytes) => self.written.extend_from_slice(bytes)?,
@@ -184,8 +188,15 @@ impl<'a> Expanding<'a> {
     ) -> Result<Step, NoMemory>
         requires apart { HasNamesApart (macros_of macros.now) }
         requires runs { IsSomeRun (macros_of macros.now) (automatic_of automatic.now) self.old }
-        ensures went { IfOk result (λ step. (total : Expansion) → IsRunning (macros_of macros.now) (automatic_of automatic.now) total [] self.old → Went (macros_of macros.now) (automatic_of automatic.now) total step self.new) }
-        ensures falls { IfOk result (λ step. FallsBelow (work_of (macros_of macros.now) self.old) step (work_of (macros_of macros.now) self.new)) }
+        ensures went { IfOk result
+            (λ step.
+            (total : Expansion)
+            → IsRunning (macros_of macros.now) (automatic_of automatic.now) total [] self.old
+            → Went (macros_of macros.now) (automatic_of automatic.now) total step self.new) }
+        ensures falls { IfOk result
+            (λ step.
+            FallsBelow (work_of (macros_of macros.now) self.old) step
+            (work_of (macros_of macros.now) self.new)) }
     {
         if self.rest.is_empty() {
             return Ok(self.end());
@@ -218,7 +229,10 @@ pub(crate) fn expand<'a>(
     automatic: &Automatic<'a>,
     text: &'a [u8],
 ) -> Result<Outcome, NoMemory>
-    ensures { IfOk result (λ outcome. IsOutcome (expansion_of (macros_of macros.now) (automatic_of automatic.now) text.now) outcome) }
+    ensures { IfOk result
+        (λ outcome.
+        IsOutcome (expansion_of (macros_of macros.now) (automatic_of automatic.now) text.now)
+        outcome) }
 {
     let count = macros.len();
     let mut expanding = Expanding::of(alloc, count, text)?;

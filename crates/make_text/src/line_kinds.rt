@@ -132,7 +132,9 @@ fn undecided(position: Position) -> Kind<'static>
 /// The kind that the byte at a place decides.
 fn decided(line: &[u8], index: usize) -> Kind<'_>
     requires { index < length line.now }
-    ensures { seen result ≡ onto (take index line.now) (decided (slice_index line.now index) (drop (index + 1) line.now)) }
+    ensures { seen result
+        ≡ onto (take index line.now)
+        (decided (slice_index line.now index) (drop (index + 1) line.now)) }
 {
     let (before, behind) = (&line[..index], &line[index + 1..]);
     if line[index] == b'=' {

@@ -56,7 +56,10 @@ impl<'a> LogicalLines<'a> {
 
     /// The next line. Takes time linear in it.
     pub(crate) fn next(&mut self, alloc: Global) -> Result<Option<LogicalLine>, NoMemory>
-        ensures { IfOk result (λ line. MatchOption line ((self.old ≡ []) × (self.new ≡ [])) (λ line. self.old ≡ line ∷ self.new)) }
+        ensures { IfOk result
+            (λ line.
+            MatchOption line ((self.old ≡ []) × (self.new ≡ []))
+            (λ line. self.old ≡ line ∷ self.new)) }
     {
         if self.rest.is_empty() {
             return Ok(None);
@@ -77,7 +80,11 @@ fn first_line<'a>(
     number: u32,
 ) -> Result<(Text, &'a [u8], u32), NoMemory>
     requires { 0 < length text.now }
-    ensures { IfOk result (λ cut. lines_from false number (slice_split is_newline text.now) ≡ record { number = number; bytes = cut.0 } ∷ lines_from false cut.2 (slice_split is_newline cut.1.now)) }
+    ensures { IfOk result
+        (λ cut.
+        lines_from false number (slice_split is_newline text.now)
+        ≡ record { number = number; bytes = cut.0 }
+        ∷ lines_from false cut.2 (slice_split is_newline cut.1.now)) }
 {
     let (line, behind) = cut_line(text);
     let Some(rest) = behind else {
@@ -140,7 +147,10 @@ fn join_lines<'a>(
     text: &'a [u8],
     first: u32,
 ) -> Result<(&'a [u8], u32), NoMemory>
-    ensures { IfOk result (λ left. JoinsLine bytes.old.items (lines_from true first (slice_split is_newline text.now)) bytes.new.items (lines_from false left.1 (slice_split is_newline left.0.now))) }
+    ensures { IfOk result
+        (λ left.
+        JoinsLine bytes.old.items (lines_from true first (slice_split is_newline text.now))
+        bytes.new.items (lines_from false left.1 (slice_split is_newline left.0.now))) }
 {
     let mut rest = text;
     let mut number = first;

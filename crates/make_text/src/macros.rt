@@ -70,7 +70,8 @@ impl MacroTable {
     /// Defines a macro: a name that is there keeps its place and takes the value, unless it is fixed and this is not, and a
     /// new one goes last.
     pub(crate) fn define(&mut self, name: Text, defined: Defined) -> Result<(), NoMemory>
-        ensures { OnOk result (self.new ≡ with_definition (definition_in (name, defined)) self.old) }
+        ensures { OnOk result
+            (self.new ≡ with_definition (definition_in (name, defined)) self.old) }
     {
         if self.keeps(&name, defined.is_fixed) {
             return Ok(());

@@ -100,7 +100,9 @@ fn with_script(
     below: &[&[u8]],
 ) -> Result<Vec<MakeRule>, Or<u32>>
     requires { number ≤ 100000 }
-    ensures { Gives (result_items result) (with_script number (Some rule) (has_script (map (λ line. line.now) below.now)) (below_rule (number + 1) (map (λ line. line.now) below.now))) }
+    ensures { Gives (result_items result)
+        (with_script number (Some rule) (has_script (map (λ line. line.now) below.now))
+        (below_rule (number + 1) (map (λ line. line.now) below.now))) }
 {
     if !has_script(below) {
         return Err(Or::Is(number));
@@ -128,7 +130,9 @@ fn rule_at(
     below: &[&[u8]],
 ) -> Result<Vec<MakeRule>, Or<u32>>
     requires { number ≤ 100000 }
-    ensures { Gives (result_items result) (with_script number (rule_of line.now) (has_script (map (λ line. line.now) below.now)) (below_rule (number + 1) (map (λ line. line.now) below.now))) }
+    ensures { Gives (result_items result)
+        (with_script number (rule_of line.now) (has_script (map (λ line. line.now) below.now))
+        (below_rule (number + 1) (map (λ line. line.now) below.now))) }
 {
     match read_rule(alloc, line)? {
         Some(rule) => with_script(alloc, number, rule, below),

@@ -37,7 +37,16 @@ impl Model for RuleLine {
 
     ghost Value = { RuleLine };
 
-    ghost view = { λ r. record { file = r.file.value; line = r.line; targets = r.targets; prerequisites = r.prerequisites; is_group = r.is_group; is_special = r.is_special; script = r.script } };
+    ghost view = { λ r.
+        record {
+          file = r.file.value;
+          line = r.line;
+          targets = r.targets;
+          prerequisites = r.prerequisites;
+          is_group = r.is_group;
+          is_special = r.is_special;
+          script = r.script;
+        } };
 }
 
 /// What was read so far. Contracts see the rule lines with the newest first.
@@ -59,7 +68,17 @@ impl Model for Reading {
 
     ghost Value = { Reading };
 
-    ghost view = { λ r. record { lines = r.lines; targets = r.targets; files = r.files; macros = r.macros; suffixes = r.suffixes.keys; phony = r.phony.keys; rules = reverse r.rules.items; takes_script = r.takes_script } };
+    ghost view = { λ r.
+        record {
+          lines = r.lines;
+          targets = r.targets;
+          files = r.files;
+          macros = r.macros;
+          suffixes = r.suffixes.keys;
+          phony = r.phony.keys;
+          rules = reverse r.rules.items;
+          takes_script = r.takes_script;
+        } };
 }
 
 /// The fault of this cause at a line of a file.
@@ -97,7 +116,8 @@ fn put_suffixes(alloc: Global, set: &mut IndexSet<Path>, paths: &[Path]) -> Resu
 
 /// The targets that are not special.
 fn not_special(alloc: Global, targets: &[Path]) -> Result<Vec<Path>, NoMemory>
-    ensures { IfOk result (λ plain. plain.items ≡ filter (λ target. not (is_special target)) targets.now) }
+    ensures { IfOk result
+        (λ plain. plain.items ≡ filter (λ target. not (is_special target)) targets.now) }
 {
     let mut plain = Vec::new(alloc);
     for target in targets {

@@ -52,7 +52,8 @@ fn has_semicolon(bytes: &[u8]) -> bool
 
 /// Whether what stands behind a `:` begins with another, or with a `=`.
 fn goes_on(behind: &[u8]) -> bool
-    ensures { result ≡ (is_byte 58 (slice_get behind.now 0) || is_byte 61 (slice_get behind.now 0)) }
+    ensures { result
+        ≡ (is_byte 58 (slice_get behind.now 0) || is_byte 61 (slice_get behind.now 0)) }
 {
     matches!(behind.first(), Some(b':' | b'='))
 }
@@ -140,7 +141,9 @@ fn are_suffixes(words: &[&[u8]]) -> bool
 
 /// The fault of a rule line's words, its paths aside.
 fn words_fault(is_group: bool, targets: &[&[u8]], prerequisites: &[&[u8]]) -> Option<MakeCause>
-    ensures { result ≡ line_words_fault is_group (map (λ word. word.now) targets.now) (map (λ word. word.now) prerequisites.now) }
+    ensures { result
+        ≡ line_words_fault is_group (map (λ word. word.now) targets.now)
+        (map (λ word. word.now) prerequisites.now) }
 {
     if targets.is_empty() || is_group && has_special(targets) {
         return Some(MakeCause::BadLine);
@@ -186,7 +189,8 @@ fn rule_of_sides(
 
 /// A text expanded outside scripts.
 fn expand_line(alloc: Global, macros: &MacroTable, text: &[u8]) -> Result<Outcome, NoMemory>
-    ensures { IfOk result (λ outcome. IsOutcome (expanded_by (macros_of macros.now) text.now) outcome) }
+    ensures { IfOk result
+        (λ outcome. IsOutcome (expanded_by (macros_of macros.now) text.now) outcome) }
 {
     let automatic = Automatic {
         target: &[],
@@ -198,7 +202,9 @@ fn expand_line(alloc: Global, macros: &MacroTable, text: &[u8]) -> Result<Outcom
 
 /// The bytes of an expansion that has no fault.
 fn only_bytes(outcome: Outcome) -> Result<Text, MakeCause>
-    ensures { (total : Expansion) → IsOutcome total outcome → result ≡ or_cause (expansion_fault total) total.bytes }
+    ensures { (total : Expansion)
+        → IsOutcome total outcome
+        → result ≡ or_cause (expansion_fault total) total.bytes }
 {
     match outcome {
         Outcome::TooLong => Err(MakeCause::LineTooLong),
@@ -216,7 +222,12 @@ fn fits(before: usize, mark: usize, behind: usize) -> bool
 
 /// The bytes of an expansion that has no fault and is not too long behind what stands before it and a mark.
 fn bytes_behind(before: &Text, mark: &[u8], outcome: Outcome) -> Result<Text, MakeCause>
-    ensures { (total : Expansion) → IsOutcome total outcome → result ≡ or_cause (expansion_fault (followed (plain before.now) (followed (plain mark.now) total))) total.bytes }
+    ensures { (total : Expansion)
+        → IsOutcome total outcome
+        → result
+        ≡ or_cause
+        (expansion_fault (followed (plain before.now) (followed (plain mark.now) total)))
+        total.bytes }
 {
     let (before, mark) = (before.as_bytes().len(), mark.len());
     match outcome {
@@ -252,7 +263,11 @@ fn mark_of(before: &[u8]) -> &'static [u8]
 
 /// Both sides of a rule line expanded, by the first and by what the second gave.
 fn both_sides(first: Text, mark: &[u8], outcome: Outcome) -> Result<(Text, Text), MakeCause>
-    ensures { (total : Expansion) → IsOutcome total outcome → result ≡ or_cause (expansion_fault (followed (plain first) (followed (plain mark.now) total))) (first, total.bytes) }
+    ensures { (total : Expansion)
+        → IsOutcome total outcome
+        → result
+        ≡ or_cause (expansion_fault (followed (plain first) (followed (plain mark.now) total)))
+        (first, total.bytes) }
 {
     match bytes_behind(&first, mark, outcome) {
         Ok(second) => Ok((first, second)),
@@ -325,7 +340,8 @@ pub(crate) fn read_include_line(
 
 /// The paths behind `include` by what it expands to.
 fn include_of_text(alloc: Global, text: &[u8]) -> Result<List<Path>, Or<MakeCause>>
-    ensures { Gives result (or_cause (include_words_fault (words_of text.now)) (words_of text.now)) }
+    ensures { Gives result
+        (or_cause (include_words_fault (words_of text.now)) (words_of text.now)) }
 {
     let words = words(alloc, text)?;
     if words.is_empty() {

@@ -106,7 +106,8 @@ pub fn read_path(alloc: Global, word: &[u8]) -> Result<Option<Path>, NoMemory>
 
 /// The words as paths below the root, where all of them are so.
 pub(crate) fn read_paths(alloc: Global, words: &[&[u8]]) -> Result<Option<Vec<Path>>, NoMemory>
-    ensures { IfOk result (λ paths. option_map (λ v. v.items) paths ≡ paths_of (map (λ word. word.now) words.now)) }
+    ensures { IfOk result
+        (λ paths. option_map (λ v. v.items) paths ≡ paths_of (map (λ word. word.now) words.now)) }
 {
     let mut paths = Vec::new(alloc);
     for word in words {
@@ -166,7 +167,8 @@ fn rule_from(
     targets: Vec<Path>,
     prerequisites: Vec<Path>,
 ) -> Result<Option<MakeRule>, AllocError>
-    ensures { IfOk result (λ rule. rule ≡ rule_from (Some targets.items) (Some prerequisites.items)) }
+    ensures { IfOk result
+        (λ rule. rule ≡ rule_from (Some targets.items) (Some prerequisites.items)) }
 {
     let [target] = targets.as_slice() else {
         return Ok(None);
