@@ -67,6 +67,20 @@ fn a_first_build_is_built(rt: HostRuntime) -> Result<(), Fail> {
     )
 }
 
+// The output is `ha`, `hi`, `in 3` and `hi`, a line each.
+#[test]
+fn a_script_makes_forms_of_a_text(rt: HostRuntime) -> Result<(), Fail> {
+    assert_build(
+        &rt,
+        rt.alloc(),
+        "save v Makefile\n|out: in\n|\tsub i a in > out\n|\thead 1 in >> out\n|\tlink in >> out\nsave v in\n|hi\n",
+        SAVED,
+        "clearmake v out",
+        "4 clearmake ok\n  out built 14 83b45365182bf2fe12258f3634270c50656612bed4b859b7a953840b6ff9ed23\n",
+        Status::Good,
+    )
+}
+
 #[test]
 fn a_clearmake_is_refused(rt: HostRuntime) -> Result<(), Fail> {
     for (makefile, command, refusal) in [
@@ -116,7 +130,8 @@ fn a_unit_fails(rt: HostRuntime) -> Result<(), Fail> {
         ("out", "out: none\n|\techo hi > out", "U1 NoRule none"),
         ("d/out", "d/out:\n|\techo hi > d/out", "U2 NoDirectory d"),
         ("out", "out:\n|\tcat none > out", "X1 Absent none"),
-        ("out", "out:\n|\tfail", "X2 BadLine 1"),
+        ("out", "out:\n|\tcp in out", "X2 BadLine 1"),
+        ("out", "out:\n|\t@fail", "X5 Failed 1"),
         ("out", "out:\n|\techo hi > other", "X6 StrayWrite other"),
         ("out", "out:\n|\t@", "X7 NotWritten out"),
     ] {
