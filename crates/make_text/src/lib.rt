@@ -13,6 +13,8 @@
 #![tactic(auto)]
 
 pub mod contents;
+#[cfg(test)]
+mod expansion_tests;
 mod expansions;
 pub mod laws;
 mod line_kinds;
