@@ -14,6 +14,7 @@ use cc_names::texts::Text;
 use cc_outside::{MemorySource, StdSink, SystemClock};
 use disk_model::FileDisk;
 use session_run::{Status, run_words};
+use std::hash::RandomState;
 use std::io;
 use std::process::ExitCode;
 
@@ -34,8 +35,12 @@ fn run_session(rt: &HostRuntime, text: &str) -> Result<Status, NoMemory> {
     let mut source = MemorySource::new(alloc, text.as_bytes(), &[])?;
     let mut sink = StdSink::new(io::writer(rt));
     let mut clock = SystemClock::new(rt.clone()?);
+    let Ok(hashing) = RandomState::new(rt) else {
+        return Err(NoMemory);
+    };
     let ended = run_words(
         alloc,
+        hashing,
         words.as_slice(),
         &mut source,
         &mut sink,
