@@ -29,8 +29,8 @@ pub record CountsFrom (opened after : Sight) (story : List Told) : Type 0 where
   pub counts : CountsSteps steps opened ended
   pub settled : Settles (is_faulted (state_of story).ends) ended after
 
--- *Whose fault*: opening counted no fault, and from then on the count rose just at the faults of the history. So no row is
--- committed by a call under which the disk failed, and no command is blamed for the fault of another.
+-- *Whose fault*: opening counted no fault, and from then on the count rose just at the faults of the history, by the counts of
+-- some disk between one step and the next. That these are the counts between two turns is said by the calls of `Core`.
 pub record IsAccountedFor (disk : Change Sight) (story : List Told) : Type 0 where
   pub opened : Sight
   pub sound : opened.faults ≡ disk.before.faults

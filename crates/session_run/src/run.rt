@@ -148,9 +148,10 @@ fn run_session<K: Sink, D: Disk, C: Clock>(
 
 /// Runs the session that the words ask for: reads it from the source, opens the base that the disk stands for, runs the
 /// phases in order, writes the transcript of each when its lanes have ended, and settles the journal. The disk comes back in
-/// every case, and unless a session was read no call was made on it. Names are found by hashing them so: with random keys nobody
-/// can choose names that make a look-up slow, and the answers are the same with any. Takes time linear in the journal, in the square of the
-/// targets of one object there, and in the session, and what the scripts of its builds take.
+/// every case, and unless a session was read no call was made on it. Names in the base are found by hashing them so: with random
+/// keys nobody can choose names that make a look-up there slow, and the answers are the same with any. Takes time linear in the
+/// journal and in the session, for each entry of an object there in the targets of the object that it names, and what the scripts
+/// of its builds take.
 pub fn run_words<S: Source, K: Sink, D: Disk, C: Clock>(
     alloc: Global,
     hashing: RandomState,
