@@ -1,0 +1,4 @@
+pub mod Files
+pub mod Joins
+mod WorkedDraws
+mod WorkedSessions
