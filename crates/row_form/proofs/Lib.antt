@@ -8,3 +8,4 @@ pub mod Joins
 pub mod Members
 pub mod Steps
 mod WorkedPlaces
+mod WorkedRows

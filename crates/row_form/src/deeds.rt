@@ -16,6 +16,7 @@ use cc_names::paths::Path;
 use cc_names::rows::{Deed, Kind, Out, ReadOf, Stored, TypeKind};
 use cc_names::texts::Text;
 use std::alloc::Global;
+use std::hash::RandomState;
 
 fn read_mkview(alloc: Global, cursor: &mut Cursor<'_>) -> Result<Deed, Or<Unread>>
     ensures { Answers result (read_mkview cursor.old.rest.now) cursor.new.rest.now }
@@ -232,11 +233,16 @@ fn read_labels(alloc: Global, cursor: &mut Cursor<'_>) -> Result<Deed, Or<Unread
 /// What every publish has before its outputs.
 type Record = (Name, (List<Path>, (Text, List<ReadOf>)));
 
-fn read_record(alloc: Global, cursor: &mut Cursor<'_>, form: u8) -> Result<Record, Or<Unread>>
+fn read_record(
+    alloc: Global,
+    hashing: RandomState,
+    cursor: &mut Cursor<'_>,
+    form: u8,
+) -> Result<Record, Or<Unread>>
     ensures { Answers result (read_record form cursor.old.rest.now) cursor.new.rest.now }
 {
     let view: Name = Field::read(alloc, cursor)?;
-    let targets = read_targets(alloc, cursor, form)?;
+    let targets = read_targets(alloc, hashing, cursor, form)?;
     let script: Text = Field::read(alloc, cursor)?;
     let entries = read_entries(alloc, cursor)?;
     Ok((view, (targets, (script, entries))))
@@ -257,10 +263,15 @@ fn read_outputs(
     Err(Or::Is(here))
 }
 
-fn read_publish(alloc: Global, cursor: &mut Cursor<'_>, form: u8) -> Result<Deed, Or<Unread>>
+fn read_publish(
+    alloc: Global,
+    hashing: RandomState,
+    cursor: &mut Cursor<'_>,
+    form: u8,
+) -> Result<Deed, Or<Unread>>
     ensures { Answers result (read_publish form cursor.old.rest.now) cursor.new.rest.now }
 {
-    let record = read_record(alloc, cursor, form)?;
+    let record = read_record(alloc, hashing, cursor, form)?;
     let (view, (targets, (script, entries))) = record;
     let outputs = read_outputs(alloc, cursor, targets.len())?;
     Ok(Deed::Publish {
@@ -303,10 +314,15 @@ fn read_stored_outputs(
     Err(Or::Is(here))
 }
 
-fn read_publish_at(alloc: Global, cursor: &mut Cursor<'_>, form: u8) -> Result<Deed, Or<Unread>>
+fn read_publish_at(
+    alloc: Global,
+    hashing: RandomState,
+    cursor: &mut Cursor<'_>,
+    form: u8,
+) -> Result<Deed, Or<Unread>>
     ensures { Answers result (read_publish_at form cursor.old.rest.now) cursor.new.rest.now }
 {
-    let record = read_record(alloc, cursor, form)?;
+    let record = read_record(alloc, hashing, cursor, form)?;
     let (view, (targets, (script, entries))) = record;
     let outputs = read_stored_outputs(alloc, cursor, targets.len())?;
     Ok(Deed::PublishAt {
@@ -359,6 +375,7 @@ fn read_plain(
 /// The code and the fields of the deed of a row of this first byte.
 pub(crate) fn read_deed(
     alloc: Global,
+    hashing: RandomState,
     cursor: &mut Cursor<'_>,
     form: u8,
 ) -> Result<Deed, Or<Unread>>
@@ -366,8 +383,8 @@ pub(crate) fn read_deed(
 {
     let here = cursor.unread();
     match cursor.byte()? {
-        17 => read_publish(alloc, cursor, form),
-        23 => read_publish_at(alloc, cursor, form),
+        17 => read_publish(alloc, hashing, cursor, form),
+        23 => read_publish_at(alloc, hashing, cursor, form),
         code if form == 1 => read_plain(alloc, cursor, code, here),
         _ => Err(Or::Is(here)),
     }

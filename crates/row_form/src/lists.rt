@@ -16,6 +16,7 @@ use cc_names::paths::Path;
 use cc_names::rows::{Placed, ReadOf};
 use std::alloc::Global;
 use std::collections::HashSet;
+use std::hash::RandomState;
 
 /// A list. Takes memory as its members are read, and none by its count.
 impl<M: Field> Field for List<M> {
@@ -81,10 +82,10 @@ fn ascend<M: Ordered>(members: &[M]) -> bool
 }
 
 /// Whether no target stands twice, in time linear in them.
-fn are_distinct(alloc: Global, targets: &[Path]) -> Result<bool, NoMemory>
+fn are_distinct(alloc: Global, hashing: RandomState, targets: &[Path]) -> Result<bool, NoMemory>
     ensures { IfOk result (λ are. are ≡ are_distinct targets.now) }
 {
-    let mut seen = HashSet::new(alloc);
+    let mut seen = HashSet::with_hasher(alloc, hashing);
     for target in targets {
         if !seen.insert(target.as_bytes())? {
             return Ok(false);
@@ -93,18 +94,24 @@ fn are_distinct(alloc: Global, targets: &[Path]) -> Result<bool, NoMemory>
     Ok(true)
 }
 
-fn are_targets(alloc: Global, form: u8, targets: &[Path]) -> Result<bool, NoMemory>
+fn are_targets(
+    alloc: Global,
+    hashing: RandomState,
+    form: u8,
+    targets: &[Path],
+) -> Result<bool, NoMemory>
     ensures { IfOk result (λ are. are ≡ are_targets form targets.now) }
 {
     if targets.is_empty() || form_of(targets) != form {
         return Ok(false);
     }
-    are_distinct(alloc, targets)
+    are_distinct(alloc, hashing, targets)
 }
 
 /// The targets of a publish whose first byte is this.
 pub(crate) fn read_targets(
     alloc: Global,
+    hashing: RandomState,
     cursor: &mut Cursor<'_>,
     form: u8,
 ) -> Result<List<Path>, Or<Unread>>
@@ -112,7 +119,7 @@ pub(crate) fn read_targets(
 {
     let here = cursor.unread();
     let targets: List<Path> = Field::read(alloc, cursor)?;
-    if are_targets(alloc, form, targets.as_slice())? {
+    if are_targets(alloc, hashing, form, targets.as_slice())? {
         return Ok(targets);
     }
     Err(Or::Is(here))

@@ -11,17 +11,18 @@ use crate::fields::Field;
 use cc_names::memory::Or;
 use cc_names::rows::{Deed, LAST_MOMENT, Row, Tag};
 use std::alloc::Global;
+use std::hash::RandomState;
 
 /// A row's tag and moment, and its deed.
 type Parts = ((Tag, u64), Deed);
 
 /// Reads bytes as a row, or answers the place of the first field that cannot be read, or of the first byte left over.
 /// Takes time linear in them, and memory as the fields are read, whatever the counts of lists say.
-pub fn read(alloc: Global, bytes: &[u8]) -> Result<Row, Or<NotARow>>
+pub fn read(alloc: Global, hashing: RandomState, bytes: &[u8]) -> Result<Row, Or<NotARow>>
     ensures row { IsReadAs result bytes.now }
     ensures place { NamesPlace result bytes.now }
 {
-    match read_row(alloc, bytes) {
+    match read_row(alloc, hashing, bytes) {
         Ok(((tag, moment), deed)) => Ok(Row::of(tag, moment, deed)),
         Err(Or::NoMemory) => Err(Or::NoMemory),
         Err(Or::Is(unread)) => {
@@ -37,24 +38,28 @@ pub fn rows_have_one_spelling()
 {}
 
 /// The same with the parts of a row, and with how many bytes are left where the reading fails.
-fn read_row(alloc: Global, bytes: &[u8]) -> Result<Parts, Or<Unread>>
+fn read_row(alloc: Global, hashing: RandomState, bytes: &[u8]) -> Result<Parts, Or<Unread>>
     ensures { Answers result (read_row bytes.now) [] }
 {
     let mut cursor = Cursor::over(bytes);
-    let parts = read_parts(alloc, &mut cursor)?;
+    let parts = read_parts(alloc, hashing, &mut cursor)?;
     if !cursor.rest.is_empty() {
         return Err(Or::Is(cursor.unread()));
     }
     Ok(parts)
 }
 
-fn read_parts(alloc: Global, cursor: &mut Cursor<'_>) -> Result<Parts, Or<Unread>>
+fn read_parts(
+    alloc: Global,
+    hashing: RandomState,
+    cursor: &mut Cursor<'_>,
+) -> Result<Parts, Or<Unread>>
     ensures { Answers result (read_parts cursor.old.rest.now) cursor.new.rest.now }
 {
     let form = read_form(cursor)?;
     let tag: Tag = Field::read(alloc, cursor)?;
     let moment = read_moment(cursor)?;
-    let deed = read_deed(alloc, cursor, form)?;
+    let deed = read_deed(alloc, hashing, cursor, form)?;
     Ok(((tag, moment), deed))
 }
 
