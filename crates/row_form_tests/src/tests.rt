@@ -6,10 +6,10 @@ mod rows;
 
 use cc_names::memory::{NoMemory, Or};
 use cc_names::texts::Text;
-use faults::FAULTS;
+use faults::{FAULTS, FaultLine};
 use list_faults::LIST_FAULTS;
 use row_form::{NotARow, Row, read, spell};
-use rows::ROWS;
+use rows::{ROWS, RowLine};
 use std::alloc::Global;
 use std::hash::RandomState;
 use std::test::Fail;
@@ -59,12 +59,41 @@ fn fault_in(
     fault_of(alloc, hashing, bytes.as_slice())
 }
 
+/// The first of these lines that has no fault at its place: its code and the place.
+fn first_faultless(
+    alloc: Global,
+    hashing: RandomState,
+    lines: &[FaultLine],
+) -> Result<Option<(u8, u64)>, Fail> {
+    for (form, code, fields, place) in lines {
+        if fault_in(alloc, hashing, *form, *code, fields)? != Some(*place) {
+            return Ok(Some((*code, *place)));
+        }
+    }
+    Ok(None)
+}
+
 /// Whether the row that bytes spell is spelled by them.
 fn is_spelled_again(alloc: Global, hashing: RandomState, bytes: &[u8]) -> bool {
     match respelled(alloc, hashing, bytes) {
         Ok(text) => text.as_bytes() == bytes,
         Err(_fault) => false,
     }
+}
+
+/// The code of the first row that is not spelled as it was read.
+fn first_changed(
+    alloc: Global,
+    hashing: RandomState,
+    rows: &[RowLine],
+) -> Result<Option<u8>, Fail> {
+    for (form, code, fields) in rows {
+        let bytes = row_of(alloc, *form, *code, fields)?;
+        if !is_spelled_again(alloc, hashing, bytes.as_slice()) {
+            return Ok(Some(*code));
+        }
+    }
+    Ok(None)
 }
 
 /// Whether bytes are no row wherever they are cut, and fail before the cut.
@@ -78,44 +107,41 @@ fn fails_where_cut(alloc: Global, hashing: RandomState, bytes: &[u8]) -> Result<
     Ok(true)
 }
 
+/// The code of the first row that does not fail wherever it is cut.
+fn first_uncut(alloc: Global, hashing: RandomState, rows: &[RowLine]) -> Result<Option<u8>, Fail> {
+    for (form, code, fields) in rows {
+        let bytes = row_of(alloc, *form, *code, fields)?;
+        if !fails_where_cut(alloc, hashing, bytes.as_slice())? {
+            return Ok(Some(*code));
+        }
+    }
+    Ok(None)
+}
+
 #[test]
 fn each_row_is_spelled_as_it_was_read(rt: HostRuntime) -> Result<(), Fail> {
     let hashing = RandomState::new(&rt)?;
-    for (form, code, fields) in ROWS {
-        let bytes = row_of(rt.alloc(), form, code, fields)?;
-        let is = is_spelled_again(rt.alloc(), hashing, bytes.as_slice());
-        assert!(rt; is, "{form} {code}");
-    }
+    assert_eq!(rt; first_changed(rt.alloc(), hashing, &ROWS)?, None);
     Ok(())
 }
 
 #[test]
 fn a_wrong_field_is_named_by_its_place(rt: HostRuntime) -> Result<(), Fail> {
     let hashing = RandomState::new(&rt)?;
-    for (form, code, fields, place) in FAULTS {
-        let fault = fault_in(rt.alloc(), hashing, form, code, fields)?;
-        assert!(rt; fault == Some(place), "{form} {code} {place}");
-    }
+    assert_eq!(rt; first_faultless(rt.alloc(), hashing, &FAULTS)?, None);
     Ok(())
 }
 
 #[test]
 fn a_wrong_list_is_named_by_its_place(rt: HostRuntime) -> Result<(), Fail> {
     let hashing = RandomState::new(&rt)?;
-    for (form, code, fields, place) in LIST_FAULTS {
-        let fault = fault_in(rt.alloc(), hashing, form, code, fields)?;
-        assert!(rt; fault == Some(place), "{form} {code} {place}");
-    }
+    assert_eq!(rt; first_faultless(rt.alloc(), hashing, &LIST_FAULTS)?, None);
     Ok(())
 }
 
 #[test]
 fn a_spelling_that_is_cut_is_no_row(rt: HostRuntime) -> Result<(), Fail> {
     let hashing = RandomState::new(&rt)?;
-    for (form, code, fields) in ROWS {
-        let bytes = row_of(rt.alloc(), form, code, fields)?;
-        let fails = fails_where_cut(rt.alloc(), hashing, bytes.as_slice())?;
-        assert!(rt; fails, "{form} {code}");
-    }
+    assert_eq!(rt; first_uncut(rt.alloc(), hashing, &ROWS)?, None);
     Ok(())
 }

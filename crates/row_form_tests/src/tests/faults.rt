@@ -1,9 +1,9 @@
 // Bytes that spell no row: each field of each deed without a list is wrong in turn. They end with the field that cannot be read.
 
 /// A first byte, a deed's code, bytes of fields, and the place of the fault. The fields begin at 22.
-pub(crate) type Line = (u8, u8, &'static [u8], u64);
+pub(crate) type FaultLine = (u8, u8, &'static [u8], u64);
 
-pub(crate) const FAULTS: [Line; 64] = [
+pub(crate) const FAULTS: [FaultLine; 64] = [
     (0, 1, b"\x01\0\0\0v", 0),
     (3, 1, b"\x01\0\0\0v", 0),
     (255, 1, b"\x01\0\0\0v", 0),

@@ -1,9 +1,9 @@
 // Bytes that spell no row, of the deeds with lists: each field is wrong in turn, each list breaks its rule, and each list has a count
 // that is far too high.
 
-use crate::tests::faults::Line;
+use crate::tests::faults::FaultLine;
 
-pub(crate) const LIST_FAULTS: [Line; 42] = [
+pub(crate) const LIST_FAULTS: [FaultLine; 42] = [
     (1, 17, b"\0\0\0\0", 22),
     (1, 17, b"\x01\0\0\0v\0\0\0\0", 27),
     (

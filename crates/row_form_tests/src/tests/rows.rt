@@ -1,9 +1,9 @@
 // Rows of each deed, spelled by hand from the format.
 
 /// A row: its first byte, its deed's code and the bytes of its fields.
-pub(crate) type Line = (u8, u8, &'static [u8]);
+pub(crate) type RowLine = (u8, u8, &'static [u8]);
 
-pub(crate) const ROWS: [Line; 25] = [
+pub(crate) const ROWS: [RowLine; 25] = [
     (1, 1, b"\x01\0\0\0v"),
     (1, 2, b"\x01\0\0\0v"),
     (1, 3, b"\x01\0\0\0v\x02\0\0\0hi"),
