@@ -10,6 +10,11 @@ mod NumberLaws
 mod WalkLaws
 mod ServingLaws
 pub mod UnitLaws
+mod RuleWordLaws
+mod RuleLineLaws
+mod GroupLaws
+mod JoinedLaws
+pub mod FormedMakefiles
 pub mod WordLemmas
 pub mod SideLemmas
 mod Worked

@@ -1,16 +1,19 @@
--- What holds of the units of every build.
+-- What holds of every makefile that is read, and of the units of every build.
 use Rattle.std.specs.Bool.{⊤}
 use Rattle.std.specs.Prelude.{◌≡◌, ℕ, ◌<◌, ◌≤◌, Bool, true, Some, Ok, List, flat_map, length, slice_get}
 use Rattle.std.specs.List.{AllByRecursion, IsDistinct}
 use Rattle.std.specs.Str.{bytes_eq}
 use Rattle.cc_names.specs.Formed.{AreTargets, IsBelowRoot}
+use Rattle.cc_names.specs.declared.commands.Macro.{Macro}
 use Rattle.cc_names.specs.declared.units.Unit.{Unit}
 use Rattle.cc_names.specs.declared.units.UnitScript.{UnitScript}
 use Rattle.cc_names.specs.declared.units.UnitScript.TheVariants as scripts
 use Rattle.make_text.specs.Contents.{Contents}
+use Rattle.make_text.specs.Grammar.{makefile_of}
 use Rattle.make_text.specs.Graphs.{graph_of}
 use Rattle.make_text.specs.Macros.{is_among, expansion_limit}
 use Rattle.make_text.specs.Numbers.{number_from}
+use Rattle.make_text.specs.Statements.{Files}
 use Rattle.make_text.specs.Units.{targets_of}
 use Rattle.make_text.specs.declared.rules.MakeRule.{MakeRule}
 
@@ -58,3 +61,8 @@ UnitsInOrder = (make : Contents) (goals : List (List ℕ)) (is_file : List ℕ �
 abbrev pub UnitsFormed : Type 0
 UnitsFormed = (make : Contents) (goals : List (List ℕ)) (is_file : List ℕ → Bool) (units : List Unit) →
     IsFormed make → graph_of make goals is_file ≡ Ok units → AllByRecursion IsUnit units
+
+-- Every makefile that is read is formed.
+abbrev pub MakefilesAreFormed : Type 0
+MakefilesAreFormed = (files : Files) (file : List ℕ) (overrides : List Macro) (make : Contents) →
+    makefile_of files file overrides ≡ Ok make → IsFormed make
