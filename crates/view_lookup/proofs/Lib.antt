@@ -11,3 +11,4 @@ pub mod RowTexts
 pub mod RowsFit
 pub mod SpecRows
 pub mod Standing
+pub mod Standings

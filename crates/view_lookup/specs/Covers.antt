@@ -6,11 +6,11 @@ use Rattle.cc_names.specs.Last.{Effect, Keeps, Ends, Sets, only_if}
 use Rattle.cc_names.specs.declared.rows.Deed.TheVariants as deeds
 use Rattle.cc_names.specs.declared.rows.Out.TheVariants as outs
 use Rattle.legal_history.specs.Base.Changes.{targets_of}
-use Rattle.legal_history.specs.Base.Rows.{size}
-use Rattle.view_lookup.specs.Effects.{life_effect, end_effect, gone_effect, file_effect, object_effect, living_effect, named_effect, merge_effect, set_effect, map_effect, kept_checkout, desk_effect, saved_effect}
+use Rattle.legal_history.specs.Base.Rows.{Base, size}
+use Rattle.view_lookup.specs.Effects.{life_effect, end_effect, gone_effect, file_effect, object_effect, living_effect, named_effect, merge_effect, set_effect, map_effect, kept_checkout, desk_effect, saved_effect, stands, standing_effect}
 use Rattle.view_lookup.specs.LookUps.{IsCovered}
 use Rattle.view_lookup.specs.Made.{is_target}
-use Rattle.view_lookup.specs.Subjects.{Life, Spec, File, Object, Out, Saved, Named, Living, Merge, is_same}
+use Rattle.view_lookup.specs.Subjects.{Life, Spec, Desk, File, Object, Out, Saved, Named, Living, Merge, is_same}
 
 -- an effect where a test holds is none where neither it nor another holds
 unless : {A : Type 0} (test other : Bool) (effect : Effect A) → (test || other) ≡ false → only_if test effect ≡ Keeps
@@ -109,3 +109,21 @@ desk_covered v e older deed h = refl
 pub saved_covered : (v : List ℕ) (e : ℕ) → IsCovered (Saved v e) (saved_effect v e)
 saved_covered v e older (deeds.Save w f text) h = unless (bytes_eq w v && (f == e)) false (Sets (size older)) h
 saved_covered v e older deed h = refl
+
+-- where two tests hold, of which the first one fails
+unless_both : {A : Type 0} (test other : Bool) (effect : Effect A) → (test || false) ≡ false → only_if (test && other) effect ≡ Keeps
+unless_both true other effect h = ap (λ is. only_if (is && other) effect) h
+unless_both false other effect h = refl
+
+pub standing_covered : (b : Base) (v : List ℕ) → IsCovered (Desk v) (standing_effect b v)
+standing_covered b v older (deeds.Mkelem w directory name kind true) h =
+    unless_both (bytes_eq w v) (stands b (record { view = w; element = size older; checkout = record { row = size older; origin = size older; reserved = true } })) (Sets (size older)) h
+standing_covered b v older (deeds.Mkelem w directory name kind false) h = refl
+standing_covered b v older (deeds.Checkout w e origin reserved) h =
+    unless_both (bytes_eq w v) (stands b (record { view = w; element = e; checkout = record { row = size older; origin = origin; reserved = reserved } })) (Sets (size older)) h
+standing_covered b v older (deeds.Branch w e origin name outs.No) h = refl
+standing_covered b v older (deeds.Branch w e origin name outs.Reserved) h =
+    unless_both (bytes_eq w v) (stands b (record { view = w; element = e; checkout = record { row = size older; origin = size older; reserved = true } })) (Sets (size older)) h
+standing_covered b v older (deeds.Branch w e origin name outs.Unreserved) h =
+    unless_both (bytes_eq w v) (stands b (record { view = w; element = e; checkout = record { row = size older; origin = size older; reserved = false } })) (Sets (size older)) h
+standing_covered b v older deed h = refl

@@ -1,16 +1,19 @@
 -- What rows do to the things that are looked up.
-use Rattle.std.specs.Prelude.{ℕ, ◌&&◌, ◌==◌, List, option_map, bytes_eq}
+use Rattle.std.specs.Prelude.{ℕ, Bool, ◌&&◌, ◌==◌, Option, Some, None, List, option_map, bytes_eq}
 use Rattle.cc_names.specs.Last.{Effect, Keeps, Ends, Sets, only_if}
 use Rattle.cc_names.specs.declared.rows.Deed.TheVariants as deeds
 use Rattle.cc_names.specs.declared.rows.TypeKind.{TypeKind}
 use Rattle.legal_history.specs.Base.Changes.{live_effect, targets_of, type_effect}
+use Rattle.cc_names.specs.Versions.{is_number}
+use Rattle.legal_history.specs.Base.Checkouts.{row_of_checkout}
 use Rattle.legal_history.specs.Base.Conditions.{is_arrow}
-use Rattle.legal_history.specs.Base.Rows.{size}
+use Rattle.legal_history.specs.Base.Rows.{Base, size}
 use Rattle.legal_history.specs.Base.Views as model
 use Rattle.view_lookup.specs.Ended.{or_else}
 use Rattle.view_lookup.specs.LookUps.{Deeds, Told}
 use Rattle.view_lookup.specs.Made.{is_target}
 use Rattle.view_lookup.specs.declared.desks.Checkout.{Checkout}
+use Rattle.view_lookup.specs.declared.desks.Taken.{Taken}
 
 -- a view's life begins and ends
 abbrev pub life_effect : List ℕ → Deeds ℕ
@@ -88,10 +91,6 @@ abbrev pub saved_effect : List ℕ → ℕ → Deeds ℕ
 saved_effect v e older (deeds.Save w f text) = only_if (bytes_eq w v && (f == e)) (Sets (size older))
 saved_effect v e older deed = Keeps
 
--- a checkout of an element by a view, where it is this one
-abbrev pub taken_here : List ℕ → ℕ → List ℕ → ℕ → Checkout → Effect Checkout
-taken_here v e w f checkout = only_if (bytes_eq w v && (f == e)) (Sets checkout)
-
 -- the row that made a checkout
 abbrev pub row_of_kept : Checkout → ℕ
 row_of_kept checkout = checkout.row
@@ -99,3 +98,19 @@ row_of_kept checkout = checkout.row
 -- a view has a config spec by the row that begins it or that sets the spec
 abbrev pub spec_row_effect : List ℕ → Deeds ℕ
 spec_row_effect v older deed = or_else (life_effect v older deed) (set_effect v older deed)
+
+-- a checkout by a view as the model has it
+abbrev pub plain_taken : Taken → model.TakenOut
+plain_taken taken = record { view = taken.view.now; element = taken.element; checkout = plain_checkout taken.checkout }
+
+-- whether a checkout stands in a base
+abbrev pub stands : Base → model.TakenOut → Bool
+stands b taken = is_number taken.checkout.row (option_map row_of_checkout (model.out b taken.view taken.element))
+
+-- a view has something out that stands in a base
+abbrev pub standing_of : Base → List ℕ → Option model.TakenOut → Effect ℕ
+standing_of b v None = Keeps
+standing_of b v (Some taken) = only_if (bytes_eq taken.view v && stands b taken) (Sets taken.checkout.row)
+
+abbrev pub standing_effect : Base → List ℕ → Deeds ℕ
+standing_effect b v older deed = standing_of b v (model.made_out (size older) deed)

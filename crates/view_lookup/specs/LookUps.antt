@@ -58,3 +58,17 @@ abbrev pub effect_of : {A : Type 0} → Does A → Effect A
 effect_of does.Keeps = Keeps
 effect_of does.Ends = Ends
 effect_of (does.Sets item) = Sets item
+
+-- what the oldest row sets a thing to that sets it
+abbrev pub oldest : {A : Type 0} → Deeds A → Base → Option A
+oldest effect [] = None
+oldest effect (row ∷ older) = option_or (oldest effect older) (left_by (told (size older) (effect older row.deed)))
+
+-- what the row of a number sets a thing to, where it does
+abbrev pub set_at : {A : Type 0} → Deeds A → Base → ℕ → Option A
+set_at effect b n = left_by (told_at effect b n)
+
+-- what the last of these numbers is set to that is set to something
+abbrev pub last_set : {A : Type 0} → (ℕ → Option A) → List ℕ → Option A
+last_set at [] = None
+last_set at (n ∷ ns) = option_or (last_set at ns) (at n)

@@ -27,17 +27,21 @@ pub data Subject : Type 0 where
   Living : ℕ → Subject
   Merge : ℕ → ℕ → ℕ → Subject
 
+-- what a deed that makes row n takes out, changes or gives back
+abbrev pub desk_subjects : ℕ → Deed → List Subject
+desk_subjects n (deeds.Mkelem v directory name kind out) = Out v n ∷ Desk v ∷ []
+desk_subjects n (deeds.Checkout v e origin reserved) = Out v e ∷ Desk v ∷ []
+desk_subjects n (deeds.Branch v e origin name out) = Out v e ∷ Desk v ∷ []
+desk_subjects n (deeds.Save v e text) = Saved v e ∷ []
+desk_subjects n (deeds.Checkin v e) = Out v e ∷ []
+desk_subjects n (deeds.Uncheckout v e) = Out v e ∷ []
+desk_subjects n deed = []
+
 -- the subjects on which a deed bears that makes row n, where the object that it names has these targets
 abbrev pub subjects : ℕ → List (List ℕ) → Deed → List Subject
 subjects n targets (deeds.Mkview v) = Life v ∷ []
 subjects n targets (deeds.Rmview v) = Life v ∷ []
 subjects n targets (deeds.Setcs v text) = Spec v ∷ []
-subjects n targets (deeds.Mkelem v directory name kind out) = Out v n ∷ Desk v ∷ []
-subjects n targets (deeds.Checkout v e origin reserved) = Out v e ∷ Desk v ∷ []
-subjects n targets (deeds.Branch v e origin name out) = Out v e ∷ Desk v ∷ []
-subjects n targets (deeds.Save v e text) = Saved v e ∷ []
-subjects n targets (deeds.Checkin v e) = Out v e ∷ []
-subjects n targets (deeds.Uncheckout v e) = Out v e ∷ []
 subjects n targets (deeds.Put v path text) = File v path ∷ []
 subjects n targets (deeds.Rm v path) = File v path ∷ []
 subjects n targets (deeds.Mktype kind name) = Named name ∷ []
@@ -46,7 +50,7 @@ subjects n targets (deeds.Wink v id) = map (Object v) targets
 subjects n targets (deeds.Drop v path) = Object v path ∷ []
 subjects n targets (deeds.Scrub objects) = map Living objects
 subjects n targets (deeds.Arrow e tail head) = Merge e tail head ∷ []
-subjects n targets deed = []
+subjects n targets deed = desk_subjects n deed
 
 -- the targets of the object that a deed names, which an older row made
 abbrev pub named_targets : Base → Deed → List (List ℕ)

@@ -6,10 +6,10 @@ ghost use Rattle.carried_out.specs.CarriedOut.{is_made};
 ghost use Rattle.legal_history.specs.Base.Rows.{first_rows, row_at, size};
 ghost use Rattle.legal_history.specs.Base.Fits.{fits, is_base, row_limit};
 ghost use Rattle.view_lookup.specs.Known.{are_made};
-ghost use Rattle.view_lookup.specs.LookUps.{last_of, newest};
+ghost use Rattle.view_lookup.specs.LookUps.{last_of, newest, oldest};
 ghost use Rattle.view_lookup.specs.Shown.{HasRoom};
 
-use crate::look_ups::{LookUp, left_by, told_at};
+use crate::look_ups::{LookUp, left_by, set_at, told_at};
 use crate::marks::{Link, mark_all};
 use crate::numbered::row_of;
 use crate::subjects::{count_subjects, named_targets};
@@ -208,5 +208,23 @@ impl<'a> FirstRows<'a> {
         ensures { result ≡ last_of (L.effect look.now) self.now }
     {
         left_by(self.newest(look))
+    }
+
+    /// What the oldest of them sets a thing to that sets it. Takes time linear in the names of its subject and in the rows with
+    /// its key.
+    pub(crate) fn oldest<L: LookUp>(&self, look: &L) -> Option<L::Item>
+        ensures { result ≡ oldest (L.effect look.now) self.now }
+    {
+        let base = self.base;
+        let mut links = base.links.as_slice();
+        let mut next = base.newest.get(&look.subject().key(base.hashing)).copied();
+        let mut oldest = None;
+        while let Some(place) = next {
+            let link = &links[place];
+            oldest = set_at(self, link.row, look, oldest);
+            next = link.older;
+            links = &links[..place];
+        }
+        oldest
     }
 }

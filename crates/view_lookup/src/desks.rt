@@ -1,8 +1,11 @@
 // What a view has checked out.
 
 ghost use Rattle.std.specs.Prelude.{◌≡◌, ◌==◌, ◌&&◌, bytes_eq, option_map};
+ghost use Rattle.legal_history.specs.Base.Checkouts.{oldest_out};
+ghost use Rattle.legal_history.specs.Base.Views as model;
 ghost use Rattle.legal_history.specs.Base.Views.{making, out};
-ghost use Rattle.view_lookup.specs.Effects.{map_told, plain_checkout, row_of_kept};
+ghost use Rattle.view_lookup.specs.Effects.{kept_checkout, map_effect, map_told, plain_checkout, plain_taken, row_of_kept, stands};
+ghost use Rattle.view_lookup.specs.LookUps.{effect_of};
 
 use crate::bases::FirstRows;
 use crate::look_ups::{Does, LookUp, later, only_if, within};
@@ -28,6 +31,110 @@ fn same_desk(view: &Name, element: u64, other: &Name, one: u64) -> bool
     same_name(view, other) && one == element
 }
 
+/// A checkout of an element by a view.
+#[derive(Clone, Copy)]
+pub(crate) struct Taken<'a> {
+    pub(crate) view: &'a Name,
+    pub(crate) element: u64,
+    pub(crate) checkout: Checkout,
+}
+
+/// The checkout that the making of an element makes in a row.
+fn checkout_of_element(out: bool, row: u64) -> Option<Checkout>
+    ensures { option_map plain_checkout result ≡ model.checkout_of_element out row }
+{
+    if out {
+        Some(Checkout {
+            row,
+            origin: row,
+            reserved: true,
+        })
+    } else {
+        None
+    }
+}
+
+/// The checkout that the making of a branch makes in a row.
+fn checkout_of_branch(out: Out, row: u64) -> Option<Checkout>
+    ensures { option_map plain_checkout result ≡ model.checkout_of_branch out row }
+{
+    match out {
+        Out::No => None,
+        Out::Reserved => Some(Checkout {
+            row,
+            origin: row,
+            reserved: true,
+        }),
+        Out::Unreserved => Some(Checkout {
+            row,
+            origin: row,
+            reserved: false,
+        }),
+    }
+}
+
+fn taken_out<'a>(view: &'a Name, element: u64, checkout: Option<Checkout>) -> Option<Taken<'a>>
+    ensures { option_map plain_taken result
+        ≡ model.taken_out view.now element (option_map plain_checkout checkout) }
+{
+    match checkout {
+        None => None,
+        Some(checkout) => Some(Taken {
+            view,
+            element,
+            checkout,
+        }),
+    }
+}
+
+/// The checkout that a deed makes in a row.
+fn made_out<'a>(row: u64, deed: &'a Deed) -> Option<Taken<'a>>
+    ensures { option_map plain_taken result ≡ model.made_out row deed.now }
+{
+    match deed {
+        Deed::Mkelem { view, out, .. } => taken_out(view, row, checkout_of_element(*out, row)),
+        Deed::Checkout {
+            view,
+            element,
+            origin,
+            reserved,
+        } => {
+            let checkout = Checkout {
+                row,
+                origin: *origin,
+                reserved: *reserved,
+            };
+            Some(Taken {
+                view,
+                element: *element,
+                checkout,
+            })
+        }
+        Deed::Branch {
+            view,
+            element,
+            out,
+            ..
+        } => { taken_out(view, *element, checkout_of_branch(*out, row)) }
+        _ => None,
+    }
+}
+
+/// A checkout, where it is one of this element by this view.
+fn set_by(view: &Name, element: u64, taken: Option<Taken<'_>>) -> Does<Checkout>
+    ensures { effect_of result
+        ≡ map_effect kept_checkout
+        (model.set_by view.now element (option_map plain_taken taken.entry)) }
+{
+    match taken {
+        None => Does::Keeps,
+        Some(taken) => only_if(
+            same_desk(view, element, taken.view, taken.element),
+            Does::Sets(taken.checkout),
+        ),
+    }
+}
+
 /// A view's checkout of an element, whatever becomes of the view.
 #[derive(Clone, Copy)]
 struct TakenOf<'a> {
@@ -35,92 +142,19 @@ struct TakenOf<'a> {
     element: u64,
 }
 
-impl TakenOf<'_> {
-    ghost use Rattle.std.specs.Prelude.{◌≡◌};
-    ghost use Rattle.view_lookup.specs.Effects.{taken_here};
-    ghost use Rattle.view_lookup.specs.LookUps.{effect_of};
-
-    /// A checkout of an element by a view, where it is this one.
-    fn taken(&self, view: &Name, element: u64, checkout: Checkout) -> Does<Checkout>
-        ensures { effect_of result
-            ≡ taken_here self.now.view.now self.now.element view.now element checkout }
-    {
-        only_if(
-            same_desk(self.view, self.element, view, element),
-            Does::Sets(checkout),
-        )
-    }
-}
-
 impl LookUp for TakenOf<'_> {
     type Item = Checkout;
 
     ghost use Rattle.view_lookup.specs.Covers.{desk_covered};
     ghost use Rattle.view_lookup.specs.Effects.{desk_effect};
-    ghost use Rattle.view_lookup.specs.Subjects as model;
+    ghost use Rattle.view_lookup.specs.Subjects as subjects;
 
     ghost effect = { λ it. desk_effect it.view.now it.element };
 
-    ghost about = { λ it. model.Out it.view.now it.element };
+    ghost about = { λ it. subjects.Out it.view.now it.element };
 
     fn effect(&self, older: &FirstRows<'_>, deed: &Deed) -> Does<Checkout> {
-        let row = older.size();
         match deed {
-            Deed::Mkelem {
-                view,
-                out: true,
-                ..
-            } => self.taken(
-                view,
-                row,
-                Checkout {
-                    row,
-                    origin: row,
-                    reserved: true,
-                },
-            ),
-            Deed::Checkout {
-                view,
-                element,
-                origin,
-                reserved,
-            } => self.taken(
-                view,
-                *element,
-                Checkout {
-                    row,
-                    origin: *origin,
-                    reserved: *reserved,
-                },
-            ),
-            Deed::Branch {
-                view,
-                element,
-                out: Out::Reserved,
-                ..
-            } => self.taken(
-                view,
-                *element,
-                Checkout {
-                    row,
-                    origin: row,
-                    reserved: true,
-                },
-            ),
-            Deed::Branch {
-                view,
-                element,
-                out: Out::Unreserved,
-                ..
-            } => self.taken(
-                view,
-                *element,
-                Checkout {
-                    row,
-                    origin: row,
-                    reserved: false,
-                },
-            ),
             Deed::Checkin { view, element } => only_if(
                 same_desk(self.view, self.element, view, *element),
                 Does::Ends,
@@ -129,7 +163,7 @@ impl LookUp for TakenOf<'_> {
                 same_desk(self.view, self.element, view, *element),
                 Does::Ends,
             ),
-            _ => Does::Keeps,
+            _ => set_by(self.view, self.element, made_out(older.size(), deed)),
         }
     }
 
@@ -152,11 +186,11 @@ impl LookUp for SavedOf<'_> {
 
     ghost use Rattle.view_lookup.specs.Covers.{saved_covered};
     ghost use Rattle.view_lookup.specs.Effects.{saved_effect};
-    ghost use Rattle.view_lookup.specs.Subjects as model;
+    ghost use Rattle.view_lookup.specs.Subjects as subjects;
 
     ghost effect = { λ it. saved_effect it.view.now it.element };
 
-    ghost about = { λ it. model.Saved it.view.now it.element };
+    ghost about = { λ it. subjects.Saved it.view.now it.element };
 
     fn effect(&self, older: &FirstRows<'_>, deed: &Deed) -> Does<u64> {
         match deed {
@@ -177,7 +211,7 @@ impl LookUp for SavedOf<'_> {
 
 /// The view's checkout of the element. Takes time linear in the view's name, and in the rows with its keys that come behind those
 /// that are found.
-pub fn out(rows: &FirstRows<'_>, view: &Name, element: u64) -> Option<Checkout>
+pub fn checked_out(rows: &FirstRows<'_>, view: &Name, element: u64) -> Option<Checkout>
     ensures { option_map plain_checkout result ≡ out rows.now view.now element }
 {
     within(
@@ -205,4 +239,57 @@ pub fn making(rows: &FirstRows<'_>, view: &Name, element: u64) -> Option<u64>
     let taken = with_row(rows.newest(&TakenOf { view, element }));
     let saved = rows.newest(&SavedOf { view, element });
     within(last_end(rows, view), later(taken, saved))
+}
+
+/// Whether a checkout stands in these rows.
+fn stands(rows: &FirstRows<'_>, taken: Taken<'_>) -> bool
+    ensures { result ≡ stands rows.now (plain_taken taken.entry) }
+{
+    match checked_out(rows, taken.view, taken.element) {
+        None => false,
+        Some(checkout) => taken.checkout.row == checkout.row,
+    }
+}
+
+/// The rows that made the checkouts of a view that stand in a base.
+#[derive(Clone, Copy)]
+struct StandingOf<'a> {
+    rows: &'a FirstRows<'a>,
+    view: &'a Name,
+}
+
+impl LookUp for StandingOf<'_> {
+    type Item = u64;
+
+    ghost use Rattle.view_lookup.specs.Covers.{standing_covered};
+    ghost use Rattle.view_lookup.specs.Effects.{standing_effect};
+    ghost use Rattle.view_lookup.specs.Subjects as subjects;
+
+    ghost effect = { λ it. standing_effect it.rows.now it.view.now };
+
+    ghost about = { λ it. subjects.Desk it.view.now };
+
+    fn effect(&self, older: &FirstRows<'_>, deed: &Deed) -> Does<u64> {
+        match made_out(older.size(), deed) {
+            None => Does::Keeps,
+            Some(taken) => only_if(
+                same_name(self.view, taken.view) && stands(self.rows, taken),
+                Does::Sets(taken.checkout.row),
+            ),
+        }
+    }
+
+    fn subject(&self) -> Subject<'_> {
+        Subject::Desk(self.view)
+    }
+
+    ghost covered = { λ it. standing_covered it.rows.now it.view.now };
+}
+
+/// The row that made the view's oldest checkout. Takes time linear in what the view took out in its life and in lives before, and
+/// for each the time of `checked_out`.
+pub fn oldest_out(rows: &FirstRows<'_>, view: &Name) -> Option<u64>
+    ensures { result ≡ oldest_out rows.now view.now }
+{
+    rows.oldest(&StandingOf { rows, view })
 }

@@ -1,9 +1,10 @@
 // What is looked up by the rows that bear on it: the newest row that does something to a thing tells what has become of it.
 
 ghost use Rattle.std.specs.Prelude.{◌≡◌};
+ghost use Rattle.std.specs.Option.{option_or};
 ghost use Rattle.cc_names.specs.Last.{only_if};
 ghost use Rattle.view_lookup.specs.Ended.{is_behind, later, within};
-ghost use Rattle.view_lookup.specs.LookUps.{effect_of, left_by, told_at};
+ghost use Rattle.view_lookup.specs.LookUps.{effect_of, left_by, set_at, told_at};
 
 use crate::bases::{FirstRows, first_rows, row_at};
 use crate::subjects::Subject;
@@ -103,5 +104,20 @@ pub(crate) fn told_at<L: LookUp>(
         Does::Keeps => None,
         Does::Ends => Some((number, None)),
         Does::Sets(item) => Some((number, Some(item))),
+    }
+}
+
+/// What the row of this number sets the thing to, where it does, else another.
+pub(crate) fn set_at<L: LookUp>(
+    rows: &FirstRows<'_>,
+    number: u64,
+    look: &L,
+    other: Option<L::Item>,
+) -> Option<L::Item>
+    ensures { result ≡ option_or (set_at (L.effect look.now) rows.now number) other }
+{
+    match left_by(told_at(rows, number, look)) {
+        Some(item) => Some(item),
+        None => other,
     }
 }

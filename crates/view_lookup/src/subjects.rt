@@ -104,6 +104,27 @@ pub(crate) fn named_targets<'a>(rows: &'a [Row], deed: &Deed) -> &'a [Path]
     }
 }
 
+/// One of the things that a deed takes out, changes or gives back that makes the row of a number.
+fn desk_subject_at<'a>(number: u64, deed: &'a Deed, index: usize) -> Option<Subject<'a>>
+    ensures subject { option_map model.plain result
+        ≡ slice_get (model.desk_subjects number deed.now) index }
+    ensures within { IfSome result (λ _. index < 2 ^ 32) }
+{
+    match deed {
+        Deed::Mkelem { view, .. } => two(Subject::Out(view, number), Subject::Desk(view), index),
+        Deed::Checkout { view, element, .. } => {
+            two(Subject::Out(view, *element), Subject::Desk(view), index)
+        }
+        Deed::Branch { view, element, .. } => {
+            two(Subject::Out(view, *element), Subject::Desk(view), index)
+        }
+        Deed::Save { view, element, .. } => one(Subject::Saved(view, *element), index),
+        Deed::Checkin { view, element } => one(Subject::Out(view, *element), index),
+        Deed::Uncheckout { view, element } => one(Subject::Out(view, *element), index),
+        _ => None,
+    }
+}
+
 /// One of the subjects on which a deed bears that makes the row of a number, in their order, where the object that it names
 /// has these targets. Takes constant time.
 pub(crate) fn subject_at<'a>(
@@ -120,16 +141,6 @@ pub(crate) fn subject_at<'a>(
         Deed::Mkview { view } => one(Subject::Life(view), index),
         Deed::Rmview { view } => one(Subject::Life(view), index),
         Deed::Setcs { view, .. } => one(Subject::Spec(view), index),
-        Deed::Mkelem { view, .. } => two(Subject::Out(view, number), Subject::Desk(view), index),
-        Deed::Checkout { view, element, .. } => {
-            two(Subject::Out(view, *element), Subject::Desk(view), index)
-        }
-        Deed::Branch { view, element, .. } => {
-            two(Subject::Out(view, *element), Subject::Desk(view), index)
-        }
-        Deed::Save { view, element, .. } => one(Subject::Saved(view, *element), index),
-        Deed::Checkin { view, element } => one(Subject::Out(view, *element), index),
-        Deed::Uncheckout { view, element } => one(Subject::Out(view, *element), index),
         Deed::Put { view, path, .. } => one(Subject::File(view, path), index),
         Deed::Rm { view, path } => one(Subject::File(view, path), index),
         Deed::Mktype { name, .. } => one(Subject::Named(name), index),
@@ -146,7 +157,7 @@ pub(crate) fn subject_at<'a>(
             tail,
             head,
         } => one(Subject::Merge(*element, *tail, *head), index),
-        _ => None,
+        _ => desk_subject_at(number, deed, index),
     }
 }
 

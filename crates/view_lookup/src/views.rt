@@ -1,7 +1,6 @@
 // A view's own state: its life, and its private files.
 
 ghost use Rattle.std.specs.Prelude.{◌≡◌, bytes_eq, ◌&&◌, option_map};
-ghost use Rattle.legal_history.specs.Base.Checkouts.{oldest_out};
 ghost use Rattle.legal_history.specs.Base.Views.{view_row, private};
 ghost use Rattle.view_lookup.specs.Effects.{end_effect};
 ghost use Rattle.view_lookup.specs.Ended.{number_of};
@@ -142,14 +141,6 @@ pub(crate) fn last_end(rows: &FirstRows<'_>, view: &Name) -> Option<u64>
 {
     let (number, _) = rows.newest(&EndOf { view })?;
     Some(number)
-}
-
-/// The row that made the view's oldest checkout: so far nothing is checked out. Takes constant time.
-pub fn oldest_out(rows: &FirstRows<'_>, view: &Name) -> Option<u64>
-    ensures { result ≡ oldest_out rows.now view.now }
-{
-    rows.are_made();
-    None
 }
 
 /// The row that put the view's private file at the path. Takes time linear in the two names, and in the rows with their key
