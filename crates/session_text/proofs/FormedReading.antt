@@ -288,3 +288,9 @@ pub phases_read : (text : List ℕ) → first_error 0 nothing (kinds_of text) �
 phases_read text e =
     let count : length (lines_of text) ≤ length text = length-lines_of text in
     (omega (arith, phases_within (lines_of text)), phases_formed (length text) 0 nothing (lines_of text) e (total-lines_of text) count)
+
+-- a text has no more commands than bytes
+pub commands_few : (text : List ℕ) → length (commands_of (kinds_of text)) ≤ length text
+commands_few text =
+    let count : length (lines_of text) ≤ length text = length-lines_of text in
+    omega (arith, commands_within (lines_of text))

@@ -22,7 +22,7 @@ kind_of (b ∷ bs) = if b == 35 then Skipped else if b == 124 then Body bs else 
 abbrev pub kinds_of : List ℕ → List Kind
 kinds_of text = map kind_of (lines_of text)
 
--- the lines that are left of a text, and how many stood before them
+-- the bytes that are left of a text, and how many lines stood before them
 pub record Rest : Type 0 where
   pub number : ℕ
-  pub kinds : List Kind
+  pub bytes : List ℕ

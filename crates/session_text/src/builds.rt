@@ -19,6 +19,7 @@ use cc_names::refusals::SessionCause;
 use cc_names::texts::Text;
 use indexmap::IndexMap;
 use std::alloc::Global;
+use std::hash::RandomState;
 use std::marker::Model;
 
 fn first_equals(word: &[u8]) -> Option<usize>
@@ -61,7 +62,7 @@ fn is_macro_text(text: &[u8]) -> bool
 /// The macros of a command line, in the order of their first places. Contracts see them as a list.
 #[derive(Drop)]
 struct Macros {
-    entries: IndexMap<Vec<u8>, Text>,
+    entries: IndexMap<Vec<u8>, Text, RandomState>,
 }
 
 impl Model for Macros {
@@ -75,11 +76,11 @@ impl Model for Macros {
 }
 
 impl Macros {
-    fn none(alloc: Global) -> Macros
+    fn none(alloc: Global, hashing: RandomState) -> Macros
         ensures { result ≡ [] }
     {
         Macros {
-            entries: IndexMap::new(alloc),
+            entries: IndexMap::with_hasher(alloc, hashing),
         }
     }
 
@@ -135,7 +136,7 @@ impl Model for Asked {
 impl Asked {
     ghost use Rattle.session_text.specs.Taken.{Takes};
 
-    fn nothing(alloc: Global) -> Asked
+    fn nothing(alloc: Global, hashing: RandomState) -> Asked
         ensures { result ≡ nothing_asked }
     {
         Asked {
@@ -143,7 +144,7 @@ impl Asked {
             own_only: false,
             rebuild: false,
             jobs: None,
-            macros: Macros::none(alloc),
+            macros: Macros::none(alloc, hashing),
             goals: Vec::new(alloc),
         }
     }
@@ -254,10 +255,14 @@ fn is_option(word: &[u8]) -> bool
     matches!(word, b"-J" | b"-f")
 }
 
-fn asked_by(alloc: Global, mut words: Words<'_>) -> Result<Asked, Or<SessionCause>>
+fn asked_by(
+    alloc: Global,
+    hashing: RandomState,
+    mut words: Words<'_>,
+) -> Result<Asked, Or<SessionCause>>
     ensures { Gives result (asked_by words.entry nothing_asked) }
 {
-    let mut asked = Asked::nothing(alloc);
+    let mut asked = Asked::nothing(alloc, hashing);
     while let Some(word) = words.next() {
         if !is_option(word) {
             asked.add_one(alloc, word)?;
@@ -272,10 +277,14 @@ fn asked_by(alloc: Global, mut words: Words<'_>) -> Result<Asked, Or<SessionCaus
 }
 
 /// `clearmake V ..`
-pub(crate) fn clearmake(alloc: Global, mut words: Words<'_>) -> Result<Command, Or<SessionCause>>
+pub(crate) fn clearmake(
+    alloc: Global,
+    hashing: RandomState,
+    mut words: Words<'_>,
+) -> Result<Command, Or<SessionCause>>
     ensures { Gives result (clearmake words.entry) }
 {
     let view = first_name(alloc, &mut words)?;
-    let asked = asked_by(alloc, words)?;
+    let asked = asked_by(alloc, hashing, words)?;
     Ok(asked.build_of(alloc, view)?)
 }

@@ -4,9 +4,10 @@
 ghost use Rattle.std.specs.Prelude.{◌≡◌, IfOk};
 ghost use Rattle.std.specs.Str.{bytes_eq};
 ghost use Rattle.cc_names.specs.Answers.{Gives};
+ghost use Rattle.session_text.specs.Kinds.{kinds_of};
 ghost use Rattle.session_text.specs.Sessions.{body_of};
 ghost use Rattle.session_text.specs.Shapes.{fits_beside};
-ghost use Rattle.session_text.specs.Commands.{mkview, rmview, setcs, mkelem, mkdir, checkout, mkbranch, save, rm, checkin, uncheckout, rmname, mv, mklbtype, mkbrtype, mklabel, rmlabel, rmdo, scrub, catcs, lsdo, ls, cat, describe, lsvtree, lshistory, catcr, diffcr, covers, mkarrow, findmerge, by_record, labels, table, said_in, command_of, takes_body};
+ghost use Rattle.session_text.specs.Commands.{mkview, rmview, setcs, mkelem, mkdir, checkout, mkbranch, save, rm, checkin, uncheckout, rmname, mv, mklbtype, mkbrtype, mklabel, rmlabel, rmdo, scrub, catcs, lsdo, ls, cat, describe, lsvtree, lshistory, catcr, diffcr, covers, mkarrow, findmerge, by_record, labels, table, said_in, where_carried_out, command_of, takes_body};
 
 use crate::bodies::body_of;
 use crate::builds::clearmake;
@@ -26,6 +27,7 @@ use cc_names::names::Name;
 use cc_names::paths::Path;
 use cc_names::refusals::SessionCause;
 use std::alloc::Global;
+use std::hash::RandomState;
 
 /// `mkview V`
 fn mkview(alloc: Global, words: Words<'_>) -> Result<Command, Or<SessionCause>>
@@ -46,7 +48,7 @@ fn rmview(alloc: Global, mut words: Words<'_>) -> Result<Command, Or<SessionCaus
 
 /// `setcs V`, with a body
 fn setcs(alloc: Global, words: Words<'_>, behind: &Rest<'_>) -> Result<Command, Or<SessionCause>>
-    ensures { Gives result (setcs words.entry (body_of behind.now.kinds)) }
+    ensures { Gives result (setcs words.entry (body_of (kinds_of behind.now.bytes))) }
 {
     let view = view(alloc, words)?;
     let text = body_of(alloc, behind)?;
@@ -98,7 +100,7 @@ fn mkbranch(alloc: Global, mut words: Words<'_>) -> Result<Command, Or<SessionCa
 
 /// `save V P`, with a body
 fn save(alloc: Global, words: Words<'_>, behind: &Rest<'_>) -> Result<Command, Or<SessionCause>>
-    ensures { Gives result (save words.entry (body_of behind.now.kinds)) }
+    ensures { Gives result (save words.entry (body_of (kinds_of behind.now.bytes))) }
 {
     let (view, path) = view_below(alloc, words)?;
     let text = body_of(alloc, behind)?;
@@ -420,11 +422,12 @@ fn is(word: &[u8], text: &[u8]) -> bool
 /// The command of a line, whether it is carried out or not.
 fn said(
     alloc: Global,
+    hashing: RandomState,
     word: &[u8],
     words: Words<'_>,
     behind: &Rest<'_>,
 ) -> Result<Command, Or<SessionCause>>
-    ensures { Gives result (said_in table word.now words.entry (body_of behind.now.kinds)) }
+    ensures { Gives result (said_in table word.now words.entry (body_of (kinds_of behind.now.bytes))) }
 {
     match word {
         _ if is(word, b"mkview") => mkview(alloc, words),
@@ -446,7 +449,7 @@ fn said(
         _ if is(word, b"rmlabel") => rmlabel(alloc, words),
         _ if is(word, b"rmdo") => rmdo(alloc, words),
         _ if is(word, b"scrub") => scrub(words),
-        _ if is(word, b"clearmake") => clearmake(alloc, words),
+        _ if is(word, b"clearmake") => clearmake(alloc, hashing, words),
         _ if is(word, b"catcs") => catcs(alloc, words),
         _ if is(word, b"lsdo") => lsdo(alloc, words),
         _ if is(word, b"ls") => ls(alloc, words),
@@ -463,20 +466,35 @@ fn said(
     }
 }
 
+/// A command where it is carried out.
+fn where_carried_out(command: Command) -> Result<Command, SessionCause>
+    ensures { result ≡ where_carried_out command }
+{
+    if is_carried_out(&command) {
+        return Ok(command);
+    }
+    Err(SessionCause::NotBuilt)
+}
+
 /// The command that a word says with the words behind it and with the body lines behind its line.
 pub(crate) fn command_of(
     alloc: Global,
+    hashing: RandomState,
     word: &[u8],
     words: Words<'_>,
     behind: &Rest<'_>,
 ) -> Result<Command, Or<SessionCause>>
-    ensures { Gives result (command_of word.now words.entry (body_of behind.now.kinds)) }
+    ensures { Gives result (command_of word.now words.entry (body_of (kinds_of behind.now.bytes))) }
 {
-    let command = said(alloc, word, words, behind)?;
-    if !is_carried_out(&command) {
-        return Err(Or::Is(SessionCause::NotBuilt));
+    match said(alloc, hashing, word, words, behind) {
+        Ok(command) => where_carried_out(command).map_err(Or::Is),
+        Err(fault) => Err(fault),
     }
-    Ok(command)
+}
+
+/// Lets a command go.
+pub(crate) fn let_go(command: Command) {
+    drop(command);
 }
 
 /// Whether body lines may stand under a command.

@@ -1,11 +1,11 @@
 // The kinds of lines, and the lines that are left of a text.
 
-ghost use Rattle.std.specs.Prelude.{◌≡◌, ◌<◌, ◌^◌, length, MatchOption};
-ghost use Rattle.cc_names.specs.Cuts.{words_of};
-ghost use Rattle.session_text.specs.Kinds.{kind_of, kinds_of, said};
-ghost use Rattle.session_text.specs.Reading.{IsNext, IsAtEnd};
+ghost use Rattle.std.specs.Prelude.{◌≡◌, ◌<◌, ◌^◌, ◌∷◌, length, MatchOption};
+ghost use Rattle.cc_names.specs.Cuts.{lines_of, words_of};
+ghost use Rattle.session_text.specs.Kinds.{kind_of, said};
+ghost use Rattle.session_text.specs.Reading.{IsEnd, IsNext, IsAtEnd};
 
-use cc_names::cuts::{Lines, Words};
+use cc_names::cuts::{Words, first_newline};
 use std::marker::Model;
 
 /// Bytes of a text. Contracts see them as a list.
@@ -80,27 +80,43 @@ fn kind_of(line: &[u8]) -> Kind<'_>
     }
 }
 
-/// The lines that are left of a text of less than 2^32 bytes, and how many stood before them. Contracts see each line as
-/// its kind.
+/// The lines that are left of a text of less than 2^32 bytes, and how many stood before them. Contracts see the bytes that are
+/// left.
 pub(crate) struct Rest<'a> {
     number: u32,
-    lines: Lines<'a>,
+    bytes: &'a [u8],
 }
 
 impl<'a> Model for Rest<'a> {
-    ghost use Rattle.std.specs.Prelude.{◌+◌, ◌<◌, ◌^◌, length, map};
-    ghost use Rattle.session_text.specs.Kinds.{Rest, kind_of};
+    ghost use Rattle.std.specs.Prelude.{◌+◌, ◌<◌, ◌^◌, length};
+    ghost use Rattle.session_text.specs.Kinds.{Rest};
 
     ghost Value = { Rest };
 
-    ghost view = { λ s. record { number = s.number; kinds = map kind_of s.lines } };
+    ghost view = { λ s. record { number = s.number; bytes = s.bytes.now } };
 
-    ghost invariant = { λ s. s.number + length s.lines < 2 ^ 32 };
+    ghost invariant = { λ s. s.number + length s.bytes.now < 2 ^ 32 };
 }
 
 impl Drop for Rest<'_> {
     fn drop(self) {
-        let Rest { number: _, lines } = self;
+        let Rest {
+            number: _,
+            bytes: _,
+        } = self;
+    }
+}
+
+/// The first line, and what stands behind its newline.
+fn cut_line(bytes: &[u8]) -> (&[u8], &[u8])
+    requires { 0 < length bytes.now }
+    ensures lines { lines_of bytes.now ≡ result.0.now ∷ lines_of result.1.now }
+    ensures fewer { length result.1.now < length bytes.now }
+    ensures end { IsEnd result.1.now bytes.now }
+{
+    match first_newline(bytes) {
+        Some(end) => (&bytes[..end], &bytes[end + 1..]),
+        None => (bytes, &[]),
     }
 }
 
@@ -108,11 +124,11 @@ impl<'a> Rest<'a> {
     /// All lines of a text.
     pub(crate) fn of(text: &'a [u8]) -> Rest<'a>
         requires { length text.now < 2 ^ 32 }
-        ensures { result ≡ record { number = 0; kinds = kinds_of text.now } }
+        ensures { result ≡ record { number = 0; bytes = text.now } }
     {
         Rest {
             number: 0,
-            lines: Lines::of(text),
+            bytes: text,
         }
     }
 
@@ -122,7 +138,7 @@ impl<'a> Rest<'a> {
     {
         Rest {
             number: self.number,
-            lines: self.lines.again(),
+            bytes: self.bytes,
         }
     }
 
@@ -133,12 +149,23 @@ impl<'a> Rest<'a> {
         self.number
     }
 
+    /// How many bytes are left.
+    pub(crate) fn left(&self) -> usize
+        ensures { result ≡ length self.now.bytes }
+    {
+        self.bytes.len()
+    }
+
     /// The next line. Takes time linear in it.
     pub(crate) fn next(&mut self) -> Option<Kind<'a>>
         ensures { MatchOption result (IsAtEnd self.old self.new)
             (λ kind. IsNext self.old kind self.new) }
     {
-        let line = self.lines.next()?;
+        if self.bytes.is_empty() {
+            return None;
+        }
+        let (line, behind) = cut_line(self.bytes);
+        self.bytes = behind;
         self.number += 1;
         Some(kind_of(line))
     }

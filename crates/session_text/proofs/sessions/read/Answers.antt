@@ -1,23 +1,20 @@
-use Rattle.std.proofs.Common.{◌∙◌, ap, sym, subst, length, List}
+use Rattle.std.proofs.Common.{◌≡◌, ◌∙◌, None, List, ℕ, length, ap, sym, subst}
 use Rattle.std.specs.List.{AllByRecursion}
 use Rattle.carried_out.specs.CarriedOut.{AreCarriedOut}
-use Rattle.cc_names.specs.declared.commands.Phase.{Phase}
 use Rattle.session_text.specs.Formed.{IsSession}
 use Rattle.session_text.specs.Kinds.{kinds_of}
-use Rattle.session_text.specs.Sessions.{first_error, nothing}
+use Rattle.session_text.specs.Reading.{Place, lines_at}
+use Rattle.session_text.specs.Sessions.{first_error, nothing, phases_of}
 use Rattle.session_text.proofs.Carried.{phases_carried}
 use Rattle.session_text.proofs.FormedReading.{phases_read}
-use Rattle.session_text.proofs.Steps.{none-left}
 use Rattle.session_text.proofs.sessions.read.Goals as goal
 
 pub returns-clause-formed : goal.returns-clause-formed
 returns-clause-formed c =
-    let all = none-left (kinds_of c.args.text.now) c.lines.phases.items c.lines.rest.kinds c.lines.invariant.phases c.in_default.ensures.none in
-    let right = c.lines.invariant.right ∙ ap (λ v. first_error c.lines.rest.number nothing v) c.in_default.ensures.none in
-    let P : List Phase → Type 0 = λ phases. IsSession (length c.args.text.now) (record { phases = phases }) in
-    subst P (all ∙ sym c.of.ensures) (phases_read c.args.text.now right)
+    let right : first_error 0 nothing (kinds_of c.args.text) ≡ None =
+    ap (λ (v : List ℕ). first_error 0 nothing (kinds_of v)) (sym c.as_bytes.ensures) ∙ c.in_ok-check.ensures.right in
+    let P : Place → Type 0 = λ place. IsSession (length c.args.text) (record { phases = phases_of (lines_at place) }) in
+    subst P (sym c.in_ok-place.ensures) (phases_read c.args.text right)
 
 pub returns-clause-carried_out : goal.returns-clause-carried_out
-returns-clause-carried_out c =
-    let all = none-left (kinds_of c.args.text.now) c.lines.phases.items c.lines.rest.kinds c.lines.invariant.phases c.in_default.ensures.none in
-    subst (AllByRecursion AreCarriedOut) (all ∙ sym c.of.ensures) (phases_carried (kinds_of c.args.text.now))
+returns-clause-carried_out c = phases_carried (lines_at c.in_ok-place.place)

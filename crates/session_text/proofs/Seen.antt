@@ -1,0 +1,78 @@
+-- Steps from a place to the next.
+use Rattle.std.proofs.Common.{◌≡◌, ◌∙◌, ℕ, ◌+◌, ◌-◌, ◌≤◌, List, [], ◌∷◌, drop, length, refl, sym, ap, subst}
+use Rattle.std.specs.Prelude.{Ok}
+use Rattle.cc_names.specs.declared.commands.Command.{Command}
+use Rattle.cc_names.specs.declared.commands.Lane.{Lane}
+use Rattle.session_text.specs.declared.kinds.Kind.{Kind}
+use Rattle.session_text.specs.declared.kinds.Kind.TheVariants as kinds
+use Rattle.session_text.specs.Commands.{command_of}
+use Rattle.session_text.specs.Kinds.{Rest, kinds_of}
+use Rattle.session_text.specs.Reading.{IsEnd, IsFound, IsRight, FindsLane, FindsCommand, Says, Place, lines_at}
+use Rattle.session_text.specs.Sessions.{before_lanes, before_commands, body_of, commands_of, lanes_of}
+use Rattle.session_text.specs.Shapes.{view}
+use Rattle.session_text.proofs.Ends.{end-behind, end-from}
+use Rattle.session_text.proofs.Right.{right-behind, right-command, right_along}
+
+-- the lines of a place were found behind which a line of this kind stands
+pub record IsSeen (place : Place) (old : Rest) (kind : Kind) (new : Rest) (bytes : ℕ) : Type 0 where
+  pub rest : old ≡ record { number = 0; bytes = drop place.from place.text }
+  pub within : place.from ≤ length place.text
+  pub found : IsFound old kind new
+  pub left : bytes ≡ length new.bytes
+
+-- the place behind that line
+abbrev pub behind : Place → ℕ → Place
+behind place left = record { text = place.text; from = length place.text - left }
+
+pub bytes_behind : (place : Place) (old new : Rest) (kind : Kind) (left : ℕ) → IsSeen place old kind new left → drop (length place.text - left) place.text ≡ new.bytes
+bytes_behind place old new kind left seen =
+    let bytes : old.bytes ≡ drop place.from place.text = ap (λ (v : Rest). v.bytes) seen.rest in
+    let end : IsEnd new.bytes (drop place.from place.text) = subst (λ v. IsEnd new.bytes v) bytes seen.found.end in
+    let whole = end-behind place.text (drop place.from place.text) new.bytes (end-from place.text place.from seen.within) end in
+    ap (λ n. drop (length place.text - n) place.text) seen.left ∙ sym whole.same
+
+pub right-from : (place : Place) (old new : Rest) (kind : Kind) (left : ℕ) → IsSeen place old kind new left → IsRight (lines_at place) → IsRight (kind ∷ kinds_of new.bytes)
+right-from place old new kind left seen right =
+    let bytes : old.bytes ≡ drop place.from place.text = ap (λ (v : Rest). v.bytes) seen.rest in
+    seen.found.right (right_along (lines_at place) (kinds_of old.bytes) (ap kinds_of (sym bytes)) right)
+
+-- the lines behind it stand right
+pub right-at : (place other : Place) (old new : Rest) (kind : Kind) (left : ℕ) → other ≡ place → IsSeen place old kind new left → IsRight (lines_at place) → IsRight (lines_at (behind other left))
+right-at place other old new kind left same seen right =
+    let there : lines_at (behind other left) ≡ kinds_of new.bytes =
+    ap (λ v. lines_at (behind v left)) same ∙ ap kinds_of (bytes_behind place old new kind left seen) in
+    right_along (kinds_of new.bytes) (lines_at (behind other left)) (sym there) (right-behind kind (kinds_of new.bytes) (right-from place old new kind left seen right))
+
+-- the line says a command
+pub says-at : (place : Place) (old new : Rest) (word : List ℕ) (words : List (List ℕ)) (left : ℕ) → IsSeen place old (kinds.Command word words) new left → IsRight (lines_at place) → Says word words (kinds_of new.bytes)
+says-at place old new word words left seen right =
+    right-command word words (kinds_of new.bytes) (right-from place old new (kinds.Command word words) left seen right)
+
+-- a lane before those that are left
+pub lane-step : (place other first last : Place) (old new : Rest) (left : ℕ) (words : List (List ℕ)) (name : List ℕ) (now : List Lane) (lane : Lane)
+    → IsSeen place old (kinds.Lane words) new left → lanes_of (kinds_of old.bytes) ≡ lanes_of (kinds.Lane words ∷ kinds_of new.bytes)
+    → now ≡ lanes_of (lines_at place) → view words ≡ Ok name → other ≡ place → first ≡ behind other left → last ≡ behind place left
+    → lane ≡ record { name = name; commands = commands_of (lines_at first) } → now ≡ lane ∷ lanes_of (lines_at last)
+lane-step place other first last old new left words name now lane seen same is named o f l made =
+    let bytes : old.bytes ≡ drop place.from place.text = ap (λ (v : Rest). v.bytes) seen.rest in
+    let lines : kinds_of (drop (length place.text - left) place.text) ≡ kinds_of new.bytes = ap kinds_of (bytes_behind place old new (kinds.Lane words) left seen) in
+    let at_first : lines_at first ≡ kinds_of new.bytes = ap lines_at f ∙ ap (λ v. lines_at (behind v left)) o ∙ lines in
+    let at_last : lines_at last ≡ kinds_of new.bytes = ap lines_at l ∙ lines in
+    is ∙ ap (λ v. lanes_of (kinds_of v)) (sym bytes) ∙ same
+    ∙ ap (λ v. before_lanes v (commands_of (kinds_of new.bytes)) (lanes_of (kinds_of new.bytes))) named
+    ∙ ap (λ (v : List Kind). record { name = name; commands = commands_of v } ∷ lanes_of (kinds_of new.bytes)) (sym at_first)
+    ∙ ap (λ v. v ∷ lanes_of (kinds_of new.bytes)) (sym made)
+    ∙ ap (λ v. lane ∷ lanes_of v) (sym at_last)
+
+-- a command before those that are left
+pub command-step : (place last : Place) (old new : Rest) (left : ℕ) (word : List ℕ) (words : List (List ℕ)) (command : Command) (now : List Command)
+    → IsSeen place old (kinds.Command word words) new left → commands_of (kinds_of old.bytes) ≡ commands_of (kinds.Command word words ∷ kinds_of new.bytes)
+    → now ≡ commands_of (lines_at place) → command_of word words (body_of (kinds_of new.bytes)) ≡ Ok command → last ≡ behind place left
+    → now ≡ command ∷ commands_of (lines_at last)
+command-step place last old new left word words command now seen same is said l =
+    let bytes : old.bytes ≡ drop place.from place.text = ap (λ (v : Rest). v.bytes) seen.rest in
+    let lines : kinds_of (drop (length place.text - left) place.text) ≡ kinds_of new.bytes = ap kinds_of (bytes_behind place old new (kinds.Command word words) left seen) in
+    let at_last : lines_at last ≡ kinds_of new.bytes = ap lines_at l ∙ lines in
+    is ∙ ap (λ v. commands_of (kinds_of v)) (sym bytes) ∙ same
+    ∙ ap (λ v. before_commands v (commands_of (kinds_of new.bytes))) said
+    ∙ ap (λ v. command ∷ commands_of v) (sym at_last)

@@ -1,0 +1,59 @@
+// Where the next line of a kind stands.
+
+ghost use Rattle.std.specs.Prelude.{◌≡◌, [], MatchOption};
+ghost use Rattle.session_text.specs.Reading.{FindsPhase, FindsLane, FindsCommand};
+ghost use Rattle.session_text.specs.Kinds.{kinds_of};
+ghost use Rattle.session_text.specs.Sessions.{commands_of, lanes_of, phases_of};
+
+use crate::kinds::{Bytes, Kind, Rest};
+use cc_names::cuts::Words;
+
+/// Finds the next phase, and answers the words behind `phase`.
+pub(crate) fn find_phase<'a>(rest: &mut Rest<'a>) -> Option<Words<'a>>
+    ensures { MatchOption result (phases_of (kinds_of rest.old.bytes) ≡ [])
+        (λ words. FindsPhase rest.old words rest.new) }
+{
+    'lines: while let Some(kind) = rest.next() {
+        match kind {
+            Kind::Phase(words) => return Some(words),
+            Kind::Skipped => {}
+            Kind::Body(_bytes) => {}
+            Kind::Lane(_words) => {}
+            Kind::Command(_word, _words) => {}
+        }
+    }
+    None
+}
+
+/// Finds the next lane of a phase, and answers the words behind `lane`.
+pub(crate) fn find_lane<'a>(rest: &mut Rest<'a>) -> Option<Words<'a>>
+    ensures { MatchOption result (lanes_of (kinds_of rest.old.bytes) ≡ [])
+        (λ words. FindsLane rest.old words rest.new) }
+{
+    'lines: while let Some(kind) = rest.next() {
+        match kind {
+            Kind::Phase(_words) => return None,
+            Kind::Lane(words) => return Some(words),
+            Kind::Skipped => {}
+            Kind::Body(_bytes) => {}
+            Kind::Command(_word, _words) => {}
+        }
+    }
+    None
+}
+
+/// Finds the next command of a lane, and answers its word and the words behind that.
+pub(crate) fn find_command<'a>(rest: &mut Rest<'a>) -> Option<(Bytes<'a>, Words<'a>)>
+    ensures { MatchOption result (commands_of (kinds_of rest.old.bytes) ≡ [])
+        (λ found. FindsCommand rest.old found.0 found.1 rest.new) }
+{
+    'lines: while let Some(kind) = rest.next() {
+        match kind {
+            Kind::Phase(_words) | Kind::Lane(_words) => return None,
+            Kind::Command(word, words) => return Some((word, words)),
+            Kind::Skipped => {}
+            Kind::Body(_bytes) => {}
+        }
+    }
+    None
+}
