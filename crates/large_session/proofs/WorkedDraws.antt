@@ -1,5 +1,5 @@
 -- Draws, worked out by computation: two of the seed 1, and the files of two sessions.
-use Rattle.std.proofs.Common.{◌≡◌, ℕ, List, [], ◌∷◌, ◌^◌, ◌-◌, refl}
+use Rattle.std.proofs.Common.{◌≡◌, ℕ, [], ◌∷◌, ◌^◌, ◌-◌, refl}
 use Rattle.large_session.specs.declared.draws.SourceFile.{SourceFile}
 use Rattle.large_session.specs.Draws.{next_state, drawn, files_of}
 

@@ -1,5 +1,5 @@
 -- The large sessions of the seed 1 and the size 1, and of the seed 7 and the size 2, written out line by line from the rule.
-use Rattle.std.proofs.Common.{◌≡◌, ℕ, List, [], ◌∷◌, ◌++◌, refl}
+use Rattle.std.proofs.Common.{◌≡◌, [], ◌∷◌, ◌++◌, refl}
 use Rattle.std.specs.Prelude.{codes}
 use Rattle.std.specs.Fmt.{digits}
 use Rattle.large_session.specs.LargeSession.{lines, made, making, large_session}

@@ -85,7 +85,7 @@ fn ascend<M: Ordered>(members: &[M]) -> bool
 fn are_distinct(alloc: Global, hashing: RandomState, targets: &[Path]) -> Result<bool, NoMemory>
     ensures { IfOk result (λ are. are ≡ are_distinct targets.now) }
 {
-    let mut seen = HashSet::with_hasher(alloc, hashing);
+    let mut seen = HashSet::with_capacity_and_hasher(alloc, targets.len(), hashing)?;
     for target in targets {
         if !seen.insert(target.as_bytes())? {
             return Ok(false);

@@ -1,4 +1,4 @@
-use Rattle.std.proofs.Common.{◌≡◌, ◌++◌, ◌∙◌, [], ◌∷◌, ap, arith}
+use Rattle.std.proofs.Common.{◌∙◌, ap, arith}
 use Rattle.large_session.specs.Draws.{next_state}
 use Rattle.large_session.proofs.Files.{one_more, all_drawn}
 use Rattle.large_session.proofs.draws.files_of.Goals as goal

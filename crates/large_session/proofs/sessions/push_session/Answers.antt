@@ -1,4 +1,3 @@
-use Rattle.std.proofs.Common.{◌≡◌}
 use Rattle.large_session.proofs.Joins.{two_more}
 use Rattle.large_session.proofs.sessions.push_session.Goals as goal
 

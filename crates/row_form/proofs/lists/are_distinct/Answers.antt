@@ -22,7 +22,7 @@ front targets index target h e =
     drop-cons targets index target h ∙ ap (λ t. t ∷ drop (suc index) targets) (sym e) ∙ ap (λ n. target ∷ drop n targets) (sym (add-one index))
 
 pub loop-target-init : goal.loop-target-init
-loop-target-init c = fresh_first c.args.targets.now ∙ ap (λ keys. are_fresh keys c.args.targets.now) (sym c.with_hasher-seen.ensures.empty)
+loop-target-init c = fresh_first c.args.targets.now ∙ ap (λ keys. are_fresh keys c.args.targets.now) (sym c.in_ok-seen.ensures.empty)
 
 pub returns-then-not-branch : goal.returns-then-not-branch
 returns-then-not-branch c =
