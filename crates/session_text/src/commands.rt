@@ -13,12 +13,10 @@ use crate::bodies::body_of;
 use crate::builds::clearmake;
 use crate::kinds::Rest;
 use crate::shapes::{
-    first_name, flag_below, flag_path, maybe_path, only_type, path_type, take_flag, type_path,
-    view, view_below, view_path,
+    first_name, flag_below, flag_path, maybe_path, named_below, named_path, only_type, path_type,
+    take_flag, type_path, view, view_below, view_path,
 };
-use crate::words::{
-    age_word, below_root, cat_word, latest_word, name_word, path_word, version_word,
-};
+use crate::words::{age_word, cat_word, latest_word, name_word, version_word};
 use carried_out::is_carried_out;
 use cc_names::commands::Command;
 use cc_names::cuts::Words;
@@ -169,8 +167,7 @@ fn mv(alloc: Global, mut words: Words<'_>) -> Result<Command, Or<SessionCause>>
     ) else {
         return Err(Or::Is(SessionCause::BadWord));
     };
-    let view = name_word(alloc, view)?;
-    let path = below_root(alloc, path)?;
+    let (view, path) = named_below(alloc, view, path)?;
     let name = name_word(alloc, name)?;
     if !fits_beside(alloc, &path, &name)? {
         return Err(Or::Is(SessionCause::BadWord));
@@ -352,8 +349,7 @@ fn diffcr(alloc: Global, mut words: Words<'_>) -> Result<Command, Or<SessionCaus
     let (Some(view), Some(path)) = (words.next(), words.next()) else {
         return Err(Or::Is(SessionCause::BadWord));
     };
-    let view = name_word(alloc, view)?;
-    let path = below_root(alloc, path)?;
+    let (view, path) = named_below(alloc, view, path)?;
     let (other, second) = view_below(alloc, words)?;
     Ok(Command::Diffcr {
         view,
@@ -384,8 +380,7 @@ fn mkarrow(alloc: Global, mut words: Words<'_>) -> Result<Command, Or<SessionCau
     ) else {
         return Err(Or::Is(SessionCause::BadWord));
     };
-    let view = name_word(alloc, view)?;
-    let path = below_root(alloc, path)?;
+    let (view, path) = named_below(alloc, view, path)?;
     let version = version_word(alloc, version)?;
     Ok(Command::Mkarrow {
         view,
@@ -407,8 +402,7 @@ fn findmerge(alloc: Global, mut words: Words<'_>) -> Result<Command, Or<SessionC
     if !is(flag, b"-fversion") {
         return Err(Or::Is(SessionCause::BadWord));
     }
-    let view = name_word(alloc, view)?;
-    let path = path_word(alloc, path)?;
+    let (view, path) = named_path(alloc, view, path)?;
     let branch = latest_word(alloc, latest)?;
     Ok(Command::Findmerge { view, path, branch })
 }
@@ -470,10 +464,11 @@ fn said(
 fn where_carried_out(command: Command) -> Result<Command, SessionCause>
     ensures { result ≡ where_carried_out command }
 {
-    if is_carried_out(&command) {
-        return Ok(command);
+    if !is_carried_out(&command) {
+        let_go(command);
+        return Err(SessionCause::NotBuilt);
     }
-    Err(SessionCause::NotBuilt)
+    Ok(command)
 }
 
 /// The command that a word says with the words behind it and with the body lines behind its line.

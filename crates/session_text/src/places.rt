@@ -12,13 +12,19 @@ use std::hash::RandomState;
 use std::marker::Model;
 use std::sync::Arc;
 
+/// The text of a session. Names are found by hashing them so.
+#[derive(Drop)]
+struct Shared {
+    text: Text,
+    hashing: RandomState,
+}
+
 /// A place in the text of a session, from which on its lines stand right, below what stands above them. Copies of it share the
-/// text. Names are found by hashing them so.
+/// text.
 #[derive(Drop)]
 pub(crate) struct Place {
-    text: Arc<Text>,
-    from: usize,
-    hashing: RandomState,
+    shared: Arc<Shared>,
+    from: u32,
 }
 
 impl Model for Place {
@@ -28,12 +34,12 @@ impl Model for Place {
 
     ghost Value = { Place };
 
-    ghost view = { λ s. record { text = s.text.value; from = s.from } };
+    ghost view = { λ s. record { text = s.shared.value.text; from = s.from } };
 
     ghost invariant = { λ s.
-        (length s.text.value < 2 ^ 32)
-        × (s.from ≤ length s.text.value)
-        × IsRight (kinds_of (drop s.from s.text.value)) };
+        (length s.shared.value.text < 2 ^ 32)
+        × (s.from ≤ length s.shared.value.text)
+        × IsRight (kinds_of (drop s.from s.shared.value.text)) };
 }
 
 impl Place {
@@ -47,29 +53,24 @@ impl Place {
         requires right { first_error 0 nothing (kinds_of text) ≡ None }
         ensures { IfOk result (λ place. place ≡ record { text = text; from = 0 }) }
     {
-        let text = Arc::new(alloc, text)?;
-        Ok(Place {
-            text,
-            from: 0,
-            hashing,
-        })
+        let shared = Arc::new(alloc, Shared { text, hashing })?;
+        Ok(Place { shared, from: 0 })
     }
 
     /// The same place again. Takes no memory; it fails only where there are too many.
     pub(crate) fn again(&self) -> Result<Place, NoMemory>
         ensures { IfOk result (λ place. place ≡ self.now) }
     {
-        let text = Arc::try_clone(&self.text)?;
+        let shared = Arc::try_clone(&self.shared)?;
         Ok(Place {
-            text,
+            shared,
             from: self.from,
-            hashing: self.hashing,
         })
     }
 
     /// How names are hashed.
     pub(crate) fn hashing(&self) -> RandomState {
-        self.hashing
+        self.shared.hashing
     }
 
     /// The lines from this place on.
@@ -79,7 +80,7 @@ impl Place {
         ensures right { IsRight (lines_at self.now) }
         ensures short { length self.now.text < 2 ^ 32 }
     {
-        Rest::of(&self.text.as_bytes()[self.from..])
+        Rest::of(&self.shared.text.as_bytes()[self.from as usize..])
     }
 
     /// Goes to where so many bytes are left.
@@ -89,6 +90,6 @@ impl Place {
         ensures { self.new
             ≡ record { text = self.old.text; from = length self.old.text - left } }
     {
-        self.from = self.text.as_bytes().len() - left;
+        self.from = (self.shared.text.as_bytes().len() - left) as u32;
     }
 }

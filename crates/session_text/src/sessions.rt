@@ -84,6 +84,17 @@ impl PhasesLeft {
         self.place.go_to(left);
         Ok(Some(PhaseText::of(place)))
     }
+
+    /// The phases that are left, each kept as its text. Takes time linear in their text, and sixteen bytes for each.
+    pub fn into_vec(mut self, alloc: Global) -> Result<Vec<PhaseText>, NoMemory>
+        ensures { IfOk result (λ phases. phases.items ≡ self) }
+    {
+        let mut phases = Vec::new(alloc);
+        'phases: while let Some(phase) = self.next()? {
+            phases.push(phase)?;
+        }
+        Ok(phases)
+    }
 }
 
 /// Reads a text as a session, or answers its first line that stands wrong. The macros of a command line are found by hashing

@@ -3,6 +3,7 @@
 ghost use Rattle.std.specs.Prelude.{◌≡◌};
 ghost use Rattle.cc_names.specs.Answers.{Gives};
 ghost use Rattle.session_text.specs.Shapes.{has_flag, without_flag, view, only_type, view_path, view_below, type_path, path_type, maybe_path, first_name, behind_first, flag_path, flag_below};
+ghost use Rattle.session_text.specs.Words.{both, below_root, name_word, path_word};
 
 use crate::words::{below_root, name_word, path_word, type_word};
 use cc_names::cuts::Words;
@@ -58,6 +59,32 @@ pub(crate) fn only_type(alloc: Global, mut words: Words<'_>) -> Result<Name, Or<
     type_word(alloc, name)
 }
 
+/// Two words as a name and a path.
+pub(crate) fn named_path(
+    alloc: Global,
+    name: &[u8],
+    path: &[u8],
+) -> Result<(Name, Path), Or<SessionCause>>
+    ensures { Gives result (both (name_word name.now) (path_word path.now)) }
+{
+    let name = name_word(alloc, name)?;
+    let path = path_word(alloc, path)?;
+    Ok((name, path))
+}
+
+/// Two words as a name and a path below the root.
+pub(crate) fn named_below(
+    alloc: Global,
+    name: &[u8],
+    path: &[u8],
+) -> Result<(Name, Path), Or<SessionCause>>
+    ensures { Gives result (both (name_word name.now) (below_root path.now)) }
+{
+    let name = name_word(alloc, name)?;
+    let path = below_root(alloc, path)?;
+    Ok((name, path))
+}
+
 /// V P
 pub(crate) fn view_path(
     alloc: Global,
@@ -68,9 +95,7 @@ pub(crate) fn view_path(
     let (Some(view), Some(path), None) = (words.next(), words.next(), words.next()) else {
         return Err(Or::Is(SessionCause::BadWord));
     };
-    let view = name_word(alloc, view)?;
-    let path = path_word(alloc, path)?;
-    Ok((view, path))
+    named_path(alloc, view, path)
 }
 
 /// V P, where P is not the root
@@ -83,9 +108,7 @@ pub(crate) fn view_below(
     let (Some(view), Some(path), None) = (words.next(), words.next(), words.next()) else {
         return Err(Or::Is(SessionCause::BadWord));
     };
-    let view = name_word(alloc, view)?;
-    let path = below_root(alloc, path)?;
-    Ok((view, path))
+    named_below(alloc, view, path)
 }
 
 /// P, or nothing
@@ -147,8 +170,7 @@ pub(crate) fn flag_path(
     let (Some(path), None) = (words.next(), words.next()) else {
         return Err(Or::Is(SessionCause::BadWord));
     };
-    let view = name_word(alloc, view)?;
-    let path = path_word(alloc, path)?;
+    let (view, path) = named_path(alloc, view, path)?;
     Ok((view, flagged, path))
 }
 
@@ -167,7 +189,6 @@ pub(crate) fn flag_below(
     let (Some(path), None) = (words.next(), words.next()) else {
         return Err(Or::Is(SessionCause::BadWord));
     };
-    let view = name_word(alloc, view)?;
-    let path = below_root(alloc, path)?;
+    let (view, path) = named_below(alloc, view, path)?;
     Ok((view, flagged, path))
 }
