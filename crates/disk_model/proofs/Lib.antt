@@ -1,3 +1,5 @@
 pub mod Pictures
+pub mod Recording
 pub mod Stops
 pub mod Torn
+mod Worked

@@ -1,5 +1,5 @@
 -- A device of two files, told by what it held at first and by the list of its calls, and what a stop at each call leaves.
-use Rattle.std.specs.Prelude.{◌≡◌, ◌⊎◌, ℕ, ◌+◌, max, ◌==◌, if◌then◌else◌, List, [], ◌∷◌, length}
+use Rattle.std.specs.Prelude.{◌≡◌, ◌⊎◌, ℕ, ◌+◌, max, ◌==◌, Bool, true, false, if◌then◌else◌, List, [], ◌∷◌, length}
 use Rattle.disk_model.specs.Files.{File, stable, overwritten, IsImage, IsTorn}
 
 -- A device call, with what it left: file 0 is the journal, file 1 the objects.
@@ -10,10 +10,23 @@ pub data Event : Type 0 where
   Fetched : (file place size : ℕ) → Event
   -- so many bytes were to be written from a place on, and then the file reads so
   Wrote : (file place size : ℕ) (left : List ℕ) → Event
+  -- so many bytes were to be written from a place on, this failed, and then the file reads so
+  Tore : (file place size : ℕ) (left : List ℕ) → Event
   -- the file is on the disk as it reads
   Synced : (file : ℕ) → Event
   -- the call failed before it did anything
   Failed : Event
+
+-- whether a call failed
+abbrev pub is_failed : Event → Bool
+is_failed (Tore file place size left) = true
+is_failed Failed = true
+is_failed event = false
+
+-- how many of some calls failed
+abbrev pub failures : List Event → ℕ
+failures [] = 0
+failures (event ∷ earlier) = (if is_failed event then 1 else 0) + failures earlier
 
 -- both files as they were handed in, each of them stable, and the calls since, the newest first
 pub record Device : Type 0 where
@@ -39,6 +52,7 @@ abbrev pub after : ℕ → Event → File → File
 after file (Measured other) s = s
 after file (Fetched other place size) s = s
 after file (Wrote other place size left) s = if other == file then written_to s place size left else s
+after file (Tore other place size left) s = if other == file then written_to s place size left else s
 after file (Synced other) s = if other == file then stable s.bytes else s
 after file Failed s = s
 
@@ -47,6 +61,7 @@ abbrev pub during : ℕ → Event → File → File
 during file (Measured other) s = s
 during file (Fetched other place size) s = s
 during file (Wrote other place size left) s = after file (Wrote other place size left) s
+during file (Tore other place size left) s = after file (Tore other place size left) s
 during file (Synced other) s = s
 during file Failed s = s
 
@@ -108,4 +123,4 @@ Idles d e = (e ≡ d) ⊎ (e ≡ added Failed d)
 -- what a failed write does: nothing, or it leaves the range torn
 abbrev pub Tears : ℕ → ℕ → ℕ → Device → Device → Type 0
 Tears file place size d e =
-    Idles d e ⊎ ((left : List ℕ) × IsTorn place size (bytes_of file d) left × (e ≡ added (Wrote file place size left) d))
+    Idles d e ⊎ ((left : List ℕ) × IsTorn place size (bytes_of file d) left × (e ≡ added (Tore file place size left) d))

@@ -1,6 +1,6 @@
 -- The device that the record of a disk in memory stands for.
 use Rattle.std.specs.Prelude.{ℕ, zero, suc, ◌+◌, List, length, fold}
-use Rattle.disk_model.specs.Devices.{Event, Measured, Fetched, Wrote, Synced, Failed, Device, fresh, added, bytes_of}
+use Rattle.disk_model.specs.Devices.{Event, Measured, Fetched, Wrote, Tore, Synced, Failed, Device, fresh, added, bytes_of}
 use Rattle.disk_model.specs.Files.{overwritten}
 use Rattle.disk_model.specs.declared.calls.Call.{Call}
 use Rattle.disk_model.specs.declared.calls.Call.TheVariants as calls
@@ -15,7 +15,8 @@ failing (suc n) d = added Failed (failing n d)
 abbrev pub event_of : Call → Device → Event
 event_of (calls.Length file) d = Measured file
 event_of (calls.Read file place size) d = Fetched file place size
-event_of (calls.Write file place landed lost) d = Wrote file place (length landed + lost) (overwritten place landed (bytes_of file d))
+event_of (calls.Write file place piece) d = Wrote file place (length piece) (overwritten place piece (bytes_of file d))
+event_of (calls.Tear file place landed lost) d = Tore file place (length landed + lost) (overwritten place landed (bytes_of file d))
 event_of (calls.Sync file) d = Synced file
 
 -- a device on which a recorded call was made
@@ -34,5 +35,6 @@ device_of journal objects entries failed = failing failed (fold recorded (fresh 
 abbrev pub ChangesNoBytes : Call → Type 0
 ChangesNoBytes (calls.Length file) = Unit {0}
 ChangesNoBytes (calls.Read file place size) = Unit {0}
-ChangesNoBytes (calls.Write file place landed lost) = ⊥
+ChangesNoBytes (calls.Write file place piece) = ⊥
+ChangesNoBytes (calls.Tear file place landed lost) = ⊥
 ChangesNoBytes (calls.Sync file) = Unit {0}

@@ -1,7 +1,7 @@
 -- What contracts see of a disk, and what they say of it where it tells its device.
-use Rattle.std.specs.Prelude.{◌≡◌, ℕ, ◌-◌, ◌^◌, ◌<◌, Option, Some, None, Result, MatchResult, length}
+use Rattle.std.specs.Prelude.{◌≡◌, ℕ, ◌-◌, ◌^◌, ◌<◌, ◌≤◌, Option, Some, None, Result, MatchResult, length}
 use Rattle.disk_model.specs.Counting.{raised}
-use Rattle.disk_model.specs.Devices.{Device}
+use Rattle.disk_model.specs.Devices.{Device, failures}
 
 -- the device, where the disk tells it, and both counts
 pub record Sight : Type 0 where
@@ -27,8 +27,15 @@ abbrev pub Counted : {T E : Type 0} → Result T E → Sight → Sight → Type 
 Counted result old new = (new.ticks ≡ raised old.ticks)
     × MatchResult result (λ _. (new.faults ≡ old.faults) × (old.ticks < 2 ^ 64 - 1)) (λ _. new.faults ≡ raised old.faults)
 
--- what holds of each disk: counts fit, and there is a tick for each call that is told
+-- A fault was counted for each call that is told and failed, and no other as long as ticks have not come to their end, where a
+-- call is a fault and is neither made nor told.
+pub record CountsFailures (ticks faults : ℕ) (d : Device) : Type 0 where
+  pub each : failures d.calls ≤ faults
+  pub no_other : ticks < 2 ^ 64 - 1 → faults ≡ failures d.calls
+
+-- what holds of each disk: counts fit, there is a tick for each call that is told, and a fault for each of these that failed
 pub record IsCounted (sight : Sight) : Type 0 where
   pub ticks : sight.ticks < 2 ^ 64
   pub faults : sight.faults < 2 ^ 64
   pub told : IfTold sight.told (λ d. sight.ticks ≡ length d.calls)
+  pub failed : IfTold sight.told (CountsFailures sight.ticks sight.faults)

@@ -2,7 +2,7 @@
 
 use cc_names::texts::Text;
 
-/// A device call that was carried out.
+/// A device call that did something.
 #[derive(Debug, Drop)]
 pub enum Call {
     Length {
@@ -13,8 +13,14 @@ pub enum Call {
         place: u64,
         size: u64,
     },
-    /// Of a piece to be written from a place on, these bytes landed there, and so many behind them were lost.
+    /// This piece was written from a place on.
     Write {
+        file: u8,
+        place: u64,
+        piece: Text,
+    },
+    /// A write failed: of the piece these bytes landed from a place on, and so many behind them were lost.
+    Tear {
         file: u8,
         place: u64,
         landed: Text,
@@ -25,7 +31,7 @@ pub enum Call {
     },
 }
 
-/// A call that was carried out, and how many calls directly before it failed and changed nothing.
+/// A call that did something, and how many calls directly before it failed and changed nothing.
 #[derive(Debug, Drop)]
 pub struct Entry {
     pub failed_before: u64,

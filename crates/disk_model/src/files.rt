@@ -195,7 +195,7 @@ impl<R: Files<File = File>> Disk for FileDisk<R> {
     ghost as_typed = { λ disk. refl };
 
     ghost counted = { λ disk.
-        record { ticks = disk.ticks_fit; faults = disk.faults_fit; told = tt } };
+        record { ticks = disk.ticks_fit; faults = disk.faults_fit; told = tt; failed = tt } };
 
     fn length(&mut self, file: u8) -> Result<u64, DiskFault> {
         if self.begins()

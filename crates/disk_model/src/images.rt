@@ -101,6 +101,16 @@ impl Picture {
             Call::Write {
                 file: other,
                 place,
+                piece,
+            } => {
+                if *other == file {
+                    return self.write(alloc, keep, *place, piece.as_bytes(), 0);
+                }
+                Ok(())
+            }
+            Call::Tear {
+                file: other,
+                place,
                 landed,
                 lost,
             } => {
@@ -140,12 +150,7 @@ impl Picture {
                 place: _,
                 size: _,
             } => Ok(()),
-            Call::Write {
-                file: _,
-                place: _,
-                landed: _,
-                lost: _,
-            } => self.enter(alloc, keep, file, call),
+            Call::Write { .. } | Call::Tear { .. } => self.enter(alloc, keep, file, call),
         }
     }
 }

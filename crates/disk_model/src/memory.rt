@@ -1,6 +1,6 @@
 // A disk in memory, which tells all that was done to it.
 
-ghost use Rattle.std.specs.Prelude.{◌≡◌, ◌≤◌, ◌<◌, ◌+◌, ◌^◌, ◌-◌, List, Some, None, length, IfOk, OnOk, OnErr, MatchResult};
+ghost use Rattle.std.specs.Prelude.{◌≡◌, ◌⊎◌, ◌≤◌, ◌<◌, ◌+◌, ◌^◌, ◌-◌, List, Some, None, length, IfOk, OnOk, OnErr, MatchResult};
 ghost use Rattle.disk_model.specs.Records.{device_of};
 ghost use Rattle.disk_model.specs.Contents.{IsReplayed};
 ghost use Rattle.disk_model.specs.Counting.{raised};
@@ -15,6 +15,13 @@ use std::alloc::{AllocError, Global};
 
 /// The length that no file of a disk passes, 2^62.
 const MAX_LENGTH: u64 = 1 << 62;
+
+/// A count raised by one, which ends at 2^64 - 1.
+fn one_more(count: u64) -> u64
+    ensures { result ≡ raised count }
+{
+    count.saturating_add(1)
+}
 
 /// Both files.
 #[derive(Drop)]
@@ -138,21 +145,13 @@ impl MemoryDisk {
         self.ticks < u64::MAX && self.fail.as_slice().contains(&(self.ticks + 1))
     }
 
-    fn count_fault(&mut self)
-        ensures told { told_by self.new ≡ told_by self.old }
-        ensures ticks { self.new.ticks ≡ self.old.ticks }
-        ensures faults { self.new.faults ≡ raised self.old.faults }
-    {
-        self.faults = self.faults.saturating_add(1);
-    }
-
     /// A call that fails and changes nothing.
     fn miss(&mut self) -> DiskFault
         ensures told { Idles (told_by self.old) (told_by self.new) }
         ensures ticks { self.new.ticks ≡ raised self.old.ticks }
         ensures faults { self.new.faults ≡ raised self.old.faults }
     {
-        self.count_fault();
+        self.faults = one_more(self.faults);
         if self.ticks < u64::MAX {
             self.ticks += 1;
             self.failed += 1;
@@ -183,41 +182,79 @@ impl MemoryDisk {
         }
     }
 
-    /// A write of which these bytes land, and so many behind them are lost.
-    fn put(&mut self, file: u8, place: u64, landed: &[u8], lost: u64) -> Result<(), DiskFault>
+    /// A write of this piece.
+    fn put(&mut self, file: u8, place: u64, piece: &[u8]) -> Result<(), DiskFault>
         requires { file ≤ 1 }
         ensures told { MatchResult result
             (λ _.
-            told_by self.new
-            ≡ called (calls.Write file place landed.now lost) (told_by self.old))
+            told_by self.new ≡ called (calls.Write file place piece.now) (told_by self.old))
             (λ _. Idles (told_by self.old) (told_by self.new)) }
         ensures counts { Counted result (sight_of self.old) (sight_of self.new) }
     {
         if self.ticks == u64::MAX {
             return Err(self.miss());
         }
-        let Ok(text) = Text::from_bytes(self.alloc, landed) else {
+        let Ok(text) = Text::from_bytes(self.alloc, piece) else {
             return Err(self.miss());
         };
         if self.entries.reserve(1).is_err() {
             return Err(self.miss());
         }
-        if self.current.overwrite(file, place, landed).is_err() {
+        if self.current.overwrite(file, place, piece).is_err() {
             return Err(self.miss());
         }
         let call = Call::Write {
             file,
             place,
-            landed: text,
-            lost,
+            piece: text,
         };
-        let _ = self.entries.push(Entry {
-            failed_before: self.failed,
-            call,
-        });
+        self.entries
+            .push(Entry {
+                failed_before: self.failed,
+                call,
+            })
+            .unwrap();
         self.failed = 0;
         self.ticks += 1;
         Ok(())
+    }
+
+    /// A write that fails: these bytes land, and so many behind them are lost.
+    fn tear(&mut self, file: u8, place: u64, landed: &[u8], lost: u64) -> DiskFault
+        requires { file ≤ 1 }
+        ensures told { Idles (told_by self.old) (told_by self.new)
+            ⊎ (told_by self.new ≡ called (calls.Tear file place landed.now lost) (told_by self.old)) }
+        ensures ticks { self.new.ticks ≡ raised self.old.ticks }
+        ensures faults { self.new.faults ≡ raised self.old.faults }
+    {
+        if self.ticks == u64::MAX {
+            return self.miss();
+        }
+        let Ok(text) = Text::from_bytes(self.alloc, landed) else {
+            return self.miss();
+        };
+        if self.entries.reserve(1).is_err() {
+            return self.miss();
+        }
+        if self.current.overwrite(file, place, landed).is_err() {
+            return self.miss();
+        }
+        let call = Call::Tear {
+            file,
+            place,
+            landed: text,
+            lost,
+        };
+        self.entries
+            .push(Entry {
+                failed_before: self.failed,
+                call,
+            })
+            .unwrap();
+        self.failed = 0;
+        self.ticks += 1;
+        self.faults = one_more(self.faults);
+        DiskFault
     }
 }
 
@@ -236,6 +273,7 @@ impl Disk for MemoryDisk {
           ticks = disk.replayed.ticks_fit;
           faults = disk.replayed.faults_fit;
           told = disk.replayed.a_tick_each;
+          failed = disk.replayed.a_fault_each;
         } };
 
     fn length(&mut self, file: u8) -> Result<u64, DiskFault> {
@@ -264,12 +302,10 @@ impl Disk for MemoryDisk {
             return Err(self.miss());
         }
         if !self.is_planned() {
-            return self.put(file, place, piece, 0);
+            return self.put(file, place, piece);
         }
         let half = piece.len() - piece.len() / 2;
-        self.put(file, place, &piece[..half], (piece.len() - half) as u64)?;
-        self.count_fault();
-        Err(DiskFault)
+        Err(self.tear(file, place, &piece[..half], (piece.len() - half) as u64))
     }
 
     fn sync(&mut self, file: u8) -> Result<(), DiskFault> {

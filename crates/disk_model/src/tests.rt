@@ -87,6 +87,7 @@ fn letter_of(call: &Call) -> u8 {
         Call::Length { .. } => b'L',
         Call::Read { .. } => b'R',
         Call::Write { .. } => b'W',
+        Call::Tear { .. } => b'T',
         Call::Sync { .. } => b'S',
     }
 }

@@ -14,6 +14,8 @@ use Rattle.vob_journal.specs.Shown.{told_list, told_rest, told_loose, IsKept}
 use Rattle.vob_journal.specs.Tails.{IsWhole, IsFront, IsTail, IsReading, list_at, loose_at}
 use Rattle.vob_journal.specs.Windows.{IfShows}
 use Rattle.vob_journal.specs.declared.window.Window.{Window}
+use Rattle.vob_journal.specs.Added.{may_read}
+use Rattle.vob_journal.proofs.Adding.{adds_one}
 use Rattle.vob_journal.proofs.Framing.{head_is, head_length, head_take, head_short, frames_some, frames_none, frames_nil, whole_nil, whole_more}
 use Rattle.vob_journal.proofs.Passing.{passes_none, passes_weaker, passes_call}
 use Rattle.vob_journal.proofs.Settling.{shut_image, ajar_image}
@@ -71,7 +73,7 @@ rests_moves list loose list' loose' d e is rests same new = record {
 }
 
 pub measured_rests : (d e : Device) → Measures 0 d e → Rests d e
-measured_rests d e told = subst (Rests d) (sym told) (record { same = refl; passes = passes_call (Measured 0) d (LeavesNow 0 d) (λ image left. left) (λ image left. left) refl })
+measured_rests d e told = subst (Rests d) (sym told) (record { adds = adds_one may_read (Measured 0) d refl; same = refl; passes = passes_call (Measured 0) d (LeavesNow 0 d) (λ image left. left) (λ image left. left) refl })
 
 pub opened_moves : (old new : Option Device) → IfTold old (λ d. file_of 0 d ≡ stable (bytes_of 0 d)) → Both (Measures 0) old new
     → Both (Moves (told_list new false 0) [] (told_list new false 0) (told_loose new false false 0)) old new

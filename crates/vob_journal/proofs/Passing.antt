@@ -1,11 +1,13 @@
 -- How stops are told along calls.
-use Rattle.std.proofs.Common.{◌≡◌, ℕ, List, length, refl, sym, ◌∙◌, subst, inl, inr, arith}
+use Rattle.std.proofs.Common.{◌≡◌, ℕ, Option, Result, Ok, Err, MatchResult, List, length, refl, sym, ◌∙◌, ap, subst, inl, inr, arith}
 use Rattle.disk_model.specs.Files.{File, IsImage, IsTorn, overwritten}
-use Rattle.disk_model.specs.Devices.{Device, Event, Wrote, Synced, Failed, added, file_of, bytes_of, written_to, during, LeavesNow}
+use Rattle.disk_model.specs.Devices.{Device, Event, Wrote, Tore, Synced, Failed, added, file_of, bytes_of, written_to, during, LeavesNow, Writes, Syncs, Idles}
+use Rattle.disk_model.specs.Told.{Both}
 use Rattle.disk_model.proofs.Torn.{torn_overwritten}
 use Rattle.vob_journal.specs.Calls.{put_down}
 use Rattle.vob_journal.specs.Moves.{Passes}
-use Rattle.vob_journal.specs.Phases.{FailsToPut}
+use Rattle.vob_journal.specs.Phases.{PutsDown, FailsToPut}
+use Rattle.vob_journal.proofs.Telling.{both_then}
 
 pub passes_none : (d : Device) (P : List ℕ → Type 0) → Passes d d P
 passes_none d P = record { no_fewer = omega arith; each = λ k image left. inl left; others = λ k image left. inl left; objects = refl }
@@ -56,6 +58,10 @@ module _ (T : File → Type 0) (P : List ℕ → Type 0) (place size : ℕ)
   wrote_passes d left t h =
       passes_call (Wrote 0 place size left) d P (images (written_to (file_of 0 d) place size left) (torn (file_of 0 d) left t h)) (λ image i. i) refl
 
+  tore_passes : (d : Device) (left : List ℕ) → T (file_of 0 d) → IsTorn place size (bytes_of 0 d) left → Passes d (added (Tore 0 place size left) d) P
+  tore_passes d left t h =
+      passes_call (Tore 0 place size left) d P (images (written_to (file_of 0 d) place size left) (torn (file_of 0 d) left t h)) (λ image i. i) refl
+
   pub failed_put : (d e : Device) → T (file_of 0 d) → FailsToPut place size d e → Passes d e P × T (file_of 0 e)
   failed_put d e t h = elim h [
     | inl same ↦ subst (λ f. Passes d f P × T (file_of 0 f)) (sym same) (passes_none d P, t)
@@ -67,8 +73,11 @@ module _ (T : File → Type 0) (P : List ℕ → Type 0) (place size : ℕ)
           let kept = torn (file_of 0 d) left t wrote.1 in
           let mid = added (Wrote 0 place size left) d in
           elim wrote.2 [
-            | inl whole ↦ subst (λ f. Passes d f P × T (file_of 0 f)) (sym whole) (one, kept)
-            | inr missed ↦ subst (λ f. Passes d f P × T (file_of 0 f)) (sym missed) (passes_then d mid (added Failed mid) P one (failed_passes mid kept), kept)
+            | inl tore ↦ subst (λ f. Passes d f P × T (file_of 0 f)) (sym tore) (tore_passes d left t wrote.1, kept)
+            | inr put ↦ elim put [
+              | inl whole ↦ subst (λ f. Passes d f P × T (file_of 0 f)) (sym whole) (one, kept)
+              | inr missed ↦ subst (λ f. Passes d f P × T (file_of 0 f)) (sym missed) (passes_then d mid (added Failed mid) P one (failed_passes mid kept), kept)
+            ]
           ]
     ]
   ]
@@ -82,3 +91,18 @@ module _ (T : File → Type 0) (P : List ℕ → Type 0) (place size : ℕ)
       subst (λ n. Passes d (added (Synced 0) (added (Wrote 0 place n left) d)) P) (sym is)
       (passes_then d mid (added (Synced 0) mid) P (wrote_passes d left t whole)
       (passes_call (Synced 0) mid P (images (file_of 0 mid) kept) (λ image i. i) refl))
+
+-- a piece was written, and then synced or not
+unsynced : (place : ℕ) (piece : List ℕ) (d e f : Device) → Writes 0 place piece d e → Idles e f → FailsToPut place (length piece) d f
+unsynced place piece d e f wrote (inl same) =
+    inr (inr (overwritten place piece (bytes_of 0 d), torn_overwritten place (length piece) piece (bytes_of 0 d) (omega arith), inr (inl (same ∙ wrote))))
+unsynced place piece d e f wrote (inr missed) =
+    inr (inr (overwritten place piece (bytes_of 0 d), torn_overwritten place (length piece) piece (bytes_of 0 d) (omega arith), inr (inr (missed ∙ ap (added Failed) wrote))))
+
+pub told_put : {T E : Type 0} (r : Result T E) (place : ℕ) (piece : List ℕ) (old mid new : Option Device) → Both (Writes 0 place piece) old mid
+    → MatchResult r (λ _. Both (Syncs 0) mid new) (λ _. Both Idles mid new)
+    → MatchResult r (λ _. Both (PutsDown place piece) old new) (λ _. Both (FailsToPut place (length piece)) old new)
+told_put (Ok done) place piece old mid new wrote synced =
+    both_then (Writes 0 place piece) (Syncs 0) (PutsDown place piece) old mid new (λ d e f w s. s ∙ ap (added (Synced 0)) w) wrote synced
+told_put (Err fault) place piece old mid new wrote idles =
+    both_then (Writes 0 place piece) Idles (FailsToPut place (length piece)) old mid new (unsynced place piece) wrote idles

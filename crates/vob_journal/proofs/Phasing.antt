@@ -8,24 +8,27 @@ use Rattle.vob_journal.specs.Frames.{frames, written}
 use Rattle.vob_journal.specs.Moves.{Stands, Between, Passes, Moves}
 use Rattle.vob_journal.specs.Phases.{PutsDown, FailsToPut, IsStaged, IsStagedAt, Stages, Opens, MayOpen}
 use Rattle.vob_journal.specs.Tails.{IsShut, IsAjar, IsTail, list_at, loose_at}
+use Rattle.vob_journal.specs.Added.{Adds, may_write}
+use Rattle.vob_journal.proofs.Adding.{adds_none, adds_then, put_adds, failed_adds}
 use Rattle.vob_journal.proofs.Passing.{passes_none, passes_then, passes_weaker, failed_put, put_passes}
 use Rattle.vob_journal.proofs.Settling.{shut_image, ajar_image, shut_torn, ajar_torn, shut_closed, staged_put, staged_ajar, staged_opened}
 
-keeps_shut : (settled : Bool) (tail : ℕ) (d e : Device) → Passes d e (Stands (list_at tail d) (loose_at settled tail d)) → IsShut (list_at tail d) tail (file_of 0 e)
+keeps_shut : (settled : Bool) (tail : ℕ) (d e : Device) → Adds may_write d e → Passes d e (Stands (list_at tail d) (loose_at settled tail d)) → IsShut (list_at tail d) tail (file_of 0 e)
     → Keeps settled true tail d e
-keeps_shut settled tail d e passes shut = record {
+keeps_shut settled tail d e adds passes shut = record {
   moves = record {
     passes = passes_weaker d e (Stands (list_at tail d) (loose_at settled tail d)) (Between (list_at tail d) (loose_at settled tail d) (list_at tail e) []) (λ image h. inl h) passes;
     now = λ image i. inl (shut_image (list_at tail d) tail (file_of 0 e) shut image i ∙ sym shut.front.lists);
   };
   ends = subst (λ l. IsShut l tail (file_of 0 e)) (sym shut.front.lists) shut;
   same_list = shut.front.lists;
+  adds = adds;
 }
 
-keeps_ajar : (settled : Bool) (tail : ℕ) (loose : List (List ℕ)) (d e : Device)
+keeps_ajar : (settled : Bool) (tail : ℕ) (loose : List (List ℕ)) (d e : Device) → Adds may_write d e
     → Passes d e (Between (list_at tail d) (loose_at settled tail d) (list_at tail d) loose) → IsAjar (list_at tail d) loose tail (file_of 0 e)
     → Keeps settled false tail d e
-keeps_ajar settled tail loose d e passes ajar =
+keeps_ajar settled tail loose d e adds passes ajar =
     let moves : Moves (list_at tail d) (loose_at settled tail d) (list_at tail d) loose d e =
     record { passes = passes; now = ajar_image (list_at tail d) loose tail (file_of 0 e) ajar } in
     let same = ajar.front.lists in
@@ -34,11 +37,12 @@ keeps_ajar settled tail loose d e passes ajar =
           (subst (λ l. Moves (list_at tail d) (loose_at settled tail d) (list_at tail d) l d e) (sym ajar.behind) moves);
       ends = subst (λ l. IsAjar l (loose_at false tail e) tail (file_of 0 e)) (sym same) (subst (λ l. IsAjar (list_at tail d) l tail (file_of 0 e)) (sym ajar.behind) ajar);
       same_list = same;
+      adds = adds;
     }
 
 -- settling, where there is nothing to do
 pub settles_none : (tail : ℕ) (d : Device) → IsTail true tail d → Settles true tail d d
-settles_none tail d shut = record { keeps = keeps_shut true tail d d (passes_none d (Stands (list_at tail d) [])) shut; calls = refl }
+settles_none tail d shut = record { keeps = keeps_shut true tail d d (adds_none may_write d) (passes_none d (Stands (list_at tail d) [])) shut; calls = refl }
 
 -- settling that succeeded
 pub settles_put : (tail : ℕ) (d e : Device) → IsTail false tail d → PutsDown tail (0 ∷ []) d e → Settles false tail d e
@@ -47,7 +51,7 @@ settles_put tail d e ajar did =
     let loose = loose_at false tail d in
     let passes = put_passes (IsAjar list loose tail) (Stands list loose) tail 1 (ajar_image list loose tail) (ajar_torn list loose tail) d (0 ∷ []) refl ajar in
     let shut = shut_closed list loose tail (file_of 0 d) ajar in
-    subst (Settles false tail d) (sym did) (record { keeps = keeps_shut false tail d (put_down tail (0 ∷ []) d) passes shut; calls = refl })
+    subst (Settles false tail d) (sym did) (record { keeps = keeps_shut false tail d (put_down tail (0 ∷ []) d) (put_adds tail (0 ∷ []) d (put_down tail (0 ∷ []) d) refl) passes shut; calls = refl })
 
 -- settling that failed
 pub settling_failed : (tail : ℕ) (d e : Device) → IsTail false tail d → FailsToPut tail 1 d e → StaysLoose false tail d e
@@ -57,7 +61,7 @@ settling_failed tail d e ajar did =
     let failed = failed_put (IsAjar list loose tail) (Stands list loose) tail 1 (ajar_image list loose tail) (ajar_torn list loose tail) d e ajar did in
     record {
       was_loose = refl;
-      keeps = keeps_ajar false tail loose d e (passes_weaker d e (Stands list loose) (Between list loose list loose) (λ image h. inl h) failed.0) failed.1;
+      keeps = keeps_ajar false tail loose d e (failed_adds tail 1 d e did) (passes_weaker d e (Stands list loose) (Between list loose list loose) (λ image h. inl h) failed.0) failed.1;
       same_loose = failed.1.behind;
     }
 
@@ -74,7 +78,7 @@ pub staging_failed : (tail size : ℕ) (d e : Device) → IsTail true tail d →
 staging_failed tail size d e shut did =
     let list = list_at tail d in
     let failed = failed_put (IsShut list tail) (λ image. frames image ≡ list) (tail + 1) size (shut_image list tail) (shut_torn list tail size) d e shut did in
-    keeps_shut true tail d e (passes_weaker d e (λ image. frames image ≡ list) (Stands list []) (λ image h. inl h) failed.0) failed.1
+    keeps_shut true tail d e (failed_adds (tail + 1) size d e did) (passes_weaker d e (λ image. frames image ≡ list) (Stands list []) (λ image h. inl h) failed.0) failed.1
 
 -- a gate that was opened
 pub opens_put : (tail : ℕ) (payload : List ℕ) (d e : Device) → length payload < 2 ^ 32 → IsStagedAt tail payload d → PutsDown tail (1 ∷ []) d e → Opens tail payload d e
@@ -92,7 +96,7 @@ opening_failed tail payload d e short staged did =
     let loose = payload ∷ [] in
     let ajar = staged_ajar list payload tail (file_of 0 d) short staged in
     let failed = failed_put (IsAjar list loose tail) (Stands list loose) tail 1 (ajar_image list loose tail) (ajar_torn list loose tail) d e ajar did in
-    record { passes = failed.0; ajar = failed.1 }
+    record { passes = failed.0; ajar = failed.1; adds = failed_adds tail 1 d e did }
 
 -- where a phase left the tail settled, the next begins so
 pub settles_ends : (settled : Bool) (tail : ℕ) (d e : Device) → Settles settled tail d e → IsTail true tail e
@@ -124,7 +128,7 @@ module _ (settled : Bool) (tail : ℕ) (payload : List ℕ) (d e : Device) (sett
         | inr new ↦ inl (new ∙ append-nil (list_at tail f) ∙ keeps.same_list ∙ settles.keeps.same_list)
       ]) keeps.moves.passes in
       record {
-        keeps = keeps_shut settled tail d f (passes_then d e f P (settling P (λ image h. h)) more)
+        keeps = keeps_shut settled tail d f (adds_then may_write d e f settles.keeps.adds keeps.adds) (passes_then d e f P (settling P (λ image h. h)) more)
             (subst (λ l. IsShut l tail (file_of 0 f)) (keeps.same_list ∙ settles.keeps.same_list) keeps.ends);
         loose = refl;
       }
@@ -147,7 +151,8 @@ module _ (settled : Bool) (tail : ℕ) (payload : List ℕ) (d e : Device) (sett
       (λ image h. elim h [ inl old ↦ inl (inl (old ∙ same)) | inr new ↦ inr (new ∙ ap (λ l. l ++ payload ∷ []) same) ]) may.passes in
       let ajar = subst (λ l. IsAjar l (payload ∷ []) tail (file_of 0 g)) same may.ajar in
       record {
-        keeps = keeps_ajar settled tail (payload ∷ []) d g (passes_then d f g P (staging f P (λ image h. inl h) stages) more) ajar;
+        keeps = keeps_ajar settled tail (payload ∷ []) d g
+            (adds_then may_write d e g settles.keeps.adds (adds_then may_write e f g (put_adds (tail + 1) (written payload) e f stages.calls) may.adds)) (passes_then d f g P (staging f P (λ image h. inl h) stages) more) ajar;
         loose = ajar.behind;
       }
 

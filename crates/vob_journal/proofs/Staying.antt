@@ -1,10 +1,12 @@
 -- Calls that leave both files as they were.
-use Rattle.std.proofs.Common.{Option, Some, None, refl, sym, ◌∙◌, subst, inl, inr}
+use Rattle.std.proofs.Common.{ℕ, Option, Some, None, refl, sym, ◌∙◌, subst, inl, inr}
 use Rattle.disk_model.specs.Files.{IsImage}
-use Rattle.disk_model.specs.Devices.{Device, Measures, Idles, LeavesNow}
+use Rattle.disk_model.specs.Devices.{Device, Fetched, Failed, Measures, Fetches, Idles, LeavesNow}
 use Rattle.disk_model.specs.Told.{Both}
 use Rattle.vob_journal.specs.Reads.{Rests, SameFiles}
-use Rattle.vob_journal.proofs.Passing.{passes_then, passes_weaker}
+use Rattle.vob_journal.specs.Added.{Adds, may_read}
+use Rattle.vob_journal.proofs.Adding.{adds_none, adds_one, adds_then}
+use Rattle.vob_journal.proofs.Passing.{passes_none, passes_call, passes_then, passes_weaker}
 use Rattle.vob_journal.proofs.Telling.{both_map, both_then}
 
 pub files_stay : (d : Device) → SameFiles d d
@@ -23,8 +25,24 @@ idle_files d e (inr missed) = subst (SameFiles d) (sym missed) (record { journal
 rests_files : (d e : Device) → Rests d e → SameFiles d e
 rests_files d e rests = record { journal = rests.same; objects = rests.passes.objects }
 
+pub fetched_rests : (place size : ℕ) (d e : Device) → Fetches 0 place size d e → Rests d e
+fetched_rests place size d e made = subst (Rests d) (sym made) (record {
+  adds = adds_one may_read (Fetched 0 place size) d refl;
+  same = refl;
+  passes = passes_call (Fetched 0 place size) d (LeavesNow 0 d) (λ image left. left) (λ image left. left) refl;
+})
+
+pub idle_rests : (d e : Device) → Idles d e → Rests d e
+idle_rests d e (inl same) = subst (Rests d) (sym same) (record { adds = adds_none may_read d; same = refl; passes = passes_none d (LeavesNow 0 d) })
+idle_rests d e (inr missed) = subst (Rests d) (sym missed) (record {
+  adds = adds_one may_read Failed d refl;
+  same = refl;
+  passes = passes_call Failed d (LeavesNow 0 d) (λ image left. left) (λ image left. left) refl;
+})
+
 pub rests_then : (d e f : Device) → Rests d e → Rests e f → Rests d f
 rests_then d e f one two = record {
+  adds = adds_then may_read d e f one.adds two.adds;
   same = two.same ∙ one.same;
   passes = passes_then d e f (LeavesNow 0 d) one.passes
       (passes_weaker e f (LeavesNow 0 e) (LeavesNow 0 d) (λ image left. subst (λ s. IsImage s image) one.same left) two.passes);
@@ -49,3 +67,11 @@ told_rests old new rests = both_map Rests SameFiles old new rests_files rests
 
 pub told_rest_on : (old mid new : Option Device) → Both Rests old mid → Both Rests mid new → Both Rests old new
 told_rest_on old mid new one two = both_then Rests Rests Rests old mid new rests_then one two
+
+-- which calls were added, where they are those that read
+pub told_adds : (old new : Option Device) → Both Rests old new → Both (Adds may_read) old new
+told_adds old new rests = both_map Rests (Adds may_read) old new (λ d e rests. rests.adds) rests
+
+pub told_adds_none : (told : Option Device) → Both (Adds may_read) told told
+told_adds_none None = tt
+told_adds_none (Some d) = adds_none may_read d

@@ -2,6 +2,7 @@
 use Rattle.std.specs.Prelude.{◌≡◌, ℕ, ◌+◌, Bool, true, false, List, [], ◌∷◌, ◌++◌, length}
 use Rattle.disk_model.specs.Files.{overwritten}
 use Rattle.disk_model.specs.Devices.{Device, Wrote, Synced, added, bytes_of}
+use Rattle.vob_journal.specs.Added.{Adds, may_write}
 use Rattle.vob_journal.specs.declared.left.Left.{Left}
 use Rattle.vob_journal.specs.Frames.{written}
 use Rattle.vob_journal.specs.Lefts.{settled_after, loose_after}
@@ -31,6 +32,7 @@ pub record Keeps (settled settled' : Bool) (tail : ℕ) (d e : Device) : Type 0 
   pub moves : Moves (list_at tail d) (loose_at settled tail d) (list_at tail e) (loose_at settled' tail e) d e
   pub ends : IsTail settled' tail e
   pub same_list : list_at tail e ≡ list_at tail d
+  pub adds : Adds may_write d e
 
 -- the tail was settled
 pub record Settles (settled : Bool) (tail : ℕ) (d e : Device) : Type 0 where

@@ -1,3 +1,4 @@
+pub mod Added
 pub mod Answered
 pub mod Calls
 pub mod Foreign

@@ -2,8 +2,9 @@
 use Rattle.std.specs.Prelude.{◌≡◌, ◌⊎◌, ◌≤◌, ◌+◌, ℕ, Bool, if◌then◌else◌, Result, MatchResult, List, [], ◌∷◌, ◌++◌, length, drop}
 use Rattle.disk_model.specs.Counting.{raised}
 use Rattle.disk_model.specs.Files.{File, stable, IsTorn}
-use Rattle.disk_model.specs.Devices.{Device, Wrote, Failed, added, file_of, bytes_of}
+use Rattle.disk_model.specs.Devices.{Device, Wrote, Tore, Failed, added, file_of, bytes_of}
 use Rattle.disk_model.specs.Told.{Sight}
+use Rattle.vob_journal.specs.Added.{Adds, may_write}
 use Rattle.vob_journal.specs.Calls.{put_down}
 use Rattle.vob_journal.specs.Frames.{frames, written}
 use Rattle.vob_journal.specs.Moves.{Passes, Stands}
@@ -13,11 +14,13 @@ use Rattle.vob_journal.specs.Tails.{IsShut, IsAjar, list_at}
 abbrev pub PutsDown : ℕ → List ℕ → Device → Device → Type 0
 PutsDown place piece d e = e ≡ put_down place piece d
 
--- A piece of so many bytes was not written, or not synced: nothing was done, or its range is torn.
+-- A piece of so many bytes was not written, or not synced: nothing was done, or the range is torn by a write that failed or
+-- was not synced.
 abbrev pub FailsToPut : ℕ → ℕ → Device → Device → Type 0
 FailsToPut place size d e = (e ≡ d) ⊎ (e ≡ added Failed d)
     ⊎ ((left : List ℕ) × IsTorn place size (bytes_of 0 d) left
-    × ((e ≡ added (Wrote 0 place size left) d) ⊎ (e ≡ added Failed (added (Wrote 0 place size left) d))))
+    × ((e ≡ added (Tore 0 place size left) d) ⊎ (e ≡ added (Wrote 0 place size left) d)
+    ⊎ (e ≡ added Failed (added (Wrote 0 place size left) d))))
 
 -- a file with this payload whole and synced behind a shut gate
 pub record IsStaged (list : List (List ℕ)) (payload : List ℕ) (tail : ℕ) (file : File) : Type 0 where
@@ -45,6 +48,7 @@ pub record Opens (tail : ℕ) (payload : List ℕ) (d e : Device) : Type 0 where
 pub record MayOpen (tail : ℕ) (payload : List ℕ) (d e : Device) : Type 0 where
   pub passes : Passes d e (Stands (list_at tail d) (payload ∷ []))
   pub ajar : IsAjar (list_at tail d) (payload ∷ []) tail (file_of 0 e)
+  pub adds : Adds may_write d e
 
 -- Ok after exactly so many device calls; a fault after one call or more, at most so many, the last of which failed
 abbrev pub Spends : {T E : Type 0} → ℕ → Result T E → Sight → Sight → Type 0

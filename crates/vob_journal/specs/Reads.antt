@@ -5,6 +5,7 @@ use Rattle.disk_model.specs.Devices.{Device, Fetched, Failed, added, file_of, by
 use Rattle.disk_model.specs.Told.{Sight}
 use Rattle.cc_names.specs.declared.memory.Or.{Or}
 use Rattle.cc_names.specs.declared.memory.Or.TheVariants.{NoMemory, Is}
+use Rattle.vob_journal.specs.Added.{Adds, may_read}
 use Rattle.vob_journal.specs.Moves.{Passes}
 
 -- the file of objects is as it was
@@ -16,8 +17,9 @@ pub record SameFiles (d e : Device) : Type 0 where
   pub journal : file_of 0 e ≡ file_of 0 d
   pub objects : file_of 1 e ≡ file_of 1 d
 
--- the journal stays as it is, and stops leave what a stop before would have left
+-- calls that read were made, the journal stays as it is, and stops leave what a stop before would have left
 pub record Rests (d e : Device) : Type 0 where
+  pub adds : Adds may_read d e
   pub same : file_of 0 e ≡ file_of 0 d
   pub passes : Passes d e (LeavesNow 0 d)
 

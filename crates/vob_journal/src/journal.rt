@@ -55,6 +55,7 @@ impl<D: Disk> Model for Journal<D> {
 impl<D: Disk> Journal<D> {
     ghost use Rattle.disk_model.specs.Devices.{Measures, Idles};
     ghost use Rattle.vob_journal.specs.declared.left.Left.TheVariants as lefts;
+    ghost use Rattle.vob_journal.specs.Added.{Adds, WritesOn, may_read};
     ghost use Rattle.vob_journal.specs.Answered.{Gives, Ends, SettledAtEnd, OneMore, OneFault, MakesNoCall};
     ghost use Rattle.vob_journal.specs.Calls.{committed, settled_first};
     ghost use Rattle.vob_journal.specs.Frames.{frames};
@@ -121,6 +122,8 @@ impl<D: Disk> Journal<D> {
         ensures moves { Both (Moves self.old.list self.old.loose self.new.list self.new.loose)
             (D.sight self.old.disk).told (D.sight self.new.disk).told }
         ensures files { Both SameFiles (D.sight self.old.disk).told (D.sight self.new.disk).told }
+        ensures adds { Both (Adds may_read) (D.sight self.old.disk).told
+            (D.sight self.new.disk).told }
         ensures counts { CountsReads 2 result (D.sight self.old.disk) (D.sight self.new.disk) }
     {
         if self.ended {
@@ -167,6 +170,7 @@ impl<D: Disk> Journal<D> {
         ensures left { OnOk result (self.new.left ≡ lefts.Nothing) }
         ensures settled { self.new.settled ≡ settled_after self.new.left }
         ensures ended { self.new.ended ≡ true }
+        ensures writes { Both WritesOn (D.sight self.old.disk).told (D.sight self.new.disk).told }
         ensures costs { Spends (calls_of self.old.settled) result (D.sight self.old.disk)
             (D.sight self.new.disk) }
     {
@@ -202,6 +206,7 @@ impl<D: Disk> Journal<D> {
             (λ _. self.new.left ≡ lefts.Earlier) }
         ensures settled { self.new.settled ≡ settled_after self.new.left }
         ensures ended { self.new.ended ≡ true }
+        ensures writes { Both WritesOn (D.sight self.old.disk).told (D.sight self.new.disk).told }
         ensures rests { self.old.settled ≡ true → MakesNoCall result self.old.disk self.new.disk }
         ensures costs { Spends (if self.old.settled then 0 else 2) result (D.sight self.old.disk)
             (D.sight self.new.disk) }

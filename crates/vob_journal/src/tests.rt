@@ -85,9 +85,14 @@ fn kind_of(call: &Call) -> (char, u64, u64) {
         Call::Write {
             file: _,
             place,
+            piece,
+        } => ('w', *place, piece.as_bytes().len() as u64),
+        Call::Tear {
+            file: _,
+            place,
             landed,
             lost: _,
-        } => ('w', *place, landed.as_bytes().len() as u64),
+        } => ('t', *place, landed.as_bytes().len() as u64),
         Call::Sync { file: _ } => ('s', 0, 0),
     }
 }

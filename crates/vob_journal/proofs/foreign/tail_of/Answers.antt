@@ -29,6 +29,12 @@ frames-preserved g c =
       faults = answer.counts.2 ∙ kept.faults;
     }
 
+pub returns-in-Ok-End-clause-rests : goal.returns-in-Ok-End-clause-rests
+returns-in-Ok-End-clause-rests g c = told_rest_on _ _ _ c.frames.invariant.rests c.in-Ok-End.ensures.rests
+
+pub returns-in-Err-clause-rests : goal.returns-in-Err-clause-rests
+returns-in-Err-clause-rests g c = told_rest_on _ _ _ c.frames.invariant.rests c.in-Err.ensures.rests
+
 pub returns-in-Ok-End-clause-behind : goal.returns-in-Ok-End-clause-behind
 returns-in-Ok-End-clause-behind g c =
     let old = (g.D.Disk.sight c.frames.disk).told in

@@ -5,6 +5,7 @@ use Rattle.vob_journal.specs.declared.reading.Head.TheVariants.{Whole, Shut, Cut
 use Rattle.vob_journal.specs.declared.reading.Found.TheVariants.{End}
 use Rattle.vob_journal.specs.Found.{Tells, Finds}
 use Rattle.vob_journal.proofs.Finding.{told_head, told_frame}
+use Rattle.vob_journal.proofs.Staying.{told_rest_on}
 use Rattle.vob_journal.proofs.Telling.{told_map}
 use Rattle.vob_journal.proofs.reading.read_frame.Goals as goal
 
@@ -36,3 +37,6 @@ returns-in-Cut-clause-found g c =
     let part : c.part.result.now ≡ take (min left 5) (drop (c.args.tail - w.start) w.bytes.items) = c.part.ensures ∙ ap (λ n. take n (drop (c.args.tail - w.start) w.bytes.items)) c.min-2.ensures in
     told_map (λ d. Tells Cut (drop c.args.tail (bytes_of 0 d))) (λ d. Finds (End false) (drop c.args.tail (bytes_of 0 d))) _ (λ d t. (t.0, sym t.1))
     (told_head Cut w c.args.size c.args.tail left _ _ _ refl c.requires.within c.in-Ok.ensures.from to part c.requires.all c.in-Ok.ensures.rests c.in-Ok.ensures.shows c.in-Cut.ensures.tells)
+
+pub returns-in-Whole-clause-rests : goal.returns-in-Whole-clause-rests
+returns-in-Whole-clause-rests g c = told_rest_on _ _ _ c.in-Ok.ensures.rests c.read_payload.ensures.rests

@@ -1,11 +1,17 @@
 use Rattle.std.proofs.Common.{arith, fold}
-use Rattle.disk_model.proofs.Stops.{length_failing}
 use Rattle.disk_model.specs.Devices.{fresh}
 use Rattle.disk_model.specs.Records.{recorded}
+use Rattle.disk_model.proofs.Recording.{missed_replayed}
+use Rattle.disk_model.proofs.Stops.{length_failing}
 use Rattle.disk_model.proofs.memory.MemoryDisk.miss.Goals as goal
 
 pub overflow_add-self-then-self-lt18446744073709551615 :
     goal.overflow_add-self-then-self-lt18446744073709551615
 overflow_add-self-then-self-lt18446744073709551615 c =
-    let disk = c.count_fault.new.self in
+    let disk = c.args.self.now in
     omega (arith, disk.replayed.a_tick_each, length_failing disk.failed (fold recorded (fresh disk.first.journal.items disk.first.objects.items) disk.entries.items))
+
+pub invariant_of-self : goal.invariant_of-self
+invariant_of-self c =
+    let disk = c.args.self.now in
+    record { replayed = missed_replayed disk.first.journal.items disk.first.objects.items disk.entries.items disk.failed _ _ disk.ticks disk.faults _ disk.replayed c.one_more-self.ensures c.if-self-lt18446744073709551615.true }

@@ -2,6 +2,7 @@
 use Rattle.std.proofs.Common.{◌≡◌, ◌≤◌, ◌+◌, Some, None, true, false, ◌∷◌, [], length, drop, sym, ◌∙◌, ap, subst}
 use Rattle.disk_model.specs.Devices.{bytes_of}
 use Rattle.disk_model.specs.Told.{IfTold, Both}
+use Rattle.vob_journal.specs.Added.{Adds, may_read}
 use Rattle.vob_journal.specs.Answered.{Gives}
 use Rattle.vob_journal.specs.Found.{Finds, IsWithin, ShowsOn}
 use Rattle.vob_journal.specs.Frames.{head, is_shut}
@@ -9,7 +10,7 @@ use Rattle.vob_journal.specs.Moves.{Moves}
 use Rattle.vob_journal.specs.Reads.{SameFiles}
 use Rattle.vob_journal.specs.Shown.{told_list, told_rest, told_loose, IsKept}
 use Rattle.vob_journal.proofs.Journals.{kept_now, same_moves, reading_of, missed_list, rest_moves, told_more, more_list, more_rest, ended_list, ended_loose, ended_rest, nothing_loose}
-use Rattle.vob_journal.proofs.Staying.{told_stay, told_rests}
+use Rattle.vob_journal.proofs.Staying.{told_stay, told_rests, told_adds, told_adds_none}
 use Rattle.vob_journal.proofs.journal.Journal.next.Goals as goal
 
 pub returns-then-self-clause-moves : goal.returns-then-self-clause-moves
@@ -186,3 +187,18 @@ returns-in-Ok-End-clause-files g c =
 pub returns-in-Err-clause-files : goal.returns-in-Err-clause-files
 returns-in-Err-clause-files g c =
     subst (λ s. Both SameFiles (g.D.Disk.sight s.disk).told (g.D.Disk.sight c.read_frame.new.disk).told) c.self.view_is (told_rests _ _ c.in-Err.ensures.rests)
+
+pub returns-then-self-clause-adds : goal.returns-then-self-clause-adds
+returns-then-self-clause-adds g c = told_adds_none _
+
+pub returns-in-Ok-Payload-clause-adds : goal.returns-in-Ok-Payload-clause-adds
+returns-in-Ok-Payload-clause-adds g c =
+    subst (λ s. Both (Adds may_read) (g.D.Disk.sight s.disk).told (g.D.Disk.sight c.read_frame.new.disk).told) c.self.view_is (told_adds _ _ c.in-Ok-Payload.ensures.rests)
+
+pub returns-in-Ok-End-clause-adds : goal.returns-in-Ok-End-clause-adds
+returns-in-Ok-End-clause-adds g c =
+    subst (λ s. Both (Adds may_read) (g.D.Disk.sight s.disk).told (g.D.Disk.sight c.read_frame.new.disk).told) c.self.view_is (told_adds _ _ c.in-Ok-End.ensures.rests)
+
+pub returns-in-Err-clause-adds : goal.returns-in-Err-clause-adds
+returns-in-Err-clause-adds g c =
+    subst (λ s. Both (Adds may_read) (g.D.Disk.sight s.disk).told (g.D.Disk.sight c.read_frame.new.disk).told) c.self.view_is (told_adds _ _ c.in-Err.ensures.rests)

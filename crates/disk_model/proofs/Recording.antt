@@ -1,0 +1,101 @@
+-- What the record of a disk in memory says of its counts.
+use Rattle.std.proofs.Common.{◌≡◌, ◌<◌, ◌≤◌, ◌+◌, ◌-◌, ◌^◌, ℕ, zero, suc, Bool, true, false, ◌==◌, Result, Ok, Err, OnOk, is_err, List, [], ◌∷◌, ◌++◌, length, fold, refl, sym, ◌∙◌, ap, subst, if◌then◌else◌, arith}
+use Rattle.std.proofs.lemmas.List.Sums.{fold-append}
+use Rattle.disk_model.specs.Contents.{IsReplayed}
+use Rattle.disk_model.specs.Counting.{raised}
+use Rattle.disk_model.specs.Devices.{Device, Event, Tore, Failed, fresh, added, bytes_of, is_failed, failures}
+use Rattle.disk_model.specs.Files.{overwritten}
+use Rattle.disk_model.specs.Records.{failing, recorded, device_of, called}
+use Rattle.disk_model.specs.Told.{CountsFailures}
+use Rattle.disk_model.specs.declared.calls.Call.TheVariants as calls
+use Rattle.disk_model.specs.declared.calls.Entry.{Entry}
+
+at_most_one : (failed : Bool) → (if failed then 1 else 0) ≤ 1
+at_most_one true = omega arith
+at_most_one false = omega arith
+
+pub failures_most : (calls : List Event) → failures calls ≤ length calls
+failures_most [] = omega arith
+failures_most (event ∷ earlier) = omega (arith, at_most_one (is_failed event), failures_most earlier)
+
+-- a call that failed, with its tick
+pub failed_counts : (ticks faults : ℕ) (event : Event) (d : Device) → is_failed event ≡ true → CountsFailures ticks faults d → ticks ≡ length d.calls
+    → ticks < 2 ^ 64 - 1 → CountsFailures (ticks + 1) (raised faults) (added event d)
+failed_counts ticks faults event d failed counts ticked more =
+    let most = failures_most d.calls in
+    let one : failures (event ∷ d.calls) ≡ 1 + failures d.calls = ap (λ b. (if b then 1 else 0) + failures d.calls) failed in
+    let same = counts.no_other more in
+    record {
+      each = omega (arith, one, most, ticked, more, same);
+      no_other = λ later. omega (arith, one, most, ticked, more, same);
+    }
+
+-- a call that is a fault and was not made
+pub unmade_counts : (ticks faults : ℕ) (d : Device) → CountsFailures ticks faults d → ticks ≡ length d.calls → 2 ^ 64 - 1 ≤ ticks → ticks < 2 ^ 64
+    → CountsFailures ticks (raised faults) d
+unmade_counts ticks faults d counts ticked end fits = record {
+  each = omega (arith, counts.each, failures_most d.calls, ticked, fits);
+  no_other = λ later. absurd (omega (arith, later, end));
+}
+
+-- the device of a record with one entry more, which names all calls that failed since the last
+pub recorded_more : (journal objects : List ℕ) (entries more : List Entry) (failed : ℕ) (entry : Entry) → more ≡ entries ++ entry ∷ [] → entry.failed_before ≡ failed
+    → device_of journal objects more 0 ≡ called entry.call (device_of journal objects entries failed)
+recorded_more journal objects entries more failed entry is before =
+    ap (fold recorded (fresh journal objects)) is ∙ fold-append recorded (fresh journal objects) entries (entry ∷ [])
+    ∙ ap (λ n. called entry.call (failing n (fold recorded (fresh journal objects) entries))) before
+
+-- a call more failed and changed nothing
+pub missed_replayed : (journal objects : List ℕ) (entries : List Entry) (failed : ℕ) (now_journal now_objects : List ℕ) (ticks faults faults' : ℕ)
+    → IsReplayed (device_of journal objects entries failed) now_journal now_objects ticks faults → faults' ≡ raised faults → ticks < 2 ^ 64 - 1
+    → IsReplayed (device_of journal objects entries (failed + 1)) now_journal now_objects (ticks + 1) faults'
+missed_replayed journal objects entries failed now_journal now_objects ticks faults faults' was rose more =
+    let d = device_of journal objects entries failed in
+    let number : failed + 1 ≡ suc failed = omega arith in
+    let one : device_of journal objects entries (failed + 1) ≡ added Failed d = ap (device_of journal objects entries) number in
+    subst (λ e. IsReplayed e now_journal now_objects (ticks + 1) faults') (sym one)
+    (record {
+      journal_reads = was.journal_reads;
+      objects_read = was.objects_read;
+      a_tick_each = omega (arith, was.a_tick_each);
+      a_fault_each = subst (λ n. CountsFailures (ticks + 1) n (added Failed d)) (sym rose) (failed_counts ticks faults Failed d refl was.a_fault_each was.a_tick_each more);
+      ticks_fit = omega (arith, more);
+      faults_fit = omega (arith, rose);
+    })
+
+-- what a torn write leaves of both files
+torn_files : (file place size : ℕ) (landed now_journal now_objects : List ℕ) (d : Device) → file ≤ 1 → now_journal ≡ bytes_of 0 d → now_objects ≡ bytes_of 1 d
+    → ((if file == 0 then overwritten place landed now_journal else now_journal) ≡ bytes_of 0 (added (Tore file place size (overwritten place landed (bytes_of file d))) d))
+    × ((if file == 0 then now_objects else overwritten place landed now_objects) ≡ bytes_of 1 (added (Tore file place size (overwritten place landed (bytes_of file d))) d))
+torn_files zero place size landed now_journal now_objects d within journal objects = (ap (overwritten place landed) journal, objects)
+torn_files (suc zero) place size landed now_journal now_objects d within journal objects = (journal, ap (overwritten place landed) objects)
+torn_files (suc (suc n)) place size landed now_journal now_objects d within journal objects = absurd (omega (arith, within))
+
+-- a write failed
+pub torn_replayed : (journal objects : List ℕ) (entries more : List Entry) (entry : Entry) (failed : ℕ) (now_journal now_objects now_journal' now_objects' : List ℕ) (file place lost : ℕ) (landed : List ℕ) (ticks faults faults' : ℕ)
+    → IsReplayed (device_of journal objects entries failed) now_journal now_objects ticks faults → more ≡ entries ++ entry ∷ [] → entry.failed_before ≡ failed
+    → entry.call ≡ calls.Tear file place landed lost → file ≤ 1
+    → now_journal' ≡ (if file == 0 then overwritten place landed now_journal else now_journal)
+    → now_objects' ≡ (if file == 0 then now_objects else overwritten place landed now_objects)
+    → faults' ≡ raised faults → ticks < 2 ^ 64 - 1
+    → IsReplayed (device_of journal objects more 0) now_journal' now_objects' (ticks + 1) faults'
+torn_replayed journal objects entries more entry failed now_journal now_objects now_journal' now_objects' file place lost landed ticks faults faults' was is before call within wrote other rose room =
+    let d = device_of journal objects entries failed in
+    let event = Tore file place (length landed + lost) (overwritten place landed (bytes_of file d)) in
+    let files = torn_files file place (length landed + lost) landed now_journal now_objects d within was.journal_reads was.objects_read in
+    let made : device_of journal objects more 0 ≡ added event d =
+    recorded_more journal objects entries more failed entry is before ∙ ap (λ c. called c d) call in
+    subst (λ e. IsReplayed e now_journal' now_objects' (ticks + 1) faults') (sym made)
+    (record {
+      journal_reads = wrote ∙ files.0;
+      objects_read = other ∙ files.1;
+      a_tick_each = omega (arith, was.a_tick_each);
+      a_fault_each = subst (λ n. CountsFailures (ticks + 1) n (added event d)) (sym rose) (failed_counts ticks faults event d refl was.a_fault_each was.a_tick_each room);
+      ticks_fit = omega (arith, room);
+      faults_fit = omega (arith, rose);
+    })
+
+-- what holds where an answer is no error
+pub unless_err : {T E : Type 0} (r : Result T E) (P : Type 0) → is_err r ≡ false → OnOk r P → P
+unless_err (Ok x) P sound h = h
+unless_err (Err e) P sound h = absurd (cc)
