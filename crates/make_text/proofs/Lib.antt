@@ -8,8 +8,10 @@ pub mod StepLemmas
 mod Places
 mod NumberLaws
 mod WalkLaws
-mod ServingLaws
+pub mod ServingLaws
 pub mod UnitLaws
+mod JoinedRules
+pub mod FormedMakefiles
 pub mod WordLemmas
 pub mod SideLemmas
 mod Worked

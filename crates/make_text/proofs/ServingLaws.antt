@@ -30,11 +30,11 @@ eq_flips p q h = by (bytes_eq q p) refl
     by true same = let other = (bytes_eq-Decides p q).1 (sym ((bytes_eq-Decides q p).0 same)) in absurd (cc)
     by false differs = refl
 
-or_left : (a b : Bool) → (a || b) ≡ false → a ≡ false
+pub or_left : (a b : Bool) → (a || b) ≡ false → a ≡ false
 or_left true b h = h
 or_left false b h = refl
 
-or_right : (a b : Bool) → (a || b) ≡ false → b ≡ false
+pub or_right : (a b : Bool) → (a || b) ≡ false → b ≡ false
 or_right true b h = absurd (cc)
 or_right false b h = h
 
@@ -140,7 +140,7 @@ passes test path (p ∷ ps) h = by (test p) refl h (passes test path ps)
     by false is h more = more h
 
 -- lists of distinct paths that have none in common
-distinct_append : (ps qs : List (List ℕ)) → IsDistinct bytes_eq ps → IsDistinct bytes_eq qs → ((path : List ℕ) → is_among qs path ≡ true → is_among ps path ≡ false) → IsDistinct bytes_eq (ps ++ qs)
+pub distinct_append : (ps qs : List (List ℕ)) → IsDistinct bytes_eq ps → IsDistinct bytes_eq qs → ((path : List ℕ) → is_among qs path ≡ true → is_among ps path ≡ false) → IsDistinct bytes_eq (ps ++ qs)
 unfolding IsDistinct
 distinct_append [] qs one two apart = two
 distinct_append (p ∷ ps) qs one two apart =
@@ -254,7 +254,7 @@ same_path word path h = by_fault (path_fault word) h
     by_fault None h = by_root (is_root word) h
     by_fault (Some fault) h = absurd (cc)
 
-one_target : (target : List ℕ) → IsBelowRoot target → AreTargets (target ∷ [])
+pub one_target : (target : List ℕ) → IsBelowRoot target → AreTargets (target ∷ [])
 unfolding IsDistinct
 one_target target below = ((omega arith, (below, tt)), (λ none. cc), (tt, tt))
 

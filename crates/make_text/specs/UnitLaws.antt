@@ -4,13 +4,16 @@ use Rattle.std.specs.Prelude.{◌≡◌, ℕ, ◌<◌, ◌≤◌, Bool, true, So
 use Rattle.std.specs.List.{AllByRecursion, IsDistinct}
 use Rattle.std.specs.Str.{bytes_eq}
 use Rattle.cc_names.specs.Formed.{AreTargets, IsBelowRoot}
+use Rattle.cc_names.specs.declared.commands.Macro.{Macro}
 use Rattle.cc_names.specs.declared.units.Unit.{Unit}
 use Rattle.cc_names.specs.declared.units.UnitScript.{UnitScript}
 use Rattle.cc_names.specs.declared.units.UnitScript.TheVariants as scripts
 use Rattle.make_text.specs.Contents.{Contents}
+use Rattle.make_text.specs.Grammar.{makefile_of}
 use Rattle.make_text.specs.Graphs.{graph_of}
 use Rattle.make_text.specs.Macros.{is_among, expansion_limit}
 use Rattle.make_text.specs.Numbers.{number_from}
+use Rattle.make_text.specs.Statements.{Files}
 use Rattle.make_text.specs.Units.{targets_of}
 use Rattle.make_text.specs.declared.rules.MakeRule.{MakeRule}
 
@@ -26,6 +29,11 @@ IsRule rule = AreTargets rule.targets × ArePrerequisites rule.prerequisites
 pub record IsFormed (make : Contents) : Type 0 where
   pub rules : AllByRecursion IsRule make.rules
   pub apart : IsDistinct bytes_eq (flat_map targets_of make.rules)
+
+-- Every makefile that is read is formed.
+abbrev pub MakefilesAreFormed : Type 0
+MakefilesAreFormed = (files : Files) (file : List ℕ) (overrides : List Macro) (make : Contents) →
+    makefile_of files file overrides ≡ Ok make → IsFormed make
 
 -- a script within the limit, or none that is run
 abbrev pub IsShort : UnitScript → Type 0

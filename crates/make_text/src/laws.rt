@@ -1,6 +1,12 @@
 // Laws on the units of a build.
 
-ghost use Rattle.make_text.specs.UnitLaws.{UnitsInOrder, UnitsFormed};
+ghost use Rattle.make_text.specs.UnitLaws.{MakefilesAreFormed, UnitsInOrder, UnitsFormed};
+
+/// Every makefile that is read has formed rules: targets and prerequisites below the root, each once in its rule, and each
+/// target in one rule alone.
+pub fn makefiles_are_formed()
+    ensures { MakefilesAreFormed }
+{}
 
 /// The units of a build are in order: a target is of one unit, and a prerequisite that is a unit's target is one of an
 /// earlier unit.
