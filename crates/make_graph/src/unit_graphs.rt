@@ -17,6 +17,7 @@ use cc_names::refusals::GraphFault;
 use cc_names::units::Unit;
 use make_text::contents::Makefile;
 use std::alloc::Global;
+use std::hash::RandomState;
 use std::marker::Model;
 
 /// The units of a build, prerequisites first, each found by any of its targets. Contracts see it as the list of them.
@@ -42,13 +43,13 @@ impl Model for Graph {
 const UNIT_LIMIT: usize = 0x7fff_ffff;
 
 /// The graph of these units. There is no memory for 2^31 of them.
-fn with_numbers(alloc: Global, units: Vec<Unit>) -> Result<Graph, NoMemory>
+fn with_numbers(alloc: Global, hashing: RandomState, units: Vec<Unit>) -> Result<Graph, NoMemory>
     ensures { IfOk result (λ graph. graph ≡ units.items) }
 {
     if units.len() > UNIT_LIMIT {
         return Err(NoMemory);
     }
-    let numbers = number_all(alloc, units.as_slice())?;
+    let numbers = number_all(alloc, hashing, units.as_slice())?;
     Ok(Graph { units, numbers })
 }
 
@@ -62,14 +63,15 @@ impl Graph {
     /// goal, each target of a unit with a script, and each source that a suffix rule may have.
     pub fn of<E: Exists>(
         alloc: Global,
+        hashing: RandomState,
         make: &Makefile,
         goals: &[Path],
         files: &E,
     ) -> Result<Graph, Or<GraphFault>>
         ensures { Gives result (graph_of make.now goals.now (E.is_file files.now)) }
     {
-        let units = units_of_build(alloc, make, goals, files)?;
-        Ok(with_numbers(alloc, units)?)
+        let units = units_of_build(alloc, hashing, make, goals, files)?;
+        Ok(with_numbers(alloc, hashing, units)?)
     }
 
     /// The units, in order, in constant time.

@@ -15,6 +15,7 @@ use cc_names::texts::Text;
 use make_text::contents::Makefile;
 use make_text::rules::{MakeRule, SuffixRule};
 use std::alloc::Global;
+use std::hash::RandomState;
 use std::test::Fail;
 
 // Targets, prerequisites and script of each rule; no script where there are no bytes.
@@ -66,7 +67,7 @@ fn suffix_rule(alloc: Global, from: &str) -> Result<SuffixRule, Fail> {
     })
 }
 
-fn makefile(alloc: Global) -> Result<Makefile, Fail> {
+fn makefile(alloc: Global, hashing: RandomState) -> Result<Makefile, Fail> {
     let mut rules = Vec::new(alloc);
     for (targets, prerequisites, script) in RULES {
         rules.push(MakeRule {
@@ -79,7 +80,7 @@ fn makefile(alloc: Global) -> Result<Makefile, Fail> {
     for from in [".c", ".s"] {
         suffix_rules.push(suffix_rule(alloc, from)?)?;
     }
-    Ok(Makefile::of_rules(alloc, rules, suffix_rules))
+    Ok(Makefile::of_rules(alloc, hashing, rules, suffix_rules))
 }
 
 fn words_of_fault(alloc: Global, fault: Or<GraphFault>) -> Result<String, Fail> {
@@ -94,13 +95,13 @@ fn words_of_fault(alloc: Global, fault: Or<GraphFault>) -> Result<String, Fail> 
 }
 
 // The units of a build, or the fault.
-fn words_of_build(alloc: Global, goals: &str) -> Result<String, Fail> {
-    let make = makefile(alloc)?;
+fn words_of_build(alloc: Global, hashing: RandomState, goals: &str) -> Result<String, Fail> {
+    let make = makefile(alloc, hashing)?;
     let paths = paths_of(alloc, goals)?;
     let files = SomeFiles {
         paths: paths_of(alloc, "in k p.c p.s q.s c.c")?,
     };
-    match Graph::of(alloc, &make, paths.as_slice(), &files) {
+    match Graph::of(alloc, hashing, &make, paths.as_slice(), &files) {
         Ok(graph) => words_of_units(alloc, &graph),
         Err(fault) => words_of_fault(alloc, fault),
     }
@@ -117,6 +118,7 @@ fn words_of_units(alloc: Global, graph: &Graph) -> Result<String, Fail> {
 
 #[test]
 fn builds_of_several_units(rt: HostRuntime) -> Result<(), Fail> {
+    let hashing = RandomState::new(&rt)?;
     let table = [
         ("", "c : [x];a : c [x];b : c in [x];d : a b bare;"),
         ("a c a", "c : [x];a : c [x];"),
@@ -131,7 +133,7 @@ fn builds_of_several_units(rt: HostRuntime) -> Result<(), Fail> {
         ("r.o", "NoGoal r.o"),
     ];
     for (goals, want) in table {
-        let said = words_of_build(rt.alloc(), goals)?;
+        let said = words_of_build(rt.alloc(), hashing, goals)?;
         assert_eq!(rt; said.as_str(), want, "of {goals}");
     }
     Ok(())
@@ -139,12 +141,13 @@ fn builds_of_several_units(rt: HostRuntime) -> Result<(), Fail> {
 
 #[test]
 fn a_unit_is_found_by_each_target(rt: HostRuntime) -> Result<(), Fail> {
-    let make = makefile(rt.alloc())?;
+    let hashing = RandomState::new(&rt)?;
+    let make = makefile(rt.alloc(), hashing)?;
     let goals = paths_of(rt.alloc(), "d f")?;
     let files = SomeFiles {
         paths: Vec::new(rt.alloc()),
     };
-    let graph = Graph::of(rt.alloc(), &make, goals.as_slice(), &files)?;
+    let graph = Graph::of(rt.alloc(), hashing, &make, goals.as_slice(), &files)?;
     for (path, number) in [("c", Some(0)), ("e", Some(4)), ("f", Some(4)), ("in", None)] {
         let path = Path::read(rt.alloc(), path.as_bytes())?;
         assert_eq!(rt; graph.unit_of(&path), number);
