@@ -3,6 +3,7 @@ mod WalkedLemmas
 mod FrameLemmas
 mod ServingLemmas
 pub mod NeedLemmas
+mod MarkLemmas
 pub mod Parts
 pub mod StandingLaws
 mod Worked

@@ -112,20 +112,3 @@ fn builds_of_one_rule(rt: HostRuntime) -> Result<(), Fail> {
     }
     Ok(())
 }
-
-#[test]
-fn a_unit_alone_waits_for_nothing(rt: HostRuntime) -> Result<(), Fail> {
-    let texts = OneText {
-        text: b"out: in\n\tcat in > out\n",
-    };
-    let file = Path::read(rt.alloc(), b"Makefile")?;
-    let make = Makefile::read(rt.alloc(), &file, &texts, &[])?;
-    let files = OneFile {
-        path: Path::read(rt.alloc(), b"in")?,
-    };
-    let graph = Graph::of(rt.alloc(), &make, &[], &files)?;
-    assert_eq!(rt; graph.units().len(), 1);
-    assert_eq!(rt; graph.closure(rt.alloc(), 0)?.len(), 0);
-    assert!(rt; graph.ready(0, &[false]));
-    Ok(())
-}
