@@ -3,12 +3,14 @@
 ghost use Rattle.std.specs.Prelude.{Some, None, if◌then◌else◌};
 ghost use Rattle.std.specs.Str.{bytes_eq};
 
-use crate::plans::plan;
+use build_core::graph;
 use cc_names::memory::Or;
 use cc_names::paths::Path;
 use cc_names::refusals::Refusal;
+use make_graph::unit_graphs::Graph;
 use make_text::makefiles::Texts;
 use std::alloc::Global;
+use std::hash::RandomState;
 use std::test::Fail;
 
 #[derive(Drop)]
@@ -36,36 +38,46 @@ fn words_of_refusal(alloc: Global, refusal: &Refusal) -> Result<String, Fail> {
             format!(in alloc; "MakeError {path} {line} {cause:?}")?
         }
         Refusal::NoGoal(path) => format!(in alloc; "NoGoal {path}")?,
+        Refusal::Cycle(path) => format!(in alloc; "Cycle {path}")?,
         Refusal::TargetIsSource(path) => format!(in alloc; "TargetIsSource {path}")?,
         _ => format!(in alloc; "another refusal")?,
     })
 }
 
-// The first targets of the units of a build of one goal, or the refusal.
-fn words_of_build(alloc: Global, place: &str, text: &str, goal: &str) -> Result<String, Fail> {
+// The targets of the units, unit by unit.
+fn words_of_units(alloc: Global, graph: &Graph) -> Result<String, Fail> {
+    let mut words = String::new(alloc);
+    for unit in graph.units() {
+        for target in unit.targets.as_slice() {
+            words.push_str(format!(in alloc; "{target} ")?.as_str())?;
+        }
+    }
+    Ok(words)
+}
+
+// The units of a build of one goal, or the refusal.
+fn words_of_build(
+    alloc: Global,
+    hashing: RandomState,
+    place: &str,
+    text: &str,
+    goal: &str,
+) -> Result<String, Fail> {
     let files = OneFile {
         path: Path::read(alloc, place.as_bytes())?,
         text: text.as_bytes(),
     };
     let mut goals = Vec::new(alloc);
     goals.push(Path::read(alloc, goal.as_bytes())?)?;
-    match plan(alloc, &files, None, &[], goals.as_slice()) {
-        Ok(units) => {
-            let mut words = String::new(alloc);
-            for unit in &units {
-                for target in unit.targets.as_slice() {
-                    words.push_str(format!(in alloc; "{target} ")?.as_str())?;
-                }
-            }
-            Ok(words)
-        }
+    match graph(alloc, hashing, &files, None, &[], goals.as_slice()) {
+        Ok(graph) => words_of_units(alloc, &graph),
         Err(Or::Is(refusal)) => words_of_refusal(alloc, &refusal),
         Err(Or::NoMemory) => Ok(format!(in alloc; "no memory")?),
     }
 }
 
 #[test]
-fn builds_over_one_file(rt: HostRuntime) -> Result<(), Fail> {
+fn a_makefile_is_found(rt: HostRuntime) -> Result<(), Fail> {
     let text = "out: in\n\tcat in > out\n";
     let own = "Makefile:\n\techo > Makefile\n";
     let table = [
@@ -73,27 +85,40 @@ fn builds_over_one_file(rt: HostRuntime) -> Result<(), Fail> {
         ("Makefile", text, "out", "out "),
         ("Makefile", text, "Makefile", ""),
         ("Makefile", text, "in", "NoGoal in"),
-        ("Makefile", "out\n", "out", "MakeError Makefile 1 NotBuilt"),
+        ("Makefile", "out\n", "out", "MakeError Makefile 1 BadLine"),
         ("Makefile", own, "Makefile", "TargetIsSource Makefile"),
         ("build.mk", text, "out", "NoMakefile Makefile"),
     ];
+    let hashing = RandomState::new(&rt)?;
     for (place, text, goal, want) in table {
-        let said = words_of_build(rt.alloc(), place, text, goal)?;
+        let said = words_of_build(rt.alloc(), hashing, place, text, goal)?;
         assert_eq!(rt; said.as_str(), want, "of {goal} in {place}");
     }
     Ok(())
 }
 
 #[test]
-fn a_makefile_is_named(rt: HostRuntime) -> Result<(), Fail> {
-    let files = OneFile {
-        path: Path::read(rt.alloc(), b"build.mk")?,
-        text: b"out:\n\techo > out\n",
-    };
-    let named = Path::read(rt.alloc(), b"build.mk")?;
-    let Ok(units) = plan(rt.alloc(), &files, Some(&named), &[], &[]) else {
-        panic!(&rt; "a build");
-    };
-    assert_eq!(rt; units.len(), 1);
+fn a_build_has_many_units(rt: HostRuntime) -> Result<(), Fail> {
+    let table = [
+        (
+            "all: a b\na: in\n\techo > a\nb: a\n\techo > b\n",
+            "all",
+            "a b all ",
+        ),
+        ("x y&: in\n\techo > x\n\techo > y\n", "y", "x y "),
+        (
+            "p.c:\n\techo > p.c\n.c.o:\n\tcat $< > $@\n",
+            "p.o",
+            "p.c p.o ",
+        ),
+        ("T = out\n$(T): in\n\techo > $@\n", "out", "out "),
+        (".PHONY: all\nall: a\na:\n\techo > a\n", "all", "a all "),
+        ("a: b\n\techo > a\nb: a\n\techo > b\n", "a", "Cycle a"),
+    ];
+    let hashing = RandomState::new(&rt)?;
+    for (text, goal, want) in table {
+        let said = words_of_build(rt.alloc(), hashing, "Makefile", text, goal)?;
+        assert_eq!(rt; said.as_str(), want, "of {goal}");
+    }
     Ok(())
 }
