@@ -4,6 +4,5 @@ mod FrameLemmas
 mod ServingLemmas
 pub mod NeedLemmas
 mod MarkLemmas
-pub mod Parts
 pub mod StandingLaws
 mod Worked

@@ -4,17 +4,17 @@ ghost use Rattle.std.specs.Prelude.{ℕ, List, Bool};
 ghost use Rattle.std.specs.Str.{bytes_eq};
 ghost use Rattle.make_text.specs.Macros.{is_among};
 
-use crate::goals::Exists;
-use crate::tests::words_of_unit;
-use crate::unit_graphs::Graph;
 use cc_names::lists::List;
 use cc_names::memory::Or;
 use cc_names::paths::Path;
 use cc_names::refusals::GraphFault;
 use cc_names::texts::Text;
+use cc_names::units::{Unit, UnitScript};
+use make_graph::goals::Exists;
+use make_graph::unit_graphs::Graph;
 use make_text::contents::Makefile;
 use make_text::rules::{MakeRule, SuffixRule};
-use std::alloc::Global;
+use std::alloc::{AllocError, Global};
 use std::hash::RandomState;
 use std::test::Fail;
 
@@ -107,6 +107,23 @@ fn words_of_build(alloc: Global, hashing: RandomState, goals: &str) -> Result<St
     }
 }
 
+fn words_of_unit(alloc: Global, unit: &Unit) -> Result<String, AllocError> {
+    let mut words = String::new(alloc);
+    for target in unit.targets.as_slice() {
+        words.push_str(format!(in alloc; "{target} ")?.as_str())?;
+    }
+    words.push_str(":")?;
+    for path in unit.prerequisites.as_slice() {
+        words.push_str(format!(in alloc; " {path}")?.as_str())?;
+    }
+    match &unit.script {
+        UnitScript::Bare => words.push_str(" bare")?,
+        UnitScript::TooLong => words.push_str(" too long")?,
+        UnitScript::Lines(text) => words.push_str(format!(in alloc; " [{text}]")?.as_str())?,
+    }
+    Ok(words)
+}
+
 fn words_of_units(alloc: Global, graph: &Graph) -> Result<String, Fail> {
     let mut words = String::new(alloc);
     for unit in graph.units() {
@@ -151,6 +168,36 @@ fn a_unit_is_found_by_each_target(rt: HostRuntime) -> Result<(), Fail> {
     for (path, number) in [("c", Some(0)), ("e", Some(4)), ("f", Some(4)), ("in", None)] {
         let path = Path::read(rt.alloc(), path.as_bytes())?;
         assert_eq!(rt; graph.unit_of(&path), number);
+    }
+    Ok(())
+}
+
+// Which of the units before the last one it stands on.
+fn words_of_closure(alloc: Global, graph: &Graph) -> Result<String, Fail> {
+    let mut words = String::new(alloc);
+    let count = graph.units().len() as u32;
+    if count == 0 {
+        return Ok(words);
+    }
+    let closure = graph.closure(alloc, count - 1)?;
+    for number in 0..count {
+        words.push_str(if closure.has(number) { "x" } else { "-" })?;
+    }
+    Ok(words)
+}
+
+#[test]
+fn a_unit_stands_on_others(rt: HostRuntime) -> Result<(), Fail> {
+    let hashing = RandomState::new(&rt)?;
+    let make = makefile(rt.alloc(), hashing)?;
+    let files = SomeFiles {
+        paths: Vec::new(rt.alloc()),
+    };
+    for (goals, want) in [("d", "xxx-"), ("f d", "-xxx-"), ("k a", "-x-")] {
+        let goals = paths_of(rt.alloc(), goals)?;
+        let graph = Graph::of(rt.alloc(), hashing, &make, goals.as_slice(), &files)?;
+        let said = words_of_closure(rt.alloc(), &graph)?;
+        assert_eq!(rt; said.as_str(), want);
     }
     Ok(())
 }
