@@ -1,7 +1,7 @@
 mod Cames
-mod FormedUnits
 mod Early
 mod Members
+mod NeededUnits
 pub mod RunsEach
 pub mod RunsEnded
 pub mod RunsEntries
@@ -19,4 +19,5 @@ pub mod RunsSeen
 pub mod RunsUnits
 pub mod RunsWell
 pub mod RunsWords
+mod UnitNumbers
 mod Waiting

@@ -1,5 +1,5 @@
 -- The walk back over the units that a unit needs.
-use Rattle.std.proofs.Common.{◌≡◌, ℕ, suc, ◌+◌, ◌<◌, Bool, true, false, Some, None, List, [], ◌∷◌, ◌++◌, length, take, get_or, ap, sym, ◌∙◌, arith, add-one}
+use Rattle.std.proofs.Common.{◌≡◌, ℕ, suc, ◌+◌, ◌<◌, Bool, true, false, List, [], ◌∷◌, ◌++◌, length, take, get_or, ap, sym, ◌∙◌, arith, add-one}
 use Rattle.std.proofs.Math.Seq.{take-suc}
 use Rattle.std.proofs.lemmas.List.{length-take-le}
 use Rattle.std.specs.List.{list_any}
@@ -54,46 +54,15 @@ step_taken : (paths : List (List ℕ)) (a : Member) (earlier : List Member) → 
 step_taken paths a earlier e =
     ap (λ (b : Bool). elim b as (λ _. List Member) [ true ↦ a ∷ needed unit_of_member (paths ++ a.unit.prerequisites) earlier | false ↦ needed unit_of_member paths earlier ]) e
 
-passed : (build : Build) (paths : List (List ℕ)) (n : ℕ) (path : List ℕ) (unit : Unit) → n < length build.units → unit ≡ get_or build.units n unit →
+pub passed : (build : Build) (paths : List (List ℕ)) (n : ℕ) (path : List ℕ) (unit : Unit) → n < length build.units → unit ≡ get_or build.units n unit →
     makes_any unit paths ≡ false → object_before build paths (n + 1) path ≡ object_before build paths n path
 passed build paths n path unit h at e =
     ap (λ members. object_among path (needed unit_of_member paths members)) (before build n unit h at)
     ∙ ap (object_among path) (step_past paths (member build n unit) (members_before build n) e)
 
-taken : (build : Build) (paths : List (List ℕ)) (n : ℕ) (path : List ℕ) (unit : Unit) → n < length build.units → unit ≡ get_or build.units n unit →
+pub taken : (build : Build) (paths : List (List ℕ)) (n : ℕ) (path : List ℕ) (unit : Unit) → n < length build.units → unit ≡ get_or build.units n unit →
     makes_any unit paths ≡ true →
     object_before build paths (n + 1) path ≡ option_or (only_where (is_among path unit.targets) (object_of (came_to build n))) (object_before build (paths ++ unit.prerequisites) n path)
 taken build paths n path unit h at e =
     ap (λ members. object_among path (needed unit_of_member paths members)) (before build n unit h at)
     ∙ ap (object_among path) (step_taken paths (member build n unit) (members_before build n) e)
-
--- Unit n stands right below the number m, and whether it makes one of these paths is known.
-pub record Turn (build : Build) (paths : List (List ℕ)) (m n : ℕ) (unit : Unit) (makes : Bool) : Type 0 where
-  pub below : m ≡ n + 1
-  pub within : n < length build.units
-  pub unit_is : unit ≡ get_or build.units n unit
-  pub makes_one : list_any (λ path. is_among path unit.targets) paths ≡ makes
-
--- one that makes none is passed over
-pub pass_over : (build : Build) (paths : List (List ℕ)) (m n : ℕ) (path : List ℕ) (unit : Unit) → Turn build paths m n unit false →
-    object_before build paths n path ≡ object_before build paths m path
-pass_over build paths m n path unit turn =
-    sym (ap (λ k. object_before build paths k path) turn.below ∙ passed build paths n path unit turn.within turn.unit_is turn.makes_one)
-
--- one with an object at the path gives it
-pub give : (build : Build) (paths : List (List ℕ)) (m n : ℕ) (path : List ℕ) (unit : Unit) (id : ℕ) → Turn build paths m n unit true →
-    only_where (is_among path unit.targets) (object_of (came_to build n)) ≡ Some id →
-    object_before build paths m path ≡ Some id
-give build paths m n path unit id turn here =
-    ap (λ k. object_before build paths k path) turn.below
-    ∙ taken build paths n path unit turn.within turn.unit_is turn.makes_one
-    ∙ ap (λ o. option_or o (object_before build (paths ++ unit.prerequisites) n path)) here
-
--- one without any is needed, and so are those that it needs
-pub need : (build : Build) (paths : List (List ℕ)) (m n : ℕ) (path : List ℕ) (unit : Unit) → Turn build paths m n unit true →
-    only_where (is_among path unit.targets) (object_of (came_to build n)) ≡ None →
-    object_before build (paths ++ unit.prerequisites) n path ≡ object_before build paths m path
-need build paths m n path unit turn here =
-    sym (ap (λ k. object_before build paths k path) turn.below
-    ∙ taken build paths n path unit turn.within turn.unit_is turn.makes_one
-    ∙ ap (λ o. option_or o (object_before build (paths ++ unit.prerequisites) n path)) here)

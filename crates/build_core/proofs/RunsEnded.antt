@@ -1,5 +1,5 @@
 -- What a run that succeeds has made and read: outputs within the limit, one for each target, and few reads, none at the root.
-use Rattle.std.proofs.Common.{◌≡◌, refl, ap, sym, subst, ℕ, suc, ◌+◌, ◌≤◌, Option, Some, None, Result, Ok, Err, List, [], ◌∷◌, length, arith}
+use Rattle.std.proofs.Common.{◌≡◌, refl, ap, subst, ℕ, suc, ◌+◌, ◌≤◌, Option, Some, None, Result, Ok, Err, List, [], ◌∷◌, length, arith}
 use Rattle.std.specs.List.{AllByRecursion, flat_map}
 use Rattle.cc_names.specs.Paths.{root}
 use Rattle.cc_names.specs.declared.refusals.ScriptFault.{ScriptFault}

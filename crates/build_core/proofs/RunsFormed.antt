@@ -1,6 +1,5 @@
 -- The row that a unit's run publishes has the form of a row.
 use Rattle.std.proofs.Common.{◌≡◌, refl, ap, subst, ℕ, ◌+◌, ◌≤◌, true, Option, Some, None, Result, Ok, Err, List, length, arith}
-use Rattle.std.specs.List.{AllByRecursion}
 use Rattle.cc_names.specs.Formed.{IsText, IsListOf, AreEntries, AreTargets, IsDeedFormed}
 use Rattle.cc_names.specs.Paths.{root}
 use Rattle.cc_names.specs.declared.refusals.ScriptFault.{ScriptFault}

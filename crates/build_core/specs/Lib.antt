@@ -9,3 +9,4 @@ pub mod SlotLaws
 pub mod Slots
 pub mod UnitSights
 pub mod UnitSteps
+pub mod Kept

@@ -1,15 +1,20 @@
 // The active builds: which units a build has, and what they have come to.
 
-ghost use Rattle.std.specs.Prelude.{◌≡◌, ◌<◌, [], true, false, Some, length, option_copied, option_map, IfOk};
-ghost use Rattle.legal_history.specs.Builds.Active.{came_to, is_outcome, object_of};
+ghost use Rattle.std.specs.Prelude.{◌≡◌, ◌<◌, [], true, false, Some, length, option_copied, option_map, IfOk, IfSome};
+ghost use Rattle.legal_history.specs.Builds.Active.{came_to, is_outcome, object_of, unit_with};
 ghost use Rattle.legal_history.specs.Stories.Steps.{with_came};
+ghost use Rattle.legal_history.specs.Builds.Consistency.{InOrder};
 ghost use Rattle.build_core.specs.Comes.{came_of, comes_of};
+ghost use Rattle.build_core.specs.Sights.{AreNeeds};
 
 use cc_names::memory::NoMemory;
 use cc_names::names::Name;
+use cc_names::paths::Path;
 use cc_names::rows::Tag;
 use cc_names::steps::UnitEnd;
 use cc_names::units::Unit;
+use make_graph::closures::Closure;
+use make_graph::unit_graphs::Graph;
 use std::alloc::Global;
 use std::marker::Model;
 
@@ -32,14 +37,14 @@ pub struct ActiveBuild {
     rows: u64,
     own_only: bool,
     rebuild: bool,
-    units: Vec<Unit>,
+    graph: Graph,
     comes: Vec<Option<Came>>,
     faulted: bool,
 }
 
 impl Model for ActiveBuild {
-    ghost use Rattle.std.specs.Prelude.{◌≡◌, length};
     ghost use Rattle.legal_history.specs.Builds.Active.{Build};
+    ghost use Rattle.build_core.specs.Kept.{IsKept};
 
     ghost Value = { Build };
 
@@ -51,12 +56,12 @@ impl Model for ActiveBuild {
       rows = build.rows;
       own_only = build.own_only;
       rebuild = build.rebuild;
-      units = build.units.items;
+      units = build.graph;
       comes = comes_of build.comes.items;
       faulted = build.faulted;
     } };
 
-    ghost invariant = { λ build. length build.comes.items ≡ length build.units.items };
+    ghost invariant = { λ build. IsKept build.graph build.comes.items };
 }
 
 /// An empty slot for each unit.
@@ -73,15 +78,16 @@ fn slots_for(alloc: Global, units: &[Unit]) -> Result<Vec<Option<Came>>, NoMemor
 
 impl ActiveBuild {
     /// A build that begins: none of its units has come to anything. Takes time linear in the units.
-    pub fn begin(
+    pub(crate) fn begin(
         alloc: Global,
         tag: Tag,
         rows: u64,
         view: Name,
         own_only: bool,
         rebuild: bool,
-        units: Vec<Unit>,
+        graph: Graph,
     ) -> Result<ActiveBuild, NoMemory>
+        requires { InOrder graph }
         ensures { IfOk result
             (λ build.
             build
@@ -91,19 +97,19 @@ impl ActiveBuild {
               rows = rows;
               own_only = own_only;
               rebuild = rebuild;
-              units = units.items;
+              units = graph;
               comes = [];
               faulted = false;
             }) }
     {
-        let comes = slots_for(alloc, units.as_slice())?;
+        let comes = slots_for(alloc, graph.units())?;
         Ok(ActiveBuild {
             tag,
             view,
             rows,
             own_only,
             rebuild,
-            units,
+            graph,
             comes,
             faulted: false,
         })
@@ -148,7 +154,24 @@ impl ActiveBuild {
     pub fn units(&self) -> &[Unit]
         ensures { result.now ≡ self.now.units }
     {
-        self.units.as_slice()
+        self.graph.units()
+    }
+
+    /// The number of the unit that makes a path, if one does, in constant time.
+    pub fn unit_with(&self, path: &Path) -> Option<u32>
+        ensures number { result ≡ unit_with self.now path.now }
+        ensures within { IfSome result (λ n. n < length self.now.units) }
+    {
+        self.graph.unit_of(path)
+    }
+
+    /// The units that a unit stands on. Takes time linear in the units before it and in the prerequisites of those that it
+    /// stands on.
+    pub(crate) fn needs(&self, alloc: Global, unit: u32) -> Result<Closure, NoMemory>
+        requires { unit < length self.now.units }
+        ensures { IfOk result (λ closure. AreNeeds self.now unit closure) }
+    {
+        self.graph.closure(alloc, unit)
     }
 
     /// What the unit at an index has come to.

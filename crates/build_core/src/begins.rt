@@ -6,16 +6,16 @@ ghost use Rattle.session_text.specs.Formed.{IsCommand};
 ghost use Rattle.legal_history.specs.Base.Rows.{size};
 ghost use Rattle.legal_history.specs.Builds.Active.{building, reserved};
 ghost use Rattle.legal_history.specs.Commands.Decisions.{Scene, first_refusal, needs_room};
+ghost use Rattle.legal_history.specs.Builds.Consistency.{InOrder};
 ghost use Rattle.legal_history.specs.Builds.Fresh.{texts};
 ghost use Rattle.legal_history.specs.Commands.ObjectLines.{clearmake, clearmake_tests};
 ghost use Rattle.legal_history.specs.Base.Views.{view_row};
-ghost use Rattle.make_text.specs.Reading.{result_items};
-ghost use Rattle.make_text.specs.Units.{units};
+ghost use Rattle.make_text.specs.Graphs.{units};
 ghost use Rattle.build_core.specs.BuildForms.{IsBuildFormed};
 ghost use Rattle.build_core.specs.Plans.{is_clearmake, view_of, Meets, AreUnits, Begun, Plans};
 
 use crate::active::ActiveBuild;
-use crate::plans::plan;
+use crate::plans::graph;
 use cc_names::commands::{Command, Macro};
 use cc_names::desks::Occasion;
 use cc_names::memory::Or;
@@ -23,9 +23,10 @@ use cc_names::names::Name;
 use cc_names::paths::Path;
 use cc_names::refusals::Refusal;
 use cc_names::rows::Tag;
-use cc_names::units::Unit;
+use make_graph::unit_graphs::Graph;
 use make_text::makefiles::Texts;
 use std::alloc::Global;
+use std::hash::RandomState;
 use view_lookup::{FirstRows, ROW_LIMIT, text_at, view_row};
 
 // The texts of the files of a view that there is.
@@ -37,6 +38,7 @@ struct ViewTexts<'a> {
 }
 
 impl Texts for ViewTexts<'_> {
+    ghost use Rattle.legal_history.specs.Builds.Consistency.{InOrder};
     ghost use Rattle.legal_history.specs.Builds.Fresh.{texts};
 
     ghost texts = { λ files path. texts files.rows.now files.owner.now path };
@@ -49,19 +51,19 @@ impl Texts for ViewTexts<'_> {
 /// The units of a build in a view that there is, over the view's files.
 fn units_in(
     alloc: Global,
+    hashing: RandomState,
     rows: &FirstRows<'_>,
     view: &Name,
     file: Option<&Path>,
     macros: &[Macro],
     goals: &[Path],
-) -> Result<Vec<Unit>, Or<Refusal>>
+) -> Result<Graph, Or<Refusal>>
     requires view { IsSome (view_row rows.now view.now) }
-    requires goals { length goals.now < 2 ^ 31 }
-    ensures { Gives (result_items result)
+    ensures { Gives result
         (units (texts rows.now view.now) (option_copied file.entry) macros.now goals.now) }
 {
     let files = ViewTexts { rows, owner: view };
-    plan(alloc, &files, file, macros, goals)
+    graph(alloc, hashing, &files, file, macros, goals)
 }
 
 /// The refusal of a build before its units are planned: there is no such view, or a build of it is active.
@@ -100,6 +102,7 @@ fn refusal_of_room(taken: u64, units: u64) -> Option<Refusal>
 /// The units with which a build in a view begins, or its first refusal.
 fn begun(
     alloc: Global,
+    hashing: RandomState,
     rows: &FirstRows<'_>,
     view: &Name,
     file: Option<&Path>,
@@ -107,33 +110,34 @@ fn begun(
     goals: &[Path],
     busy: Option<Tag>,
     taken: u64,
-) -> Result<Vec<Unit>, Or<Refusal>>
-    requires goals { length goals.now < 2 ^ 31 }
+) -> Result<Graph, Or<Refusal>>
     requires taken { taken < 2 ^ 63 }
     ensures decided { (scene : Scene)
         → Meets scene rows.now view.now busy taken
-        → Begun (result_items result)
+        → Begun result
         (clearmake scene view.now (option_copied file.entry) macros.now goals.now) }
-    ensures formed { IfOk result (λ units. AreUnits units.items) }
+    ensures formed { IfOk result AreUnits }
+    ensures in_order { IfOk result InOrder }
     ensures view { IfOk result (λ units. IsSome (view_row rows.now view.now)) }
-    ensures room { IfOk result (λ units. taken + length units.items ≤ 4000000) }
+    ensures room { IfOk result (λ units. taken + length units ≤ 4000000) }
 {
     if let Some(refusal) = refusal_of_view(rows, view, busy) {
         return Err(Or::Is(refusal));
     }
-    let units = units_in(alloc, rows, view, file, macros, goals)?;
-    if let Some(refusal) = refusal_of_room(taken, units.len() as u64) {
+    let graph = units_in(alloc, hashing, rows, view, file, macros, goals)?;
+    if let Some(refusal) = refusal_of_room(taken, graph.units().len() as u64) {
         return Err(Or::Is(refusal));
     }
-    Ok(units)
+    Ok(graph)
 }
 
 /// The build that a clearmake begins, or its first refusal: there is no such view (C1), a build of the view is active
 /// (C18), its units cannot be planned, or there is no room for a row of each (C23). Fails also where memory runs out.
 ///
-/// Takes what `plan` takes, and for each file that it looks at a look-up by the file's path.
+/// Takes what `graph` takes, and for each file that it looks at a look-up by the file's path.
 pub fn plan_build(
     alloc: Global,
+    hashing: RandomState,
     rows: &FirstRows<'_>,
     command: &Command,
     occasion: Occasion,
@@ -158,8 +162,9 @@ pub fn plan_build(
             goals,
             ..
         } => {
-            let units = begun(
+            let graph = begun(
                 alloc,
+                hashing,
                 rows,
                 view,
                 file.as_ref(),
@@ -177,7 +182,7 @@ pub fn plan_build(
                 view,
                 *own_only,
                 *rebuild,
-                units,
+                graph,
             )?;
             Ok(build)
         }

@@ -1,8 +1,6 @@
 // What a unit of a build comes to without a run.
 
 ghost use Rattle.std.specs.Prelude.{◌≡◌, ◌<◌, ◌^◌, Bool, true, length, find, option_copied, IfOk, IfSome, IsSome};
-ghost use Rattle.legal_history.specs.Builds.Active.{number_from};
-ghost use Rattle.legal_history.specs.Base.Closures.{is_among};
 ghost use Rattle.legal_history.specs.Commands.FileLines.{parent};
 ghost use Rattle.legal_history.specs.Builds.Fresh.{sees_directory, sees_file};
 ghost use Rattle.legal_history.specs.Builds.Serials.{is_missing, is_bad, standing_or_file, first_target, no_directory, no_script, outside};
@@ -18,26 +16,6 @@ use cc_names::units::{Unit, UnitScript};
 use std::alloc::Global;
 use view_lookup::{FirstRows, file_at, is_directory};
 
-/// Whether a unit makes the path.
-pub(crate) fn makes(unit: &Unit, path: &Path) -> bool
-    ensures { result ≡ is_among path.now unit.now.targets }
-{
-    unit.targets.as_slice().contains(path)
-}
-
-/// The place of the first unit that makes the path.
-pub(crate) fn number_of(units: &[Unit], path: &Path) -> Option<usize>
-    ensures number { result ≡ number_from 0 path.now units.now }
-    ensures within { IfSome result (λ n. n < length units.now) }
-{
-    for (index, unit) in units.iter().enumerate() {
-        if makes(unit, path) {
-            return Some(index);
-        }
-    }
-    None
-}
-
 /// Whether a path is neither a unit's nor a file.
 fn is_missing(rows: &FirstRows<'_>, build: &ActiveBuild, path: &Path) -> bool
     requires view { IsSome (view_row rows.now build.now.view) }
@@ -46,7 +24,7 @@ fn is_missing(rows: &FirstRows<'_>, build: &ActiveBuild, path: &Path) -> bool
         (standing_or_file (sees_file rows.now build.now.view path.now)
         (standing_of_unit build.now path.now)) }
 {
-    number_of(build.units(), path).is_none() && file_at(rows, build.view(), path).is_none()
+    build.unit_with(path).is_none() && file_at(rows, build.view(), path).is_none()
 }
 
 /// Whether a path is that of a unit that failed or was blocked.
@@ -54,11 +32,11 @@ fn is_bad(build: &ActiveBuild, path: &Path) -> bool
     ensures { (is_file : Bool)
         → result ≡ is_bad (standing_or_file is_file (standing_of_unit build.now path.now)) }
 {
-    let Some(number) = number_of(build.units(), path) else {
+    let Some(number) = build.unit_with(path) else {
         return false;
     };
     matches!(
-        build.came_at(number),
+        build.came_to(number),
         Some(Came::Ended(UnitEnd::Failed(_) | UnitEnd::Blocked(_)))
     )
 }

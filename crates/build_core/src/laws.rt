@@ -8,7 +8,8 @@ ghost use Rattle.cc_names.specs.declared.units.Unit.{Unit};
 ghost use Rattle.legal_history.specs.Base.Rows.{Base};
 ghost use Rattle.legal_history.specs.Builds.Active.{Build, unit_at};
 ghost use Rattle.legal_history.specs.Builds.Consistency.{IsConsistent};
-ghost use Rattle.make_text.specs.Units.{Files, units};
+ghost use Rattle.make_text.specs.Graphs.{units};
+ghost use Rattle.make_text.specs.Statements.{Files};
 ghost use Rattle.build_core.specs.BuildForms.{IsUnitFormed};
 ghost use Rattle.build_core.specs.Publishing.{CanPublish};
 

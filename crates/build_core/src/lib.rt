@@ -1,7 +1,7 @@
 // Builds: from a clearmake command to the units that it runs, and what comes next for each of them.
 //
-// What it is for: `plan_build` decides a clearmake: `graph` and `plan` say which units its build has, over the files of its
-// view, or why it is refused. An `ActiveBuild` keeps what its units have come to; `step` says what comes next for a unit,
+// What it is for: `plan_build` decides a clearmake: `graph` says which units its build has, over the files of its view,
+// or why it is refused. An `ActiveBuild` keeps what its units have come to; `step` says what comes next for a unit,
 // and `fetch` what its script finds at a path. `run_unit` runs the script, `publish_row` makes the row of what the run gave,
 // and `reply_of` says what a build that has ended is replied.
 //
@@ -26,13 +26,11 @@ mod replies;
 mod runs;
 mod sights;
 mod steps;
-#[cfg(test)]
-mod tests;
 
 pub use active::{ActiveBuild, Came};
 pub use begins::plan_build;
 pub use laws::{a_unit_may_publish, units_are_formed};
-pub use plans::{graph, plan};
+pub use plans::graph;
 pub use publishes::publish_row;
 pub use replies::reply_of;
 pub use runs::run_unit;

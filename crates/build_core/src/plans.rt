@@ -1,20 +1,21 @@
 // The units of a build, from its command and the files of its view.
 
-ghost use Rattle.std.specs.Prelude.{◌≡◌, ◌<◌, ◌^◌, Ok, length, is_some, option_copied, IfOk};
+ghost use Rattle.std.specs.Prelude.{◌≡◌, Ok, is_some, option_copied, IfOk};
 ghost use Rattle.cc_names.specs.Answers.{Gives};
 ghost use Rattle.cc_names.specs.Paths.{path_of};
-ghost use Rattle.make_text.specs.Reading.{result_items};
-ghost use Rattle.make_text.specs.Units.{graph_of, main_file, refusal_of, units, units_at, units_of, unless_refused};
+ghost use Rattle.make_text.specs.Graphs.{graph_of, units, units_at, units_of};
+ghost use Rattle.make_text.specs.Units.{main_file, refusal_of, unless_refused};
 
 use cc_names::commands::Macro;
 use cc_names::memory::{NoMemory, Or};
 use cc_names::paths::Path;
 use cc_names::refusals::{GraphFault, MakeError, Refusal};
-use cc_names::units::Unit;
 use make_graph::goals::Exists;
-use make_graph::graphs::Graph;
-use make_text::makefiles::{Makefile, Texts};
+use make_graph::unit_graphs::Graph;
+use make_text::contents::Makefile;
+use make_text::makefiles::Texts;
 use std::alloc::Global;
+use std::hash::RandomState;
 
 // The files of a view: a path is one where it has a text.
 #[derive(Drop)]
@@ -72,15 +73,15 @@ fn main_file<X: Texts>(alloc: Global, texts: &X, file: Option<&Path>) -> Result<
 /// The graph of a makefile that was read, or the refusal.
 fn graph_of<X: Texts>(
     alloc: Global,
+    hashing: RandomState,
     texts: &X,
     make: &Makefile,
     goals: &[Path],
 ) -> Result<Graph, Or<Refusal>>
-    requires { length goals.now < 2 ^ 31 }
     ensures { Gives result
         (unless_refused (graph_of make.now goals.now (λ path. is_some (X.texts texts.now path)))) }
 {
-    match Graph::of(alloc, make, goals, &Files { texts }) {
+    match Graph::of(alloc, hashing, make, goals, &Files { texts }) {
         Ok(graph) => Ok(graph),
         Err(Or::Is(fault)) => Err(Or::Is(refusal_of(fault))),
         Err(Or::NoMemory) => Err(Or::NoMemory),
@@ -90,19 +91,20 @@ fn graph_of<X: Texts>(
 /// The graph of the makefile at a path, which may be no file.
 fn graph_at<X: Texts>(
     alloc: Global,
+    hashing: RandomState,
     texts: &X,
     file: Path,
     macros: &[Macro],
     goals: &[Path],
 ) -> Result<Graph, Or<Refusal>>
-    requires { length goals.now < 2 ^ 31 }
-    ensures { Gives result (units_at (X.texts texts.now) goals.now file (X.texts texts.now file)) }
+    ensures { Gives result
+        (units_at (X.texts texts.now) macros.now goals.now file (X.texts texts.now file)) }
 {
     if texts.text(&file).is_none() {
         return Err(Or::Is(Refusal::NoMakefile(file)));
     }
-    match Makefile::read(alloc, &file, texts, macros) {
-        Ok(make) => graph_of(alloc, texts, &make, goals),
+    match Makefile::read(alloc, hashing, &file, texts, macros) {
+        Ok(make) => graph_of(alloc, hashing, texts, &make, goals),
         Err(Or::Is(MakeError { file, line, cause })) => {
             Err(Or::Is(Refusal::MakeError(file, line, cause)))
         }
@@ -112,37 +114,21 @@ fn graph_at<X: Texts>(
 
 /// The graph of a build's units, over the texts of its view's files: by the makefile that is named, else `makefile`,
 /// else `Makefile`, with the macros of the command line and the goals. It is refused where the makefile is no file (B1)
-/// or has a line that fails (M1), and where its goals have a fault (G1, G3), tested in this order. Fails also where
-/// memory runs out. There are fewer than 2^31 goals.
+/// or has a line that fails (M1), and where its goals have a fault (G1, G2, G3), tested in this order. Fails also where
+/// memory runs out.
 ///
-/// Takes time linear in the text of the makefile, and what `Graph::of` takes.
+/// Takes what `Makefile::read` and `Graph::of` take.
 pub fn graph<X: Texts>(
     alloc: Global,
+    hashing: RandomState,
     texts: &X,
     file: Option<&Path>,
     macros: &[Macro],
     goals: &[Path],
 ) -> Result<Graph, Or<Refusal>>
-    requires { length goals.now < 2 ^ 31 }
     ensures { Gives result
         (units (X.texts texts.now) (option_copied file.entry) macros.now goals.now) }
 {
     let main = main_file(alloc, texts, file)?;
-    graph_at(alloc, texts, main, macros, goals)
-}
-
-/// The units of a build, or its refusal, as `graph` has them.
-pub fn plan<X: Texts>(
-    alloc: Global,
-    texts: &X,
-    file: Option<&Path>,
-    macros: &[Macro],
-    goals: &[Path],
-) -> Result<Vec<Unit>, Or<Refusal>>
-    requires { length goals.now < 2 ^ 31 }
-    ensures { Gives (result_items result)
-        (units (X.texts texts.now) (option_copied file.entry) macros.now goals.now) }
-{
-    let graph = graph(alloc, texts, file, macros, goals)?;
-    Ok(graph.into_units())
+    graph_at(alloc, hashing, texts, main, macros, goals)
 }

@@ -37,11 +37,12 @@ fn rows_read(
         → IfOk result
         (λ found. found.entries ≡ in_order (visible rows.now build.now unit it) reads.now) }
 {
+    let closure = build.needs(alloc, unit)?;
     let mut found = BTreeMap::new(alloc);
     // From the last read to the first, as the record of reads is defined.
     for index in (0..reads.len()).rev() {
         let path = &reads[index];
-        let row = visible(alloc, rows, build, unit, path)?.unwrap_or(0);
+        let row = visible(rows, build, unit, &closure, path).unwrap_or(0);
         found.insert(path.copy(alloc)?, row)?;
     }
     Ok(found)
@@ -61,7 +62,7 @@ fn entries_of(alloc: Global, found: BTreeMap<Path, u64>) -> Result<List<ReadOf>,
 /// The row that a unit of an active build publishes at this moment: its run gave these
 /// outputs, and asked for these paths. Fails only where memory runs out.
 ///
-/// Takes for each read a walk over the units and a look-up by the path, and time linear in what it copies.
+/// Takes for each read two look-ups by the path, and time linear in the units before it and in what it copies.
 pub fn publish_row(
     alloc: Global,
     rows: &FirstRows<'_>,

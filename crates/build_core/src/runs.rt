@@ -9,6 +9,7 @@ ghost use Rattle.legal_history.specs.Builds.Active.{unit_at};
 ghost use Rattle.legal_history.specs.Builds.Choices.{here};
 ghost use Rattle.legal_history.specs.Builds.Fresh.{script_text};
 ghost use Rattle.legal_history.specs.Base.Views.{view_row};
+ghost use Rattle.build_core.specs.Sights.{AreNeeds};
 
 use crate::active::ActiveBuild;
 use crate::sights::fetch;
@@ -18,7 +19,9 @@ use build_script::run::run;
 use build_script::scripts::Script;
 use cc_names::memory::{NoMemory, Or};
 use cc_names::paths::Path;
+use make_graph::closures::Closure;
 use std::alloc::Global;
+use std::hash::RandomState;
 use view_lookup::FirstRows;
 
 /// The files that the script of a unit sees.
@@ -28,7 +31,9 @@ struct UnitFiles<'a> {
     rows: &'a FirstRows<'a>,
     build: &'a ActiveBuild,
     unit: u32,
+    closure: &'a Closure,
     ghost within: { unit < length build.now.units },
+    ghost needs: { AreNeeds build.now unit closure.now },
     ghost view: { IsSome (view_row (first_rows build.now.rows rows.now) build.now.view) },
 }
 
@@ -42,7 +47,14 @@ impl Files for UnitFiles<'_> {
     ghost follows = { λ paths before after. Unit {0} };
 
     fn read(&mut self, path: &Path) -> Got {
-        fetch(self.alloc, self.rows, self.build, self.unit, path)
+        fetch(
+            self.alloc,
+            self.rows,
+            self.build,
+            self.unit,
+            self.closure,
+            path,
+        )
     }
 
     ghost reflexive = { λ paths files. tt };
@@ -53,9 +65,10 @@ impl Files for UnitFiles<'_> {
 /// Runs the script of a unit over what the unit sees. The script and the targets are those
 /// of the unit. Fails only where memory runs out.
 ///
-/// Takes what `run` takes, and for each path that it reads a walk over the units and a look-up by the path.
+/// Takes what `run` takes, time linear in the units before it, and for each path that it reads two look-ups by the path.
 pub fn run_unit(
     alloc: Global,
+    hashing: RandomState,
     rows: &FirstRows<'_>,
     build: &ActiveBuild,
     unit: u32,
@@ -74,13 +87,15 @@ pub fn run_unit(
         → unit_at build.now unit ≡ Some it
         → IfOk result (λ ended. ran_of ended ≡ here rows.now build.now unit it) }
 {
+    let closure = build.needs(alloc, unit)?;
     let mut files = UnitFiles {
         alloc,
         rows,
         build,
         unit,
+        closure: &closure,
     };
-    match run(alloc, script, targets, &mut files) {
+    match run(alloc, hashing, script, targets, &mut files) {
         Ok(ended) => Ok(ended),
         Err(Or::NoMemory) => Err(NoMemory),
         Err(Or::Is(Stop::Broken)) => unreachable!(),

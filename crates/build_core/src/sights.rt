@@ -1,121 +1,67 @@
 // What the script of a unit sees.
 
-ghost use Rattle.std.specs.Prelude.{◌≡◌, ℕ, List, ◌<◌, ◌≤◌, ◌^◌, Some, true, length, option_and_then, option_copied, IfOk, IsSome};
-ghost use Rattle.std.specs.List.{list_any};
+ghost use Rattle.std.specs.Prelude.{◌≡◌, Some, option_and_then, option_copied, IsSome};
 ghost use Rattle.cc_names.specs.declared.units.Unit as units;
-ghost use Rattle.legal_history.specs.Base.Rows.{first_rows, only_where};
-ghost use Rattle.legal_history.specs.Builds.Active.{came_to, object_of, unit_at};
+ghost use Rattle.legal_history.specs.Base.Rows.{first_rows};
+ghost use Rattle.legal_history.specs.Base.Seen.{file_at};
+ghost use Rattle.legal_history.specs.Builds.Active.{unit_at};
 ghost use Rattle.legal_history.specs.Builds.Choices.{visible};
-ghost use Rattle.legal_history.specs.Base.Closures.{is_among};
 ghost use Rattle.legal_history.specs.Base.Views.{view_row};
-ghost use Rattle.build_core.specs.Sights.{object_before, standing_of, stands, IsFetched};
+ghost use Rattle.build_core.specs.Sights.{object_marked, standing_of, stands, AreNeeds, IsFetched};
 
 use crate::active::ActiveBuild;
-use crate::ends::makes;
 use build_script::files::Got;
-use cc_names::copies::push_paths;
 use cc_names::memory::NoMemory;
 use cc_names::paths::Path;
 use cc_names::texts::Text;
-use cc_names::units::Unit;
+use make_graph::closures::Closure;
 use std::alloc::Global;
 use view_lookup::{FirstRows, file_at, first_rows, text_of};
 
-/// Whether a unit makes one of these paths.
-fn makes_any(unit: &Unit, paths: &[Path]) -> bool
-    ensures { result ≡ list_any (λ path. is_among path unit.now.targets) paths.now }
+/// The object that the unit of a path was given or kept, where that unit is one of a closure. Takes a look-up by the path,
+/// however many units there are.
+fn object_in(build: &ActiveBuild, closure: &Closure, path: &Path) -> Option<u64>
+    ensures { result ≡ object_marked build.now closure.now path.now }
 {
-    paths.iter().any(|path| makes(unit, path))
-}
-
-/// The object that a unit was given or kept, where the unit makes the path.
-fn object_at(build: &ActiveBuild, index: usize, unit: &Unit, path: &Path) -> Option<u64>
-    ensures { result
-        ≡ only_where (is_among path.now unit.now.targets) (object_of (came_to build.now index)) }
-{
-    if makes(unit, path) {
-        build.object_at(index)
+    let unit = build.unit_with(path)?;
+    if closure.has(unit) {
+        build.object_of(unit)
     } else {
         None
     }
 }
 
-/// A number no larger than this one up to which the units that make one of these paths stand, and those that they need.
-fn up_to_maker(build: &ActiveBuild, below: u32, paths: &[Path]) -> u32
-    requires { below ≤ length build.now.units }
-    ensures within { result ≤ below }
-    ensures same { (path : List ℕ)
-        → object_before build.now paths.now result path
-        ≡ object_before build.now paths.now below path }
+/// The file of the view at a path as the build began.
+fn file_in(rows: &FirstRows<'_>, build: &ActiveBuild, path: &Path) -> Option<u64>
+    requires { IsSome (view_row (first_rows build.now.rows rows.now) build.now.view) }
+    ensures { result ≡ file_at (first_rows build.now.rows rows.now) build.now.view path.now }
 {
-    let units = build.units();
-    let mut number = below;
-    while number > 0 {
-        let unit = &units[number as usize - 1];
-        if makes_any(unit, paths) {
-            return number;
-        }
-        number -= 1;
-    }
-    number
-}
-
-/// The object at a path of the units below a number that make what is wanted, and of those that these need in turn.
-fn object_below(
-    alloc: Global,
-    build: &ActiveBuild,
-    below: u32,
-    paths: &[Path],
-    path: &Path,
-) -> Result<Option<u64>, NoMemory>
-    requires { below ≤ length build.now.units }
-    ensures { IfOk result (λ id. id ≡ object_before build.now paths.now below path.now) }
-{
-    let last = up_to_maker(build, below, paths);
-    if last == 0 {
-        return Ok(None);
-    }
-    let mut wanted = Vec::new(alloc);
-    push_paths(alloc, &mut wanted, paths)?;
-    let units = build.units();
-    let mut number = last;
-    while number > 0 {
-        number -= 1;
-        let unit = &units[number as usize];
-        if makes_any(unit, wanted.as_slice()) {
-            if let Some(id) = object_at(build, number as usize, unit, path) {
-                return Ok(Some(id));
-            }
-            push_paths(alloc, &mut wanted, unit.prerequisites.as_slice())?;
-        }
-    }
-    Ok(None)
+    let rows = first_rows(rows, build.rows());
+    file_at(&rows, build.view(), path)
 }
 
 /// The row that a unit of an active build sees at a path: the object that the build gave to a
-/// unit that it needs, directly or through others, else the file of the view as the build began. Fails only where memory
-/// runs out.
+/// unit that it needs, directly or through others, else the file of the view as the build began. The closure is that of the
+/// unit.
 ///
-/// Takes time that grows with the units before it times the prerequisites met, and a look-up by the path.
+/// Takes two look-ups by the path, however many units and prerequisites there are.
 pub fn visible(
-    alloc: Global,
     rows: &FirstRows<'_>,
     build: &ActiveBuild,
     unit: u32,
+    closure: &Closure,
     path: &Path,
-) -> Result<Option<u64>, NoMemory>
-    requires unit { unit < length build.now.units }
+) -> Option<u64>
     requires view { IsSome (view_row (first_rows build.now.rows rows.now) build.now.view) }
+    requires needs { AreNeeds build.now unit closure.now }
     ensures { (it : units.Unit)
         → unit_at build.now unit ≡ Some it
-        → IfOk result (λ row. row ≡ visible rows.now build.now unit it path.now) }
+        → result ≡ visible rows.now build.now unit it path.now }
 {
-    let wanted = build.units()[unit as usize].prerequisites.as_slice();
-    if let Some(id) = object_below(alloc, build, unit, wanted, path)? {
-        return Ok(Some(id));
+    if let Some(id) = object_in(build, closure, path) {
+        return Some(id);
     }
-    let rows = first_rows(rows, build.rows());
-    Ok(file_at(&rows, build.view(), path))
+    file_in(rows, build, path)
 }
 
 /// What a row made at the path.
@@ -138,17 +84,17 @@ pub fn fetch(
     rows: &FirstRows<'_>,
     build: &ActiveBuild,
     unit: u32,
+    closure: &Closure,
     path: &Path,
 ) -> Got
-    requires unit { unit < length build.now.units }
     requires view { IsSome (view_row (first_rows build.now.rows rows.now) build.now.view) }
+    requires needs { AreNeeds build.now unit closure.now }
     ensures { (it : units.Unit)
         → unit_at build.now unit ≡ Some it
         → IsFetched result (stands rows.now build.now unit it path.now) }
 {
-    match visible(alloc, rows, build, unit, path) {
-        Ok(Some(row)) => found(alloc, rows, row, path),
-        Ok(None) => Got::Absent,
-        Err(NoMemory) => Got::NoMemory,
+    match visible(rows, build, unit, closure, path) {
+        Some(row) => found(alloc, rows, row, path),
+        None => Got::Absent,
     }
 }

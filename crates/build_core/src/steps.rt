@@ -10,7 +10,7 @@ ghost use Rattle.legal_history.specs.Base.Views.{view_row};
 ghost use Rattle.build_core.specs.UnitSteps.{first_awaited, IsNext, IsStep, IsOpen};
 
 use crate::active::ActiveBuild;
-use crate::ends::{early, number_of};
+use crate::ends::early;
 use build_script::scripts::Script;
 use cc_names::copies::Copied;
 use cc_names::lists::List;
@@ -45,9 +45,9 @@ fn first_awaited(build: &ActiveBuild, paths: &[Path]) -> Option<u32>
     ensures waits { IfSome result (λ m. is_outcome (came_to build.now m) ≡ false) }
 {
     for path in paths {
-        if let Some(number) = number_of(build.units(), path) {
-            if !build.is_over(number) {
-                return Some(number as u32);
+        if let Some(number) = build.unit_with(path) {
+            if !build.has_outcome(number) {
+                return Some(number);
             }
         }
     }

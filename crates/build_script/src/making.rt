@@ -21,13 +21,14 @@ use indexmap::IndexSet;
 use memchr::memmem;
 use std::alloc::Global;
 use std::collections::HashMap;
+use std::hash::RandomState;
 use std::slice::from_ref;
 
 /// The most bytes that an output may have.
 const OUTPUT_LIMIT: usize = 1_048_576;
 
 /// The outputs that a run has written so far.
-pub(crate) type Outputs = HashMap<Path, Vec<u8>>;
+pub(crate) type Outputs = HashMap<Path, Vec<u8>, RandomState>;
 
 /// What a line has made so far, and how many probes its run has made so far.
 #[derive(Drop)]
@@ -59,7 +60,11 @@ pub(crate) struct Making<'a> {
 }
 
 /// Notes a path, unless it is noted.
-pub(crate) fn note(alloc: Global, reads: &mut IndexSet<Path>, path: &Path) -> Result<(), NoMemory>
+pub(crate) fn note(
+    alloc: Global,
+    reads: &mut IndexSet<Path, RandomState>,
+    path: &Path,
+) -> Result<(), NoMemory>
     ensures { OnOk result (reads.new.keys ≡ noted reads.old.keys path.now) }
 {
     if !reads.contains(path) {
@@ -71,7 +76,7 @@ pub(crate) fn note(alloc: Global, reads: &mut IndexSet<Path>, path: &Path) -> Re
 /// Asks the files for a path.
 fn ask<F: Files>(
     alloc: Global,
-    reads: &mut IndexSet<Path>,
+    reads: &mut IndexSet<Path, RandomState>,
     files: &mut F,
     path: &Path,
 ) -> Result<Option<Text>, Halt>
@@ -91,7 +96,7 @@ fn ask<F: Files>(
 /// A text by its path: the run's own output where this run has written it, else the file's.
 pub(crate) fn see<F: Files>(
     making: Making<'_>,
-    reads: &mut IndexSet<Path>,
+    reads: &mut IndexSet<Path, RandomState>,
     files: &mut F,
     path: &Path,
 ) -> Result<Option<Text>, Halt>
@@ -119,7 +124,7 @@ fn present(alloc: Global, path: &Path, found: Option<Text>) -> Result<Text, Halt
 /// The text at a path, which has to be there.
 pub(crate) fn text_at<F: Files>(
     making: Making<'_>,
-    reads: &mut IndexSet<Path>,
+    reads: &mut IndexSet<Path, RandomState>,
     files: &mut F,
     path: &Path,
 ) -> Result<Text, Halt>
@@ -207,7 +212,7 @@ fn say_as(
 /// The text at a path in this form.
 fn pour<F: Files>(
     making: Making<'_>,
-    reads: &mut IndexSet<Path>,
+    reads: &mut IndexSet<Path, RandomState>,
     files: &mut F,
     made: &mut Made,
     form: Form<'_>,
@@ -226,7 +231,7 @@ fn pour<F: Files>(
 /// The texts at these paths in this form.
 fn pour_all<F: Files>(
     making: Making<'_>,
-    reads: &mut IndexSet<Path>,
+    reads: &mut IndexSet<Path, RandomState>,
     files: &mut F,
     made: &mut Made,
     form: Form<'_>,
@@ -283,7 +288,7 @@ fn echo(making: Making<'_>, made: &mut Made, words: &[Text]) -> Result<(), Halt>
 /// The parts of a line's work.
 pub(crate) fn make<F: Files>(
     making: Making<'_>,
-    reads: &mut IndexSet<Path>,
+    reads: &mut IndexSet<Path, RandomState>,
     files: &mut F,
     made: &mut Made,
     work: &Work,

@@ -22,6 +22,7 @@ use cc_names::refusals::ScriptFault;
 use cc_names::texts::Text;
 use indexmap::IndexSet;
 use std::alloc::Global;
+use std::hash::RandomState;
 
 /// The most files that `pp` is inside of, the one that it is given aside.
 const DEPTH_LIMIT: usize = 32;
@@ -32,7 +33,7 @@ const PROBE_LIMIT: u32 = 100_000;
 /// Looks for an included path at one place. Each such probe counts.
 fn probe<F: Files>(
     making: Making<'_>,
-    reads: &mut IndexSet<Path>,
+    reads: &mut IndexSet<Path, RandomState>,
     files: &mut F,
     probes: &mut u32,
     include: &Path,
@@ -67,7 +68,7 @@ fn absent(alloc: Global, path: &Path) -> Halt
 /// Looks for an included path under a directory, unless it would be too long there.
 fn probe_under<F: Files>(
     making: Making<'_>,
-    reads: &mut IndexSet<Path>,
+    reads: &mut IndexSet<Path, RandomState>,
     files: &mut F,
     probes: &mut u32,
     path: &Path,
@@ -93,7 +94,7 @@ fn probe_under<F: Files>(
 /// The text of an included path under the first directory where it stands.
 fn find_under<F: Files>(
     making: Making<'_>,
-    reads: &mut IndexSet<Path>,
+    reads: &mut IndexSet<Path, RandomState>,
     files: &mut F,
     probes: &mut u32,
     directories: &[Path],
@@ -118,7 +119,7 @@ fn find_under<F: Files>(
 /// The text of an included path: at itself, else under the first directory where it stands.
 fn find<F: Files>(
     making: Making<'_>,
-    reads: &mut IndexSet<Path>,
+    reads: &mut IndexSet<Path, RandomState>,
     files: &mut F,
     probes: &mut u32,
     directories: &[Path],
@@ -143,7 +144,7 @@ fn find<F: Files>(
 /// The text of an included path, in a text inside of so many others.
 fn include<F: Files>(
     making: Making<'_>,
-    reads: &mut IndexSet<Path>,
+    reads: &mut IndexSet<Path, RandomState>,
     files: &mut F,
     probes: &mut u32,
     directories: &[Path],
@@ -195,7 +196,7 @@ fn enter(inside: &mut Vec<OpenText>, outer: OpenText, text: Text) -> Result<(), 
 /// The next line of the innermost text, which is taken off the others.
 fn step<F: Files>(
     making: Making<'_>,
-    reads: &mut IndexSet<Path>,
+    reads: &mut IndexSet<Path, RandomState>,
     files: &mut F,
     made: &mut Made,
     directories: &[Path],
@@ -243,7 +244,7 @@ fn step<F: Files>(
 /// A text with each include line replaced.
 fn expand<F: Files>(
     making: Making<'_>,
-    reads: &mut IndexSet<Path>,
+    reads: &mut IndexSet<Path, RandomState>,
     files: &mut F,
     made: &mut Made,
     directories: &[Path],
@@ -275,7 +276,7 @@ fn expand<F: Files>(
 /// the paths of its probes.
 pub(crate) fn preprocess<F: Files>(
     making: Making<'_>,
-    reads: &mut IndexSet<Path>,
+    reads: &mut IndexSet<Path, RandomState>,
     files: &mut F,
     made: &mut Made,
     directories: &[Path],

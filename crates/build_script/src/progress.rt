@@ -18,6 +18,7 @@ use cc_names::refusals::ScriptFault;
 use cc_names::texts::Text;
 use indexmap::IndexSet;
 use std::alloc::Global;
+use std::hash::RandomState;
 
 /// Writes what a line made to its output: behind what it has, or in its place. Takes time linear in the fresh bytes and
 /// the path, spread over the writes to one output.
@@ -58,19 +59,19 @@ fn length_before(written: &Outputs, output: &Path, appends: bool) -> usize
 #[derive(Drop)]
 pub(crate) struct Progress {
     pub(crate) written: Outputs,
-    pub(crate) reads: IndexSet<Path>,
+    pub(crate) reads: IndexSet<Path, RandomState>,
     pub(crate) probes: u32,
 }
 
 impl Progress {
     /// Nothing written and nothing asked for.
-    pub(crate) fn begin(alloc: Global) -> Progress
+    pub(crate) fn begin(alloc: Global, hashing: RandomState) -> Progress
         ensures state { state_of result ≡ nothing_written }
         ensures reads { result.reads.keys ≡ [] }
     {
         Progress {
-            written: Outputs::new(alloc),
-            reads: IndexSet::new(alloc),
+            written: Outputs::with_hasher(alloc, hashing),
+            reads: IndexSet::with_hasher(alloc, hashing),
             probes: 0,
         }
     }
@@ -106,7 +107,7 @@ impl Progress {
         &mut self,
         alloc: Global,
         files: &mut F,
-        targets: &IndexSet<Path>,
+        targets: &IndexSet<Path, RandomState>,
         line: &Line,
     ) -> Result<(), Halt>
         ensures { Carried F.stands F.broken F.follows self.old.reads.keys

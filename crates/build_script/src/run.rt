@@ -20,12 +20,17 @@ use cc_names::paths::Path;
 use cc_names::texts::Text;
 use indexmap::IndexSet;
 use std::alloc::{AllocError, Global};
+use std::hash::RandomState;
 
 /// The targets by their paths.
-fn set_of(alloc: Global, targets: &[Path]) -> Result<IndexSet<Path>, NoMemory>
+fn set_of(
+    alloc: Global,
+    hashing: RandomState,
+    targets: &[Path],
+) -> Result<IndexSet<Path, RandomState>, NoMemory>
     ensures { IfOk result (λ set. HoldsEach set.keys targets.now) }
 {
-    let mut set = IndexSet::new(alloc);
+    let mut set = IndexSet::with_hasher(alloc, hashing);
     for target in targets {
         note(alloc, &mut set, target)?;
     }
@@ -37,7 +42,7 @@ fn run_lines<F: Files>(
     alloc: Global,
     progress: &mut Progress,
     files: &mut F,
-    targets: &IndexSet<Path>,
+    targets: &IndexSet<Path, RandomState>,
     lines: &[Line],
 ) -> Result<(), Halt>
     ensures { Carried F.stands F.broken F.follows progress.old.reads.keys
@@ -53,6 +58,7 @@ fn run_lines<F: Files>(
 /// Carries out lines, and takes the outputs.
 fn run_whole<F: Files>(
     alloc: Global,
+    hashing: RandomState,
     progress: &mut Progress,
     files: &mut F,
     targets: &[Path],
@@ -62,12 +68,12 @@ fn run_whole<F: Files>(
         (run_from targets.now lines.now (state_of progress.old)) (gives (λ outputs. outputs)) result
         progress.new.reads.keys files.old files.new }
 {
-    let set = set_of(alloc, targets)?;
+    let set = set_of(alloc, hashing, targets)?;
     run_lines(alloc, progress, files, &set, lines)?;
     outputs(alloc, &progress.written, targets)
 }
 
-fn into_paths(alloc: Global, reads: IndexSet<Path>) -> Result<List<Path>, AllocError>
+fn into_paths(alloc: Global, reads: IndexSet<Path, RandomState>) -> Result<List<Path>, AllocError>
     ensures { IfOk result (λ paths. paths ≡ reads.keys) }
 {
     Ok(List::of(reads.into_iter().collect(alloc)?))
@@ -80,6 +86,7 @@ fn into_paths(alloc: Global, reads: IndexSet<Path>) -> Result<List<Path>, AllocE
 /// the texts that it reads, of what it writes and of the paths of its probes.
 pub fn run<F: Files>(
     alloc: Global,
+    hashing: RandomState,
     script: &Script,
     targets: &[Path],
     files: &mut F,
@@ -95,8 +102,15 @@ pub fn run<F: Files>(
         (carried_out (texts (F.stands files.old)) (run_of_lines targets.now script.now)).reads
         files.old files.new }
 {
-    let mut progress = Progress::begin(alloc);
-    let result = match run_whole(alloc, &mut progress, files, targets, script.lines()) {
+    let mut progress = Progress::begin(alloc, hashing);
+    let result = match run_whole(
+        alloc,
+        hashing,
+        &mut progress,
+        files,
+        targets,
+        script.lines(),
+    ) {
         Ok(outputs) => Ok(Outcome { outputs }),
         Err(Halt::Fault(fault)) => Err(fault),
         Err(Halt::Stop(stop)) => return Err(Or::Is(stop)),

@@ -15,6 +15,7 @@ use cc_names::refusals::ScriptFault;
 use cc_names::texts::Text;
 use std::alloc::{AllocError, Global};
 use std::collections::HashMap;
+use std::hash::RandomState;
 use std::test::Fail;
 
 // Some files, each made by row 1.
@@ -95,19 +96,25 @@ fn words_of(alloc: Global, ended: &Ended) -> Result<String, AllocError> {
 }
 
 // A run with the targets `out` and `log`.
-fn run_text(alloc: Global, script: &str, files: &mut SomeFiles) -> Result<String, Fail>
+fn run_text(
+    alloc: Global,
+    hashing: RandomState,
+    script: &str,
+    files: &mut SomeFiles,
+) -> Result<String, Fail>
     requires { length script.now < 2 ^ 32 }
 {
     let script = Script::read(alloc, script.as_bytes())?;
     let mut targets = Vec::new(alloc);
     targets.push(Path::read(alloc, b"out")?)?;
     targets.push(Path::read(alloc, b"log")?)?;
-    let ended = run(alloc, &script, targets.as_slice(), files)?;
+    let ended = run(alloc, hashing, &script, targets.as_slice(), files)?;
     Ok(words_of(alloc, &ended)?)
 }
 
 #[test]
 fn runs_come_to_outputs_or_the_first_fault(rt: HostRuntime) -> Result<(), Fail> {
+    let hashing = RandomState::new(&rt)?;
     let mut files = files_of(rt.alloc(), &[("in", "hi\n")])?;
     let table = [
         ("cat in > out\necho > log\n", "[hi\n][\n] < in"),
@@ -128,7 +135,7 @@ fn runs_come_to_outputs_or_the_first_fault(rt: HostRuntime) -> Result<(), Fail> 
     ];
     for (script, want) in table {
         assert!(rt; script.len() < 1000);
-        let said = run_text(rt.alloc(), script, &mut files)?;
+        let said = run_text(rt.alloc(), hashing, script, &mut files)?;
         assert_eq!(rt; said.as_str(), want, "of {script:?}");
     }
     Ok(())
@@ -137,6 +144,7 @@ fn runs_come_to_outputs_or_the_first_fault(rt: HostRuntime) -> Result<(), Fail> 
 // The digests are those of FIPS 180-2 for `abc`, and of no bytes.
 #[test]
 fn texts_take_their_forms(rt: HostRuntime) -> Result<(), Fail> {
+    let hashing = RandomState::new(&rt)?;
     let mut files = files_of(rt.alloc(), &[("in", "hi\n"), ("abc", "abc"), ("empty", "")])?;
     let table = [
         (
@@ -165,7 +173,7 @@ fn texts_take_their_forms(rt: HostRuntime) -> Result<(), Fail> {
     ];
     for (script, want) in table {
         assert!(rt; script.len() < 1000);
-        let said = run_text(rt.alloc(), script, &mut files)?;
+        let said = run_text(rt.alloc(), hashing, script, &mut files)?;
         assert_eq!(rt; said.as_str(), want, "of {script:?}");
     }
     Ok(())
@@ -173,6 +181,7 @@ fn texts_take_their_forms(rt: HostRuntime) -> Result<(), Fail> {
 
 #[test]
 fn included_files_are_looked_for(rt: HostRuntime) -> Result<(), Fail> {
+    let hashing = RandomState::new(&rt)?;
     let sources = [
         ("a.c", "#include \"h\"\nend\n"),
         ("two/h", "foo\n"),
@@ -208,7 +217,7 @@ fn included_files_are_looked_for(rt: HostRuntime) -> Result<(), Fail> {
     ];
     for (script, want) in table {
         assert!(rt; script.len() < 1000);
-        let said = run_text(rt.alloc(), script, &mut files)?;
+        let said = run_text(rt.alloc(), hashing, script, &mut files)?;
         assert_eq!(rt; said.as_str(), want, "of {script:?}");
     }
     Ok(())
@@ -225,6 +234,7 @@ fn repeated(alloc: Global, line: &str, count: usize) -> Result<String, AllocErro
 // A run makes 100,000 probes: two for each line, since the first of each finds nothing.
 #[test]
 fn a_run_makes_so_many_probes(rt: HostRuntime) -> Result<(), Fail> {
+    let hashing = RandomState::new(&rt)?;
     let table = [
         (49_999, "NotWritten log"),
         (50_000, "NotWritten log"),
@@ -233,7 +243,7 @@ fn a_run_makes_so_many_probes(rt: HostRuntime) -> Result<(), Fail> {
     for (lines, want) in table {
         let text = repeated(rt.alloc(), "#include \"h\"\n", lines)?;
         let mut files = files_of(rt.alloc(), &[("in", text.as_str()), ("two/h", "foo\n")])?;
-        let said = run_text(rt.alloc(), "pp -I two in > out", &mut files)?;
+        let said = run_text(rt.alloc(), hashing, "pp -I two in > out", &mut files)?;
         let want = format!(in rt.alloc(); "{want} < in h two/h")?;
         assert_eq!(rt; said.as_str(), want.as_str(), "of {lines} lines");
     }
@@ -281,6 +291,7 @@ fn the_first_line_outside_the_language_is_named(rt: HostRuntime) -> Result<(), F
 // An output has 1,048,576 bytes at most: of 524,288 letters, each replaced by two.
 #[test]
 fn an_output_ends_at_its_limit(rt: HostRuntime) -> Result<(), Fail> {
+    let hashing = RandomState::new(&rt)?;
     let table = [
         (524_288, "NotWritten log < in"),
         (524_289, "TooBig out < in"),
@@ -288,7 +299,7 @@ fn an_output_ends_at_its_limit(rt: HostRuntime) -> Result<(), Fail> {
     for (letters, want) in table {
         let text = repeated(rt.alloc(), "a", letters)?;
         let mut files = files_of(rt.alloc(), &[("in", text.as_str())])?;
-        let said = run_text(rt.alloc(), "sub a bb in > out", &mut files)?;
+        let said = run_text(rt.alloc(), hashing, "sub a bb in > out", &mut files)?;
         assert_eq!(rt; said.as_str(), want, "of {letters} letters");
     }
     Ok(())

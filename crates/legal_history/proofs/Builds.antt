@@ -11,8 +11,7 @@ pub mod FreshRuns
 pub mod FreshSeen
 pub mod NeededAgree
 pub mod Pairs
-pub mod PlainRules
-pub mod PlainUnits
+pub mod OrderedUnits
 pub mod Published
 pub mod ReadyUnits
 pub mod RepliesAgree

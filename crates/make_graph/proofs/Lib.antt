@@ -3,6 +3,6 @@ mod WalkedLemmas
 mod FrameLemmas
 mod ServingLemmas
 pub mod NeedLemmas
-pub mod Parts
+mod MarkLemmas
 pub mod StandingLaws
 mod Worked

@@ -16,7 +16,7 @@ first_stands_on_nothing : closure_of units 0 ≡ []
 unfolding units
 first_stands_on_nothing = refl
 
-last_stands_on_two : closure_of units 3 ≡ 0 ∷ 1 ∷ []
+last_stands_on_two : closure_of units 3 ≡ 1 ∷ 0 ∷ []
 unfolding units
 last_stands_on_two = refl
 

@@ -1,8 +1,7 @@
 -- A walk that keeps its own stack.
 use Rattle.std.specs.Bool.{⊤}
 use Rattle.std.specs.Prelude.{◌≡◌, ℕ, ◌+◌, ◌-◌, suc, Option, Some, None, Result, Ok, Err, List, [], ◌∷◌, length, drop, slice_get}
-use Rattle.std.specs.declared.hash.FoldHasher.{FoldHasher}
-use Rattle.std.specs.declared.hash.BuildHasherDefault.{BuildHasherDefault}
+use Rattle.std.specs.declared.random_state.RandomState.{RandomState}
 use Rattle.std.specs.HashMap.{HashMap, get}
 use Rattle.std.specs.Str.{bytes_eq}
 use Rattle.cc_names.specs.declared.memory.Or.{Or}
@@ -18,7 +17,7 @@ use Rattle.make_graph.specs.declared.walks.Meeting.{Meeting}
 use Rattle.make_graph.specs.declared.walks.Meeting.TheVariants.{Past, Again, Enter}
 
 -- the map has the number of each unit's targets
-abbrev pub KnowsUnits : HashMap (List ℕ) ℕ (BuildHasherDefault FoldHasher) → List Serving → Type 0
+abbrev pub KnowsUnits : HashMap (List ℕ) ℕ RandomState → List Serving → Type 0
 KnowsUnits numbers units = (path : List ℕ) → get bytes_eq numbers path ≡ number_of units path
 
 -- what a walk does about a unit with this mark

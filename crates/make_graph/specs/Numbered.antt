@@ -1,7 +1,6 @@
 -- Numbers that are given to paths one after the other.
 use Rattle.std.specs.Prelude.{◌≡◌, ℕ, Option, Some, None, List, fold, if◌then◌else◌}
-use Rattle.std.specs.declared.hash.FoldHasher.{FoldHasher}
-use Rattle.std.specs.declared.hash.BuildHasherDefault.{BuildHasherDefault}
+use Rattle.std.specs.declared.random_state.RandomState.{RandomState}
 use Rattle.std.specs.HashMap.{HashMap, get}
 use Rattle.std.specs.Str.{bytes_eq}
 use Rattle.make_text.specs.Contents.{Contents}
@@ -23,5 +22,5 @@ number_or targets n path items (Some had) = Some had
 number_or targets n path items None = number_from targets n path items
 
 -- the map has the number of each target of a rule
-abbrev pub KnowsRules : HashMap (List ℕ) ℕ (BuildHasherDefault FoldHasher) → Contents → Type 0
+abbrev pub KnowsRules : HashMap (List ℕ) ℕ RandomState → Contents → Type 0
 KnowsRules numbers make = (path : List ℕ) → get bytes_eq numbers path ≡ number_from targets_of 0 path make.rules

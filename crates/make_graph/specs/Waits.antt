@@ -1,35 +1,60 @@
 -- What the units of a build wait for.
-use Rattle.std.specs.Prelude.{ℕ, Bool, true, false, ◌||◌, not, List, [], ◌∷◌, ◌++◌, length, reverse, take, slice_get, Option, Some, None, if◌then◌else◌}
-use Rattle.std.specs.List.{list_any}
-use Rattle.std.specs.Str.{bytes_eq}
+use Rattle.std.specs.Prelude.{ℕ, zero, suc, ◌==◌, Bool, true, false, List, [], ◌∷◌, ◌++◌, slice_get, Option, Some, None, unwrap_or}
+use Rattle.std.specs.List.{list_any, list_all}
 use Rattle.cc_names.specs.declared.units.Unit.{Unit}
+use Rattle.make_text.specs.Numbers.{number_from}
+use Rattle.make_text.specs.UnitLaws.{made_by_unit}
 
--- whether a unit makes one of these paths
-abbrev pub makes_any : List (List ℕ) → Unit → Bool
-makes_any paths unit = list_any (λ target. list_any (λ path. bytes_eq path target) paths) unit.targets
+-- the number of the unit that makes a path
+abbrev pub unit_of : List Unit → List ℕ → Option ℕ
+unit_of units path = number_from made_by_unit 0 path units
+
+-- whether a unit is that of this number
+abbrev pub is_unit : ℕ → Option ℕ → Bool
+is_unit n None = false
+is_unit n (Some m) = n == m
+
+-- whether the unit of this number makes one of these paths
+abbrev pub makes_one : List Unit → List (List ℕ) → ℕ → Bool
+makes_one units paths n = list_any (λ path. is_unit n (unit_of units path)) paths
 
 -- the prerequisites of a unit, where there is one
 abbrev pub prerequisites_of : Option Unit → List (List ℕ)
 prerequisites_of None = []
 prerequisites_of (Some unit) = unit.prerequisites
 
--- The units that make what is wanted, and what those are made of in turn: down the units, the last one first, since a unit
--- stands behind its prerequisites.
-abbrev pub needed : List Unit → List (List ℕ) → List ℕ
-needed [] wanted = []
-needed (unit ∷ earlier) wanted =
-    elim (makes_any wanted unit) [ true ↦ length earlier ∷ needed earlier (wanted ++ unit.prerequisites) | false ↦ needed earlier wanted ]
+-- the prerequisites of the unit of this number
+abbrev pub prerequisites_at : List Unit → ℕ → List (List ℕ)
+prerequisites_at units n = prerequisites_of (slice_get units n)
 
--- the units that a unit stands on, by their numbers, in order
+-- The units below a number that make what is wanted, and what those are made of in turn: down the units, the last one first,
+-- since a unit stands behind its prerequisites.
+abbrev pub needed : List Unit → ℕ → List (List ℕ) → List ℕ
+needed units zero wanted = []
+needed units (suc n) wanted =
+    elim (makes_one units wanted n) [ true ↦ n ∷ needed units n (wanted ++ prerequisites_at units n) | false ↦ needed units n wanted ]
+
+-- the units that a unit stands on, by their numbers, the last one first
 abbrev pub closure_of : List Unit → ℕ → List ℕ
-closure_of units number = reverse (needed (reverse (take number units)) (prerequisites_of (slice_get units number)))
+closure_of units number = needed units number (prerequisites_at units number)
 
--- whether each unit that makes one of these paths is done
-abbrev pub are_done : List (List ℕ) → List Unit → List Bool → Bool
-are_done paths [] done = true
-are_done paths (unit ∷ units) [] = true
-are_done paths (unit ∷ units) (is_done ∷ done) = if is_done || not (makes_any paths unit) then are_done paths units done else false
+-- whether a number is one of these
+abbrev pub is_in : List ℕ → ℕ → Bool
+is_in numbers n = list_any (λ m. n == m) numbers
+
+-- whether a number is marked
+abbrev pub is_marked : List Bool → ℕ → Bool
+is_marked marks n = unwrap_or (slice_get marks n) false
+
+-- whether a unit is done, if there is one
+abbrev pub is_done : List Bool → Option ℕ → Bool
+is_done done None = true
+is_done done (Some n) = unwrap_or (slice_get done n) true
+
+-- whether the units that make these paths are done
+abbrev pub are_done : List Unit → List (List ℕ) → List Bool → Bool
+are_done units paths done = list_all (λ path. is_done done (unit_of units path)) paths
 
 -- whether the units that make a unit's prerequisites are done
 abbrev pub is_ready : List Unit → ℕ → List Bool → Bool
-is_ready units number done = are_done (prerequisites_of (slice_get units number)) units done
+is_ready units number done = are_done units (prerequisites_at units number) done

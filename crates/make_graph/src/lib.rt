@@ -1,8 +1,8 @@
 // The units of a build: which of them its goals want, in which order, and what waits for what.
 //
-// What it is for: `Graph::of` makes the units of a makefile that was read for the goals of a build, `unit_of` finds one by
-// a target, and `closure` and `ready` say what a unit stands on. `graphs` has the graph of a plain makefile, which the
-// crates above stand on so far; `unit_graphs` has that of any makefile, with suffix rules, groups and cycles.
+// What it is for: `Graph::of` makes the units of a makefile that was read for the goals of a build, with suffix rules, groups
+// and cycles; `unit_of` finds one by a target, `closure` gives the units that a unit stands on, and `ready` says whether it
+// waits for one.
 //
 // What it promises: the units, or the fault in their place, are those of the definition of the units of a build;
 // `closure` gives the units that a unit stands on, by law all of them and no others, and `ready` says whether those of
@@ -12,14 +12,10 @@
 // `indexmap` for paths without a rule in their order, each once.
 #![tactic(auto)]
 
+pub mod closures;
 pub mod goals;
-pub mod graphs;
 mod numbers;
 mod serving;
-#[cfg(test)]
-mod tests;
 pub mod unit_graphs;
-#[cfg(test)]
-mod unit_tests;
 mod units;
 mod walks;

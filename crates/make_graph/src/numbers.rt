@@ -13,9 +13,10 @@ use make_text::rules::MakeRule;
 use make_text::serving::Serving;
 use std::alloc::Global;
 use std::collections::HashMap;
+use std::hash::RandomState;
 
 /// The number of what makes each path.
-pub(crate) type Numbers = HashMap<Path, u32>;
+pub(crate) type Numbers = HashMap<Path, u32, RandomState>;
 
 /// What makes paths.
 pub(crate) trait Makes {
@@ -84,13 +85,17 @@ fn put(alloc: Global, numbers: &mut Numbers, paths: &[Path], number: u32) -> Res
 }
 
 /// Numbers all that these make, from 0 on. Takes time linear in the targets.
-pub(crate) fn number_all<X: Makes>(alloc: Global, items: &[X]) -> Result<Numbers, NoMemory>
+pub(crate) fn number_all<X: Makes>(
+    alloc: Global,
+    hashing: RandomState,
+    items: &[X],
+) -> Result<Numbers, NoMemory>
     requires { length items.now < 2 ^ 32 }
     ensures { IfOk result
         (λ numbers.
         (path : List ℕ) → get bytes_eq numbers path ≡ number_from X.targets 0 path items.now) }
 {
-    let mut numbers = HashMap::new(alloc);
+    let mut numbers = HashMap::with_hasher(alloc, hashing);
     for (index, item) in items.iter().enumerate() {
         put(alloc, &mut numbers, item.targets(), index as u32)?;
     }

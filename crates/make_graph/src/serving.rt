@@ -18,6 +18,7 @@ use make_text::contents::Makefile;
 use make_text::rules::{MakeRule, SuffixRule, read_path};
 use make_text::serving::{Inference, Serving};
 use std::alloc::Global;
+use std::hash::RandomState;
 
 /// Whether the path is the target of a rule, in constant time.
 fn is_target(make: &Makefile, rules: &Numbers, path: &Path) -> bool
@@ -200,7 +201,7 @@ fn own_servings<E: Exists>(
 fn put_without_rule(
     make: &Makefile,
     rules: &Numbers,
-    others: &mut IndexSet<Path>,
+    others: &mut IndexSet<Path, RandomState>,
     paths: &[Path],
     alloc: Global,
 ) -> Result<(), NoMemory>
@@ -221,6 +222,7 @@ fn put_without_rule(
 /// The goals and prerequisites that have no rule, each once.
 fn without_rule(
     alloc: Global,
+    hashing: RandomState,
     make: &Makefile,
     rules: &Numbers,
     goals: &[Path],
@@ -228,7 +230,7 @@ fn without_rule(
     requires { KnowsRules rules.now make.now }
     ensures { IfOk result (λ paths. paths.items ≡ without_rule make.now goals.now) }
 {
-    let mut others = IndexSet::new(alloc);
+    let mut others = IndexSet::with_hasher(alloc, hashing);
     put_without_rule(make, rules, &mut others, goals, alloc)?;
     for rule in make.rules() {
         put_without_rule(
@@ -271,6 +273,7 @@ fn one_path(alloc: Global, path: &Path) -> Result<List<Path>, NoMemory>
 /// linear in the rules, the goals and the prerequisites, for each suffix rule.
 pub(crate) fn servings<E: Exists>(
     alloc: Global,
+    hashing: RandomState,
     make: &Makefile,
     rules: &Numbers,
     files: &E,
@@ -281,7 +284,7 @@ pub(crate) fn servings<E: Exists>(
         (λ units. units.items ≡ servings make.now (E.is_file files.now) goals.now) }
 {
     let mut units = own_servings(alloc, make, rules, files)?;
-    let paths = without_rule(alloc, make, rules, goals)?;
+    let paths = without_rule(alloc, hashing, make, rules, goals)?;
     for path in &paths {
         if let Some(found) = infer(alloc, make, rules, files, path)? {
             units.push(alone(alloc, path, found)?)?;

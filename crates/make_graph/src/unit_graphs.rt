@@ -1,14 +1,14 @@
 // The graph of a build over any makefile.
 
-ghost use Rattle.std.specs.Prelude.{◌≡◌, ◌<◌, ◌^◌, IfOk, length};
+ghost use Rattle.std.specs.Prelude.{◌≡◌, ◌<◌, ◌^◌, ℕ, IfOk, length};
 ghost use Rattle.cc_names.specs.Answers.{Gives};
 ghost use Rattle.make_text.specs.Graphs.{graph_of};
 ghost use Rattle.make_text.specs.Numbers.{number_from};
 ghost use Rattle.make_text.specs.UnitLaws.{made_by_unit};
-ghost use Rattle.make_graph.specs.Waits.{closure_of, is_ready};
+ghost use Rattle.make_graph.specs.Waits.{are_done, closure_of, is_done, is_in, is_marked, is_ready, unit_of};
 
+use crate::closures::{Closure, of_unit};
 use crate::goals::Exists;
-use crate::graphs::{are_done, needed};
 use crate::numbers::{Numbers, number, number_all};
 use crate::units::units_of_build;
 use cc_names::memory::{NoMemory, Or};
@@ -17,6 +17,7 @@ use cc_names::refusals::GraphFault;
 use cc_names::units::Unit;
 use make_text::contents::Makefile;
 use std::alloc::Global;
+use std::hash::RandomState;
 use std::marker::Model;
 
 /// The units of a build, prerequisites first, each found by any of its targets. Contracts see it as the list of them.
@@ -42,13 +43,13 @@ impl Model for Graph {
 const UNIT_LIMIT: usize = 0x7fff_ffff;
 
 /// The graph of these units. There is no memory for 2^31 of them.
-fn with_numbers(alloc: Global, units: Vec<Unit>) -> Result<Graph, NoMemory>
+fn with_numbers(alloc: Global, hashing: RandomState, units: Vec<Unit>) -> Result<Graph, NoMemory>
     ensures { IfOk result (λ graph. graph ≡ units.items) }
 {
     if units.len() > UNIT_LIMIT {
         return Err(NoMemory);
     }
-    let numbers = number_all(alloc, units.as_slice())?;
+    let numbers = number_all(alloc, hashing, units.as_slice())?;
     Ok(Graph { units, numbers })
 }
 
@@ -62,14 +63,15 @@ impl Graph {
     /// goal, each target of a unit with a script, and each source that a suffix rule may have.
     pub fn of<E: Exists>(
         alloc: Global,
+        hashing: RandomState,
         make: &Makefile,
         goals: &[Path],
         files: &E,
     ) -> Result<Graph, Or<GraphFault>>
         ensures { Gives result (graph_of make.now goals.now (E.is_file files.now)) }
     {
-        let units = units_of_build(alloc, make, goals, files)?;
-        Ok(with_numbers(alloc, units)?)
+        let units = units_of_build(alloc, hashing, make, goals, files)?;
+        Ok(with_numbers(alloc, hashing, units)?)
     }
 
     /// The units, in order, in constant time.
@@ -96,30 +98,47 @@ impl Graph {
         number(&self.numbers, path)
     }
 
-    /// The units that a unit stands on, by their numbers, in order: those that make its prerequisites, and those that
-    /// these stand on. Fails only where memory runs out.
+    /// The units that a unit stands on: those that make its prerequisites, and those that these stand on. Fails only where
+    /// memory runs out.
     ///
-    /// Takes time that grows with the number of targets before the unit times that of the prerequisites met.
-    pub fn closure(&self, alloc: Global, unit: u32) -> Result<Vec<u32>, NoMemory>
+    /// Takes time linear in the units before it and in the prerequisites of those that it stands on.
+    pub fn closure(&self, alloc: Global, unit: u32) -> Result<Closure, NoMemory>
         requires { unit < length self.now }
-        ensures { IfOk result (λ numbers. numbers.items ≡ closure_of self.now unit) }
+        ensures { IfOk result
+            (λ closure. (n : ℕ) → is_marked closure n ≡ is_in (closure_of self.now unit) n) }
     {
-        let units = self.units.as_slice();
-        let wanted = units[unit as usize].prerequisites.as_slice();
-        let mut numbers = needed(alloc, units, unit, wanted)?;
-        numbers.reverse();
-        Ok(numbers)
+        of_unit(self, alloc, unit)
     }
 
-    /// Whether the units that make a unit's prerequisites are done; `done` has a member for each unit.
-    ///
-    /// Takes time that grows with the number of targets times that of the unit's prerequisites.
+    /// Whether the unit that makes a path, if one does, is done.
+    fn is_done(&self, path: &Path, done: &[bool]) -> bool
+        ensures { result ≡ is_done done.now (unit_of self.now path.now) }
+    {
+        match self.unit_of(path) {
+            Some(number) => done.get(number as usize).copied().unwrap_or(true),
+            None => true,
+        }
+    }
+
+    /// Whether the units that make these paths are done.
+    fn are_done(&self, paths: &[Path], done: &[bool]) -> bool
+        ensures { result ≡ are_done self.now paths.now done.now }
+    {
+        for path in paths {
+            if !self.is_done(path, done) {
+                return false;
+            }
+        }
+        true
+    }
+
+    /// Whether the units that make a unit's prerequisites are done; `done` has a member for each unit. Takes time linear in
+    /// the prerequisites.
     pub fn ready(&self, unit: u32, done: &[bool]) -> bool
         requires unit { unit < length self.now }
-        requires done { length done.now ≡ length self.now }
         ensures { result ≡ is_ready self.now unit done.now }
     {
         let units = self.units.as_slice();
-        are_done(units[unit as usize].prerequisites.as_slice(), units, done)
+        self.are_done(units[unit as usize].prerequisites.as_slice(), done)
     }
 }

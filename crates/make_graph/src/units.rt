@@ -25,6 +25,7 @@ use make_text::contents::Makefile;
 use make_text::makefiles::Expanded;
 use make_text::serving::Serving;
 use std::alloc::Global;
+use std::hash::RandomState;
 
 /// The first of these targets, or this other path, the root, where there is none.
 fn first_target<'a>(targets: &'a [Path], other: &'a Path) -> &'a Path
@@ -143,24 +144,28 @@ fn missing<'a, E: Exists>(
 }
 
 /// The numbers of what the rules make. There is no memory for more rules than numbers of four bytes count.
-fn number_rules(alloc: Global, make: &Makefile) -> Result<Numbers, NoMemory>
+fn number_rules(alloc: Global, hashing: RandomState, make: &Makefile) -> Result<Numbers, NoMemory>
     ensures { IfOk result (λ rules. KnowsRules rules make.now) }
 {
     let rules = make.rules();
     if rules.len() > u32::MAX as usize {
         return Err(NoMemory);
     }
-    number_all(alloc, rules)
+    number_all(alloc, hashing, rules)
 }
 
 /// The numbers of what may serve, as for rules.
-fn number_servings(alloc: Global, units: &[Serving]) -> Result<Numbers, NoMemory>
+fn number_servings(
+    alloc: Global,
+    hashing: RandomState,
+    units: &[Serving],
+) -> Result<Numbers, NoMemory>
     ensures { IfOk result (λ numbers. KnowsUnits numbers units.now) }
 {
     if units.len() > u32::MAX as usize {
         return Err(NoMemory);
     }
-    number_all(alloc, units)
+    number_all(alloc, hashing, units)
 }
 
 /// The order in which the walk over goals is through with their units.
@@ -201,6 +206,7 @@ fn units_by<E: Exists>(
 /// The units of goals, by all that may serve them.
 fn units_of_servings<E: Exists>(
     alloc: Global,
+    hashing: RandomState,
     make: &Makefile,
     files: &E,
     units: &[Serving],
@@ -210,7 +216,7 @@ fn units_of_servings<E: Exists>(
     ensures { Gives (result_items result)
         (graph_by make.now units.now (E.is_file files.now) goals.now) }
 {
-    let numbers = number_servings(alloc, units)?;
+    let numbers = number_servings(alloc, hashing, units)?;
     if let Some(goal) = missing(&numbers, units, files, goals) {
         return Err(Or::Is(GraphFault::NoGoal(goal.copy(alloc)?)));
     }
@@ -221,6 +227,7 @@ fn units_of_servings<E: Exists>(
 /// The units of goals that are named.
 fn units_of_goals<E: Exists>(
     alloc: Global,
+    hashing: RandomState,
     make: &Makefile,
     files: &E,
     goals: &[Path],
@@ -230,9 +237,9 @@ fn units_of_goals<E: Exists>(
         (graph_by make.now (servings make.now (E.is_file files.now) goals.now) (E.is_file files.now)
         goals.now) }
 {
-    let rules = number_rules(alloc, make)?;
-    let units = servings(alloc, make, &rules, files, goals)?;
-    units_of_servings(alloc, make, files, units.as_slice(), goals)
+    let rules = number_rules(alloc, hashing, make)?;
+    let units = servings(alloc, hashing, make, &rules, files, goals)?;
+    units_of_servings(alloc, hashing, make, files, units.as_slice(), goals)
 }
 
 fn one_goal(alloc: Global, goal: &Path) -> Result<Vec<Path>, NoMemory>
@@ -246,6 +253,7 @@ fn one_goal(alloc: Global, goal: &Path) -> Result<Vec<Path>, NoMemory>
 /// The units of a build, or the fault in their place.
 pub(crate) fn units_of_build<E: Exists>(
     alloc: Global,
+    hashing: RandomState,
     make: &Makefile,
     goals: &[Path],
     files: &E,
@@ -253,10 +261,18 @@ pub(crate) fn units_of_build<E: Exists>(
     ensures { Gives (result_items result) (graph_of make.now goals.now (E.is_file files.now)) }
 {
     if !goals.is_empty() {
-        return units_of_goals(alloc, make, files, goals);
+        return units_of_goals(alloc, hashing, make, files, goals);
     }
     match default_goal(make.rules()) {
-        Some(goal) => units_of_goals(alloc, make, files, one_goal(alloc, goal)?.as_slice()),
+        Some(goal) => {
+            units_of_goals(
+                alloc,
+                hashing,
+                make,
+                files,
+                one_goal(alloc, goal)?.as_slice(),
+            )
+        }
         None => Err(Or::Is(GraphFault::NoGoal(Path::root()))),
     }
 }

@@ -7,13 +7,16 @@ ghost use Rattle.make_text.specs.Steps.{automatic_of, IsOutcome};
 
 use crate::expansions::{Automatic, Outcome, expand};
 use crate::macros::MacroTable;
-use crate::makefiles::Expanded;
+use crate::makefiles::{Expanded, Texts};
 use crate::rules::{MakeRule, SuffixRule};
-use cc_names::memory::NoMemory;
+use cc_names::commands::Macro;
+use cc_names::memory::{NoMemory, Or};
 use cc_names::paths::Path;
+use cc_names::refusals::MakeError;
 use cc_names::texts::Text;
 use indexmap::IndexSet;
 use std::alloc::Global;
+use std::hash::RandomState;
 use std::marker::Model;
 
 /// A makefile of the language in full. Contracts see it as what it says.
@@ -21,7 +24,7 @@ use std::marker::Model;
 pub struct Makefile {
     rules: Vec<MakeRule>,
     suffix_rules: Vec<SuffixRule>,
-    phony: IndexSet<Path>,
+    phony: IndexSet<Path, RandomState>,
     macros: MacroTable,
 }
 
@@ -41,8 +44,29 @@ impl Model for Makefile {
 }
 
 impl Makefile {
+    ghost use Rattle.cc_names.specs.Answers.{Gives};
+    ghost use Rattle.make_text.specs.Grammar.{makefile_of};
+
+    /// Reads the makefile at a path with the macros of the command line.
+    pub fn read<X: Texts>(
+        alloc: Global,
+        hashing: RandomState,
+        file: &Path,
+        texts: &X,
+        overrides: &[Macro],
+    ) -> Result<Makefile, Or<MakeError>>
+        ensures { Gives result (makefile_of (X.texts texts.now) file.now overrides.now) }
+    {
+        Err(Or::NoMemory)
+    }
+
     /// A makefile of these rules alone, without phony targets and macros. Takes no memory.
-    pub fn of_rules(alloc: Global, rules: Vec<MakeRule>, suffix_rules: Vec<SuffixRule>) -> Makefile
+    pub fn of_rules(
+        alloc: Global,
+        hashing: RandomState,
+        rules: Vec<MakeRule>,
+        suffix_rules: Vec<SuffixRule>,
+    ) -> Makefile
         ensures { result
             ≡ record
             { rules = rules.items; suffix_rules = suffix_rules.items; phony = []; macros = [] } }
@@ -50,7 +74,7 @@ impl Makefile {
         Makefile {
             rules,
             suffix_rules,
-            phony: IndexSet::new(alloc),
+            phony: IndexSet::with_hasher(alloc, hashing),
             macros: MacroTable::new(alloc),
         }
     }

@@ -6,7 +6,8 @@
 // What it promises: a text is read as a makefile exactly where its grammar says so, with the first line that is outside
 // it and the cause. So far that is a plain makefile, of one rule; of the language in full the lines, their kinds, the
 // expansion of macros, and the words of rule lines and include lines are carried out, each as its definition says, and the
-// reader does not use them yet. By law the units of a build are in order and formed, over any makefile of formed rules.
+// reader does not use them yet. By law every makefile that is read has formed rules, and over those the units of a build are in
+// order and formed.
 //
 // What it stands on: `cc_names` for paths, texts, units and causes, and for the lines of a text and their words;
 // `indexmap` for prerequisites in order, each once.

@@ -29,7 +29,7 @@ use Rattle.legal_history.specs.Builds.Turns.{came_by_start, unreadable}
 use Rattle.legal_history.proofs.Stories.Goes.{of_lane}
 use Rattle.legal_history.proofs.Builds.ConsistentStays.{IsBegun, begins_consistent, consistent_faulted, is_object_stays, keeps_with, keeps_without}
 use Rattle.legal_history.proofs.Builds.AllBuilds.{Each, each_without, each_begun, each_faulted}
-use Rattle.legal_history.proofs.Builds.PlainUnits.{units_in_order}
+use Rattle.legal_history.proofs.Builds.OrderedUnits.{units_in_order}
 use Rattle.legal_history.proofs.Builds.Published.{is_publish, published_object}
 use Rattle.legal_history.proofs.Builds.ReadyUnits.{ready_by}
 use Rattle.legal_history.proofs.Stories.DecidedSteps.{decided_of, says_of, begun_by, begun_is}

@@ -11,7 +11,7 @@ use Rattle.cc_names.specs.declared.units.Unit.{Unit}
 use Rattle.cc_names.specs.declared.units.UnitScript.{UnitScript}
 use Rattle.cc_names.specs.declared.units.UnitScript.TheVariants as scripts
 use Rattle.build_script.specs.Run.{Files, run}
-use Rattle.make_text.specs.Units.{units}
+use Rattle.make_text.specs.Graphs.{units}
 use Rattle.legal_history.specs.Base.Rows.{Base}
 use Rattle.legal_history.specs.Base.Seen.{file_at, directory_at}
 use Rattle.legal_history.specs.Builds.Serials.{Outcome, Made, Without, Finished, unit_of, early_end, standing_in, needed}

@@ -8,6 +8,6 @@ use Rattle.build_core.proofs.active.ActiveBuild.note.Goals as goal
 pub returns : goal.returns
 returns c =
     let inside = c.self.inside in
-    let slots : length inside.comes.items ≡ length inside.units.items = c.self.invariant in
+    let slots : length inside.comes.items ≡ length inside.graph = c.self.invariant.each in
     let within : c.args.unit < length inside.comes.items = omega (arith, slots, c.requires, ap (λ (build : Build). length build.units) c.self.view_is) in
     with_comes _ _ _ c.args.unit (came_of c.args.came) (noted_in_slot inside.comes.items c.args.unit c.args.came within) c.self.view_is
