@@ -6,7 +6,7 @@
 // What it promises: the lines are exactly those of their definition, byte by byte, in time linear in them; a digest
 // is the SHA-256 of its bytes (FIPS 180-4).
 //
-// What it stands on: `cc_names` for the data and the lines of a text, `sha2` and `hex`; its tests on `session_text`.
+// What it stands on: `cc_names` for the data and the lines of a text, `sha2` and `hex`.
 #![tactic(auto)]
 
 mod digests;

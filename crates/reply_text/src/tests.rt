@@ -1,6 +1,7 @@
 // The printed lines of replies, and digests.
 
 use crate::{digest_of, render};
+use cc_names::commands::{Command, Lane, Phase};
 use cc_names::lists::List;
 use cc_names::memory::Or;
 use cc_names::names::{Name, NameFault};
@@ -9,7 +10,6 @@ use cc_names::refusals::{MakeCause, Refusal, ScriptFault, SpecCause, UnitFault};
 use cc_names::replies::{Digest, Reply, UnitLine, UnitWord};
 use cc_names::rows::Tag;
 use cc_names::texts::Text;
-use session_text::read;
 use std::alloc::Global;
 use std::process::Abort;
 use std::test::Fail;
@@ -44,16 +44,34 @@ fn digests_are_those_of_the_standard(rt: HostRuntime) -> Result<(), Fail> {
     Ok(())
 }
 
+// A lane `a` with the one command `mkview v`.
+fn lane(alloc: Global) -> Result<Lane, Fail> {
+    let mut commands = Vec::new(alloc);
+    commands.push(Command::Mkview {
+        view: Name::read(alloc, b"v")?,
+    })?;
+    Ok(Lane {
+        name: Name::read(alloc, b"a")?,
+        commands: List::of(commands),
+    })
+}
+
+// The phase with this one lane.
+fn phase(alloc: Global) -> Result<Phase, Fail> {
+    let mut lanes = Vec::new(alloc);
+    lanes.push(lane(alloc)?)?;
+    Ok(Phase {
+        lanes: List::of(lanes),
+    })
+}
+
 // What a lane `a` with the one command `mkview v` prints for this reply, behind the command's word.
 fn assert_reply(rt: &impl Abort, alloc: Global, reply: Reply, words: &str) -> Result<(), Fail> {
-    let session = read(alloc, b"phase\nlane a\nmkview v\n")?;
+    let phase = phase(alloc)?;
     let replies = [reply];
     let lines = format!(in alloc; "lane a\n1 mkview {words}\n")?;
-    assert_eq!(rt; session.phases.as_slice().len(), 1);
-    for phase in session.phases.as_slice() {
-        let text = render(alloc, phase, 1, &replies)?;
-        assert_eq!(rt; text.as_bytes(), lines.as_bytes(), "{words}");
-    }
+    let text = render(alloc, &phase, 1, &replies)?;
+    assert_eq!(rt; text.as_bytes(), lines.as_bytes(), "{words}");
     Ok(())
 }
 

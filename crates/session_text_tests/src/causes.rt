@@ -1,18 +1,26 @@
 // Why lines stand wrong, at each kind of line and in order.
 
+use crate::reading::read_bytes;
 use cc_names::memory::Or;
 use cc_names::refusals::SessionCause::{
     self, BadWord, NoBody, NoLane, NoPhase, NotBuilt, TooManyLanes, TwoLanes, UnknownCommand,
 };
-use session_text::read;
 use std::alloc::Global;
+use std::hash::RandomState;
 use std::process::Abort;
 use std::test::Fail;
 
 // The first wrong line of a text, and its cause.
-pub fn assert_wrong(rt: &impl Abort, alloc: Global, text: &[u8], line: u32, cause: SessionCause) {
+pub fn assert_wrong(
+    rt: &impl Abort,
+    alloc: Global,
+    hashing: RandomState,
+    text: &[u8],
+    line: u32,
+    cause: SessionCause,
+) {
     assert!(rt; text.len() < 10_000);
-    match read(alloc, text) {
+    match read_bytes(alloc, hashing, text) {
         Err(Or::Is(error)) => {
             assert_eq!(rt; error.line, line, "in {text:?}");
             assert_eq!(rt; error.cause, cause, "in {text:?}");
@@ -22,7 +30,8 @@ pub fn assert_wrong(rt: &impl Abort, alloc: Global, text: &[u8], line: u32, caus
 }
 
 #[test]
-fn each_cause_comes_at_its_line(rt: HostRuntime) {
+fn each_cause_comes_at_its_line(rt: HostRuntime) -> Result<(), Fail> {
+    let hashing = RandomState::new(&rt)?;
     for (text, line, cause) in [
         // before the first phase
         ("lane a\n", 1, NoPhase),
@@ -30,11 +39,14 @@ fn each_cause_comes_at_its_line(rt: HostRuntime) {
         ("frob\n", 1, NoPhase),
         (" \n", 1, NoPhase),
         ("lane\nphase x\n", 1, NoPhase),
+        ("lane a b\n", 1, NoPhase),
+        ("mkview\n", 1, NoPhase),
         // before the first lane of a phase
         ("phase\nmkview v\n", 2, NoLane),
         ("phase\nfrob\n", 2, NoLane),
         ("phase\n|x\n", 2, NoLane),
         ("phase\n \n", 2, NoLane),
+        ("phase\nmkview\n", 2, NoLane),
         ("phase\nlane a\nphase\nmkview v\n", 4, NoLane),
         ("phase\nlane a\nsave v in\nphase\n|x\n", 5, NoLane),
         // body lines
@@ -47,6 +59,7 @@ fn each_cause_comes_at_its_line(rt: HostRuntime) {
         ("phase\nlane a\nlane b\nmkview v\nlane a\n", 5, TwoLanes),
         ("phase\nlane\n", 2, BadWord),
         ("phase\nlane a b\n", 2, BadWord),
+        ("phase\nlane a\r\n", 2, BadWord),
         ("phase\nlane .\n", 2, BadWord),
         ("phase\nlane a\nlane b/c\n", 3, BadWord),
         // phases
@@ -60,13 +73,16 @@ fn each_cause_comes_at_its_line(rt: HostRuntime) {
         ("phase\nlane a\nmkview\r v\n", 3, UnknownCommand),
         ("phase\nlane a\nMkview v\n", 3, UnknownCommand),
         ("phase\nlane a\nphases\n", 3, UnknownCommand),
+        ("phase\nlane a\nfrob v\r\n", 3, UnknownCommand),
+        ("phase\nlane a\n\0mkview v\n", 3, UnknownCommand),
         // the first wrong line counts
         ("phase\nlane a\nmkview\nfrob\n", 3, BadWord),
         ("phase\nlane a\nmkview v\nlsdo v\nfrob\n", 4, NotBuilt),
         ("phase\nlane a\nsave v .\n|x\n", 3, BadWord),
     ] {
-        assert_wrong(&rt, rt.alloc(), text.as_bytes(), line, cause);
+        assert_wrong(&rt, rt.alloc(), hashing, text.as_bytes(), line, cause);
     }
+    Ok(())
 }
 
 fn with_lanes(alloc: Global, lanes: u32, last: &[u8]) -> Result<Vec<u8>, Fail> {
@@ -82,6 +98,7 @@ fn with_lanes(alloc: Global, lanes: u32, last: &[u8]) -> Result<Vec<u8>, Fail> {
 #[test]
 fn a_phase_has_64_lanes(rt: HostRuntime) -> Result<(), Fail> {
     let alloc = rt.alloc();
+    let hashing = RandomState::new(&rt)?;
     for (last, cause) in [
         ("lane b\n", TooManyLanes),
         ("lane b c\n", TooManyLanes),
@@ -90,7 +107,7 @@ fn a_phase_has_64_lanes(rt: HostRuntime) -> Result<(), Fail> {
         ("frob\n", UnknownCommand),
     ] {
         let text = with_lanes(alloc, 64, last.as_bytes())?;
-        assert_wrong(&rt, alloc, text.as_slice(), 66, cause);
+        assert_wrong(&rt, alloc, hashing, text.as_slice(), 66, cause);
     }
     Ok(())
 }
@@ -103,9 +120,15 @@ fn cause_of_byte(byte: u8) -> Option<SessionCause> {
     }
 }
 
-fn assert_read(rt: &impl Abort, alloc: Global, text: &[u8], cause: Option<SessionCause>) {
+fn assert_read(
+    rt: &impl Abort,
+    alloc: Global,
+    hashing: RandomState,
+    text: &[u8],
+    cause: Option<SessionCause>,
+) {
     assert!(rt; text.len() < 10_000);
-    match (read(alloc, text), cause) {
+    match (read_bytes(alloc, hashing, text), cause) {
         (Ok(_session), None) => {}
         (Err(Or::Is(error)), Some(cause)) => assert_eq!(rt; error.cause, cause, "in {text:?}"),
         _ => panic!(rt; "{text:?}"),
@@ -115,10 +138,32 @@ fn assert_read(rt: &impl Abort, alloc: Global, text: &[u8], cause: Option<Sessio
 #[test]
 fn a_word_has_bytes_33_to_126(rt: HostRuntime) -> Result<(), Fail> {
     let alloc = rt.alloc();
+    let hashing = RandomState::new(&rt)?;
     for byte in 0..=255u8 {
         let mut text = b"phase\nlane a\nclearmake v A=".to_vec(alloc)?;
         text.push(byte)?;
-        assert_read(&rt, alloc, text.as_slice(), cause_of_byte(byte));
+        assert_read(&rt, alloc, hashing, text.as_slice(), cause_of_byte(byte));
+    }
+    Ok(())
+}
+
+// The cause of a line of this byte alone below a lane, by the class of the byte.
+fn cause_of_first(byte: u8) -> Option<SessionCause> {
+    match byte {
+        b'\n' | b'#' => None,
+        b'|' => Some(NoBody),
+        _ => Some(UnknownCommand),
+    }
+}
+
+#[test]
+fn a_line_goes_by_its_first_byte(rt: HostRuntime) -> Result<(), Fail> {
+    let alloc = rt.alloc();
+    let hashing = RandomState::new(&rt)?;
+    for byte in 0..=255u8 {
+        let mut text = b"phase\nlane a\n".to_vec(alloc)?;
+        text.push(byte)?;
+        assert_read(&rt, alloc, hashing, text.as_slice(), cause_of_first(byte));
     }
     Ok(())
 }

@@ -1,27 +1,32 @@
 // The line of each command, right and wrong. A right line of a command that is not carried out yet is answered as not
 // built, which is tested last.
 
+ghost use Rattle.std.specs.Prelude.{◌<◌, ◌^◌, length};
+
 use crate::causes::assert_wrong;
+use crate::reading::{phases_in, read_bytes};
 use cc_names::commands::{Command, Lane};
 use cc_names::refusals::SessionCause::{self, BadWord, NotBuilt};
-use session_text::read;
 use std::alloc::{AllocError, Global};
+use std::hash::RandomState;
 use std::process::Abort;
 use std::test::Fail;
 
 fn assert_line(
     rt: &impl Abort,
     alloc: Global,
+    hashing: RandomState,
     line: &str,
     cause: SessionCause,
 ) -> Result<(), AllocError> {
     let text = format!(in alloc; "phase\nlane a\n{line}\n")?;
-    assert_wrong(rt, alloc, text.as_bytes(), 3, cause);
+    assert_wrong(rt, alloc, hashing, text.as_bytes(), 3, cause);
     Ok(())
 }
 
 #[test]
 fn right_lines(rt: HostRuntime) -> Result<(), Fail> {
+    let hashing = RandomState::new(&rt)?;
     for line in [
         "setcs v",
         "mkelem v a/b",
@@ -65,13 +70,14 @@ fn right_lines(rt: HostRuntime) -> Result<(), Fail> {
         "findmerge v . -fversion .../fix/LATEST",
         "findmerge v a -fversion .../main/LATEST",
     ] {
-        assert_line(&rt, rt.alloc(), line, NotBuilt)?;
+        assert_line(&rt, rt.alloc(), hashing, line, NotBuilt)?;
     }
     Ok(())
 }
 
 #[test]
 fn wrong_lines(rt: HostRuntime) -> Result<(), Fail> {
+    let hashing = RandomState::new(&rt)?;
     for line in [
         "mkview",
         "mkview v w",
@@ -158,7 +164,7 @@ fn wrong_lines(rt: HostRuntime) -> Result<(), Fail> {
         "clearmake v =b",
         "clearmake v a-b=c",
     ] {
-        assert_line(&rt, rt.alloc(), line, BadWord)?;
+        assert_line(&rt, rt.alloc(), hashing, line, BadWord)?;
     }
     Ok(())
 }
@@ -166,6 +172,7 @@ fn wrong_lines(rt: HostRuntime) -> Result<(), Fail> {
 #[test]
 fn a_new_path_has_1024_bytes(rt: HostRuntime) -> Result<(), Fail> {
     let alloc = rt.alloc();
+    let hashing = RandomState::new(&rt)?;
     let mut deep = b"d/".to_vec(alloc)?;
     for _ in 0..509 {
         deep.extend_from_slice(b"d/")?;
@@ -175,7 +182,7 @@ fn a_new_path_has_1024_bytes(rt: HostRuntime) -> Result<(), Fail> {
         text.extend_from_slice(deep.as_slice())?;
         text.extend_from_slice(b"x ")?;
         text.extend_from_slice(name.as_bytes())?;
-        assert_wrong(&rt, alloc, text.as_slice(), 3, cause);
+        assert_wrong(&rt, alloc, hashing, text.as_slice(), 3, cause);
     }
     Ok(())
 }
@@ -220,10 +227,16 @@ fn assert_commands(
     Ok(())
 }
 
-fn assert_lane(rt: &impl Abort, alloc: Global, text: &[u8], commands: &[&str]) -> Result<(), Fail> {
+fn assert_lane(
+    rt: &impl Abort,
+    alloc: Global,
+    hashing: RandomState,
+    text: &[u8],
+    commands: &[&str],
+) -> Result<(), Fail> {
     assert!(rt; text.len() < 10_000);
-    let session = read(alloc, text)?;
-    let [phase] = session.phases.as_slice() else {
+    let phases = phases_in(alloc, hashing, text)?;
+    let [phase] = phases.as_slice() else {
         panic!(rt; "one phase");
     };
     let [lane] = phase.lanes.as_slice() else {
@@ -243,7 +256,7 @@ fn the_first_build_is_read(rt: HostRuntime) -> Result<(), Fail> {
         "save v in [hi\n]",
         "clearmake v false false false 1 0 1",
     ];
-    assert_lane(&rt, rt.alloc(), text, &commands)
+    assert_lane(&rt, rt.alloc(), RandomState::new(&rt)?, text, &commands)
 }
 
 #[test]
@@ -255,17 +268,68 @@ fn the_words_of_a_build_come_in_any_order(rt: HostRuntime) -> Result<(), Fail> {
         "clearmake v true false true 64 2 3",
         "clearmake v true true false 1 0 0",
     ];
-    assert_lane(&rt, rt.alloc(), text, &commands)
+    assert_lane(&rt, rt.alloc(), RandomState::new(&rt)?, text, &commands)
 }
 
 #[test]
 fn a_view_is_removed_by_force_or_not(rt: HostRuntime) -> Result<(), Fail> {
     let text = b"phase\nlane a\nrmview v\nrmview -force v\n";
-    assert_lane(&rt, rt.alloc(), text, &["rmview v false", "rmview v true"])
+    assert_lane(
+        &rt,
+        rt.alloc(),
+        RandomState::new(&rt)?,
+        text,
+        &["rmview v false", "rmview v true"],
+    )
 }
 
 #[test]
 fn skipped_lines_and_blanks_do_not_count(rt: HostRuntime) -> Result<(), Fail> {
     let text = b"# note\n\nphase\n\tlane \t a \nsave v in\n|\n\n#\n||x\nmkview w";
-    assert_lane(&rt, rt.alloc(), text, &["save v in [\n|x\n]", "mkview w"])
+    assert_lane(
+        &rt,
+        rt.alloc(),
+        RandomState::new(&rt)?,
+        text,
+        &["save v in [\n|x\n]", "mkview w"],
+    )
+}
+
+// How many commands are left of the first lane of a text, before each of them and behind the last.
+fn counts_of(alloc: Global, hashing: RandomState, text: &[u8]) -> Result<Vec<usize>, Fail>
+    requires { length text.now < 2 ^ 32 }
+{
+    let mut counts = Vec::new(alloc);
+    let mut phases = read_bytes(alloc, hashing, text)?.into_phases();
+    let Some(phase) = phases.next()? else {
+        return Ok(counts);
+    };
+    let Some(lane) = phase.lanes()?.next(alloc)? else {
+        return Ok(counts);
+    };
+    let (_name, mut left) = lane.into_parts();
+    counts.push(left.count())?;
+    'commands: while let Some(_command) = left.next(alloc)? {
+        counts.push(left.count())?;
+    }
+    Ok(counts)
+}
+
+#[test]
+fn commands_are_counted_as_they_are_read(rt: HostRuntime) -> Result<(), Fail> {
+    let hashing = RandomState::new(&rt)?;
+    for (text, counts) in [
+        ("", [].as_slice()),
+        ("phase\nphase\nlane a\nmkview v\n", &[]),
+        ("phase\nlane a\n#\n", &[0]),
+        ("phase\nlane a\n\nlane b\nmkview v\n", &[0]),
+        (
+            "phase\nlane a\nsave v in\n|x\n#\n|y\nmkview v\nphase\nlane a\nmkview w\n",
+            &[2, 1, 0],
+        ),
+    ] {
+        let found = counts_of(rt.alloc(), hashing, text.as_bytes())?;
+        assert_eq!(&rt; found.as_slice(), counts, "in {text:?}");
+    }
+    Ok(())
 }

@@ -8,4 +8,6 @@ mod causes;
 #[cfg(test)]
 mod commands;
 #[cfg(test)]
+mod reading;
+#[cfg(test)]
 mod sizes;

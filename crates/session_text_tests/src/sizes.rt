@@ -1,37 +1,40 @@
 // Sessions of many phases, lanes and commands, and of the greatest size.
 
-use cc_names::commands::{Command, Session};
-use session_text::read;
+use crate::reading::phases_in;
+use cc_names::commands::{Command, Phase};
 use std::alloc::Global;
+use std::hash::RandomState;
 use std::process::Abort;
 use std::test::Fail;
 
-fn shape_of(session: &Session) -> (usize, usize, usize) {
+fn shape_of(phases: &[Phase]) -> (usize, usize, usize) {
     let mut lanes = 0usize;
     let mut commands = 0usize;
-    for phase in session.phases.as_slice() {
+    for phase in phases {
         lanes = lanes.saturating_add(phase.lanes.len());
         for lane in phase.lanes.as_slice() {
             commands = commands.saturating_add(lane.commands.len());
         }
     }
-    (session.phases.len(), lanes, commands)
+    (phases.len(), lanes, commands)
 }
 
 fn assert_shape(
     rt: &impl Abort,
     alloc: Global,
+    hashing: RandomState,
     text: &[u8],
     shape: (usize, usize, usize),
 ) -> Result<(), Fail> {
     assert!(rt; text.len() < 100_000);
-    let session = read(alloc, text)?;
-    assert_eq!(rt; shape_of(&session), shape);
+    let phases = phases_in(alloc, hashing, text)?;
+    assert_eq!(rt; shape_of(phases.as_slice()), shape);
     Ok(())
 }
 
 #[test]
 fn phases_and_lanes_are_counted(rt: HostRuntime) -> Result<(), Fail> {
+    let hashing = RandomState::new(&rt)?;
     for (text, shape) in [
         ("", (0, 0, 0)),
         ("# note\n", (0, 0, 0)),
@@ -42,7 +45,7 @@ fn phases_and_lanes_are_counted(rt: HostRuntime) -> Result<(), Fail> {
             (2, 3, 3),
         ),
     ] {
-        assert_shape(&rt, rt.alloc(), text.as_bytes(), shape)?;
+        assert_shape(&rt, rt.alloc(), hashing, text.as_bytes(), shape)?;
     }
     Ok(())
 }
@@ -61,8 +64,8 @@ fn largest(alloc: Global) -> Result<Vec<u8>, Fail> {
     Ok(text)
 }
 
-fn length_of_body(session: &Session) -> Option<usize> {
-    let [phase] = session.phases.as_slice() else {
+fn length_of_body(phases: &[Phase]) -> Option<usize> {
+    let [phase] = phases else {
         return None;
     };
     let [lane] = phase.lanes.as_slice() else {
@@ -78,7 +81,7 @@ fn length_of_body(session: &Session) -> Option<usize> {
 fn the_largest_text_is_read(rt: HostRuntime) -> Result<(), Fail> {
     let text = largest(rt.alloc())?;
     assert_eq!(rt; text.len(), 16_777_216);
-    let session = read(rt.alloc(), text.as_slice())?;
-    assert_eq!(rt; length_of_body(&session), Some(16_515_009));
+    let phases = phases_in(rt.alloc(), RandomState::new(&rt)?, text.as_slice())?;
+    assert_eq!(rt; length_of_body(phases.as_slice()), Some(16_515_009));
     Ok(())
 }
