@@ -18,7 +18,7 @@ use Rattle.row_form.specs.Spelled.{spelled}
 use Rattle.vob_journal.specs.Lefts.{loose_after}
 use Rattle.vob_journal.specs.Phases.{calls_of}
 use Rattle.vob_journal.specs.Moves.{Moves}
-use Rattle.vob_journal.specs.Reads.{SameObjects}
+use Rattle.vob_journal.specs.Added.{WritesOn, may_write}
 use Rattle.vob_journal.specs.declared.left.Left.{Left}
 use Rattle.vob_journal.specs.declared.left.Left.TheVariants as lefts
 use Rattle.base_core.specs.Appending.{IsQuiet, MayLeave, IsCommitted, IsFaulted, with_ending}
@@ -26,6 +26,7 @@ use Rattle.base_core.specs.Leaving.{left_in, LeftSo}
 use Rattle.base_core.specs.Logs.{IsLogged, with_step_on}
 use Rattle.base_core.specs.Telling.{oldest_first, story_of, AreTold}
 use Rattle.base_core.specs.Handed.{Handed}
+use Rattle.vob_journal.proofs.Adding.{adds_none}
 use Rattle.base_core.proofs.Leavings.{hanging_is}
 use Rattle.base_core.proofs.Logged.{logged_fault, logged_step}
 use Rattle.base_core.proofs.LogSteps.{shown, shown_row, shown_step, shown_step_on, is_told_step}
@@ -69,8 +70,8 @@ some_calls true = omega arith
 some_calls false = omega arith
 
 -- the row was committed
-pub is_committed : (on : Handed) (kept more : List Step) (base grown : Base) (phases : List Phase) (tag : Tag) (number tick calls : ℕ) (row : Plain) (old new : Sight) (list loose : List (List ℕ)) (ended : Bool) (left : Left) → IsLogged on kept base phases old list loose ended left → more ≡ kept ++ steps.Commit tag number tick ∷ [] → grown ≡ row ∷ base → tick ≡ new.ticks → new.ticks ≡ old.ticks + calls → 1 ≤ calls → new.faults ≡ old.faults → IsFormed row → Both SameObjects old.told new.told → IsCommitted (shown on kept base phases old) (shown on more grown phases new) row
-is_committed on kept more base grown phases tag number tick calls row old new list loose ended left h e g at spent some same formed objects = record {
+pub is_committed : (on : Handed) (kept more : List Step) (base grown : Base) (phases : List Phase) (tag : Tag) (number tick calls : ℕ) (row : Plain) (old new : Sight) (list loose : List (List ℕ)) (ended : Bool) (left : Left) → IsLogged on kept base phases old list loose ended left → more ≡ kept ++ steps.Commit tag number tick ∷ [] → grown ≡ row ∷ base → tick ≡ new.ticks → new.ticks ≡ old.ticks + calls → 1 ≤ calls → new.faults ≡ old.faults → IsFormed row → IsCounted new → Both WritesOn old.told new.told → IsCommitted (shown on kept base phases old) (shown on more grown phases new) row
+is_committed on kept more base grown phases tag number tick calls row old new list loose ended left h e g at spent some same formed fit writes = record {
   tick = tick;
   sight = new;
   formed = formed;
@@ -79,12 +80,13 @@ is_committed on kept more base grown phases tag number tick calls row old new li
   at = at;
   spent = omega (arith, at, spent, some);
   faults = same;
-  objects = objects;
+  fit = fit;
+  writes = writes;
 }
 
 -- the disk failed
-pub is_faulted : (on : Handed) (kept more : List Step) (base : Base) (phases : List Phase) (tag : Tag) (row : Plain) (earlier found : Option Plain) (before faults tick : ℕ) (ending : Option Step) (old new : Sight) (list loose : List (List ℕ)) (ended : Bool) (left left' : Left) → tag ≡ row.tag → IfSome ending IsQuiet → IsLogged on kept base phases old list loose ended left → more ≡ kept ++ fault_step tag found before faults tick ∷ option_to_list ending → earlier ≡ left_in kept → LeftSo earlier row left' found → tick ≡ new.ticks → faults ≡ new.faults → before ≡ old.faults → raised old.ticks ≤ new.ticks → new.faults ≡ raised old.faults → IsCounted old → IsCounted new → IsFormed row → Both SameObjects old.told new.told → IsFaulted (shown on kept base phases old) (shown on more base phases new) row ending
-is_faulted on kept more base phases tag row earlier found before faults tick ending old new list loose ended left left' tagged quiet h e copied so at counts was spent rose counted counted' formed objects =
+pub is_faulted : (on : Handed) (kept more : List Step) (base : Base) (phases : List Phase) (tag : Tag) (row : Plain) (earlier found : Option Plain) (before faults tick : ℕ) (ending : Option Step) (old new : Sight) (list loose : List (List ℕ)) (ended : Bool) (left left' : Left) → tag ≡ row.tag → IfSome ending IsQuiet → IsLogged on kept base phases old list loose ended left → more ≡ kept ++ fault_step tag found before faults tick ∷ option_to_list ending → earlier ≡ left_in kept → LeftSo earlier row left' found → tick ≡ new.ticks → faults ≡ new.faults → before ≡ old.faults → raised old.ticks ≤ new.ticks → new.faults ≡ raised old.faults → IsCounted old → IsCounted new → IsFormed row → Both WritesOn old.told new.told → IsFaulted (shown on kept base phases old) (shown on more base phases new) row ending
+is_faulted on kept more base phases tag row earlier found before faults tick ending old new list loose ended left left' tagged quiet h e copied so at counts was spent rose counted counted' formed writes =
     let s = state_of (story_of on kept (oldest_first base) phases) in record {
       left = found;
       before = before;
@@ -103,12 +105,11 @@ is_faulted on kept more base phases tag row earlier found before faults tick end
       told = counts;
       at = at;
       spent = rises_raised old.ticks old.ticks tick (omega arith) counted.ticks (omega (arith, at, spent)) (omega (arith, at, counted'.ticks));
-      objects = objects;
+      fit = counted';
+      writes = writes;
     }
 
--- the file of objects is as it was after calls that write the journal alone
-pub objects_stay : (list loose list' loose' : List (List ℕ)) (old new : Option Device) → Both (Moves list loose list' loose') old new → Both SameObjects old new
-objects_stay list loose list' loose' None None moves = tt
-objects_stay list loose list' loose' None (Some e) moves = absurd moves
-objects_stay list loose list' loose' (Some d) None moves = absurd moves
-objects_stay list loose list' loose' (Some d) (Some e) moves = moves.passes.objects
+-- where no call was made
+pub writes_none : (told : Option Device) → Both WritesOn told told
+writes_none None = tt
+writes_none (Some d) = record { adds = adds_none may_write d; objects = refl }

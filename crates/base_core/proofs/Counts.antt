@@ -69,13 +69,13 @@ log_stays log new old view e = keeps_same old (shown_of new) (ap shown_of e ∙ 
 appended : (log new : Logged) (row : Plain) (ending : Option Step) (done : Appended) → IfSome ending IsQuiet → Appends log new row ending done → KeepsCount (shown_of log) (shown_of new)
 appended log new row ending appends.Committed quiet h =
     subst (λ l. KeepsCount (shown_of log) (shown_of l)) (sym h.grows)
-    (record { steps = told.Commit row h.tick ∷ []; grows = refl; counts = (h.sight, (h.at, h.spent, h.faults, h.objects), refl) })
+    (record { steps = told.Commit row h.tick ∷ []; grows = refl; counts = (h.sight, (h.at, h.spent, h.faults, h.fit, h.writes), refl) })
 appended log new row None appends.Faulted quiet h =
     subst (λ l. KeepsCount (shown_of log) (shown_of l)) (sym h.grows)
     (record {
       steps = told.Other (steps.Fault row.tag h.left h.before h.faults h.tick) ∷ [];
       grows = refl;
-      counts = (h.sight, (h.counted, h.told, h.rose, h.at, h.spent, h.objects), refl);
+      counts = (h.sight, (h.counted, h.told, h.rose, h.at, h.spent, h.fit, h.writes), refl);
     })
 appended log new row (Some step) appends.Faulted quiet h =
     let fault = told.Other (steps.Fault row.tag h.left h.before h.faults h.tick) in
@@ -83,7 +83,7 @@ appended log new row (Some step) appends.Faulted quiet h =
     (record {
       steps = fault ∷ told.Other step ∷ [];
       grows = append_assoc log.story (fault ∷ []) (told.Other step ∷ []);
-      counts = (h.sight, (h.counted, h.told, h.rose, h.at, h.spent, h.objects), (h.sight, quiet_counts step h.sight quiet.1, refl));
+      counts = (h.sight, (h.counted, h.told, h.rose, h.at, h.spent, h.fit, h.writes), (h.sight, quiet_counts step h.sight quiet.1, refl));
     })
 
 pub append_counts : (log new : Logged) (old : Shown) (row : Plain) (ending : Option Step) (done : Appended) → shown_of log ≡ old → IfSome ending IsQuiet → Appends log new row ending done → KeepsCount old (shown_of new)

@@ -45,7 +45,7 @@ pub kept_opened : (old : Sight) (log : Logged) → IsOpened old log → IsKept l
 kept_opened old log h = subst (λ l. IsKept l [] 0) (sym h.is) (kept_base old h.base h.handed log.sight h.on)
 
 pub opens_so : (old : Sight) (log : Logged) → IsOpened old log → Opens old log.story log.sight
-opens_so old log h = record { base = h.base; handed = h.handed; on = h.on; undamaged = undamaged_on old h.base h.handed h.on; story_is = ap (λ l. l.story) h.is; sound = h.sound; files = h.files }
+opens_so old log h = record { base = h.base; handed = h.handed; on = h.on; undamaged = undamaged_on old h.base h.handed h.on; story_is = ap (λ l. l.story) h.is; sound = h.sound; fit = h.fit; adds = h.adds; files = h.files }
 
 -- the disk changes nothing of what is kept beside it
 pub kept_sight : (log : Logged) (lanes : List LaneKept) (now : ℕ) (sight : Sight) → IsKept log lanes now → IsKept (with_sight log sight) lanes now

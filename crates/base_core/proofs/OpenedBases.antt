@@ -2,23 +2,25 @@
 use Rattle.std.proofs.Common.{◌≡◌, ℕ, ◌<◌, ◌⊎◌, inl, inr, true, Option, Some, None, is_some, List, [], ◌∷◌, ◌++◌, length, reverse, refl, sym, ap, subst, ◌∙◌, arith}
 use Rattle.std.proofs.lemmas.List.{append-nil}
 use Rattle.cc_names.specs.declared.steps.Told.TheVariants as told
-use Rattle.disk_model.specs.Devices.{Device, Failed, Leaves, LeavesNow, MayLeave, Idles, bytes_of, file_of}
+use Rattle.disk_model.specs.Devices.{Device, Failed, Leaves, LeavesNow, MayLeave, Measures, Idles, bytes_of, file_of}
 use Rattle.disk_model.specs.Files.{IsImage, stable}
 use Rattle.disk_model.specs.Told.{Sight, IfTold, Both, IsCounted}
 use Rattle.legal_history.specs.Base.Rows.{Base}
 use Rattle.legal_history.specs.Stories.States.{Opening}
 use Rattle.cc_names.specs.Counts.{rises}
 use Rattle.legal_history.specs.Stories.Steps.{state_of}
+use Rattle.vob_journal.specs.Added.{Adds, may_read}
 use Rattle.vob_journal.specs.Answered.{OneMore, OneFault}
 use Rattle.vob_journal.specs.Frames.{frames}
 use Rattle.vob_journal.specs.Moves.{Moves, Stands, Between}
 use Rattle.vob_journal.specs.Reads.{SameFiles}
 use Rattle.vob_journal.specs.Shown.{Shown}
 use Rattle.vob_journal.specs.declared.left.Left.TheVariants as lefts
+use Rattle.vob_journal.proofs.Adding.{measured_adds}
 use Rattle.vob_journal.proofs.Journals.{stable_image}
 use Rattle.vob_journal.proofs.Passing.{passes_none, passes_call}
 use Rattle.vob_journal.proofs.Staying.{told_then}
-use Rattle.vob_journal.proofs.Telling.{both_from, both_then, told_both, told_back}
+use Rattle.vob_journal.proofs.Telling.{both_from, both_map, both_then, told_both, told_back}
 use Rattle.base_core.specs.Backed.{IsCovered, IsBacked}
 use Rattle.base_core.specs.Logs.{Logged, opened_log}
 use Rattle.base_core.specs.Opening.{IsBaseOn, IsOpened, IsDamaged, StopsBy, FailsToOpen}
@@ -30,7 +32,7 @@ use Rattle.base_core.specs.declared.opening.OpenCause.{OpenCause}
 use Rattle.base_core.specs.declared.opening.OpenCause.TheVariants as causes
 use Rattle.base_core.proofs.Backing.{left_within_calls}
 use Rattle.base_core.proofs.LogSteps.{oldest_back}
-use Rattle.base_core.proofs.ReadRows.{finds_list, moves_then, raised_rises}
+use Rattle.base_core.proofs.ReadRows.{adds_on, finds_list, moves_then, raised_rises}
 
 -- what stops since find, where a journal was only read
 leaves_list : (list : List (List ℕ)) (d e : Device) (k : ℕ) (image : List ℕ) → length d.calls < k → Moves list [] list [] d e → Leaves 0 e k image → frames image ≡ list
@@ -76,14 +78,16 @@ pub record IsNewOn {D : Type 0} (sight : D → Sight) (first : Sight) (journal :
   pub list : IfTold first.told (λ d. journal.list ≡ frames (bytes_of 0 d))
   pub left : journal.left ≡ lefts.Nothing
   pub keeps : Both (Moves journal.list [] journal.list []) first.told (sight journal.disk).told
+  pub adds : Both (Adds may_read) first.told (sight journal.disk).told
   pub files : Both SameFiles first.told (sight journal.disk).told
   pub counts : OneMore first (sight journal.disk)
 
-pub new_on : {D : Type 0} (sight : D → Sight) (first : Sight) (journal : Shown D) → IfTold first.told (λ d. journal.list ≡ frames (bytes_of 0 d)) → journal.left ≡ lefts.Nothing → journal.loose ≡ [] → Both (Moves journal.list [] journal.list journal.loose) first.told (sight journal.disk).told → Both SameFiles first.told (sight journal.disk).told → OneMore first (sight journal.disk) → IsNewOn sight first journal
-new_on sight first journal list left loose moves files counts = record {
+pub new_on : {D : Type 0} (sight : D → Sight) (first : Sight) (journal : Shown D) → IfTold first.told (λ d. journal.list ≡ frames (bytes_of 0 d)) → journal.left ≡ lefts.Nothing → journal.loose ≡ [] → Both (Moves journal.list [] journal.list journal.loose) first.told (sight journal.disk).told → Both (Measures 0) first.told (sight journal.disk).told → Both SameFiles first.told (sight journal.disk).told → OneMore first (sight journal.disk) → IsNewOn sight first journal
+new_on sight first journal list left loose moves measured files counts = record {
   list = list;
   left = left;
   keeps = subst (λ l. Both (Moves journal.list [] journal.list l) first.told (sight journal.disk).told) loose moves;
+  adds = both_map (Measures 0) (Adds may_read) first.told (sight journal.disk).told measured_adds measured;
   files = files;
   counts = counts;
 }
@@ -188,12 +192,14 @@ module _ {D : Type 0} (sight : D → Sight) (first : Sight) (handed : Handed) (b
     readable = through.so_far.readable;
   }
 
-  pub is_opened : (log : Logged) → log ≡ opened_log base handed (sight read.disk) → IsOpened first log
-  is_opened log is = record {
+  pub is_opened : (log : Logged) → log ≡ opened_log base handed (sight read.disk) → IsCounted (sight read.disk) → IsOpened first log
+  is_opened log is fit = record {
     base = base;
     handed = handed;
     on = base_on;
     is = is ∙ ap (opened_log base handed) (sym (ap (λ l. l.sight) is));
     sound = ap (λ l. l.sight.faults) is ∙ sound ∙ new.counts.1;
+    fit = subst IsCounted (sym (ap (λ l. l.sight) is)) fit;
+    adds = subst (λ s. Both (Adds may_read) first.told s.told) (sym (ap (λ l. l.sight) is)) (adds_on first.told (sight opened.disk).told (sight read.disk).told new.adds reads.adds);
     files = subst (λ s. Both SameFiles first.told s.told) (sym (ap (λ l. l.sight) is)) (files_first sight first opened read new reads);
   }

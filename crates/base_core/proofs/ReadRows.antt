@@ -1,5 +1,5 @@
 -- How the rows of a journal are read, and what reading leaves.
-use Rattle.std.proofs.Common.{◌≡◌, ℕ, ◌&&◌, true, Some, List, [], ◌∷◌, ◌++◌, sym, ap, ap₂, subst, ◌∙◌, inl, inr, arith}
+use Rattle.std.proofs.Common.{◌≡◌, ℕ, ◌&&◌, true, Option, Some, List, [], ◌∷◌, ◌++◌, sym, ap, ap₂, subst, ◌∙◌, inl, inr, arith}
 use Rattle.std.proofs.lemmas.List.{append_assoc, append-nil}
 use Rattle.cc_names.specs.Formed.{Plain}
 use Rattle.disk_model.specs.Counting.{raised}
@@ -9,9 +9,11 @@ use Rattle.legal_history.specs.Base.Rows.{Base}
 use Rattle.legal_history.specs.Base.Fits.{fits, is_base}
 use Rattle.cc_names.specs.Counts.{rises}
 use Rattle.row_form.specs.Spelled.{spelled}
+use Rattle.vob_journal.specs.Added.{Adds, may_read}
 use Rattle.vob_journal.specs.Frames.{frames}
 use Rattle.vob_journal.specs.Moves.{Moves, Stands}
 use Rattle.vob_journal.specs.Shown.{Shown}
+use Rattle.vob_journal.proofs.Adding.{adds_then}
 use Rattle.vob_journal.proofs.Passing.{passes_then}
 use Rattle.vob_journal.proofs.Staying.{told_then}
 use Rattle.vob_journal.proofs.Telling.{both_then, told_next, told_both, told_from}
@@ -62,6 +64,10 @@ read_more sight base row payload old new h reads next is = record {
 pub row_fits : (base : Base) (row : Plain) → is_base (row ∷ base) ≡ true → fits base row.deed ≡ true
 row_fits base row good = (both (fits base row.deed) (is_base base) good).0
 
+-- calls that read are added, and more of them
+pub adds_on : (one two three : Option Device) → Both (Adds may_read) one two → Both (Adds may_read) two three → Both (Adds may_read) one three
+adds_on one two three h g = both_then (Adds may_read) (Adds may_read) (Adds may_read) one two three (adds_then may_read) h g
+
 -- reads one after the other
 pub reads_then : {D : Type 0} (sight : D → Sight) (one two three : Shown D) → OnlyReads sight one two → OnlyReads sight two three → OnlyReads sight one three
 reads_then sight one two three h g =
@@ -71,5 +77,6 @@ reads_then sight one two three h g =
       ticks = omega (arith, h.ticks, g.ticks);
       stops = both_then P P P (sight one.disk).told (sight two.disk).told (sight three.disk).told (moves_then one.list) h.stops
           (subst (λ l. Both (Moves l [] l []) (sight two.disk).told (sight three.disk).told) h.list g.stops);
+      adds = adds_on (sight one.disk).told (sight two.disk).told (sight three.disk).told h.adds g.adds;
       files = told_then (sight one.disk).told (sight two.disk).told (sight three.disk).told h.files g.files;
     }

@@ -5,11 +5,11 @@ use Rattle.cc_names.specs.declared.steps.Step.{Step}
 use Rattle.cc_names.specs.declared.steps.Step.TheVariants as steps
 use Rattle.cc_names.specs.declared.steps.Told.TheVariants as told
 use Rattle.disk_model.specs.Counting.{raised}
-use Rattle.disk_model.specs.Told.{Sight, Both}
+use Rattle.disk_model.specs.Told.{Sight, Both, IsCounted}
 use Rattle.legal_history.specs.Stories.States.{State, ticks_of, faults_of, hanging}
 use Rattle.legal_history.specs.Stories.Steps.{state_of}
 use Rattle.cc_names.specs.Counts.{rises}
-use Rattle.vob_journal.specs.Reads.{SameObjects}
+use Rattle.vob_journal.specs.Added.{WritesOn}
 use Rattle.base_core.specs.Faults.{is_fault}
 use Rattle.base_core.specs.Logs.{Logged, with_row, with_step, with_step_on}
 use Rattle.base_core.specs.Telling.{stands_alone}
@@ -31,7 +31,8 @@ pub record IsCommitted (old new : Logged) (row : Plain) : Type 0 where
   pub at : tick ≡ sight.ticks
   pub spent : old.sight.ticks < tick
   pub faults : sight.faults ≡ old.sight.faults
-  pub objects : Both SameObjects old.sight.told sight.told
+  pub fit : IsCounted sight
+  pub writes : Both WritesOn old.sight.told sight.told
 
 -- a step that names no row and no phase, and is no fault of the disk
 abbrev pub IsQuiet : Step → Type 0
@@ -60,7 +61,8 @@ pub record IsFaulted (old new : Logged) (row : Plain) (ending : Option Step) : T
   pub told : faults ≡ sight.faults
   pub at : tick ≡ sight.ticks
   pub spent : rises old.sight.ticks tick ≡ true
-  pub objects : Both SameObjects old.sight.told sight.told
+  pub fit : IsCounted sight
+  pub writes : Both WritesOn old.sight.told sight.told
 
 -- what became of a row
 abbrev pub Appends : Logged → Logged → Plain → Option Step → Appended → Type 0

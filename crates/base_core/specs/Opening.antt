@@ -4,11 +4,12 @@ use Rattle.cc_names.specs.Formed.{Plain}
 use Rattle.cc_names.specs.declared.steps.Told.{Told}
 use Rattle.cc_names.specs.declared.steps.Told.TheVariants as told
 use Rattle.disk_model.specs.Devices.{Device, MayLeave, bytes_of}
-use Rattle.disk_model.specs.Told.{Sight, IfTold, Both}
+use Rattle.disk_model.specs.Told.{Sight, IfTold, Both, IsCounted}
 use Rattle.legal_history.specs.Base.Rows.{Base, size}
 use Rattle.legal_history.specs.Base.Fits.{fits, is_base}
 use Rattle.cc_names.specs.Counts.{rises}
 use Rattle.row_form.specs.Spelled.{spelled}
+use Rattle.vob_journal.specs.Added.{Adds, may_read}
 use Rattle.vob_journal.specs.Frames.{frames}
 use Rattle.vob_journal.specs.Reads.{SameFiles}
 use Rattle.base_core.specs.Handed.{Handed}
@@ -29,13 +30,15 @@ pub record IsBaseOn (old : Sight) (base : Base) (handed : Handed) : Type 0 where
   pub fits : is_base base ≡ true
   pub readable : AreReadable base
 
--- a log of such a base, under which no disk failed, and both files as they were
+-- a log of such a base, under which no disk failed: calls that read were made, and both files are as they were
 pub record IsOpened (old : Sight) (log : Logged) : Type 0 where
   pub base : Base
   pub handed : Handed
   pub on : IsBaseOn old base handed
   pub is : log ≡ opened_log base handed log.sight
   pub sound : log.sight.faults ≡ old.faults
+  pub fit : IsCounted log.sight
+  pub adds : Both (Adds may_read) old.told log.sight.told
   pub files : Both SameFiles old.told log.sight.told
 
 -- no readable row that fits the base has this spelling
@@ -57,7 +60,8 @@ pub record IsDamaged (list : List (List ℕ)) (n : ℕ) : Type 0 where
 abbrev pub IsUndamaged : List (List ℕ) → Type 0
 IsUndamaged list = (n : ℕ) → IsDamaged list n → ⊥
 
--- A base was opened: the one that the disk stands for, whose journal is not damaged. Both files are as they were.
+-- A base was opened: the one that the disk stands for, whose journal is not damaged. Calls that read were made, no fault was
+-- counted, and both files are as they were.
 pub record Opens (old : Sight) (story : List Told) (new : Sight) : Type 0 where
   pub base : Base
   pub handed : Handed
@@ -65,6 +69,8 @@ pub record Opens (old : Sight) (story : List Told) (new : Sight) : Type 0 where
   pub undamaged : IfTold old.told (λ d. IsUndamaged (frames (bytes_of 0 d)))
   pub story_is : story ≡ told.Opened (oldest_first base) handed.counts handed.tells ∷ []
   pub sound : new.faults ≡ old.faults
+  pub fit : IsCounted new
+  pub adds : Both (Adds may_read) old.told new.told
   pub files : Both SameFiles old.told new.told
 
 -- why a journal with this list was not read through, with the disk's counts of faults before and after

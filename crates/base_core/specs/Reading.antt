@@ -7,6 +7,7 @@ use Rattle.legal_history.specs.Base.Rows.{Base, size}
 use Rattle.legal_history.specs.Base.Fits.{fits, is_base}
 use Rattle.cc_names.specs.Counts.{rises}
 use Rattle.row_form.specs.Spelled.{spelled}
+use Rattle.vob_journal.specs.Added.{Adds, may_read}
 use Rattle.vob_journal.specs.Answered.{Gives}
 use Rattle.vob_journal.specs.Frames.{frames}
 use Rattle.vob_journal.specs.Moves.{Moves}
@@ -24,6 +25,7 @@ pub record OnlyReads {D : Type 0} (sight : D → Sight) (old new : Shown D) : Ty
   pub left : new.left ≡ old.left
   pub ticks : (sight old.disk).ticks ≤ (sight new.disk).ticks
   pub stops : Both (Moves old.list [] old.list []) (sight old.disk).told (sight new.disk).told
+  pub adds : Both (Adds may_read) (sight old.disk).told (sight new.disk).told
   pub files : Both SameFiles (sight old.disk).told (sight new.disk).told
 
 -- the end of a list was read where nothing was found

@@ -57,7 +57,7 @@ impl<D: Disk> Core<D> {
     ghost use Rattle.disk_model.specs.Devices.{file_of, bytes_of};
     ghost use Rattle.disk_model.specs.Files.{stable};
     ghost use Rattle.disk_model.specs.Told.{IfTold, Both};
-    ghost use Rattle.vob_journal.specs.Reads.{SameObjects};
+    ghost use Rattle.vob_journal.specs.Added.{WritesOn};
 
     /// Opens the base that a disk stands for. Reads its journal once, in time linear in its bytes and the square of the targets of
     /// one object, and writes nothing. Names are found by hashing them so. A disk whose base cannot be opened comes back with
@@ -133,7 +133,7 @@ impl<D: Disk> Core<D> {
             self.new.sight.faults ≡ true) }
         ensures faults { MatchResult result (λ _. self.new.sight.faults ≡ self.old.sight.faults)
             (λ _. self.new.sight.faults ≡ raised self.old.sight.faults) }
-        ensures objects { Both SameObjects self.old.sight.told self.new.sight.told }
+        ensures writes { Both WritesOn self.old.sight.told self.new.sight.told }
         ensures rests { is_faulted (state_of self.old.story).ends ≡ false → self.new ≡ self.old }
     {
         self.log.settle()

@@ -133,7 +133,7 @@ impl<D: Disk> Log<D> {
     ghost use Rattle.carried_out.specs.CarriedOut.{is_made};
     ghost use Rattle.disk_model.specs.Told.{Both};
     ghost use Rattle.legal_history.specs.Base.Fits.{fits};
-    ghost use Rattle.vob_journal.specs.Reads.{SameObjects};
+    ghost use Rattle.vob_journal.specs.Added.{WritesOn};
 
     /// The story of a base that was opened, whose rows are those of the journal. The journal comes back where
     /// memory runs out.
@@ -249,7 +249,7 @@ impl<D: Disk> Log<D> {
             self.new.sight.faults ≡ true) }
         ensures faults { MatchResult result (λ _. self.new.sight.faults ≡ self.old.sight.faults)
             (λ _. self.new.sight.faults ≡ raised self.old.sight.faults) }
-        ensures objects { Both SameObjects self.old.sight.told self.new.sight.told }
+        ensures writes { Both WritesOn self.old.sight.told self.new.sight.told }
         ensures rests { is_faulted (state_of self.old.story).ends ≡ false → self.new ≡ self.old }
     {
         match self.journal.left() {

@@ -9,7 +9,7 @@ use Rattle.base_core.specs.Appending.{IsCommitted, IsFaulted}
 use Rattle.base_core.specs.Leaving.{left_in, LeftSo}
 use Rattle.base_core.specs.Logs.{IsLogged}
 use Rattle.base_core.specs.Handed.{handed_in}
-use Rattle.base_core.proofs.Appended.{fault_step, is_committed, is_faulted, logged_faulted, objects_stay, some_calls}
+use Rattle.base_core.proofs.Appended.{fault_step, is_committed, is_faulted, logged_faulted, some_calls}
 use Rattle.base_core.proofs.Logged.{logged_row}
 use Rattle.base_core.proofs.LogSteps.{shown}
 use Rattle.base_core.proofs.logs.Log.append.Goals as goal
@@ -33,7 +33,7 @@ returns-in-Ok-clause-ok g c =
     let rows : c.push-in-Ok.new.self.base ≡ c.args.row ∷ c.self.inside.rows.base = c.push-in-Ok.ensures ∙ ap (λ b. c.args.row ∷ b) c.reserve.ensures.same in
     subst (λ old. IsCommitted old (shown (handed_in c.self.inside.handed g.D.Disk.tells) c.push.new.self.items c.push-in-Ok.new.self.base c.self.inside.phases.items (g.D.Disk.sight c.append.new.self.disk)) c.args.row) c.self.view_is
     (is_committed (handed_in c.self.inside.handed g.D.Disk.tells) c.self.inside.steps.items c.push.new.self.items c.self.inside.rows.base c.push-in-Ok.new.self.base c.self.inside.phases.items c.tag-tag.result c.size-number.result c.in-Ok.tick _ c.args.row
-    (g.D.Disk.sight c.self.inside.journal.disk) (g.D.Disk.sight c.append.new.self.disk) c.self.inside.journal.list c.self.inside.journal.loose c.self.inside.journal.ended c.self.inside.journal.left c.self.invariant kept rows c.in-Ok.ensures.tick c.in-Ok.ensures.costs.0 (some_calls c.self.inside.journal.settled) c.in-Ok.ensures.costs.1 c.deed.ensures.formed (objects_stay _ _ _ _ _ _ c.in-Ok.ensures.moves))
+    (g.D.Disk.sight c.self.inside.journal.disk) (g.D.Disk.sight c.append.new.self.disk) c.self.inside.journal.list c.self.inside.journal.loose c.self.inside.journal.ended c.self.inside.journal.left c.self.invariant kept rows c.in-Ok.ensures.tick c.in-Ok.ensures.costs.0 (some_calls c.self.inside.journal.settled) c.in-Ok.ensures.costs.1 c.deed.ensures.formed (g.met.D.Disk.counted c.append.new.self.disk) c.in-Ok.ensures.writes)
 
 pub invariant_of-self : goal.invariant_of-self
 invariant_of-self g c =
@@ -69,7 +69,7 @@ returns-clause-ok g c =
     (is_faulted (handed_in c.self.inside.handed g.D.Disk.tells) c.self.inside.steps.items c.push_both.new.steps.items c.self.inside.rows.base c.self.inside.phases.items c.tag-tag.result c.args.row c.in_ok-earlier.earlier c.match-left.left c.counts-before.result.faults c.counts-counts.result.faults c.counts-counts.result.ticks c.args.ending
     (g.D.Disk.sight c.self.inside.journal.disk) (g.D.Disk.sight c.append.new.self.disk) c.self.inside.journal.list c.self.inside.journal.loose c.self.inside.journal.ended c.self.inside.journal.left c.append.new.self.left
     c.tag-tag.ensures c.requires.ending c.self.invariant kept (c.in_ok-earlier.ensures ∙ ap left_in c.as_slice.ensures.value) left c.counts-counts.ensures.ticks c.counts-counts.ensures.faults c.counts-before.ensures.faults c.in_default.ensures.costs.0 c.in_default.ensures.costs.2
-    (g.met.D.Disk.counted c.self.inside.journal.disk) (g.met.D.Disk.counted c.append.new.self.disk) c.deed.ensures.formed (objects_stay _ _ _ _ _ _ c.in_default.ensures.moves)))
+    (g.met.D.Disk.counted c.self.inside.journal.disk) (g.met.D.Disk.counted c.append.new.self.disk) c.deed.ensures.formed c.in_default.ensures.writes))
 
 pub push-requires-in-Ok-clause-fits : goal.push-requires-in-Ok-clause-fits
 push-requires-in-Ok-clause-fits g c =
