@@ -12,6 +12,11 @@ mod ServingLaws
 pub mod UnitLaws
 pub mod WordLemmas
 pub mod SideLemmas
+pub mod ReaderLemmas
+pub mod CheckLemmas
+pub mod EndingLemmas
+pub mod SuffixLemmas
+pub mod JoinLemmas
 mod Worked
 mod WorkedGraphs
 mod WorkedMakefiles

@@ -13,23 +13,30 @@
 #![tactic(auto)]
 
 pub mod contents;
+mod endings;
 #[cfg(test)]
 mod expansion_tests;
 mod expansions;
+mod including;
+mod joining;
 pub mod laws;
 mod line_kinds;
 #[cfg(test)]
 mod line_tests;
 mod logical_lines;
+mod macro_checks;
 mod macros;
 pub mod makefiles;
 #[cfg(test)]
 mod piece_tests;
 mod pieces;
+mod readers;
 mod readings;
 mod rule_lines;
 pub mod rules;
 pub mod serving;
+mod special_targets;
+mod suffix_rules;
 #[cfg(test)]
 mod tests;
 pub mod walks;
