@@ -17,6 +17,11 @@ mod JoinedLaws
 pub mod FormedMakefiles
 pub mod WordLemmas
 pub mod SideLemmas
+pub mod ReaderLemmas
+pub mod CheckLemmas
+pub mod EndingLemmas
+pub mod SuffixLemmas
+pub mod JoinLemmas
 mod Worked
 mod WorkedGraphs
 mod WorkedMakefiles

@@ -26,7 +26,7 @@ last_opened : (macros : List Macro) (front : List lent.Opened) (o : lent.Opened)
 last_opened macros front o = ap (map (opened_in macros)) (reverse-append front (o ∷ []))
 
 -- macros that are being expanded stand among so many
-abbrev Within : ℕ → List lent.Opened → Type 0
+abbrev pub Within : ℕ → List lent.Opened → Type 0
 Within n items = All (λ o. o.index < n) items
 
 front_within : (n : ℕ) (front : List lent.Opened) (o : lent.Opened) → Within n (front ++ (o ∷ [])) → Within n front
@@ -74,7 +74,7 @@ value_le (macro ∷ macros) (suc i) l =
 -- ---- runs
 
 module _ (macros : List Macro) (automatic : ℕ → List ℕ) where
-  runs_same : (total : Expansion) (ps : List Piece) {rest rest' written written' : List ℕ} {opened opened' : List Opened} {states states' : List State} → rest ≡ rest' → written ≡ written' → opened ≡ opened' → states ≡ states' → Runs macros automatic total ps rest written opened states → Runs macros automatic total ps rest' written' opened' states'
+  pub runs_same : (total : Expansion) (ps : List Piece) {rest rest' written written' : List ℕ} {opened opened' : List Opened} {states states' : List State} → rest ≡ rest' → written ≡ written' → opened ≡ opened' → states ≡ states' → Runs macros automatic total ps rest written opened states → Runs macros automatic total ps rest' written' opened' states'
   runs_same total ps {rest} {rest'} {written} {written'} {opened} {opened'} {states} {states'} a b c d r =
       subst (λ v. Runs macros automatic total ps rest' written' opened' v) d
       (subst (λ v. Runs macros automatic total ps rest' written' v states) c
@@ -101,13 +101,17 @@ module _ (macros : List Macro) (automatic : ℕ → List ℕ) where
             (runs_end macros automatic total old.written.items o.outer.now o.index o.start (opened_of macros new.opened.items) old.states.items distinct r (last_within (length macros) new.opened.items o all));
         within = front_within (length macros) new.opened.items o all;
       }
-  ended_went total old new Ends distinct h end (items, written) =
-      runs_done macros automatic total old.written.items old.states.items (runs_same total [] end refl (ap (opened_of macros) items) refl h.runs)
-      ∙ ap plain (sym written)
+  ended_went total old new Ends distinct h end (items, none, rest, states, written) =
+      let done = runs_done macros automatic total old.written.items old.states.items (runs_same total [] end refl (ap (opened_of macros) items) refl h.runs) ∙ ap plain (sym written) in
+      let here : IsRunning macros automatic total [] new = record {
+        runs = runs_same total [] (sym rest) (sym written) (ap (opened_of macros) (items ∙ sym none)) (sym states) h.runs;
+        within = subst (Within (length macros)) (items ∙ sym none) h.within;
+      } in
+      (done, record { rest = rest ∙ end; opened = none; running = subst (λ t. IsRunning macros automatic t [] new) done here })
   ended_went total old new Loops distinct h end none = absurd none
 
   -- a reference is a step
-  referred_went : (total : Expansion) (name : List ℕ) (old new : Expanding) (step : Step) → HasNamesApart macros → IsRunning macros automatic total (Reference name ∷ []) old → Referred macros name old new step → Went macros automatic total step new
+  pub referred_went : (total : Expansion) (name : List ℕ) (old new : Expanding) (step : Step) → HasNamesApart macros → IsRunning macros automatic total (Reference name ∷ []) old → Referred macros name old new step → Went macros automatic total step new
   referred_went total name old new step distinct h (Undefined none rest opened states written) = record {
     runs = runs_same total [] (sym rest) (sym written) (ap (opened_of macros) (sym opened)) (sym states) (runs_undefined macros automatic total old.rest.now old.written.items name (opened_of macros old.opened.items) old.states.items h.runs none);
     within = subst (Within (length macros)) (sym opened) h.within;

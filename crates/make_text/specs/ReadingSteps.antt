@@ -1,8 +1,52 @@
 -- The steps by which a makefile is read line by line.
-use Rattle.std.specs.Prelude.{false}
-use Rattle.make_text.specs.Statements.{Definition, Reading, with_definition}
+use Rattle.std.specs.Prelude.{◌≡◌, ℕ, ◌+◌, false, Result, Ok, Err, List, [], ◌∷◌, fold, if◌then◌else◌}
+use Rattle.cc_names.specs.Answers.{FaultIs}
+use Rattle.cc_names.specs.declared.memory.Or.{Or}
+use Rattle.cc_names.specs.declared.refusals.MakeError.{MakeError}
+use Rattle.make_text.specs.Contents.{RuleLine}
+use Rattle.make_text.specs.Macros.{is_among}
+use Rattle.make_text.specs.Makefiles.{with_path}
+use Rattle.make_text.specs.Statements.{Definition, Reading, with_definition, with_script_line, with_suffixes, suffixes_name, phony_name, and_then, read_line, within_limits}
+use Rattle.make_text.specs.declared.logical_lines.LogicalLine.{LogicalLine}
+use Rattle.make_text.specs.declared.rule_lines.RuleWords.{RuleWords}
 
--- what was read, with a macro whose line ends the rule above it
-abbrev pub with_macro : Definition → Reading → Reading
-with_macro definition reading =
-    record reading { macros = with_definition definition reading.macros; takes_script = false }
+-- unless memory ran out, a call left what reading gives, or answered the fault that it gives
+abbrev pub Leaves : {U X E : Type 0} → Result U (Or E) → X → Result X E → Type 0
+Leaves (Ok done) left read = read ≡ Ok left
+Leaves (Err fault) left read = FaultIs fault read
+
+-- what was read, with a macro
+abbrev pub with_defined : Definition → Reading → Reading
+with_defined definition reading = record reading { macros = with_definition definition reading.macros }
+
+-- what was read, where the rule above is ended
+abbrev pub ended_rule : Reading → Reading
+ended_rule reading = record reading { takes_script = false }
+
+-- one line more, and one included file more
+abbrev pub counted_line : Reading → Reading
+counted_line reading = record reading { lines = reading.lines + 1 }
+
+abbrev pub counted_file : Reading → Reading
+counted_file reading = record reading { files = reading.files + 1 }
+
+-- what was read, with what the special targets of a rule line say
+abbrev pub with_special : RuleWords → Reading → Reading
+with_special words reading =
+    record reading {
+      suffixes = if is_among words.targets suffixes_name then with_suffixes reading.suffixes words.prerequisites else reading.suffixes;
+      phony = if is_among words.targets phony_name then fold with_path reading.phony words.prerequisites else reading.phony;
+    }
+
+-- rule lines with a script line below the newest, where there is one
+abbrev pub newest_with : List ℕ → List RuleLine → List RuleLine
+newest_with line [] = []
+newest_with line (rule ∷ older) = with_script_line rule line ∷ older
+
+abbrev pub with_newest_line : List ℕ → Reading → Reading
+with_newest_line line reading = record reading { rules = newest_with line reading.rules }
+
+-- a line counted and read, within the limits behind it
+abbrev pub counted_line_read : (ℕ → Reading → List ℕ → Result Reading MakeError) → List ℕ → LogicalLine → Reading → Result Reading MakeError
+counted_line_read include file line reading =
+    and_then (read_line include file line (counted_line reading)) (within_limits file line.number)

@@ -49,7 +49,9 @@ Ended old Goes new =
     (o : lent.Opened) × (old.opened.items ≡ new.opened.items ++ (o ∷ [])) × (new.rest.now ≡ o.outer.now)
     × (new.states.items ≡ slice_set old.states.items o.index (Expanded o.start (length old.written.items - o.start)))
     × (new.written.items ≡ old.written.items)
-Ended old Ends new = (old.opened.items ≡ []) × (new.written.items ≡ old.written.items)
+Ended old Ends new =
+    (old.opened.items ≡ []) × (new.opened.items ≡ []) × (new.rest.now ≡ old.rest.now)
+    × (new.states.items ≡ old.states.items) × (new.written.items ≡ old.written.items)
 Ended old Loops new = ⊥
 
 -- ---- a reference
@@ -89,10 +91,16 @@ Took macros automatic variants.Bad old new step = (step ≡ Goes) × (new ≡ ol
 
 -- ---- a step
 
+-- an expansion is at its end: nothing is left, and the results of the macros that it met are known
+pub record IsAtEnd (macros : List Macro) (automatic : ℕ → List ℕ) (e : expandings.Expanding) : Type 0 where
+  pub rest : e.rest.now ≡ []
+  pub opened : e.opened.items ≡ []
+  pub running : IsRunning macros automatic (plain e.written.items) [] e
+
 -- what a step did: the expansion goes on without its first pieces, or came to its end, or met a loop
 abbrev pub Went : List Macro → (ℕ → List ℕ) → Expansion → Step → expandings.Expanding → Type 0
 Went macros automatic total Goes new = IsRunning macros automatic total [] new
-Went macros automatic total Ends new = total ≡ plain new.written.items
+Went macros automatic total Ends new = (total ≡ plain new.written.items) × IsAtEnd macros automatic new
 Went macros automatic total Loops new = total ≡ record { bytes = new.written.items; loops = true }
 
 -- there is less left to do behind a step, where the expansion goes on

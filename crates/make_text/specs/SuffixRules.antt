@@ -1,0 +1,32 @@
+-- The suffix rules of a makefile, one suffix after the other.
+use Rattle.std.specs.Prelude.{ℕ, Bool, ◌&&◌, not, Option, Some, None, List, ◌++◌, length, take, drop, flat_map, if◌then◌else◌}
+use Rattle.std.specs.List.{list_any}
+use Rattle.std.specs.Str.{bytes_eq}
+use Rattle.make_text.specs.Contents.{is_pair_of, suffix_rule_of}
+use Rattle.make_text.specs.Macros.{is_among}
+use Rattle.make_text.specs.declared.rules.MakeRule.{MakeRule}
+use Rattle.make_text.specs.declared.rules.SuffixRule.{SuffixRule}
+
+-- whether bytes begin with others
+abbrev pub begins_with : List ℕ → List ℕ → Bool
+begins_with bytes front = bytes_eq (take (length front) bytes) front
+
+-- what stands behind a front, where bytes begin with it
+abbrev pub behind_front : List ℕ → List ℕ → Option (List ℕ)
+behind_front bytes front = if begins_with bytes front then Some (drop (length front) bytes) else None
+
+-- whether bytes are this suffix and then another
+abbrev pub is_pair_from : List (List ℕ) → List ℕ → List ℕ → Bool
+is_pair_from suffixes bytes from = list_any (λ to. bytes_eq bytes (from ++ to)) suffixes
+
+-- whether a target is of a group
+abbrev pub is_in_group : List (List (List ℕ)) → List ℕ → Bool
+is_in_group groups target = list_any (λ group. is_among group target) groups
+
+-- whether a target is two suffixes put together, and of no group
+abbrev pub is_suffix_target : List (List ℕ) → List (List (List ℕ)) → List ℕ → Bool
+is_suffix_target suffixes groups target = is_pair_of suffixes target && not (is_in_group groups target)
+
+-- the suffix rules that begin from a suffix
+abbrev pub suffix_rules_from : List (List ℕ) → List MakeRule → List ℕ → List SuffixRule
+suffix_rules_from suffixes rules from = flat_map (λ to. flat_map (suffix_rule_of from to) rules) suffixes

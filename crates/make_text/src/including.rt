@@ -1,0 +1,193 @@
+// The lines of a makefile one after the other, with the files that it includes read in place.
+
+ghost use Rattle.std.specs.Prelude.{◌≡◌, OnOk};
+ghost use Rattle.cc_names.specs.Answers.{Gives};
+ghost use Rattle.make_text.specs.Grammar.{lines_read};
+ghost use Rattle.make_text.specs.LogicalLines.{logical_lines};
+ghost use Rattle.make_text.specs.ReadingSteps.{Leaves, counted_line_read};
+ghost use Rattle.make_text.specs.Readers.{Keeps};
+ghost use Rattle.make_text.specs.Statements.{included, include_line, read_line, read_lines};
+
+use crate::line_kinds::{Kind, kind_of, trimmed, without_comment};
+use crate::logical_lines::{LogicalLine, LogicalLines};
+use crate::makefiles::Texts;
+use crate::readers::Reader;
+use crate::readings::{Reading, fault_at};
+use crate::words::is_script_line;
+use cc_names::commands::Macro;
+use cc_names::memory::Or;
+use cc_names::paths::Path;
+use cc_names::refusals::{MakeCause, MakeError};
+use std::alloc::Global;
+use std::hash::RandomState;
+use std::rc::Rc;
+
+/// The most files that are included inside each other.
+const DEPTH_LIMIT: u32 = 16;
+
+/// Reads the file at a path, which a line of another file includes, in place. So many files can still be included inside
+/// each other.
+#[cycle(files)]
+fn included<X: Texts>(
+    reader: &mut Reader,
+    alloc: Global,
+    texts: &X,
+    left: u32,
+    file: &Rc<Path>,
+    line: u32,
+    path: &Path,
+) -> Result<(), Or<MakeError>>
+    requires { Keeps reader.old.scripted.keys reader.old.reading.rules }
+    ensures read { Leaves result reader.new.reading
+        (included (X.texts texts.now) left file.now.value line reader.old.reading path.now) }
+    ensures kept { OnOk result (Keeps reader.new.scripted.keys reader.new.reading.rules) }
+{
+    let Some(text) = texts.text(path) else {
+        return Err(fault_at(alloc, file, line, MakeCause::IncludeAbsent));
+    };
+    if left == 0 {
+        return Err(fault_at(alloc, file, line, MakeCause::IncludeDepth));
+    }
+    match reader.open_file(alloc, file, line) {
+        Ok(()) => {
+            let path = Rc::new(alloc, path.copy(alloc)?)?;
+            read_lines(reader, alloc, texts, left - 1, &path, text)
+        }
+        Err(fault) => Err(fault),
+    }
+}
+
+/// Reads the lines of a text, which stands at this path.
+#[cycle(files)]
+pub(crate) fn read_lines<X: Texts>(
+    reader: &mut Reader,
+    alloc: Global,
+    texts: &X,
+    left: u32,
+    file: &Rc<Path>,
+    text: &[u8],
+) -> Result<(), Or<MakeError>>
+    requires { Keeps reader.old.scripted.keys reader.old.reading.rules }
+    ensures read { Leaves result reader.new.reading
+        (read_lines (included (X.texts texts.now) left file.now.value) file.now.value
+        (logical_lines text.now) reader.old.reading) }
+    ensures kept { OnOk result (Keeps reader.new.scripted.keys reader.new.reading.rules) }
+{
+    let mut lines = LogicalLines::of(text);
+    'lines: while let Some(line) = lines.next(alloc)? {
+        match counted_line(reader, alloc, texts, left, file, &line) {
+            Ok(()) => {}
+            Err(fault) => return Err(fault),
+        }
+    }
+    Ok(())
+}
+
+/// Counts and reads a line, and tests the counts behind it.
+#[cycle(files)]
+fn counted_line<X: Texts>(
+    reader: &mut Reader,
+    alloc: Global,
+    texts: &X,
+    left: u32,
+    file: &Rc<Path>,
+    line: &LogicalLine,
+) -> Result<(), Or<MakeError>>
+    requires { Keeps reader.old.scripted.keys reader.old.reading.rules }
+    ensures read { Leaves result reader.new.reading
+        (counted_line_read (included (X.texts texts.now) left file.now.value) file.now.value
+        line.now reader.old.reading) }
+    ensures kept { OnOk result (Keeps reader.new.scripted.keys reader.new.reading.rules) }
+{
+    reader.reading.count_line()?;
+    match read_line(reader, alloc, texts, left, file, line) {
+        Ok(()) => reader.within_limits(alloc, file, line.number),
+        Err(fault) => Err(fault),
+    }
+}
+
+/// Reads a line.
+#[cycle(files)]
+fn read_line<X: Texts>(
+    reader: &mut Reader,
+    alloc: Global,
+    texts: &X,
+    left: u32,
+    file: &Rc<Path>,
+    line: &LogicalLine,
+) -> Result<(), Or<MakeError>>
+    requires { Keeps reader.old.scripted.keys reader.old.reading.rules }
+    ensures read { Leaves result reader.new.reading
+        (read_line (included (X.texts texts.now) left file.now.value) file.now.value line.now
+        reader.old.reading) }
+    ensures kept { OnOk result (Keeps reader.new.scripted.keys reader.new.reading.rules) }
+{
+    let (number, bytes) = (line.number, line.bytes.as_bytes());
+    if is_script_line(bytes) {
+        return reader.script_line(alloc, file, number, bytes);
+    }
+    match kind_of(without_comment(bytes)) {
+        Kind::Blank => Ok(()),
+        Kind::Include(behind) => include_line(reader, alloc, texts, left, file, number, behind),
+        Kind::Assignment(before, behind) => {
+            reader.assign(alloc, file, number, trimmed(before), trimmed(behind))
+        }
+        Kind::Rule(before, behind) => reader.rule_line(alloc, file, number, before, behind),
+        Kind::Unclosed => Err(fault_at(alloc, file, number, MakeCause::BadMacro)),
+        Kind::Neither => Err(fault_at(alloc, file, number, MakeCause::BadLine)),
+    }
+}
+
+/// Reads an include line, each file in place before the next is looked for.
+#[cycle(files)]
+fn include_line<X: Texts>(
+    reader: &mut Reader,
+    alloc: Global,
+    texts: &X,
+    left: u32,
+    file: &Rc<Path>,
+    line: u32,
+    behind: &[u8],
+) -> Result<(), Or<MakeError>>
+    requires { Keeps reader.old.scripted.keys reader.old.reading.rules }
+    ensures read { Leaves result reader.new.reading
+        (include_line (included (X.texts texts.now) left file.now.value line) file.now.value
+        line behind.now reader.old.reading) }
+    ensures kept { OnOk result (Keeps reader.new.scripted.keys reader.new.reading.rules) }
+{
+    let paths = match reader.open_include(alloc, file, line, behind) {
+        Ok(paths) => paths,
+        Err(fault) => return Err(fault),
+    };
+    for path in paths.as_slice() {
+        match included(reader, alloc, texts, left, file, line, path) {
+            Ok(()) => {}
+            Err(fault) => return Err(fault),
+        }
+    }
+    Ok(())
+}
+
+/// Reads the lines of a makefile behind the macros of the command line. Takes time linear in the texts, in the values of the
+/// macros that each line reaches, and in what the lines expand to.
+pub(crate) fn read_all<X: Texts>(
+    alloc: Global,
+    hashing: RandomState,
+    file: &Rc<Path>,
+    texts: &X,
+    text: &[u8],
+    overrides: &[Macro],
+) -> Result<Reading, Or<MakeError>>
+    ensures { Gives result
+        (lines_read (X.texts texts.now) file.now.value text.now overrides.now) }
+{
+    let mut reader = Reader::new(alloc, hashing)?;
+    match reader.fix_all(alloc, file, overrides) {
+        Ok(()) => {}
+        Err(fault) => return Err(fault),
+    }
+    match read_lines(&mut reader, alloc, texts, DEPTH_LIMIT, file, text) {
+        Ok(()) => Ok(reader.into_reading()),
+        Err(fault) => Err(fault),
+    }
+}

@@ -1,0 +1,149 @@
+// What is tested of each macro behind the last line: whether its expansion is too long, or meets itself.
+
+ghost use Rattle.std.specs.Prelude.{◌≡◌, ◌-◌, [], IfOk, length};
+ghost use Rattle.make_text.specs.Grammar.{macros_fault};
+ghost use Rattle.make_text.specs.MacroChecks.{AtEndUnless, RunsTo, Finds, macro_fault_of};
+ghost use Rattle.make_text.specs.Macros.{Expansion};
+ghost use Rattle.make_text.specs.Runs.{HasNamesApart};
+ghost use Rattle.make_text.specs.Statements.{macros_of, expansion_fault};
+ghost use Rattle.make_text.specs.Steps.{automatic_of, IsAtEnd, IsRunning, IsSomeRun};
+
+use crate::expansions::{Automatic, EXPANSION_LIMIT, Expanding, Step};
+use crate::macros::MacroTable;
+use crate::readings::fault_at;
+use cc_names::memory::{NoMemory, Or};
+use cc_names::refusals::{MakeCause, MakeError};
+use std::alloc::Global;
+
+/// The most bytes of results behind which they are forgotten, so that memory stays bounded; no result is longer than a line.
+const RESULTS_LIMIT: usize = 16_777_216;
+
+/// The fault of an expansion of so many bytes, which a loop may have ended.
+fn fault_of(len: usize, loops: bool) -> Option<MakeCause>
+    ensures { (total : Expansion)
+        → length total.bytes ≡ len
+        → total.loops ≡ loops
+        → result ≡ expansion_fault total }
+{
+    if len > EXPANSION_LIMIT {
+        return Some(MakeCause::LineTooLong);
+    }
+    if loops {
+        Some(MakeCause::MacroLoop)
+    } else {
+        None
+    }
+}
+
+impl<'a> Expanding<'a> {
+    /// How many bytes were written behind so many.
+    fn written_behind(&self, start: usize) -> usize
+        ensures { result ≡ length self.now.written.items - start }
+    {
+        self.written.len().saturating_sub(start)
+    }
+
+    /// Goes on to the end of a macro, which was begun behind so many bytes, and tells its fault.
+    fn run(
+        &mut self,
+        alloc: Global,
+        macros: &'a MacroTable,
+        automatic: &Automatic<'a>,
+        start: usize,
+    ) -> Result<Option<MakeCause>, NoMemory>
+        requires apart { HasNamesApart (macros_of macros.now) }
+        requires runs { IsSomeRun (macros_of macros.now) (automatic_of automatic.now) self.old }
+        ensures { IfOk result
+            (λ cause.
+            (total : Expansion)
+            → IsRunning (macros_of macros.now) (automatic_of automatic.now) total [] self.old
+            → RunsTo (macros_of macros.now) (automatic_of automatic.now) total start cause
+            self.new) }
+    {
+        'steps: loop {
+            match self.step(alloc, macros, automatic)? {
+                Step::Goes => {}
+                Step::Ends => return Ok(fault_of(self.written_behind(start), false)),
+                Step::Loops => return Ok(fault_of(self.written_behind(start), true)),
+            }
+            if self.written_behind(start) > EXPANSION_LIMIT {
+                return Ok(Some(MakeCause::LineTooLong));
+            }
+        }
+    }
+
+    /// Expands a reference to the macro of this name behind what was written, and tells its fault. Takes time linear in the
+    /// values of the macros that were not expanded yet, and in what it expands to.
+    fn test(
+        &mut self,
+        alloc: Global,
+        macros: &'a MacroTable,
+        automatic: &Automatic<'a>,
+        name: &[u8],
+    ) -> Result<Option<MakeCause>, NoMemory>
+        requires apart { HasNamesApart (macros_of macros.now) }
+        requires ended { IsAtEnd (macros_of macros.now) (automatic_of automatic.now) self.old }
+        ensures fault { IfOk result
+            (λ cause.
+            cause
+            ≡ macro_fault_of (macros_of macros.now) (automatic_of automatic.now) name.now) }
+        ensures ended { IfOk result
+            (λ cause.
+            AtEndUnless (macros_of macros.now) (automatic_of automatic.now) cause self.new) }
+    {
+        let start = self.written.len();
+        match self.refer(alloc, macros, name)? {
+            Step::Loops => Ok(fault_of(self.written_behind(start), true)),
+            _ => self.run(alloc, macros, automatic, start),
+        }
+    }
+}
+
+/// An expansion at its end, without its results where they are too many.
+fn renewed<'a>(
+    alloc: Global,
+    macros: &'a MacroTable,
+    automatic: &Automatic<'a>,
+    expanding: Expanding<'a>,
+) -> Result<Expanding<'a>, NoMemory>
+    requires { IsAtEnd (macros_of macros.now) (automatic_of automatic.now) expanding }
+    ensures { IfOk result
+        (λ expanding. IsAtEnd (macros_of macros.now) (automatic_of automatic.now) expanding) }
+{
+    if expanding.written.len() <= RESULTS_LIMIT {
+        return Ok(expanding);
+    }
+    Ok(begun(alloc, macros, automatic)?)
+}
+
+/// An expansion at its end, of which nothing was done.
+fn begun<'a>(
+    alloc: Global,
+    macros: &'a MacroTable,
+    _automatic: &Automatic<'a>,
+) -> Result<Expanding<'a>, NoMemory>
+    ensures { IfOk result
+        (λ expanding. IsAtEnd (macros_of macros.now) (automatic_of _automatic.now) expanding) }
+{
+    Ok(Expanding::of(alloc, macros.len(), &[])?)
+}
+
+/// Tests each macro, in the order of first definition. Takes time linear in their values and in what they expand to.
+pub(crate) fn test_macros(alloc: Global, macros: &MacroTable) -> Result<(), Or<MakeError>>
+    ensures { Finds result (macros_fault (macros_of macros.now) macros.now) }
+{
+    let automatic = Automatic {
+        target: &[],
+        first: None,
+        stem: &[],
+    };
+    let mut expanding = begun(alloc, macros, &automatic)?;
+    for index in 0..macros.len() {
+        expanding = renewed(alloc, macros, &automatic, expanding)?;
+        let (name, file, line) = macros.definition(index);
+        if let Some(cause) = expanding.test(alloc, macros, &automatic, name)? {
+            return Err(fault_at(alloc, file, line, cause));
+        }
+    }
+    Ok(())
+}

@@ -1,0 +1,200 @@
+// The suffix rules among the rules of a makefile.
+
+ghost use Rattle.std.specs.Prelude.{◌≡◌, ◌++◌, [], IfOk, OnOk, flat_map, option_copied, unwrap_or};
+ghost use Rattle.std.specs.List.{list_any};
+ghost use Rattle.std.specs.Str.{bytes_eq};
+ghost use Rattle.make_text.specs.Contents.{groups_of, is_pair_of, is_suffix_rule, suffix_rule_of, suffix_rules_of};
+ghost use Rattle.make_text.specs.SuffixRules.{is_pair_from, is_in_group, is_suffix_target, behind_front, suffix_rules_from};
+ghost use Rattle.make_text.specs.Macros.{is_among};
+
+use crate::joining::{JoinedRule, is_among};
+use crate::readings::RuleLine;
+use crate::rules::{MakeRule, SuffixRule};
+use cc_names::memory::NoMemory;
+use cc_names::paths::Path;
+use cc_names::texts::Text;
+use std::alloc::Global;
+
+/// What stands behind a front, where bytes begin with it.
+fn cut_front<'a>(bytes: &'a [u8], front: &[u8]) -> Option<&'a [u8]>
+    ensures { option_copied result ≡ behind_front bytes.now front.now }
+{
+    if bytes.len() < front.len() {
+        return None;
+    }
+    let (start, rest) = bytes.split_at(front.len());
+    if start == front { Some(rest) } else { None }
+}
+
+/// Whether bytes are two others put together.
+fn is_pair(bytes: &[u8], from: &[u8], to: &[u8]) -> bool
+    ensures { result ≡ bytes_eq bytes.now (from.now ++ to.now) }
+{
+    match cut_front(bytes, from) {
+        Some(rest) => rest == to,
+        None => false,
+    }
+}
+
+/// Whether bytes are a suffix and then another, by the first.
+fn is_pair_from(suffixes: &[Path], from: &Path, bytes: &[u8]) -> bool
+    ensures { result ≡ is_pair_from suffixes.now bytes.now from.now }
+{
+    for to in suffixes {
+        if is_pair(bytes, from.as_bytes(), to.as_bytes()) {
+            return true;
+        }
+    }
+    false
+}
+
+/// The same, where the second is looked for only if bytes begin with the first.
+fn begins_and_ends(suffixes: &[Path], from: &Path, bytes: &[u8]) -> bool
+    ensures { result ≡ is_pair_from suffixes.now bytes.now from.now }
+{
+    match cut_front(bytes, from.as_bytes()) {
+        Some(_) => is_pair_from(suffixes, from, bytes),
+        None => false,
+    }
+}
+
+/// Whether bytes are two suffixes put together.
+fn is_pair_of(suffixes: &[Path], bytes: &[u8]) -> bool
+    ensures { result ≡ is_pair_of suffixes.now bytes.now }
+{
+    for from in suffixes {
+        if begins_and_ends(suffixes, from, bytes) {
+            return true;
+        }
+    }
+    false
+}
+
+/// Whether a target is of a group that has a script.
+fn is_in_group(lines: &[RuleLine], target: &Path) -> bool
+    ensures { result ≡ is_in_group (groups_of lines.now) target.now }
+{
+    for line in lines {
+        if line.is_made_together() && is_among(line.targets(), target) {
+            return true;
+        }
+    }
+    false
+}
+
+/// Whether a target of a rule is two suffixes put together, and of no group.
+fn has_suffix_target(suffixes: &[Path], lines: &[RuleLine], targets: &[Path]) -> bool
+    ensures { result ≡ list_any (is_suffix_target suffixes.now (groups_of lines.now)) targets.now }
+{
+    for target in targets {
+        if is_pair_of(suffixes, target.as_bytes()) && !is_in_group(lines, target) {
+            return true;
+        }
+    }
+    false
+}
+
+/// Whether a rule is a suffix rule. Takes time linear in the suffixes, and in the rule lines where it has such a target.
+pub(crate) fn is_suffix_rule(suffixes: &[Path], lines: &[RuleLine], rule: &JoinedRule) -> bool
+    ensures { result ≡ is_suffix_rule suffixes.now (groups_of lines.now) rule.now }
+{
+    rule.has_only_script() && has_suffix_target(suffixes, lines, rule.targets())
+}
+
+/// Whether two suffixes put together are this target.
+fn are_target(target: &Path, from: &Path, to: &Path) -> bool
+    ensures { result ≡ bytes_eq (from.now ++ to.now) target.now }
+{
+    is_pair(target.as_bytes(), from.as_bytes(), to.as_bytes())
+}
+
+/// Whether a rule makes two suffixes put together.
+fn makes_pair(rule: &MakeRule, from: &Path, to: &Path) -> bool
+    ensures { result ≡ is_among rule.now.targets (from.now ++ to.now) }
+{
+    for target in rule.targets.as_slice() {
+        if are_target(target, from, to) {
+            return true;
+        }
+    }
+    false
+}
+
+/// The suffix rule that makes one suffix from another, by the rule that it is.
+fn suffix_rule(
+    alloc: Global,
+    from: &Path,
+    to: &Path,
+    rule: &MakeRule,
+) -> Result<SuffixRule, NoMemory>
+    ensures { IfOk result
+        (λ made.
+        made
+        ≡ record { from = from.now; to = to.now; script = unwrap_or rule.now.script [] }) }
+{
+    let script: &[u8] = match &rule.script {
+        Some(script) => script.as_bytes(),
+        None => &[],
+    };
+    Ok(SuffixRule {
+        from: Text::from_bytes(alloc, from.as_bytes())?,
+        to: Text::from_bytes(alloc, to.as_bytes())?,
+        script: Text::from_bytes(alloc, script)?,
+    })
+}
+
+/// Puts the suffix rules that make one suffix from another behind others.
+fn put_pair(
+    alloc: Global,
+    made: &mut Vec<SuffixRule>,
+    from: &Path,
+    to: &Path,
+    rules: &[MakeRule],
+) -> Result<(), NoMemory>
+    ensures { OnOk result
+        (made.new.items
+        ≡ made.old.items ++ flat_map (suffix_rule_of from.now to.now) rules.now) }
+{
+    for rule in rules {
+        if makes_pair(rule, from, to) {
+            made.push(suffix_rule(alloc, from, to, rule)?)?;
+        }
+    }
+    Ok(())
+}
+
+/// Puts the suffix rules that begin from a suffix behind others.
+fn put_from(
+    alloc: Global,
+    made: &mut Vec<SuffixRule>,
+    suffixes: &[Path],
+    from: &Path,
+    rules: &[MakeRule],
+) -> Result<(), NoMemory>
+    ensures { OnOk result
+        (made.new.items
+        ≡ made.old.items ++ suffix_rules_from suffixes.now rules.now from.now) }
+{
+    for to in suffixes {
+        put_pair(alloc, made, from, to, rules)?;
+    }
+    Ok(())
+}
+
+/// The suffix rules, in the order in which they are tried, by the rules that they are.
+pub(crate) fn suffix_rules(
+    alloc: Global,
+    suffixes: &[Path],
+    rules: &[MakeRule],
+) -> Result<Vec<SuffixRule>, NoMemory>
+    ensures { IfOk result (λ made. made.items ≡ suffix_rules_of suffixes.now rules.now) }
+{
+    let mut made = Vec::new(alloc);
+    if rules.is_empty() {
+        return Ok(made);
+    }
+    for from in suffixes {
+        put_from(alloc, &mut made, suffixes, from, rules)?;
+    }
+    Ok(made)
+}
