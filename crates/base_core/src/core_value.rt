@@ -25,6 +25,7 @@ pub struct Core<D: Disk> {
     log: Log<D>,
     lanes: Lanes,
     moment: u64,
+    hashing: RandomState,
 }
 
 impl<D: Disk> Model for Core<D> {
@@ -73,6 +74,7 @@ impl<D: Disk> Core<D> {
                 log,
                 lanes: Lanes::none(alloc),
                 moment: 0,
+                hashing,
             }),
             Err(fault) => Err(fault),
         }
@@ -151,6 +153,7 @@ impl<D: Disk> Core<D> {
             log,
             lanes: _,
             moment: _,
+            hashing: _,
         } = self;
         log.into_parts()
     }

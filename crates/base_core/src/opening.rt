@@ -53,12 +53,17 @@ fn next_payload<D: Disk>(alloc: Global, journal: &mut Journal<D>) -> Result<Opti
 }
 
 /// The row that the payload of the next frame spells, where what is carried out so far makes it and it fits the rows before.
-fn next_row(alloc: Global, rows: &FirstRows<'_>, payload: &[u8]) -> Result<Row, OpenCause>
+fn next_row(
+    alloc: Global,
+    hashing: RandomState,
+    rows: &FirstRows<'_>,
+    payload: &[u8],
+) -> Result<Row, OpenCause>
     ensures ok { IfOk result (IsNextRow rows.now payload.now) }
     ensures err { IfErr result (IsNoRow rows.now payload.now) }
 {
     let number = rows.size();
-    match read(alloc, payload) {
+    match read(alloc, hashing, payload) {
         Ok(row) => {
             if is_made(row.deed()) && fits(rows, &row) {
                 Ok(row)
@@ -74,6 +79,7 @@ fn next_row(alloc: Global, rows: &FirstRows<'_>, payload: &[u8]) -> Result<Row, 
 /// The next row of a journal behind those that were read, or None at its end.
 fn read_row<D: Disk>(
     alloc: Global,
+    hashing: RandomState,
     journal: &mut Journal<D>,
     rows: &FirstRows<'_>,
 ) -> Result<Option<Row>, OpenCause>
@@ -92,7 +98,7 @@ fn read_row<D: Disk>(
         Ok(None) => return Ok(None),
         Err(cause) => return Err(cause),
     };
-    match next_row(alloc, rows, payload.as_bytes()) {
+    match next_row(alloc, hashing, rows, payload.as_bytes()) {
         Ok(row) => Ok(Some(row)),
         Err(cause) => Err(cause),
     }
@@ -116,7 +122,7 @@ fn read_rows<D: Disk>(
 {
     let mut rows = Rows::new(alloc, hashing);
     'frames: loop {
-        match read_row(alloc, journal, &rows.all()) {
+        match read_row(alloc, hashing, journal, &rows.all()) {
             Ok(Some(row)) => {
                 if rows.reserve(row.deed()).is_err() {
                     return Err(OpenCause::NoMemory);

@@ -34,7 +34,7 @@ impl<D: Disk> Core<D> {
     {
         let command = self.command(lane);
         let occasion = self.occasion(lane, view_of(command));
-        plan_build(alloc, &self.rows(), command, occasion)
+        plan_build(alloc, self.hashing, &self.rows(), command, occasion)
     }
 
     /// Begins the build that was decided for the next command of its lane. An `Err` changes nothing.

@@ -150,6 +150,7 @@ impl<D: Disk> Core<D> {
     {
         run_unit(
             alloc,
+            self.hashing,
             &self.rows(),
             self.build_at(lane),
             unit,
