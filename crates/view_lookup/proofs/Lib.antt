@@ -2,10 +2,13 @@ pub mod AtIndex
 pub mod Chains
 pub mod Fronts
 pub mod Holdings
-pub mod LastOn
-pub mod Lives
+pub mod Newest
+pub mod Endings
 pub mod MadeDeeds
 pub mod MadeSoFar
+pub mod Parts
 pub mod RowTexts
 pub mod RowsFit
+pub mod SpecRows
 pub mod Standing
+pub mod Standings

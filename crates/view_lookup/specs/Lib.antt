@@ -1,11 +1,13 @@
-pub mod Bearing
+pub mod Covers
+pub mod Effects
+pub mod Ended
 pub mod Indexed
 pub mod Known
-pub mod Lives
+pub mod LookUps
 pub mod Made
 pub mod MarkSteps
 pub mod Marked
-pub mod Numbered
+pub mod NumberKeys
 pub mod Roots
 pub mod Shown
 pub mod Subjects

@@ -38,7 +38,7 @@ with_marks row key (k ∷ keys) rows = with_marks row key keys (put_if (k == key
 -- the rows of a base that bear on something of this key
 abbrev pub marked : RandomState → ℕ → Base → List ℕ
 marked hashing key [] = []
-marked hashing key (row ∷ older) = with_marks (size older) key (keys_of hashing row.deed) (marked hashing key older)
+marked hashing key (row ∷ older) = with_marks (size older) key (keys_of hashing older row.deed) (marked hashing key older)
 
 -- the links are the marks of a base's rows
 pub record IsMarked (hashing : RandomState) (links : List Link) (heads : ℕ → Option ℕ) (b : Base) : Type 0 where

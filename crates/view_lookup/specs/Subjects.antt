@@ -1,56 +1,110 @@
--- What rows bear on. Each deed says once which subjects it bears on; the last row that bears on a subject says what has become of
--- it. Marks, and all that is looked up by them, rest on this alone.
-use Rattle.std.specs.Prelude.{ℕ, Bool, false, ◌&&◌, List, [], ◌∷◌, map, bytes_eq}
+-- What rows bear on. Each deed says once which subjects it bears on; the rows that bear on a subject say what has become of it.
+-- Marks, and all that is looked up by them, rest on this alone.
+use Rattle.std.specs.Prelude.{ℕ, Bool, false, ◌&&◌, ◌==◌, List, [], ◌∷◌, map, bytes_eq}
 use Rattle.std.specs.List.{list_any}
 use Rattle.std.specs.declared.random_state.RandomState.{RandomState}
 use Rattle.cc_names.specs.Keys.{key_at, key_of}
 use Rattle.cc_names.specs.declared.rows.Deed.{Deed}
 use Rattle.cc_names.specs.declared.rows.Deed.TheVariants as deeds
+use Rattle.legal_history.specs.Base.Changes.{targets_of}
+use Rattle.legal_history.specs.Base.Rows.{Base, size}
+use Rattle.view_lookup.specs.NumberKeys.{key_by, key_with}
 use Rattle.view_lookup.specs.declared.subjects.Subject as code
 use Rattle.view_lookup.specs.declared.subjects.Subject.TheVariants as codes
 
--- a view's life, the end of a view's life, a view's private file at a path, and the object that a view holds at a path
+-- A view's life, its config spec, and all that it takes out; a view's private file at a path, and the object that it holds
+-- there; a view's checkout of an element, and the texts that it saves there; the type of a name; an object; and a merge of two
+-- versions of an element.
 pub data Subject : Type 0 where
   Life : List ℕ → Subject
-  End : List ℕ → Subject
+  Spec : List ℕ → Subject
+  Desk : List ℕ → Subject
   File : List ℕ → List ℕ → Subject
   Object : List ℕ → List ℕ → Subject
+  Out : List ℕ → ℕ → Subject
+  Saved : List ℕ → ℕ → Subject
+  Named : List ℕ → Subject
+  Living : ℕ → Subject
+  Merge : ℕ → ℕ → ℕ → Subject
 
--- the subjects on which a deed bears
-abbrev pub subjects : Deed → List Subject
-subjects (deeds.Mkview v) = Life v ∷ []
-subjects (deeds.Rmview v) = Life v ∷ End v ∷ []
-subjects (deeds.Put v path text) = File v path ∷ []
-subjects (deeds.Rm v path) = File v path ∷ []
-subjects (deeds.Publish v targets script entries outputs) = map (Object v) targets
-subjects deed = []
+-- what a deed that makes row n takes out, changes or gives back
+abbrev pub desk_subjects : ℕ → Deed → List Subject
+desk_subjects n (deeds.Mkelem v directory name kind out) = Out v n ∷ Desk v ∷ []
+desk_subjects n (deeds.Checkout v e origin reserved) = Out v e ∷ Desk v ∷ []
+desk_subjects n (deeds.Branch v e origin name out) = Out v e ∷ Desk v ∷ []
+desk_subjects n (deeds.Save v e text) = Saved v e ∷ []
+desk_subjects n (deeds.Checkin v e) = Out v e ∷ []
+desk_subjects n (deeds.Uncheckout v e) = Out v e ∷ []
+desk_subjects n deed = []
+
+-- the subjects on which a deed bears that makes row n, where the object that it names has these targets
+abbrev pub subjects : ℕ → List (List ℕ) → Deed → List Subject
+subjects n targets (deeds.Mkview v) = Life v ∷ []
+subjects n targets (deeds.Rmview v) = Life v ∷ []
+subjects n targets (deeds.Setcs v text) = Spec v ∷ []
+subjects n targets (deeds.Put v path text) = File v path ∷ []
+subjects n targets (deeds.Rm v path) = File v path ∷ []
+subjects n targets (deeds.Mktype kind name) = Named name ∷ []
+subjects n targets (deeds.Publish v own script entries outputs) = Living n ∷ map (Object v) own
+subjects n targets (deeds.Wink v id) = map (Object v) targets
+subjects n targets (deeds.Drop v path) = Object v path ∷ []
+subjects n targets (deeds.Scrub objects) = map Living objects
+subjects n targets (deeds.Arrow e tail head) = Merge e tail head ∷ []
+subjects n targets deed = desk_subjects n deed
+
+-- the targets of the object that a deed names, which an older row made
+abbrev pub named_targets : Base → Deed → List (List ℕ)
+named_targets older (deeds.Wink v id) = targets_of older id
+named_targets older deed = []
+
+-- the subjects on which the next row bears
+abbrev pub borne : Base → Deed → List Subject
+borne older deed = subjects (size older) (named_targets older deed) deed
 
 -- whether two subjects are one
 abbrev pub is_same : Subject → Subject → Bool
 is_same (Life v) (Life w) = bytes_eq w v
-is_same (End v) (End w) = bytes_eq w v
+is_same (Spec v) (Spec w) = bytes_eq w v
+is_same (Desk v) (Desk w) = bytes_eq w v
 is_same (File v path) (File w q) = bytes_eq w v && bytes_eq q path
 is_same (Object v path) (Object w q) = bytes_eq w v && bytes_eq q path
+is_same (Out v e) (Out w f) = bytes_eq w v && (f == e)
+is_same (Saved v e) (Saved w f) = bytes_eq w v && (f == e)
+is_same (Named name) (Named other) = bytes_eq other name
+is_same (Living id) (Living other) = other == id
+is_same (Merge e tail head) (Merge f one two) = (f == e) && (one == tail) && (two == head)
 is_same one two = false
 
 -- The key by which the marks of a subject are found. Subjects that share one are told apart by the rows.
 abbrev pub key : RandomState → Subject → ℕ
 key hashing (Life v) = key_of hashing 0 v
-key hashing (End v) = key_of hashing 1 v
-key hashing (File v path) = key_at hashing 2 v path
-key hashing (Object v path) = key_at hashing 3 v path
+key hashing (Spec v) = key_of hashing 1 v
+key hashing (Desk v) = key_of hashing 2 v
+key hashing (File v path) = key_at hashing 3 v path
+key hashing (Object v path) = key_at hashing 4 v path
+key hashing (Out v e) = key_with hashing 5 e v
+key hashing (Saved v e) = key_with hashing 6 e v
+key hashing (Named name) = key_of hashing 7 name
+key hashing (Living id) = key_by hashing 8 (id ∷ [])
+key hashing (Merge e tail head) = key_by hashing 9 (e ∷ tail ∷ head ∷ [])
 
--- whether a deed bears on a subject
-abbrev pub bears : Subject → Deed → Bool
-bears subject deed = list_any (is_same subject) (subjects deed)
+-- whether the next row bears on a subject
+abbrev pub bears : Subject → Base → Deed → Bool
+bears subject older deed = list_any (is_same subject) (borne older deed)
 
--- the keys of the subjects on which a deed bears
-abbrev pub keys_of : RandomState → Deed → List ℕ
-keys_of hashing deed = map (key hashing) (subjects deed)
+-- the keys of the subjects on which the next row bears
+abbrev pub keys_of : RandomState → Base → Deed → List ℕ
+keys_of hashing older deed = map (key hashing) (borne older deed)
 
 -- a subject without where its names lie in memory
 abbrev pub plain : code.Subject → Subject
 plain (codes.Life v) = Life v.now
-plain (codes.End v) = End v.now
+plain (codes.Spec v) = Spec v.now
+plain (codes.Desk v) = Desk v.now
 plain (codes.File v path) = File v.now path.now
 plain (codes.Object v path) = Object v.now path.now
+plain (codes.Out v e) = Out v.now e
+plain (codes.Saved v e) = Saved v.now e
+plain (codes.Named name) = Named name.now
+plain (codes.Living id) = Living id
+plain (codes.Merge e tail head) = Merge e tail head

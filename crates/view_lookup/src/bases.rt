@@ -1,18 +1,18 @@
 // The rows of a base, with the marks by which those that bear on a subject are found.
 
 ghost use Rattle.std.specs.Prelude.{◌≡◌, ◌≤◌, ◌∷◌, [], length, reverse, true, OnOk};
-ghost use Rattle.std.specs.Option.{option_copied, option_map};
+ghost use Rattle.std.specs.Option.{option_copied};
 ghost use Rattle.carried_out.specs.CarriedOut.{is_made};
 ghost use Rattle.legal_history.specs.Base.Rows.{first_rows, row_at, size};
 ghost use Rattle.legal_history.specs.Base.Fits.{fits, is_base, row_limit};
-ghost use Rattle.view_lookup.specs.Bearing.{deed_on, last_on};
 ghost use Rattle.view_lookup.specs.Known.{are_made};
-ghost use Rattle.view_lookup.specs.Numbered.{numbered};
+ghost use Rattle.view_lookup.specs.LookUps.{last_of, newest, oldest};
 ghost use Rattle.view_lookup.specs.Shown.{HasRoom};
-ghost use Rattle.view_lookup.specs.Subjects.{plain};
 
+use crate::look_ups::{LookUp, left_by, set_at, told_at};
 use crate::marks::{Link, mark_all};
-use crate::subjects::{Subject, count_subjects};
+use crate::numbered::row_of;
+use crate::subjects::{count_subjects, named_targets};
 use cc_names::memory::NoMemory;
 use cc_names::rows::{Deed, Row};
 use std::alloc::Global;
@@ -55,13 +55,15 @@ impl Rows {
         }
     }
 
-    /// Makes room for one more row of this deed. Takes time linear in the targets of an object; a list that is full is
+    /// Makes room for one more row of this deed. Takes time linear in what the deed names; a list that is full is
     /// doubled, in time linear in it.
     pub fn reserve(&mut self, deed: &Deed) -> Result<(), NoMemory>
         ensures same { self.new.base ≡ self.old.base }
         ensures room { OnOk result (HasRoom self.new deed.now) }
     {
-        let count = count_subjects(deed).max(1);
+        let number = self.rows.len() as u64 + 1;
+        let targets = named_targets(self.rows.as_slice(), deed);
+        let count = count_subjects(number, targets, deed).max(1);
         self.rows.reserve(count)?;
         self.links.reserve(count)?;
         self.newest.reserve(count)?;
@@ -76,11 +78,13 @@ impl Rows {
         ensures { self.new.base ≡ row ∷ self.old.base }
     {
         let number = self.rows.len() as u64 + 1;
+        let targets = named_targets(self.rows.as_slice(), row.deed());
         mark_all(
             self.hashing,
             &mut self.links,
             &mut self.newest,
             number,
+            targets,
             row.deed(),
         );
         self.rows.push(row).unwrap();
@@ -136,32 +140,11 @@ impl<'a> Model for FirstRows<'a> {
     ghost invariant = { λ first. IsFront first.count first.base.now.base };
 }
 
-/// A row with its number, by its deed.
-#[derive(Clone, Copy)]
-pub(crate) struct Found<'a> {
-    pub(crate) number: u64,
-    pub(crate) deed: &'a Deed,
-}
-
 /// The row of this number. Takes constant time.
 pub fn row_at<'a>(rows: &FirstRows<'a>, number: u64) -> Option<&'a Row>
     ensures { option_copied result ≡ row_at rows.now number }
 {
-    let index = number.checked_sub(1)?;
-    rows.as_slice().get(index as usize)
-}
-
-/// The deed of the row of a number, where it bears on the subject.
-fn deed_on<'a>(rows: &FirstRows<'a>, number: u64, subject: Subject<'_>) -> Option<&'a Deed>
-    ensures { option_copied result ≡ deed_on (plain subject.entry) rows.now number }
-{
-    let row = row_at(rows, number)?;
-    let deed = row.deed();
-    if subject.is_borne_on_by(deed) {
-        Some(deed)
-    } else {
-        None
-    }
+    row_of(rows.as_slice(), number)
 }
 
 /// The first rows of a base, `count` of them with row 0. Takes constant time.
@@ -200,26 +183,48 @@ impl<'a> FirstRows<'a> {
         &base.rows.as_slice()[..self.count]
     }
 
-    /// The last of them that bears on the subject. Takes time linear in the subject's names and in the rows with its key that
-    /// come behind the one that is found, of which there are none where these are all rows, but for subjects that share a
-    /// key.
-    pub(crate) fn last_on(&self, subject: Subject<'_>) -> Option<Found<'a>>
-        ensures { option_map numbered result ≡ last_on (plain subject.entry) self.now }
+    /// The newest of them that does something to a thing, and what it leaves. Takes time linear in the names of its subject and
+    /// in the rows with its key that come behind the one that is found, of which there are none where these are all rows, but
+    /// for subjects that share a key.
+    pub(crate) fn newest<L: LookUp>(&self, look: &L) -> Option<(u64, Option<L::Item>)>
+        ensures { result ≡ newest (L.effect look.now) self.now }
     {
         let base = self.base;
         let mut links = base.links.as_slice();
-        let mut next = base.newest.get(&subject.key(base.hashing)).copied();
+        let mut next = base.newest.get(&look.subject().key(base.hashing)).copied();
         while let Some(place) = next {
             let link = &links[place];
-            if let Some(deed) = deed_on(self, link.row, subject) {
-                return Some(Found {
-                    number: link.row,
-                    deed,
-                });
+            if let Some(told) = told_at(self, link.row, look) {
+                return Some(told);
             }
             next = link.older;
             links = &links[..place];
         }
         None
+    }
+
+    /// What the last row that does something to a thing leaves of it. Takes the time of `newest`.
+    pub(crate) fn last<L: LookUp>(&self, look: &L) -> Option<L::Item>
+        ensures { result ≡ last_of (L.effect look.now) self.now }
+    {
+        left_by(self.newest(look))
+    }
+
+    /// What the oldest of them sets a thing to that sets it. Takes time linear in the names of its subject and in the rows with
+    /// its key.
+    pub(crate) fn oldest<L: LookUp>(&self, look: &L) -> Option<L::Item>
+        ensures { result ≡ oldest (L.effect look.now) self.now }
+    {
+        let base = self.base;
+        let mut links = base.links.as_slice();
+        let mut next = base.newest.get(&look.subject().key(base.hashing)).copied();
+        let mut oldest = None;
+        while let Some(place) = next {
+            let link = &links[place];
+            oldest = set_at(self, link.row, look, oldest);
+            next = link.older;
+            links = &links[..place];
+        }
+        oldest
     }
 }

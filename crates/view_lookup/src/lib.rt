@@ -1,5 +1,5 @@
-// The base as a type, and what views see in it: which views there are, their private files, the objects that they hold, and
-// what stands at a path.
+// The base as a type, and what views see in it: which views there are, their private files, their checkouts, their config
+// specs, the objects that they hold, and what stands at a path.
 //
 // What it is for: the look-ups on which every decision on a command and every build stand.
 //
@@ -12,17 +12,26 @@
 #![tactic(auto)]
 
 mod bases;
+mod desks;
 mod fitting;
+mod look_ups;
 mod marks;
+mod number_keys;
+mod numbered;
 mod objects;
 mod seen;
 mod subjects;
 mod texts;
+mod types;
+mod view_specs;
 mod views;
 
 pub use bases::{FirstRows, Rows, first_rows, row_at};
+pub use desks::{Checkout, checked_out, making, oldest_out};
 pub use fitting::{ROW_LIMIT, fits};
-pub use objects::held;
+pub use objects::{held, live};
 pub use seen::{at, file_at, is_directory, kind_of};
 pub use texts::{text_at, text_of};
-pub use views::{oldest_out, private, view_row};
+pub use types::kind_of_type;
+pub use view_specs::spec_text;
+pub use views::{private, view_row};

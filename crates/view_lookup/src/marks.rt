@@ -1,11 +1,12 @@
 // The marks that rows leave for the keys of what they bear on: links, each of which names the next older one of its key.
 
-ghost use Rattle.std.specs.Prelude.{◌≡◌, ◌+◌, ◌<◌, ◌≤◌, nat_eq, length, vec_len, vec_capacity};
+ghost use Rattle.std.specs.Prelude.{◌≡◌, ◌+◌, ◌<◌, ◌≤◌, nat_eq, length, map, vec_len, vec_capacity};
 ghost use Rattle.std.specs.HashMap.{get, spare};
 ghost use Rattle.view_lookup.specs.MarkSteps.{Marks, MarksAll};
-ghost use Rattle.view_lookup.specs.Subjects.{keys_of, subjects};
+ghost use Rattle.view_lookup.specs.Subjects.{key, subjects};
 
 use crate::subjects::subject_at;
+use cc_names::paths::Path;
 use cc_names::rows::Deed;
 use std::collections::HashMap;
 use std::hash::RandomState;
@@ -36,21 +37,24 @@ fn mark(links: &mut Vec<Link>, newest: &mut HashMap<u64, usize>, row: u64, key: 
     }
 }
 
-/// Marks a row for each subject on which its deed bears. Takes time linear in the names that the deed has, and no memory.
+/// Marks a row for each subject on which its deed bears, where the object that it names has these targets. Takes time linear in
+/// the names that the deed has and in the targets, and no memory.
 pub(crate) fn mark_all(
     hashing: RandomState,
     links: &mut Vec<Link>,
     newest: &mut HashMap<u64, usize>,
     row: u64,
+    targets: &[Path],
     deed: &Deed,
 )
-    requires links { vec_len links.old + length (subjects deed.now) ≤ vec_capacity links.old }
-    requires newest { length (subjects deed.now) ≤ spare newest.old }
-    ensures { MarksAll row (keys_of hashing deed.now) links.old.items (get nat_eq newest.old)
-        links.new.items (get nat_eq newest.new) }
+    requires links { vec_len links.old + length (subjects row targets.now deed.now)
+        ≤ vec_capacity links.old }
+    requires newest { length (subjects row targets.now deed.now) ≤ spare newest.old }
+    ensures { MarksAll row (map (key hashing) (subjects row targets.now deed.now)) links.old.items
+        (get nat_eq newest.old) links.new.items (get nat_eq newest.new) }
 {
     let mut index = 0;
-    while let Some(subject) = subject_at(deed, index) {
+    while let Some(subject) = subject_at(row, targets, deed, index) {
         mark(links, newest, row, subject.key(hashing));
         index += 1;
     }

@@ -1,15 +1,22 @@
-// The objects that a view holds.
+// The objects that a view holds, and which objects there are.
 
-ghost use Rattle.std.specs.Prelude.{◌≡◌};
+ghost use Rattle.std.specs.Prelude.{◌≡◌, ◌==◌, option_map};
+ghost use Rattle.std.specs.List.{list_any};
 ghost use Rattle.cc_names.specs.References.{held_at};
-ghost use Rattle.legal_history.specs.Base.Changes.{held};
+ghost use Rattle.legal_history.specs.Base.Changes.{held, live};
+ghost use Rattle.view_lookup.specs.Effects.{gone_effect};
+ghost use Rattle.view_lookup.specs.Ended.{number_of};
+ghost use Rattle.view_lookup.specs.LookUps.{newest};
 ghost use Rattle.view_lookup.specs.Made.{is_target};
 
 use crate::bases::FirstRows;
+use crate::look_ups::{Does, LookUp, only_if, within};
+use crate::numbered::targets_of;
 use crate::subjects::Subject;
-use crate::views::is_within;
+use crate::views::{same_name, same_place};
 use cc_names::names::Name;
 use cc_names::paths::Path;
+use cc_names::rows::Deed;
 
 pub(crate) fn is_target(path: &Path, targets: &[Path]) -> bool
     ensures { result ≡ is_target path.now targets.now }
@@ -19,16 +26,143 @@ pub(crate) fn is_target(path: &Path, targets: &[Path]) -> bool
         .any(|target| target.as_bytes() == path.as_bytes())
 }
 
-/// The object that the view holds at the path: so far that of its last publish with that target.
-/// Takes time linear in the two names, and in the rows with their key that come behind the one that is found.
+/// Where what a view holds ends.
+#[derive(Clone, Copy)]
+struct GoneOf<'a> {
+    view: &'a Name,
+}
+
+impl LookUp for GoneOf<'_> {
+    type Item = u64;
+
+    ghost use Rattle.view_lookup.specs.Covers.{gone_covered};
+    ghost use Rattle.view_lookup.specs.Effects.{gone_effect};
+    ghost use Rattle.view_lookup.specs.Subjects as model;
+
+    ghost effect = { λ it. gone_effect it.view.now };
+
+    ghost about = { λ it. model.Life it.view.now };
+
+    fn effect(&self, _older: &FirstRows<'_>, deed: &Deed) -> Does<u64> {
+        match deed {
+            Deed::Rmview { view } => only_if(same_name(self.view, view), Does::Ends),
+            _ => Does::Keeps,
+        }
+    }
+
+    fn subject(&self) -> Subject<'_> {
+        Subject::Life(self.view)
+    }
+
+    ghost covered = { λ it. gone_covered it.view.now };
+}
+
+/// The object that a view holds at a path, unless the view is gone.
+#[derive(Clone, Copy)]
+struct ObjectOf<'a> {
+    view: &'a Name,
+    path: &'a Path,
+}
+
+impl LookUp for ObjectOf<'_> {
+    type Item = u64;
+
+    ghost use Rattle.view_lookup.specs.Covers.{object_covered};
+    ghost use Rattle.view_lookup.specs.Effects.{object_effect};
+    ghost use Rattle.view_lookup.specs.Subjects as model;
+
+    ghost effect = { λ it. object_effect it.view.now it.path.now };
+
+    ghost about = { λ it. model.Object it.view.now it.path.now };
+
+    fn effect(&self, older: &FirstRows<'_>, deed: &Deed) -> Does<u64> {
+        match deed {
+            Deed::Publish { view, targets, .. } => only_if(
+                same_name(self.view, view) && is_target(self.path, targets.as_slice()),
+                Does::Sets(older.size()),
+            ),
+            Deed::Wink { view, object } => only_if(
+                same_name(self.view, view)
+                    && is_target(self.path, targets_of(older.as_slice(), *object)),
+                Does::Sets(*object),
+            ),
+            Deed::Drop { view, path } => {
+                only_if(same_place(self.view, self.path, view, path), Does::Ends)
+            }
+            _ => Does::Keeps,
+        }
+    }
+
+    fn subject(&self) -> Subject<'_> {
+        Subject::Object(self.view, self.path)
+    }
+
+    ghost covered = { λ it. object_covered it.view.now it.path.now };
+}
+
+/// An object, from its publish until a scrub takes it.
+#[derive(Clone, Copy)]
+struct LivingOf {
+    object: u64,
+}
+
+impl LookUp for LivingOf {
+    type Item = u64;
+
+    ghost use Rattle.view_lookup.specs.Covers.{living_covered};
+    ghost use Rattle.view_lookup.specs.Effects.{living_effect};
+    ghost use Rattle.view_lookup.specs.Subjects as model;
+
+    ghost effect = { λ it. living_effect it.object };
+
+    ghost about = { λ it. model.Living it.object };
+
+    fn effect(&self, older: &FirstRows<'_>, deed: &Deed) -> Does<u64> {
+        match deed {
+            Deed::Publish { .. } => {
+                let number = older.size();
+                only_if(number == self.object, Does::Sets(number))
+            }
+            Deed::Scrub { objects } => {
+                only_if(is_among(self.object, objects.as_slice()), Does::Ends)
+            }
+            _ => Does::Keeps,
+        }
+    }
+
+    fn subject(&self) -> Subject<'_> {
+        Subject::Living(self.object)
+    }
+
+    ghost covered = { λ it. living_covered it.object };
+}
+
+fn is_among(object: u64, objects: &[u64]) -> bool
+    ensures { result ≡ list_any (λ other. other == object) objects.now }
+{
+    objects.iter().any(|other| *other == object)
+}
+
+/// The last row with which the view ended.
+fn last_gone(rows: &FirstRows<'_>, view: &Name) -> Option<u64>
+    ensures { result ≡ option_map number_of (newest (gone_effect view.now) rows.now) }
+{
+    let (number, _) = rows.newest(&GoneOf { view })?;
+    Some(number)
+}
+
+/// The object that the view holds at the path. Takes time linear in the two names, in the targets of the objects that are looked
+/// at, and in the rows with their key that come behind the one that is found.
 pub fn held(rows: &FirstRows<'_>, view: &Name, path: &Path) -> Option<u64>
     ensures { result ≡ held_at (held rows.now) view.now path.now }
 {
-    rows.are_made();
-    let found = rows.last_on(Subject::Object(view, path))?;
-    if is_within(rows.last_on(Subject::End(view)), found.number) {
-        Some(found.number)
-    } else {
-        None
-    }
+    within(last_gone(rows, view), rows.newest(&ObjectOf { view, path }))
+}
+
+/// The object's row, where it is live: from its publish until a scrub takes it. Takes time linear in the objects of the scrub, and
+/// in the rows with its key that come behind the one that is found.
+pub fn live(rows: &FirstRows<'_>, object: u64) -> Option<u64>
+    ensures { result ≡ live rows.now object }
+{
+    rows.last(&LivingOf { object })
 }

@@ -1,26 +1,40 @@
 // What rows bear on, and the keys by which the rows are found.
 
-ghost use Rattle.std.specs.Prelude.{◌≡◌, ◌<◌, ◌^◌, ◌∷◌, [], IfSome, length, map, option_map, bytes_eq, ◌&&◌};
+ghost use Rattle.std.specs.Prelude.{◌≡◌, ◌<◌, ◌≤◌, ◌^◌, ◌∷◌, [], IfSome, length, map, option_map, reverse};
 ghost use Rattle.std.specs.List.{slice_get};
 ghost use Rattle.view_lookup.specs.Subjects as model;
 
+use crate::number_keys::{key_by_one, key_by_three, key_with};
+use crate::numbered::targets_of;
 use cc_names::keys::{key_at, key_of};
 use cc_names::names::Name;
 use cc_names::paths::Path;
-use cc_names::rows::Deed;
+use cc_names::rows::{Deed, Row};
 use std::hash::RandomState;
 
-/// Something on which rows bear: the last such row says what has become of it.
+/// Something on which rows bear: they say what has become of it.
 #[derive(Clone, Copy)]
 pub(crate) enum Subject<'a> {
     /// A view's life.
     Life(&'a Name),
-    /// The end of a view's life.
-    End(&'a Name),
+    /// A view's config spec.
+    Spec(&'a Name),
+    /// All that a view takes out.
+    Desk(&'a Name),
     /// A view's private file at a path.
     File(&'a Name, &'a Path),
     /// The object that a view holds at a path.
     Object(&'a Name, &'a Path),
+    /// A view's checkout of an element.
+    Out(&'a Name, u64),
+    /// The texts that a view saves in its checkout of an element.
+    Saved(&'a Name, u64),
+    /// The type of a name.
+    Named(&'a Name),
+    /// An object.
+    Living(u64),
+    /// A merge into a version of an element from another one: the element, that one, and the version.
+    Merge(u64, u64, u64),
 }
 
 fn one<'a>(first: Subject<'a>, index: usize) -> Option<Subject<'a>>
@@ -43,7 +57,7 @@ fn two<'a>(first: Subject<'a>, second: Subject<'a>, index: usize) -> Option<Subj
     }
 }
 
-/// The object that a view holds at one of its targets.
+/// The object that a view holds at one of these targets.
 fn object_at<'a>(view: &'a Name, targets: &'a [Path], index: usize) -> Option<Subject<'a>>
     ensures subject { option_map model.plain result
         ≡ slice_get (map (model.Object view.now) targets.now) index }
@@ -53,42 +67,109 @@ fn object_at<'a>(view: &'a Name, targets: &'a [Path], index: usize) -> Option<Su
     Some(Subject::Object(view, target))
 }
 
-/// One of the subjects on which a deed bears, in their order. Takes constant time.
-pub(crate) fn subject_at(deed: &Deed, index: usize) -> Option<Subject<'_>>
-    ensures subject { option_map model.plain result ≡ slice_get (model.subjects deed.now) index }
+/// The object that a row makes, and what the view holds at its targets from then on.
+fn made_at<'a>(
+    number: u64,
+    view: &'a Name,
+    targets: &'a [Path],
+    index: usize,
+) -> Option<Subject<'a>>
+    ensures subject { option_map model.plain result
+        ≡ slice_get (model.Living number ∷ map (model.Object view.now) targets.now) index }
+    ensures within { IfSome result (λ _. index ≤ 2 ^ 63) }
+{
+    match index.checked_sub(1) {
+        None => Some(Subject::Living(number)),
+        Some(behind) => object_at(view, targets, behind),
+    }
+}
+
+/// One of these objects.
+fn living_at<'a>(objects: &[u64], index: usize) -> Option<Subject<'a>>
+    ensures subject { option_map model.plain result
+        ≡ slice_get (map model.Living objects.now) index }
     ensures within { IfSome result (λ _. index < 2 ^ 63) }
 {
+    let object = objects.get(index)?;
+    Some(Subject::Living(*object))
+}
+
+/// The targets of the object that a deed names, among the rows from row 1 on. Takes constant time.
+pub(crate) fn named_targets<'a>(rows: &'a [Row], deed: &Deed) -> &'a [Path]
+    ensures { result.now ≡ model.named_targets (reverse rows.now) deed.now }
+{
     match deed {
-        Deed::Mkview { view } => one(Subject::Life(view), index),
-        Deed::Rmview { view } => two(Subject::Life(view), Subject::End(view), index),
-        Deed::Put { view, path, .. } => one(Subject::File(view, path), index),
-        Deed::Rm { view, path } => one(Subject::File(view, path), index),
-        Deed::Publish { view, targets, .. } => object_at(view, targets.as_slice(), index),
+        Deed::Wink { object, .. } => targets_of(rows, *object),
+        _ => &[],
+    }
+}
+
+/// One of the things that a deed takes out, changes or gives back that makes the row of a number.
+fn desk_subject_at<'a>(number: u64, deed: &'a Deed, index: usize) -> Option<Subject<'a>>
+    ensures subject { option_map model.plain result
+        ≡ slice_get (model.desk_subjects number deed.now) index }
+    ensures within { IfSome result (λ _. index < 2 ^ 32) }
+{
+    match deed {
+        Deed::Mkelem { view, .. } => two(Subject::Out(view, number), Subject::Desk(view), index),
+        Deed::Checkout { view, element, .. } => {
+            two(Subject::Out(view, *element), Subject::Desk(view), index)
+        }
+        Deed::Branch { view, element, .. } => {
+            two(Subject::Out(view, *element), Subject::Desk(view), index)
+        }
+        Deed::Save { view, element, .. } => one(Subject::Saved(view, *element), index),
+        Deed::Checkin { view, element } => one(Subject::Out(view, *element), index),
+        Deed::Uncheckout { view, element } => one(Subject::Out(view, *element), index),
         _ => None,
     }
 }
 
-/// How many subjects a deed bears on.
-pub(crate) fn count_subjects(deed: &Deed) -> usize
-    ensures { result ≡ length (model.subjects deed.now) }
+/// One of the subjects on which a deed bears that makes the row of a number, in their order, where the object that it names
+/// has these targets. Takes constant time.
+pub(crate) fn subject_at<'a>(
+    number: u64,
+    targets: &'a [Path],
+    deed: &'a Deed,
+    index: usize,
+) -> Option<Subject<'a>>
+    ensures subject { option_map model.plain result
+        ≡ slice_get (model.subjects number targets.now deed.now) index }
+    ensures within { IfSome result (λ _. index ≤ 2 ^ 63) }
+{
+    match deed {
+        Deed::Mkview { view } => one(Subject::Life(view), index),
+        Deed::Rmview { view } => one(Subject::Life(view), index),
+        Deed::Setcs { view, .. } => one(Subject::Spec(view), index),
+        Deed::Put { view, path, .. } => one(Subject::File(view, path), index),
+        Deed::Rm { view, path } => one(Subject::File(view, path), index),
+        Deed::Mktype { name, .. } => one(Subject::Named(name), index),
+        Deed::Publish {
+            view,
+            targets: own,
+            ..
+        } => made_at(number, view, own.as_slice(), index),
+        Deed::Wink { view, .. } => object_at(view, targets, index),
+        Deed::Drop { view, path } => one(Subject::Object(view, path), index),
+        Deed::Scrub { objects } => living_at(objects.as_slice(), index),
+        Deed::Arrow {
+            element,
+            tail,
+            head,
+        } => one(Subject::Merge(*element, *tail, *head), index),
+        _ => desk_subject_at(number, deed, index),
+    }
+}
+
+/// How many subjects a deed bears on, where the object that it names has these targets. Takes time linear in them.
+pub(crate) fn count_subjects(number: u64, targets: &[Path], deed: &Deed) -> usize
+    ensures { result ≡ length (model.subjects number targets.now deed.now) }
 {
     let mut count = 0;
-    while let Some(_subject) = subject_at(deed, count) {
+    while let Some(_subject) = subject_at(number, targets, deed, count) {
         count += 1;
     }
     count
-}
-
-fn same_name(one: &Name, two: &Name) -> bool
-    ensures { result ≡ bytes_eq two.now one.now }
-{
-    two.as_bytes() == one.as_bytes()
-}
-
-fn same_place(view: &Name, path: &Path, other: &Name, place: &Path) -> bool
-    ensures { result ≡ (bytes_eq other.now view.now && bytes_eq place.now path.now) }
-{
-    same_name(view, other) && place.as_bytes() == path.as_bytes()
 }
 
 impl Subject<'_> {
@@ -101,40 +182,15 @@ impl Subject<'_> {
     {
         match self {
             Subject::Life(view) => key_of(hashing, 0, view),
-            Subject::End(view) => key_of(hashing, 1, view),
-            Subject::File(view, path) => key_at(hashing, 2, view, path),
-            Subject::Object(view, path) => key_at(hashing, 3, view, path),
+            Subject::Spec(view) => key_of(hashing, 1, view),
+            Subject::Desk(view) => key_of(hashing, 2, view),
+            Subject::File(view, path) => key_at(hashing, 3, view, path),
+            Subject::Object(view, path) => key_at(hashing, 4, view, path),
+            Subject::Out(view, element) => key_with(hashing, 5, element, view),
+            Subject::Saved(view, element) => key_with(hashing, 6, element, view),
+            Subject::Named(name) => key_of(hashing, 7, name),
+            Subject::Living(object) => key_by_one(hashing, 8, object),
+            Subject::Merge(element, tail, head) => key_by_three(hashing, 9, element, tail, head),
         }
-    }
-
-    /// Whether it is the other one.
-    fn is_same(self, other: Subject<'_>) -> bool
-        ensures { result ≡ model.is_same (model.plain self.entry) (model.plain other.entry) }
-    {
-        match (self, other) {
-            (Subject::Life(view), Subject::Life(owner)) => same_name(view, owner),
-            (Subject::End(view), Subject::End(owner)) => same_name(view, owner),
-            (Subject::File(view, path), Subject::File(owner, place)) => {
-                same_place(view, path, owner, place)
-            }
-            (Subject::Object(view, path), Subject::Object(owner, place)) => {
-                same_place(view, path, owner, place)
-            }
-            _ => false,
-        }
-    }
-
-    /// Whether a deed bears on it. Takes time linear in the targets of an object.
-    pub(crate) fn is_borne_on_by(self, deed: &Deed) -> bool
-        ensures { result ≡ model.bears (model.plain self.entry) deed.now }
-    {
-        let mut index = 0;
-        while let Some(subject) = subject_at(deed, index) {
-            if self.is_same(subject) {
-                return true;
-            }
-            index += 1;
-        }
-        false
     }
 }

@@ -1,44 +1,146 @@
 // A view's own state: its life, and its private files.
 
-ghost use Rattle.std.specs.Prelude.{◌≡◌};
-ghost use Rattle.legal_history.specs.Base.Checkouts.{oldest_out};
+ghost use Rattle.std.specs.Prelude.{◌≡◌, bytes_eq, ◌&&◌, option_map};
 ghost use Rattle.legal_history.specs.Base.Views.{view_row, private};
-ghost use Rattle.view_lookup.specs.Lives.{is_within, numbered_life};
+ghost use Rattle.view_lookup.specs.Effects.{end_effect};
+ghost use Rattle.view_lookup.specs.Ended.{number_of};
+ghost use Rattle.view_lookup.specs.LookUps.{newest};
 
-use crate::bases::{FirstRows, Found};
+use crate::bases::FirstRows;
+use crate::look_ups::{Does, LookUp, only_if, within};
 use crate::subjects::Subject;
 use cc_names::names::Name;
 use cc_names::paths::Path;
 use cc_names::rows::Deed;
 
-/// The mkview row with which the view's life began, where the view exists. Takes time linear in the view's name, and in the rows
-/// with its key that come behind the one that is found.
+pub(crate) fn same_name(one: &Name, two: &Name) -> bool
+    ensures { result ≡ bytes_eq two.now one.now }
+{
+    two.as_bytes() == one.as_bytes()
+}
+
+pub(crate) fn same_place(view: &Name, path: &Path, other: &Name, place: &Path) -> bool
+    ensures { result ≡ (bytes_eq other.now view.now && bytes_eq place.now path.now) }
+{
+    same_name(view, other) && place.as_bytes() == path.as_bytes()
+}
+
+/// The row with which a view's life began.
+#[derive(Clone, Copy)]
+pub(crate) struct LifeOf<'a> {
+    pub(crate) view: &'a Name,
+}
+
+impl LookUp for LifeOf<'_> {
+    type Item = u64;
+
+    ghost use Rattle.view_lookup.specs.Covers.{life_covered};
+    ghost use Rattle.view_lookup.specs.Effects.{life_effect};
+    ghost use Rattle.view_lookup.specs.Subjects as model;
+
+    ghost effect = { λ it. life_effect it.view.now };
+
+    ghost about = { λ it. model.Life it.view.now };
+
+    fn effect(&self, older: &FirstRows<'_>, deed: &Deed) -> Does<u64> {
+        match deed {
+            Deed::Mkview { view } => only_if(same_name(self.view, view), Does::Sets(older.size())),
+            Deed::Rmview { view } => only_if(same_name(self.view, view), Does::Ends),
+            _ => Does::Keeps,
+        }
+    }
+
+    fn subject(&self) -> Subject<'_> {
+        Subject::Life(self.view)
+    }
+
+    ghost covered = { λ it. life_covered it.view.now };
+}
+
+/// Where what a view has of its own ends.
+#[derive(Clone, Copy)]
+struct EndOf<'a> {
+    view: &'a Name,
+}
+
+impl LookUp for EndOf<'_> {
+    type Item = u64;
+
+    ghost use Rattle.view_lookup.specs.Covers.{end_covered};
+    ghost use Rattle.view_lookup.specs.Effects.{end_effect};
+    ghost use Rattle.view_lookup.specs.Subjects as model;
+
+    ghost effect = { λ it. end_effect it.view.now };
+
+    ghost about = { λ it. model.Life it.view.now };
+
+    fn effect(&self, _older: &FirstRows<'_>, deed: &Deed) -> Does<u64> {
+        match deed {
+            Deed::Mkview { view } => only_if(same_name(self.view, view), Does::Ends),
+            Deed::Rmview { view } => only_if(same_name(self.view, view), Does::Ends),
+            _ => Does::Keeps,
+        }
+    }
+
+    fn subject(&self) -> Subject<'_> {
+        Subject::Life(self.view)
+    }
+
+    ghost covered = { λ it. end_covered it.view.now };
+}
+
+/// A view's private file at a path.
+#[derive(Clone, Copy)]
+struct FileOf<'a> {
+    view: &'a Name,
+    path: &'a Path,
+}
+
+impl LookUp for FileOf<'_> {
+    type Item = u64;
+
+    ghost use Rattle.view_lookup.specs.Covers.{file_covered};
+    ghost use Rattle.view_lookup.specs.Effects.{file_effect};
+    ghost use Rattle.view_lookup.specs.Subjects as model;
+
+    ghost effect = { λ it. file_effect it.view.now it.path.now };
+
+    ghost about = { λ it. model.File it.view.now it.path.now };
+
+    fn effect(&self, older: &FirstRows<'_>, deed: &Deed) -> Does<u64> {
+        match deed {
+            Deed::Put { view, path, .. } => only_if(
+                same_place(self.view, self.path, view, path),
+                Does::Sets(older.size()),
+            ),
+            Deed::Rm { view, path } => {
+                only_if(same_place(self.view, self.path, view, path), Does::Ends)
+            }
+            _ => Does::Keeps,
+        }
+    }
+
+    fn subject(&self) -> Subject<'_> {
+        Subject::File(self.view, self.path)
+    }
+
+    ghost covered = { λ it. file_covered it.view.now it.path.now };
+}
+
+/// The mkview row with which the view's life began, where the view exists. Takes time linear in the view's name, and in the
+/// rows with its key that come behind the one that is found.
 pub fn view_row(rows: &FirstRows<'_>, view: &Name) -> Option<u64>
     ensures { result ≡ view_row rows.now view.now }
 {
-    let found = rows.last_on(Subject::Life(view))?;
-    match found.deed {
-        Deed::Mkview { .. } => Some(found.number),
-        _ => None,
-    }
+    rows.last(&LifeOf { view })
 }
 
-/// The row that made the view's oldest checkout: so far nothing is checked out. Takes constant time.
-pub fn oldest_out(rows: &FirstRows<'_>, view: &Name) -> Option<u64>
-    ensures { result ≡ oldest_out rows.now view.now }
+/// The last row with which the view's life began or ended.
+pub(crate) fn last_end(rows: &FirstRows<'_>, view: &Name) -> Option<u64>
+    ensures { result ≡ option_map number_of (newest (end_effect view.now) rows.now) }
 {
-    rows.are_made();
-    None
-}
-
-/// Whether a view's life neither began nor ended behind a row, where this is the last row that bears on the life.
-pub(crate) fn is_within(life: Option<Found<'_>>, number: u64) -> bool
-    ensures { result ≡ is_within (numbered_life life.entry) number }
-{
-    match life {
-        None => true,
-        Some(life) => life.number < number,
-    }
+    let (number, _) = rows.newest(&EndOf { view })?;
+    Some(number)
 }
 
 /// The row that put the view's private file at the path. Takes time linear in the two names, and in the rows with their key
@@ -46,15 +148,5 @@ pub(crate) fn is_within(life: Option<Found<'_>>, number: u64) -> bool
 pub fn private(rows: &FirstRows<'_>, view: &Name, path: &Path) -> Option<u64>
     ensures { result ≡ private rows.now view.now path.now }
 {
-    let found = rows.last_on(Subject::File(view, path))?;
-    match found.deed {
-        Deed::Put { .. } => {
-            if is_within(rows.last_on(Subject::Life(view)), found.number) {
-                Some(found.number)
-            } else {
-                None
-            }
-        }
-        _ => None,
-    }
+    within(last_end(rows, view), rows.newest(&FileOf { view, path }))
 }

@@ -1,0 +1,22 @@
+-- The newest row of the checkout, unless the view's life began or ended behind it.
+use Rattle.std.proofs.Common.{sym, ap, ap₂, ◌∙◌}
+use Rattle.std.specs.Prelude.{option_map}
+use Rattle.legal_history.specs.Base.Rows.{size}
+use Rattle.legal_history.specs.Base.Views.{out_effect}
+use Rattle.view_lookup.specs.Effects.{end_effect, taken_effect, kept_checkout, plain_checkout}
+use Rattle.view_lookup.specs.Ended.{within}
+use Rattle.view_lookup.specs.LookUps.{newest}
+use Rattle.view_lookup.proofs.Endings.{last_within, newest_mapped, within_mapped, ended_by}
+use Rattle.view_lookup.proofs.Parts.{out_parts, plain_again}
+use Rattle.view_lookup.proofs.desks.checked_out.Goals as goal
+
+pub returns : goal.returns
+returns c =
+    let v = c.args.view.now in
+    let e = c.args.element in
+    let b = c.args.rows.now in
+    let ended = ended_by (newest (end_effect v) b) in
+    let row = newest (taken_effect v e) b in
+    ap (option_map plain_checkout) (c.within.ensures ∙ ap₂ within c.last_end.ensures (c.newest.ensures ∙ newest_mapped kept_checkout (taken_effect v e) b) ∙ within_mapped kept_checkout ended row)
+    ∙ plain_again (within ended row)
+    ∙ sym (last_within (λ older deed. out_effect v e (size older) deed) (end_effect v) (taken_effect v e) (out_parts v e) b)

@@ -1,0 +1,23 @@
+-- The later of the newest save and of the newest row of the checkout, unless the view's life began or ended behind it.
+use Rattle.std.proofs.Common.{◌≡◌, refl, sym, ap, ap₂, ◌∙◌}
+use Rattle.std.specs.Prelude.{option_map}
+use Rattle.legal_history.specs.Base.Rows.{size}
+use Rattle.legal_history.specs.Base.Views.{making_effect}
+use Rattle.view_lookup.specs.Effects.{end_effect, desk_effect, saved_effect, map_effect, map_told, row_of_kept}
+use Rattle.view_lookup.specs.Ended.{within, later}
+use Rattle.view_lookup.specs.LookUps.{newest}
+use Rattle.view_lookup.proofs.Endings.{last_within, newest_mapped, newest_of_two}
+use Rattle.view_lookup.proofs.Parts.{making_parts, text_effect}
+use Rattle.view_lookup.proofs.desks.making.Goals as goal
+
+pub returns : goal.returns
+returns c =
+    let v = c.args.view.now in
+    let e = c.args.element in
+    let b = c.args.rows.now in
+    let rows : c.with_row-taken.result ≡ newest (λ older deed. map_effect row_of_kept (desk_effect v e older deed)) b =
+    c.with_row-taken.ensures ∙ ap (option_map (map_told row_of_kept)) c.newest.ensures ∙ sym (newest_mapped row_of_kept (desk_effect v e) b) in
+    c.within.ensures
+    ∙ ap₂ within c.last_end.ensures (c.later.ensures ∙ ap₂ later rows c.newest-saved.ensures
+    ∙ sym (newest_of_two (text_effect v e) (λ older deed. map_effect row_of_kept (desk_effect v e older deed)) (saved_effect v e) (λ older deed. refl) b))
+    ∙ sym (last_within (λ older deed. making_effect v e (size older) deed) (end_effect v) (text_effect v e) (making_parts v e) b)

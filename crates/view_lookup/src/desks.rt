@@ -1,0 +1,295 @@
+// What a view has checked out.
+
+ghost use Rattle.std.specs.Prelude.{◌≡◌, ◌==◌, ◌&&◌, bytes_eq, option_map};
+ghost use Rattle.legal_history.specs.Base.Checkouts.{oldest_out};
+ghost use Rattle.legal_history.specs.Base.Views as model;
+ghost use Rattle.legal_history.specs.Base.Views.{making, out};
+ghost use Rattle.view_lookup.specs.Effects.{kept_checkout, map_effect, map_told, plain_checkout, plain_taken, row_of_kept, stands};
+ghost use Rattle.view_lookup.specs.LookUps.{effect_of};
+
+use crate::bases::FirstRows;
+use crate::look_ups::{Does, LookUp, later, only_if, within};
+use crate::subjects::Subject;
+use crate::views::{last_end, same_name};
+use cc_names::names::Name;
+use cc_names::rows::{Deed, Out};
+
+/// A checkout. One that comes with a new element or branch has that row's own version 0 as its origin.
+#[derive(Clone, Copy)]
+pub struct Checkout {
+    /// The row that made it.
+    pub row: u64,
+    /// The version that it was made from.
+    pub origin: u64,
+    /// Whether no other view may check in on its branch.
+    pub reserved: bool,
+}
+
+fn same_desk(view: &Name, element: u64, other: &Name, one: u64) -> bool
+    ensures { result ≡ (bytes_eq other.now view.now && (one == element)) }
+{
+    same_name(view, other) && one == element
+}
+
+/// A checkout of an element by a view.
+#[derive(Clone, Copy)]
+pub(crate) struct Taken<'a> {
+    pub(crate) view: &'a Name,
+    pub(crate) element: u64,
+    pub(crate) checkout: Checkout,
+}
+
+/// The checkout that the making of an element makes in a row.
+fn checkout_of_element(out: bool, row: u64) -> Option<Checkout>
+    ensures { option_map plain_checkout result ≡ model.checkout_of_element out row }
+{
+    if out {
+        Some(Checkout {
+            row,
+            origin: row,
+            reserved: true,
+        })
+    } else {
+        None
+    }
+}
+
+/// The checkout that the making of a branch makes in a row.
+fn checkout_of_branch(out: Out, row: u64) -> Option<Checkout>
+    ensures { option_map plain_checkout result ≡ model.checkout_of_branch out row }
+{
+    match out {
+        Out::No => None,
+        Out::Reserved => Some(Checkout {
+            row,
+            origin: row,
+            reserved: true,
+        }),
+        Out::Unreserved => Some(Checkout {
+            row,
+            origin: row,
+            reserved: false,
+        }),
+    }
+}
+
+fn taken_out<'a>(view: &'a Name, element: u64, checkout: Option<Checkout>) -> Option<Taken<'a>>
+    ensures { option_map plain_taken result
+        ≡ model.taken_out view.now element (option_map plain_checkout checkout) }
+{
+    match checkout {
+        None => None,
+        Some(checkout) => Some(Taken {
+            view,
+            element,
+            checkout,
+        }),
+    }
+}
+
+/// The checkout that a deed makes in a row.
+fn made_out<'a>(row: u64, deed: &'a Deed) -> Option<Taken<'a>>
+    ensures { option_map plain_taken result ≡ model.made_out row deed.now }
+{
+    match deed {
+        Deed::Mkelem { view, out, .. } => taken_out(view, row, checkout_of_element(*out, row)),
+        Deed::Checkout {
+            view,
+            element,
+            origin,
+            reserved,
+        } => {
+            let checkout = Checkout {
+                row,
+                origin: *origin,
+                reserved: *reserved,
+            };
+            Some(Taken {
+                view,
+                element: *element,
+                checkout,
+            })
+        }
+        Deed::Branch {
+            view,
+            element,
+            out,
+            ..
+        } => { taken_out(view, *element, checkout_of_branch(*out, row)) }
+        _ => None,
+    }
+}
+
+/// A checkout, where it is one of this element by this view.
+fn set_by(view: &Name, element: u64, taken: Option<Taken<'_>>) -> Does<Checkout>
+    ensures { effect_of result
+        ≡ map_effect kept_checkout
+        (model.set_by view.now element (option_map plain_taken taken.entry)) }
+{
+    match taken {
+        None => Does::Keeps,
+        Some(taken) => only_if(
+            same_desk(view, element, taken.view, taken.element),
+            Does::Sets(taken.checkout),
+        ),
+    }
+}
+
+/// A view's checkout of an element, whatever becomes of the view.
+#[derive(Clone, Copy)]
+struct TakenOf<'a> {
+    view: &'a Name,
+    element: u64,
+}
+
+impl LookUp for TakenOf<'_> {
+    type Item = Checkout;
+
+    ghost use Rattle.view_lookup.specs.Covers.{desk_covered};
+    ghost use Rattle.view_lookup.specs.Effects.{desk_effect};
+    ghost use Rattle.view_lookup.specs.Subjects as subjects;
+
+    ghost effect = { λ it. desk_effect it.view.now it.element };
+
+    ghost about = { λ it. subjects.Out it.view.now it.element };
+
+    fn effect(&self, older: &FirstRows<'_>, deed: &Deed) -> Does<Checkout> {
+        match deed {
+            Deed::Checkin { view, element } => only_if(
+                same_desk(self.view, self.element, view, *element),
+                Does::Ends,
+            ),
+            Deed::Uncheckout { view, element } => only_if(
+                same_desk(self.view, self.element, view, *element),
+                Does::Ends,
+            ),
+            _ => set_by(self.view, self.element, made_out(older.size(), deed)),
+        }
+    }
+
+    fn subject(&self) -> Subject<'_> {
+        Subject::Out(self.view, self.element)
+    }
+
+    ghost covered = { λ it. desk_covered it.view.now it.element };
+}
+
+/// The text that a view saved last in its checkout of an element, whatever becomes of either.
+#[derive(Clone, Copy)]
+struct SavedOf<'a> {
+    view: &'a Name,
+    element: u64,
+}
+
+impl LookUp for SavedOf<'_> {
+    type Item = u64;
+
+    ghost use Rattle.view_lookup.specs.Covers.{saved_covered};
+    ghost use Rattle.view_lookup.specs.Effects.{saved_effect};
+    ghost use Rattle.view_lookup.specs.Subjects as subjects;
+
+    ghost effect = { λ it. saved_effect it.view.now it.element };
+
+    ghost about = { λ it. subjects.Saved it.view.now it.element };
+
+    fn effect(&self, older: &FirstRows<'_>, deed: &Deed) -> Does<u64> {
+        match deed {
+            Deed::Save { view, element, .. } => only_if(
+                same_desk(self.view, self.element, view, *element),
+                Does::Sets(older.size()),
+            ),
+            _ => Does::Keeps,
+        }
+    }
+
+    fn subject(&self) -> Subject<'_> {
+        Subject::Saved(self.view, self.element)
+    }
+
+    ghost covered = { λ it. saved_covered it.view.now it.element };
+}
+
+/// The view's checkout of the element. Takes time linear in the view's name, and in the rows with its keys that come behind those
+/// that are found.
+pub fn checked_out(rows: &FirstRows<'_>, view: &Name, element: u64) -> Option<Checkout>
+    ensures { option_map plain_checkout result ≡ out rows.now view.now element }
+{
+    within(
+        last_end(rows, view),
+        rows.newest(&TakenOf { view, element }),
+    )
+}
+
+/// The row of a checkout in place of it.
+fn with_row(told: Option<(u64, Option<Checkout>)>) -> Option<(u64, Option<u64>)>
+    ensures { result ≡ option_map (map_told row_of_kept) told }
+{
+    match told {
+        None => None,
+        Some((number, None)) => Some((number, None)),
+        Some((number, Some(checkout))) => Some((number, Some(checkout.row))),
+    }
+}
+
+/// The row that made the text of the view's checkout of the element: the last save since, else the row that made the checkout.
+/// Takes time linear in the view's name, and in the rows with its keys that come behind those that are found.
+pub fn making(rows: &FirstRows<'_>, view: &Name, element: u64) -> Option<u64>
+    ensures { result ≡ making rows.now view.now element }
+{
+    let taken = with_row(rows.newest(&TakenOf { view, element }));
+    let saved = rows.newest(&SavedOf { view, element });
+    within(last_end(rows, view), later(taken, saved))
+}
+
+/// Whether a checkout stands in these rows.
+fn stands(rows: &FirstRows<'_>, taken: Taken<'_>) -> bool
+    ensures { result ≡ stands rows.now (plain_taken taken.entry) }
+{
+    match checked_out(rows, taken.view, taken.element) {
+        None => false,
+        Some(checkout) => taken.checkout.row == checkout.row,
+    }
+}
+
+/// The rows that made the checkouts of a view that stand in a base.
+#[derive(Clone, Copy)]
+struct StandingOf<'a> {
+    rows: &'a FirstRows<'a>,
+    view: &'a Name,
+}
+
+impl LookUp for StandingOf<'_> {
+    type Item = u64;
+
+    ghost use Rattle.view_lookup.specs.Covers.{standing_covered};
+    ghost use Rattle.view_lookup.specs.Effects.{standing_effect};
+    ghost use Rattle.view_lookup.specs.Subjects as subjects;
+
+    ghost effect = { λ it. standing_effect it.rows.now it.view.now };
+
+    ghost about = { λ it. subjects.Desk it.view.now };
+
+    fn effect(&self, older: &FirstRows<'_>, deed: &Deed) -> Does<u64> {
+        match made_out(older.size(), deed) {
+            None => Does::Keeps,
+            Some(taken) => only_if(
+                same_name(self.view, taken.view) && stands(self.rows, taken),
+                Does::Sets(taken.checkout.row),
+            ),
+        }
+    }
+
+    fn subject(&self) -> Subject<'_> {
+        Subject::Desk(self.view)
+    }
+
+    ghost covered = { λ it. standing_covered it.rows.now it.view.now };
+}
+
+/// The row that made the view's oldest checkout. Takes time linear in what the view took out in its life and in lives before, and
+/// for each the time of `checked_out`.
+pub fn oldest_out(rows: &FirstRows<'_>, view: &Name) -> Option<u64>
+    ensures { result ≡ oldest_out rows.now view.now }
+{
+    rows.oldest(&StandingOf { rows, view })
+}

@@ -1,0 +1,40 @@
+// One number for some numbers, and for a name beside one, as `cc_names::keys` has it for names and paths.
+
+ghost use Rattle.std.specs.Prelude.{◌≡◌, ◌∷◌, []};
+ghost use Rattle.view_lookup.specs.NumberKeys.{key_by, key_with};
+
+use cc_names::names::Name;
+use std::hash::{BuildHasher, Hasher, RandomState};
+
+/// The key of a number and another one. Takes constant time.
+pub(crate) fn key_by_one(hashing: RandomState, number: u64, one: u64) -> u64
+    ensures { result ≡ key_by hashing number (one ∷ []) }
+{
+    let mut hasher = hashing.build_hasher();
+    hasher.write_u64(number);
+    hasher.write_u64(one);
+    hasher.finish()
+}
+
+/// The key of a number and three more. Takes constant time.
+pub(crate) fn key_by_three(hashing: RandomState, number: u64, one: u64, two: u64, three: u64) -> u64
+    ensures { result ≡ key_by hashing number (one ∷ two ∷ three ∷ []) }
+{
+    let mut hasher = hashing.build_hasher();
+    hasher.write_u64(number);
+    hasher.write_u64(one);
+    hasher.write_u64(two);
+    hasher.write_u64(three);
+    hasher.finish()
+}
+
+/// The key of two numbers and a name. Takes time linear in the name.
+pub(crate) fn key_with(hashing: RandomState, number: u64, other: u64, name: &Name) -> u64
+    ensures { result ≡ key_with hashing number other name.now }
+{
+    let mut hasher = hashing.build_hasher();
+    hasher.write_u64(number);
+    hasher.write_u64(other);
+    hasher.write(name.as_bytes());
+    hasher.finish()
+}

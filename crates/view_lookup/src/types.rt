@@ -1,0 +1,50 @@
+// The types of labels and of branches, and merges.
+
+ghost use Rattle.std.specs.Prelude.{◌≡◌};
+ghost use Rattle.legal_history.specs.Base.Changes.{kind_of_type};
+
+use crate::bases::FirstRows;
+use crate::look_ups::{Does, LookUp, only_if};
+use crate::subjects::Subject;
+use crate::views::same_name;
+use cc_names::names::Name;
+use cc_names::rows::{Deed, TypeKind};
+
+/// What the type of a name is a type of.
+#[derive(Clone, Copy)]
+struct NamedOf<'a> {
+    name: &'a Name,
+}
+
+impl LookUp for NamedOf<'_> {
+    type Item = TypeKind;
+
+    ghost use Rattle.view_lookup.specs.Covers.{named_covered};
+    ghost use Rattle.view_lookup.specs.Effects.{named_effect};
+    ghost use Rattle.view_lookup.specs.Subjects as model;
+
+    ghost effect = { λ it. named_effect it.name.now };
+
+    ghost about = { λ it. model.Named it.name.now };
+
+    fn effect(&self, _older: &FirstRows<'_>, deed: &Deed) -> Does<TypeKind> {
+        match deed {
+            Deed::Mktype { kind, name } => only_if(same_name(self.name, name), Does::Sets(*kind)),
+            _ => Does::Keeps,
+        }
+    }
+
+    fn subject(&self) -> Subject<'_> {
+        Subject::Named(self.name)
+    }
+
+    ghost covered = { λ it. named_covered it.name.now };
+}
+
+/// What the type of this name is a type of, where there is one. Takes time linear in the name, and in the rows with its key that
+/// come behind the one that is found.
+pub fn kind_of_type(rows: &FirstRows<'_>, name: &Name) -> Option<TypeKind>
+    ensures { result ≡ kind_of_type rows.now name.now }
+{
+    rows.last(&NamedOf { name })
+}
