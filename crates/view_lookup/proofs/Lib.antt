@@ -4,11 +4,13 @@ pub mod Fronts
 pub mod Holdings
 pub mod Newest
 pub mod Endings
+pub mod ElementKinds
 pub mod MadeDeeds
 pub mod MadeSoFar
 pub mod Parts
 pub mod RowTexts
 pub mod RowsFit
 pub mod SpecRows
+pub mod TextRows
 pub mod Standing
 pub mod Standings

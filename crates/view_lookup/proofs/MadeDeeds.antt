@@ -7,28 +7,19 @@ use Rattle.cc_names.specs.declared.rows.Deed.{Deed}
 use Rattle.cc_names.specs.declared.rows.Deed.TheVariants as deeds
 use Rattle.legal_history.specs.Base.Rows.{Base}
 use Rattle.legal_history.specs.Base.Changes.{tree_after}
-use Rattle.legal_history.specs.Base.Conditions.{is_put, makes_file_text}
-use Rattle.legal_history.specs.Base.Texts.{Source, Bytes, OfRow, NoText, source_of, output_at, of_output}
 use Rattle.legal_history.specs.Base.Views.{Checkout, made_out, making_effect, making_of_out, view_effect, spec_effect, default_spec}
-use Rattle.view_lookup.specs.Made.{text_made}
 
 -- a view that there is has the default config spec
 abbrev pub HasDefault : Option ℕ → Option (List ℕ) → Type 0
 HasDefault None spec = Unit {0}
 HasDefault (Some n) spec = spec ≡ Some default_spec
 
--- the text of a source, where an earlier row has this one
-abbrev pub text_by : (ℕ → Option (List ℕ)) → Source → Option (List ℕ)
-text_by of_row source = elim source [ Bytes bytes ↦ Some bytes | OfRow origin ↦ of_row origin | NoText ↦ None ]
-
--- A deed makes no element, checks nothing out, keeps the default config spec, and makes its text by itself.
+-- A deed makes no element, checks nothing out, and keeps the default config spec.
 pub record IsPlain (deed : Deed) : Type 0 where
   pub tree : (older : Base) (moment : ℕ) (changes : List TreeChange) → tree_after older moment deed changes ≡ changes
   pub out : (n : ℕ) → made_out n deed ≡ None
   pub making : (v : List ℕ) (e n : ℕ) → left (making_effect v e n deed) None ≡ None
   pub spec : (v : List ℕ) (n : ℕ) (made : Option ℕ) (spec : Option (List ℕ)) → HasDefault made spec → HasDefault (left (view_effect v n deed) made) (left (spec_effect v deed) spec)
-  pub text : (older : Base) (of_row : ℕ → Option (List ℕ)) (path : List ℕ) → text_by of_row (source_of older path deed) ≡ text_made path deed
-  pub file_text : (b : Base) (r : ℕ) → makes_file_text b r (Some deed) ≡ is_put deed
 
 -- a view that begins or ends has nothing out
 begun_or_ended : (v w : List ℕ) → left (making_of_out (only_if {A = Checkout} (bytes_eq w v) Ends)) None ≡ None
@@ -44,41 +35,29 @@ ended_with_its_spec : (v w : List ℕ) (made : Option ℕ) (spec : Option (List 
 ended_with_its_spec v w made spec before =
     elim (bytes_eq w v) as (λ same. HasDefault (left (only_if same Ends) made) (left (only_if same Ends) spec)) [ true ↦ tt | false ↦ before ]
 
-output_text : (of_row : ℕ → Option (List ℕ)) (output : Option (List ℕ)) → text_by of_row (of_output output) ≡ output
-output_text of_row None = refl
-output_text of_row (Some output) = refl
-
 pub is_plain : (deed : Deed) → is_made deed ≡ true → IsPlain deed
 is_plain (deeds.Mkview w) h = record {
   tree = λ older moment changes. refl;
   out = λ n. refl;
   making = λ v e n. begun_or_ended v w;
   spec = λ v n made spec before. begun_with_default v w n made spec before;
-  text = λ older of_row path. refl;
-  file_text = λ b r. refl;
 }
 is_plain (deeds.Rmview w) h = record {
   tree = λ older moment changes. refl;
   out = λ n. refl;
   making = λ v e n. begun_or_ended v w;
   spec = λ v n made spec before. ended_with_its_spec v w made spec before;
-  text = λ older of_row path. refl;
-  file_text = λ b r. refl;
 }
 is_plain (deeds.Put w q bytes) h = record {
   tree = λ older moment changes. refl;
   out = λ n. refl;
   making = λ v e n. refl;
   spec = λ v n made spec before. before;
-  text = λ older of_row path. refl;
-  file_text = λ b r. refl;
 }
 is_plain (deeds.Publish w targets script entries outputs) h = record {
   tree = λ older moment changes. refl;
   out = λ n. refl;
   making = λ v e n. refl;
   spec = λ v n made spec before. before;
-  text = λ older of_row path. output_text of_row (output_at path targets outputs);
-  file_text = λ b r. refl;
 }
 is_plain deed h = cc

@@ -139,7 +139,7 @@ marks_tell hashing subject effect covered at (row ∷ older) agree =
     ] refl
 
 -- no row has a number behind the last one
-no_later : (b : Base) (n : ℕ) → length b < n → row_at b n ≡ None
+pub no_later : (b : Base) (n : ℕ) → length b < n → row_at b n ≡ None
 no_later [] n behind = refl
 no_later (row ∷ older) n behind =
     let apart : (size older == n) ≡ false = grind (arith, nat_tests) in

@@ -1,27 +1,11 @@
--- The text that a row of a base without elements made, found by the row's number.
+-- Rows by their numbers, and outputs by their targets.
 use Rattle.std.proofs.Common.{◌≡◌, ℕ, zero, suc, ◌+◌, ◌<◌, Bool, true, false, cond, ◌==◌, Option, Some, None, List, [], ◌∷◌, ◌++◌, length, reverse, get_or, drop, refl, ap, sym, ◌∙◌, arith, bytes_eq}
-use Rattle.std.specs.Prelude.{option_and_then}
 use Rattle.std.specs.List.{slice_get}
 use Rattle.std.proofs.lemmas.Bool.Decides.{nat_tests}
 use Rattle.std.proofs.lemmas.List.{length-reverse, reverse-append, reverse-reverse, drop_more, drop-drop}
 use Rattle.cc_names.specs.Formed.{Plain}
-use Rattle.legal_history.specs.Base.Rows.{Base, size, row_at, deed_at, deed_of}
-use Rattle.legal_history.specs.Base.Texts.{source_of, output_at, text}
-use Rattle.view_lookup.specs.Made.{text_made}
-use Rattle.carried_out.specs.CarriedOut.{is_made}
-use Rattle.view_lookup.specs.Known.{are_made}
-use Rattle.view_lookup.proofs.MadeDeeds.{text_by, is_plain}
-use Rattle.view_lookup.proofs.MadeSoFar.{both}
-
--- the text of a row, by its deed
-pub text_by_deed : (b : Base) (r : ℕ) (path : List ℕ) → are_made b ≡ true → text b r path ≡ option_and_then (text_made path) (deed_at b r)
-text_by_deed [] r path h = refl
-text_by_deed (row ∷ older) r path h =
-    let parts = both (is_made row.deed) (are_made older) h in
-    elim (size older == r) as (λ same. elim same [ false ↦ text older r path | true ↦ text_by (λ origin. text older origin path) (source_of older path row.deed) ] ≡ option_and_then (text_made path) (deed_of (elim same [ true ↦ Some row | false ↦ row_at older r ]))) [
-      | true ↦ (is_plain row.deed parts.0).text older (λ origin. text older origin path) path
-      | false ↦ text_by_deed older r path parts.1
-    ]
+use Rattle.legal_history.specs.Base.Rows.{Base, size, row_at}
+use Rattle.legal_history.specs.Base.Texts.{output_at}
 
 -- no number behind another is 0
 not_zero : (n : ℕ) → (suc n == 0) ≡ false

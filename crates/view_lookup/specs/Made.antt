@@ -1,20 +1,28 @@
--- What rows of a base without elements hold and what they made.
+-- What rows of a deed make by themselves, and what the text of a row comes from.
 use Rattle.std.specs.Prelude.{ℕ, Bool, Option, Some, None, List, bytes_eq}
 use Rattle.std.specs.List.{list_any}
 use Rattle.cc_names.specs.declared.rows.Deed.{Deed}
 use Rattle.cc_names.specs.declared.rows.Deed.TheVariants as deeds
-use Rattle.legal_history.specs.Base.Texts.{output_at}
+use Rattle.cc_names.specs.declared.rows.Kind.{Kind}
+use Rattle.legal_history.specs.Base.Texts.{Source, Bytes, OfRow, NoText}
 use Rattle.legal_history.specs.Base.Views.{default_spec}
+use Rattle.view_lookup.specs.declared.texts.Source as code
+use Rattle.view_lookup.specs.declared.texts.Source.TheVariants as codes
 
 -- whether a path is one of these targets
 abbrev pub is_target : List ℕ → List (List ℕ) → Bool
 is_target path targets = list_any (λ target. bytes_eq target path) targets
 
--- the text that a deed made: the bytes of a put, the output of a publish at the path
-abbrev pub text_made : List ℕ → Deed → Option (List ℕ)
-text_made path (deeds.Put v q text) = Some text
-text_made path (deeds.Publish v targets script entries outputs) = output_at path targets outputs
-text_made path deed = None
+-- the kind of the element that a row of this deed makes
+abbrev pub kind_made : Deed → Option Kind
+kind_made (deeds.Mkelem v directory name kind out) = Some kind
+kind_made deed = None
+
+-- where code finds the text of a row
+abbrev pub plain_source : code.Source → Source
+plain_source (codes.Bytes bytes) = Bytes bytes.now
+plain_source (codes.OfRow row) = OfRow row
+plain_source codes.NoText = NoText
 
 -- the config spec that a row of this deed gives to its view
 abbrev pub spec_made : Deed → Option (List ℕ)

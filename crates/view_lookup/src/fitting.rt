@@ -5,40 +5,67 @@ ghost use Rattle.std.specs.List.{list_all};
 ghost use Rattle.carried_out.specs.CarriedOut.{is_made};
 ghost use Rattle.legal_history.specs.Base.Changes.{targets_of_deed};
 ghost use Rattle.legal_history.specs.Base.Closures.{is_among};
-ghost use Rattle.legal_history.specs.Base.Conditions.{is_put, is_entry};
+ghost use Rattle.legal_history.specs.Base.Conditions.{element_of_text, is_entry, is_some_file, makes_file_text};
+ghost use Rattle.legal_history.specs.Base.Rows.{Base};
 ghost use Rattle.legal_history.specs.Base.Fits.{deed_fits, fits};
 
 use crate::bases::{FirstRows, row_at};
 use crate::objects::is_target;
+use crate::seen::kind_of;
 use crate::views::view_row;
 use cc_names::paths::Path;
-use cc_names::rows::{Deed, ReadOf, Row};
+use cc_names::rows::{Deed, Kind, ReadOf, Row};
 
 /// The most rows that a base may have, row 0 included.
 pub const ROW_LIMIT: u64 = 4_000_000;
 
+/// The element of which a row of this deed made a text.
+fn element_of_text(row: u64, deed: &Deed) -> Option<u64>
+    ensures { (b : Base) → result ≡ element_of_text b row deed.now }
+{
+    match deed {
+        Deed::Mkelem { .. } => Some(row),
+        Deed::Checkout { element, .. } => Some(*element),
+        Deed::Branch { element, .. } => Some(*element),
+        Deed::Save { element, .. } => Some(*element),
+        Deed::Checkin { element, .. } => Some(*element),
+        _ => None,
+    }
+}
+
+/// Whether there is a file element.
+fn is_some_file(rows: &FirstRows<'_>, element: Option<u64>) -> bool
+    ensures { result ≡ is_some_file rows.now element }
+{
+    match element {
+        None => false,
+        Some(element) => matches!(kind_of(rows, element), Some(Kind::File)),
+    }
+}
+
 /// Whether a record may name a row of this deed as the one that made the text at a path.
-fn makes_text(path: &Path, deed: &Deed) -> bool
-    ensures { result ≡ (is_put deed.now || is_among path.now (targets_of_deed (Some deed.now))) }
+fn makes_text(rows: &FirstRows<'_>, path: &Path, row: u64, deed: &Deed) -> bool
+    ensures { result
+        ≡ (makes_file_text rows.now row (Some deed.now)
+        || is_among path.now (targets_of_deed (Some deed.now))) }
 {
     match deed {
         Deed::Put { .. } => true,
         Deed::Publish { targets, .. } => is_target(path, targets.as_slice()),
-        _ => false,
+        _ => is_some_file(rows, element_of_text(row, deed)),
     }
 }
 
-/// Whether an entry says that its path was absent, or names a private file or an output at its path.
+/// Whether an entry says that its path was absent, or names the text of a file or an output at its path.
 fn is_entry(rows: &FirstRows<'_>, entry: &ReadOf) -> bool
     ensures { result ≡ is_entry rows.now entry.now }
 {
     if entry.row == 0 {
         return true;
     }
-    rows.are_made();
     match row_at(rows, entry.row) {
         None => false,
-        Some(row) => makes_text(&entry.path, row.deed()),
+        Some(row) => makes_text(rows, &entry.path, entry.row, row.deed()),
     }
 }
 

@@ -7,13 +7,14 @@ ghost use Rattle.cc_names.specs.Versions.{kind_of};
 ghost use Rattle.legal_history.specs.Base.Changes.{tree};
 ghost use Rattle.legal_history.specs.Base.Seen.{at, file_at, directory_at};
 ghost use Rattle.legal_history.specs.Base.Views.{view_row};
+ghost use Rattle.view_lookup.specs.Made.{kind_made};
 ghost use Rattle.view_lookup.specs.Roots.{StandsSoFar};
 
-use crate::bases::FirstRows;
+use crate::bases::{FirstRows, row_at};
 use crate::views::private;
 use cc_names::names::Name;
 use cc_names::paths::Path;
-use cc_names::rows::Kind;
+use cc_names::rows::{Deed, Kind};
 use cc_names::selection::{Picked, Seen};
 
 // The root's version 0, by the second rule of the default config spec.
@@ -23,16 +24,25 @@ const ROOT: Picked = Picked {
     out: false,
 };
 
-/// The kind of the element of this number, where there is one: so far there is the root alone. Takes constant time.
+/// The kind of the element that a row of this deed makes.
+fn kind_made(deed: &Deed) -> Option<Kind>
+    ensures { result ≡ kind_made deed.now }
+{
+    match deed {
+        Deed::Mkelem { kind, .. } => Some(*kind),
+        _ => None,
+    }
+}
+
+/// The kind of the element of this number, where there is one. Takes constant time.
 pub fn kind_of(rows: &FirstRows<'_>, element: u64) -> Option<Kind>
     ensures { result ≡ kind_of (tree rows.now) element }
 {
-    rows.are_made();
     if element == 0 {
-        Some(Kind::Directory)
-    } else {
-        None
+        return Some(Kind::Directory);
     }
+    let row = row_at(rows, element)?;
+    kind_made(row.deed())
 }
 
 fn has_slash(bytes: &[u8]) -> bool

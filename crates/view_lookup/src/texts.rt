@@ -3,11 +3,12 @@
 ghost use Rattle.std.specs.Prelude.{◌≡◌, IsSome};
 ghost use Rattle.std.specs.Option.{option_copied};
 ghost use Rattle.legal_history.specs.Builds.Fresh.{texts};
-ghost use Rattle.legal_history.specs.Base.Texts.{output_at, text};
+ghost use Rattle.legal_history.specs.Base.Texts.{of_making, of_output, output_at, source_of, text};
 ghost use Rattle.legal_history.specs.Base.Views.{view_row};
-ghost use Rattle.view_lookup.specs.Made.{text_made};
+ghost use Rattle.view_lookup.specs.Made.{plain_source};
 
-use crate::bases::{FirstRows, row_at};
+use crate::bases::{FirstRows, first_rows, row_at};
+use crate::desks::making;
 use crate::seen::file_at;
 use cc_names::names::Name;
 use cc_names::paths::Path;
@@ -26,29 +27,72 @@ fn output_at<'a>(path: &Path, targets: &[Path], outputs: &'a [Text]) -> Option<&
     None
 }
 
-/// The text that a deed made: the bytes of a put, the output of a publish at the path.
-fn text_made<'a>(path: &Path, deed: &'a Deed) -> Option<&'a [u8]>
-    ensures { option_copied result ≡ text_made path.now deed.now }
+/// Where the text that a row makes comes from.
+#[derive(Clone, Copy)]
+pub(crate) enum Source<'a> {
+    /// The row itself.
+    Bytes(&'a [u8]),
+    /// An earlier row.
+    OfRow(u64),
+    /// Nowhere.
+    NoText,
+}
+
+/// The text of the row that made a view's own.
+fn of_making<'a>(making: Option<u64>) -> Source<'a>
+    ensures { plain_source result ≡ of_making making }
+{
+    match making {
+        None => Source::NoText,
+        Some(row) => Source::OfRow(row),
+    }
+}
+
+fn of_output(output: Option<&[u8]>) -> Source<'_>
+    ensures { plain_source result ≡ of_output (option_copied output.entry) }
+{
+    match output {
+        None => Source::NoText,
+        Some(output) => Source::Bytes(output),
+    }
+}
+
+/// Where the text comes from of a row of this deed, which comes behind the older rows; of an object, its output at the path.
+fn source_of<'a>(older: &FirstRows<'_>, path: &Path, deed: &'a Deed) -> Source<'a>
+    ensures { plain_source result ≡ source_of older.now path.now deed.now }
 {
     match deed {
-        Deed::Put { text, .. } => Some(text.as_bytes()),
+        Deed::Mkelem { .. } => Source::Bytes(&[]),
+        Deed::Checkout { origin, .. } => Source::OfRow(*origin),
+        Deed::Branch { origin, .. } => Source::OfRow(*origin),
+        Deed::Save { text, .. } => Source::Bytes(text.as_bytes()),
+        Deed::Checkin { view, element } => of_making(making(older, view, *element)),
+        Deed::Put { text, .. } => Source::Bytes(text.as_bytes()),
         Deed::Publish {
             targets,
             outputs,
             ..
-        } => output_at(path, targets.as_slice(), outputs.as_slice()),
-        _ => None,
+        } => of_output(output_at(path, targets.as_slice(), outputs.as_slice())),
+        _ => Source::NoText,
     }
 }
 
-/// The text that a row made; of an object, its output at the path. Takes time linear in
-/// the targets of an object.
+/// The text that a row made; of an object, its output at the path. Takes time linear in the targets of an object, and for a
+/// version the time of `making` for each checkout and checkin back to the last save.
 pub fn text_of<'a>(rows: &FirstRows<'a>, row: u64, path: &Path) -> Option<&'a [u8]>
     ensures { option_copied result ≡ text rows.now row path.now }
 {
-    rows.are_made();
-    let row = row_at(rows, row)?;
-    text_made(path, row.deed())
+    let mut older = first_rows(rows, rows.size());
+    let mut number = row;
+    while let Some(found) = row_at(&older, number) {
+        older = first_rows(&older, number);
+        match source_of(&older, path, found.deed()) {
+            Source::Bytes(bytes) => return Some(bytes),
+            Source::OfRow(origin) => number = origin,
+            Source::NoText => return None,
+        }
+    }
+    None
 }
 
 /// The text of the file that the view sees at the path. Takes the time of `file_at` and

@@ -1,20 +1,29 @@
--- There is no element but the root.
-use Rattle.std.proofs.Common.{◌≡◌, false, ◌==◌, [], ◌∷◌, cond, Some, None, sym, ap, ◌∙◌, arith}
-use Rattle.std.proofs.lemmas.Bool.Decides.{nat_tests}
+-- The row of the element tells its kind.
+use Rattle.std.proofs.Common.{◌≡◌, ◌==◌, true, false, cond, Some, sym, ap, ◌∙◌, arith}
 use Rattle.std.specs.Prelude.{option_and_then}
-use Rattle.cc_names.specs.Versions.{kind_by, kind_of}
-use Rattle.cc_names.specs.declared.changes.TreeChange.TheVariants.{ElementMade}
+use Rattle.std.proofs.lemmas.Bool.Decides.{nat_tests}
 use Rattle.cc_names.specs.declared.rows.Kind.TheVariants.{Directory}
-use Rattle.view_lookup.proofs.MadeSoFar.{only_root}
+use Rattle.legal_history.specs.Base.Rows.{deed_of}
+use Rattle.view_lookup.specs.Made.{kind_made}
+use Rattle.view_lookup.proofs.ElementKinds.{kind_at, kind_told}
 use Rattle.view_lookup.proofs.seen.kind_of.Goals as goal
 
 pub returns-then-element-eq0 : goal.returns-then-element-eq0
 returns-then-element-eq0 c =
-    let root : c.args.element ≡ 0 = omega arith in
-    sym (ap (λ t. kind_of t c.args.element) (only_root c.args.rows.now c.are_made.ensures) ∙ ap (kind_of (ElementMade 0 0 Directory ∷ [])) root)
+    let root : (c.args.element == 0) ≡ true = grind (arith, nat_tests) in
+    sym (kind_told c.args.rows.now c.args.element ∙ ap (λ is. cond is (Some Directory) (kind_at c.args.rows.now c.args.element)) root)
 
-pub returns-else-element-eq0 : goal.returns-else-element-eq0
-returns-else-element-eq0 c =
-    let other : (0 == c.args.element) ≡ false = grind (arith, nat_tests) in
-    sym (ap (λ t. kind_of t c.args.element) (only_root c.args.rows.now c.are_made.ensures)
-    ∙ ap (λ same. option_and_then kind_by (cond same (Some (ElementMade 0 0 Directory)) None)) other)
+pub returns-in_err-row : goal.returns-in_err-row
+returns-in_err-row c =
+    let below : (c.args.element == 0) ≡ false = grind (arith, nat_tests) in
+    c.from_residual.ensures
+    ∙ ap (λ row. option_and_then kind_made (deed_of row)) c.in_err-row.ensures
+    ∙ sym (kind_told c.args.rows.now c.args.element ∙ ap (λ is. cond is (Some Directory) (kind_at c.args.rows.now c.args.element)) below)
+
+pub returns : goal.returns
+returns c =
+    let below : (c.args.element == 0) ≡ false = grind (arith, nat_tests) in
+    c.kind_made.ensures
+    ∙ ap kind_made c.deed.ensures.deed
+    ∙ ap (λ row. option_and_then kind_made (deed_of row)) c.in_ok-row.ensures
+    ∙ sym (kind_told c.args.rows.now c.args.element ∙ ap (λ is. cond is (Some Directory) (kind_at c.args.rows.now c.args.element)) below)

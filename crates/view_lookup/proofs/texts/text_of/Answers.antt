@@ -1,21 +1,68 @@
--- The row that the number names, where there is one, has the text.
-use Rattle.std.proofs.Common.{sym, ap, ◌∙◌}
-use Rattle.std.specs.Prelude.{option_and_then}
+-- The row that the number names, where there is one, has the text, or an older row has.
+use Rattle.std.proofs.Common.{◌≡◌, None, sym, ap, ◌∙◌, arith, rules}
 use Rattle.std.specs.Option.{option_copied}
-use Rattle.legal_history.specs.Base.Rows.{deed_of}
-use Rattle.view_lookup.specs.Made.{text_made}
-use Rattle.view_lookup.proofs.RowTexts.{text_by_deed}
+use Rattle.legal_history.specs.Base.Rows.{Base, first_rows, row_at, size}
+use Rattle.legal_history.specs.Base.Texts.{source_of, text}
+use Rattle.legal_history.proofs.Bases.Stay.{all_rows}
+use Rattle.view_lookup.specs.Made.{plain_source}
+use Rattle.view_lookup.proofs.TextRows.{below_shorter, text_by, text_of_row, text_told}
 use Rattle.view_lookup.proofs.texts.text_of.Goals as goal
 
-pub returns-in_err-row : goal.returns-in_err-row
-returns-in_err-row c =
-    ap option_copied c.from_residual.ensures
-    ∙ ap (λ row. option_and_then (text_made c.args.path.now) (deed_of row)) c.in_err-row.ensures
-    ∙ sym (text_by_deed c.args.rows.now c.args.row c.args.path.now c.are_made.ensures)
+pub loop-found-init : goal.loop-found-init
+loop-found-init c =
+    let b = c.args.rows.now in
+    ap (λ (rows : Base). text rows c.args.row c.args.path.now) (c.first_rows-older.ensures ∙ ap (λ n. first_rows n b) c.size.ensures.size ∙ all_rows b (size b) (omega arith))
+
+pub returns-in-Bytes : goal.returns-in-Bytes
+returns-in-Bytes c =
+    let path = c.args.path.now in
+    let older = c.loop-found.older in
+    let number = c.loop-found.number in
+    let first = c.first_rows-older-in-Some.result in
+    let told : text older number path ≡ text_by first path (plain_source c.source_of.result) =
+    text_told older number path
+    ∙ ap (text_of_row (first_rows number older) path) (sym c.in-Some.ensures)
+    ∙ ap (λ (b : Base). text_by b path (source_of b path c.in-Some.found.now.deed)) (sym c.first_rows-older-in-Some.ensures)
+    ∙ ap (text_by first path) (sym (c.source_of.ensures ∙ ap (source_of first path) c.deed.ensures.deed)) in
+    sym (ap (λ source. text_by first path (plain_source source)) c.in-Bytes.is) ∙ sym told ∙ c.loop-found.invariant
+
+pub loop-found-smaller : goal.loop-found-smaller
+loop-found-smaller c =
+    let older = c.loop-found.older in
+    let number = c.loop-found.number in
+    rw c.first_rows-older-in-Some.ensures (below_shorter older number c.in-Some.found.now (sym c.in-Some.ensures))
+
+pub loop-found-preserved : goal.loop-found-preserved
+loop-found-preserved c =
+    let path = c.args.path.now in
+    let older = c.loop-found.older in
+    let number = c.loop-found.number in
+    let first = c.first_rows-older-in-Some.result in
+    let told : text older number path ≡ text_by first path (plain_source c.source_of.result) =
+    text_told older number path
+    ∙ ap (text_of_row (first_rows number older) path) (sym c.in-Some.ensures)
+    ∙ ap (λ (b : Base). text_by b path (source_of b path c.in-Some.found.now.deed)) (sym c.first_rows-older-in-Some.ensures)
+    ∙ ap (text_by first path) (sym (c.source_of.ensures ∙ ap (source_of first path) c.deed.ensures.deed)) in
+    sym (ap (λ source. text_by first path (plain_source source)) c.in-OfRow.is) ∙ sym told ∙ c.loop-found.invariant
+
+pub returns-in-NoText : goal.returns-in-NoText
+returns-in-NoText c =
+    let path = c.args.path.now in
+    let older = c.loop-found.older in
+    let number = c.loop-found.number in
+    let first = c.first_rows-older-in-Some.result in
+    let told : text older number path ≡ text_by first path (plain_source c.source_of.result) =
+    text_told older number path
+    ∙ ap (text_of_row (first_rows number older) path) (sym c.in-Some.ensures)
+    ∙ ap (λ (b : Base). text_by b path (source_of b path c.in-Some.found.now.deed)) (sym c.first_rows-older-in-Some.ensures)
+    ∙ ap (text_by first path) (sym (c.source_of.ensures ∙ ap (source_of first path) c.deed.ensures.deed)) in
+    sym (ap (λ source. text_by first path (plain_source source)) c.in-NoText.is) ∙ sym told ∙ c.loop-found.invariant
 
 pub returns : goal.returns
 returns c =
-    c.text_made.ensures
-    ∙ ap (text_made c.args.path.now) c.deed.ensures.deed
-    ∙ ap (λ row. option_and_then (text_made c.args.path.now) (deed_of row)) c.in_ok-row.ensures
-    ∙ sym (text_by_deed c.args.rows.now c.args.row c.args.path.now c.are_made.ensures)
+    let path = c.args.path.now in
+    let older = c.loop-found.older in
+    let number = c.loop-found.number in
+    let none : c.row_at.result ≡ None = search rules in
+    let nowhere : row_at older number ≡ None = sym c.row_at.ensures ∙ ap option_copied none in
+    sym (text_told older number path ∙ ap (text_of_row (first_rows number older) path) nowhere) ∙ c.loop-found.invariant

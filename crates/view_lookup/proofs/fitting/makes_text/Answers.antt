@@ -1,0 +1,11 @@
+-- Any other deed makes the text of an element or none.
+use Rattle.std.proofs.Common.{ap, ◌∙◌}
+use Rattle.legal_history.specs.Base.Conditions.{is_some_file}
+use Rattle.view_lookup.proofs.RowsFit.{text_of_element}
+use Rattle.view_lookup.proofs.fitting.makes_text.Goals as goal
+
+pub returns-in_default : goal.returns-in_default
+returns-in_default c =
+    c.is_some_file.ensures
+    ∙ ap (is_some_file c.args.rows.now) (c.element_of_text.ensures c.args.rows.now)
+    ∙ text_of_element c.args.rows.now c.args.row c.args.path.now c.args.deed.now c.in_default.not-Put c.in_default.not-Publish
