@@ -13,4 +13,4 @@ pub mod RowsFit
 pub mod SpecRows
 pub mod TextRows
 pub mod Standing
-pub mod Standings
+pub mod OldestOut

@@ -1,10 +1,9 @@
 // What a view has checked out.
 
 ghost use Rattle.std.specs.Prelude.{◌≡◌, ◌==◌, ◌&&◌, bytes_eq, option_map};
-ghost use Rattle.legal_history.specs.Base.Checkouts.{oldest_out};
 ghost use Rattle.legal_history.specs.Base.Views as model;
 ghost use Rattle.legal_history.specs.Base.Views.{making, out};
-ghost use Rattle.view_lookup.specs.Effects.{kept_checkout, map_effect, map_told, plain_checkout, plain_taken, row_of_kept, stands};
+ghost use Rattle.view_lookup.specs.Effects.{kept_checkout, map_effect, map_told, plain_checkout, plain_taken, row_of_kept};
 ghost use Rattle.view_lookup.specs.LookUps.{effect_of};
 
 use crate::bases::FirstRows;
@@ -88,7 +87,7 @@ fn taken_out<'a>(view: &'a Name, element: u64, checkout: Option<Checkout>) -> Op
 }
 
 /// The checkout that a deed makes in a row.
-fn made_out<'a>(row: u64, deed: &'a Deed) -> Option<Taken<'a>>
+pub(crate) fn made_out<'a>(row: u64, deed: &'a Deed) -> Option<Taken<'a>>
     ensures { option_map plain_taken result ≡ model.made_out row deed.now }
 {
     match deed {
@@ -239,57 +238,4 @@ pub fn making(rows: &FirstRows<'_>, view: &Name, element: u64) -> Option<u64>
     let taken = with_row(rows.newest(&TakenOf { view, element }));
     let saved = rows.newest(&SavedOf { view, element });
     within(last_end(rows, view), later(taken, saved))
-}
-
-/// Whether a checkout stands in these rows.
-fn stands(rows: &FirstRows<'_>, taken: Taken<'_>) -> bool
-    ensures { result ≡ stands rows.now (plain_taken taken.entry) }
-{
-    match checked_out(rows, taken.view, taken.element) {
-        None => false,
-        Some(checkout) => taken.checkout.row == checkout.row,
-    }
-}
-
-/// The rows that made the checkouts of a view that stand in a base.
-#[derive(Clone, Copy)]
-struct StandingOf<'a> {
-    rows: &'a FirstRows<'a>,
-    view: &'a Name,
-}
-
-impl LookUp for StandingOf<'_> {
-    type Item = u64;
-
-    ghost use Rattle.view_lookup.specs.Covers.{standing_covered};
-    ghost use Rattle.view_lookup.specs.Effects.{standing_effect};
-    ghost use Rattle.view_lookup.specs.Subjects as subjects;
-
-    ghost effect = { λ it. standing_effect it.rows.now it.view.now };
-
-    ghost about = { λ it. subjects.Desk it.view.now };
-
-    fn effect(&self, older: &FirstRows<'_>, deed: &Deed) -> Does<u64> {
-        match made_out(older.size(), deed) {
-            None => Does::Keeps,
-            Some(taken) => only_if(
-                same_name(self.view, taken.view) && stands(self.rows, taken),
-                Does::Sets(taken.checkout.row),
-            ),
-        }
-    }
-
-    fn subject(&self) -> Subject<'_> {
-        Subject::Desk(self.view)
-    }
-
-    ghost covered = { λ it. standing_covered it.rows.now it.view.now };
-}
-
-/// The row that made the view's oldest checkout. Takes time linear in what the view took out in its life and in lives before, and
-/// for each the time of `checked_out`.
-pub fn oldest_out(rows: &FirstRows<'_>, view: &Name) -> Option<u64>
-    ensures { result ≡ oldest_out rows.now view.now }
-{
-    rows.oldest(&StandingOf { rows, view })
 }

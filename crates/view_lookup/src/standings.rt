@@ -1,0 +1,66 @@
+// The checkouts of a view that stand.
+
+ghost use Rattle.std.specs.Prelude.{◌≡◌};
+ghost use Rattle.legal_history.specs.Base.Checkouts.{oldest_out};
+ghost use Rattle.view_lookup.specs.Effects.{plain_taken, stands};
+
+use crate::bases::FirstRows;
+use crate::desks::{Taken, checked_out, made_out};
+use crate::look_ups::{Does, LookUp, only_if};
+use crate::subjects::Subject;
+use crate::views::same_name;
+use cc_names::names::Name;
+use cc_names::rows::Deed;
+
+/// Whether a checkout stands in these rows.
+fn stands(rows: &FirstRows<'_>, taken: Taken<'_>) -> bool
+    ensures { result ≡ stands rows.now (plain_taken taken.entry) }
+{
+    match checked_out(rows, taken.view, taken.element) {
+        None => false,
+        Some(checkout) => taken.checkout.row == checkout.row,
+    }
+}
+
+/// The rows that made the checkouts of a view that stand in a base.
+#[derive(Clone, Copy)]
+struct StandingOf<'a> {
+    rows: &'a FirstRows<'a>,
+    view: &'a Name,
+}
+
+impl LookUp for StandingOf<'_> {
+    type Item = u64;
+
+    ghost use Rattle.view_lookup.specs.Covers.{standing_covered};
+    ghost use Rattle.view_lookup.specs.Effects.{standing_effect};
+    ghost use Rattle.view_lookup.specs.Subjects as subjects;
+
+    ghost effect = { λ it. standing_effect it.rows.now it.view.now };
+
+    ghost about = { λ it. subjects.Desk it.view.now };
+
+    fn effect(&self, older: &FirstRows<'_>, deed: &Deed) -> Does<u64> {
+        match made_out(older.size(), deed) {
+            None => Does::Keeps,
+            Some(taken) => only_if(
+                same_name(self.view, taken.view) && stands(self.rows, taken),
+                Does::Sets(taken.checkout.row),
+            ),
+        }
+    }
+
+    fn subject(&self) -> Subject<'_> {
+        Subject::Desk(self.view)
+    }
+
+    ghost covered = { λ it. standing_covered it.rows.now it.view.now };
+}
+
+/// The row that made the view's oldest checkout. Takes time linear in what the view took out in its life and in lives before, and
+/// for each the time of `checked_out`.
+pub fn oldest_out(rows: &FirstRows<'_>, view: &Name) -> Option<u64>
+    ensures { result ≡ oldest_out rows.now view.now }
+{
+    rows.oldest(&StandingOf { rows, view })
+}
