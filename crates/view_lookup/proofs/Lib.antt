@@ -1,3 +1,4 @@
+pub mod Arrows
 pub mod AtIndex
 pub mod Chains
 pub mod Fronts

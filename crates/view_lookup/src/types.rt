@@ -1,4 +1,4 @@
-// The types of labels and of branches, and merges.
+// The types of labels and of branches.
 
 ghost use Rattle.std.specs.Prelude.{◌≡◌};
 ghost use Rattle.legal_history.specs.Base.Changes.{kind_of_type};
