@@ -14,4 +14,5 @@ pub mod RowsFit
 pub mod SpecRows
 pub mod TextRows
 pub mod Standing
+pub mod Oldest
 pub mod OldestOut

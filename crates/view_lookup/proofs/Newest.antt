@@ -9,7 +9,7 @@ use Rattle.cc_names.specs.Formed.{Plain}
 use Rattle.cc_names.specs.Versions.{put_if}
 use Rattle.legal_history.specs.Base.Rows.{Base, size, first_rows, row_at, deed_of, deed_at}
 use Rattle.legal_history.proofs.Bases.Stay.{all_rows}
-use Rattle.view_lookup.specs.LookUps.{Deeds, Told, told, newest, told_by, told_at, first_told, left_by, last_of, oldest, set_at, last_set, IsCovered}
+use Rattle.view_lookup.specs.LookUps.{Deeds, Told, told, newest, told_by, told_at, first_told, left_by, last_of, IsCovered}
 use Rattle.view_lookup.specs.Subjects.{Subject, Life, Spec, Desk, File, Object, Out, Saved, Named, Living, Merge, is_same, key, borne, bears, keys_of}
 use Rattle.view_lookup.specs.Marked.{with_marks, marked}
 use Rattle.std.specs.declared.random_state.RandomState.{RandomState}
@@ -95,7 +95,7 @@ same_key hashing (Merge e tail head) (Merge f one two) is =
 same_key hashing one two is = absurd (cc)
 
 -- a deed is marked for the key of each subject on which it bears
-has_key : (hashing : RandomState) (subject : Subject) (all : List Subject) → list_any (is_same subject) all ≡ true → list_any (λ k. k == key hashing subject) (map (key hashing) all) ≡ true
+pub has_key : (hashing : RandomState) (subject : Subject) (all : List Subject) → list_any (is_same subject) all ≡ true → list_any (λ k. k == key hashing subject) (map (key hashing) all) ≡ true
 has_key hashing subject [] is = absurd (cc)
 has_key hashing subject (first ∷ rest) is = or_cases (is_same subject first) (list_any (is_same subject) rest) _ is
     (λ here. or_first (key hashing first == key hashing subject) (list_any (λ k. k == key hashing subject) (map (key hashing) rest)) ((Decides-eqb (key hashing first) (key hashing subject)).1 (same_key hashing subject first here)))
@@ -105,7 +105,7 @@ not_below_itself : (n : ℕ) → nat_lt n n ≡ false
 not_below_itself n = grind (arith, nat_tests)
 
 -- the newest row is at its number, and the others are where they were
-newest_at : {A : Type 0} (effect : Deeds A) (row : Plain) (older : Base) → told_at effect (row ∷ older) (size older) ≡ told (size older) (effect older row.deed)
+pub newest_at : {A : Type 0} (effect : Deeds A) (row : Plain) (older : Base) → told_at effect (row ∷ older) (size older) ≡ told (size older) (effect older row.deed)
 newest_at effect row older =
     let all : size older ≤ size older = omega arith in
     let below : first_rows (size older) (row ∷ older) ≡ older =
@@ -114,7 +114,7 @@ newest_at effect row older =
     ap (λ is. deed_of (elim is [ true ↦ Some row | false ↦ row_at older (size older) ])) ((Decides-eqb (size older) (size older)).1 refl) in
     ap₂ (λ b deed. told_by effect b (size older) deed) below here
 
-older_at : {A : Type 0} (effect : Deeds A) (row : Plain) (older : Base) (n : ℕ) → n ≤ length older → told_at effect (row ∷ older) n ≡ told_at effect older n
+pub older_at : {A : Type 0} (effect : Deeds A) (row : Plain) (older : Base) (n : ℕ) → n ≤ length older → told_at effect (row ∷ older) n ≡ told_at effect older n
 older_at effect row older n within =
     let apart : (size older == n) ≡ false = grind (arith, nat_tests) in
     let past : nat_lt (size older) n ≡ false = grind (arith, nat_tests) in
@@ -149,7 +149,7 @@ le_same : (n : ℕ) → n ≤ n
 le_same n = omega arith
 
 -- the first rows are no more than all
-first_shorter : (t : ℕ) (b : Base) → length (first_rows t b) ≤ length b
+pub first_shorter : (t : ℕ) (b : Base) → length (first_rows t b) ≤ length b
 first_shorter t [] = omega arith
 first_shorter t (row ∷ older) = elim (nat_lt (size older) t) as (λ within. length (elim within as (λ _. Base) [ true ↦ row ∷ older | false ↦ first_rows t older ]) ≤ suc (length older)) [
   | true ↦ le_same (suc (length older))
@@ -196,80 +196,3 @@ newest_below effect (row ∷ older) = by_effect (size older) (effect older row.d
     by_effect n Keeps (Some row) h = omega arith
     by_effect n Ends rows h = omega arith
     by_effect n (Sets a) rows h = omega arith
-
--- the same once more is the same
-or_again : {A : Type 0} (x y : Option A) → option_or (option_or x y) y ≡ option_or x y
-or_again None None = refl
-or_again None (Some b) = refl
-or_again (Some a) y = refl
-
-pub or_none : {A : Type 0} (x : Option A) → option_or x None ≡ x
-or_none None = refl
-or_none (Some a) = refl
-
--- the same of the oldest row that sets a thing
-module _ {A : Type 0} (at : ℕ → Option A) (n key : ℕ) where
-  passed_last : (keys rest : List ℕ) → at n ≡ None → last_set at (with_marks n key keys rest) ≡ last_set at rest
-  passed_last [] rest none = refl
-  passed_last (k ∷ keys) rest none = passed_last keys (put_if (k == key) n rest) none ∙ by_key (k == key)
-    where
-      by_key : (is : Bool) → last_set at (put_if is n rest) ≡ last_set at rest
-      by_key true = ap (option_or (last_set at rest)) none ∙ or_none (last_set at rest)
-      by_key false = refl
-
-  once_last : (keys rest : List ℕ) → last_set at (with_marks n key keys (n ∷ rest)) ≡ option_or (last_set at rest) (at n)
-  once_last [] rest = refl
-  once_last (k ∷ keys) rest =
-      elim (k == key) as (λ is. last_set at (with_marks n key keys (put_if is n (n ∷ rest))) ≡ option_or (last_set at rest) (at n)) [
-        | true ↦ once_last keys (n ∷ rest) ∙ or_again (last_set at rest) (at n)
-        | false ↦ once_last keys rest
-      ]
-
-  counted_last : (keys rest : List ℕ) → list_any (λ k. k == key) keys ≡ true → last_set at (with_marks n key keys rest) ≡ option_or (last_set at rest) (at n)
-  counted_last [] rest has = absurd (cc)
-  counted_last (k ∷ keys) rest has =
-      elim (k == key) as (λ is. (is || list_any (λ j. j == key) keys) ≡ true → last_set at (with_marks n key keys (put_if is n rest)) ≡ option_or (last_set at rest) (at n)) [
-        | true ↦ λ h. once_last keys rest
-        | false ↦ λ h. counted_last keys rest h
-      ] has
-
-marks_tell_oldest : {A : Type 0} (hashing : RandomState) (subject : Subject) (effect : Deeds A) (covered : IsCovered subject effect) (at : ℕ → Option A) (b : Base)
-    → ((n : ℕ) → n ≤ length b → at n ≡ set_at effect b n) → last_set at (marked hashing (key hashing subject) b) ≡ oldest effect b
-marks_tell_oldest hashing subject effect covered at [] agree = refl
-marks_tell_oldest hashing subject effect covered at (row ∷ older) agree =
-    let n = size older in
-    let keys = keys_of hashing older row.deed in
-    let rest = marked hashing (key hashing subject) older in
-    let here : at n ≡ left_by (told n (effect older row.deed)) = agree n (omega arith) ∙ ap left_by (newest_at effect row older) in
-    let before : last_set at rest ≡ oldest effect older =
-    marks_tell_oldest hashing subject effect covered at older (λ m within. agree m (omega arith) ∙ ap left_by (older_at effect row older m within)) in
-    elim (bears subject older row.deed) as (λ is. bears subject older row.deed ≡ is → last_set at (with_marks n (key hashing subject) keys rest) ≡ option_or (oldest effect older) (left_by (told n (effect older row.deed)))) [
-      | true ↦ λ e. counted_last at n (key hashing subject) keys rest (has_key hashing subject (borne older row.deed) e) ∙ ap₂ option_or before here
-      | false ↦ λ e.
-          let nothing : left_by (told n (effect older row.deed)) ≡ None = ap (λ does. left_by (told n does)) (covered older row.deed e) in
-          passed_last at n (key hashing subject) keys rest (here ∙ nothing) ∙ before ∙ sym (ap (option_or (oldest effect older)) nothing ∙ or_none (oldest effect older))
-    ] refl
-
-only_first_oldest : {A : Type 0} (hashing : RandomState) (subject : Subject) (effect : Deeds A) (covered : IsCovered subject effect) (t : ℕ) (b : Base) (at : ℕ → Option A)
-    → ((n : ℕ) → at n ≡ set_at effect (first_rows t b) n) → last_set at (marked hashing (key hashing subject) b) ≡ oldest effect (first_rows t b)
-only_first_oldest hashing subject effect covered t [] at agree = refl
-only_first_oldest hashing subject effect covered t (row ∷ older) at agree =
-    elim (nat_lt (size older) t) as (λ within. ((n : ℕ) → at n ≡ set_at effect (elim within as (λ _. Base) [ true ↦ row ∷ older | false ↦ first_rows t older ]) n)
-    → last_set at (marked hashing (key hashing subject) (row ∷ older)) ≡ oldest effect (elim within as (λ _. Base) [ true ↦ row ∷ older | false ↦ first_rows t older ])) [
-      | true ↦ λ all. marks_tell_oldest hashing subject effect covered at (row ∷ older) (λ n within. all n)
-      | false ↦ λ all.
-          let n = size older in
-          let none : at n ≡ None =
-          all n ∙ ap (λ found. left_by (told_by effect (first_rows n (first_rows t older)) n (deed_of found))) (no_later (first_rows t older) n (omega (arith, first_shorter t older))) in
-          passed_last at n (key hashing subject) (keys_of hashing older row.deed) (marked hashing (key hashing subject) older) none ∙ only_first_oldest hashing subject effect covered t older at all
-    ] agree
-
--- The last of a subject's marks whose row is among the first rows and sets the thing is the oldest of the first rows that does.
-pub oldest_of_first : {A : Type 0} (hashing : RandomState) (subject : Subject) (effect : Deeds A) → IsCovered subject effect → (t : ℕ) (b : Base)
-    → last_set (set_at effect (first_rows t b)) (marked hashing (key hashing subject) b) ≡ oldest effect (first_rows t b)
-oldest_of_first hashing subject effect covered t b = only_first_oldest hashing subject effect covered t b (set_at effect (first_rows t b)) (λ n. refl)
-
--- one of three after the other
-pub or_of_three : {A : Type 0} (x y z : Option A) → option_or (option_or x y) z ≡ option_or x (option_or y z)
-or_of_three None y z = refl
-or_of_three (Some a) y z = refl

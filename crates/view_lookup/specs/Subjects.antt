@@ -37,6 +37,14 @@ desk_subjects n (deeds.Checkin v e) = Out v e ∷ []
 desk_subjects n (deeds.Uncheckout v e) = Out v e ∷ []
 desk_subjects n deed = []
 
+-- what becomes of objects by a deed that makes row n, where the object that it names has these targets
+abbrev pub object_subjects : ℕ → List (List ℕ) → Deed → List Subject
+object_subjects n targets (deeds.Publish v own script entries outputs) = Living n ∷ map (Object v) own
+object_subjects n targets (deeds.Wink v id) = map (Object v) targets
+object_subjects n targets (deeds.Drop v path) = Object v path ∷ []
+object_subjects n targets (deeds.Scrub objects) = map Living objects
+object_subjects n targets deed = desk_subjects n deed
+
 -- the subjects on which a deed bears that makes row n, where the object that it names has these targets
 abbrev pub subjects : ℕ → List (List ℕ) → Deed → List Subject
 subjects n targets (deeds.Mkview v) = Life v ∷ []
@@ -45,12 +53,8 @@ subjects n targets (deeds.Setcs v text) = Spec v ∷ []
 subjects n targets (deeds.Put v path text) = File v path ∷ []
 subjects n targets (deeds.Rm v path) = File v path ∷ []
 subjects n targets (deeds.Mktype kind name) = Named name ∷ []
-subjects n targets (deeds.Publish v own script entries outputs) = Living n ∷ map (Object v) own
-subjects n targets (deeds.Wink v id) = map (Object v) targets
-subjects n targets (deeds.Drop v path) = Object v path ∷ []
-subjects n targets (deeds.Scrub objects) = map Living objects
 subjects n targets (deeds.Arrow e tail head) = Merge e tail head ∷ []
-subjects n targets deed = desk_subjects n deed
+subjects n targets deed = object_subjects n targets deed
 
 -- the targets of the object that a deed names, which an older row made
 abbrev pub named_targets : Base → Deed → List (List ℕ)

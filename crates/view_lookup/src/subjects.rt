@@ -125,6 +125,31 @@ fn desk_subject_at<'a>(number: u64, deed: &'a Deed, index: usize) -> Option<Subj
     }
 }
 
+/// One of the objects of which a deed tells, or of the places where a view holds one, else what the deed takes out, where the
+/// object that it names has these targets.
+fn object_subject_at<'a>(
+    number: u64,
+    targets: &'a [Path],
+    deed: &'a Deed,
+    index: usize,
+) -> Option<Subject<'a>>
+    ensures subject { option_map model.plain result
+        ≡ slice_get (model.object_subjects number targets.now deed.now) index }
+    ensures within { IfSome result (λ _. index ≤ 2 ^ 63) }
+{
+    match deed {
+        Deed::Publish {
+            view,
+            targets: own,
+            ..
+        } => made_at(number, view, own.as_slice(), index),
+        Deed::Wink { view, .. } => object_at(view, targets, index),
+        Deed::Drop { view, path } => one(Subject::Object(view, path), index),
+        Deed::Scrub { objects } => living_at(objects.as_slice(), index),
+        _ => desk_subject_at(number, deed, index),
+    }
+}
+
 /// One of the subjects on which a deed bears that makes the row of a number, in their order, where the object that it names
 /// has these targets. Takes constant time.
 pub(crate) fn subject_at<'a>(
@@ -144,20 +169,12 @@ pub(crate) fn subject_at<'a>(
         Deed::Put { view, path, .. } => one(Subject::File(view, path), index),
         Deed::Rm { view, path } => one(Subject::File(view, path), index),
         Deed::Mktype { name, .. } => one(Subject::Named(name), index),
-        Deed::Publish {
-            view,
-            targets: own,
-            ..
-        } => made_at(number, view, own.as_slice(), index),
-        Deed::Wink { view, .. } => object_at(view, targets, index),
-        Deed::Drop { view, path } => one(Subject::Object(view, path), index),
-        Deed::Scrub { objects } => living_at(objects.as_slice(), index),
         Deed::Arrow {
             element,
             tail,
             head,
         } => one(Subject::Merge(*element, *tail, *head), index),
-        _ => desk_subject_at(number, deed, index),
+        _ => object_subject_at(number, targets, deed, index),
     }
 }
 

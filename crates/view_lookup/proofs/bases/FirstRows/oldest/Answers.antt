@@ -10,7 +10,7 @@ use Rattle.view_lookup.specs.Shown.{Shown}
 use Rattle.view_lookup.specs.Subjects.{key}
 use Rattle.view_lookup.specs.declared.marks.Link.{Link}
 use Rattle.view_lookup.proofs.Chains.{link_at, none_from}
-use Rattle.view_lookup.proofs.Newest.{oldest_of_first, or_none, or_of_three}
+use Rattle.view_lookup.proofs.Oldest.{oldest_of_first, or_none, or_of_three}
 use Rattle.view_lookup.proofs.bases.FirstRows.oldest.Goals as goal
 
 -- the search begins at the newest row of the key
