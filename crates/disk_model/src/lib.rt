@@ -5,7 +5,7 @@
 // all that was done to it, fails where a test wants it, and gives an image of a stop at any call.
 //
 // What it promises: what a stop at a call leaves is a function of the list of the calls, so it never changes later. Each
-// call raises the ticks by one, and the faults exactly where it answers an error.
+// call raises the ticks by one, and the faults exactly where it answers an error; the list tells which calls these are.
 //
 // What it stands on: cc_names. That real files follow the crash model is not proved.
 #![tactic(auto)]

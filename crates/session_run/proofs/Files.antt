@@ -7,9 +7,10 @@ use Rattle.disk_model.specs.Devices.{Device}
 use Rattle.disk_model.specs.Told.{Sight, Both}
 use Rattle.legal_history.specs.Stories.States.{State, start}
 use Rattle.legal_history.specs.Stories.Steps.{after, state_from, state_of}
+use Rattle.vob_journal.specs.Added.{WritesOn}
 use Rattle.vob_journal.specs.Reads.{SameFiles, SameObjects}
 use Rattle.vob_journal.proofs.Staying.{told_then}
-use Rattle.vob_journal.proofs.Telling.{both_then}
+use Rattle.vob_journal.proofs.Telling.{both_map, both_then}
 use Rattle.base_core.specs.Backed.{is_faulted}
 use Rattle.base_core.specs.Counted.{CountsStep, CountsSteps}
 use Rattle.session_run.specs.Accounted.{CountsFrom, KeepsFiles, is_calm}
@@ -27,6 +28,9 @@ of_files None (Some e) h = absurd h
 of_files (Some d) None h = absurd h
 of_files (Some d) (Some e) h = h.objects
 
+of_writes : (one two : Option Device) → Both WritesOn one two → Both SameObjects one two
+of_writes one two h = both_map WritesOn SameObjects one two (λ d e writes. writes.objects) h
+
 objects_idle : (one : Option Device) → Both SameObjects one one
 objects_idle None = tt
 objects_idle (Some d) = refl
@@ -36,8 +40,8 @@ same_sight old new e = subst (λ s. Both SameObjects old.told s.told) (sym e) (o
 
 -- each step leaves the file of objects
 step_leaves : (step : Told) (old new : Sight) → CountsStep step old new → Both SameObjects old.told new.told
-step_leaves (told.Commit row tick) old new h = h.3
-step_leaves (told.Other (steps.Fault tag left before faults tick)) old new h = h.5
+step_leaves (told.Commit row tick) old new h = of_writes old.told new.told h.4
+step_leaves (told.Other (steps.Fault tag left before faults tick)) old new h = of_writes old.told new.told h.6
 step_leaves (told.Other (steps.Opened n)) old new h = same_sight old new h
 step_leaves (told.Other step) old new h = same_sight old new h
 step_leaves (told.Opened rows counts tells) old new h = same_sight old new h
@@ -84,7 +88,7 @@ pub keeps_files : (disk : Change Sight) (opened : Sight) (story : List Told) →
 keeps_files disk opened story same counted = record {
   objects =
       objects_then disk.before.told opened.told disk.after.told (of_files disk.before.told opened.told same)
-      (objects_then opened.told counted.ended.told disk.after.told (steps_leave counted.steps opened counted.ended counted.counts) counted.settled.objects);
+      (objects_then opened.told counted.ended.told disk.after.told (steps_leave counted.steps opened counted.ended counted.counts) (of_writes counted.ended.told disk.after.told counted.settled.writes));
   files = λ calm.
       let parts = calm_story story counted.first counted.steps counted.story_is calm in
       let rests = counted.settled.rests parts.1 ∙ calm_rests counted.steps opened counted.ended parts.0 counted.counts in

@@ -1,3 +1,4 @@
+pub mod Blaming
 pub mod Exactly
 mod Files
 pub mod FromNothing
@@ -12,3 +13,4 @@ pub mod Running
 pub mod Stopping
 pub mod Within
 mod Worked
+mod WorkedFaults

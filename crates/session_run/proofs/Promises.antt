@@ -46,6 +46,7 @@ use Rattle.session_run.specs.declared.sessions.Stop.TheVariants as stops
 use Rattle.session_run.specs.declared.statuses.Status.{Status}
 use Rattle.session_run.specs.declared.statuses.Status.TheVariants as statuses
 use Rattle.base_core.proofs.Damages.{undamaged_on}
+use Rattle.session_run.proofs.Blaming.{blamed}
 use Rattle.session_run.proofs.FromNothing.{Laws, are_from_nothing}
 use Rattle.session_run.proofs.Running.{clock_length, raised_none}
 use Rattle.session_run.proofs.Files.{closed_files, keeps_files}
@@ -362,8 +363,8 @@ promised_closed because status intake outside faults disk unread asked fails wro
     (stays_closed disk.before disk.after [] refl fails.tells fails.unchanged fails.files)
 
 -- The promises where the source gave a session
-pub promised_run : (phases : List Phase) (status : Status) (story : List Told) (intake : Intake) (outside : Outside) (faults : Change ℕ) (disk : Change Sight) → GivesPhases intake phases → RunsSession phases status story outside faults disk → Promised status story intake outside faults disk
-promised_run phases status story intake outside faults disk gives (inl run) =
+pub promised_run : (phases : List Phase) (status : Status) (story : List Told) (intake : Intake) (outside : Outside) (faults : Change ℕ) (disk : Change Sight) → IsCounted disk.before → IsCounted disk.after → GivesPhases intake phases → RunsSession phases status story outside faults disk → Promised status story intake outside faults disk
+promised_run phases status story intake outside faults disk was now gives (inl run) =
     let ran = run.runs in
     let rose = disk_rose disk in
     subst (λ s. Promised s story intake outside faults disk) (sym ran.status_is)
@@ -374,10 +375,15 @@ promised_run phases status story intake outside faults disk gives (inl run) =
       printed = run_printed ran.result rose story phases intake outside faults disk ran.ran;
       stopped = keeps_prefix disk.before disk.after story run.begins ran.legal ran.accounted ran.mended ran.again;
       cause = run_cause ran.result rose story phases intake outside faults disk refl gives ran.ran ran.fault (undamaged_on disk.before run.begins.base run.begins.handed run.begins.on);
-      accounted = λ opened. record { opened = run.opened; sound = run.sound; counted = ran.counted };
+      accounted = λ opened. record {
+        opened = run.opened;
+        sound = run.sound;
+        counted = ran.counted;
+        calls = blamed disk.before run.opened disk.after story _ _ _ was run.fit now run.sound run.adds run.begins.first ran.counted;
+      };
       files = keeps_files disk run.opened story run.files ran.counted;
     })
-promised_run phases status story intake outside faults disk gives (inr closed) =
+promised_run phases status story intake outside faults disk was now gives (inr closed) =
     subst (λ s. Promised status s intake outside faults disk) (sym closed.empty)
     (promised_closed closed.because status intake outside faults disk closed.unread (asked intake phases gives) closed.fails closed.wrote)
 

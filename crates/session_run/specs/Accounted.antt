@@ -4,18 +4,20 @@ use Rattle.cc_names.specs.declared.steps.Step.TheVariants as steps
 use Rattle.cc_names.specs.declared.steps.Told.{Told}
 use Rattle.cc_names.specs.declared.steps.Told.TheVariants as told
 use Rattle.disk_model.specs.Counting.{raised}
-use Rattle.disk_model.specs.Told.{Sight, Both}
+use Rattle.disk_model.specs.Told.{Sight, IfTold, Both}
 use Rattle.legal_history.specs.Stories.Steps.{state_of}
+use Rattle.vob_journal.specs.Added.{WritesOn}
 use Rattle.vob_journal.specs.Reads.{SameFiles, SameObjects}
 use Rattle.base_core.specs.Backed.{is_faulted}
 use Rattle.base_core.specs.Counted.{CountsSteps}
+use Rattle.session_run.specs.Blamed.{IsBlamed}
 use Rattle.session_run.specs.Causes.{Change}
 
--- A journal was settled: at most one fault more was counted, the file of objects is as it was, and where no fault had left
--- its tail open no call was made.
+-- A journal was settled: at most one fault more was counted, no call read, the file of objects is as it was, and where no fault
+-- had left its tail open no call was made.
 pub record Settles (faulted : Bool) (old new : Sight) : Type 0 where
   pub faults : (new.faults ≡ old.faults) ⊎ (new.faults ≡ raised old.faults)
-  pub objects : Both SameObjects old.told new.told
+  pub writes : Both WritesOn old.told new.told
   pub rests : faulted ≡ false → new ≡ old
 
 -- The steps of a history behind its first, from the disk as the base was opened to the disk as it came back. The disk was
@@ -30,11 +32,13 @@ pub record CountsFrom (opened after : Sight) (story : List Told) : Type 0 where
   pub settled : Settles (is_faulted (state_of story).ends) ended after
 
 -- *Whose fault*: opening counted no fault, and from then on the count rose just at the faults of the history, by the counts of
--- some disk between one step and the next. That these are the counts between two turns is said by the calls of `Core`.
+-- some disk between one step and the next. Where the disk tells its device nothing of this is left to choose: the calls that it
+-- tells say at which tick each of them failed.
 pub record IsAccountedFor (disk : Change Sight) (story : List Told) : Type 0 where
   pub opened : Sight
   pub sound : opened.faults ≡ disk.before.faults
   pub counted : CountsFrom opened disk.after story
+  pub calls : IfTold disk.after.told (IsBlamed disk.before.ticks story)
 
 -- whether no row was committed and the disk failed under none
 abbrev pub is_calm : List Told → Bool

@@ -132,6 +132,8 @@ pub record FindsDamage (status : Status) (intake : Intake) (disk : Change Sight)
 pub record LeavesAlone (intake : Intake) (disk : Change Sight) (story : List Told) : Type 0 where
   pub unless_asked : IsAsked intake ⊎ IsUntouched disk story
 
--- *How far a source is read*, whatever the status: it gave at most one byte more than a text may have
-pub record TakesNoMore (given : Change ℕ) : Type 0 where
-  pub most : RoseAtMost (text_limit + 1) given.before given.after
+-- *How far a source is read*, whatever the status: it gave at most one byte more than a text may have, and where the words are
+-- not those of a run it was not read
+pub record TakesNoMore (intake : Intake) : Type 0 where
+  pub most : RoseAtMost (text_limit + 1) intake.given.before intake.given.after
+  pub unread : is_run intake.words ≡ false → IsUnread intake

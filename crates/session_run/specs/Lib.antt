@@ -1,6 +1,7 @@
 pub mod Accounted
 pub mod Asked
 pub mod Begun
+pub mod Blamed
 pub mod Causes
 pub mod FromNothing
 pub mod HandedOn

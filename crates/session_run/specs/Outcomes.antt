@@ -5,7 +5,8 @@ use Rattle.cc_names.specs.declared.memory.Or.{Or}
 use Rattle.cc_names.specs.declared.steps.Told.{Told}
 use Rattle.cc_names.specs.Counts.{Rose, rises}
 use Rattle.cc_outside.specs.declared.sinks.WriteFault.{WriteFault}
-use Rattle.disk_model.specs.Told.{Sight, Both}
+use Rattle.disk_model.specs.Told.{Sight, Both, IsCounted}
+use Rattle.vob_journal.specs.Added.{Adds, may_read}
 use Rattle.vob_journal.specs.Reads.{SameFiles}
 use Rattle.legal_history.specs.Stories.Steps.{state_of}
 use Rattle.legal_history.specs.Stories.Lawful.{Legal}
@@ -36,12 +37,14 @@ pub record RunsOpened (phases : List Phase) (status : Status) (first : Option To
   pub again : AllOpenAgain story
   pub counted : CountsFrom disk.before disk.after story
 
--- the base that the disk stood for was opened
+-- the base that the disk stood for was opened, by calls that read and of which none failed
 pub record RunsOn (phases : List Phase) (status : Status) (story : List Told) (outside : Outside) (faults : Change ℕ) (disk : Change Sight) : Type 0 where
   pub begins : BeginsOn disk.before story
   pub first : Option Told
   pub opened : Sight
   pub sound : opened.faults ≡ disk.before.faults
+  pub fit : IsCounted opened
+  pub adds : Both (Adds may_read) disk.before.told opened.told
   pub files : Both SameFiles disk.before.told opened.told
   pub runs : RunsOpened phases status first story disk.before.faults (record { before = opened; after = disk.after }) outside faults
 

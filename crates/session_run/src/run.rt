@@ -190,8 +190,7 @@ pub fn run_words<S: Source, K: Sink, D: Disk, C: Clock>(
         (record { before = D.sight disk; after = D.sight result.disk }) }
     ensures untouched { LeavesAlone (intake_of words.now (S.sight source.old) (S.sight source.new))
         (record { before = D.sight disk; after = D.sight result.disk }) result.history }
-    ensures taken { TakesNoMore
-        (record { before = (S.sight source.old).given; after = (S.sight source.new).given }) }
+    ensures taken { TakesNoMore (intake_of words.now (S.sight source.old) (S.sight source.new)) }
 {
     a_scrub_of_a_story_lists_what_is_due();
     a_held_object_is_live_at_each_step();

@@ -59,8 +59,7 @@ pub(crate) fn session_given<S: Source>(
         phases.items) }
     ensures stops { IfErr result
         (λ stop. HasStop stop (intake_of words.now (S.sight source.old) (S.sight source.new))) }
-    ensures taken { TakesNoMore
-        (record { before = (S.sight source.old).given; after = (S.sight source.new).given }) }
+    ensures taken { TakesNoMore (intake_of words.now (S.sight source.old) (S.sight source.new)) }
 {
     if !is_run(words) {
         return Err(Stop::BadWords);

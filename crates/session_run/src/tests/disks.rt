@@ -32,11 +32,13 @@ fn letter_of(call: &Call) -> char {
         Call::Length { .. } => 'L',
         Call::Read { .. } => 'R',
         Call::Write { .. } => 'W',
+        Call::Tear { .. } => 'T',
         Call::Sync { .. } => 'S',
     }
 }
 
-// The calls on a disk up to the last that did anything, a letter each, and `!` for one that failed before it did anything.
+// The calls on a disk up to the last that did anything, a letter each: `T` is a write that failed, and `!` is a call that failed
+// before it did anything.
 fn calls_on(alloc: Global, disk: &MemoryDisk) -> Result<String, NoMemory> {
     let mut calls = String::new(alloc);
     for entry in disk.entries() {
@@ -163,7 +165,7 @@ fn the_next_command_goes_on(rt: HostRuntime) -> Result<(), Fail> {
     let calls = "LWSWSWSWSWSWSWSWSW!WSWSWS";
     assert_fault(&rt, alloc, SECOND, &[19], again.as_str(), calls, 25, 4)?;
     let never = format!(in alloc; "{UNBUILT}5 clearmake disk fault\n")?;
-    let calls = "LWSWSWSWSWSWSWSWSW!WWS";
+    let calls = "LWSWSWSWSWSWSWSWSW!TWS";
     assert_fault(&rt, alloc, SECOND, &[19, 20], never.as_str(), calls, 22, 3)
 }
 

@@ -22,6 +22,8 @@ returns-in-Ok g c =
       first = first_step core.story;
       opened = core.sight;
       sound = c.in-Ok.ensures.ok.sound;
+      fit = c.in-Ok.ensures.ok.fit;
+      adds = c.in-Ok.ensures.ok.adds;
       files = c.in-Ok.ensures.ok.files;
       runs =
           subst (λ n. RunsOpened c.args.phases.items ended.status (first_step core.story) ended.history n (record { before = core.sight; after = g.D.Disk.sight ended.disk }) outside faults)

@@ -13,7 +13,7 @@ run_session-requires-clause-stable g c = journal_stable (g.D.Disk.sight c.args.d
 
 pub returns-in-Ok : goal.returns-in-Ok
 returns-in-Ok g c =
-    let all = promised_run c.in-Ok.phases.items c.run_session.result.status c.run_session.result.history _ _ _ _ c.in-Ok.ensures.gives c.run_session.ensures in
+    let all = promised_run c.in-Ok.phases.items c.run_session.result.status c.run_session.result.history _ _ _ _ (g.met.D.Disk.counted c.args.disk) (g.met.D.Disk.counted c.run_session.result.disk) c.in-Ok.ensures.gives c.run_session.ensures in
     record { session = all.session; history = all.history; built = all.built; scrubs = scrubs_list c.a_scrub_of_a_story_lists_what_is_due.ensures _ all.history.legal; held = held_are_live c.a_held_object_is_live_at_each_step.ensures _ all.history.legal; printed = all.printed; stopped = all.stopped; cause = all.cause; accounted = all.accounted; files = all.files; damaged = finds_damage _ _ _ _ _ all.cause; untouched = record { unless_asked = inl (asked _ c.in-Ok.phases.items c.in-Ok.ensures.gives) }; taken = c.session_given.ensures.taken }
 
 pub returns-in-Err : goal.returns-in-Err
