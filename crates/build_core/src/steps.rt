@@ -118,7 +118,7 @@ fn next(
 /// What comes next for a unit of an active build: nothing where it has its outcome; else the
 /// wait for another unit, the end without a run, or its start with its script. Fails only where memory runs out.
 ///
-/// Takes time that grows with the units times the unit's prerequisites, and with the bytes of the script.
+/// Takes look-ups by the paths of the unit's prerequisites and targets, and time linear in the bytes of the script.
 pub fn step(
     alloc: Global,
     rows: &FirstRows<'_>,
