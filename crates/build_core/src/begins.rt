@@ -24,7 +24,7 @@ use cc_names::paths::Path;
 use cc_names::refusals::Refusal;
 use cc_names::rows::Tag;
 use make_graph::unit_graphs::Graph;
-use make_text::makefiles::Texts;
+use make_text::contents::Texts;
 use std::alloc::Global;
 use std::hash::RandomState;
 use view_lookup::{FirstRows, ROW_LIMIT, text_at, view_row};

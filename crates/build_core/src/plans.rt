@@ -12,8 +12,7 @@ use cc_names::paths::Path;
 use cc_names::refusals::{GraphFault, MakeError, Refusal};
 use make_graph::goals::Exists;
 use make_graph::unit_graphs::Graph;
-use make_text::contents::Makefile;
-use make_text::makefiles::Texts;
+use make_text::contents::{Makefile, Texts};
 use std::alloc::Global;
 use std::hash::RandomState;
 

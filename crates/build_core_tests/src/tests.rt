@@ -8,7 +8,7 @@ use cc_names::memory::Or;
 use cc_names::paths::Path;
 use cc_names::refusals::Refusal;
 use make_graph::unit_graphs::Graph;
-use make_text::makefiles::Texts;
+use make_text::contents::Texts;
 use std::alloc::Global;
 use std::hash::RandomState;
 use std::test::Fail;

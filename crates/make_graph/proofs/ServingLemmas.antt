@@ -6,7 +6,7 @@ use Rattle.std.specs.Result.{result_ok}
 use Rattle.cc_names.specs.Names.{unless_fault}
 use Rattle.cc_names.specs.Paths.{path_fault, is_root}
 use Rattle.cc_names.specs.declared.names.NameFault.{NameFault}
-use Rattle.make_text.specs.Makefiles.{path_in, unless_root}
+use Rattle.make_text.specs.WordPaths.{path_in, unless_root}
 use Rattle.make_text.specs.Macros.{is_among}
 use Rattle.make_text.specs.Numbers.{number_from}
 

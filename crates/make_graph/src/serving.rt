@@ -1,7 +1,7 @@
 // All that may serve a build: rules, and what suffix rules make.
 
 ghost use Rattle.std.specs.Prelude.{◌≡◌, [], ◌∷◌, IfOk, OnOk, not, map, filter, fold};
-ghost use Rattle.make_text.specs.Makefiles.{with_path};
+ghost use Rattle.make_text.specs.WordPaths.{with_path};
 ghost use Rattle.make_text.specs.Serving.{stem_of, source_at, inference_at, inference, may_be_served, with_first, by_suffix, by_itself, helped, inference_for, serving_of, bare_rule, serving_alone, without_rule, servings};
 ghost use Rattle.make_text.specs.Units.{is_target};
 ghost use Rattle.make_graph.specs.Numbered.{KnowsRules};

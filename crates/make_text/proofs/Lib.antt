@@ -22,6 +22,5 @@ pub mod CheckLemmas
 pub mod EndingLemmas
 pub mod SuffixLemmas
 pub mod JoinLemmas
-mod Worked
 mod WorkedGraphs
 mod WorkedMakefiles

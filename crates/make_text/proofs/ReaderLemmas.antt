@@ -15,7 +15,7 @@ use Rattle.make_text.specs.Contents.{RuleLine}
 use Rattle.make_text.specs.Lines.{is_blank_line}
 use Rattle.make_text.specs.LogicalLines.{logical_lines}
 use Rattle.make_text.specs.Macros.{is_among, has_bad_dollar}
-use Rattle.make_text.specs.Makefiles.{with_path}
+use Rattle.make_text.specs.WordPaths.{with_path}
 use Rattle.make_text.specs.ReadingSteps.{Leaves, counted_file, with_newest_line, newest_with}
 use Rattle.make_text.specs.Readers.{Keeps, older_of, open_rule, script_tested}
 use Rattle.make_text.specs.Statements.{Reading, fault_at, and_then, unless_cause, cause_or, where_so, has_twice, is_scripted, is_second_script, include_paths, script_line, script_line_of, with_script_line, Files, included, read_lines, with_text, within_limits}

@@ -13,7 +13,7 @@ use Rattle.cc_names.specs.declared.refusals.MakeCause.{MakeCause}
 use Rattle.cc_names.specs.declared.refusals.MakeCause.TheVariants.{BadPath, LineTooLong, MacroLoop}
 use Rattle.make_text.proofs.ServingLaws.{all_filter, below_root, same_path, once_distinct}
 use Rattle.make_text.specs.Macros.{Expansion, followed, plain, is_too_long}
-use Rattle.make_text.specs.Makefiles.{path_in, with_path}
+use Rattle.make_text.specs.WordPaths.{path_in, with_path}
 use Rattle.make_text.specs.Statements.{mark_of, before_mark, cause_or, expanded_by, expansion_fault, is_grouped, is_path, is_special, line_words_fault, plain_targets, rule_bytes_fault, rule_expansion, rule_fault, rule_words_fault, where_so}
 use Rattle.make_text.specs.declared.rule_lines.RuleWords.{RuleWords}
 

@@ -11,7 +11,7 @@ use Rattle.cc_names.specs.Paths.{path_fault, is_root}
 use Rattle.cc_names.specs.declared.names.NameFault.{NameFault}
 use Rattle.make_text.proofs.NumberLaws.{not_twice}
 use Rattle.make_text.specs.Contents.{Contents}
-use Rattle.make_text.specs.Makefiles.{path_in, unless_root, with_path, each_once}
+use Rattle.make_text.specs.WordPaths.{path_in, unless_root, with_path, each_once}
 use Rattle.make_text.specs.Macros.{is_among}
 use Rattle.make_text.specs.Serving.{prerequisites_of, stem_of, only_if, source_at, inference_at, first_inference, may_be_served, inference, with_first, by_suffix, helped, inference_for, serving_of, bare_rule, serving_alone, without_rule, servings}
 use Rattle.make_text.specs.declared.serving.Inference.{Inference}

@@ -9,7 +9,7 @@ use Rattle.make_text.proofs.ServingLaws.{IsServing, servings_apart, servings_for
 use Rattle.make_text.proofs.WalkLaws.{IsSettled, walk_settles}
 use Rattle.make_text.specs.Contents.{Contents, unless_too_long, expansion}
 use Rattle.make_text.specs.Graphs.{first_of, first_target, script_for, unit_of, missing_goal, walked, unless_cycle, unless_missing}
-use Rattle.make_text.specs.declared.makefiles.Expanded.TheVariants.{TooLong, Lines}
+use Rattle.make_text.specs.declared.contents.Expanded.TheVariants.{TooLong, Lines}
 use Rattle.make_text.specs.Macros.{Expansion, is_among, expansion_of, in_script, expansion_limit, is_too_long}
 use Rattle.make_text.specs.Numbers.{number_from}
 use Rattle.make_text.specs.Serving.{servings}

@@ -4,7 +4,7 @@ use Rattle.std.specs.List.{list_all}
 use Rattle.cc_names.specs.declared.refusals.MakeCause.{MakeCause}
 use Rattle.cc_names.specs.declared.refusals.MakeCause.TheVariants.{BadPath}
 use Rattle.make_text.proofs.ServingLaws.{same_path}
-use Rattle.make_text.specs.Makefiles.{path_in, path_before, paths_of}
+use Rattle.make_text.specs.WordPaths.{path_in, path_before, paths_of}
 use Rattle.make_text.specs.RuleLines.{below_root}
 use Rattle.make_text.specs.Statements.{is_path, or_cause, where_so}
 

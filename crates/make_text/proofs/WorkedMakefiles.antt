@@ -13,7 +13,7 @@ use Rattle.make_text.specs.Contents.{Contents, expansion}
 use Rattle.make_text.specs.Statements.{Files}
 use Rattle.make_text.specs.Grammar.{makefile_of}
 use Rattle.make_text.specs.declared.logical_lines.LogicalLine.{LogicalLine}
-use Rattle.make_text.specs.declared.makefiles.Expanded.TheVariants as expansions
+use Rattle.make_text.specs.declared.contents.Expanded.TheVariants as expansions
 use Rattle.make_text.specs.declared.rules.MakeRule.{MakeRule}
 
 -- lines, each ended by a newline

@@ -5,9 +5,9 @@ use Rattle.std.specs.Option.{option_or}
 use Rattle.std.specs.Str.{bytes_eq}
 use Rattle.cc_names.specs.declared.commands.Macro.{Macro}
 use Rattle.make_text.specs.Macros.{Expansion, is_among, expansion_of, in_script, is_too_long}
-use Rattle.make_text.specs.Makefiles.{with_path}
-use Rattle.make_text.specs.declared.makefiles.Expanded.{Expanded}
-use Rattle.make_text.specs.declared.makefiles.Expanded.TheVariants as expansions
+use Rattle.make_text.specs.WordPaths.{with_path}
+use Rattle.make_text.specs.declared.contents.Expanded.{Expanded}
+use Rattle.make_text.specs.declared.contents.Expanded.TheVariants as expansions
 use Rattle.make_text.specs.declared.rules.MakeRule.{MakeRule}
 use Rattle.make_text.specs.declared.rules.SuffixRule.{SuffixRule}
 

@@ -1,7 +1,5 @@
 pub mod Lines
-pub mod Makefiles
-pub mod Reading
-pub mod Units
+pub mod WordPaths
 pub mod LogicalLines
 pub mod JoinedLines
 pub mod LineKinds
@@ -23,6 +21,7 @@ pub mod Grammar
 pub mod Numbers
 pub mod Serving
 pub mod Walks
+pub mod Units
 pub mod Graphs
 pub mod UnitLaws
 pub mod Endings

@@ -1,7 +1,6 @@
 -- What each line of a makefile is by itself.
-use Rattle.std.specs.Prelude.{ℕ, Bool, false, ◌-◌, ◌==◌, not, Option, Some, None, List, [], ◌∷◌, length, find, slice_get, codes}
+use Rattle.std.specs.Prelude.{ℕ, Bool, false, ◌-◌, ◌==◌, Option, Some, None, List, length, slice_get}
 use Rattle.std.specs.List.{list_all}
-use Rattle.std.specs.Str.{bytes_eq}
 use Rattle.cc_names.specs.Cuts.{is_blank}
 
 -- whether there is a byte at all, and it is this one
@@ -17,10 +16,6 @@ is_script_line line = is_byte 9 (slice_get line 0)
 abbrev pub is_blank_line : List ℕ → Bool
 is_blank_line line = list_all is_blank line
 
--- a `#` past the first blanks
-abbrev pub is_comment : List ℕ → Bool
-is_comment line = is_byte 35 (find (λ b. not (is_blank b)) line)
-
 -- a backslash at the end joins a line to the next
 abbrev pub is_joined : List ℕ → Bool
 is_joined line = is_byte 92 (slice_get line (length line - 1))
@@ -28,8 +23,3 @@ is_joined line = is_byte 92 (slice_get line (length line - 1))
 -- a `$` begins a macro
 abbrev pub is_dollar : ℕ → Bool
 is_dollar b = b == 36
-
--- whether there is a first word, and it is `include`
-abbrev pub begins_with_include : List (List ℕ) → Bool
-begins_with_include [] = false
-begins_with_include (word ∷ words) = bytes_eq word (codes "include")

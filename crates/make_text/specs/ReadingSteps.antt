@@ -5,7 +5,7 @@ use Rattle.cc_names.specs.declared.memory.Or.{Or}
 use Rattle.cc_names.specs.declared.refusals.MakeError.{MakeError}
 use Rattle.make_text.specs.Contents.{RuleLine}
 use Rattle.make_text.specs.Macros.{is_among}
-use Rattle.make_text.specs.Makefiles.{with_path}
+use Rattle.make_text.specs.WordPaths.{with_path}
 use Rattle.make_text.specs.Statements.{Definition, Reading, with_definition, with_script_line, with_suffixes, suffixes_name, phony_name, and_then, read_line, within_limits}
 use Rattle.make_text.specs.declared.logical_lines.LogicalLine.{LogicalLine}
 use Rattle.make_text.specs.declared.rule_lines.RuleWords.{RuleWords}

@@ -4,7 +4,7 @@ use Rattle.std.specs.List.{ends_with, filter_map}
 use Rattle.std.specs.Option.{is_some}
 use Rattle.std.specs.Str.{bytes_eq}
 use Rattle.make_text.specs.Contents.{Contents}
-use Rattle.make_text.specs.Makefiles.{path_in, each_once}
+use Rattle.make_text.specs.WordPaths.{path_in, each_once}
 use Rattle.make_text.specs.Macros.{is_among}
 use Rattle.make_text.specs.Units.{is_target}
 use Rattle.make_text.specs.declared.rules.MakeRule.{MakeRule}

@@ -12,7 +12,7 @@ use Rattle.make_text.specs.Lines.{is_byte, is_script_line, is_blank_line}
 use Rattle.make_text.specs.LogicalLines.{logical_lines, without_last}
 use Rattle.make_text.specs.LineKinds.{Kind, Blank, Include, Assignment, Rule, Unclosed, Neither, kind_of, without_comment, trimmed}
 use Rattle.make_text.specs.Macros.{Expansion, expansion_of, followed, plain, has_bad_dollar, is_macro_name, no_automatic, is_too_long, is_among}
-use Rattle.make_text.specs.Makefiles.{path_in, with_path, each_once}
+use Rattle.make_text.specs.WordPaths.{path_in, with_path, each_once}
 use Rattle.make_text.specs.Contents.{RuleLine}
 use Rattle.make_text.specs.declared.logical_lines.LogicalLine.{LogicalLine}
 use Rattle.make_text.specs.declared.rule_lines.RuleWords.{RuleWords}

@@ -1,6 +1,6 @@
 // What a makefile says.
 
-ghost use Rattle.std.specs.Prelude.{◌≡◌, IfOk, option_copied, unwrap_or, []};
+ghost use Rattle.std.specs.Prelude.{◌≡◌, ℕ, List, Option, IfOk, option_copied, unwrap_or, []};
 ghost use Rattle.cc_names.specs.Answers.{Gives};
 ghost use Rattle.make_text.specs.Contents.{unless_too_long, expansion};
 ghost use Rattle.make_text.specs.Grammar.{makefile_of};
@@ -12,7 +12,6 @@ use crate::endings::checked;
 use crate::expansions::{Automatic, Outcome, expand};
 use crate::including::read_all;
 use crate::macros::MacroTable;
-use crate::makefiles::{Expanded, Texts};
 use crate::rules::{MakeRule, SuffixRule};
 use cc_names::commands::Macro;
 use cc_names::memory::{NoMemory, Or};
@@ -25,7 +24,26 @@ use std::hash::RandomState;
 use std::marker::Model;
 use std::rc::Rc;
 
-/// A makefile of the language in full. Contracts see it as what it says.
+/// The files that a makefile may be read from.
+pub trait Texts {
+    /// The text at a path, if there is one.
+    ghost texts: { Self → List ℕ → Option (List ℕ) };
+
+    /// The text at the path.
+    fn text(&self, path: &Path) -> Option<&[u8]>
+        ensures { option_copied result ≡ texts self.now path.now };
+}
+
+/// A script whose macros were expanded.
+#[derive(Debug, Drop)]
+pub enum Expanded {
+    /// It passes 65,536 bytes.
+    TooLong,
+    /// Its lines, each ended by a newline.
+    Lines(Text),
+}
+
+/// A makefile. Contracts see it as what it says.
 #[derive(Drop)]
 pub struct Makefile {
     rules: Vec<MakeRule>,

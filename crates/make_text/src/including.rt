@@ -10,7 +10,7 @@ ghost use Rattle.make_text.specs.Statements.{included, include_line, read_line, 
 
 use crate::line_kinds::{Kind, kind_of, trimmed, without_comment};
 use crate::logical_lines::{LogicalLine, LogicalLines};
-use crate::makefiles::Texts;
+use crate::contents::Texts;
 use crate::readers::Reader;
 use crate::readings::{Reading, fault_at};
 use crate::words::is_script_line;

@@ -5,8 +5,8 @@
 // here too, for the crates above.
 //
 // What it promises: texts are read as a makefile exactly where its grammar says so, with the first line that fails, in its
-// file, and the cause; and a script expands as defined. `makefiles::Makefile` is the reader of plain makefiles, of one rule,
-// which the crates above use so far. By law the units of a build are in order and formed, over any makefile of formed rules.
+// file, and the cause; and a script expands as defined. By law every makefile that is read is formed, and over any such makefile
+// the units of a build are in order and formed.
 //
 // What it stands on: `cc_names` for paths, texts, units and causes, and for the lines of a text and their words;
 // `indexmap` for macros by name and for paths in order, each once.
@@ -26,7 +26,6 @@ mod line_tests;
 mod logical_lines;
 mod macro_checks;
 mod macros;
-pub mod makefiles;
 #[cfg(test)]
 mod piece_tests;
 mod pieces;
@@ -37,7 +36,5 @@ pub mod rules;
 pub mod serving;
 mod special_targets;
 mod suffix_rules;
-#[cfg(test)]
-mod tests;
 pub mod walks;
 mod words;
