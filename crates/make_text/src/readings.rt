@@ -386,6 +386,7 @@ impl Reading {
     pub(crate) fn add_rule(
         &mut self,
         alloc: Global,
+        hashing: RandomState,
         file: &Rc<Path>,
         line: u32,
         words: RuleWords,
@@ -399,7 +400,7 @@ impl Reading {
             prerequisites,
         } = words;
         let is_special = has_special(targets.as_slice());
-        let targets = plain_targets(alloc, is_group, targets)?;
+        let targets = plain_targets(alloc, hashing, is_group, targets)?;
         self.targets = more(self.targets, targets.len())?;
         self.rules.push(RuleLine {
             file: file.clone()?,

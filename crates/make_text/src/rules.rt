@@ -9,6 +9,7 @@ use cc_names::paths::Path;
 use cc_names::texts::Text;
 use indexmap::IndexSet;
 use std::alloc::{AllocError, Global};
+use std::hash::RandomState;
 
 /// What its targets are made of, and by which script. The script is as it was read, each of its lines without the tab
 /// and ended by a newline; its macros are not expanded yet.
@@ -54,10 +55,14 @@ pub(crate) fn read_paths(alloc: Global, words: &[&[u8]]) -> Result<Option<Vec<Pa
 }
 
 /// The paths, each of them once.
-pub(crate) fn each_once(alloc: Global, paths: Vec<Path>) -> Result<List<Path>, AllocError>
+pub(crate) fn each_once(
+    alloc: Global,
+    hashing: RandomState,
+    paths: Vec<Path>,
+) -> Result<List<Path>, AllocError>
     ensures { IfOk result (λ once. once ≡ each_once paths.items) }
 {
-    let mut once = IndexSet::new(alloc);
+    let mut once = IndexSet::with_hasher(alloc, hashing);
     for path in paths {
         once.insert(path)?;
     }

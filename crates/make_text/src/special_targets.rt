@@ -76,13 +76,14 @@ fn not_special(alloc: Global, targets: &[Path]) -> Result<Vec<Path>, NoMemory>
 /// The targets of a rule line that are not special, those of a group each once.
 pub(crate) fn plain_targets(
     alloc: Global,
+    hashing: RandomState,
     is_group: bool,
     targets: List<Path>,
 ) -> Result<List<Path>, NoMemory>
     ensures { IfOk result (λ plain. plain ≡ plain_targets is_group targets) }
 {
     if is_group {
-        return Ok(each_once(alloc, targets.into_items())?);
+        return Ok(each_once(alloc, hashing, targets.into_items())?);
     }
     Ok(List::of(not_special(alloc, targets.as_slice())?))
 }

@@ -7,8 +7,7 @@ use cc_names::commands::Macro;
 use cc_names::memory::{NoMemory, Or};
 use cc_names::paths::Path;
 use cc_names::refusals::MakeError;
-use make_text::contents::Makefile;
-use make_text::makefiles::Texts;
+use make_text::contents::{Makefile, Texts};
 use std::alloc::Global;
 use std::hash::RandomState;
 

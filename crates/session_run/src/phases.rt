@@ -19,11 +19,11 @@ use crate::failures::any_failed;
 use crate::lanes::run_lanes;
 use crate::transcripts::transcript;
 use base_core::Core;
-use cc_names::commands::Phase;
 use cc_names::memory::{NoMemory, Or};
 use cc_names::rows::LAST_MOMENT;
 use cc_outside::{Clock, Sink, WriteFault, write_whole};
 use disk_model::Disk;
+use session_text::PhaseText;
 use std::alloc::Global;
 
 /// The moment now, none above the last one of the year 9999.
@@ -41,7 +41,7 @@ fn moment_of<C: Clock>(clock: &mut C) -> u64
 fn run_commands<D: Disk>(
     alloc: Global,
     core: &mut Core<D>,
-    phase: Phase,
+    phase: PhaseText,
     moment: u64,
 ) -> Result<(), NoMemory>
     requires finished { all_done (state_of core.old.story) ≡ true }
@@ -54,6 +54,7 @@ fn run_commands<D: Disk>(
     ensures first { first_step core.new.story ≡ first_step core.old.story }
     ensures counted { KeepsCount core.old core.new }
 {
+    let phase = phase.read(alloc)?;
     core.begin_phase(alloc, phase, moment)?;
     run_lanes(alloc, core)
 }
@@ -87,7 +88,7 @@ fn write_transcript<K: Sink, D: Disk>(
 pub(crate) fn run_phases<K: Sink, D: Disk, C: Clock>(
     alloc: Global,
     core: &mut Core<D>,
-    phases: Vec<Phase>,
+    phases: Vec<PhaseText>,
     sink: &mut K,
     clock: &mut C,
 ) -> Result<bool, Or<WriteFault>>

@@ -23,7 +23,6 @@ use crate::sessions::{Stop, session_given};
 use crate::statuses::Status;
 use base_core::laws::a_stop_opens_again;
 use base_core::{Core, History, OpenCause, OpenFault};
-use cc_names::commands::Phase;
 use cc_names::memory::Or;
 use cc_names::texts::Text;
 use cc_outside::{Clock, Sink, Source, WriteFault};
@@ -32,6 +31,7 @@ use legal_history::laws::builds::{a_build_is_as_from_nothing, a_build_is_of_its_
 use legal_history::laws::stories::{
     a_held_object_is_live_at_each_step, a_scrub_of_a_story_lists_what_is_due,
 };
+use session_text::PhaseText;
 use std::alloc::Global;
 use std::hash::RandomState;
 
@@ -90,7 +90,7 @@ fn run_opened<K: Sink, D: Disk, C: Clock>(
     alloc: Global,
     core: Core<D>,
     before: u64,
-    phases: Vec<Phase>,
+    phases: Vec<PhaseText>,
     sink: &mut K,
     clock: &mut C,
 ) -> Ended<D>
@@ -120,7 +120,7 @@ fn run_opened<K: Sink, D: Disk, C: Clock>(
 fn run_session<K: Sink, D: Disk, C: Clock>(
     alloc: Global,
     hashing: RandomState,
-    phases: Vec<Phase>,
+    phases: Vec<PhaseText>,
     sink: &mut K,
     disk: D,
     clock: &mut C,
@@ -194,7 +194,7 @@ pub fn run_words<S: Source, K: Sink, D: Disk, C: Clock>(
 {
     a_scrub_of_a_story_lists_what_is_due();
     a_held_object_is_live_at_each_step();
-    match session_given(alloc, words, source) {
+    match session_given(alloc, hashing, words, source) {
         Ok(phases) => run_session(alloc, hashing, phases, sink, disk, clock),
         Err(stop) => Ended {
             status: refuse(alloc, stop, sink),

@@ -6,13 +6,13 @@ ghost use Rattle.session_run.specs.Stops.{GivesPhases, HasStop, unread_stop, uns
 
 use crate::words::is_run;
 use base_core::OpenCause;
-use cc_names::commands::{Phase, Session};
-use cc_names::memory::Or;
+use cc_names::memory::{NoMemory, Or};
 use cc_names::refusals::SessionError;
 use cc_names::texts::Text;
 use cc_outside::{Source, Unread, read_whole};
-use session_text::read;
+use session_text::{PhaseText, read};
 use std::alloc::Global;
+use std::hash::RandomState;
 
 // The most bytes of a session's text.
 const TEXT_LIMIT: usize = 16_777_216;
@@ -50,9 +50,10 @@ fn stop_unsaid(error: Or<SessionError>) -> Stop
 /// The phases of the session that the source gives, where the words ask for it.
 pub(crate) fn session_given<S: Source>(
     alloc: Global,
+    hashing: RandomState,
     words: &[Text],
     source: &mut S,
-) -> Result<Vec<Phase>, Stop>
+) -> Result<Vec<PhaseText>, Stop>
     ensures gives { IfOk result
         (λ phases.
         GivesPhases (intake_of words.now (S.sight source.old) (S.sight source.new))
@@ -68,8 +69,12 @@ pub(crate) fn session_given<S: Source>(
         Ok(text) => text,
         Err(unread) => return Err(stop_unread(unread)),
     };
-    match read(alloc, text.as_bytes()) {
-        Ok(Session { phases }) => Ok(phases.into_items()),
-        Err(error) => Err(stop_unsaid(error)),
+    let session = match read(alloc, hashing, text) {
+        Ok(session) => session,
+        Err(error) => return Err(stop_unsaid(error)),
+    };
+    match session.into_phases().into_vec(alloc) {
+        Ok(phases) => Ok(phases),
+        Err(NoMemory) => Err(stop_unsaid(Or::NoMemory)),
     }
 }

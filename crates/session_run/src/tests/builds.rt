@@ -88,7 +88,7 @@ fn a_clearmake_is_refused(rt: HostRuntime) -> Result<(), Fail> {
         (
             "a: b: c",
             "clearmake v out",
-            "M1 MakeError Makefile 1 NotBuilt",
+            "M1 MakeError Makefile 1 BadPath",
         ),
         (
             "out: in\n|\tcat in > out",
