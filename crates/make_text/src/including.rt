@@ -8,9 +8,9 @@ ghost use Rattle.make_text.specs.ReadingSteps.{Leaves, counted_line_read};
 ghost use Rattle.make_text.specs.Readers.{Keeps};
 ghost use Rattle.make_text.specs.Statements.{included, include_line, read_line, read_lines};
 
+use crate::contents::Texts;
 use crate::line_kinds::{Kind, kind_of, trimmed, without_comment};
 use crate::logical_lines::{LogicalLine, LogicalLines};
-use crate::contents::Texts;
 use crate::readers::Reader;
 use crate::readings::{Reading, fault_at};
 use crate::words::is_script_line;

@@ -153,7 +153,8 @@ impl Reader {
         ensures kept { OnOk result (Keeps self.new.scripted.keys self.new.reading.rules) }
     {
         self.set_aside(alloc)?;
-        self.reading.add_rule(alloc, self.hashing, file, line, words)?;
+        self.reading
+            .add_rule(alloc, self.hashing, file, line, words)?;
         Ok(())
     }
 
