@@ -1,0 +1,54 @@
+#!/usr/bin/env python3
+"""Runs each session under examples/ with the built program, each on a base of its own, and compares what it writes with the
+transcript beside it.
+
+    tools/check_examples.py CCBASE [NAME ..]
+
+CCBASE is the built program; NAME an example without its ending, all of them where none is given. Says of each whether it is
+as told, shows the lines that differ, and ends with 1 where one does. It stands outside the gate."""
+import difflib
+import pathlib
+import subprocess
+import sys
+import tempfile
+
+EXAMPLES = pathlib.Path(__file__).resolve().parent.parent / "examples"
+
+
+def written(program, session):
+    """What the program writes for a session on a new base."""
+    with tempfile.TemporaryDirectory() as folder:
+        run = subprocess.run(
+            [program, str(pathlib.Path(folder) / "base"), "run"],
+            input=session.read_bytes(), stdout=subprocess.PIPE, check=False,
+        )
+    return run.stdout.decode(errors="replace")
+
+
+def is_as_told(program, session):
+    """Whether an example gives its transcript; what differs is shown."""
+    told = session.with_suffix(".transcript").read_text()
+    came = written(program, session)
+    if came == told:
+        print(f"{session.stem}: as told")
+        return True
+    print(f"{session.stem}: differs")
+    sys.stdout.writelines(difflib.unified_diff(
+        told.splitlines(keepends=True), came.splitlines(keepends=True), "told", "written"))
+    return False
+
+
+def main():
+    if len(sys.argv) < 2:
+        sys.exit(__doc__)
+    program, names = str(pathlib.Path(sys.argv[1]).resolve()), sys.argv[2:]
+    sessions = [s for s in sorted(EXAMPLES.glob("*.txt")) if not names or s.stem in names]
+    if not sessions:
+        sys.exit("no example of that name")
+    differing = [s.stem for s in sessions if not is_as_told(program, s)]
+    print(f"{len(sessions) - len(differing)} of {len(sessions)} as told")
+    sys.exit(1 if differing else 0)
+
+
+if __name__ == "__main__":
+    main()
