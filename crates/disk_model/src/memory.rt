@@ -223,7 +223,8 @@ impl MemoryDisk {
     fn tear(&mut self, file: u8, place: u64, landed: &[u8], lost: u64) -> DiskFault
         requires { file ≤ 1 }
         ensures told { Idles (told_by self.old) (told_by self.new)
-            ⊎ (told_by self.new ≡ called (calls.Tear file place landed.now lost) (told_by self.old)) }
+            ⊎ (told_by self.new
+            ≡ called (calls.Tear file place landed.now lost) (told_by self.old)) }
         ensures ticks { self.new.ticks ≡ raised self.old.ticks }
         ensures faults { self.new.faults ≡ raised self.old.faults }
     {

@@ -421,7 +421,8 @@ fn said(
     words: Words<'_>,
     behind: &Rest<'_>,
 ) -> Result<Command, Or<SessionCause>>
-    ensures { Gives result (said_in table word.now words.entry (body_of (kinds_of behind.now.bytes))) }
+    ensures { Gives result
+        (said_in table word.now words.entry (body_of (kinds_of behind.now.bytes))) }
 {
     match word {
         _ if is(word, b"mkview") => mkview(alloc, words),
