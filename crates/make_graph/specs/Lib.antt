@@ -4,3 +4,4 @@ pub mod Standing
 pub mod Numbered
 pub mod Frames
 pub mod UnitNumbers
+pub mod Items

@@ -5,7 +5,7 @@ ghost use Rattle.cc_names.specs.Answers.{Gives};
 ghost use Rattle.cc_names.specs.Paths.{root};
 ghost use Rattle.make_text.specs.Contents.{expansion};
 ghost use Rattle.make_text.specs.Graphs.{first_of, first_target, script_for, unit_of, walked, graph_by, graph_of, unless_cycle};
-ghost use Rattle.make_text.specs.Reading.{result_items};
+ghost use Rattle.make_graph.specs.Items.{result_items};
 ghost use Rattle.make_text.specs.Serving.{servings};
 ghost use Rattle.make_text.specs.Walks.{number_of, walk_of};
 ghost use Rattle.make_text.specs.Units.{script_of_unit};
