@@ -4,7 +4,8 @@ use Rattle.std.proofs.lemmas.List.{get_or-set_same, get_or-set_other, length-map
 use Rattle.build_core.specs.Slots.{numbered, held_in}
 use Rattle.build_core.specs.SlotLaws.{find_numbered}
 use Rattle.legal_history.specs.Builds.Active.{Build, build_of}
-use Rattle.base_core.specs.Lanes.{LaneKept, no_lane, builds_in}
+use Rattle.cc_names.specs.declared.replies.Reply.{Reply}
+use Rattle.base_core.specs.Lanes.{LaneKept, no_lane, lane_kept, builds_in, put_build}
 use Rattle.base_core.proofs.LaneCounts.{one_or_two}
 
 -- what a lane that was set has in common with the one before it, all lanes keep
@@ -44,3 +45,24 @@ held_at (lane ∷ lanes) (suc i) d h = held_at lanes i d (omega arith)
 
 pub build_there : (lanes : List LaneKept) (lane : ℕ) (d : LaneKept) → 1 ≤ lane → lane ≤ length lanes → build_of (numbered 1 (builds_in lanes)) lane ≡ (get_or lanes (lane - 1) d).build
 build_there lanes lane d low high = find_numbered lane 1 (lane - 1) (builds_in lanes) (omega arith) ∙ held_at lanes (lane - 1) d (omega arith)
+
+-- a lane that is there is the same whatever stands for one that is not
+there : (lanes : List LaneKept) (i : ℕ) (d e : LaneKept) → i < length lanes → get_or lanes i d ≡ get_or lanes i e
+there [] i d e h = absurd (omega arith)
+there (lane ∷ lanes) zero d e h = refl
+there (lane ∷ lanes) (suc i) d e h = there lanes i d e (omega arith)
+
+abbrev lane_of : List Reply → ℕ → Option Build → LaneKept
+lane_of replies room build = record { replies = replies; room = room; build = build }
+
+-- a lane that differs from the one at its place in its build alone, put in its place
+pub put_is : (lanes : List LaneKept) (lane : ℕ) (found new : LaneKept) (build : Option Build) → 1 ≤ lane → lane ≤ length lanes → found ≡ get_or lanes (lane - 1) found
+    → new.replies ≡ found.replies → new.room ≡ found.room → new.build ≡ build → set lanes (lane - 1) new ≡ put_build lanes lane build
+put_is lanes lane found new build low high is replies room held =
+    ap (set lanes (lane - 1))
+    (ap (λ r. lane_of r new.room new.build) (replies ∙ ap (λ l. l.replies) same)
+    ∙ ap (λ r. lane_of (lane_kept lanes lane).replies r new.build) (room ∙ ap (λ l. l.room) same)
+    ∙ ap (lane_of (lane_kept lanes lane).replies (lane_kept lanes lane).room) held)
+  where
+    same : found ≡ lane_kept lanes lane
+    same = is ∙ there lanes (lane - 1) found no_lane (omega arith)
