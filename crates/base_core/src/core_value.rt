@@ -60,8 +60,8 @@ impl<D: Disk> Core<D> {
     ghost use Rattle.disk_model.specs.Told.{IfTold, Both};
     ghost use Rattle.vob_journal.specs.Added.{WritesOn};
 
-    /// Opens the base that a disk stands for. Reads its journal once, in time linear in its bytes and the square of the targets of
-    /// one object, and writes nothing. Names are found by hashing them so. A disk whose base cannot be opened comes back with
+    /// Opens the base that a disk stands for. Reads its journal once, in time linear in its bytes and, for each entry of an object,
+    /// in the targets of the object that it names, and writes nothing. Names are found by hashing them so. A disk whose base cannot be opened comes back with
     /// the cause.
     pub fn open(alloc: Global, hashing: RandomState, disk: D) -> Result<Core<D>, OpenFault<D>>
         requires { IfTold (D.sight disk).told (λ d. file_of 0 d ≡ stable (bytes_of 0 d)) }

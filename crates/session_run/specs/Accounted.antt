@@ -31,9 +31,9 @@ pub record CountsFrom (opened after : Sight) (story : List Told) : Type 0 where
   pub counts : CountsSteps steps opened ended
   pub settled : Settles (is_faulted (state_of story).ends) ended after
 
--- *Whose fault*: opening counted no fault, and from then on the count rose just at the faults of the history, by the counts of
--- some disk between one step and the next. Where the disk tells its device nothing of this is left to choose: the calls that it
--- tells say at which tick each of them failed.
+-- *Whose fault*: opening counted no fault, and from then on the count rose at the faults of the history, and once more at most as
+-- the journal was settled, by the counts of some disk between one step and the next. Where the disk tells its device, the calls
+-- that it tells say at which tick each of them failed.
 pub record IsAccountedFor (disk : Change Sight) (story : List Told) : Type 0 where
   pub opened : Sight
   pub sound : opened.faults ≡ disk.before.faults

@@ -26,13 +26,14 @@ FailsAtFaults failed more calls (told.Other (steps.Fault tag left before faults 
     MeetsFault failed before faults tick calls × FailsAtFaults (failed_by tick calls) 1 calls steps
 FailsAtFaults failed more calls (step ∷ steps) = FailsAtFaults failed more calls steps
 
--- whether the calls that read come first, the oldest first, and no call that failed is among them
+-- whether the calls that read come first, the oldest first, and no call that failed stands before one of them
 abbrev pub reads_first : List Event → Bool
 reads_first [] = true
 reads_first (event ∷ calls) = if is_read event then reads_first calls else list_all may_write calls
 
 -- *Whose fault*, by the calls on a device of which so many had been made as it was handed in: those that opened the base read,
--- none of them failed, and no call behind them reads; and calls failed at the faults of the history and at no commit.
+-- none of them failed that another read follows, and no call behind them reads; and calls failed at the faults of the history and
+-- at no commit.
 pub record IsBlamed (handed : ℕ) (story : List Told) (d : Device) : Type 0 where
   pub opening : reads_first (drop handed (reverse d.calls)) ≡ true
   pub ends : FailsAtFaults (failed_by handed (reverse d.calls)) 0 (reverse d.calls) story

@@ -6,8 +6,8 @@
 // `specs/Causes.antt`. The printed replies are those of one legal history, which holds each command once in its lane's
 // order, every clearmake is replied as building from nothing is, each scrub lists exactly what is due, every object that a view
 // holds is live, and a stop at any device call finds what was acknowledged. That opens again, to a base that is sound where the
-// opened one was, so that the next call begins on a sound base (`laws`). Each call on the disk that failed is told of the command
-// under which it was made.
+// opened one was, so that the next call begins on a sound base (`laws`). A disk fault is told where a call on the disk
+// failed, and nowhere else.
 //
 // What it stands on: `base_core` for the history, `disk_model` and `vob_journal` for the disk and what a stop finds there,
 // `build_core` and `legal_history` for what a history means, `checkout_desk` for decisions, `session_text` and
