@@ -4,7 +4,7 @@
 ghost use Rattle.std.specs.Prelude.{◌<◌, ◌^◌, length};
 
 use crate::causes::assert_wrong;
-use crate::reading::{phases_in, read_bytes};
+use crate::reading::phases_in;
 use cc_names::commands::{Command, Lane};
 use cc_names::refusals::SessionCause::{self, BadWord, NotBuilt};
 use std::alloc::{AllocError, Global};
@@ -293,43 +293,4 @@ fn skipped_lines_and_blanks_do_not_count(rt: HostRuntime) -> Result<(), Fail> {
         text,
         &["save v in [\n|x\n]", "mkview w"],
     )
-}
-
-// How many commands are left of the first lane of a text, before each of them and behind the last.
-fn counts_of(alloc: Global, hashing: RandomState, text: &[u8]) -> Result<Vec<usize>, Fail>
-    requires { length text.now < 2 ^ 32 }
-{
-    let mut counts = Vec::new(alloc);
-    let mut phases = read_bytes(alloc, hashing, text)?.into_phases();
-    let Some(phase) = phases.next()? else {
-        return Ok(counts);
-    };
-    let Some(lane) = phase.lanes()?.next(alloc)? else {
-        return Ok(counts);
-    };
-    let (_name, mut left) = lane.into_parts();
-    counts.push(left.count())?;
-    'commands: while let Some(_command) = left.next(alloc)? {
-        counts.push(left.count())?;
-    }
-    Ok(counts)
-}
-
-#[test]
-fn commands_are_counted_as_they_are_read(rt: HostRuntime) -> Result<(), Fail> {
-    let hashing = RandomState::new(&rt)?;
-    for (text, counts) in [
-        ("", [].as_slice()),
-        ("phase\nphase\nlane a\nmkview v\n", &[]),
-        ("phase\nlane a\n#\n", &[0]),
-        ("phase\nlane a\n\nlane b\nmkview v\n", &[0]),
-        (
-            "phase\nlane a\nsave v in\n|x\n#\n|y\nmkview v\nphase\nlane a\nmkview w\n",
-            &[2, 1, 0],
-        ),
-    ] {
-        let found = counts_of(rt.alloc(), hashing, text.as_bytes())?;
-        assert_eq!(&rt; found.as_slice(), counts, "in {text:?}");
-    }
-    Ok(())
 }

@@ -27,10 +27,12 @@ pub fn read_bytes(
 pub fn phases_in(alloc: Global, hashing: RandomState, text: &[u8]) -> Result<Vec<Phase>, Fail>
     requires { length text.now < 2 ^ 32 }
 {
-    let mut left = read_bytes(alloc, hashing, text)?.into_phases();
+    let texts = read_bytes(alloc, hashing, text)?
+        .into_phases()
+        .into_vec(alloc)?;
     let mut phases = Vec::new(alloc);
-    'phases: while let Some(phase) = left.next()? {
-        phases.push(phase.read(alloc)?)?;
+    for text in texts {
+        phases.push(text.read(alloc)?)?;
     }
     Ok(phases)
 }
