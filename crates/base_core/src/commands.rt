@@ -2,8 +2,8 @@
 
 ghost use Rattle.std.specs.Prelude.{◌≡◌, ◌<◌, option_and_then, length};
 ghost use Rattle.std.specs.Option.{option_copied};
-ghost use Rattle.base_core.specs.Kept.{last_phase};
-ghost use Rattle.base_core.specs.Nexts.{next_by};
+ghost use Rattle.base_core.specs.Keeping.Kept.{last_phase};
+ghost use Rattle.base_core.specs.Keeping.Nexts.{next_by};
 ghost use Rattle.legal_history.specs.Stories.States.{command_behind, lane_at};
 
 use cc_names::commands::{Command, Lane, Phase};

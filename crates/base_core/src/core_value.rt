@@ -29,14 +29,14 @@ pub struct Core<D: Disk> {
 }
 
 impl<D: Disk> Model for Core<D> {
-    ghost use Rattle.base_core.specs.Shown.{Shown};
-    ghost use Rattle.base_core.specs.Kept.{IsKept};
+    ghost use Rattle.base_core.specs.Story.Shown.{Shown};
+    ghost use Rattle.base_core.specs.Keeping.Kept.{IsCoreKept};
 
     ghost Value = { Shown };
 
     ghost view = { λ c. record { story = c.log.story; sight = c.log.sight } };
 
-    ghost invariant = { λ c. IsKept c.log c.lanes c.moment };
+    ghost invariant = { λ c. IsCoreKept c.log c.lanes c.moment };
 }
 
 impl<D: Disk> Core<D> {
@@ -48,13 +48,13 @@ impl<D: Disk> Core<D> {
     ghost use Rattle.legal_history.specs.Stories.Steps.{state_of};
     ghost use Rattle.cc_names.specs.Counts.{rises};
     ghost use Rattle.legal_history.specs.Stories.Lawful.{last_moment, Legal};
-    ghost use Rattle.base_core.specs.Kept.{command_limit};
-    ghost use Rattle.base_core.specs.Replying.{replies_of};
-    ghost use Rattle.base_core.specs.Backed.{IsSettled, IsAccounted, is_faulted};
-    ghost use Rattle.base_core.specs.Counted.{KeepsCount};
-    ghost use Rattle.base_core.specs.Opening.{Opens, FailsToOpen};
-    ghost use Rattle.base_core.specs.Readable.{IsReadable, TellsOnly};
-    ghost use Rattle.disk_model.specs.Counting.{raised};
+    ghost use Rattle.base_core.specs.Keeping.Kept.{command_limit};
+    ghost use Rattle.base_core.specs.Story.Replying.{replies_of};
+    ghost use Rattle.base_core.specs.Stopping.Backed.{IsSettled, IsAccounted, may_be_open};
+    ghost use Rattle.base_core.specs.Story.Counted.{KeepsCount};
+    ghost use Rattle.base_core.specs.Bases.Opening.{OpensCore, FailsToOpen};
+    ghost use Rattle.base_core.specs.Story.Readable.{IsReadable, TellsOnly};
+    ghost use Rattle.disk_model.specs.Counting.{next_count};
     ghost use Rattle.disk_model.specs.Devices.{file_of, bytes_of};
     ghost use Rattle.disk_model.specs.Files.{stable};
     ghost use Rattle.disk_model.specs.Told.{IfTold, Both};
@@ -65,7 +65,7 @@ impl<D: Disk> Core<D> {
     /// the cause.
     pub fn open(alloc: Global, hashing: RandomState, disk: D) -> Result<Core<D>, OpenFault<D>>
         requires { IfTold (D.sight disk).told (λ d. file_of 0 d ≡ stable (bytes_of 0 d)) }
-        ensures ok { IfOk result (λ core. Opens (D.sight disk) core.story core.sight) }
+        ensures ok { IfOk result (λ core. OpensCore (D.sight disk) core.story core.sight) }
         ensures err { IfErr result
             (λ fault. FailsToOpen (D.sight disk) fault.cause (D.sight fault.disk)) }
     {
@@ -124,9 +124,10 @@ impl<D: Disk> Core<D> {
         self.log.counts()
     }
 
-    /// Settles the journal where the last commit or fault is a fault, which may have left its tail open; elsewhere it makes no
-    /// device call, and the disk is as it was. The file of objects is as it was in any case. Afterwards no stop finds
-    /// more than the rows of the base; where it fails, the disk's count of faults has passed that of each fault of the story.
+    /// Settles the journal where a fault left its tail open, by two device calls, or one that fails; elsewhere it makes none, and
+    /// the disk is as it was. A fault that left no row left the tail shut, unless it stands as it was opened. The file of objects
+    /// is as it was in any case. Afterwards no stop finds more than the rows of the base; where it fails, the disk's count of
+    /// faults has passed that of each fault of the story.
     pub fn finish(&mut self) -> Result<(), DiskFault>
         ensures same { self.new.story ≡ self.old.story }
         ensures ok { OnOk result (IsSettled (state_of self.new.story) self.new.sight) }
@@ -134,9 +135,10 @@ impl<D: Disk> Core<D> {
             (rises (faults_of (state_of self.new.story).opened (state_of self.new.story).ends)
             self.new.sight.faults ≡ true) }
         ensures faults { MatchResult result (λ _. self.new.sight.faults ≡ self.old.sight.faults)
-            (λ _. self.new.sight.faults ≡ raised self.old.sight.faults) }
+            (λ _. self.new.sight.faults ≡ next_count self.old.sight.faults) }
+        ensures few { self.new.sight.ticks ≤ self.old.sight.ticks + 2 }
         ensures writes { Both WritesOn self.old.sight.told self.new.sight.told }
-        ensures rests { is_faulted (state_of self.old.story).ends ≡ false → self.new ≡ self.old }
+        ensures rests { may_be_open (state_of self.old.story).ends ≡ false → self.new ≡ self.old }
     {
         self.log.settle()
     }

@@ -24,8 +24,8 @@ pub struct History<D: Disk> {
 impl<D: Disk> Model for History<D> {
     ghost use Rattle.std.specs.Prelude.{List};
     ghost use Rattle.cc_names.specs.declared.steps.Told.{Told};
-    ghost use Rattle.base_core.specs.Handed.{handed_in};
-    ghost use Rattle.base_core.specs.Telling.{story_of, AreTold};
+    ghost use Rattle.base_core.specs.Story.Handed.{handed_in};
+    ghost use Rattle.base_core.specs.Story.Telling.{story_of, AreTold};
 
     ghost Value = { List Told };
 
@@ -36,8 +36,8 @@ impl<D: Disk> Model for History<D> {
 }
 
 impl<D: Disk> History<D> {
-    ghost use Rattle.base_core.specs.Handed.{handed_in};
-    ghost use Rattle.base_core.specs.Telling.{story_of, AreTold, rows_told, TellsStory};
+    ghost use Rattle.base_core.specs.Story.Handed.{handed_in};
+    ghost use Rattle.base_core.specs.Story.Telling.{story_of, AreTold, rows_told, TellsStory};
 
     /// The history of a session that opened no base. Takes no memory.
     pub fn empty(alloc: Global) -> History<D>

@@ -4,7 +4,7 @@ ghost use Rattle.std.specs.Prelude.{◌≡◌, ◌≤◌};
 ghost use Rattle.build_core.specs.Slots.{numbered};
 ghost use Rattle.legal_history.specs.Base.Fits.{row_limit};
 ghost use Rattle.legal_history.specs.Builds.Active.{building, reserved};
-ghost use Rattle.base_core.specs.Lanes.{builds_in};
+ghost use Rattle.base_core.specs.Keeping.Lanes.{builds_in};
 
 use build_core::{ActiveBuild, Came};
 use cc_names::commands::{Lane as Commands, Phase};
@@ -23,7 +23,7 @@ struct Lane {
 }
 
 impl Model for Lane {
-    ghost use Rattle.base_core.specs.Lanes.{LaneKept};
+    ghost use Rattle.base_core.specs.Keeping.Lanes.{LaneKept};
     ghost use Rattle.std.specs.Vec.{vec_capacity};
 
     ghost Value = { LaneKept };
@@ -40,11 +40,11 @@ impl Lane {
     ghost use Rattle.build_core.specs.Comes.{came_of};
     ghost use Rattle.legal_history.specs.Builds.Active.{Build};
     ghost use Rattle.legal_history.specs.Stories.Steps.{with_came};
-    ghost use Rattle.base_core.specs.Lanes.{fresh};
+    ghost use Rattle.base_core.specs.Keeping.Lanes.{begun_lane};
 
     /// A lane as its phase begins, with no reply and no build.
     fn new(alloc: Global, lane: &Commands) -> Result<Lane, NoMemory>
-        ensures { IfOk result (λ kept. kept ≡ fresh lane.now) }
+        ensures { IfOk result (λ kept. kept ≡ begun_lane lane.now) }
     {
         let replies = Vec::with_capacity(alloc, lane.commands.as_slice().len())?;
         Ok(Lane {
@@ -95,7 +95,7 @@ pub(crate) struct Lanes {
 
 impl Model for Lanes {
     ghost use Rattle.std.specs.Prelude.{List};
-    ghost use Rattle.base_core.specs.Lanes.{LaneKept};
+    ghost use Rattle.base_core.specs.Keeping.Lanes.{LaneKept};
 
     ghost Value = { List LaneKept };
 
@@ -109,7 +109,7 @@ impl Lanes {
     ghost use Rattle.legal_history.specs.Base.Fits.{row_limit};
     ghost use Rattle.legal_history.specs.Builds.Active.{Build, build_of, building, reserved};
     ghost use Rattle.legal_history.specs.Stories.Steps.{with_came};
-    ghost use Rattle.base_core.specs.Lanes.{
+    ghost use Rattle.base_core.specs.Keeping.Lanes.{
       build_at,
       builds_in,
       fresh_lanes,

@@ -6,10 +6,10 @@ ghost use Rattle.legal_history.specs.Base.Rows.{Base};
 ghost use Rattle.legal_history.specs.Base.Fits.{is_base};
 ghost use Rattle.legal_history.specs.Stories.States.{hanging};
 ghost use Rattle.legal_history.specs.Stories.Steps.{state_of};
-ghost use Rattle.base_core.specs.Founds.{FoundBaseIsSound, StopLeavesABase, StopOpensAgain};
-ghost use Rattle.base_core.specs.Opening.{IsDamaged, IsUndamaged};
-ghost use Rattle.base_core.specs.Readable.{AreReadable, IsReadable, TellsOnly};
-ghost use Rattle.base_core.specs.Standing.{payloads};
+ghost use Rattle.base_core.specs.Stopping.Founds.{FoundBaseIsSound, StopLeavesABase, StopOpensAgain};
+ghost use Rattle.base_core.specs.Bases.Opening.{IsDamaged, IsUndamaged};
+ghost use Rattle.base_core.specs.Story.Readable.{AreReadable, IsReadable, TellsOnly};
+ghost use Rattle.base_core.specs.Stopping.Standing.{payloads};
 
 use legal_history::laws::stops;
 

@@ -2,7 +2,7 @@
 
 ghost use Rattle.std.specs.Prelude.{◌≡◌, ◌+◌, ◌<◌, ◌≤◌, ◌^◌, ◌++◌, ◌∷◌, [], length, true, false, IfOk, OnOk, OnErr, option_copied};
 ghost use Rattle.row_form.specs.Spelled.{spelled};
-ghost use Rattle.base_core.specs.Leaving.{left_in};
+ghost use Rattle.base_core.specs.Logging.Leaving.{left_in};
 ghost use Rattle.std.specs.Vec.{vec_len, vec_capacity};
 ghost use Rattle.std.specs.Option.{option_to_list};
 
@@ -40,9 +40,9 @@ pub(crate) struct Log<D: Disk> {
 }
 
 impl<D: Disk> Model for Log<D> {
-    ghost use Rattle.base_core.specs.Handed.{handed_in};
-    ghost use Rattle.base_core.specs.Logs.{Logged, IsLogged};
-    ghost use Rattle.base_core.specs.Telling.{oldest_first, story_of};
+    ghost use Rattle.base_core.specs.Story.Handed.{handed_in};
+    ghost use Rattle.base_core.specs.Logging.Logs.{Logged, IsLogged};
+    ghost use Rattle.base_core.specs.Story.Telling.{oldest_first, story_of};
 
     ghost Value = { Logged };
 
@@ -57,7 +57,7 @@ impl<D: Disk> Model for Log<D> {
     ghost invariant = { λ log.
         IsLogged (handed_in log.handed D.tells) log.steps.items log.rows.base log.phases.items
         (D.sight log.journal.disk) log.journal.list log.journal.loose log.journal.ended
-        log.journal.left };
+        log.journal.left log.journal.settled };
 }
 
 /// The frame of a row. A row that is spelled in 2^32 bytes or more counts as want of memory.
@@ -119,17 +119,17 @@ fn push_step(steps: &mut Vec<Step>, step: Step) -> Result<(), NoMemory>
 impl<D: Disk> Log<D> {
     ghost use Rattle.std.specs.Prelude.{◌≡◌, ◌+◌, ◌<◌, ◌^◌, ◌++◌, ◌∷◌, [], length, true, false, IfOk, IfErr, IfSome, OnOk, OnErr, MatchResult};
     ghost use Rattle.cc_names.specs.declared.steps.Told.TheVariants as told;
-    ghost use Rattle.disk_model.specs.Counting.{raised};
+    ghost use Rattle.disk_model.specs.Counting.{next_count};
     ghost use Rattle.disk_model.specs.Told.{IfTold};
     ghost use Rattle.legal_history.specs.Stories.States.{faults_of};
     ghost use Rattle.legal_history.specs.Stories.Steps.{state_of};
     ghost use Rattle.cc_names.specs.Counts.{rises};
-    ghost use Rattle.base_core.specs.Appending.{Appends, IsQuiet};
-    ghost use Rattle.base_core.specs.Backed.{IsBacked, IsSettled, IsAccounted, is_faulted};
-    ghost use Rattle.base_core.specs.Handed.{handed_in};
-    ghost use Rattle.base_core.specs.Faults.{is_fault};
-    ghost use Rattle.base_core.specs.Logs.{opened_log, with_phase, with_step, with_sight};
-    ghost use Rattle.base_core.specs.Telling.{oldest_first, stands_alone};
+    ghost use Rattle.base_core.specs.Logging.Appending.{Appends, IsQuiet};
+    ghost use Rattle.base_core.specs.Stopping.Backed.{IsBacked, IsSettled, IsAccounted, may_be_open};
+    ghost use Rattle.base_core.specs.Story.Handed.{handed_in};
+    ghost use Rattle.base_core.specs.Story.Faults.{is_fault};
+    ghost use Rattle.base_core.specs.Logging.Logs.{opened_log, with_phase, with_step, with_sight};
+    ghost use Rattle.base_core.specs.Story.Telling.{oldest_first, stands_alone};
     ghost use Rattle.carried_out.specs.CarriedOut.{is_made};
     ghost use Rattle.disk_model.specs.Told.{Both};
     ghost use Rattle.legal_history.specs.Base.Fits.{fits};
@@ -144,7 +144,8 @@ impl<D: Disk> Log<D> {
         journal: Journal<D>,
     ) -> Result<Log<D>, Journal<D>>
         requires { IsBacked (state_of (told.Opened (oldest_first rows.base) handed D.tells ∷ []))
-            (D.sight journal.disk) journal.list journal.loose journal.ended journal.left }
+            (D.sight journal.disk) journal.list journal.loose journal.ended journal.left
+            journal.settled }
         ensures ok { IfOk result
             (λ log. log ≡ opened_log rows.base (handed_in handed D.tells) (D.sight journal.disk)) }
         ensures err { IfErr result (λ back. back ≡ journal) }
@@ -248,9 +249,10 @@ impl<D: Disk> Log<D> {
             (rises (faults_of (state_of self.new.story).opened (state_of self.new.story).ends)
             self.new.sight.faults ≡ true) }
         ensures faults { MatchResult result (λ _. self.new.sight.faults ≡ self.old.sight.faults)
-            (λ _. self.new.sight.faults ≡ raised self.old.sight.faults) }
+            (λ _. self.new.sight.faults ≡ next_count self.old.sight.faults) }
+        ensures few { self.new.sight.ticks ≤ self.old.sight.ticks + 2 }
         ensures writes { Both WritesOn self.old.sight.told self.new.sight.told }
-        ensures rests { is_faulted (state_of self.old.story).ends ≡ false → self.new ≡ self.old }
+        ensures rests { may_be_open (state_of self.old.story).ends ≡ false → self.new ≡ self.old }
     {
         match self.journal.left() {
             Left::Nothing => Ok(()),

@@ -1,15 +1,17 @@
 // How a base is opened: the rows of its journal are read one by one, and each has to fit those before it.
 
-ghost use Rattle.std.specs.Prelude.{◌≡◌, [], true, IfOk, IfErr, OnOk};
+ghost use Rattle.std.specs.Prelude.{◌≡◌, [], ◌∷◌, true, IfOk, IfErr, OnOk};
+ghost use Rattle.carried_out.specs.CarriedOut.{is_made};
+ghost use Rattle.legal_history.specs.Base.Fits.{fits};
 ghost use Rattle.disk_model.specs.Devices.{file_of, bytes_of};
 ghost use Rattle.disk_model.specs.Files.{stable};
 ghost use Rattle.disk_model.specs.Told.{IfTold};
-ghost use Rattle.base_core.specs.Opening.{StopsBy, IsOpened, FailsToOpen};
-ghost use Rattle.base_core.specs.Reading.{OnlyReads, NextIs, IsMissed, IsNextRow, IsNoRow, IsReadSoFar, ReadsOn, IsReadThrough};
+ghost use Rattle.base_core.specs.Bases.Opening.{StopsBy, IsOpened, FailsToOpen};
+ghost use Rattle.base_core.specs.Bases.Reading.{OnlyReads, NextIs, IsMissed, IsNextRow, IsNoRow, IsReadSoFar, ReadsOn, IsReadThrough};
 
 use crate::logs::Log;
 use carried_out::is_made;
-use cc_names::memory::Or;
+use cc_names::memory::{NoMemory, Or};
 use cc_names::rows::Row;
 use cc_names::texts::Text;
 use disk_model::Disk;
@@ -104,6 +106,17 @@ fn read_row<D: Disk>(
     }
 }
 
+/// Adds a row that fits. Fails only where memory runs out.
+fn add_row(rows: &mut Rows, row: Row) -> Result<(), NoMemory>
+    requires fits { fits rows.old.base row.deed ≡ true }
+    requires made { is_made row.deed ≡ true }
+    ensures { OnOk result (rows.new.base ≡ row ∷ rows.old.base) }
+{
+    rows.reserve(row.deed())?;
+    rows.push(row);
+    Ok(())
+}
+
 /// The rows of a journal, read to its end: each spells a row that fits those before it.
 fn read_rows<D: Disk>(
     alloc: Global,
@@ -120,14 +133,15 @@ fn read_rows<D: Disk>(
         StopsBy (D.sight journal.old.disk).told (λ _. journal.old.list) cause
         (D.sight journal.old.disk).faults (D.sight journal.new.disk).faults) }
 {
-    let mut rows = Rows::new(alloc, hashing);
+    let Ok(mut rows) = Rows::new(alloc, hashing) else {
+        return Err(OpenCause::NoMemory);
+    };
     'frames: loop {
         match read_row(alloc, hashing, journal, &rows.all()) {
             Ok(Some(row)) => {
-                if rows.reserve(row.deed()).is_err() {
+                if add_row(&mut rows, row).is_err() {
                     return Err(OpenCause::NoMemory);
                 }
-                rows.push(row);
             }
             Ok(None) => return Ok(rows),
             Err(cause) => return Err(cause),

@@ -9,7 +9,7 @@ use Rattle.cc_names.specs.Numbers.{number_of}
 use Rattle.cc_names.specs.Paths.{IsPath}
 use Rattle.cc_names.specs.declared.refusals.ScriptFault.{ScriptFault}
 use Rattle.build_script.specs.Lines.{path_in, path_before, paths_of, cat_of, link_of, directories_of, preprocess_of, preprocess_of_reversed, only_path, substitute_of, head_by, head_of, digest_of, work_of, appends_of, makes, line_of, line_of_reversed, line_before, lines_from, script_of}
-use Rattle.build_script.specs.Forms.{whole, listed}
+use Rattle.build_script.specs.Forms.{whole, linked_text}
 use Rattle.build_script.specs.Run.{TextOf, parts_of}
 use Rattle.build_script.specs.Words.{words, without_at}
 use Rattle.build_script.specs.declared.lines.Line.{Line}
@@ -82,7 +82,7 @@ link_read n None work each h = absurd (cc)
 link_read n (Some []) work each h = absurd (cc)
 link_read n (Some (path ∷ paths)) work each h =
     let same : Link (path ∷ paths) ≡ work = cc in
-    subst (AreOfWork n) same (subst (ArePaths n) (sym (texts_paths listed (path ∷ paths))) (each (path ∷ paths) refl))
+    subst (AreOfWork n) same (subst (ArePaths n) (sym (texts_paths linked_text (path ∷ paths))) (each (path ∷ paths) refl))
 
 preprocess_read : (n : ℕ) (reversed : List (List ℕ)) (work : Work) → preprocess_of_reversed reversed ≡ Some work → AreOfWork (suc n) work
 preprocess_read n [] work h = absurd (cc)

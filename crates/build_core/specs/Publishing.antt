@@ -24,7 +24,7 @@ pub record CanPublish (b : Base) (build : Build) (unit : Unit) : Type 0 where
   pub objects : HasObjects b build
 
 -- The run of unit n on what it sees gave these outputs and asked for these paths.
-pub record HasRun (b : Base) (build : Build) (n : ℕ) (unit : Unit) (outputs reads : List (List ℕ)) : Type 0 where
+pub record RunGave (b : Base) (build : Build) (n : ℕ) (unit : Unit) (outputs reads : List (List ℕ)) : Type 0 where
   pub result : (here b build n unit).result ≡ Ok outputs
   pub asked : (here b build n unit).reads ≡ reads
 

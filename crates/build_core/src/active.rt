@@ -165,8 +165,7 @@ impl ActiveBuild {
         self.graph.unit_of(path)
     }
 
-    /// The units that a unit stands on. Takes time linear in the units before it and in the prerequisites of those that it
-    /// stands on.
+    /// The units that a unit stands on. Takes the time of `Graph::closure`.
     pub(crate) fn needs(&self, alloc: Global, unit: u32) -> Result<Closure, NoMemory>
         requires { unit < length self.now.units }
         ensures { IfOk result (λ closure. AreNeeds self.now unit closure) }

@@ -2,8 +2,8 @@
 //
 // What it is for: `plan_build` decides a clearmake: `graph` says which units its build has, over the files of its view,
 // or why it is refused. An `ActiveBuild` keeps what its units have come to; `step` says what comes next for a unit,
-// and `fetch` what its script finds at a path. `run_unit` runs the script, `publish_row` makes the row of what the run gave,
-// and `reply_of` says what a build that has ended is replied.
+// `run_unit` runs its script over what the unit sees, `publish_row` makes the row of what the run gave, and `reply_of` says
+// what a build that has ended is replied.
 //
 // What it promises: a clearmake is decided as the model decides it, and what it begins is formed. The units, or the refusal
 // in their place, are those of the definition of the units of a build, for any files, makefile, macros and goals. An active
@@ -34,5 +34,4 @@ pub use plans::graph;
 pub use publishes::publish_row;
 pub use replies::reply_of;
 pub use runs::run_unit;
-pub use sights::{fetch, visible};
 pub use steps::{UnitStep, step};

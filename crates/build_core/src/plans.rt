@@ -3,6 +3,7 @@
 ghost use Rattle.std.specs.Prelude.{◌≡◌, Ok, is_some, option_copied, IfOk};
 ghost use Rattle.cc_names.specs.Answers.{Gives};
 ghost use Rattle.cc_names.specs.Paths.{path_of};
+ghost use Rattle.make_text.specs.Grammar.{makefile_of};
 ghost use Rattle.make_text.specs.Graphs.{graph_of, units, units_at, units_of};
 ghost use Rattle.make_text.specs.Units.{main_file, refusal_of, unless_refused};
 
@@ -87,6 +88,28 @@ fn graph_of<X: Texts>(
     }
 }
 
+/// The graph of a makefile that is read at a path, or the refusal.
+fn graph_of_file<X: Texts>(
+    alloc: Global,
+    hashing: RandomState,
+    texts: &X,
+    file: &Path,
+    macros: &[Macro],
+    goals: &[Path],
+) -> Result<Graph, Or<Refusal>>
+    ensures { Gives result
+        (units_of (X.texts texts.now) goals.now
+        (makefile_of (X.texts texts.now) file.now macros.now)) }
+{
+    match Makefile::read(alloc, hashing, file, texts, macros) {
+        Ok(make) => graph_of(alloc, hashing, texts, &make, goals),
+        Err(Or::Is(MakeError { file, line, cause })) => {
+            Err(Or::Is(Refusal::MakeError(file, line, cause)))
+        }
+        Err(Or::NoMemory) => Err(Or::NoMemory),
+    }
+}
+
 /// The graph of the makefile at a path, which may be no file.
 fn graph_at<X: Texts>(
     alloc: Global,
@@ -102,13 +125,7 @@ fn graph_at<X: Texts>(
     if texts.text(&file).is_none() {
         return Err(Or::Is(Refusal::NoMakefile(file)));
     }
-    match Makefile::read(alloc, hashing, &file, texts, macros) {
-        Ok(make) => graph_of(alloc, hashing, texts, &make, goals),
-        Err(Or::Is(MakeError { file, line, cause })) => {
-            Err(Or::Is(Refusal::MakeError(file, line, cause)))
-        }
-        Err(Or::NoMemory) => Err(Or::NoMemory),
-    }
+    graph_of_file(alloc, hashing, texts, &file, macros, goals)
 }
 
 /// The graph of a build's units, over the texts of its view's files: by the makefile that is named, else `makefile`,

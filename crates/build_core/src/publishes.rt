@@ -7,7 +7,7 @@ ghost use Rattle.legal_history.specs.Base.Rows.{first_rows};
 ghost use Rattle.legal_history.specs.Builds.Active.{unit_at};
 ghost use Rattle.legal_history.specs.Builds.Choices.{as_entry, in_order, visible};
 ghost use Rattle.legal_history.specs.Base.Views.{view_row};
-ghost use Rattle.build_core.specs.Publishing.{CanPublish, HasRun, IsPublishOf};
+ghost use Rattle.build_core.specs.Publishing.{CanPublish, RunGave, IsPublishOf};
 
 use crate::active::ActiveBuild;
 use crate::sights::visible;
@@ -62,7 +62,7 @@ fn entries_of(alloc: Global, found: BTreeMap<Path, u64>) -> Result<List<ReadOf>,
 /// The row that a unit of an active build publishes at this moment: its run gave these
 /// outputs, and asked for these paths. Fails only where memory runs out.
 ///
-/// Takes for each read two look-ups by the path, and time linear in the units before it and in what it copies.
+/// Takes what `needs` takes, for each read the time of `visible`, and time linear in what it copies.
 pub fn publish_row(
     alloc: Global,
     rows: &FirstRows<'_>,
@@ -80,7 +80,7 @@ pub fn publish_row(
         → CanPublish rows.now build.now it }
     requires ran { (it : units.Unit)
         → unit_at build.now unit ≡ Some it
-        → HasRun rows.now build.now unit it outputs reads.now }
+        → RunGave rows.now build.now unit it outputs reads.now }
     ensures row { (it : units.Unit)
         → unit_at build.now unit ≡ Some it
         → IfOk result (λ row. IsPublishOf rows.now build.now unit it moment row) }

@@ -65,7 +65,7 @@ impl Files for UnitFiles<'_> {
 /// Runs the script of a unit over what the unit sees. The script and the targets are those
 /// of the unit. Fails only where memory runs out.
 ///
-/// Takes what `run` takes, time linear in the units before it, and for each path that it reads two look-ups by the path.
+/// Takes what `run` takes, what `needs` takes, and for each path that it reads the time of `fetch`.
 pub fn run_unit(
     alloc: Global,
     hashing: RandomState,

@@ -44,8 +44,9 @@ fn file_in(rows: &FirstRows<'_>, build: &ActiveBuild, path: &Path) -> Option<u64
 /// unit that it needs, directly or through others, else the file of the view as the build began. The closure is that of the
 /// unit.
 ///
-/// Takes two look-ups by the path, however many units and prerequisites there are.
-pub fn visible(
+/// Takes one look-up by the path among the units, and where no unit that it needs has an object there, one among the files of
+/// the view, however many units and prerequisites there are.
+pub(crate) fn visible(
     rows: &FirstRows<'_>,
     build: &ActiveBuild,
     unit: u32,
@@ -78,8 +79,9 @@ fn found(alloc: Global, rows: &FirstRows<'_>, row: u64, path: &Path) -> Got
 }
 
 /// What the script of a unit finds at a path: the row that the unit sees there with its
-/// text, or nothing. It never breaks. Takes the time of `visible`, and that of a copy of the text.
-pub fn fetch(
+/// text, or nothing. It never breaks. Takes the time of `visible`, that of `text_of` by the row that was found, and that of a
+/// copy of the text.
+pub(crate) fn fetch(
     alloc: Global,
     rows: &FirstRows<'_>,
     build: &ActiveBuild,

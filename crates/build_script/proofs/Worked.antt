@@ -4,7 +4,7 @@ use Rattle.std.specs.Prelude.{codes, decimal}
 use Rattle.std.specs.Str.{bytes_eq}
 use Rattle.cc_names.specs.declared.refusals.ScriptFault.TheVariants.{Absent, BadLine, TooBig, IncludeDepth, Failed, StrayWrite, NotWritten}
 use Rattle.build_script.specs.Words.{words, without_at}
-use Rattle.build_script.specs.Forms.{lines_in, first_lines, replaced, listed}
+use Rattle.build_script.specs.Forms.{lines_in, first_lines, replaced, linked_text}
 use Rattle.build_script.specs.Includes.{include_of, probes_of}
 use Rattle.build_script.specs.Run.{Files, run, Output, Made, said, output_limit}
 
@@ -99,7 +99,7 @@ first_two = refl
 replaced_from_the_left : replaced (codes "aa") (codes "ab") (codes "aaaaa") ≡ codes "ababa"
 replaced_from_the_left = refl
 
-listed_text : listed (codes "in") (line (codes "hi")) ≡ codes "in " ++ decimal 3 ++ 10 ∷ line (codes "hi")
+listed_text : linked_text (codes "in") (line (codes "hi")) ≡ codes "in " ++ decimal 3 ++ 10 ∷ line (codes "hi")
 listed_text = refl
 
 -- which lines include a file

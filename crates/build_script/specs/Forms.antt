@@ -42,5 +42,5 @@ abbrev pub digest_line : List ℕ → List ℕ
 digest_line text = encode_lower (sha256 text) ++ 10 ∷ []
 
 -- a text behind the line that says its path and how many bytes it has
-abbrev pub listed : List ℕ → List ℕ → List ℕ
-listed path text = path ++ 32 ∷ decimal (length text) ++ 10 ∷ text
+abbrev pub linked_text : List ℕ → List ℕ → List ℕ
+linked_text path text = path ++ 32 ∷ decimal (length text) ++ 10 ∷ text

@@ -2,7 +2,7 @@
 use Rattle.std.specs.Prelude.{ℕ, zero, suc, ◌+◌, ◌-◌, ◌*◌, Result, Ok, Err, List, [], ◌∷◌, length}
 use Rattle.cc_names.specs.declared.refusals.ScriptFault.{ScriptFault}
 use Rattle.cc_names.specs.declared.refusals.ScriptFault.TheVariants.{IncludeDepth}
-use Rattle.build_script.specs.Forms.{whole, first_lines, replaced, digest_line, listed}
+use Rattle.build_script.specs.Forms.{whole, first_lines, replaced, digest_line, linked_text}
 use Rattle.build_script.specs.Run.{Files, Asking, Done, and_then, unless_fault, Output, Made, Found, Preprocessing, included, expanded, depth_limit, output_limit, probe_limit}
 use Rattle.build_script.specs.declared.forms.Form.{Form}
 use Rattle.build_script.specs.declared.forms.Form.TheVariants as forms
@@ -13,7 +13,7 @@ form_of forms.Whole path = whole
 form_of (forms.FirstLines number) path = first_lines number
 form_of (forms.Replaced from to) path = replaced from.now to.now
 form_of forms.DigestLine path = digest_line
-form_of forms.Listed path = listed path
+form_of forms.Listed path = linked_text path
 
 -- an output by its parts
 abbrev pub output_at : List ℕ → ℕ → Output

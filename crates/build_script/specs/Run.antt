@@ -4,7 +4,7 @@ use Rattle.std.specs.List.{list_any, join_with_byte}
 use Rattle.std.specs.Str.{bytes_eq}
 use Rattle.cc_names.specs.declared.refusals.ScriptFault.{ScriptFault}
 use Rattle.cc_names.specs.declared.refusals.ScriptFault.TheVariants.{Absent, TooBig, IncludeDepth, Failed, StrayWrite, NotWritten}
-use Rattle.build_script.specs.Forms.{lines_in, whole, first_lines, replaced, digest_line, listed}
+use Rattle.build_script.specs.Forms.{lines_in, whole, first_lines, replaced, digest_line, linked_text}
 use Rattle.build_script.specs.Includes.{include_of, probes_of}
 use Rattle.build_script.specs.Lines.{script_of}
 use Rattle.build_script.specs.declared.lines.Work.{Work}
@@ -145,7 +145,7 @@ parts_of (Preprocess directories path) = Preprocessed directories path ∷ []
 parts_of (Substitute from to path) = TextOf (replaced from to) path ∷ []
 parts_of (Head lines path) = TextOf (first_lines lines) path ∷ []
 parts_of (Digest path) = TextOf digest_line path ∷ []
-parts_of (Link paths) = map (λ path. TextOf (listed path) path) paths
+parts_of (Link paths) = map (λ path. TextOf (linked_text path) path) paths
 
 -- what a line has made with one part behind it
 abbrev pub with_part : Files → Output → Part → Made → Asking (Result Made ScriptFault)

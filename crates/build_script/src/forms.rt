@@ -1,7 +1,7 @@
 // What commands make of a text.
 
 ghost use Rattle.std.specs.Prelude.{◌≡◌, ◌+◌, ◌<◌, ◌++◌, ◌∷◌, [], IfOk, MatchOption, length, take};
-ghost use Rattle.build_script.specs.Forms.{lines_in, first_lines, digest_line, listed};
+ghost use Rattle.build_script.specs.Forms.{lines_in, first_lines, digest_line, linked_text};
 
 use cc_names::cuts::first_newline;
 use cc_names::memory::NoMemory;
@@ -60,8 +60,8 @@ pub(crate) fn digest_line(alloc: Global, text: &[u8]) -> Result<Vec<u8>, NoMemor
 }
 
 /// A text behind the line that says its path and length.
-pub(crate) fn listed(alloc: Global, path: &Path, text: &[u8]) -> Result<Vec<u8>, NoMemory>
-    ensures { IfOk result (λ bytes. bytes.items ≡ listed path.now text.now) }
+pub(crate) fn linked_text(alloc: Global, path: &Path, text: &[u8]) -> Result<Vec<u8>, NoMemory>
+    ensures { IfOk result (λ bytes. bytes.items ≡ linked_text path.now text.now) }
 {
     let mut bytes = Vec::from_slice(alloc, path.as_bytes())?;
     bytes.push(b' ')?;

@@ -24,6 +24,4 @@ mod preprocess;
 mod progress;
 pub mod run;
 pub mod scripts;
-#[cfg(test)]
-mod tests;
 mod words;

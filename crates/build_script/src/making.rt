@@ -9,7 +9,7 @@ ghost use Rattle.build_script.specs.Parts.{Carried, Gave, gives, own_of};
 ghost use Rattle.build_script.specs.MadeOf.{made_of};
 
 use crate::files::{Files, Got, Stop};
-use crate::forms::{Form, digest_line, first_lines, listed};
+use crate::forms::{Form, digest_line, first_lines, linked_text};
 use crate::halts::Halt;
 use crate::lines::Work;
 use crate::preprocess::preprocess;
@@ -203,7 +203,7 @@ fn say_as(
             say(making, made, line.as_slice())
         }
         Form::Listed => {
-            let bytes = listed(making.alloc, path, text)?;
+            let bytes = linked_text(making.alloc, path, text)?;
             say(making, made, bytes.as_slice())
         }
     }

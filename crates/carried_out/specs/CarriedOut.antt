@@ -1,5 +1,5 @@
 -- What the program carries out so far: the commands, and the deeds that its rows may have.
-use Rattle.std.specs.Prelude.{◌≡◌, Bool, true, false}
+use Rattle.std.specs.Prelude.{◌≡◌, Bool, true, false, None}
 use Rattle.std.specs.List.{AllByRecursion}
 use Rattle.cc_names.specs.declared.commands.Command.{Command}
 use Rattle.cc_names.specs.declared.commands.Command.TheVariants as commands
@@ -9,12 +9,17 @@ use Rattle.cc_names.specs.declared.commands.Session.{Session}
 use Rattle.cc_names.specs.declared.rows.Deed.{Deed}
 use Rattle.cc_names.specs.declared.rows.Deed.TheVariants as deeds
 
--- whether a command is carried out
+-- whether a command is carried out; `cat` so far of no named version
 abbrev pub is_carried_out : Command → Bool
 is_carried_out (commands.Mkview view) = true
 is_carried_out (commands.Rmview view force) = true
 is_carried_out (commands.Save view path text) = true
+is_carried_out (commands.Rm view path) = true
+is_carried_out (commands.Mklbtype name) = true
+is_carried_out (commands.Mkbrtype name) = true
 is_carried_out (commands.Clearmake view file own_only rebuild jobs macros goals) = true
+is_carried_out (commands.Catcs view) = true
+is_carried_out (commands.Cat view path None) = true
 is_carried_out command = false
 
 -- whether a command that is carried out, or a unit of a build, may make a row of this deed
@@ -22,6 +27,8 @@ abbrev pub is_made : Deed → Bool
 is_made (deeds.Mkview view) = true
 is_made (deeds.Rmview view) = true
 is_made (deeds.Put view path text) = true
+is_made (deeds.Rm view path) = true
+is_made (deeds.Mktype kind name) = true
 is_made (deeds.Publish view targets script entries outputs) = true
 is_made deed = false
 

@@ -40,7 +40,7 @@ Ends with the status
   5  the input failed
   6  the output failed
   7  the disk failed
-  8  memory ran out
+  8  memory ran out, or the system gave no random numbers: then a line on standard error says so
   9  the text has more than 16,777,216 bytes
 ";
 

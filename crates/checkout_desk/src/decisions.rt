@@ -6,16 +6,19 @@ ghost use Rattle.legal_history.specs.Base.Fits.{row_limit};
 ghost use Rattle.legal_history.specs.Commands.Decisions.{Scene};
 ghost use Rattle.legal_history.specs.Commands.Lines.{decision};
 ghost use Rattle.carried_out.specs.CarriedOut.{is_carried_out, is_made};
+ghost use Rattle.carried_out.specs.Queries.{asks};
 ghost use Rattle.checkout_desk.specs.Commands.{builds, view_of};
 ghost use Rattle.checkout_desk.specs.Deciding.{Sees, Decides};
 
+use crate::removals::rm;
 use crate::saves::save;
+use crate::types::mktype;
 use crate::views::{mkview, rmview};
 use cc_names::commands::Command;
 use cc_names::desks::Occasion;
 use cc_names::memory::Or;
 use cc_names::refusals::Refusal;
-use cc_names::rows::Row;
+use cc_names::rows::{Row, TypeKind};
 use std::alloc::Global;
 use view_lookup::FirstRows;
 
@@ -29,6 +32,7 @@ pub fn decide(
 ) -> Result<Row, Or<Refusal>>
     requires carried_out { is_carried_out command.now ≡ true }
     requires no_build { builds command.now ≡ false }
+    requires no_query { asks command.now ≡ false }
     requires formed { IsCommand 16777216 command.now }
     requires in_time { occasion.moment ≤ 253402300799 }
 
@@ -42,6 +46,9 @@ pub fn decide(
         Command::Mkview { view } => mkview(alloc, rows, view, occasion),
         Command::Rmview { view, force } => rmview(alloc, rows, view, *force, occasion),
         Command::Save { view, path, text } => save(alloc, rows, view, path, text, occasion),
+        Command::Rm { view, path } => rm(alloc, rows, view, path, occasion),
+        Command::Mklbtype { name } => mktype(alloc, rows, TypeKind::Label, name, occasion),
+        Command::Mkbrtype { name } => mktype(alloc, rows, TypeKind::Branch, name, occasion),
         _ => unreachable!(),
     }
 }

@@ -10,8 +10,10 @@
 
 mod commands;
 mod decisions;
+mod removals;
 mod room;
 mod saves;
+mod types;
 mod views;
 
 pub use commands::view_of;

@@ -2,8 +2,8 @@
 use Rattle.std.proofs.Common.{◌≡◌, ◌<◌, ◌≤◌, ◌+◌, ◌-◌, ◌^◌, ℕ, zero, suc, Bool, true, false, ◌==◌, Result, Ok, Err, OnOk, is_err, List, [], ◌∷◌, ◌++◌, length, fold, refl, sym, ◌∙◌, ap, subst, if◌then◌else◌, arith}
 use Rattle.std.proofs.lemmas.List.Sums.{fold-append}
 use Rattle.disk_model.specs.Contents.{IsReplayed}
-use Rattle.disk_model.specs.Counting.{raised}
-use Rattle.disk_model.specs.Devices.{Device, Event, Tore, Failed, fresh, added, bytes_of, is_failed, failures}
+use Rattle.disk_model.specs.Counting.{next_count}
+use Rattle.disk_model.specs.Devices.{Device, Event, Tore, Failed, uncalled, added, bytes_of, is_failed, failures}
 use Rattle.disk_model.specs.Files.{overwritten}
 use Rattle.disk_model.specs.Records.{failing, recorded, device_of, called}
 use Rattle.disk_model.specs.Told.{CountsFailures}
@@ -20,7 +20,7 @@ failures_most (event ∷ earlier) = omega (arith, at_most_one (is_failed event),
 
 -- a call that failed, with its tick
 pub failed_counts : (ticks faults : ℕ) (event : Event) (d : Device) → is_failed event ≡ true → CountsFailures ticks faults d → ticks ≡ length d.calls
-    → ticks < 2 ^ 64 - 1 → CountsFailures (ticks + 1) (raised faults) (added event d)
+    → ticks < 2 ^ 64 - 1 → CountsFailures (ticks + 1) (next_count faults) (added event d)
 failed_counts ticks faults event d failed counts ticked more =
     let most = failures_most d.calls in
     let one : failures (event ∷ d.calls) ≡ 1 + failures d.calls = ap (λ b. (if b then 1 else 0) + failures d.calls) failed in
@@ -32,7 +32,7 @@ failed_counts ticks faults event d failed counts ticked more =
 
 -- a call that is a fault and was not made
 pub unmade_counts : (ticks faults : ℕ) (d : Device) → CountsFailures ticks faults d → ticks ≡ length d.calls → 2 ^ 64 - 1 ≤ ticks → ticks < 2 ^ 64
-    → CountsFailures ticks (raised faults) d
+    → CountsFailures ticks (next_count faults) d
 unmade_counts ticks faults d counts ticked end fits = record {
   each = omega (arith, counts.each, failures_most d.calls, ticked, fits);
   no_other = λ later. absurd (omega (arith, later, end));
@@ -42,12 +42,12 @@ unmade_counts ticks faults d counts ticked end fits = record {
 pub recorded_more : (journal objects : List ℕ) (entries more : List Entry) (failed : ℕ) (entry : Entry) → more ≡ entries ++ entry ∷ [] → entry.failed_before ≡ failed
     → device_of journal objects more 0 ≡ called entry.call (device_of journal objects entries failed)
 recorded_more journal objects entries more failed entry is before =
-    ap (fold recorded (fresh journal objects)) is ∙ fold-append recorded (fresh journal objects) entries (entry ∷ [])
-    ∙ ap (λ n. called entry.call (failing n (fold recorded (fresh journal objects) entries))) before
+    ap (fold recorded (uncalled journal objects)) is ∙ fold-append recorded (uncalled journal objects) entries (entry ∷ [])
+    ∙ ap (λ n. called entry.call (failing n (fold recorded (uncalled journal objects) entries))) before
 
 -- a call more failed and changed nothing
 pub missed_replayed : (journal objects : List ℕ) (entries : List Entry) (failed : ℕ) (now_journal now_objects : List ℕ) (ticks faults faults' : ℕ)
-    → IsReplayed (device_of journal objects entries failed) now_journal now_objects ticks faults → faults' ≡ raised faults → ticks < 2 ^ 64 - 1
+    → IsReplayed (device_of journal objects entries failed) now_journal now_objects ticks faults → faults' ≡ next_count faults → ticks < 2 ^ 64 - 1
     → IsReplayed (device_of journal objects entries (failed + 1)) now_journal now_objects (ticks + 1) faults'
 missed_replayed journal objects entries failed now_journal now_objects ticks faults faults' was rose more =
     let d = device_of journal objects entries failed in
@@ -77,7 +77,7 @@ pub torn_replayed : (journal objects : List ℕ) (entries more : List Entry) (en
     → entry.call ≡ calls.Tear file place landed lost → file ≤ 1
     → now_journal' ≡ (if file == 0 then overwritten place landed now_journal else now_journal)
     → now_objects' ≡ (if file == 0 then now_objects else overwritten place landed now_objects)
-    → faults' ≡ raised faults → ticks < 2 ^ 64 - 1
+    → faults' ≡ next_count faults → ticks < 2 ^ 64 - 1
     → IsReplayed (device_of journal objects more 0) now_journal' now_objects' (ticks + 1) faults'
 torn_replayed journal objects entries more entry failed now_journal now_objects now_journal' now_objects' file place lost landed ticks faults faults' was is before call within wrote other rose room =
     let d = device_of journal objects entries failed in

@@ -3,7 +3,7 @@ use Rattle.std.proofs.Common.{◌≡◌, ◌<◌, ◌≤◌, ◌+◌, ◌⊎◌,
 use Rattle.std.proofs.lemmas.List.{take-append-drop, take_more, take_all}
 use Rattle.std.proofs.lemmas.List.Sums.{fold-append}
 use Rattle.disk_model.specs.Files.{IsImage}
-use Rattle.disk_model.specs.Devices.{Device, fresh, file_of, during, after, Leaves, MayLeave}
+use Rattle.disk_model.specs.Devices.{Device, uncalled, file_of, during, after, Leaves, MayLeave}
 use Rattle.disk_model.specs.Records.{failing, event_of, recorded, device_of}
 use Rattle.disk_model.specs.Picks.{IsPicture}
 use Rattle.disk_model.specs.declared.calls.Entry.{Entry}
@@ -52,7 +52,7 @@ pub cut_at : (journal objects : List ℕ) (entries : List Entry) (i failed : ℕ
     → device_of journal objects entries failed ≡ failing failed (fold recorded (device_of journal objects (take i entries) 0) (drop i entries))
 cut_at journal objects entries i failed =
     ap (λ es. device_of journal objects es failed) (sym (take-append-drop i entries))
-    ∙ ap (failing failed) (fold-append recorded (fresh journal objects) (take i entries) (drop i entries))
+    ∙ ap (failing failed) (fold-append recorded (uncalled journal objects) (take i entries) (drop i entries))
 
 -- a stop among the first entries leaves what it left
 pub leaves_in_all : (file : ℕ) (journal objects : List ℕ) (entries : List Entry) (i failed k : ℕ) (image : List ℕ)
@@ -66,8 +66,8 @@ leaves_in_all file journal objects entries i failed k image left =
 pub device_more : (journal objects : List ℕ) (entries : List Entry) (i : ℕ) (entry : Entry) → i < length entries → entry ≡ get_or entries i entry
     → device_of journal objects (take (i + 1) entries) 0 ≡ recorded (device_of journal objects (take i entries) 0) entry
 device_more journal objects entries i entry within is =
-    ap (fold recorded (fresh journal objects)) (take_more entries i entry within)
-    ∙ fold-append recorded (fresh journal objects) (take i entries) (get_or entries i entry ∷ [])
+    ap (fold recorded (uncalled journal objects)) (take_more entries i entry within)
+    ∙ fold-append recorded (uncalled journal objects) (take i entries) (get_or entries i entry ∷ [])
     ∙ ap (recorded (device_of journal objects (take i entries) 0)) (sym is)
 
 module _ (file : ℕ) (journal objects : List ℕ) (entries : List Entry) (i failed call made : ℕ) (entry : Entry) (bytes image : List ℕ)

@@ -2,7 +2,7 @@
 use Rattle.std.proofs.Common.{◌≡◌, ◌<◌, ◌≤◌, ◌+◌, ◌-◌, ◌⊎◌, ℕ, min, max, Bool, false, ◌&&◌, ◌||◌, nat_le, nat_lt, List, ◌++◌, length, take, drop, get_or, refl, sym, ◌∙◌, ap, inl, inr, arith, length-append, length-take, length-drop}
 use Rattle.std.proofs.lemmas.List.{get_or_append_left, get_or-append_right, get_or-take, get_or-drop}
 use Rattle.std.proofs.lemmas.Grind.{common_steps}
-use Rattle.disk_model.specs.Files.{File, covers, overwritten, IsImage, IsTorn}
+use Rattle.disk_model.specs.Files.{File, is_written, overwritten, IsImage, IsTorn}
 use Rattle.disk_model.specs.Devices.{written_to}
 
 pub length_overwritten : (place : ℕ) (piece bytes : List ℕ)
@@ -59,7 +59,7 @@ image_torn s place size left image torn reads file other is_image = record {
   no_shorter = omega arith;
   no_longer = omega arith;
   kept = λ i within none.
-      let sides = outside place size i (covers s.written i) none in
+      let sides = outside place size i (is_written s.written i) none in
       let in_image : i < length image = omega (arith, is_image.no_shorter) in
       let in_bytes : i < length s.bytes = omega arith in
       elim sides.0 [

@@ -35,8 +35,8 @@ pub record Device : Type 0 where
   pub calls : List Event
 
 -- a device that no call was made on
-abbrev pub fresh : List ℕ → List ℕ → Device
-fresh journal objects = record { journal = journal; objects = objects; calls = [] }
+abbrev pub uncalled : List ℕ → List ℕ → Device
+uncalled journal objects = record { journal = journal; objects = objects; calls = [] }
 
 -- a device on which one more call was made
 abbrev pub added : Event → Device → Device

@@ -14,16 +14,16 @@ abbrev pub stable : List ℕ → File
 stable bytes = record { bytes = bytes; least = length bytes; most = length bytes; written = [] }
 
 -- whether one of these ranges has the byte at this place
-abbrev pub covers : List (ℕ × ℕ) → ℕ → Bool
-covers [] i = false
-covers (range ∷ ranges) i = (nat_le range.0 i && nat_lt i (range.0 + range.1)) || covers ranges i
+abbrev pub is_written : List (ℕ × ℕ) → ℕ → Bool
+is_written [] i = false
+is_written (range ∷ ranges) i = (nat_le range.0 i && nat_lt i (range.0 + range.1)) || is_written ranges i
 
 -- The crash model: a stop leaves some length between the one at the last sync and the greatest since, any bytes in the
 -- ranges written since and past the length at that sync, and every other byte as it reads.
 pub record IsImage (file : File) (image : List ℕ) : Type 0 where
   pub no_shorter : file.least ≤ length image
   pub no_longer : length image ≤ file.most
-  pub kept : (i : ℕ) → i < file.least → covers file.written i ≡ false → slice_index image i ≡ slice_index file.bytes i
+  pub kept : (i : ℕ) → i < file.least → is_written file.written i ≡ false → slice_index image i ≡ slice_index file.bytes i
 
 -- bytes with a piece written over them from a place on, which is at most their length
 abbrev pub overwritten : ℕ → List ℕ → List ℕ → List ℕ

@@ -1,6 +1,6 @@
 -- The device that the record of a disk in memory stands for.
 use Rattle.std.specs.Prelude.{ℕ, zero, suc, ◌+◌, List, length, fold}
-use Rattle.disk_model.specs.Devices.{Event, Measured, Fetched, Wrote, Tore, Synced, Failed, Device, fresh, added, bytes_of}
+use Rattle.disk_model.specs.Devices.{Event, Measured, Fetched, Wrote, Tore, Synced, Failed, Device, uncalled, added, bytes_of}
 use Rattle.disk_model.specs.Files.{overwritten}
 use Rattle.disk_model.specs.declared.calls.Call.{Call}
 use Rattle.disk_model.specs.declared.calls.Call.TheVariants as calls
@@ -29,7 +29,7 @@ recorded d entry = called entry.call (failing entry.failed_before d)
 
 -- the device of a record: what both files held at first, the entries, the oldest first, and the calls that failed since
 abbrev pub device_of : List ℕ → List ℕ → List Entry → ℕ → Device
-device_of journal objects entries failed = failing failed (fold recorded (fresh journal objects) entries)
+device_of journal objects entries failed = failing failed (fold recorded (uncalled journal objects) entries)
 
 -- a call that changes no bytes
 abbrev pub ChangesNoBytes : Call → Type 0

@@ -1,6 +1,6 @@
 -- What contracts see of a disk, and what they say of it where it tells its device.
 use Rattle.std.specs.Prelude.{◌≡◌, ℕ, ◌-◌, ◌^◌, ◌<◌, ◌≤◌, Option, Some, None, Result, MatchResult, length}
-use Rattle.disk_model.specs.Counting.{raised}
+use Rattle.disk_model.specs.Counting.{next_count}
 use Rattle.disk_model.specs.Devices.{Device, failures}
 
 -- the device, where the disk tells it, and both counts
@@ -24,8 +24,8 @@ Both R (Some d) (Some e) = R d e
 -- Counts of a device call: a tick more, and a fault more exactly where the answer is an error.
 -- A disk whose ticks stand at their end answers only errors.
 abbrev pub Counted : {T E : Type 0} → Result T E → Sight → Sight → Type 0
-Counted result old new = (new.ticks ≡ raised old.ticks)
-    × MatchResult result (λ _. (new.faults ≡ old.faults) × (old.ticks < 2 ^ 64 - 1)) (λ _. new.faults ≡ raised old.faults)
+Counted result old new = (new.ticks ≡ next_count old.ticks)
+    × MatchResult result (λ _. (new.faults ≡ old.faults) × (old.ticks < 2 ^ 64 - 1)) (λ _. new.faults ≡ next_count old.faults)
 
 -- A fault was counted for each call that is told and failed, and no other as long as ticks have not come to their end, where a
 -- call is a fault and is neither made nor told.

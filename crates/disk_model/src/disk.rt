@@ -86,7 +86,8 @@ pub trait Disk {
         ensures ticks { result.ticks ≡ (sight self.now).ticks }
         ensures faults { result.faults ≡ (sight self.now).faults };
 
-    /// The counts fit, and there is a tick for each call that is told.
+    /// The counts fit, and there is a tick for each call that is told, and a fault for each of these that failed: no other, until
+    /// ticks have come to their end.
     ghost counted: { (disk : Self) → IsCounted (sight disk) };
 
     /// A disk tells its device or not, as its type says, whatever was done to it.

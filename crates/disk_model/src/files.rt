@@ -1,7 +1,7 @@
 // A disk over two files of the system. What they hold is not told.
 
 ghost use Rattle.std.specs.Prelude.{◌≡◌, ◌≤◌, ◌<◌, ◌+◌, ◌-◌, ◌^◌, ◌↔◌, None, IfOk, IsTrue};
-ghost use Rattle.disk_model.specs.Counting.{raised};
+ghost use Rattle.disk_model.specs.Counting.{next_count};
 ghost use Rattle.disk_model.specs.Told.{Sight};
 
 use crate::Counts;
@@ -165,7 +165,7 @@ impl<R: Files<File = File>> FileDisk<R> {
     /// Counts a call, if one may still be made.
     fn begins(&mut self) -> bool
         ensures may { IsTrue result ↔ (self.old.ticks < 2 ^ 64 - 1) }
-        ensures ticks { self.new.ticks ≡ raised self.old.ticks }
+        ensures ticks { self.new.ticks ≡ next_count self.old.ticks }
         ensures faults { self.new.faults ≡ self.old.faults }
     {
         if self.ticks == u64::MAX {
@@ -177,7 +177,7 @@ impl<R: Files<File = File>> FileDisk<R> {
 
     fn fault(&mut self) -> DiskFault
         ensures ticks { self.new.ticks ≡ self.old.ticks }
-        ensures faults { self.new.faults ≡ raised self.old.faults }
+        ensures faults { self.new.faults ≡ next_count self.old.faults }
     {
         self.faults = self.faults.saturating_add(1);
         DiskFault

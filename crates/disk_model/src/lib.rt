@@ -16,8 +16,6 @@ mod files;
 mod images;
 mod memory;
 mod named;
-#[cfg(test)]
-mod tests;
 
 pub use calls::{Call, Entry};
 pub use cc_names::steps::Counts;

@@ -3,7 +3,7 @@
 ghost use Rattle.std.specs.Prelude.{◌≡◌, ◌⊎◌, ◌≤◌, ◌<◌, ◌+◌, ◌^◌, ◌-◌, List, Some, None, length, IfOk, OnOk, OnErr, MatchResult};
 ghost use Rattle.disk_model.specs.Records.{device_of};
 ghost use Rattle.disk_model.specs.Contents.{IsReplayed};
-ghost use Rattle.disk_model.specs.Counting.{raised};
+ghost use Rattle.disk_model.specs.Counting.{next_count};
 
 use crate::Counts;
 use crate::calls::{Call, Entry};
@@ -18,7 +18,7 @@ const MAX_LENGTH: u64 = 1 << 62;
 
 /// A count raised by one, which ends at 2^64 - 1.
 fn one_more(count: u64) -> u64
-    ensures { result ≡ raised count }
+    ensures { result ≡ next_count count }
 {
     count.saturating_add(1)
 }
@@ -148,8 +148,8 @@ impl MemoryDisk {
     /// A call that fails and changes nothing.
     fn miss(&mut self) -> DiskFault
         ensures told { Idles (told_by self.old) (told_by self.new) }
-        ensures ticks { self.new.ticks ≡ raised self.old.ticks }
-        ensures faults { self.new.faults ≡ raised self.old.faults }
+        ensures ticks { self.new.ticks ≡ next_count self.old.ticks }
+        ensures faults { self.new.faults ≡ next_count self.old.faults }
     {
         self.faults = one_more(self.faults);
         if self.ticks < u64::MAX {
@@ -225,8 +225,8 @@ impl MemoryDisk {
         ensures told { Idles (told_by self.old) (told_by self.new)
             ⊎ (told_by self.new
             ≡ called (calls.Tear file place landed.now lost) (told_by self.old)) }
-        ensures ticks { self.new.ticks ≡ raised self.old.ticks }
-        ensures faults { self.new.faults ≡ raised self.old.faults }
+        ensures ticks { self.new.ticks ≡ next_count self.old.ticks }
+        ensures faults { self.new.faults ≡ next_count self.old.faults }
     {
         if self.ticks == u64::MAX {
             return self.miss();

@@ -13,7 +13,7 @@ ghost use Rattle.std.specs.Prelude.{◌≡◌, ℕ, ◌<◌, ◌∷◌, [], IsTr
 ghost use Rattle.cc_names.specs.Labels.{labels_of_first_rows, holder};
 ghost use Rattle.cc_names.specs.Falling.{IsAbove};
 ghost use Rattle.cc_names.specs.declared.changes.LabelChange.TheVariants as changes;
-ghost use Rattle.label_book.specs.Marks.{rows_of_pair, is_ready, AddsChange, KeepsAll};
+ghost use Rattle.label_book.specs.Marks.{rows_of_pair, has_room, AddsChange, KeepsAll};
 
 mod held;
 pub mod laws;
@@ -72,7 +72,7 @@ impl Book {
         ensures ready { OnOk result
             ((k : ℕ)
             → k < length elements.now
-            → IsTrue (is_ready self.new label.now (slice_index elements.now k))) }
+            → IsTrue (has_room self.new label.now (slice_index elements.now k))) }
     {
         for element in elements {
             self.reserve_one(alloc, label, *element)?;
@@ -83,7 +83,7 @@ impl Book {
     // Makes room for one change of a label on an element.
     fn reserve_one(&mut self, alloc: Global, label: &Name, element: u64) -> Result<(), NoMemory>
         ensures kept { KeepsAll self.old self.new }
-        ensures ready { OnOk result (IsTrue (is_ready self.new label.now element)) }
+        ensures ready { OnOk result (IsTrue (has_room self.new label.now element)) }
     {
         match Held::find(self.hashing, &self.held, &self.newest, label, element) {
             Some(place) => {
@@ -118,7 +118,7 @@ impl Book {
     /// time to find the label there, as `at` does.
     pub fn attach(&mut self, row: u64, label: &Name, element: u64, version: u64)
         requires above { IsAbove row (rows_of_pair label.now element self.old.changes) }
-        requires ready { IsTrue (is_ready self.old label.now element) }
+        requires ready { IsTrue (has_room self.old label.now element) }
         ensures { AddsChange self.old self.new (changes.Put row label.now element version) }
     {
         self.add(
@@ -135,7 +135,7 @@ impl Book {
     /// the label there, as `at` does.
     pub fn detach(&mut self, row: u64, label: &Name, element: u64)
         requires above { IsAbove row (rows_of_pair label.now element self.old.changes) }
-        requires ready { IsTrue (is_ready self.old label.now element) }
+        requires ready { IsTrue (has_room self.old label.now element) }
         ensures { AddsChange self.old self.new (changes.Taken row label.now element) }
     {
         self.add(label, element, Move { row, version: None });
@@ -144,7 +144,7 @@ impl Book {
     // Adds one change of a label on an element.
     fn add(&mut self, label: &Name, element: u64, change: Move)
         requires above { IsAbove change.row (rows_of_pair label.now element self.old.changes) }
-        requires ready { IsTrue (is_ready self.old label.now element) }
+        requires ready { IsTrue (has_room self.old label.now element) }
         ensures { AddsChange self.old self.new
             (change_by label.now element change.row change.version) }
     {

@@ -1,10 +1,10 @@
 -- Steps of a walk that keeps its own stack.
 use Rattle.std.proofs.Common.{◌≡◌, refl, sym, ap, ◌∙◌, subst, ℕ, zero, suc, ◌+◌, ◌-◌, ◌<◌, ◌≤◌, Option, Some, None, Result, Ok, Err, List, [], ◌∷◌, ◌++◌, length, drop, set, slice_get, arith, add-zero}
 use Rattle.make_text.specs.Walks.{Walk, number_of, prerequisites_at, opened, closed, and_then, each_of, take_path}
-use Rattle.make_text.specs.declared.serving.Serving.{Serving}
+use Rattle.make_text.specs.Rules.{Serving}
 use Rattle.make_text.specs.declared.walks.Mark.{Mark}
 use Rattle.make_text.specs.declared.walks.Mark.TheVariants.{New, Open, Done}
-use Rattle.make_graph.specs.Frames.{meeting_at, meeting, next_of, finish, resume, new_one, news}
+use Rattle.make_graph.specs.Frames.{meeting_at, meeting, entered, behind, next_of, finish, resume, new_one, news}
 use Rattle.make_graph.specs.declared.walks.Frame.{Frame}
 use Rattle.make_graph.specs.declared.walks.Meeting.{Meeting}
 use Rattle.make_graph.specs.declared.walks.Meeting.TheVariants.{Past, Again, Enter}
@@ -115,23 +115,19 @@ append_nil [] = refl
 append_nil (x ∷ xs) = ap (λ l. x ∷ l) (append_nil xs)
 
 -- a unit without further prerequisites is closed
-pub step_close : (units : List Serving) (stack : List Frame) (top : Frame) (w : Walk) → next_of units top ≡ None → resume units 0 (stack ++ top ∷ []) w ≡ resume units 0 stack (closed top.unit w)
+pub step_close : (units : List Serving) (stack : List Frame) (top : Frame) (w : Walk) → next_of top ≡ None → resume units 0 (stack ++ top ∷ []) w ≡ resume units 0 stack (closed top.unit w)
 step_close units stack top w none =
-    let rest = drop_none (prerequisites_at (slice_get units top.unit)) top.next none in
+    let rest = drop_none top.paths top.next none in
     let depth = length units - (0 + length stack) in
     let here : resume units (0 + length stack) (top ∷ []) w ≡ resume units (0 + length stack) [] (closed top.unit w) =
     ap (λ paths. and_then (each_of (take_path depth units) paths w) (λ later. Ok (closed top.unit later))) rest in
     lift units 0 stack (top ∷ []) [] w (closed top.unit w) here ∙ ap (λ l. resume units 0 l (closed top.unit w)) (append_nil stack)
 
--- the top of the stack with its next prerequisite behind it
-abbrev pub behind : Frame → Frame
-behind top = record { unit = top.unit; next = top.next + 1 }
-
 -- what the top of the stack comes to, by what the walk does about its next prerequisite
-at_top : (units : List Serving) (below depth : ℕ) (top : Frame) (path : List ℕ) (w : Walk) → length units - below ≡ suc depth → next_of units top ≡ Some path →
+at_top : (units : List Serving) (below depth : ℕ) (top : Frame) (path : List ℕ) (w : Walk) → length units - below ≡ suc depth → next_of top ≡ Some path →
     resume units below (top ∷ []) w ≡ and_then (came depth units path w (meeting w.marks (number_of units path))) (λ v. resume units below (behind top ∷ []) v)
 at_top units below depth top path w deep is =
-    let paths = prerequisites_at (slice_get units top.unit) in
+    let paths = top.paths in
     let more : suc top.next ≡ top.next + 1 = omega arith in
     let rest : drop top.next paths ≡ path ∷ drop (top.next + 1) paths = drop_some paths top.next path is ∙ ap (λ n. path ∷ drop n paths) more in
     let step = each_of (take_path (length units - below) units) in
@@ -145,7 +141,7 @@ at_top units below depth top path w deep is =
 depth_at : (units : List Serving) (n : ℕ) → n < length units → length units - n ≡ suc (length units - suc n)
 depth_at units n h = omega (arith, h)
 
-pub step_past : (units : List Serving) (stack : List Frame) (top : Frame) (path : List ℕ) (w : Walk) → length stack < length units → next_of units top ≡ Some path → meeting w.marks (number_of units path) ≡ Past →
+pub step_past : (units : List Serving) (stack : List Frame) (top : Frame) (path : List ℕ) (w : Walk) → length stack < length units → next_of top ≡ Some path → meeting w.marks (number_of units path) ≡ Past →
     resume units 0 (stack ++ top ∷ []) w ≡ resume units 0 (stack ++ behind top ∷ []) w
 step_past units stack top path w room is past =
     let below = 0 + length stack in
@@ -154,7 +150,7 @@ step_past units stack top path w room is past =
     (at_top units below (length units - suc below) top path w (depth_at units below lt) is
     ∙ ap (λ m. and_then (came (length units - suc below) units path w m) (λ v. resume units below (behind top ∷ []) v)) past)
 
-pub step_again : (units : List Serving) (stack : List Frame) (top : Frame) (path : List ℕ) (w : Walk) → length stack < length units → next_of units top ≡ Some path → meeting w.marks (number_of units path) ≡ Again →
+pub step_again : (units : List Serving) (stack : List Frame) (top : Frame) (path : List ℕ) (w : Walk) → length stack < length units → next_of top ≡ Some path → meeting w.marks (number_of units path) ≡ Again →
     resume units 0 (stack ++ top ∷ []) w ≡ Err path
 step_again units stack top path w room is again =
     let below = 0 + length stack in
@@ -163,18 +159,18 @@ step_again units stack top path w room is again =
     (at_top units below (length units - suc below) top path w (depth_at units below lt) is
     ∙ ap (λ m. and_then (came (length units - suc below) units path w m) (λ v. resume units below (behind top ∷ []) v)) again)
 
-pub step_enter : (units : List Serving) (stack : List Frame) (top : Frame) (path : List ℕ) (w : Walk) (n : ℕ) → length stack < length units → next_of units top ≡ Some path → meeting w.marks (number_of units path) ≡ Enter n →
-    resume units 0 (stack ++ top ∷ []) w ≡ resume units 0 (stack ++ behind top ∷ record { unit = n; next = 0 } ∷ []) (opened n w)
+pub step_enter : (units : List Serving) (stack : List Frame) (top : Frame) (path : List ℕ) (w : Walk) (n : ℕ) → length stack < length units → next_of top ≡ Some path → meeting w.marks (number_of units path) ≡ Enter n →
+    resume units 0 (stack ++ top ∷ []) w ≡ resume units 0 (stack ++ behind top ∷ entered units n ∷ []) (opened n w)
 step_enter units stack top path w n room is enter =
     let below = 0 + length stack in
     let lt : below < length units = omega (arith, room) in
-    lift units 0 stack (top ∷ []) (behind top ∷ record { unit = n; next = 0 } ∷ []) w (opened n w)
+    lift units 0 stack (top ∷ []) (behind top ∷ entered units n ∷ []) w (opened n w)
     (at_top units below (length units - suc below) top path w (depth_at units below lt) is
     ∙ ap (λ m. and_then (came (length units - suc below) units path w m) (λ v. resume units below (behind top ∷ []) v)) enter)
 
 -- a new unit is the first on the stack
 pub enter_first : (units : List Serving) (path : List ℕ) (w : Walk) (n : ℕ) → meeting w.marks (number_of units path) ≡ Enter n →
-    take_path (suc (length units)) units path w ≡ resume units 0 (record { unit = n; next = 0 } ∷ []) (opened n w)
+    take_path (suc (length units)) units path w ≡ resume units 0 (entered units n ∷ []) (opened n w)
 enter_first units path w n enter =
     let none : length units ≡ length units - 0 = omega arith in
     taken_as (length units) units path w

@@ -1,8 +1,8 @@
-mod NumberLemmas
 mod WalkedLemmas
 mod FrameLemmas
 mod ServingLemmas
 pub mod NeedLemmas
+mod MakerLemmas
 mod MarkLemmas
 pub mod StandingLaws
 mod Worked

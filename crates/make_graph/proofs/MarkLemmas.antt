@@ -1,14 +1,14 @@
 -- Marks of the units that are needed.
-use Rattle.std.proofs.Common.{◌≡◌, refl, sym, ap, ◌∙◌, ℕ, zero, suc, ◌<◌, ◌≤◌, ◌==◌, nat_lt, nat_le, Bool, true, false, ◌||◌, ◌&&◌, Some, List, [], ◌∷◌, ◌++◌, length, replicate, get_or, arith}
-use Rattle.std.proofs.Math.ListN.{set}
+use Rattle.std.proofs.Common.{◌≡◌, inl, inr, refl, sym, ap, ◌∙◌, ℕ, zero, suc, ◌<◌, ◌≤◌, ◌==◌, nat_lt, nat_le, Bool, true, false, ◌||◌, ◌&&◌, List, ◌++◌, length, replicate, get_or, arith}
+use Rattle.std.proofs.Math.Nat.{eq-or-lt_of_le}
 use Rattle.std.proofs.lemmas.Bool.Decides.{nat_tests}
-use Rattle.std.proofs.lemmas.List.{get_or-set_same, get_or-set_other}
-use Rattle.std.proofs.lemmas.Option.{unwrap_or-slice_get, slice_get_read}
+use Rattle.std.proofs.lemmas.Option.{slice_get_read}
 use Rattle.std.specs.Prelude.{unwrap_or}
 use Rattle.cc_names.specs.declared.units.Unit.{Unit}
-use Rattle.make_graph.specs.Marks.{AddsMark, AddsMarks}
-use Rattle.make_graph.specs.Waits.{is_unit, unit_of, makes_one, needed, closure_of, prerequisites_of, prerequisites_at, is_in, is_marked}
-use Rattle.make_graph.proofs.NeedLemmas.{same_number, makes_more}
+use Rattle.make_graph.specs.Marks.{AddsMarks, IsEnd}
+use Rattle.make_graph.specs.Waits.{makes_one, makers_of, needed, closure_of, prerequisites_at, is_in, is_marked}
+use Rattle.make_graph.proofs.MakerLemmas.{is_maker}
+use Rattle.make_graph.proofs.NeedLemmas.{same_number, makes_more, true_or_false}
 use Rattle.make_graph.proofs.StandingLaws.{when_made, when_not}
 
 or_true : (x : Bool) → (x || true) ≡ true
@@ -25,24 +25,6 @@ and_false false = refl
 
 less : (n k : ℕ) → n < k → nat_lt n k ≡ true
 less n k h = grind (arith, nat_tests)
-
-no_less : (n k : ℕ) → (n == k) ≡ true → nat_lt n k ≡ false
-no_less n k h = grind (arith, nat_tests)
-
--- ---- one mark more
-
-pub with_mark : (marks : List Bool) (m n : ℕ) → m < length marks → is_marked (set marks m true) n ≡ (is_marked marks n || (n == m))
-with_mark marks m n within = by (n == m) refl
-  where
-    by : (t : Bool) → (n == m) ≡ t → is_marked (set marks m true) n ≡ (is_marked marks n || t)
-    by true same =
-        unwrap_or-slice_get (set marks m true) n false
-        ∙ (ap (λ k. get_or (set marks m true) k false) (same_number n m same)
-        ∙ (get_or-set_same marks m true false within ∙ sym (or_true (is_marked marks n))))
-    by false other =
-        unwrap_or-slice_get (set marks m true) n false
-        ∙ (get_or-set_other marks m n true false (λ same. let is : (n == m) ≡ true = grind (arith, nat_tests) in cc)
-        ∙ (sym (unwrap_or-slice_get marks n false) ∙ sym (or_false (is_marked marks n))))
 
 no_marks : (k n : ℕ) → is_marked (replicate k false) n ≡ false
 no_marks zero n = refl
@@ -62,22 +44,38 @@ added : (a b t m : Bool) → a ≡ b → t ≡ true → (a || (t && m)) ≡ (b |
 added a b true m e h = ap (λ x. x || m) e
 added a b false m e h = absurd (cc)
 
-pub first_marks : (units : List Unit) (unit : ℕ) (marks : List Bool) → AddsMarks units unit (prerequisites_at units unit) (replicate unit false) marks →
-    HasMarks units unit unit marks
-first_marks units unit marks adds = record {
+-- no unit from the end on makes what is wanted
+pub none_behind : (units : List Unit) (wanted : List (List ℕ)) (end unit : ℕ) → end ≤ unit → IsEnd unit (makers_of units wanted) end → needed units unit wanted ≡ needed units end wanted
+none_behind units wanted end zero le ends = let same : zero ≡ end = omega (arith, le) in ap (λ k. needed units k wanted) same
+none_behind units wanted end (suc k) le ends =
+    elim (eq-or-lt_of_le {n = end} {m = suc k} le) [
+      | inl same ↦ ap (λ m. needed units m wanted) (sym same)
+      | inr below ↦
+          elim (true_or_false (makes_one units wanted k)) [
+            | inl made ↦ absurd (omega (arith, below, ends k (omega arith) (is_maker units wanted k ∙ made)))
+            | inr not ↦ when_not units k wanted not ∙ none_behind units wanted end k (omega (arith, below)) (λ n lt is. ends n (omega (arith, lt)) is)
+          ]
+    ]
+
+pub first_marks : (units : List Unit) (unit end : ℕ) (marks : List Bool) → end ≤ unit → IsEnd unit (makers_of units (prerequisites_at units unit)) end →
+    AddsMarks end (makers_of units (prerequisites_at units unit)) (replicate end false) marks → HasMarks units unit end marks
+first_marks units unit end marks le ends adds = record {
   wanted = prerequisites_at units unit;
-  low = λ n lt. adds n ∙ added (is_marked (replicate unit false) n) false (nat_lt n unit) _ (no_marks unit n) (less n unit lt);
-  all = λ n. above n (nat_lt n unit) refl;
+  low = λ n lt. made n ∙ added (is_marked (replicate end false) n) false (nat_lt n end) _ (no_marks end n) (less n end lt);
+  all = λ n. ap (λ l. is_in l n) (none_behind units (prerequisites_at units unit) end unit le ends) ∙ above n (nat_lt n end) refl;
 }
   where
-    above : (n : ℕ) (t : Bool) → nat_lt n unit ≡ t →
-        is_in (closure_of units unit) n ≡ (is_in (closure_of units unit) n || (nat_le unit n && is_marked marks n))
+    made : (n : ℕ) → is_marked marks n ≡ (is_marked (replicate end false) n || (nat_lt n end && makes_one units (prerequisites_at units unit) n))
+    made n = adds n ∙ ap (λ t. is_marked (replicate end false) n || (nat_lt n end && t)) (is_maker units (prerequisites_at units unit) n)
+
+    above : (n : ℕ) (t : Bool) → nat_lt n end ≡ t →
+        is_in (needed units end (prerequisites_at units unit)) n ≡ (is_in (needed units end (prerequisites_at units unit)) n || (nat_le end n && is_marked marks n))
     above n true h =
-        let none : nat_le unit n ≡ false = grind (arith, nat_tests) in
-        sym (ap (λ t. is_in (closure_of units unit) n || (t && is_marked marks n)) none ∙ or_false _)
+        let none : nat_le end n ≡ false = grind (arith, nat_tests) in
+        sym (ap (λ t. is_in (needed units end (prerequisites_at units unit)) n || (t && is_marked marks n)) none ∙ or_false _)
     above n false h =
-        let none : is_marked marks n ≡ false = adds n ∙ (ap (λ t. is_marked (replicate unit false) n || (t && makes_one units (prerequisites_at units unit) n)) h ∙ (or_false _ ∙ no_marks unit n)) in
-        sym (ap (λ m. is_in (closure_of units unit) n || (nat_le unit n && m)) none ∙ (ap (λ t. is_in (closure_of units unit) n || t) (and_false (nat_le unit n)) ∙ or_false _))
+        let none : is_marked marks n ≡ false = made n ∙ (ap (λ t. is_marked (replicate end false) n || (t && makes_one units (prerequisites_at units unit) n)) h ∙ (or_false _ ∙ no_marks end n)) in
+        sym (ap (λ m. is_in (needed units end (prerequisites_at units unit)) n || (nat_le end n && m)) none ∙ (ap (λ t. is_in (needed units end (prerequisites_at units unit)) n || t) (and_false (nat_le end n)) ∙ or_false _))
 
 step_bits : (n k : ℕ) (x a b m : Bool) → b ≡ (a || (nat_lt n k && m)) → ((n ≡ k) → a ≡ true) →
     (((n == k) || x) || (nat_le (suc k) n && a)) ≡ (x || (nat_le k n && b))
@@ -100,18 +98,21 @@ step_bits n k x a b m is at = by (n == k) (nat_lt n k) refl refl
 
 -- a unit that is needed
 pub marks_more : (units : List Unit) (unit k : ℕ) (old new : List Bool) → HasMarks units unit (suc k) old → is_marked old k ≡ true →
-    AddsMarks units k (prerequisites_at units k) old new → HasMarks units unit k new
+    AddsMarks k (makers_of units (prerequisites_at units k)) old new → HasMarks units unit k new
 marks_more units unit k old new h set adds = record {
   wanted = h.wanted ++ prerequisites_at units k;
   low = λ n lt.
-      adds n ∙ (added (is_marked old n) (makes_one units h.wanted n) (nat_lt n k) _ (h.low n (omega (arith, lt))) (less n k lt)
+      made n ∙ (added (is_marked old n) (makes_one units h.wanted n) (nat_lt n k) _ (h.low n (omega (arith, lt))) (less n k lt)
       ∙ sym (makes_more units h.wanted (prerequisites_at units k) n));
   all = λ n.
       h.all n
       ∙ (ap (λ l. is_in l n || (nat_le (suc k) n && is_marked old n)) (when_made units k h.wanted (sym (h.low k (omega arith)) ∙ set))
-      ∙ step_bits n k (is_in (needed units k (h.wanted ++ prerequisites_at units k)) n) (is_marked old n) (is_marked new n) _ (adds n)
+      ∙ step_bits n k (is_in (needed units k (h.wanted ++ prerequisites_at units k)) n) (is_marked old n) (is_marked new n) _ (made n)
       (λ same. ap (is_marked old) same ∙ set));
 }
+  where
+    made : (n : ℕ) → is_marked new n ≡ (is_marked old n || (nat_lt n k && makes_one units (prerequisites_at units k) n))
+    made n = adds n ∙ ap (λ t. is_marked old n || (nat_lt n k && t)) (is_maker units (prerequisites_at units k) n)
 
 -- a unit that is not
 pub marks_same : (units : List Unit) (unit k : ℕ) (marks : List Bool) → HasMarks units unit (suc k) marks → is_marked marks k ≡ false →
@@ -147,48 +148,6 @@ pub all_marked : (units : List Unit) (unit : ℕ) (marks : List Bool) → HasMar
 all_marked units unit marks h n =
     let le : nat_le 0 n ≡ true = grind (arith, nat_tests) in
     sym (h.all n ∙ ap (λ t. t && is_marked marks n) le)
-
--- ---- marks for paths, one after the other
-
--- the unit of a path that was not marked, since it is not below the number or there is none
-pub marks_none : (units : List Unit) (below : ℕ) (path : List ℕ) (marks : List Bool) → ((n : ℕ) → is_unit n (unit_of units path) ≡ true → nat_lt n below ≡ false) →
-    AddsMark units below path marks marks
-marks_none units below path marks none n = by (is_unit n (unit_of units path)) refl
-  where
-    by : (t : Bool) → is_unit n (unit_of units path) ≡ t → is_marked marks n ≡ (is_marked marks n || (nat_lt n below && t))
-    by true is = sym (ap (λ t. is_marked marks n || (t && true)) (none n is) ∙ or_false (is_marked marks n))
-    by false is = sym (ap (λ t. is_marked marks n || t) (and_false (nat_lt n below)) ∙ or_false (is_marked marks n))
-
-pub marks_unit : (units : List Unit) (below m : ℕ) (path : List ℕ) (marks : List Bool) → unit_of units path ≡ Some m → m < below → below ≤ length marks →
-    AddsMark units below path marks (set marks m true)
-marks_unit units below m path marks is lt within n =
-    with_mark marks m n (omega (arith, lt, within))
-    ∙ sym (ap (λ o. is_marked marks n || (nat_lt n below && is_unit n o)) is ∙ ap (λ t. is_marked marks n || t) (by (n == m) refl))
-  where
-    by : (t : Bool) → (n == m) ≡ t → (nat_lt n below && t) ≡ t
-    by true same = let lower : nat_lt n below ≡ true = less n below (omega (arith, lt, same_number n m same)) in ap (λ t. t && true) lower
-    by false other = and_false (nat_lt n below)
-
-pub marks_next : (units : List Unit) (below : ℕ) (path : List ℕ) (front : List (List ℕ)) (old mid new : List Bool) → AddsMarks units below front old mid → AddsMark units below path mid new →
-    AddsMarks units below (front ++ path ∷ []) old new
-marks_next units below path front old mid new first second n =
-    second n
-    ∙ (ap (λ t. t || (nat_lt n below && is_unit n (unit_of units path))) (first n)
-    ∙ (joined (is_marked old n) (nat_lt n below) (makes_one units front n) (is_unit n (unit_of units path))
-    ∙ sym (ap (λ t. is_marked old n || (nat_lt n below && t)) (makes_more units front (path ∷ []) n))))
-  where
-    joined : (a t b c : Bool) → ((a || (t && b)) || (t && c)) ≡ (a || (t && (b || (c || false))))
-    joined true t b c = refl
-    joined false false b c = refl
-    joined false true true c = refl
-    joined false true false c = sym (or_false c)
-
--- ---- the prerequisites of a unit that was read
-
-pub wanted_at : (units seen : List Unit) (i : ℕ) (unit : Unit) (paths : List (List ℕ)) → seen ≡ units → i < length units → unit ≡ get_or seen i unit → paths ≡ (get_or seen i unit).prerequisites →
-    paths ≡ prerequisites_at units i
-wanted_at units seen i unit paths same lt at is =
-    is ∙ ap (λ (u : Unit). u.prerequisites) (sym at) ∙ sym (ap prerequisites_of (slice_get_read units (length units) i unit refl lt (at ∙ ap (λ us. get_or us i unit) same)))
 
 -- a mark that was read
 pub mark_read : (marks : List Bool) (k : ℕ) (b : Bool) → k < length marks → b ≡ get_or marks k b → is_marked marks k ≡ b

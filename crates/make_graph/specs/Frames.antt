@@ -9,7 +9,7 @@ use Rattle.cc_names.specs.declared.memory.Or.TheVariants.{NoMemory, Is}
 use Rattle.cc_names.specs.declared.refusals.GraphFault.{GraphFault}
 use Rattle.cc_names.specs.declared.refusals.GraphFault.TheVariants.{Cycle}
 use Rattle.make_text.specs.Walks.{Walk, number_of, prerequisites_at, closed, and_then, each_of, take_path}
-use Rattle.make_text.specs.declared.serving.Serving.{Serving}
+use Rattle.make_text.specs.Rules.{Serving}
 use Rattle.make_text.specs.declared.walks.Mark.{Mark}
 use Rattle.make_text.specs.declared.walks.Mark.TheVariants.{New, Open, Done}
 use Rattle.make_graph.specs.declared.walks.Frame.{Frame}
@@ -32,17 +32,24 @@ abbrev pub meeting : List Mark → Option ℕ → Meeting
 meeting marks None = Past
 meeting marks (Some n) = meeting_at n (slice_get marks n)
 
--- the prerequisite of a frame that comes next, and all that come
-abbrev pub next_of : List Serving → Frame → Option (List ℕ)
-next_of units frame = slice_get (prerequisites_at (slice_get units frame.unit)) frame.next
+-- a unit that is entered, and a frame whose next prerequisite is past
+abbrev pub entered : List Serving → ℕ → Frame
+entered units n = record { unit = n; paths = prerequisites_at (slice_get units n); next = 0 }
 
-abbrev pub rest_of : List Serving → Frame → List (List ℕ)
-rest_of units frame = drop frame.next (prerequisites_at (slice_get units frame.unit))
+abbrev pub behind : Frame → Frame
+behind frame = record { unit = frame.unit; paths = frame.paths; next = frame.next + 1 }
+
+-- the prerequisite of a frame that comes next, and all that come
+abbrev pub next_of : Frame → Option (List ℕ)
+next_of frame = slice_get frame.paths frame.next
+
+abbrev pub rest_of : Frame → List (List ℕ)
+rest_of frame = drop frame.next frame.paths
 
 -- a unit that so many are open below is walked to its end
 abbrev pub finish : List Serving → ℕ → Frame → Walk → Result Walk (List ℕ)
 finish units below frame walk =
-    and_then (each_of (take_path (length units - below) units) (rest_of units frame) walk) (λ later. Ok (closed frame.unit later))
+    and_then (each_of (take_path (length units - below) units) (rest_of frame) walk) (λ later. Ok (closed frame.unit later))
 
 -- a walk whose units on the stack are walked to their ends, the last one first
 abbrev pub resume : List Serving → ℕ → List Frame → Walk → Result Walk (List ℕ)

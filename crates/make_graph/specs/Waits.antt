@@ -1,6 +1,6 @@
 -- What the units of a build wait for.
 use Rattle.std.specs.Prelude.{ℕ, zero, suc, ◌==◌, Bool, true, false, List, [], ◌∷◌, ◌++◌, slice_get, Option, Some, None, unwrap_or}
-use Rattle.std.specs.List.{list_any, list_all}
+use Rattle.std.specs.List.{list_any, list_all, filter_map}
 use Rattle.cc_names.specs.declared.units.Unit.{Unit}
 use Rattle.make_text.specs.Numbers.{number_from}
 use Rattle.make_text.specs.UnitLaws.{made_by_unit}
@@ -8,6 +8,10 @@ use Rattle.make_text.specs.UnitLaws.{made_by_unit}
 -- the number of the unit that makes a path
 abbrev pub unit_of : List Unit → List ℕ → Option ℕ
 unit_of units path = number_from made_by_unit 0 path units
+
+-- the units that make these paths, by their numbers, in the order of the paths
+abbrev pub makers_of : List Unit → List (List ℕ) → List ℕ
+makers_of units paths = filter_map (unit_of units) paths
 
 -- whether a unit is that of this number
 abbrev pub is_unit : ℕ → Option ℕ → Bool

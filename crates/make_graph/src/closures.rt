@@ -1,17 +1,16 @@
 // The units that a unit stands on.
 
-ghost use Rattle.std.specs.Prelude.{◌≡◌, ◌≤◌, ◌<◌, ℕ, length, replicate, false, IfOk};
+ghost use Rattle.std.specs.Prelude.{◌≡◌, ◌≤◌, ◌<◌, ◌∷◌, [], ℕ, length, replicate, false, IfOk};
 ghost use Rattle.make_graph.specs.Standing.{ClosureStands};
 ghost use Rattle.make_graph.specs.Waits.{is_in, is_marked, closure_of};
-ghost use Rattle.make_graph.specs.Marks.{AddsMark, AddsMarks};
+ghost use Rattle.make_graph.specs.Marks.{AddsMarks, IsEnd};
 
 use crate::unit_graphs::Graph;
 use cc_names::memory::NoMemory;
-use cc_names::paths::Path;
 use std::alloc::Global;
 use std::marker::Model;
 
-/// The units that a unit stands on. Contracts see it as a mark for each unit before that one.
+/// The units that a unit stands on. Contracts see it as a mark for each unit up to the last that it may have.
 #[derive(Drop)]
 pub struct Closure {
     marks: Vec<bool>,
@@ -45,49 +44,61 @@ fn no_marks(alloc: Global, units: usize) -> Result<Vec<bool>, NoMemory>
     Ok(vec![in alloc; false; units]?)
 }
 
-/// Marks the unit that makes a path, if it is below a number.
-fn mark(graph: &Graph, marks: &mut Vec<bool>, below: u32, path: &Path)
+/// One more than the greatest of these numbers that are below another, 0 where there is none.
+fn end_below(numbers: &[u32], below: u32) -> u32
+    ensures within { result ≤ below }
+    ensures all { IsEnd below numbers.now result }
+{
+    let mut end = 0;
+    for number in numbers {
+        if *number < below && *number >= end {
+            end = *number + 1;
+        }
+    }
+    end
+}
+
+/// Marks a unit, if it is below a number.
+fn mark(marks: &mut Vec<bool>, below: u32, number: u32)
     requires { below ≤ length marks.old.items }
     ensures length { length marks.new.items ≡ length marks.old.items }
-    ensures marks { AddsMark graph.now below path.now marks.old.items marks.new.items }
+    ensures marks { AddsMarks below (number ∷ []) marks.old.items marks.new.items }
 {
-    if let Some(number) = graph.unit_of(path) {
-        if number < below {
-            marks[number as usize] = true;
-        }
+    if number < below {
+        marks[number as usize] = true;
     }
 }
 
-/// Marks the units below a number that make these paths.
-fn mark_all(graph: &Graph, marks: &mut Vec<bool>, below: u32, paths: &[Path])
+/// Marks those of these units that are below a number.
+fn mark_all(marks: &mut Vec<bool>, below: u32, numbers: &[u32])
     requires { below ≤ length marks.old.items }
     ensures length { length marks.new.items ≡ length marks.old.items }
-    ensures marks { AddsMarks graph.now below paths.now marks.old.items marks.new.items }
+    ensures marks { AddsMarks below numbers.now marks.old.items marks.new.items }
 {
-    for path in paths {
-        mark(graph, marks, below, path);
+    for number in numbers {
+        mark(marks, below, *number);
     }
 }
 
 /// The units that a unit stands on: those that make its prerequisites, and those that these stand on. Fails only where memory
 /// runs out.
 ///
-/// Takes time linear in the units before it and in the prerequisites of those that it stands on.
+/// Takes memory and time linear in the greatest number of a unit that makes one of its prerequisites, and time linear in the
+/// prerequisites of the units that it stands on. Nothing of it is kept: sets for all units at once would take memory that
+/// grows with the square of their number, and suffix rules may serve as many units as a view has files.
 pub(crate) fn of_unit(graph: &Graph, alloc: Global, unit: u32) -> Result<Closure, NoMemory>
     requires { unit < length graph.now }
     ensures { IfOk result
         (λ closure. (n : ℕ) → is_marked closure n ≡ is_in (closure_of graph.now unit) n) }
 {
-    let units = graph.units();
-    let mut marks = no_marks(alloc, unit as usize)?;
-    let wanted = units[unit as usize].prerequisites.as_slice();
-    mark_all(graph, &mut marks, unit, wanted);
-    let mut number = unit;
+    let wanted = graph.makers(unit);
+    let mut number = end_below(wanted, unit);
+    let mut marks = no_marks(alloc, number as usize)?;
+    mark_all(&mut marks, number, wanted);
     while number > 0 {
         number -= 1;
         if marks[number as usize] {
-            let wanted = units[number as usize].prerequisites.as_slice();
-            mark_all(graph, &mut marks, number, wanted);
+            mark_all(&mut marks, number, graph.makers(number));
         }
     }
     Ok(Closure { marks })

@@ -31,7 +31,7 @@ pub(crate) fn default_goal(rules: &[MakeRule]) -> Option<&Path>
 {
     rules
         .iter()
-        .flat_map(|rule| rule.targets.as_slice().iter())
+        .flat_map(|rule| rule.targets().iter())
         .find(|target| !begins_with_period(target))
 }
 

@@ -14,6 +14,7 @@
 
 pub mod closures;
 pub mod goals;
+mod makers;
 mod numbers;
 mod serving;
 pub mod unit_graphs;

@@ -1,6 +1,6 @@
 // All that may serve a build: rules, and what suffix rules make.
 
-ghost use Rattle.std.specs.Prelude.{◌≡◌, [], ◌∷◌, IfOk, OnOk, not, map, filter, fold};
+ghost use Rattle.std.specs.Prelude.{◌≡◌, [], ◌∷◌, IfOk, OnOk, not, map, filter, fold, option_copied};
 ghost use Rattle.make_text.specs.WordPaths.{with_path};
 ghost use Rattle.make_text.specs.Serving.{stem_of, source_at, inference_at, inference, may_be_served, with_first, by_suffix, by_itself, helped, inference_for, serving_of, bare_rule, serving_alone, without_rule, servings};
 ghost use Rattle.make_text.specs.Units.{is_target};
@@ -15,10 +15,123 @@ use cc_names::paths::Path;
 use cc_names::texts::Text;
 use indexmap::IndexSet;
 use make_text::contents::Makefile;
-use make_text::rules::{MakeRule, SuffixRule, read_path};
-use make_text::serving::{Inference, Serving};
+use make_text::numbers::Makes;
+use make_text::rules::{MakeRule, SuffixRule};
+use make_text::word_paths::read_path;
 use std::alloc::Global;
 use std::hash::RandomState;
+use std::marker::Model;
+use std::rc::Rc;
+
+/// How a suffix rule serves a path, with the script of the rule, which is shared with it.
+#[derive(Drop)]
+pub(crate) struct Inference {
+    stem: Text,
+    source: Path,
+    script: Rc<Vec<u8>>,
+}
+
+impl Model for Inference {
+    ghost use Rattle.make_text.specs.Rules.{Inference};
+
+    ghost Value = { Inference };
+
+    ghost view = { λ found.
+        record { stem = found.stem; source = found.source; script = found.script.value.items } };
+}
+
+/// A rule as it serves a build, by itself or by a suffix rule. Contracts see it as what it makes of what; in memory it shares
+/// the prerequisites with the rule, so that only those of units are copied.
+#[derive(Drop)]
+pub(crate) struct Serving {
+    rule: MakeRule,
+    found: Option<Inference>,
+}
+
+impl Model for Serving {
+    ghost use Rattle.make_text.specs.Rules.{Serving};
+    ghost use Rattle.make_text.specs.Serving.{helped};
+
+    ghost Value = { Serving };
+
+    ghost view = { λ serving. helped serving.rule serving.found };
+}
+
+impl Makes for Serving {
+    ghost targets = { λ serving. serving.targets };
+
+    fn targets(&self) -> &[Path] {
+        Serving::targets(self)
+    }
+}
+
+impl Inference {
+    /// The script of the rule.
+    fn script(&self) -> &[u8]
+        ensures { result.now ≡ self.now.script }
+    {
+        self.script.as_slice()
+    }
+
+    /// What stands before the suffix of the path.
+    fn stem(&self) -> &[u8]
+        ensures { result.now ≡ self.now.stem }
+    {
+        self.stem.as_bytes()
+    }
+
+    /// What the path is made of.
+    fn source(&self) -> &Path
+        ensures { result.now ≡ self.now.source }
+    {
+        &self.source
+    }
+}
+
+impl Serving {
+    /// What it makes, in constant time.
+    #[tactic(auto, using(crate::proofs::ServingLemmas::helped_targets))]
+    pub(crate) fn targets(&self) -> &[Path]
+        ensures { result.now ≡ self.now.targets }
+    {
+        self.rule.targets()
+    }
+
+    /// The script, in constant time.
+    pub(crate) fn script(&self) -> Option<&[u8]>
+        ensures { option_copied result ≡ self.now.script }
+    {
+        match &self.found {
+            Some(found) => Some(found.script()),
+            None => self.rule.script(),
+        }
+    }
+
+    /// The stem, in constant time.
+    pub(crate) fn stem(&self) -> &[u8]
+        ensures { result.now ≡ self.now.stem }
+    {
+        match &self.found {
+            Some(found) => found.stem(),
+            None => &[],
+        }
+    }
+
+    /// The prerequisites. Takes time linear in those of the lines of the rule, and memory linear in the result.
+    pub(crate) fn prerequisites(
+        &self,
+        alloc: Global,
+        hashing: RandomState,
+    ) -> Result<List<Path>, NoMemory>
+        ensures { IfOk result (λ paths. paths ≡ self.now.prerequisites) }
+    {
+        let own = self.rule.prerequisites(alloc, hashing)?;
+        match &self.found {
+            Some(found) => Ok(with_first(alloc, found.source(), own.as_slice())?),
+            None => Ok(own),
+        }
+    }
+}
 
 /// Whether the path is the target of a rule, in constant time.
 fn is_target(make: &Makefile, rules: &Numbers, path: &Path) -> bool
@@ -68,16 +181,16 @@ fn infer_by<E: Exists>(
         found
         ≡ inference_at make.now (E.is_file files.now) rule.now (stem_of rule.now.to path.now)) }
 {
-    let Some(stem) = path.as_bytes().strip_suffix(rule.to.as_bytes()) else {
+    let Some(stem) = path.as_bytes().strip_suffix(rule.to_suffix()) else {
         return Ok(None);
     };
-    let Some(source) = source(alloc, make, rules, files, stem, rule.from.as_bytes())? else {
+    let Some(source) = source(alloc, make, rules, files, stem, rule.from_suffix())? else {
         return Ok(None);
     };
     Ok(Some(Inference {
         stem: Text::from_bytes(alloc, stem)?,
         source,
-        script: rule.script.copy(alloc)?,
+        script: rule.shared_script()?,
     }))
 }
 
@@ -126,34 +239,14 @@ fn with_first(alloc: Global, first: &Path, paths: &[Path]) -> Result<List<Path>,
     Ok(List::of(all))
 }
 
-fn copy_script(alloc: Global, script: &Option<Text>) -> Result<Option<Text>, NoMemory>
-    ensures { IfOk result (λ copy. copy ≡ script.now) }
-{
-    match script {
-        Some(script) => Ok(Some(script.copy(alloc)?)),
-        None => Ok(None),
-    }
-}
-
 /// A rule by itself, or with the script and the source of a suffix rule.
 fn helped(alloc: Global, rule: &MakeRule, found: Option<Inference>) -> Result<Serving, NoMemory>
     ensures { IfOk result (λ serving. serving ≡ helped rule.now found) }
 {
-    let targets = rule.targets.copy(alloc)?;
-    match found {
-        Some(found) => Ok(Serving {
-            targets,
-            prerequisites: with_first(alloc, &found.source, rule.prerequisites.as_slice())?,
-            script: Some(found.script),
-            stem: found.stem,
-        }),
-        None => Ok(Serving {
-            targets,
-            prerequisites: rule.prerequisites.copy(alloc)?,
-            script: copy_script(alloc, &rule.script)?,
-            stem: Text::of(Vec::new(alloc)),
-        }),
-    }
+    Ok(Serving {
+        rule: rule.copy(alloc)?,
+        found,
+    })
 }
 
 /// How a suffix rule serves the target of a rule, if it has no script.
@@ -169,10 +262,10 @@ fn infer_for<E: Exists>(
         (λ found.
         found ≡ inference_for make.now (E.is_file files.now) rule.now.targets rule.now.script) }
 {
-    if rule.script.is_some() {
+    if rule.has_script() {
         return Ok(None);
     }
-    match rule.targets.as_slice().first() {
+    match rule.targets().first() {
         Some(target) => infer(alloc, make, rules, files, target),
         None => Ok(None),
     }
@@ -219,7 +312,24 @@ fn put_without_rule(
     Ok(())
 }
 
-/// The goals and prerequisites that have no rule, each once.
+/// The goals and prerequisites that have no rule. Takes time linear in the goals and the prerequisites, each of these once.
+fn gather_without_rule(
+    alloc: Global,
+    hashing: RandomState,
+    make: &Makefile,
+    rules: &Numbers,
+    goals: &[Path],
+) -> Result<IndexSet<Path, RandomState>, NoMemory>
+    requires { KnowsRules rules.now make.now }
+    ensures { IfOk result (λ paths. paths.keys ≡ without_rule make.now goals.now) }
+{
+    let mut others = IndexSet::with_hasher(alloc, hashing);
+    put_without_rule(make, rules, &mut others, goals, alloc)?;
+    put_without_rule(make, rules, &mut others, make.prerequisites(), alloc)?;
+    Ok(others)
+}
+
+/// The goals and prerequisites that have no rule, each once, as a list.
 fn without_rule(
     alloc: Global,
     hashing: RandomState,
@@ -230,17 +340,7 @@ fn without_rule(
     requires { KnowsRules rules.now make.now }
     ensures { IfOk result (λ paths. paths.items ≡ without_rule make.now goals.now) }
 {
-    let mut others = IndexSet::with_hasher(alloc, hashing);
-    put_without_rule(make, rules, &mut others, goals, alloc)?;
-    for rule in make.rules() {
-        put_without_rule(
-            make,
-            rules,
-            &mut others,
-            rule.prerequisites.as_slice(),
-            alloc,
-        )?;
-    }
+    let others = gather_without_rule(alloc, hashing, make, rules, goals)?;
     Ok(others.into_iter().collect(alloc)?)
 }
 
@@ -248,16 +348,9 @@ fn without_rule(
 fn alone(alloc: Global, path: &Path, found: Inference) -> Result<Serving, NoMemory>
     ensures { IfOk result (λ serving. serving ≡ by_suffix (bare_rule path.now) found) }
 {
-    let Inference {
-        stem,
-        source,
-        script,
-    } = found;
     Ok(Serving {
-        targets: one_path(alloc, path)?,
-        prerequisites: one_path(alloc, &source)?,
-        script: Some(script),
-        stem,
+        rule: MakeRule::without(alloc, one_path(alloc, path)?),
+        found: Some(found),
     })
 }
 
@@ -270,7 +363,8 @@ fn one_path(alloc: Global, path: &Path) -> Result<List<Path>, NoMemory>
 }
 
 /// All that may serve a build of these goals: the rules, and the paths without a rule that a suffix rule serves. Takes time
-/// linear in the rules, the goals and the prerequisites, for each suffix rule.
+/// linear in the rules with the lines that are joined to them, and in the goals and the prerequisites, each once, for each
+/// suffix rule.
 pub(crate) fn servings<E: Exists>(
     alloc: Global,
     hashing: RandomState,

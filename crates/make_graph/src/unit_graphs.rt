@@ -1,16 +1,19 @@
 // The graph of a build over any makefile.
 
-ghost use Rattle.std.specs.Prelude.{◌≡◌, ◌<◌, ◌^◌, ℕ, IfOk, length};
+ghost use Rattle.std.specs.Prelude.{◌≡◌, ◌<◌, ◌^◌, ℕ, IfOk, Some, length};
+ghost use Rattle.std.specs.List.{list_all};
 ghost use Rattle.cc_names.specs.Answers.{Gives};
 ghost use Rattle.make_text.specs.Graphs.{graph_of};
 ghost use Rattle.make_text.specs.Numbers.{number_from};
 ghost use Rattle.make_text.specs.UnitLaws.{made_by_unit};
-ghost use Rattle.make_graph.specs.Waits.{are_done, closure_of, is_done, is_in, is_marked, is_ready, unit_of};
+ghost use Rattle.make_graph.specs.Waits.{closure_of, is_done, is_in, is_marked, is_ready, makers_of, prerequisites_at};
 
 use crate::closures::{Closure, of_unit};
 use crate::goals::Exists;
+use crate::makers::all_makers;
 use crate::numbers::{Numbers, number, number_all};
 use crate::units::units_of_build;
+use cc_names::lists::List;
 use cc_names::memory::{NoMemory, Or};
 use cc_names::paths::Path;
 use cc_names::refusals::GraphFault;
@@ -25,6 +28,7 @@ use std::marker::Model;
 pub struct Graph {
     units: Vec<Unit>,
     numbers: Numbers,
+    makers: Vec<List<u32>>,
 }
 
 impl Model for Graph {
@@ -36,7 +40,7 @@ impl Model for Graph {
 
     ghost view = { λ graph. graph.units.items };
 
-    ghost invariant = { λ graph. KnowsAll graph.numbers graph.units.items };
+    ghost invariant = { λ graph. KnowsAll graph.numbers graph.units.items graph.makers.items };
 }
 
 /// The most units of a graph.
@@ -50,7 +54,31 @@ fn with_numbers(alloc: Global, hashing: RandomState, units: Vec<Unit>) -> Result
         return Err(NoMemory);
     }
     let numbers = number_all(alloc, hashing, units.as_slice())?;
-    Ok(Graph { units, numbers })
+    let makers = all_makers(alloc, &numbers, units.as_slice())?;
+    Ok(Graph {
+        units,
+        numbers,
+        makers,
+    })
+}
+
+/// Whether the unit of this number, if there is one, is done.
+fn is_done(number: u32, done: &[bool]) -> bool
+    ensures { result ≡ is_done done.now (Some number) }
+{
+    done.get(number as usize).copied().unwrap_or(true)
+}
+
+/// Whether the units of these numbers are done.
+fn are_done(numbers: &[u32], done: &[bool]) -> bool
+    ensures { result ≡ list_all (λ number. is_done done.now (Some number)) numbers.now }
+{
+    for number in numbers {
+        if !is_done(*number, done) {
+            return false;
+        }
+    }
+    true
 }
 
 impl Graph {
@@ -87,7 +115,7 @@ impl Graph {
         ensures units { result.items ≡ self }
         ensures few { length result.items < 2 ^ 31 }
     {
-        let Graph { units, numbers: _ } = self;
+        let Graph { units, .. } = self;
         units
     }
 
@@ -98,10 +126,19 @@ impl Graph {
         number(&self.numbers, path)
     }
 
+    /// The units that make a unit's prerequisites, in the order of these, in constant time.
+    pub(crate) fn makers(&self, unit: u32) -> &[u32]
+        requires { unit < length self.now }
+        ensures { result.now ≡ makers_of self.now (prerequisites_at self.now unit) }
+    {
+        self.makers[unit as usize].as_slice()
+    }
+
     /// The units that a unit stands on: those that make its prerequisites, and those that these stand on. Fails only where
     /// memory runs out.
     ///
-    /// Takes time linear in the units before it and in the prerequisites of those that it stands on.
+    /// Takes memory and time linear in the greatest number of a unit that makes one of its prerequisites, and time linear in
+    /// the prerequisites of the units that it stands on.
     pub fn closure(&self, alloc: Global, unit: u32) -> Result<Closure, NoMemory>
         requires { unit < length self.now }
         ensures { IfOk result
@@ -110,35 +147,12 @@ impl Graph {
         of_unit(self, alloc, unit)
     }
 
-    /// Whether the unit that makes a path, if one does, is done.
-    fn is_done(&self, path: &Path, done: &[bool]) -> bool
-        ensures { result ≡ is_done done.now (unit_of self.now path.now) }
-    {
-        match self.unit_of(path) {
-            Some(number) => done.get(number as usize).copied().unwrap_or(true),
-            None => true,
-        }
-    }
-
-    /// Whether the units that make these paths are done.
-    fn are_done(&self, paths: &[Path], done: &[bool]) -> bool
-        ensures { result ≡ are_done self.now paths.now done.now }
-    {
-        for path in paths {
-            if !self.is_done(path, done) {
-                return false;
-            }
-        }
-        true
-    }
-
     /// Whether the units that make a unit's prerequisites are done; `done` has a member for each unit. Takes time linear in
-    /// the prerequisites.
+    /// the prerequisites that units make.
     pub fn ready(&self, unit: u32, done: &[bool]) -> bool
         requires unit { unit < length self.now }
         ensures { result ≡ is_ready self.now unit done.now }
     {
-        let units = self.units.as_slice();
-        self.are_done(units[unit as usize].prerequisites.as_slice(), done)
+        are_done(self.makers(unit), done)
     }
 }

@@ -14,15 +14,15 @@ ghost use Rattle.make_graph.specs.Numbered.{KnowsRules};
 
 use crate::goals::{Exists, default_goal, first_source};
 use crate::numbers::{Numbers, number, number_all};
-use crate::serving::servings;
+use crate::serving::{Serving, servings};
 use crate::walks::{Walk, walk_over};
-use cc_names::copies::Copied;
+use cc_names::copies::push_copies;
+use cc_names::lists::List;
 use cc_names::memory::{NoMemory, Or};
 use cc_names::paths::Path;
 use cc_names::refusals::GraphFault;
 use cc_names::units::{Unit, UnitScript};
 use make_text::contents::{Expanded, Makefile};
-use make_text::serving::Serving;
 use std::alloc::Global;
 use std::hash::RandomState;
 
@@ -43,13 +43,15 @@ fn first_of(paths: &[Path]) -> Option<&Path>
     paths.first()
 }
 
-/// A script expanded for what it serves.
+/// A script expanded for what it serves, which has these prerequisites.
 fn expand_for(
     alloc: Global,
     make: &Makefile,
     serving: &Serving,
+    prerequisites: &[Path],
     script: &[u8],
 ) -> Result<Expanded, NoMemory>
+    requires { prerequisites.now ≡ serving.now.prerequisites }
     ensures { IfOk result
         (λ expanded.
         expanded
@@ -57,9 +59,9 @@ fn expand_for(
         (first_of serving.now.prerequisites) serving.now.stem) }
 {
     let root = Path::root();
-    let target = first_target(serving.targets.as_slice(), &root);
-    let first = first_of(serving.prerequisites.as_slice());
-    Ok(make.expand(alloc, script, target, first, serving.stem.as_bytes())?)
+    let target = first_target(serving.targets(), &root);
+    let first = first_of(prerequisites);
+    Ok(make.expand(alloc, script, target, first, serving.stem())?)
 }
 
 fn script_of_unit(expanded: Expanded) -> UnitScript
@@ -71,22 +73,48 @@ fn script_of_unit(expanded: Expanded) -> UnitScript
     }
 }
 
-fn script_for(alloc: Global, make: &Makefile, serving: &Serving) -> Result<UnitScript, NoMemory>
+/// The script of a unit that has these prerequisites.
+fn script_for(
+    alloc: Global,
+    make: &Makefile,
+    serving: &Serving,
+    prerequisites: &[Path],
+) -> Result<UnitScript, NoMemory>
+    requires { prerequisites.now ≡ serving.now.prerequisites }
     ensures { IfOk result (λ script. script ≡ script_for make.now serving.now serving.now.script) }
 {
-    match &serving.script {
-        Some(script) => Ok(script_of_unit(expand_for(alloc, make, serving, script.as_bytes())?)),
+    match serving.script() {
+        Some(script) => {
+            let expanded = expand_for(alloc, make, serving, prerequisites, script)?;
+            Ok(script_of_unit(expanded))
+        }
         None => Ok(UnitScript::Bare),
     }
 }
 
-fn unit_of(alloc: Global, make: &Makefile, serving: &Serving) -> Result<Unit, NoMemory>
+/// A copy of paths, in time and memory linear in them.
+fn copied(alloc: Global, paths: &[Path]) -> Result<List<Path>, NoMemory>
+    ensures { IfOk result (λ copy. copy ≡ paths.now) }
+{
+    let mut copies = Vec::new(alloc);
+    push_copies(alloc, &mut copies, paths)?;
+    Ok(List::of(copies))
+}
+
+fn unit_of(
+    alloc: Global,
+    hashing: RandomState,
+    make: &Makefile,
+    serving: &Serving,
+) -> Result<Unit, NoMemory>
     ensures { IfOk result (λ unit. unit ≡ unit_of make.now serving.now) }
 {
+    let prerequisites = serving.prerequisites(alloc, hashing)?;
+    let script = script_for(alloc, make, serving, prerequisites.as_slice())?;
     Ok(Unit {
-        targets: serving.targets.copy(alloc)?,
-        prerequisites: serving.prerequisites.copy(alloc)?,
-        script: script_for(alloc, make, serving)?,
+        targets: copied(alloc, serving.targets())?,
+        prerequisites,
+        script,
     })
 }
 
@@ -99,6 +127,7 @@ fn serving_at(units: &[Serving], number: u32) -> Option<&Serving>
 /// The units that a walk was through with, in its order.
 fn walked(
     alloc: Global,
+    hashing: RandomState,
     make: &Makefile,
     units: &[Serving],
     order: &[u32],
@@ -108,7 +137,7 @@ fn walked(
     let mut made = Vec::new(alloc);
     for number in order {
         if let Some(serving) = serving_at(units, *number) {
-            made.push(unit_of(alloc, make, serving)?)?;
+            made.push(unit_of(alloc, hashing, make, serving)?)?;
         }
     }
     Ok(made)
@@ -170,6 +199,7 @@ fn number_servings(
 /// The order in which the walk over goals is through with their units.
 fn order_of(
     alloc: Global,
+    hashing: RandomState,
     units: &[Serving],
     numbers: &Numbers,
     goals: &[Path],
@@ -177,7 +207,7 @@ fn order_of(
     requires { KnowsUnits numbers.now units.now }
     ensures { GivesWalk result (walk_of units.now goals.now) }
 {
-    match walk_over(alloc, units, numbers, goals) {
+    match walk_over(alloc, hashing, units, numbers, goals) {
         Ok(walk) => Ok(walk),
         Err(Or::Is(path)) => Err(Or::Is(GraphFault::Cycle(path))),
         Err(Or::NoMemory) => Err(Or::NoMemory),
@@ -187,6 +217,7 @@ fn order_of(
 /// The units of goals that are there, unless one is a source.
 fn units_by<E: Exists>(
     alloc: Global,
+    hashing: RandomState,
     make: &Makefile,
     files: &E,
     units: &[Serving],
@@ -195,7 +226,7 @@ fn units_by<E: Exists>(
     ensures { Gives (result_items result)
         (unless_cycle make.now units.now (E.is_file files.now) (Ok walk.now)) }
 {
-    let made = walked(alloc, make, units, walk.order())?;
+    let made = walked(alloc, hashing, make, units, walk.order())?;
     if let Some(target) = first_source(files, made.as_slice()) {
         return Err(Or::Is(GraphFault::TargetIsSource(target.copy(alloc)?)));
     }
@@ -219,8 +250,8 @@ fn units_of_servings<E: Exists>(
     if let Some(goal) = missing(&numbers, units, files, goals) {
         return Err(Or::Is(GraphFault::NoGoal(goal.copy(alloc)?)));
     }
-    let walk = order_of(alloc, units, &numbers, goals)?;
-    units_by(alloc, make, files, units, &walk)
+    let walk = order_of(alloc, hashing, units, &numbers, goals)?;
+    units_by(alloc, hashing, make, files, units, &walk)
 }
 
 /// The units of goals that are named.

@@ -4,14 +4,16 @@ ghost use Rattle.std.specs.Prelude.{◌≡◌, ◌≤◌, ◌+◌, ◌<◌, ◌+
 ghost use Rattle.cc_names.specs.Answers.{Gives};
 ghost use Rattle.make_text.specs.Walks.{number_of, prerequisites_at, closed, take_path, walk_of};
 ghost use Rattle.make_text.specs.declared.walks.Mark.TheVariants.{New};
-ghost use Rattle.make_graph.specs.Frames.{KnowsUnits, meeting, next_of, resume, Goes, news};
+ghost use Rattle.make_graph.specs.Frames.{KnowsUnits, meeting, entered, behind, next_of, resume, Goes, news};
 
 use crate::numbers::{Numbers, number};
+use crate::serving::Serving;
+use cc_names::lists::List;
 use cc_names::memory::{NoMemory, Or};
 use cc_names::paths::Path;
-use make_text::serving::Serving;
 use make_text::walks::Mark;
 use std::alloc::Global;
+use std::hash::RandomState;
 use std::marker::Model;
 
 /// How far a walk has come: with each unit, and the order of those that are done.
@@ -29,10 +31,11 @@ impl Model for Walk {
     ghost view = { λ walk. record { marks = walk.marks.items; order = walk.order.items } };
 }
 
-/// A unit that is open, and the number of its prerequisite that comes next.
-#[derive(Clone, Copy, Drop)]
+/// A unit that is open, its prerequisites, and the number of the one that comes next.
+#[derive(Drop)]
 pub(crate) struct Frame {
     unit: u32,
+    paths: List<Path>,
     next: usize,
 }
 
@@ -64,21 +67,55 @@ fn meet(walk: &Walk, numbers: &Numbers, units: &[Serving], path: &Path) -> Meeti
 }
 
 /// The prerequisites of a unit, if there is one.
-fn prerequisites(units: &[Serving], number: u32) -> &[Path]
-    ensures { result.now ≡ prerequisites_at (slice_get units.now number) }
+fn prerequisites(
+    alloc: Global,
+    hashing: RandomState,
+    units: &[Serving],
+    number: u32,
+) -> Result<List<Path>, NoMemory>
+    ensures { IfOk result (λ paths. paths ≡ prerequisites_at (slice_get units.now number)) }
 {
     match units.get(number as usize) {
-        Some(unit) => unit.prerequisites.as_slice(),
-        None => &[],
+        Some(unit) => Ok(unit.prerequisites(alloc, hashing)?),
+        None => Ok(List::empty(alloc)),
     }
 }
 
-/// The prerequisite that comes next.
-fn next_path(units: &[Serving], frame: Frame) -> Option<&Path>
-    ensures path { option_copied result ≡ next_of units.now frame }
-    ensures within { IfSome result (λ _. frame.next < 2 ^ 63) }
+/// A unit that is entered.
+fn entered(
+    alloc: Global,
+    hashing: RandomState,
+    units: &[Serving],
+    unit: u32,
+) -> Result<Frame, NoMemory>
+    ensures { IfOk result (λ frame. frame ≡ entered units.now unit) }
 {
-    prerequisites(units, frame.unit).get(frame.next)
+    Ok(Frame {
+        unit,
+        paths: prerequisites(alloc, hashing, units, unit)?,
+        next: 0,
+    })
+}
+
+/// The prerequisite that comes next.
+fn next_path(frame: &Frame) -> Option<&Path>
+    ensures path { option_copied result ≡ next_of frame.now }
+    ensures within { IfSome result (λ _. frame.now.next < 2 ^ 63) }
+{
+    frame.paths.as_slice().get(frame.next)
+}
+
+/// A frame whose next prerequisite is past.
+fn behind(frame: Frame) -> Frame
+    requires { frame.next < 2 ^ 63 }
+    ensures { result ≡ behind frame }
+{
+    let Frame { unit, paths, next } = frame;
+    Frame {
+        unit,
+        paths,
+        next: next + 1,
+    }
 }
 
 impl Walk {
@@ -105,6 +142,7 @@ impl Walk {
 /// Takes the next prerequisite of the unit at the top of the stack, or closes the unit.
 fn advance(
     alloc: Global,
+    hashing: RandomState,
     units: &[Serving],
     numbers: &Numbers,
     walk: &mut Walk,
@@ -118,20 +156,17 @@ fn advance(
     ensures room { OnOk result (length stack.new.items + news walk.new.marks ≤ length units.now) }
     ensures size { OnOk result (length walk.new.marks ≡ length walk.old.marks) }
 {
-    let Some(path) = next_path(units, top) else {
+    let Some(path) = next_path(&top) else {
         walk.close(top.unit)?;
         return Ok(());
     };
-    let later = Frame {
-        unit: top.unit,
-        next: top.next + 1,
-    };
     match meet(walk, numbers, units, path) {
-        Meeting::Past => stack.push(later)?,
+        Meeting::Past => stack.push(behind(top))?,
         Meeting::Again => return Err(Or::Is(path.copy(alloc)?)),
         Meeting::Enter(unit) => {
-            stack.push(later)?;
-            stack.push(Frame { unit, next: 0 })?;
+            let frame = entered(alloc, hashing, units, unit)?;
+            stack.push(behind(top))?;
+            stack.push(frame)?;
             walk.mark(unit, Mark::Open);
         }
     }
@@ -141,6 +176,7 @@ fn advance(
 /// Walks until the units on the stack are closed.
 fn run(
     alloc: Global,
+    hashing: RandomState,
     units: &[Serving],
     numbers: &Numbers,
     walk: &mut Walk,
@@ -158,7 +194,7 @@ fn run(
         let Some(top) = stack.pop() else {
             return Ok(());
         };
-        advance(alloc, units, numbers, walk, &mut stack, top)?;
+        advance(alloc, hashing, units, numbers, walk, &mut stack, top)?;
     }
     Err(Or::NoMemory)
 }
@@ -166,6 +202,7 @@ fn run(
 /// Takes a goal, unless a path is met again.
 fn take(
     alloc: Global,
+    hashing: RandomState,
     units: &[Serving],
     numbers: &Numbers,
     walk: &mut Walk,
@@ -181,8 +218,9 @@ fn take(
         Meeting::Past => Ok(()),
         Meeting::Again => Err(Or::Is(path.copy(alloc)?)),
         Meeting::Enter(unit) => {
+            let first = entered(alloc, hashing, units, unit)?;
             walk.mark(unit, Mark::Open);
-            run(alloc, units, numbers, walk, Frame { unit, next: 0 })
+            run(alloc, hashing, units, numbers, walk, first)
         }
     }
 }
@@ -199,6 +237,7 @@ fn new_walk(alloc: Global, units: usize) -> Result<Walk, NoMemory>
 /// The walk over goals, or the path by which it meets a unit again.
 pub(crate) fn walk_over(
     alloc: Global,
+    hashing: RandomState,
     units: &[Serving],
     numbers: &Numbers,
     goals: &[Path],
@@ -208,7 +247,7 @@ pub(crate) fn walk_over(
 {
     let mut walk = new_walk(alloc, units.len())?;
     for goal in goals {
-        take(alloc, units, numbers, &mut walk, goal)?;
+        take(alloc, hashing, units, numbers, &mut walk, goal)?;
     }
     Ok(walk)
 }

@@ -1,35 +1,37 @@
 // Builds of several units, and the faults of their goals.
 
-ghost use Rattle.std.specs.Prelude.{ℕ, List, Bool};
+ghost use Rattle.std.specs.Prelude.{ℕ, List, Bool, Option, Some};
 ghost use Rattle.std.specs.Str.{bytes_eq};
 ghost use Rattle.make_text.specs.Macros.{is_among};
 
-use cc_names::lists::List;
 use cc_names::memory::Or;
 use cc_names::paths::Path;
 use cc_names::refusals::GraphFault;
-use cc_names::texts::Text;
 use cc_names::units::{Unit, UnitScript};
 use make_graph::goals::Exists;
 use make_graph::unit_graphs::Graph;
-use make_text::contents::Makefile;
-use make_text::rules::{MakeRule, SuffixRule};
+use make_text::contents::{Makefile, Texts};
 use std::alloc::{AllocError, Global};
 use std::hash::RandomState;
 use std::test::Fail;
 
-// Targets, prerequisites and script of each rule; no script where there are no bytes.
-const RULES: [(&str, &str, &str); 9] = [
-    ("d", "a b", ""),
-    ("a", "c", "x"),
-    ("b", "c in", "x"),
-    ("c", "", "x"),
-    ("e f", "in", "x"),
-    ("g", "h", "x"),
-    ("h", "i f", "x"),
-    ("i", "in h", "x"),
-    ("k", "", "x"),
-];
+const MAKEFILE: &str =
+    "d: a b\na: c\n\tx\nb: c in\n\tx\nc:\n\tx\ne f &: in\n\tx\ng: h\n\tx\nh: i f\n\tx\n\
+    i: in h\n\tx\nk:\n\tx\n.c.o:\n\ty\n.s.o:\n\ty\n";
+
+// A makefile at any path.
+#[derive(Drop)]
+struct OneText<'a> {
+    text: &'a [u8],
+}
+
+impl Texts for OneText<'_> {
+    ghost texts = { λ one path. Some one.text.now };
+
+    fn text(&self, _path: &Path) -> Option<&[u8]> {
+        Some(self.text)
+    }
+}
 
 #[derive(Drop)]
 struct SomeFiles {
@@ -52,35 +54,12 @@ fn paths_of(alloc: Global, words: &str) -> Result<Vec<Path>, Fail> {
     Ok(paths)
 }
 
-fn script_of(alloc: Global, script: &str) -> Result<Option<Text>, Fail> {
-    if script.is_empty() {
-        return Ok(None);
-    }
-    Ok(Some(Text::from_bytes(alloc, script.as_bytes())?))
-}
-
-fn suffix_rule(alloc: Global, from: &str) -> Result<SuffixRule, Fail> {
-    Ok(SuffixRule {
-        from: Text::from_bytes(alloc, from.as_bytes())?,
-        to: Text::from_bytes(alloc, b".o")?,
-        script: Text::from_bytes(alloc, b"y")?,
-    })
-}
-
 fn makefile(alloc: Global, hashing: RandomState) -> Result<Makefile, Fail> {
-    let mut rules = Vec::new(alloc);
-    for (targets, prerequisites, script) in RULES {
-        rules.push(MakeRule {
-            targets: List::of(paths_of(alloc, targets)?),
-            prerequisites: List::of(paths_of(alloc, prerequisites)?),
-            script: script_of(alloc, script)?,
-        })?;
-    }
-    let mut suffix_rules = Vec::new(alloc);
-    for from in [".c", ".s"] {
-        suffix_rules.push(suffix_rule(alloc, from)?)?;
-    }
-    Ok(Makefile::of_rules(alloc, hashing, rules, suffix_rules))
+    let file = Path::read(alloc, b"Makefile")?;
+    let text = OneText {
+        text: MAKEFILE.as_bytes(),
+    };
+    Ok(Makefile::read(alloc, hashing, &file, &text, &[])?)
 }
 
 fn words_of_fault(alloc: Global, fault: Or<GraphFault>) -> Result<String, Fail> {
@@ -137,16 +116,16 @@ fn words_of_units(alloc: Global, graph: &Graph) -> Result<String, Fail> {
 fn builds_of_several_units(rt: HostRuntime) -> Result<(), Fail> {
     let hashing = RandomState::new(&rt)?;
     let table = [
-        ("", "c : [x];a : c [x];b : c in [x];d : a b bare;"),
-        ("a c a", "c : [x];a : c [x];"),
-        ("f e", "e f : in [x];"),
+        ("", "c : [x\n];a : c [x\n];b : c in [x\n];d : a b bare;"),
+        ("a c a", "c : [x\n];a : c [x\n];"),
+        ("f e", "e f : in [x\n];"),
         ("in", ""),
         ("d none other", "NoGoal none"),
         ("g none", "NoGoal none"),
         ("k g", "Cycle h"),
         ("i", "Cycle i"),
         ("k a", "TargetIsSource k"),
-        ("p.o q.o", "p.o : p.c [y];q.o : q.s [y];"),
+        ("p.o q.o", "p.o : p.c [y\n];q.o : q.s [y\n];"),
         ("r.o", "NoGoal r.o"),
     ];
     for (goals, want) in table {

@@ -14,7 +14,7 @@ use Rattle.make_text.specs.Contents.{RuleLine, groups_of, made_with, with_line, 
 use Rattle.make_text.specs.Macros.{is_among}
 use Rattle.make_text.specs.Units.{targets_of}
 use Rattle.make_text.specs.UnitLaws.{IsRule}
-use Rattle.make_text.specs.declared.rules.MakeRule.{MakeRule}
+use Rattle.make_text.specs.Rules.{MakeRule}
 
 -- ---- rules to which rule lines were joined
 

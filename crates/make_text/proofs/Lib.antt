@@ -21,6 +21,9 @@ pub mod ReaderLemmas
 pub mod CheckLemmas
 pub mod EndingLemmas
 pub mod SuffixLemmas
+pub mod OnceLemmas
+pub mod NumberLemmas
 pub mod JoinLemmas
+pub mod GatherLemmas
 mod WorkedGraphs
 mod WorkedMakefiles

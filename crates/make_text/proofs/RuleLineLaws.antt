@@ -13,7 +13,7 @@ use Rattle.cc_names.specs.declared.refusals.MakeError.{MakeError}
 use Rattle.make_text.proofs.RuleWordLaws.{AreWords, or_false, plain_length, plain_below, plain_once, words_read}
 use Rattle.make_text.specs.Contents.{RuleLine}
 use Rattle.make_text.specs.Grammar.{nothing_read, with_overrides, lines_read}
-use Rattle.make_text.specs.LineKinds.{Kind, Blank, Include, Assignment, Rule, Unclosed, Neither, kind_of, without_comment, trimmed}
+use Rattle.make_text.specs.LineKinds.{Kind, Blank, Include, Assignment, Rule, Unclosed, Neither, line_kind, without_comment, trimmed}
 use Rattle.make_text.specs.Lines.{is_script_line, is_blank_line}
 use Rattle.make_text.specs.LogicalLines.{logical_lines}
 use Rattle.make_text.specs.Macros.{has_bad_dollar, is_among}
@@ -163,9 +163,9 @@ line_kept : (include : ℕ → Reading → List ℕ → Result Reading MakeError
 line_kept include file line reading keeps h = by (is_script_line line.bytes)
   where
     by : (t : Bool) → HasLines (if t then script_line file line.number line.bytes reading.takes_script reading.rules reading
-        else line_of_kind (include line.number) file line.number (kind_of (without_comment line.bytes)) reading)
+        else line_of_kind (include line.number) file line.number (line_kind (without_comment line.bytes)) reading)
     by true = script_kept file line.number line.bytes reading.takes_script reading.rules reading h h
-    by false = kind_kept (include line.number) file line.number (kind_of (without_comment line.bytes)) reading (keeps line.number) h
+    by false = kind_kept (include line.number) file line.number (line_kind (without_comment line.bytes)) reading (keeps line.number) h
 
 lines_kept : (include : ℕ → Reading → List ℕ → Result Reading MakeError) (file : List ℕ) (lines : List LogicalLine) (reading : Reading) → ((n : ℕ) → KeepsLines (include n)) → AreLines reading.rules → HasLines (read_lines include file lines reading)
 lines_kept include file [] reading keeps h = h

@@ -14,12 +14,9 @@ use Rattle.make_text.specs.Contents.{Contents}
 use Rattle.make_text.specs.WordPaths.{path_in, unless_root, with_path, each_once}
 use Rattle.make_text.specs.Macros.{is_among}
 use Rattle.make_text.specs.Serving.{prerequisites_of, stem_of, only_if, source_at, inference_at, first_inference, may_be_served, inference, with_first, by_suffix, helped, inference_for, serving_of, bare_rule, serving_alone, without_rule, servings}
-use Rattle.make_text.specs.declared.serving.Inference.{Inference}
-use Rattle.make_text.specs.declared.serving.Serving.{Serving}
+use Rattle.make_text.specs.Rules.{Inference, MakeRule, Serving, SuffixRule}
 use Rattle.make_text.specs.Units.{targets_of, is_target}
 use Rattle.make_text.specs.UnitLaws.{ArePrerequisites, IsRule, IsFormed}
-use Rattle.make_text.specs.declared.rules.MakeRule.{MakeRule}
-use Rattle.make_text.specs.declared.rules.SuffixRule.{SuffixRule}
 
 -- ---- distinct paths
 

@@ -5,7 +5,7 @@ use Rattle.std.proofs.lemmas.Slice.Eq.{bytes_eq-Decides}
 use Rattle.std.proofs.lemmas.Bool.{false_from_ne_true}
 use Rattle.std.specs.Str.{bytes_eq}
 use Rattle.make_text.specs.SuffixRules.{begins_with, behind_front, is_pair_from, suffix_rules_from}
-use Rattle.make_text.specs.declared.rules.SuffixRule.{SuffixRule}
+use Rattle.make_text.specs.Rules.{SuffixRule}
 use Rattle.make_text.proofs.ExpansionLemmas.{same_bytes}
 
 -- bytes that begin with others are these and the rest

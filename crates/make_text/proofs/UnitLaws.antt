@@ -13,7 +13,7 @@ use Rattle.make_text.specs.declared.contents.Expanded.TheVariants.{TooLong, Line
 use Rattle.make_text.specs.Macros.{Expansion, is_among, expansion_of, in_script, expansion_limit, is_too_long}
 use Rattle.make_text.specs.Numbers.{number_from}
 use Rattle.make_text.specs.Serving.{servings}
-use Rattle.make_text.specs.declared.serving.Serving.{Serving}
+use Rattle.make_text.specs.Rules.{Serving}
 use Rattle.make_text.specs.Units.{script_of_unit, goals_of, made_by, unless_source}
 use Rattle.make_text.specs.UnitLaws.{IsFormed, IsShort, IsUnit, InOrder, made_by_unit, UnitsInOrder, UnitsFormed}
 use Rattle.make_text.specs.Walks.{Walk, number_of, prerequisites_at, walk_of}

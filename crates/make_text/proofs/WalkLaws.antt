@@ -7,7 +7,7 @@ use Rattle.std.specs.Str.{bytes_eq}
 use Rattle.make_text.proofs.Places.{same_or_not, get_front, get_last, get_push, set_same, set_other, from_other}
 use Rattle.make_text.proofs.NumberLaws.{numbered}
 use Rattle.make_text.specs.Macros.{is_among}
-use Rattle.make_text.specs.declared.serving.Serving.{Serving}
+use Rattle.make_text.specs.Rules.{Serving}
 use Rattle.make_text.specs.Walks.{Walk, number_of, prerequisites_at, opened, closed, and_then, each_of, take_path, walk_of}
 use Rattle.make_text.specs.declared.walks.Mark.{Mark}
 use Rattle.make_text.specs.declared.walks.Mark.TheVariants.{New, Open, Done}

@@ -8,8 +8,7 @@ use Rattle.cc_names.specs.declared.refusals.GraphFault.TheVariants.{NoGoal, Cycl
 use Rattle.cc_names.specs.declared.units.Unit.{Unit}
 use Rattle.cc_names.specs.declared.units.UnitScript.TheVariants.{Bare, Lines}
 use Rattle.make_text.specs.Graphs.{graph_of}
-use Rattle.make_text.specs.declared.rules.MakeRule.{MakeRule}
-use Rattle.make_text.specs.declared.rules.SuffixRule.{SuffixRule}
+use Rattle.make_text.specs.Rules.{MakeRule, SuffixRule}
 
 -- a rule with a script, a rule without one, and a suffix rule
 abbrev made : List (List ℕ) → List (List ℕ) → MakeRule

@@ -7,14 +7,14 @@ use Rattle.cc_names.specs.declared.refusals.MakeCause.{MakeCause}
 use Rattle.cc_names.specs.declared.refusals.MakeCause.TheVariants.{BadLine, BadMacro, BadPath, MacroLoop, TwoScripts, PhonyScript, IncludeAbsent, IncludeDepth}
 use Rattle.cc_names.specs.declared.refusals.MakeError.{MakeError}
 use Rattle.make_text.specs.LogicalLines.{logical_lines}
-use Rattle.make_text.specs.LineKinds.{Kind, Blank, Include, Assignment, Rule, Unclosed, Neither, kind_of, without_comment}
+use Rattle.make_text.specs.LineKinds.{Kind, Blank, Include, Assignment, Rule, Unclosed, Neither, line_kind, without_comment}
 use Rattle.make_text.specs.Macros.{Byte, Reference, Automatic, Bad, pieces_of, expansion_of, no_automatic, in_script}
 use Rattle.make_text.specs.Contents.{Contents, expansion}
 use Rattle.make_text.specs.Statements.{Files}
 use Rattle.make_text.specs.Grammar.{makefile_of}
 use Rattle.make_text.specs.declared.logical_lines.LogicalLine.{LogicalLine}
 use Rattle.make_text.specs.declared.contents.Expanded.TheVariants as expansions
-use Rattle.make_text.specs.declared.rules.MakeRule.{MakeRule}
+use Rattle.make_text.specs.Rules.{MakeRule}
 
 -- lines, each ended by a newline
 abbrev text : List (List ℕ) → List ℕ
@@ -49,7 +49,7 @@ no_lines = refl
 -- ---- kinds
 
 abbrev kind : List ℕ → Kind
-kind line = kind_of (without_comment line)
+kind line = line_kind (without_comment line)
 
 a_comment : kind (codes "  # a = b") ≡ Blank
 a_comment = refl

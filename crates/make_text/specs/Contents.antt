@@ -8,8 +8,7 @@ use Rattle.make_text.specs.Macros.{Expansion, is_among, expansion_of, in_script,
 use Rattle.make_text.specs.WordPaths.{with_path}
 use Rattle.make_text.specs.declared.contents.Expanded.{Expanded}
 use Rattle.make_text.specs.declared.contents.Expanded.TheVariants as expansions
-use Rattle.make_text.specs.declared.rules.MakeRule.{MakeRule}
-use Rattle.make_text.specs.declared.rules.SuffixRule.{SuffixRule}
+use Rattle.make_text.specs.Rules.{MakeRule, SuffixRule}
 
 -- what a makefile says
 pub record Contents : Type 0 where

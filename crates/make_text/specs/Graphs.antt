@@ -16,7 +16,7 @@ use Rattle.make_text.specs.Grammar.{makefile_of}
 use Rattle.make_text.specs.Serving.{servings}
 use Rattle.make_text.specs.Statements.{Files}
 use Rattle.make_text.specs.Units.{script_of_unit, goals_of, made_by, unless_source, unless_refused, main_file}
-use Rattle.make_text.specs.declared.serving.Serving.{Serving}
+use Rattle.make_text.specs.Rules.{Serving}
 use Rattle.make_text.specs.Walks.{Walk, number_of, walk_of}
 
 -- the first of some paths

@@ -10,6 +10,7 @@ pub mod Expanding
 pub mod Runs
 pub mod Steps
 pub mod MacroChecks
+pub mod Rules
 pub mod Contents
 pub mod SuffixRules
 pub mod Statements
@@ -19,6 +20,9 @@ pub mod ReadingSteps
 pub mod Readers
 pub mod Grammar
 pub mod Numbers
+pub mod Numbered
+pub mod Joining
+pub mod Gathering
 pub mod Serving
 pub mod Walks
 pub mod Units

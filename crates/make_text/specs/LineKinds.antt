@@ -82,5 +82,5 @@ kind_or_include (Some behind) line = Include behind
 kind_or_include None line = kind_from Outside line
 
 -- The kind of a line without its comment.
-abbrev pub kind_of : List ℕ → Kind
-kind_of line = if is_blank_line line then Blank else kind_or_include (behind_include (past_blanks line)) line
+abbrev pub line_kind : List ℕ → Kind
+line_kind line = if is_blank_line line then Blank else kind_or_include (behind_include (past_blanks line)) line

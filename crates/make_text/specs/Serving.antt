@@ -7,10 +7,7 @@ use Rattle.make_text.specs.Contents.{Contents}
 use Rattle.make_text.specs.WordPaths.{path_in, each_once}
 use Rattle.make_text.specs.Macros.{is_among}
 use Rattle.make_text.specs.Units.{is_target}
-use Rattle.make_text.specs.declared.rules.MakeRule.{MakeRule}
-use Rattle.make_text.specs.declared.rules.SuffixRule.{SuffixRule}
-use Rattle.make_text.specs.declared.serving.Inference.{Inference}
-use Rattle.make_text.specs.declared.serving.Serving.{Serving}
+use Rattle.make_text.specs.Rules.{Inference, MakeRule, Serving, SuffixRule}
 
 -- the prerequisites of a rule
 abbrev pub prerequisites_of : MakeRule → List (List ℕ)

@@ -10,7 +10,7 @@ use Rattle.cc_names.specs.declared.refusals.MakeCause.TheVariants.{BadLine, BadM
 use Rattle.cc_names.specs.declared.refusals.MakeError.{MakeError}
 use Rattle.make_text.specs.Lines.{is_byte, is_script_line, is_blank_line}
 use Rattle.make_text.specs.LogicalLines.{logical_lines, without_last}
-use Rattle.make_text.specs.LineKinds.{Kind, Blank, Include, Assignment, Rule, Unclosed, Neither, kind_of, without_comment, trimmed}
+use Rattle.make_text.specs.LineKinds.{Kind, Blank, Include, Assignment, Rule, Unclosed, Neither, line_kind, without_comment, trimmed}
 use Rattle.make_text.specs.Macros.{Expansion, expansion_of, followed, plain, has_bad_dollar, is_macro_name, no_automatic, is_too_long, is_among}
 use Rattle.make_text.specs.WordPaths.{path_in, with_path, each_once}
 use Rattle.make_text.specs.Contents.{RuleLine}
@@ -347,7 +347,7 @@ abbrev pub read_line : (ℕ → Reading → List ℕ → Result Reading MakeErro
 read_line include file line reading =
     if is_script_line line.bytes
     then script_line file line.number line.bytes reading.takes_script reading.rules reading
-    else line_of_kind (include line.number) file line.number (kind_of (without_comment line.bytes)) reading
+    else line_of_kind (include line.number) file line.number (line_kind (without_comment line.bytes)) reading
 
 -- lines one after the other; a line counts before it is read
 abbrev pub read_lines : (ℕ → Reading → List ℕ → Result Reading MakeError) → List ℕ → List LogicalLine → Reading → Result Reading MakeError

@@ -4,8 +4,7 @@ use Rattle.std.specs.List.{list_any}
 use Rattle.std.specs.Str.{bytes_eq}
 use Rattle.make_text.specs.Contents.{is_pair_of, suffix_rule_of}
 use Rattle.make_text.specs.Macros.{is_among}
-use Rattle.make_text.specs.declared.rules.MakeRule.{MakeRule}
-use Rattle.make_text.specs.declared.rules.SuffixRule.{SuffixRule}
+use Rattle.make_text.specs.Rules.{MakeRule, SuffixRule}
 
 -- whether bytes begin with others
 abbrev pub begins_with : List ℕ → List ℕ → Bool

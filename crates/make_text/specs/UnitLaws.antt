@@ -15,7 +15,7 @@ use Rattle.make_text.specs.Macros.{is_among, expansion_limit}
 use Rattle.make_text.specs.Numbers.{number_from}
 use Rattle.make_text.specs.Statements.{Files}
 use Rattle.make_text.specs.Units.{targets_of}
-use Rattle.make_text.specs.declared.rules.MakeRule.{MakeRule}
+use Rattle.make_text.specs.Rules.{MakeRule}
 
 -- paths below the root, each once
 abbrev pub ArePrerequisites : List (List ℕ) → Type 0

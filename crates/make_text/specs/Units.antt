@@ -13,7 +13,7 @@ use Rattle.make_text.specs.WordPaths.{begins_with_period}
 use Rattle.make_text.specs.Statements.{Files}
 use Rattle.make_text.specs.declared.contents.Expanded.{Expanded}
 use Rattle.make_text.specs.declared.contents.Expanded.TheVariants as expansions
-use Rattle.make_text.specs.declared.rules.MakeRule.{MakeRule}
+use Rattle.make_text.specs.Rules.{MakeRule}
 
 -- an expanded script as that of a unit
 abbrev pub script_of_unit : Expanded → UnitScript

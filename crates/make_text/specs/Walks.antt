@@ -1,7 +1,7 @@
 -- The walk over the goals of a build: depth first, prerequisites before what is made of them.
 use Rattle.std.specs.Prelude.{ℕ, suc, zero, Option, Some, None, Result, Ok, Err, List, [], ◌∷◌, ◌++◌, length, slice_get, slice_set, replicate}
 use Rattle.make_text.specs.Numbers.{number_from}
-use Rattle.make_text.specs.declared.serving.Serving.{Serving}
+use Rattle.make_text.specs.Rules.{Serving}
 use Rattle.make_text.specs.declared.walks.Mark.{Mark}
 use Rattle.make_text.specs.declared.walks.Mark.TheVariants.{New, Open, Done}
 

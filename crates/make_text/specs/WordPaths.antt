@@ -33,6 +33,10 @@ with_path paths path = if list_any (bytes_eq path) paths then paths else paths +
 abbrev pub each_once : List (List ℕ) → List (List ℕ)
 each_once paths = fold with_path [] paths
 
+-- lists of paths put together, each path once
+abbrev pub once_joined : List (List (List ℕ)) → List (List ℕ)
+once_joined parts = fold (fold with_path) [] parts
+
 -- a `.` at the front
 abbrev pub begins_with_period : List ℕ → Bool
 begins_with_period path = is_byte 46 (slice_get path 0)

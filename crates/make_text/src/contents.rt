@@ -1,10 +1,12 @@
 // What a makefile says.
 
-ghost use Rattle.std.specs.Prelude.{◌≡◌, ℕ, List, Option, IfOk, option_copied, unwrap_or, []};
+ghost use Rattle.std.specs.Prelude.{◌≡◌, ℕ, List, Option, IfOk, flat_map, option_copied, unwrap_or, []};
 ghost use Rattle.cc_names.specs.Answers.{Gives};
 ghost use Rattle.make_text.specs.Contents.{unless_too_long, expansion};
 ghost use Rattle.make_text.specs.Grammar.{makefile_of};
+ghost use Rattle.make_text.specs.Serving.{prerequisites_of};
 ghost use Rattle.make_text.specs.Statements.{macros_of};
+ghost use Rattle.make_text.specs.WordPaths.{each_once};
 ghost use Rattle.make_text.specs.Macros.{Expansion, is_among, in_script};
 ghost use Rattle.make_text.specs.Steps.{automatic_of, IsOutcome};
 
@@ -47,14 +49,19 @@ pub enum Expanded {
 #[derive(Drop)]
 pub struct Makefile {
     rules: Vec<MakeRule>,
+    /// All that the rules are made of, each once.
+    prerequisites: IndexSet<Path, RandomState>,
     suffix_rules: Vec<SuffixRule>,
     phony: IndexSet<Path, RandomState>,
     macros: MacroTable,
 }
 
 impl Model for Makefile {
+    ghost use Rattle.std.specs.Prelude.{◌≡◌, flat_map};
     ghost use Rattle.make_text.specs.Contents.{Contents};
+    ghost use Rattle.make_text.specs.Serving.{prerequisites_of};
     ghost use Rattle.make_text.specs.Statements.{macros_of};
+    ghost use Rattle.make_text.specs.WordPaths.{each_once};
 
     ghost Value = { Contents };
 
@@ -65,31 +72,17 @@ impl Model for Makefile {
           phony = make.phony.keys;
           macros = macros_of make.macros;
         } };
+
+    ghost invariant = { λ make.
+        make.prerequisites.keys ≡ each_once (flat_map prerequisites_of make.rules.items) };
 }
 
 impl Makefile {
-    /// A makefile of these rules alone, without phony targets and macros. Takes no memory.
-    pub fn of_rules(
-        alloc: Global,
-        hashing: RandomState,
-        rules: Vec<MakeRule>,
-        suffix_rules: Vec<SuffixRule>,
-    ) -> Makefile
-        ensures { result
-            ≡ record
-            { rules = rules.items; suffix_rules = suffix_rules.items; phony = []; macros = [] } }
-    {
-        Makefile {
-            rules,
-            suffix_rules,
-            phony: IndexSet::with_hasher(alloc, hashing),
-            macros: MacroTable::new(alloc, hashing),
-        }
-    }
-
     /// Reads the makefile at a path, with the macros of the command line and the files that it includes, or answers the first
     /// line that fails and why (M1). Takes time linear in the texts that are read, in the values of the macros that each line
-    /// reaches, and in what lines and macros expand to; and memory for what is kept of them.
+    /// reaches, in what lines and macros expand to, and for each line that is expanded in the number of macros; and where
+    /// there are suffix rules, in these times the square of the suffixes. Takes memory linear in what is read and in what
+    /// lines and macros expand to: rules share what their lines say.
     pub fn read<X: Texts>(
         alloc: Global,
         hashing: RandomState,
@@ -107,13 +100,15 @@ impl Makefile {
         }
     }
 
-    /// A makefile of these parts.
+    /// A makefile of these parts, where the second is all that the rules are made of, each once.
     pub(crate) fn of_parts(
         rules: Vec<MakeRule>,
+        prerequisites: IndexSet<Path, RandomState>,
         suffix_rules: Vec<SuffixRule>,
         phony: IndexSet<Path, RandomState>,
         macros: MacroTable,
     ) -> Makefile
+        requires { prerequisites.keys ≡ each_once (flat_map prerequisites_of rules.items) }
         ensures { result
             ≡ record {
               rules = rules.items;
@@ -124,6 +119,7 @@ impl Makefile {
     {
         Makefile {
             rules,
+            prerequisites,
             suffix_rules,
             phony,
             macros,
@@ -135,6 +131,13 @@ impl Makefile {
         ensures { result.now ≡ self.now.rules }
     {
         self.rules.as_slice()
+    }
+
+    /// All that the rules are made of, each once, in constant time.
+    pub fn prerequisites(&self) -> &[Path]
+        ensures { result.now ≡ each_once (flat_map prerequisites_of self.now.rules) }
+    {
+        self.prerequisites.as_slice()
     }
 
     /// The suffix rules, in the order in which they are tried.

@@ -1,16 +1,22 @@
 // What is tested behind the last line of a makefile, and what it says then.
 
-ghost use Rattle.std.specs.Prelude.{◌≡◌, IfOk, filter, not, reverse};
+ghost use Rattle.std.specs.Prelude.{◌≡◌, IfOk, filter, flat_map, not, reverse};
 ghost use Rattle.cc_names.specs.Answers.{Gives};
-ghost use Rattle.make_text.specs.Contents.{groups_of, is_suffix_rule};
+ghost use Rattle.make_text.specs.Contents.{groups_of, is_suffix_rule, joined_rules, suffix_rules_of};
 ghost use Rattle.make_text.specs.Grammar.{contents_of, phony_fault};
 ghost use Rattle.make_text.specs.Endings.{checked_reading};
+ghost use Rattle.make_text.specs.Joining.{KnowsGroups, rules_of};
 ghost use Rattle.make_text.specs.MacroChecks.{Finds};
+ghost use Rattle.make_text.specs.Serving.{prerequisites_of};
+ghost use Rattle.make_text.specs.WordPaths.{each_once};
 
 use crate::contents::Makefile;
-use crate::joining::{JoinedRule, join_rules};
+use crate::gathering::gather;
+use crate::joining::{JoinedRule, join_rules, number_groups};
+use crate::kept_lines::RuleLine;
 use crate::macro_checks::test_macros;
-use crate::readings::{Parts, Reading, RuleLine, fault_at};
+use crate::numbers::Numbers;
+use crate::readings::{Parts, Reading, fault_at};
 use crate::rules::MakeRule;
 use crate::special_targets::has_some;
 use crate::suffix_rules::{is_suffix_rule, suffix_rules};
@@ -26,6 +32,13 @@ use std::hash::RandomState;
 struct Parted {
     rules: Vec<MakeRule>,
     suffix_rules: Vec<MakeRule>,
+}
+
+/// The rules of a makefile, with all that they are made of.
+#[derive(Drop)]
+struct Ruled {
+    parted: Parted,
+    prerequisites: IndexSet<Path, RandomState>,
 }
 
 /// Tests that no rule line has a script for a phony target. Takes time linear in the targets.
@@ -48,26 +61,28 @@ fn test_phony(
 /// The rules apart from the suffix rules.
 fn part_rules(
     alloc: Global,
-    suffixes: &[Path],
+    suffixes: &IndexSet<Path, RandomState>,
     lines: &[RuleLine],
+    groups: &Numbers,
     joined: Vec<JoinedRule>,
 ) -> Result<Parted, NoMemory>
+    requires { KnowsGroups groups.now lines.now }
     ensures rules { IfOk result
         (λ parted.
         parted.rules.items
-        ≡ filter (λ rule. not (is_suffix_rule suffixes.now (groups_of lines.now) rule))
-        joined.items) }
+        ≡ filter (λ rule. not (is_suffix_rule suffixes.now.keys (groups_of lines.now) rule))
+        (rules_of lines.now joined.items)) }
     ensures suffix_rules { IfOk result
         (λ parted.
         parted.suffix_rules.items
-        ≡ filter (is_suffix_rule suffixes.now (groups_of lines.now)) joined.items) }
+        ≡ filter (is_suffix_rule suffixes.now.keys (groups_of lines.now))
+        (rules_of lines.now joined.items)) }
 {
     let mut rules = Vec::new(alloc);
     let mut suffix_rules = Vec::new(alloc);
-    for rule in joined {
-        let is_suffix_rule = is_suffix_rule(suffixes, lines, &rule);
-        let rule = rule.into_rule(alloc)?;
-        if is_suffix_rule {
+    for joined_rule in joined {
+        let rule = joined_rule.into_rule(alloc, lines)?;
+        if is_suffix_rule(suffixes.as_slice(), lines, groups, &rule) {
             suffix_rules.push(rule)?;
         } else {
             rules.push(rule)?;
@@ -76,6 +91,37 @@ fn part_rules(
     Ok(Parted {
         rules,
         suffix_rules,
+    })
+}
+
+/// The rules of rule lines, the oldest first.
+fn rules_of(
+    alloc: Global,
+    hashing: RandomState,
+    suffixes: &IndexSet<Path, RandomState>,
+    lines: &[RuleLine],
+) -> Result<Ruled, NoMemory>
+    ensures rules { IfOk result
+        (λ ruled.
+        ruled.parted.rules.items
+        ≡ filter (λ rule. not (is_suffix_rule suffixes.now.keys (groups_of lines.now) rule))
+        (joined_rules lines.now)) }
+    ensures suffix_rules { IfOk result
+        (λ ruled.
+        ruled.parted.suffix_rules.items
+        ≡ filter (is_suffix_rule suffixes.now.keys (groups_of lines.now))
+        (joined_rules lines.now)) }
+    ensures prerequisites { IfOk result
+        (λ ruled.
+        ruled.prerequisites.keys ≡ each_once (flat_map prerequisites_of (joined_rules lines.now))) }
+{
+    let groups = number_groups(alloc, hashing, lines)?;
+    let joined = join_rules(alloc, hashing, lines, &groups)?;
+    let prerequisites = gather(alloc, hashing, lines, joined.as_slice())?;
+    let parted = part_rules(alloc, suffixes, lines, &groups, joined)?;
+    Ok(Ruled {
+        parted,
+        prerequisites,
     })
 }
 
@@ -89,14 +135,17 @@ fn contents_of(alloc: Global, hashing: RandomState, reading: Reading) -> Result<
         phony,
         lines,
     } = reading.into_parts();
-    let joined = join_rules(alloc, hashing, lines.as_slice())?;
-    let parted = part_rules(alloc, suffixes.as_slice(), lines.as_slice(), joined)?;
+    let ruled = rules_of(alloc, hashing, &suffixes, lines.as_slice())?;
+    let Ruled {
+        parted,
+        prerequisites,
+    } = ruled;
     let Parted {
         rules,
         suffix_rules: parts,
     } = parted;
     let suffix_rules = suffix_rules(alloc, suffixes.as_slice(), parts.as_slice())?;
-    Ok(Makefile::of_parts(rules, suffix_rules, phony, macros))
+    Ok(Makefile::of_parts(rules, prerequisites, suffix_rules, phony, macros))
 }
 
 /// What a makefile says, or the first fault behind its last line.

@@ -9,7 +9,7 @@ ghost use Rattle.make_text.specs.Readers.{Keeps};
 ghost use Rattle.make_text.specs.Statements.{included, include_line, read_line, read_lines};
 
 use crate::contents::Texts;
-use crate::line_kinds::{Kind, kind_of, trimmed, without_comment};
+use crate::line_kinds::{Kind, line_kind, trimmed, without_comment};
 use crate::logical_lines::{LogicalLine, LogicalLines};
 use crate::readers::Reader;
 use crate::readings::{Reading, fault_at};
@@ -126,7 +126,7 @@ fn read_line<X: Texts>(
     if is_script_line(bytes) {
         return reader.script_line(alloc, file, number, bytes);
     }
-    match kind_of(without_comment(bytes)) {
+    match line_kind(without_comment(bytes)) {
         Kind::Blank => Ok(()),
         Kind::Include(behind) => include_line(reader, alloc, texts, left, file, number, behind),
         Kind::Assignment(before, behind) => {

@@ -1,209 +1,258 @@
 // The rules that rule lines are joined to.
 
-ghost use Rattle.std.specs.Prelude.{◌≡◌, ◌==◌, ◌&&◌, ◌<◌, IfOk, IfSome, OnOk, is_some, length};
-ghost use Rattle.std.specs.Option.{option_or};
-ghost use Rattle.make_text.specs.Contents.{groups_of, made_with, with_line, rule_without, with_target, with_rule_line, joined_rules};
+ghost use Rattle.std.specs.Prelude.{◌≡◌, ◌<◌, ◌^◌, ◌-◌, ◌∷◌, [], Some, true, IfOk, OnOk, find, length, option_copied, slice_get};
+ghost use Rattle.make_text.specs.Contents.{groups_of, made_with, with_rule_line, joined_rules};
+ghost use Rattle.make_text.specs.Joining.{joined_at, rule_of, rules_of, KnowsJoined, made_together, KnowsGroups, HasJoined, HasNew, HasLonger, HasTarget};
 ghost use Rattle.make_text.specs.Macros.{is_among};
-ghost use Rattle.make_text.specs.Numbers.{number_from};
-ghost use Rattle.make_text.specs.Units.{targets_of};
 
-use crate::readings::RuleLine;
+use crate::kept_lines::RuleLine;
+use crate::numbers::{Numbers, number, number_all, put};
 use crate::rules::MakeRule;
-use crate::special_targets::put_paths;
+use cc_names::copies::Copied;
 use cc_names::lists::List;
 use cc_names::memory::NoMemory;
 use cc_names::paths::Path;
-use cc_names::texts::Text;
-use indexmap::IndexSet;
 use std::alloc::Global;
+use std::collections::HashMap;
 use std::hash::RandomState;
-use std::marker::Model;
 
-/// A rule that rule lines are joined to. Contracts see it as the rule.
+/// A rule, by the numbers of the rule lines that are joined to it, the oldest first.
 #[derive(Drop)]
 pub(crate) struct JoinedRule {
     targets: List<Path>,
-    prerequisites: IndexSet<Path, RandomState>,
-    script: Option<Text>,
+    lines: Vec<u32>,
 }
 
-impl Model for JoinedRule {
-    ghost use Rattle.make_text.specs.declared.rules.MakeRule.{MakeRule};
-
-    ghost Value = { MakeRule };
-
-    ghost view = { λ r.
-        record {
-          targets = r.targets;
-          prerequisites = r.prerequisites.keys;
-          script = r.script;
-        } };
+/// The rules so far, and the number of the rule of each target.
+#[derive(Drop)]
+struct Joining {
+    rules: Vec<JoinedRule>,
+    numbers: Numbers,
 }
 
-/// A copy of paths, in time linear in them.
-fn copied(alloc: Global, paths: &[Path]) -> Result<List<Path>, NoMemory>
-    ensures { IfOk result (λ copy. copy ≡ paths.now) }
+/// The numbers of the rule lines that make their targets together. There is no memory for more lines than numbers of four
+/// bytes count.
+pub(crate) fn number_groups(
+    alloc: Global,
+    hashing: RandomState,
+    lines: &[RuleLine],
+) -> Result<Numbers, NoMemory>
+    ensures groups { IfOk result (λ groups. KnowsGroups groups lines.now) }
+    ensures few { OnOk result (length lines.now < 2 ^ 32) }
 {
-    let mut copies = Vec::new(alloc);
-    for path in paths {
-        copies.push(path.copy(alloc)?)?;
+    if lines.len() > u32::MAX as usize {
+        return Err(NoMemory);
     }
-    Ok(List::of(copies))
+    number_all(alloc, hashing, lines)
 }
 
-/// Whether a path is among these.
-pub(crate) fn is_among(paths: &[Path], path: &Path) -> bool
-    ensures { result ≡ is_among paths.now path.now }
+/// The line of this number, if there is one.
+fn line_at(lines: &[RuleLine], number: u32) -> Option<&RuleLine>
+    ensures { option_copied result ≡ slice_get lines.now number }
 {
-    for other in paths {
-        if path == other {
-            return true;
-        }
-    }
-    false
+    lines.get(number as usize)
 }
 
-/// What is made together with a target, by rule lines.
-fn made_with(alloc: Global, lines: &[RuleLine], target: &Path) -> Result<List<Path>, NoMemory>
+/// The first rule line that makes a target together with others, in constant time.
+pub(crate) fn group<'a>(
+    lines: &'a [RuleLine],
+    groups: &Numbers,
+    target: &Path,
+) -> Option<&'a RuleLine>
+    requires { KnowsGroups groups.now lines.now }
+    ensures { option_copied result
+        ≡ find (λ line. is_among (made_together line) target.now) lines.now }
+{
+    match number(groups, target) {
+        Some(number) => line_at(lines, number),
+        None => None,
+    }
+}
+
+/// A target alone.
+fn alone(alloc: Global, target: &Path) -> Result<List<Path>, NoMemory>
+    ensures { IfOk result (λ paths. paths ≡ target.now ∷ []) }
+{
+    let mut paths = Vec::new(alloc);
+    paths.push(target.copy(alloc)?)?;
+    Ok(List::of(paths))
+}
+
+/// What is made together with a target: its group, else it alone. Takes time linear in these.
+fn made_with(
+    alloc: Global,
+    lines: &[RuleLine],
+    groups: &Numbers,
+    target: &Path,
+) -> Result<List<Path>, NoMemory>
+    requires { KnowsGroups groups.now lines.now }
     ensures { IfOk result (λ made. made ≡ made_with (groups_of lines.now) target.now) }
 {
-    for line in lines {
-        if line.is_made_together() && is_among(line.targets(), target) {
-            return copied(alloc, line.targets());
-        }
+    match group(lines, groups, target) {
+        Some(line) => line.copy_targets(alloc),
+        None => alone(alloc, target),
     }
-    let mut alone = Vec::new(alloc);
-    alone.push(target.copy(alloc)?)?;
-    Ok(List::of(alone))
 }
 
-/// The index of the first rule that makes a target.
-fn place_of(rules: &[JoinedRule], target: &Path) -> Option<usize>
-    ensures place { result ≡ number_from targets_of 0 target.now rules.now }
-    ensures within { IfSome result (λ index. index < length rules.now) }
+/// Joins the line of this number to a rule, if there is one.
+fn join_number(rule: &mut MakeRule, lines: &[RuleLine], number: u32) -> Result<(), NoMemory>
+    ensures { OnOk result (rule.new ≡ joined_at lines.now rule.old number) }
 {
-    for (index, rule) in rules.iter().enumerate() {
-        if is_among(rule.targets(), target) {
-            return Some(index);
-        }
+    match line_at(lines, number) {
+        Some(line) => rule.join(line),
+        None => Ok(()),
     }
-    None
 }
 
 impl JoinedRule {
-    /// A rule that nothing was said of.
-    fn without(alloc: Global, hashing: RandomState, targets: List<Path>) -> JoinedRule
-        ensures { result ≡ rule_without targets }
-    {
-        JoinedRule {
-            targets,
-            prerequisites: IndexSet::with_hasher(alloc, hashing),
-            script: None,
-        }
-    }
-
+    /// What it makes.
     pub(crate) fn targets(&self) -> &[Path]
         ensures { result.now ≡ self.now.targets }
     {
         self.targets.as_slice()
     }
 
-    /// Whether there is a script and no prerequisite.
-    pub(crate) fn has_only_script(&self) -> bool
-        ensures { result ≡ (is_some self.now.script && (length self.now.prerequisites == 0)) }
+    /// The numbers of the rule lines that are joined to it, the oldest first.
+    pub(crate) fn lines(&self) -> &[u32]
+        ensures { result.now ≡ self.now.lines.items }
     {
-        self.script.is_some() && self.prerequisites.len() == 0
+        self.lines.as_slice()
     }
 
-    /// Takes the script of a rule line, if it has one.
-    fn take_script(&mut self, alloc: Global, line: &RuleLine) -> Result<(), NoMemory>
-        ensures { OnOk result
-            (self.new ≡ record self.old { script = option_or line.now.script self.old.script }) }
+    /// Whether the line of this number was joined last.
+    fn ends_with(&self, number: u32) -> bool
+        ensures { result ≡ true
+            → slice_get self.now.lines.items (length self.now.lines.items - 1) ≡ Some number }
     {
-        if let Some(script) = line.script() {
-            self.script = Some(Text::from_bytes(alloc, script)?);
+        match self.lines.last() {
+            Some(last) => *last == number,
+            None => false,
         }
+    }
+
+    /// Joins the line of this number, unless it was joined last.
+    fn join(&mut self, number: u32) -> Result<(), NoMemory>
+        ensures { OnOk result (HasJoined self.old number self.new) }
+    {
+        if self.ends_with(number) {
+            return Ok(());
+        }
+        self.lines.push(number)?;
         Ok(())
     }
 
-    /// Joins a rule line to it.
-    fn join(&mut self, alloc: Global, line: &RuleLine) -> Result<(), NoMemory>
-        ensures { OnOk result (self.new ≡ with_line line.now self.old) }
-    {
-        put_paths(alloc, &mut self.prerequisites, line.prerequisites())?;
-        self.take_script(alloc, line)
-    }
-
-    /// The rule itself.
-    pub(crate) fn into_rule(self, alloc: Global) -> Result<MakeRule, NoMemory>
-        ensures { IfOk result (λ rule. rule ≡ self) }
+    /// The rule itself. Takes time linear in the lines that were joined.
+    pub(crate) fn into_rule(self, alloc: Global, lines: &[RuleLine]) -> Result<MakeRule, NoMemory>
+        ensures { IfOk result (λ rule. rule ≡ rule_of lines.now self) }
     {
         let JoinedRule {
             targets,
-            prerequisites,
-            script,
+            lines: numbers,
         } = self;
-        let prerequisites = List::of(prerequisites.into_iter().collect(alloc)?);
-        Ok(MakeRule {
-            targets,
-            prerequisites,
-            script,
-        })
+        let mut rule = MakeRule::without(alloc, targets);
+        for number in &numbers {
+            join_number(&mut rule, lines, *number)?;
+        }
+        Ok(rule)
     }
 }
 
-/// Joins a rule line at one of its targets, whose rule may be new.
-fn join_at(
-    alloc: Global,
-    hashing: RandomState,
-    rules: &mut Vec<JoinedRule>,
-    lines: &[RuleLine],
-    line: &RuleLine,
-    target: &Path,
-) -> Result<(), NoMemory>
-    ensures { OnOk result
-        (rules.new.items
-        ≡ with_target (groups_of lines.now) line.now rules.old.items target.now) }
-{
-    match place_of(rules.as_slice(), target) {
-        Some(index) => rules[index].join(alloc, line),
-        None => {
-            let mut rule = JoinedRule::without(alloc, hashing, made_with(alloc, lines, target)?);
-            rule.join(alloc, line)?;
-            rules.push(rule)?;
-            Ok(())
+impl Joining {
+    /// Makes a new rule of these targets, to which the line of this number is joined.
+    fn add(&mut self, alloc: Global, targets: List<Path>, line: u32) -> Result<(), NoMemory>
+        requires { KnowsJoined self.old.numbers self.old.rules.items }
+        ensures rules { OnOk result
+            (HasNew targets line self.old.rules.items self.new.rules.items) }
+        ensures known { OnOk result (KnowsJoined self.new.numbers self.new.rules.items) }
+    {
+        let number = self.rules.len();
+        if number >= u32::MAX as usize {
+            return Err(NoMemory);
+        }
+        put(alloc, &mut self.numbers, targets.as_slice(), number as u32)?;
+        let mut lines = Vec::new(alloc);
+        lines.push(line)?;
+        self.rules.push(JoinedRule { targets, lines })?;
+        Ok(())
+    }
+
+    /// Joins the line of this number to a rule.
+    fn join_to(&mut self, rule: u32, line: u32) -> Result<(), NoMemory>
+        requires within { rule < length self.old.rules.items }
+        requires known { KnowsJoined self.old.numbers self.old.rules.items }
+        ensures rules { OnOk result
+            (HasLonger rule line self.old.rules.items self.new.rules.items) }
+        ensures known { OnOk result (KnowsJoined self.new.numbers self.new.rules.items) }
+    {
+        self.rules[rule as usize].join(line)
+    }
+
+    /// Joins a rule line, which has this number, at one of its targets, whose rule may be new.
+    fn join_at(
+        &mut self,
+        alloc: Global,
+        lines: &[RuleLine],
+        groups: &Numbers,
+        line: u32,
+        target: &Path,
+    ) -> Result<(), NoMemory>
+        requires groups { KnowsGroups groups.now lines.now }
+        requires known { KnowsJoined self.old.numbers self.old.rules.items }
+        ensures rules { OnOk result
+            (HasTarget lines.now line target.now self.old.rules.items self.new.rules.items) }
+        ensures known { OnOk result (KnowsJoined self.new.numbers self.new.rules.items) }
+    {
+        match number(&self.numbers, target) {
+            Some(rule) => self.join_to(rule, line),
+            None => {
+                let targets = made_with(alloc, lines, groups, target)?;
+                self.add(alloc, targets, line)
+            }
         }
     }
-}
 
-/// Joins a rule line at each of its targets.
-fn join_line(
-    alloc: Global,
-    hashing: RandomState,
-    rules: &mut Vec<JoinedRule>,
-    lines: &[RuleLine],
-    line: &RuleLine,
-) -> Result<(), NoMemory>
-    ensures { OnOk result
-        (rules.new.items ≡ with_rule_line (groups_of lines.now) rules.old.items line.now) }
-{
-    for target in line.targets() {
-        join_at(alloc, hashing, rules, lines, line, target)?;
+    /// Joins a rule line, which has this number, at each of its targets.
+    fn join_line(
+        &mut self,
+        alloc: Global,
+        lines: &[RuleLine],
+        groups: &Numbers,
+        number: u32,
+        line: &RuleLine,
+    ) -> Result<(), NoMemory>
+        requires groups { KnowsGroups groups.now lines.now }
+        requires known { KnowsJoined self.old.numbers self.old.rules.items }
+        requires line { slice_get lines.now number ≡ Some line.now }
+        ensures rules { OnOk result
+            (rules_of lines.now self.new.rules.items
+            ≡ with_rule_line (groups_of lines.now) (rules_of lines.now self.old.rules.items)
+            line.now) }
+        ensures known { OnOk result (KnowsJoined self.new.numbers self.new.rules.items) }
+    {
+        for target in line.targets() {
+            self.join_at(alloc, lines, groups, number, target)?;
+        }
+        Ok(())
     }
-    Ok(())
 }
 
-/// The rules of rule lines, the oldest first.
+/// The rules of rule lines, the oldest first. Takes time and memory linear in the targets of the lines.
 pub(crate) fn join_rules(
     alloc: Global,
     hashing: RandomState,
     lines: &[RuleLine],
+    groups: &Numbers,
 ) -> Result<Vec<JoinedRule>, NoMemory>
-    ensures { IfOk result (λ rules. rules.items ≡ joined_rules lines.now) }
+    requires groups { KnowsGroups groups.now lines.now }
+    requires few { length lines.now < 2 ^ 32 }
+    ensures { IfOk result (λ rules. rules_of lines.now rules.items ≡ joined_rules lines.now) }
 {
-    let mut rules = Vec::new(alloc);
-    for line in lines {
-        join_line(alloc, hashing, &mut rules, lines, line)?;
+    let mut joining = Joining {
+        rules: Vec::new(alloc),
+        numbers: HashMap::with_hasher(alloc, hashing),
+    };
+    for (index, line) in lines.iter().enumerate() {
+        joining.join_line(alloc, lines, groups, index as u32, line)?;
     }
-    Ok(rules)
+    Ok(joining.rules)
 }

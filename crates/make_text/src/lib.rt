@@ -17,8 +17,10 @@ mod endings;
 #[cfg(test)]
 mod expansion_tests;
 mod expansions;
+mod gathering;
 mod including;
 mod joining;
+mod kept_lines;
 pub mod laws;
 mod line_kinds;
 #[cfg(test)]
@@ -26,6 +28,7 @@ mod line_tests;
 mod logical_lines;
 mod macro_checks;
 mod macros;
+pub mod numbers;
 #[cfg(test)]
 mod piece_tests;
 mod pieces;
@@ -33,8 +36,8 @@ mod readers;
 mod readings;
 mod rule_lines;
 pub mod rules;
-pub mod serving;
 mod special_targets;
 mod suffix_rules;
 pub mod walks;
+pub mod word_paths;
 mod words;

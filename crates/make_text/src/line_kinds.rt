@@ -2,7 +2,7 @@
 
 ghost use Rattle.std.specs.Prelude.{◌≡◌, ◌<◌, ◌+◌, [], option_copied, IfSome, length, take, drop, slice_index};
 ghost use Rattle.std.specs.List.{position};
-ghost use Rattle.make_text.specs.LineKinds.{is_hash, without_comment, trimmed, behind_include, behind_byte, is_within, decides, decided, kind_from, kind_of};
+ghost use Rattle.make_text.specs.LineKinds.{is_hash, without_comment, trimmed, behind_include, behind_byte, is_within, decides, decided, kind_from, line_kind};
 ghost use Rattle.make_text.specs.declared.line_kinds.Position.TheVariants.{Outside};
 ghost use Rattle.make_text.specs.SeenKinds.{seen, onto, past_end_blanks};
 
@@ -159,8 +159,8 @@ fn kind_by_marks(line: &[u8]) -> Kind<'_>
 }
 
 /// The kind of a line without its comment. Takes time linear in the line.
-pub(crate) fn kind_of(line: &[u8]) -> Kind<'_>
-    ensures { seen result ≡ kind_of line.now }
+pub(crate) fn line_kind(line: &[u8]) -> Kind<'_>
+    ensures { seen result ≡ line_kind line.now }
 {
     if is_blank_line(line) {
         return Kind::Blank;

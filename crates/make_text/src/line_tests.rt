@@ -1,6 +1,6 @@
 // The lines of makefiles, and what each is.
 
-use crate::line_kinds::{Kind, kind_of, trimmed, without_comment};
+use crate::line_kinds::{Kind, line_kind, trimmed, without_comment};
 use crate::logical_lines::LogicalLines;
 use cc_names::memory::NoMemory;
 use std::alloc::Global;
@@ -41,7 +41,7 @@ fn lines_are_joined(rt: HostRuntime) -> Result<(), Fail> {
 
 // The kind of a line, and both its sides without the blanks at their ends.
 fn sides(line: &str) -> (&'static str, &[u8], &[u8]) {
-    match kind_of(without_comment(line.as_bytes())) {
+    match line_kind(without_comment(line.as_bytes())) {
         Kind::Blank => ("blank", b"", b""),
         Kind::Include(behind) => ("include", b"", trimmed(behind)),
         Kind::Assignment(before, behind) => ("macro", trimmed(before), trimmed(behind)),

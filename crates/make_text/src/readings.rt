@@ -1,20 +1,20 @@
 // What was read so far of a makefile and the files that it includes.
 
-ghost use Rattle.std.specs.Prelude.{◌≡◌, ◌+◌, IfOk, OnOk, ◌&&◌, option_copied, is_some, reverse, slice_get};
+ghost use Rattle.std.specs.Prelude.{◌≡◌, ◌+◌, IfOk, OnOk, option_copied, reverse, slice_get};
 ghost use Rattle.cc_names.specs.Answers.{FaultIs};
 ghost use Rattle.make_text.specs.Grammar.{nothing_read};
 ghost use Rattle.make_text.specs.MacroEntries.{definition_in};
 ghost use Rattle.make_text.specs.Readers.{open_rule};
 ghost use Rattle.make_text.specs.ReadingSteps.{Leaves, counted_line, counted_file, with_defined, ended_rule, with_special, with_newest_line};
-ghost use Rattle.make_text.specs.Statements.{fault_at, assignment, override, with_rule, with_script_line, within_limits};
+ghost use Rattle.make_text.specs.Statements.{fault_at, assignment, override, with_rule, within_limits};
 
+use crate::kept_lines::RuleLine;
 use crate::macros::{Defined, MacroTable};
 use crate::rule_lines::{RuleWords, macro_fault};
 use crate::special_targets::{
     first_suffixes, has_special, is_named, plain_targets, put_paths, put_suffixes,
 };
 use cc_names::commands::Macro;
-use cc_names::lists::List;
 use cc_names::memory::{NoMemory, Or};
 use cc_names::paths::Path;
 use cc_names::refusals::{MakeCause, MakeError};
@@ -31,36 +31,6 @@ const LINE_LIMIT: u64 = 100_000;
 const TARGET_LIMIT: u64 = 10_000;
 
 const FILE_LIMIT: u64 = 1_000;
-
-/// A rule line and the script below it. Contracts see it without how it lies in memory.
-#[derive(Drop)]
-pub(crate) struct RuleLine {
-    file: Rc<Path>,
-    line: u32,
-    targets: List<Path>,
-    prerequisites: List<Path>,
-    is_group: bool,
-    is_special: bool,
-    script: Option<Vec<u8>>,
-}
-
-impl Model for RuleLine {
-    ghost use Rattle.std.specs.Option.{option_map};
-    ghost use Rattle.make_text.specs.Contents.{RuleLine};
-
-    ghost Value = { RuleLine };
-
-    ghost view = { λ r.
-        record {
-          file = r.file.value;
-          line = r.line;
-          targets = r.targets;
-          prerequisites = r.prerequisites;
-          is_group = r.is_group;
-          is_special = r.is_special;
-          script = option_map (λ v. v.items) r.script;
-        } };
-}
 
 /// What was read so far. Contracts see the rule lines with the newest first.
 #[derive(Drop)]
@@ -120,73 +90,6 @@ fn more(count: u64, by: usize) -> Result<u64, NoMemory>
     match count.checked_add(by as u64) {
         Some(sum) => Ok(sum),
         None => Err(NoMemory),
-    }
-}
-
-impl RuleLine {
-    /// Where the line stands.
-    pub(crate) fn place(&self) -> (&Path, u32)
-        ensures file { result.0.now ≡ self.now.file }
-        ensures line { result.1 ≡ self.now.line }
-    {
-        (&self.file, self.line)
-    }
-
-    /// Whether it had a special target.
-    pub(crate) fn is_special(&self) -> bool
-        ensures { result ≡ self.now.is_special }
-    {
-        self.is_special
-    }
-
-    /// Whether there is a script below it.
-    pub(crate) fn has_script(&self) -> bool
-        ensures { result ≡ is_some self.now.script }
-    {
-        self.script.is_some()
-    }
-
-    /// Whether its targets are those of a group that has a script.
-    pub(crate) fn is_made_together(&self) -> bool
-        ensures { result ≡ (self.now.is_group && is_some self.now.script) }
-    {
-        self.is_group && self.has_script()
-    }
-
-    /// The script below it.
-    pub(crate) fn script(&self) -> Option<&[u8]>
-        ensures { option_copied result ≡ self.now.script }
-    {
-        match &self.script {
-            Some(script) => Some(script.as_slice()),
-            None => None,
-        }
-    }
-
-    pub(crate) fn prerequisites(&self) -> &[Path]
-        ensures { result.now ≡ self.now.prerequisites }
-    {
-        self.prerequisites.as_slice()
-    }
-
-    /// Puts a line of a script below it.
-    fn add_script_line(&mut self, alloc: Global, line: &[u8]) -> Result<(), NoMemory>
-        ensures { OnOk result (self.new ≡ with_script_line self.old line.now) }
-    {
-        let mut script = self.script.take().unwrap_or(Vec::new(alloc));
-        if let Some((_, rest)) = line.split_first() {
-            script.extend_from_slice(rest)?;
-        }
-        script.push(b'\n')?;
-        self.script = Some(script);
-        Ok(())
-    }
-
-    /// The targets, special ones left out.
-    pub(crate) fn targets(&self) -> &[Path]
-        ensures { result.now ≡ self.now.targets }
-    {
-        self.targets.as_slice()
     }
 }
 
@@ -402,15 +305,15 @@ impl Reading {
         let is_special = has_special(targets.as_slice());
         let targets = plain_targets(alloc, hashing, is_group, targets)?;
         self.targets = more(self.targets, targets.len())?;
-        self.rules.push(RuleLine {
-            file: file.clone()?,
+        self.rules.push(RuleLine::of(
+            alloc,
+            file,
             line,
             targets,
             prerequisites,
             is_group,
             is_special,
-            script: None,
-        })?;
+        )?)?;
         self.takes_script = true;
         Ok(())
     }

@@ -15,7 +15,7 @@ ghost use Rattle.make_text.specs.RuleLines.{below_root, rule_of_sides, expanded_
 use crate::expansions::{Automatic, EXPANSION_LIMIT, Outcome, expand};
 use crate::macros::MacroTable;
 use crate::pieces::{has_bad_dollar, is_macro_name};
-use crate::rules::read_paths;
+use crate::word_paths::read_paths;
 use crate::words::words;
 use cc_names::lists::List;
 use cc_names::memory::{NoMemory, Or};

@@ -8,7 +8,7 @@ ghost use Rattle.make_text.specs.WordPaths.{with_path};
 ghost use Rattle.make_text.specs.Statements.{is_special, plain_targets, with_suffixes};
 
 use crate::rule_lines::is_special;
-use crate::rules::{each_once, read_paths};
+use crate::word_paths::{each_once, read_paths};
 use crate::words::words;
 use cc_names::lists::List;
 use cc_names::memory::NoMemory;

@@ -4,16 +4,19 @@ ghost use Rattle.std.specs.Prelude.{◌≡◌, ◌++◌, [], IfOk, OnOk, flat_ma
 ghost use Rattle.std.specs.List.{list_any};
 ghost use Rattle.std.specs.Str.{bytes_eq};
 ghost use Rattle.make_text.specs.Contents.{groups_of, is_pair_of, is_suffix_rule, suffix_rule_of, suffix_rules_of};
+ghost use Rattle.make_text.specs.Joining.{KnowsGroups};
 ghost use Rattle.make_text.specs.SuffixRules.{is_pair_from, is_in_group, is_suffix_target, behind_front, suffix_rules_from};
 ghost use Rattle.make_text.specs.Macros.{is_among};
 
-use crate::joining::{JoinedRule, is_among};
-use crate::readings::RuleLine;
+use crate::joining::group;
+use crate::kept_lines::RuleLine;
+use crate::numbers::Numbers;
 use crate::rules::{MakeRule, SuffixRule};
 use cc_names::memory::NoMemory;
 use cc_names::paths::Path;
 use cc_names::texts::Text;
 use std::alloc::Global;
+use std::rc::Rc;
 
 /// What stands behind a front, where bytes begin with it.
 fn cut_front<'a>(bytes: &'a [u8], front: &[u8]) -> Option<&'a [u8]>
@@ -70,35 +73,46 @@ fn is_pair_of(suffixes: &[Path], bytes: &[u8]) -> bool
     false
 }
 
-/// Whether a target is of a group that has a script.
-fn is_in_group(lines: &[RuleLine], target: &Path) -> bool
+/// Whether a target is of a group that has a script, in constant time.
+fn is_in_group(lines: &[RuleLine], groups: &Numbers, target: &Path) -> bool
+    requires { KnowsGroups groups.now lines.now }
     ensures { result ≡ is_in_group (groups_of lines.now) target.now }
 {
-    for line in lines {
-        if line.is_made_together() && is_among(line.targets(), target) {
-            return true;
-        }
+    match group(lines, groups, target) {
+        Some(_line) => true,
+        None => false,
     }
-    false
 }
 
 /// Whether a target of a rule is two suffixes put together, and of no group.
-fn has_suffix_target(suffixes: &[Path], lines: &[RuleLine], targets: &[Path]) -> bool
+fn has_suffix_target(
+    suffixes: &[Path],
+    lines: &[RuleLine],
+    groups: &Numbers,
+    targets: &[Path],
+) -> bool
+    requires { KnowsGroups groups.now lines.now }
     ensures { result ≡ list_any (is_suffix_target suffixes.now (groups_of lines.now)) targets.now }
 {
     for target in targets {
-        if is_pair_of(suffixes, target.as_bytes()) && !is_in_group(lines, target) {
+        if is_pair_of(suffixes, target.as_bytes()) && !is_in_group(lines, groups, target) {
             return true;
         }
     }
     false
 }
 
-/// Whether a rule is a suffix rule. Takes time linear in the suffixes, and in the rule lines where it has such a target.
-pub(crate) fn is_suffix_rule(suffixes: &[Path], lines: &[RuleLine], rule: &JoinedRule) -> bool
+/// Whether a rule is a suffix rule. Takes time linear in the suffixes, for each of its targets.
+pub(crate) fn is_suffix_rule(
+    suffixes: &[Path],
+    lines: &[RuleLine],
+    groups: &Numbers,
+    rule: &MakeRule,
+) -> bool
+    requires { KnowsGroups groups.now lines.now }
     ensures { result ≡ is_suffix_rule suffixes.now (groups_of lines.now) rule.now }
 {
-    rule.has_only_script() && has_suffix_target(suffixes, lines, rule.targets())
+    rule.has_only_script() && has_suffix_target(suffixes, lines, groups, rule.targets())
 }
 
 /// Whether two suffixes put together are this target.
@@ -112,7 +126,7 @@ fn are_target(target: &Path, from: &Path, to: &Path) -> bool
 fn makes_pair(rule: &MakeRule, from: &Path, to: &Path) -> bool
     ensures { result ≡ is_among rule.now.targets (from.now ++ to.now) }
 {
-    for target in rule.targets.as_slice() {
+    for target in rule.targets() {
         if are_target(target, from, to) {
             return true;
         }
@@ -132,15 +146,13 @@ fn suffix_rule(
         made
         ≡ record { from = from.now; to = to.now; script = unwrap_or rule.now.script [] }) }
 {
-    let script: &[u8] = match &rule.script {
-        Some(script) => script.as_bytes(),
-        None => &[],
+    let script = match rule.shared_script()? {
+        Some(script) => script,
+        None => Rc::new(alloc, Vec::new(alloc))?,
     };
-    Ok(SuffixRule {
-        from: Text::from_bytes(alloc, from.as_bytes())?,
-        to: Text::from_bytes(alloc, to.as_bytes())?,
-        script: Text::from_bytes(alloc, script)?,
-    })
+    let from = Text::from_bytes(alloc, from.as_bytes())?;
+    let to = Text::from_bytes(alloc, to.as_bytes())?;
+    Ok(SuffixRule::of(from, to, script))
 }
 
 /// Puts the suffix rules that make one suffix from another behind others.

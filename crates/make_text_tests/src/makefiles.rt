@@ -6,31 +6,44 @@ use cc_names::memory::NoMemory;
 use cc_names::paths::Path;
 use cc_names::texts::Text;
 use make_text::contents::{Expanded, Makefile};
+use make_text::rules::{MakeRule, SuffixRule};
 use std::alloc::{AllocError, Global};
 use std::hash::RandomState;
 use std::test::Fail;
 
-// The rules as words: targets, prerequisites and the script in brackets; then the suffix rules.
-fn words_of(alloc: Global, make: &Makefile) -> Result<String, AllocError> {
+// A rule as words: targets, prerequisites and the script in brackets.
+fn words_of_rule(alloc: Global, hashing: RandomState, rule: &MakeRule) -> Result<String, NoMemory> {
+    let mut words = String::new(alloc);
+    for target in rule.targets() {
+        words.push_str(format!(in alloc; "{target} ")?.as_str())?;
+    }
+    words.push_str(":")?;
+    for path in rule.prerequisites(alloc, hashing)?.as_slice() {
+        words.push_str(format!(in alloc; " {path}")?.as_str())?;
+    }
+    if let Some(script) = rule.script() {
+        let script = Text::from_bytes(alloc, script)?;
+        words.push_str(format!(in alloc; " [{script}]")?.as_str())?;
+    }
+    words.push_str("|")?;
+    Ok(words)
+}
+
+fn words_of_suffix_rule(alloc: Global, rule: &SuffixRule) -> Result<String, NoMemory> {
+    let from = Text::from_bytes(alloc, rule.from_suffix())?;
+    let to = Text::from_bytes(alloc, rule.to_suffix())?;
+    let script = Text::from_bytes(alloc, rule.script())?;
+    Ok(format!(in alloc; "{from} to {to} [{script}]|")?)
+}
+
+// The rules as words, and then the suffix rules.
+fn words_of(alloc: Global, hashing: RandomState, make: &Makefile) -> Result<String, NoMemory> {
     let mut words = String::new(alloc);
     for rule in make.rules() {
-        for target in rule.targets.as_slice() {
-            words.push_str(format!(in alloc; "{target} ")?.as_str())?;
-        }
-        words.push_str(":")?;
-        for path in rule.prerequisites.as_slice() {
-            words.push_str(format!(in alloc; " {path}")?.as_str())?;
-        }
-        if let Some(script) = &rule.script {
-            words.push_str(format!(in alloc; " [{script}]")?.as_str())?;
-        }
-        words.push_str("|")?;
+        words.push_str(words_of_rule(alloc, hashing, rule)?.as_str())?;
     }
     for rule in make.suffix_rules() {
-        words.push_str(format!(in alloc;
-            "{} to {} [{}]|",
-            rule.from, rule.to, rule.script
-        )?.as_str())?;
+        words.push_str(words_of_suffix_rule(alloc, rule)?.as_str())?;
     }
     Ok(words)
 }
@@ -43,6 +56,11 @@ fn makefiles_are_read(rt: HostRuntime) -> Result<(), Fail> {
         ("a b: c d c\nb: e\n\techo\n", "a : c d|b : c d e [echo\n]|"),
         ("a b &: c\n\techo\nb: d\n", "a b : c d [echo\n]|"),
         ("a b &: c\n", "a : c|b : c|"),
+        ("a a b: c c d\na: d e\n", "a : c d e|b : c d|"),
+        (
+            "x &: c\na b &: d\n\techo\nb c: e d\n",
+            "x : c|a b : d e [echo\n]|c : e d|",
+        ),
         (
             ".c.o:\n\tcc $<\n.h.o: x\n\tno\n",
             ".h.o : x [no\n]|.c to .o [cc $<\n]|",
@@ -58,10 +76,11 @@ fn makefiles_are_read(rt: HostRuntime) -> Result<(), Fail> {
             main: text.as_bytes(),
             other: b"",
         };
-        let Ok(make) = read(rt.alloc(), RandomState::new(&rt)?, &texts, &[]) else {
+        let hashing = RandomState::new(&rt)?;
+        let Ok(make) = read(rt.alloc(), hashing, &texts, &[]) else {
             panic!(&rt; "{text:?} is a makefile");
         };
-        let said = words_of(rt.alloc(), &make)?;
+        let said = words_of(rt.alloc(), hashing, &make)?;
         assert_eq!(rt; said.as_str(), want, "of {text:?}");
     }
     Ok(())

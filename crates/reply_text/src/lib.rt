@@ -14,8 +14,6 @@ mod names;
 mod pieces;
 mod refusals;
 mod replies;
-#[cfg(test)]
-mod tests;
 
 pub use digests::digest_of;
 pub use replies::render;

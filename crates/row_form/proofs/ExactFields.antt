@@ -18,7 +18,7 @@ use Rattle.cc_names.specs.declared.rows.Out.{Out}
 use Rattle.cc_names.specs.declared.rows.Out.TheVariants as outs
 use Rattle.row_form.specs.Fields.{byte, word, long, text, flag, kind, type_kind, out_byte, entry, place_of}
 use Rattle.row_form.specs.Readers.{Reading, read_byte, read_word, read_long, read_bytes, read_text}
-use Rattle.row_form.specs.FieldReaders.{read_name, read_type_name, read_any_path, read_path, flag_of, read_flag, kind_of, read_kind, type_kind_of, read_type_kind, out_of, read_out, entry_of, read_entry, placed_of, read_placed}
+use Rattle.row_form.specs.FieldReaders.{read_name, read_type_name, read_any_path, read_path, flag_of, read_flag, kind_by_code, read_kind, type_kind_of, read_type_kind, out_of, read_out, entry_of, read_entry, placed_of, read_placed}
 use Rattle.row_form.proofs.Exact.{AreBytes, IsExact, front_bytes, byte_at, same_read, part, exact_both, exact_chosen, exact_tested, exact_as, exact_made}
 use Rattle.row_form.proofs.Steps.{then_ok}
 
@@ -187,7 +187,7 @@ kind_byte kinds.Directory = 2
 pub exact_kind : IsExact read_kind kind always
 exact_kind =
     exact_as kind always
-    (exact_chosen kind_of kind_byte always exact_byte
+    (exact_chosen kind_by_code kind_byte always exact_byte
     (elim [ kinds.File ↦ λ h. (lit< tt, refl) | kinds.Directory ↦ λ h. (lit< tt, refl) ])
     (λ n b g e. (
       tt,

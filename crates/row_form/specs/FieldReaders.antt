@@ -47,11 +47,11 @@ abbrev pub read_flag : Reader Bool
 read_flag = chosen flag_of read_byte
 
 -- the kind of element of a byte
-abbrev pub kind_of : ℕ → Option Kind
-kind_of byte = if byte == 1 then Some kinds.File else if byte == 2 then Some kinds.Directory else None
+abbrev pub kind_by_code : ℕ → Option Kind
+kind_by_code byte = if byte == 1 then Some kinds.File else if byte == 2 then Some kinds.Directory else None
 
 abbrev pub read_kind : Reader Kind
-read_kind = chosen kind_of read_byte
+read_kind = chosen kind_by_code read_byte
 
 -- the kind of type of a byte
 abbrev pub type_kind_of : ℕ → Option TypeKind

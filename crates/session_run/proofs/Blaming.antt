@@ -9,21 +9,20 @@ use Rattle.cc_names.specs.declared.steps.Counts.{Counts}
 use Rattle.cc_names.specs.declared.steps.Step.TheVariants as steps
 use Rattle.cc_names.specs.declared.steps.Told.{Told}
 use Rattle.cc_names.specs.declared.steps.Told.TheVariants as told
-use Rattle.cc_names.specs.Counts.{rises}
-use Rattle.disk_model.specs.Counting.{raised}
+use Rattle.disk_model.specs.Counting.{next_count}
 use Rattle.disk_model.specs.Devices.{Device, Event, Measured, Fetched, Wrote, Tore, Synced, Failed, failures}
 use Rattle.disk_model.specs.Told.{Sight, IfTold, Both, IsCounted, CountsFailures}
 use Rattle.disk_model.proofs.Recording.{failures_most}
-use Rattle.legal_history.specs.Stories.States.{State, start}
+use Rattle.legal_history.specs.Stories.States.{State, End, start}
 use Rattle.legal_history.specs.Stories.Steps.{after, state_from, state_of}
 use Rattle.vob_journal.specs.Added.{Adds, WritesOn, is_read, may_read, may_write}
 use Rattle.vob_journal.proofs.Adding.{adds_none, adds_then}
 use Rattle.vob_journal.proofs.Telling.{both_map, both_then}
-use Rattle.base_core.specs.Backed.{is_faulted}
-use Rattle.base_core.specs.Counted.{CountsStep, CountsSteps}
+use Rattle.base_core.specs.Stopping.Backed.{may_be_open}
+use Rattle.base_core.specs.Story.Counted.{CountsStep, CountsSteps}
 use Rattle.session_run.specs.Accounted.{CountsFrom, Settles}
 use Rattle.session_run.specs.Begun.{first_step}
-use Rattle.session_run.specs.Blamed.{failed_by, MeetsFault, FailsAtFaults, reads_first, IsBlamed}
+use Rattle.session_run.specs.Blamed.{failed_by, MeetsFault, FailsAtFaults, tick_of, SettlesBehind, RestsBehind, reads_first, IsBlamed}
 
 pub failures_more : (more earlier : List Event) → failures (more ++ earlier) ≡ failures more + failures earlier
 failures_more [] earlier = omega arith
@@ -74,19 +73,24 @@ module _ (kind : Event → Bool) (one two : Sight) (d e : Device) (first : IsCou
   pub same_failed : two.faults ≡ one.faults → failures e.calls ≡ failures d.calls
   same_failed same = omega (arith, none_more 0 (omega (arith, same)), failed_more)
 
-  pub one_failed : (two.faults ≡ one.faults) ⊎ (two.faults ≡ raised one.faults) → failures e.calls ≤ failures d.calls + 1
+  pub one_failed : (two.faults ≡ one.faults) ⊎ (two.faults ≡ next_count one.faults) → failures e.calls ≤ failures d.calls + 1
   one_failed (inl same) = omega (arith, none_more 1 (omega (arith, same)), failed_more)
   one_failed (inr rose) = omega (arith, none_more 1 (omega (arith, rose)), failed_more)
 
   -- a fault below the end of ticks
-  pub some_failed : two.ticks < 2 ^ 64 - 1 → rises one.faults two.faults ≡ true → (one.faults ≡ failures d.calls) × (two.faults ≡ failures e.calls) × (one.faults < two.faults)
+  pub some_failed : two.ticks < 2 ^ 64 - 1 → two.faults ≡ next_count one.faults → (one.faults ≡ failures d.calls) × (two.faults ≡ failures e.calls) × (two.faults ≡ one.faults + 1)
   some_failed within rose =
       let was = counts_one.no_other (omega (arith, within, longer, ticks_one, ticks_two)) in
       let now = counts_two.no_other within in
-      (was, now, above one.faults two.faults rose (omega (arith, now, failures_most e.calls, ticks_two, within)))
-    where
-      above : (a b : ℕ) → rises a b ≡ true → b < 2 ^ 64 - 1 → a < b
-      above a b rose small = grind (arith)
+      (was, now, omega (arith, rose, now, failures_most e.calls, ticks_two, within))
+
+  -- so many calls more at most
+  pub so_many : (n : ℕ) → two.ticks ≤ one.ticks + n → length e.calls ≤ length d.calls + n
+  so_many n most = omega (arith, ticks_one, ticks_two, most)
+
+  -- and none, where none was made
+  pub no_call : two.ticks ≡ one.ticks → length e.calls ≡ length d.calls
+  no_call same = sym ticks_two ∙ same ∙ ticks_one
 
 -- what was told before, where more is told now
 told_before : (R : Device → Device → Type 0) (old new : Option Device) (e : Device) → new ≡ Some e → Both R old new → (d : Device) × (old ≡ Some d) × R d e
@@ -124,26 +128,36 @@ steps_add (step ∷ more) old new h = adds_on old.told h.0.told new.told (step_a
 both_at : (R : Device → Device → Type 0) (old new : Option Device) (d e : Device) → old ≡ Some d → new ≡ Some e → Both R old new → R d e
 both_at R old new d e is be h = subst (λ told. Both R (Some d) told) be (subst (λ told. Both R told new) is h)
 
--- how many calls more may fail behind an end
-abbrev behind : Bool → ℕ
-behind faulted = if faulted then 1 else 0
+-- the newest end was made on this device, on which so many of the calls had been made and had failed
+abbrev IsNewest : ℕ → List Event → List End → Device → Type 0
+IsNewest handed calls [] d = failures d.calls ≡ failed_by handed calls
+IsNewest handed calls (end ∷ ends) d = (tick_of end ≡ length d.calls) × (failed_by (tick_of end) calls ≡ failures d.calls)
 
-ends_well : (hung : Bool) (old now : Sight) (d e : Device) → IsCounted old → IsCounted now → old.told ≡ Some d → now.told ≡ Some e → Settles hung old now
-    → failures (reverse e.calls) ≤ failures d.calls + behind hung
-ends_well true old now d e first second is be settles =
-    let added = (both_at WritesOn old.told now.told d e is be settles.writes).adds in
-    omega (arith, failures_back e.calls, one_failed may_write old now d e first second is be added settles.faults)
-ends_well false old now d e first second is be settles =
-    let added = (both_at WritesOn old.told now.told d e is be settles.writes).adds in
-    omega (arith, failures_back e.calls, same_failed may_write old now d e first second is be added (ap (λ s. s.faults) (settles.rests refl)))
+-- the journal was settled at the end
+module _ (old now : Sight) (d e : Device) (first : IsCounted old) (second : IsCounted now) (is : old.told ≡ Some d) (be : now.told ≡ Some e) where
+  settling_adds : (ajar : Bool) → Settles ajar old now → Adds may_write d e
+  settling_adds ajar settles = (both_at WritesOn old.told now.told d e is be settles.writes).adds
+
+  settles_behind : (ajar : Bool) (tick : ℕ) → tick ≡ length d.calls → failed_by tick (reverse e.calls) ≡ failures d.calls → Settles ajar old now → SettlesBehind ajar tick (reverse e.calls)
+  settles_behind true tick at failed settles = (
+    omega (arith, length-reverse e.calls, at, so_many may_write old now d e first second is be (settling_adds true settles) 2 settles.few),
+    omega (arith, failures_back e.calls, failed, one_failed may_write old now d e first second is be (settling_adds true settles) settles.faults),
+  )
+  settles_behind false tick at failed settles =
+      length-reverse e.calls ∙ no_call may_write old now d e first second is be (settling_adds false settles) (ap (λ s. s.ticks) (settles.rests refl)) ∙ sym at
+
+  pub ends_well : (handed : ℕ) (ends : List End) → IsNewest handed (reverse e.calls) ends d → Settles (may_be_open ends) old now → RestsBehind handed ends (reverse e.calls)
+  ends_well handed [] newest settles =
+      failures_back e.calls ∙ same_failed may_write old now d e first second is be (settling_adds false settles) (ap (λ s. s.faults) (settles.rests refl)) ∙ newest
+  ends_well handed (end ∷ ends) newest settles = settles_behind (may_be_open (end ∷ ends)) (tick_of end) newest.0 newest.1 settles
 
 -- the steps of a history, and the calls of the device as it came back
-blames : (e : Device) (s : State) (more : List Told) (old ended now : Sight) (d : Device) → old.told ≡ Some d → now.told ≡ Some e → IsCounted old → IsCounted now
-    → CountsSteps more old ended → Settles (is_faulted (state_from s more).ends) ended now
-    → FailsAtFaults (failures d.calls) (behind (is_faulted s.ends)) (reverse e.calls) more
-blames e s [] old ended now d is be first second h settles =
-    ends_well (is_faulted s.ends) old now d e first second is be (subst (λ t. Settles (is_faulted s.ends) t now) h settles)
-blames e s (told.Commit row tick ∷ more) old ended now d is be first second h settles =
+blames : (e : Device) (handed : ℕ) (s : State) (more : List Told) (old ended now : Sight) (d : Device) → IsNewest handed (reverse e.calls) s.ends d → old.told ≡ Some d → now.told ≡ Some e → IsCounted old → IsCounted now
+    → CountsSteps more old ended → Settles (may_be_open (state_from s more).ends) ended now
+    → FailsAtFaults (failures d.calls) (reverse e.calls) more × RestsBehind handed (state_from s more).ends (reverse e.calls)
+blames e handed s [] old ended now d newest is be first second h settles =
+    (tt, ends_well old now d e first second is be handed s.ends newest (subst (λ t. Settles (may_be_open s.ends) t now) h settles))
+blames e handed s (told.Commit row tick ∷ more) old ended now d newest is be first second h settles =
     let mid = h.0 in
     let rest = adds_on mid.told ended.told now.told (steps_add more mid ended h.2) (of_writes ended.told now.told settles.writes) in
     let at = told_before (Adds may_write) mid.told now.told e be rest in
@@ -151,27 +165,27 @@ blames e s (told.Commit row tick ∷ more) old ended now d is be first second h 
     let same = same_failed may_write old mid d at.0 first h.1.3 is at.1 added h.1.2 in
     let ticks : tick ≡ length at.0.calls = h.1.0 ∙ subst (λ told. IfTold told (λ d. mid.ticks ≡ length d.calls)) at.1 h.1.3.told in
     let failed = ap (λ n. failed_by n (reverse e.calls)) ticks ∙ failed_before at.0 (reverse e.calls) (reverse at.2.more) (first_calls may_write at.0 e at.2) in
-    let on = blames e (after s (told.Commit row tick)) more mid ended now at.0 at.1 be h.1.3 second h.2 settles in
-    (failed ∙ same, subst (λ n. FailsAtFaults n 0 (reverse e.calls) more) same on)
-blames e s (told.Other (steps.Fault tag left before faults tick) ∷ more) old ended now d is be first second h settles =
+    let on = blames e handed (after s (told.Commit row tick)) more mid ended now at.0 (ticks, failed) at.1 be h.1.3 second h.2 settles in
+    ((failed ∙ same, subst (λ n. FailsAtFaults n (reverse e.calls) more) same on.0), on.1)
+blames e handed s (told.Other (steps.Fault tag left before faults tick) ∷ more) old ended now d newest is be first second h settles =
     let mid = h.0 in
     let rest = adds_on mid.told ended.told now.told (steps_add more mid ended h.2) (of_writes ended.told now.told settles.writes) in
     let at = told_before (Adds may_write) mid.told now.told e be rest in
     let added = (both_at WritesOn old.told mid.told d at.0 is at.1 h.1.6).adds in
-    let rose : rises old.faults mid.faults ≡ true = subst (λ n. rises n mid.faults ≡ true) h.1.0 (subst (λ n. rises before n ≡ true) h.1.1 h.1.2) in
+    let rose : mid.faults ≡ next_count old.faults = sym h.1.1 ∙ h.1.2 ∙ ap next_count h.1.0 in
     let ticks : tick ≡ length at.0.calls = h.1.3 ∙ subst (λ told. IfTold told (λ d. mid.ticks ≡ length d.calls)) at.1 h.1.5.told in
     let failed = ap (λ n. failed_by n (reverse e.calls)) ticks ∙ failed_before at.0 (reverse e.calls) (reverse at.2.more) (first_calls may_write at.0 e at.2) in
-    let on = blames e (after s (told.Other (steps.Fault tag left before faults tick))) more mid ended now at.0 at.1 be h.1.5 second h.2 settles in
+    let on = blames e handed (after s (told.Other (steps.Fault tag left before faults tick))) more mid ended now at.0 (ticks, failed) at.1 be h.1.5 second h.2 settles in
     let meets : MeetsFault (failures d.calls) before faults tick (reverse e.calls) = λ within.
     let some = some_failed may_write old mid d at.0 first h.1.5 is at.1 added (omega (arith, within, h.1.3)) rose in
     (h.1.0 ∙ some.0, h.1.1 ∙ some.1 ∙ sym failed, omega (arith, h.1.0, h.1.1, some.2)) in
-    (meets, subst (λ n. FailsAtFaults n 1 (reverse e.calls) more) (sym failed) on)
-blames e s (told.Other step ∷ more) old ended now d is be first second h settles =
-    blames e (after s (told.Other step)) more old ended now d is be first second (subst (λ t. CountsSteps more t ended) h.1 h.2) settles
-blames e s (told.Opened rows counts tells ∷ more) old ended now d is be first second h settles =
-    blames e (after s (told.Opened rows counts tells)) more old ended now d is be first second (subst (λ t. CountsSteps more t ended) h.1 h.2) settles
-blames e s (told.Plan phase moment ∷ more) old ended now d is be first second h settles =
-    blames e (after s (told.Plan phase moment)) more old ended now d is be first second (subst (λ t. CountsSteps more t ended) h.1 h.2) settles
+    ((meets, subst (λ n. FailsAtFaults n (reverse e.calls) more) (sym failed) on.0), on.1)
+blames e handed s (told.Other step ∷ more) old ended now d newest is be first second h settles =
+    blames e handed (after s (told.Other step)) more old ended now d newest is be first second (subst (λ t. CountsSteps more t ended) h.1 h.2) settles
+blames e handed s (told.Opened rows counts tells ∷ more) old ended now d newest is be first second h settles =
+    blames e handed (after s (told.Opened rows counts tells)) more old ended now d newest is be first second (subst (λ t. CountsSteps more t ended) h.1 h.2) settles
+blames e handed s (told.Plan phase moment ∷ more) old ended now d newest is be first second h settles =
+    blames e handed (after s (told.Plan phase moment)) more old ended now d newest is be first second (subst (λ t. CountsSteps more t ended) h.1 h.2) settles
 
 -- the calls of the opening come first, and none of them failed
 all_back : (kind : Event → Bool) (calls : List Event) → list_all kind calls ≡ true → list_all kind (reverse calls) ≡ true
@@ -226,8 +240,8 @@ blamed before opened now story rows counts tells was first second sound reads be
     story_is : story ≡ told.Opened rows counts tells ∷ from.steps
     story_is = from.story_is ∙ ap (λ x. x ∷ from.steps) is_first
 
-    settles : Settles (is_faulted (state_from (after start (told.Opened rows counts tells)) from.steps).ends) from.ended now
-    settles = subst (λ s. Settles (is_faulted (state_of s).ends) from.ended now) story_is from.settled
+    settles : Settles (may_be_open (state_from (after start (told.Opened rows counts tells)) from.steps).ends) from.ended now
+    settles = subst (λ s. Settles (may_be_open (state_of s).ends) from.ended now) story_is from.settled
 
     all : Both (Adds may_write) opened.told now.told
     all = adds_on opened.told from.ended.told now.told (steps_add from.steps opened from.ended from.counts) (of_writes from.ended.told now.told from.settled.writes)
@@ -248,14 +262,15 @@ blamed before opened now story rows counts tells was first second sound reads be
         ∙ append_assoc (reverse b.calls) (reverse read.more) (reverse written.more) in
         let failed : failed_by before.ticks (reverse e.calls) ≡ failures d.calls =
         ap (λ n. failed_by n (reverse e.calls)) ticks ∙ failed_before b (reverse e.calls) (reverse read.more ++ reverse written.more) split ∙ sym same in
-        let ends = blames e (after start (told.Opened rows counts tells)) from.steps opened from.ended now d at.1 be first second from.counts settles in
+        let ends = blames e before.ticks (after start (told.Opened rows counts tells)) from.steps opened from.ended now d (sym failed) at.1 be first second from.counts settles in
         record {
           opening =
               ap reads_first (ap (λ calls. drop before.ticks calls) split
               ∙ drop_at (reverse b.calls) (reverse read.more ++ reverse written.more) before.ticks (length-reverse b.calls ∙ sym ticks))
               ∙ reads_and_writes (reverse read.more) (reverse written.more) (all_back is_read read.more (all_read read.more read.kinds none)) (all_back may_write written.more written.kinds);
-          ends = subst (λ s. FailsAtFaults (failed_by before.ticks (reverse e.calls)) 0 (reverse e.calls) s) (sym story_is)
-              (subst (λ n. FailsAtFaults n 0 (reverse e.calls) from.steps) (sym failed) ends);
+          ends = subst (λ s. FailsAtFaults (failed_by before.ticks (reverse e.calls)) (reverse e.calls) s) (sym story_is)
+              (subst (λ n. FailsAtFaults n (reverse e.calls) from.steps) (sym failed) ends.0);
+          behind = subst (λ s. RestsBehind before.ticks (state_of s).ends (reverse e.calls)) (sym story_is) ends.1;
         }
 
     by : (told : Option Device) → now.told ≡ told → IfTold told (IsBlamed before.ticks story)

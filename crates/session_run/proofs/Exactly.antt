@@ -5,8 +5,8 @@ use Rattle.cc_names.specs.declared.steps.Told.{Told}
 use Rattle.disk_model.specs.Devices.{Device, bytes_of}
 use Rattle.disk_model.specs.Told.{Sight, IfTold}
 use Rattle.vob_journal.specs.Frames.{frames}
-use Rattle.base_core.specs.Opening.{IsDamaged, IsUndamaged}
-use Rattle.base_core.proofs.Damages.{damaged_once}
+use Rattle.base_core.specs.Bases.Opening.{IsDamaged, IsUndamaged}
+use Rattle.base_core.proofs.Bases.Damages.{damaged_once}
 use Rattle.session_run.specs.Asked.{is_run, is_session, text_limit}
 use Rattle.session_run.specs.Causes.{Change, Intake, DiskDamaged, FindsDamage, HasCause, IsToldToOpen, disk_rose}
 use Rattle.session_run.specs.Begun.{is_opened, is_through}

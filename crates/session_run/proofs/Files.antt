@@ -11,8 +11,8 @@ use Rattle.vob_journal.specs.Added.{WritesOn}
 use Rattle.vob_journal.specs.Reads.{SameFiles, SameObjects}
 use Rattle.vob_journal.proofs.Staying.{told_then}
 use Rattle.vob_journal.proofs.Telling.{both_map, both_then}
-use Rattle.base_core.specs.Backed.{is_faulted}
-use Rattle.base_core.specs.Counted.{CountsStep, CountsSteps}
+use Rattle.base_core.specs.Stopping.Backed.{may_be_open}
+use Rattle.base_core.specs.Story.Counted.{CountsStep, CountsSteps}
 use Rattle.session_run.specs.Accounted.{CountsFrom, KeepsFiles, is_calm}
 use Rattle.session_run.specs.Begun.{first_step}
 use Rattle.session_run.specs.Causes.{Change}
@@ -70,13 +70,13 @@ calm_ends s (told.Opened rows counts tells ∷ more) calm = calm_ends (after s (
 calm_ends s (told.Plan phase moment ∷ more) calm = calm_ends (after s (told.Plan phase moment)) more calm
 
 -- a calm story that begins with an opening has no fault
-calm_story : (story : List Told) (first : Told) (more : List Told) → story ≡ first ∷ more → is_calm story ≡ true → (is_calm more ≡ true) × (is_faulted (state_of story).ends ≡ false)
-calm_story story first more is calm = subst (λ s. is_calm s ≡ true → (is_calm more ≡ true) × (is_faulted (state_of s).ends ≡ false)) (sym is) (by first) calm
+calm_story : (story : List Told) (first : Told) (more : List Told) → story ≡ first ∷ more → is_calm story ≡ true → (is_calm more ≡ true) × (may_be_open (state_of story).ends ≡ false)
+calm_story story first more is calm = subst (λ s. is_calm s ≡ true → (is_calm more ≡ true) × (may_be_open (state_of s).ends ≡ false)) (sym is) (by first) calm
   where
-    none : (x : Told) → is_calm more ≡ true → (after start x).ends ≡ [] → is_faulted (state_from (after start x) more).ends ≡ false
-    none x calm empty = ap is_faulted (calm_ends (after start x) more calm ∙ empty)
+    none : (x : Told) → is_calm more ≡ true → (after start x).ends ≡ [] → may_be_open (state_from (after start x) more).ends ≡ false
+    none x calm empty = ap may_be_open (calm_ends (after start x) more calm ∙ empty)
 
-    by : (x : Told) → is_calm (x ∷ more) ≡ true → (is_calm more ≡ true) × (is_faulted (state_of (x ∷ more)).ends ≡ false)
+    by : (x : Told) → is_calm (x ∷ more) ≡ true → (is_calm more ≡ true) × (may_be_open (state_of (x ∷ more)).ends ≡ false)
     by (told.Commit row tick) calm = absurd (cc)
     by (told.Other (steps.Fault tag left before faults tick)) calm = absurd (cc)
     by (told.Other step) calm = (calm, none (told.Other step) calm refl)

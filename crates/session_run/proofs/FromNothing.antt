@@ -7,8 +7,8 @@ use Rattle.cc_names.specs.declared.rows.Tag.{Tag}
 use Rattle.cc_names.specs.declared.steps.Step.TheVariants as steps
 use Rattle.cc_names.specs.declared.steps.Told.{Told}
 use Rattle.cc_names.specs.declared.steps.Told.TheVariants as told
-use Rattle.base_core.proofs.Growing.{state_from-more, legal_more}
-use Rattle.base_core.specs.Replying.{in_lane, reply_to_end, no_replies, replies_after}
+use Rattle.base_core.proofs.Story.Growing.{state_from-more, legal_more}
+use Rattle.base_core.specs.Story.Replying.{in_lane, reply_to_end, no_replies, replies_after}
 use Rattle.legal_history.specs.Stories.Commanded.{IsOfCommand}
 use Rattle.legal_history.specs.Builds.Replied.{reply_of, reply_from_nothing}
 use Rattle.legal_history.specs.Base.Rows.{only_where}

@@ -1,6 +1,6 @@
 -- What the turns of a lane do to the story.
-use Rattle.std.proofs.Common.{◌≡◌, ℕ, ◌-◌, ◌<◌, Bool, true, false, Option, Some, None, Result, Ok, List, [], ◌∷◌, refl, ap, sym, subst, ◌∙◌, arith}
-use Rattle.std.specs.Prelude.{IfSome, IsSome, option_map, option_and_then}
+use Rattle.std.proofs.Common.{◌≡◌, ℕ, ◌-◌, ◌<◌, Bool, true, false, ◌&&◌, Option, Some, None, Result, Ok, List, [], ◌∷◌, refl, ap, ap₂, sym, subst, ◌∙◌, arith}
+use Rattle.std.specs.Prelude.{IfSome, IsSome, not, option_map, option_and_then, unwrap_or}
 use Rattle.cc_names.specs.declared.commands.Command.{Command}
 use Rattle.cc_names.specs.declared.commands.Command.TheVariants as commands
 use Rattle.cc_names.specs.declared.desks.Done.{Done}
@@ -10,21 +10,37 @@ use Rattle.cc_names.specs.declared.refusals.Refusal.{Refusal}
 use Rattle.cc_names.specs.declared.rows.Tag.{Tag}
 use Rattle.cc_names.specs.declared.rows.Deed.{Deed}
 use Rattle.cc_names.specs.declared.rows.Deed.TheVariants as deeds
+use Rattle.cc_names.specs.declared.rows.TypeKind.TheVariants as type_kinds
+use Rattle.cc_names.specs.declared.selection.Picked.{Picked}
 use Rattle.cc_names.specs.declared.selection.Seen.{Seen}
 use Rattle.cc_names.specs.declared.selection.Seen.TheVariants.{Element, Unselected}
 use Rattle.cc_names.specs.declared.steps.Step.TheVariants as steps
 use Rattle.cc_names.specs.declared.steps.Told.{Told}
 use Rattle.cc_names.specs.declared.steps.Told.TheVariants as told
-use Rattle.base_core.proofs.Idle.{decided_is_free}
-use Rattle.base_core.specs.Acting.{Acts, IsStepOf}
+use Rattle.base_core.proofs.Keeping.Idle.{decided_is_free}
+use Rattle.base_core.specs.Calls.Acting.{Acts, IsStepOf}
 use Rattle.carried_out.specs.CarriedOut.{is_carried_out, AreCarriedOut}
-use Rattle.base_core.specs.Going.{SamePhase, Finishes, GoesOn}
-use Rattle.base_core.specs.Nexts.{next_of, next_by, waiting}
+use Rattle.carried_out.specs.Queries.{asks}
+use Rattle.base_core.specs.Calls.Going.{SamePhase, Finishes, GoesOn}
+use Rattle.base_core.specs.Keeping.Nexts.{next_of, next_by, waiting}
 use Rattle.std.proofs.lemmas.List.{append-nil}
 use Rattle.legal_history.specs.Base.Rows.{only_where}
 use Rattle.legal_history.specs.Builds.Active.{build_of}
-use Rattle.legal_history.specs.Commands.Decisions.{Scene, Decision, Makes, unless_refused}
+use Rattle.cc_names.specs.Paths.{root}
+use Rattle.cc_names.specs.References.{held_at}
+use Rattle.legal_history.specs.Base.Changes.{held}
+use Rattle.legal_history.specs.Base.Seen.{at}
+use Rattle.legal_history.specs.Base.Views.{spec_text}
+use Rattle.legal_history.specs.Commands.Decisions.{Scene, Decision, Answers, Makes, answers, first_refusal, past, unless_refused}
+use Rattle.legal_history.specs.Commands.Tests.{needs_view}
+use Rattle.legal_history.specs.Queries.ElementTexts.{describe_text, lsvtree_text}
+use Rattle.legal_history.specs.Queries.HistoryTexts.{lshistory_text}
+use Rattle.legal_history.specs.Queries.ListingTexts.{ls_text, lsdo_text}
+use Rattle.legal_history.specs.Queries.Merges.{findmerge_text}
+use Rattle.legal_history.specs.Queries.QueryLines.{ls_tests, cat_tests, cat_version_tests, findmerge_tests, text_at, text_row, version_seen, answers_of, answers_of_object}
+use Rattle.legal_history.specs.Queries.RecordTexts.{catcr_text, diffcr_text, covers_text, uncovered}
 use Rattle.legal_history.specs.Commands.FileLines.{save_deed}
+use Rattle.legal_history.specs.Commands.Found.{for_object, for_selected}
 use Rattle.legal_history.specs.Commands.Lines.{decision}
 use Rattle.legal_history.specs.Stories.States.{State, start, scene, done_of, with_done, is_next, next_tag, decided, lane_at, build_if, build_by}
 use Rattle.legal_history.specs.Stories.Steps.{after, done_after, done_by_fault, state_of}
@@ -33,7 +49,7 @@ use Rattle.session_run.specs.Lanes.{Goes, GoesInLane, TakesTurn, IsWithin, IsFin
 use Rattle.session_run.proofs.MoreSteps.{state_more, goes_on}
 use Rattle.session_run.proofs.Within.{done_same, done_other, waits_below, waiting_carried, finished_where}
 
--- what is decided finishes the command: its row is none of a build
+-- what is decided finishes the command: its row, where it makes one, is none of a build
 EndsCommand : Option (Result Decision Refusal) → Type 0
 EndsCommand (Some (Ok (Makes deed))) = (done : List (ℕ × ℕ)) (lane : ℕ) → done_after done lane deed ≡ with_done done lane
 EndsCommand decided = Unit {0}
@@ -43,23 +59,90 @@ unfolding EndsCommand
 makes_ends None deed h = h
 makes_ends (Some refusal) deed h = tt
 
+answers_end : (refusal : Option Refusal) (text : List ℕ) → EndsCommand (Some (unless_refused refusal (Answers text)))
+unfolding EndsCommand
+answers_end None text = tt
+answers_end (Some refusal) text = tt
+
+past_ends : (tests : List (Option Refusal)) (chosen : Result Decision Refusal) → EndsCommand (Some chosen) → EndsCommand (Some (past tests chosen))
+unfolding EndsCommand
+past_ends [] chosen h = h
+past_ends (Some refusal ∷ tests) chosen h = tt
+past_ends (None ∷ tests) chosen h = past_ends tests chosen h
+
+selected_ends : (path : List ℕ) (seen : Seen) (more : ℕ → Picked → Result Decision Refusal) → ((e : ℕ) (picked : Picked) → EndsCommand (Some (more e picked))) → EndsCommand (Some (for_selected path seen more))
+unfolding EndsCommand
+selected_ends path (Element e picked) more h = h e picked
+selected_ends path seen more h = tt
+
+object_ends : (path : List ℕ) (found : Option ℕ) (more : ℕ → Result Decision Refusal) → ((id : ℕ) → EndsCommand (Some (more id))) → EndsCommand (Some (for_object path found more))
+unfolding EndsCommand
+object_ends path (Some id) more h = h id
+object_ends path None more h = tt
+
+-- what is answered of the element that a view selects makes no row
+of_selected : (sc : Scene) (v path : List ℕ) (text : ℕ → Picked → List ℕ) → EndsCommand (Some (answers_of sc v path text))
+of_selected sc v path text =
+    past_ends (needs_view sc.base v ∷ []) (for_selected path (at sc.base v path) (λ e picked. answers [] (text e picked)))
+    (selected_ends path (at sc.base v path) (λ e picked. answers [] (text e picked)) (λ e picked. answers_end None (text e picked)))
+
+-- what is answered of the object that a view holds makes no row
+of_object : (sc : Scene) (v path : List ℕ) (text : ℕ → List ℕ) → EndsCommand (Some (answers_of_object sc v path text))
+of_object sc v path text =
+    object_ends path (held_at (held sc.base) v path) (λ id. answers [] (text id)) (λ id. answers_end None (text id))
+
+-- a query makes no row
+query_ends : (sc : Scene) (command : Command) → asks command ≡ true → EndsCommand (Some (decision sc command))
+query_ends sc (commands.Catcs v) h = answers_end (first_refusal (needs_view sc.base v ∷ [])) (unwrap_or (spec_text sc.base v) [])
+query_ends sc (commands.Lsdo v) h = answers_end (first_refusal (needs_view sc.base v ∷ [])) (lsdo_text sc.base v)
+query_ends sc (commands.Ls v path) h = answers_end (first_refusal (ls_tests sc v (unwrap_or path root))) (ls_text sc.base v (unwrap_or path root))
+query_ends sc (commands.Cat v path None) h =
+    answers_end (first_refusal (cat_tests sc v path (at sc.base v path))) (text_at sc.base path (text_row sc.base v path (at sc.base v path)))
+query_ends sc (commands.Cat v path (Some name)) h =
+    answers_end (first_refusal (cat_version_tests sc v path (at sc.base v path) name)) (text_at sc.base path (version_seen sc.base (at sc.base v path) name))
+query_ends sc (commands.Describe v path) h = of_selected sc v path (describe_text sc.base v)
+query_ends sc (commands.Lsvtree v path) h = of_selected sc v path (λ e picked. lsvtree_text sc.base path e)
+query_ends sc (commands.Lshistory v path) h = of_selected sc v path (λ e picked. lshistory_text sc.base e)
+query_ends sc (commands.Catcr v path) h =
+    past_ends (needs_view sc.base v ∷ []) (answers_of_object sc v path (catcr_text sc.base)) (of_object sc v path (catcr_text sc.base))
+query_ends sc (commands.Diffcr v path w second) h =
+    past_ends (needs_view sc.base v ∷ needs_view sc.base w ∷ [])
+    (for_object path (held_at (held sc.base) v path) (λ one. answers_of_object sc w second (diffcr_text sc.base one)))
+    (object_ends path (held_at (held sc.base) v path) (λ one. answers_of_object sc w second (diffcr_text sc.base one)) (λ one. of_object sc w second (diffcr_text sc.base one)))
+query_ends sc (commands.Covers seer v path) h =
+    past_ends (needs_view sc.base seer ∷ needs_view sc.base v ∷ []) (answers_of_object sc v path (λ id. covers_text (uncovered sc.base seer id)))
+    (of_object sc v path (λ id. covers_text (uncovered sc.base seer id)))
+query_ends sc (commands.Findmerge v path branch) h =
+    answers_end (first_refusal (findmerge_tests sc v path branch (at sc.base v path))) (findmerge_text sc.base v path branch)
+query_ends sc command h = absurd (cc)
+
 saves_end : (v path text : List ℕ) (seen : Seen) (done : List (ℕ × ℕ)) (lane : ℕ) → done_after done lane (save_deed v path text seen) ≡ with_done done lane
 saves_end v path text (Element e picked) done lane = refl
 saves_end v path text (Unselected e) done lane = refl
 saves_end v path text seen done lane = refl
 
-decision_ends : (sc : Scene) (command : Command) (tag : Tag) → is_carried_out command ≡ true → next_by (Some command) tag ≡ nexts.Act → EndsCommand (Some (decision sc command))
+decision_ends : (sc : Scene) (command : Command) (tag : Tag) → (not (asks command) && is_carried_out command) ≡ true → next_by (Some command) tag ≡ nexts.Act → EndsCommand (Some (decision sc command))
 decision_ends sc (commands.Mkview v) tag h acts = makes_ends _ (deeds.Mkview v) (λ done lane. refl)
 decision_ends sc (commands.Rmview v force) tag h acts = makes_ends _ (deeds.Rmview v) (λ done lane. refl)
 decision_ends sc (commands.Save v path text) tag h acts = makes_ends _ _ (saves_end v path text _)
+decision_ends sc (commands.Rm v path) tag h acts = makes_ends _ (deeds.Rm v path) (λ done lane. refl)
+decision_ends sc (commands.Mklbtype name) tag h acts = makes_ends _ (deeds.Mktype type_kinds.Label name) (λ done lane. refl)
+decision_ends sc (commands.Mkbrtype name) tag h acts = makes_ends _ (deeds.Mktype type_kinds.Branch name) (λ done lane. refl)
 decision_ends sc (commands.Clearmake v file own_only rebuild jobs macros goals) tag h acts = absurd (cc)
 decision_ends sc command tag h acts = absurd (cc)
+
+command_ends : (sc : Scene) (command : Command) (tag : Tag) → is_carried_out command ≡ true → next_by (Some command) tag ≡ nexts.Act → EndsCommand (Some (decision sc command))
+command_ends sc command tag h acts = by (asks command) refl
+  where
+    by : (query : Bool) → asks command ≡ query → EndsCommand (Some (decision sc command))
+    by true is = query_ends sc command is
+    by false is = decision_ends sc command tag (ap₂ ◌&&◌ (ap not is) h) acts
 
 found_ends : (sc : Scene) (is : Bool) (found : Option Command) (tag : Tag) → IfSome found (λ command. is_carried_out command ≡ true) → next_by found tag ≡ nexts.Act → EndsCommand (option_map (decision sc) (only_where is found))
 unfolding EndsCommand
 found_ends sc false found tag h acts = tt
 found_ends sc true None tag h acts = tt
-found_ends sc true (Some command) tag h acts = decision_ends sc command tag h acts
+found_ends sc true (Some command) tag h acts = command_ends sc command tag h acts
 
 decided_ends : (s : State) (lane : ℕ) → AreCarriedOut s.phase → next_of s lane ≡ nexts.Act → EndsCommand (decided s (next_tag s lane))
 decided_ends s lane h acts = found_ends (scene s) (is_next s (next_tag s lane)) (waiting s lane) (next_tag s lane) (waiting_carried s lane h) acts

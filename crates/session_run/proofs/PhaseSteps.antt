@@ -7,7 +7,7 @@ use Rattle.cc_names.specs.declared.steps.Told.{Told}
 use Rattle.cc_names.specs.declared.steps.Told.TheVariants as told
 use Rattle.legal_history.specs.Stories.States.{start, done_of, lane_at, all_done}
 use Rattle.legal_history.specs.Stories.Steps.{after, state_of}
-use Rattle.base_core.specs.Replying.{no_replies, replies_after}
+use Rattle.base_core.specs.Story.Replying.{no_replies, replies_after}
 use Rattle.session_run.specs.Begun.{phases_begun, moments_begun, first_step, is_opened}
 use Rattle.session_run.specs.Rendered.{earlier_phases, last_phase, replies_over}
 use Rattle.session_run.specs.Lanes.{Goes, GoesInLane, GoesInLanes, GoesInPhase, RunsPhase, LeavesPhase, IsWithin, IsFinished, count_of}

@@ -20,11 +20,11 @@ use Rattle.disk_model.specs.Told.{Sight, Both, IsCounted}
 use Rattle.vob_journal.specs.Reads.{SameFiles}
 use Rattle.vob_journal.proofs.Staying.{told_stay}
 use Rattle.vob_journal.specs.Frames.{frames}
-use Rattle.base_core.specs.Backed.{IsAccounted, is_faulted}
-use Rattle.base_core.specs.Counted.{KeepsCount}
-use Rattle.base_core.specs.Opening.{FailsToOpen, Opens, StopsBy}
-use Rattle.base_core.specs.Shown.{Shown}
-use Rattle.base_core.specs.Telling.{oldest_first}
+use Rattle.base_core.specs.Stopping.Backed.{IsAccounted, may_be_open}
+use Rattle.base_core.specs.Story.Counted.{KeepsCount}
+use Rattle.base_core.specs.Bases.Opening.{FailsToOpen, OpensCore, StopsBy}
+use Rattle.base_core.specs.Story.Shown.{Shown}
+use Rattle.base_core.specs.Story.Telling.{oldest_first}
 use Rattle.base_core.specs.declared.opening.OpenCause.{OpenCause}
 use Rattle.base_core.specs.declared.opening.OpenCause.TheVariants as opens
 use Rattle.legal_history.specs.Stories.Steps.{state_of}
@@ -35,7 +35,7 @@ use Rattle.session_run.specs.FromNothing.{text_from_nothing}
 use Rattle.session_run.specs.Begun.{IsFront, first_step, is_opened, is_through, phases_begun, moments_begun}
 use Rattle.session_run.specs.Headline.{BeginsOn, IsSession, ReadsClock, IsOneHistory, AreFromNothing, ArePrinted, clock_moments}
 use Rattle.session_run.specs.Rendered.{rendered}
-use Rattle.session_run.specs.Runs.{IsJustOpened, Outside, HasRun, HasRunSo, IsGivenUp, OnWriteFault, run_status}
+use Rattle.session_run.specs.Runs.{IsJustOpened, Outside, HasRunPhases, HasRunSo, IsRunGivenUp, OnWriteFault, run_status}
 use Rattle.session_run.specs.Statuses.{is_cut, status_line}
 use Rattle.session_run.specs.Outcomes.{RunsOpened, RunsSession}
 use Rattle.session_run.specs.Stopped.{AllOpenAgain, IsHandedIn, IsMended, IsStopped}
@@ -45,7 +45,7 @@ use Rattle.session_run.specs.declared.sessions.Stop.{Stop}
 use Rattle.session_run.specs.declared.sessions.Stop.TheVariants as stops
 use Rattle.session_run.specs.declared.statuses.Status.{Status}
 use Rattle.session_run.specs.declared.statuses.Status.TheVariants as statuses
-use Rattle.base_core.proofs.Damages.{undamaged_on}
+use Rattle.base_core.proofs.Bases.Damages.{undamaged_on}
 use Rattle.session_run.proofs.Blaming.{blamed}
 use Rattle.session_run.proofs.FromNothing.{Laws, are_from_nothing}
 use Rattle.session_run.proofs.Running.{clock_length, raised_none}
@@ -69,7 +69,7 @@ abbrev readings_of : Outside → Change ℕ
 readings_of outside = record { before = outside.first; after = outside.reading }
 
 -- The session, where the phases were run
-session_run : (status : Status) (story : List Told) (phases : List Phase) (intake : Intake) (outside : Outside) (failed : Bool) → GivesPhases intake phases → HasRun phases story outside failed → IsSession status story intake outside.moments (readings_of outside)
+session_run : (status : Status) (story : List Told) (phases : List Phase) (intake : Intake) (outside : Outside) (failed : Bool) → GivesPhases intake phases → HasRunPhases phases story outside failed → IsSession status story intake outside.moments (readings_of outside)
 session_run status story phases intake outside failed gives ran = record {
   begun = λ words. told_so intake.text.before _ (λ bytes. IsFront (phases_begun story) (phases_spelled bytes)) gives.spelled (λ bytes e. ([], e ∙ sym ran.phases_are ∙ sym (append-nil (phases_begun story))));
   all = λ words through. told_so intake.text.before _ (λ bytes. phases_begun story ≡ phases_spelled bytes) gives.spelled (λ bytes e. ran.phases_are ∙ sym e);
@@ -80,7 +80,7 @@ session_run status story phases intake outside failed gives ran = record {
   read = let times = ran.reading_is ∙ ap (raised outside.first) (sym (ap length ran.phases_are)) in record { once = λ other. times; most = inl times };
 }
 
-session_cut : (status : Status) (cut : Or WriteFault) (story : List Told) (phases : List Phase) (intake : Intake) (outside : Outside) → is_through status story ≡ false → GivesPhases intake phases → IsGivenUp cut phases story outside → ReadsClock status story (readings_of outside) → IsSession status story intake outside.moments (readings_of outside)
+session_cut : (status : Status) (cut : Or WriteFault) (story : List Told) (phases : List Phase) (intake : Intake) (outside : Outside) → is_through status story ≡ false → GivesPhases intake phases → IsRunGivenUp cut phases story outside → ReadsClock status story (readings_of outside) → IsSession status story intake outside.moments (readings_of outside)
 session_cut status cut story phases intake outside not gives left read = record {
   begun = λ words. told_so intake.text.before _ (λ bytes. IsFront (phases_begun story) (phases_spelled bytes)) gives.spelled (λ bytes e. (left.begun.0, e ∙ left.begun.1));
   all = λ words through. not_false (is_through status story) through not;
@@ -167,7 +167,7 @@ run_printed (Err NoMemory) rose story phases intake outside faults disk left = p
 run_printed (Err (Is fault)) rose story phases intake outside faults disk left = printed_front _ story intake faults disk outside.held outside.holds left.opened refl left.written
 
 -- The cause
-whole : (intake : Intake) (story : List Told) (phases : List Phase) (outside : Outside) (failed : Bool) → GivesPhases intake phases → HasRun phases story outside failed → IsWhole intake story
+whole : (intake : Intake) (story : List Told) (phases : List Phase) (outside : Outside) (failed : Bool) → GivesPhases intake phases → HasRunPhases phases story outside failed → IsWhole intake story
 whole intake story phases outside failed gives ran =
     record { read = gives.read; session = gives.session; opened = ran.opened; finished = ran.finished }
 
@@ -187,18 +187,18 @@ no_error : SessionError
 no_error = record { line = 0; cause = causes.NoPhase }
 
 -- the steps since a base was opened, and the settling of its journal, have the disk's counts
-counts_from : (one ran : Shown) (settled : List Told) (sight : Sight) → IsJustOpened one.story → KeepsCount one ran → settled ≡ ran.story → Settles (is_faulted (state_of ran.story).ends) ran.sight sight → CountsFrom one.sight sight settled
+counts_from : (one ran : Shown) (settled : List Told) (sight : Sight) → IsJustOpened one.story → KeepsCount one ran → settled ≡ ran.story → Settles (may_be_open (state_of ran.story).ends) ran.sight sight → CountsFrom one.sight sight settled
 counts_from one ran settled sight just keeps same settles = record {
   first = told.Opened just.rows just.counts just.tells;
   steps = keeps.steps;
   ended = ran.sight;
   story_is = same ∙ keeps.grows ∙ ap (λ story. story ++ keeps.steps) just.is;
   counts = keeps.counts;
-  settled = subst (λ story. Settles (is_faulted (state_of story).ends) ran.sight sight) (sym same) settles;
+  settled = subst (λ story. Settles (may_be_open (state_of story).ends) ran.sight sight) (sym same) settles;
 }
 
 -- a base was opened, and this is what became of it: the story as it was when the journal was settled is the one that was run
-pub runs_opened : (laws : Laws) (result : Result Bool (Or WriteFault)) (phases : List Phase) (status : Status) (first : Option Told) (one ran : Shown) (settled history : List Told) (before : ℕ) (sight now : Sight) (outside : Outside) (faults : Change ℕ) → let story = ran.story in IsJustOpened one.story → KeepsCount one ran → Settles (is_faulted (state_of ran.story).ends) ran.sight sight → settled ≡ story → history ≡ settled → now ≡ sight → status ≡ run_status result (rises before sight.faults) → first_step story ≡ first → Legal settled → IfOk result (HasRun phases story outside) → IfErr result (λ cut. IsGivenUp cut phases story outside) → OnWriteFault result (Rose faults.before faults.after) → IsAccounted (state_of settled) sight → IsMended (state_of settled) sight → AllOpenAgain settled → RunsOpened phases status first history before (record { before = one.sight; after = now }) outside faults
+pub runs_opened : (laws : Laws) (result : Result Bool (Or WriteFault)) (phases : List Phase) (status : Status) (first : Option Told) (one ran : Shown) (settled history : List Told) (before : ℕ) (sight now : Sight) (outside : Outside) (faults : Change ℕ) → let story = ran.story in IsJustOpened one.story → KeepsCount one ran → Settles (may_be_open (state_of ran.story).ends) ran.sight sight → settled ≡ story → history ≡ settled → now ≡ sight → status ≡ run_status result (rises before sight.faults) → first_step story ≡ first → Legal settled → IfOk result (HasRunPhases phases story outside) → IfErr result (λ cut. IsRunGivenUp cut phases story outside) → OnWriteFault result (Rose faults.before faults.after) → IsAccounted (state_of settled) sight → IsMended (state_of settled) sight → AllOpenAgain settled → RunsOpened phases status first history before (record { before = one.sight; after = now }) outside faults
 runs_opened laws result phases status first one ran settled history before sight now outside faults just keeps settles kept same seen is begins legal done left wrote accounted mended again =
     subst (λ s. RunsOpened phases status first s before (record { before = one.sight; after = now }) outside faults) (sym same)
     (subst (λ d. RunsOpened phases status first settled before (record { before = one.sight; after = d }) outside faults) (sym seen)
@@ -216,7 +216,7 @@ runs_opened laws result phases status first one ran settled history before sight
       counted = counts_from one ran settled sight just keeps kept settles;
     }))
   where
-    ran_so : (r : Result Bool (Or WriteFault)) → IfOk r (HasRun phases ran.story outside) → IfErr r (λ cut. IsGivenUp cut phases ran.story outside) → HasRunSo r phases ran.story outside
+    ran_so : (r : Result Bool (Or WriteFault)) → IfOk r (HasRunPhases phases ran.story outside) → IfErr r (λ cut. IsRunGivenUp cut phases ran.story outside) → HasRunSo r phases ran.story outside
     ran_so (Ok failed) one two = one
     ran_so (Err cut) one two = two
 
@@ -388,7 +388,7 @@ promised_run phases status story intake outside faults disk was now gives (inr c
     (promised_closed closed.because status intake outside faults disk closed.unread (asked intake phases gives) closed.fails closed.wrote)
 
 -- a base that was just opened, and its story since
-pub begins_on : (disk opened : Sight) (one story : List Told) (first : Option Told) → Opens disk one opened → first ≡ first_step one → first_step story ≡ first → BeginsOn disk story
+pub begins_on : (disk opened : Sight) (one story : List Told) (first : Option Told) → OpensCore disk one opened → first ≡ first_step one → first_step story ≡ first → BeginsOn disk story
 begins_on disk opened one story first opens is same = record {
   base = opens.base;
   handed = opens.handed;
@@ -396,5 +396,5 @@ begins_on disk opened one story first opens is same = record {
   first = same ∙ is ∙ ap first_step opens.story_is;
 }
 
-pub just_opened : (disk opened : Sight) (story : List Told) → Opens disk story opened → IsJustOpened story
+pub just_opened : (disk opened : Sight) (story : List Told) → OpensCore disk story opened → IsJustOpened story
 just_opened disk opened story opens = record { rows = oldest_first opens.base; counts = opens.handed.counts; tells = opens.handed.tells; is = opens.story_is }

@@ -19,12 +19,12 @@ use Rattle.cc_outside.specs.declared.sinks.WriteFault.{WriteFault}
 use Rattle.legal_history.specs.Stories.States.{State, all_done, start}
 use Rattle.legal_history.specs.Stories.Steps.{after, state_of}
 use Rattle.legal_history.specs.Stories.Lawful.{last_moment}
-use Rattle.base_core.specs.Replying.{replies_after, replies_from, replies_of, no_replies}
+use Rattle.base_core.specs.Story.Replying.{replies_after, replies_from, replies_of, no_replies}
 use Rattle.session_run.specs.Begun.{phases_begun, moments_begun, is_opened}
 use Rattle.session_run.specs.Headline.{IsCutAtLast, clock_moments}
 use Rattle.session_run.specs.Rendered.{EndedPhase, Replies, earlier_phases, ended_phases, replies_over, last_phase, phase_where, is_ended, transcript, transcript_of, transcripts, lanes_fail, phase_fails}
 use Rattle.session_run.specs.Lanes.{GoesInPhase, RunsPhase, LeavesPhase}
-use Rattle.session_run.specs.Runs.{IsJustOpened, Outside, HasRun, IsCutBy, IsGivenUp, ReadsBy}
+use Rattle.session_run.specs.Runs.{IsJustOpened, Outside, HasRunPhases, IsCutBy, IsRunGivenUp, ReadsBy}
 
 -- what a clock may tell
 if_told : (clock : Option (List ℕ)) (P : List ℕ → Type 0) → ((told : List ℕ) → P told) → IfSome clock P
@@ -136,7 +136,7 @@ failures_more old new phase moment number before now goes done e was is =
     ∙ ap₂ (λ a b. a || b) was (one_fails (ended_as new number) ∙ sym is)
 
 -- nothing has been run
-pub run_starts : (story : List Told) (held clock : Option (List ℕ)) (first : ℕ) → IsJustOpened story → HasRun [] story (record { held = held; holds = held; moments = clock; first = first; reading = first }) false
+pub run_starts : (story : List Told) (held clock : Option (List ℕ)) (first : ℕ) → IsJustOpened story → HasRunPhases [] story (record { held = held; holds = held; moments = clock; first = first; reading = first }) false
 run_starts story held clock first just = record {
   opened = ap is_opened is;
   phases_are = ap phases_begun is;
@@ -160,7 +160,7 @@ moments_on told old new first reading count moment is before at now =
     is ∙ ap₂ (λ ms m. ms ++ m ∷ []) before (now ∙ ap (λ r. min (moment_at told r) last_moment) at) ∙ sym (clock_more told first count)
 
 -- one phase more has been run
-pub run_goes_on : (phases : List Phase) (phase : Phase) (old new : List Told) (outside : Outside) (holds : Option (List ℕ)) (reading moment number : ℕ) (failed more : Bool) → HasRun phases old outside failed → RunsPhase phase moment old new → more ≡ lanes_fail 1 (state_of new).phase.lanes (replies_of new) → IfSome outside.moments (λ told. moment ≡ min (moment_at told outside.reading) last_moment) → reading ≡ raised outside.reading 1 → number ≡ length phases + 1 → Appends outside.holds holds (transcript number (state_of new).phase (replies_of new)) → HasRun (phases ++ phase ∷ []) new (record { held = outside.held; holds = holds; moments = outside.moments; first = outside.first; reading = reading }) (failed || more)
+pub run_goes_on : (phases : List Phase) (phase : Phase) (old new : List Told) (outside : Outside) (holds : Option (List ℕ)) (reading moment number : ℕ) (failed more : Bool) → HasRunPhases phases old outside failed → RunsPhase phase moment old new → more ≡ lanes_fail 1 (state_of new).phase.lanes (replies_of new) → IfSome outside.moments (λ told. moment ≡ min (moment_at told outside.reading) last_moment) → reading ≡ raised outside.reading 1 → number ≡ length phases + 1 → Appends outside.holds holds (transcript number (state_of new).phase (replies_of new)) → HasRunPhases (phases ++ phase ∷ []) new (record { held = outside.held; holds = holds; moments = outside.moments; first = outside.first; reading = reading }) (failed || more)
 run_goes_on phases phase old new outside holds reading moment number failed more so_far runs fails told reads count wrote = record {
   opened = runs.goes.opened;
   phases_are = runs.goes.phases ∙ ap (λ ps. ps ++ phase ∷ []) so_far.phases_are;
@@ -195,7 +195,7 @@ read_by NoMemory count outside is = inl is
 read_by (Is fault) count outside is = is
 
 -- the run was given up for want of memory
-pub run_leaves : (phases rest all : List Phase) (phase : Phase) (old new : List Told) (outside : Outside) (moment reading : ℕ) (failed : Bool) → HasRun phases old outside failed → LeavesPhase phase moment old new → IfSome outside.moments (λ told. moment ≡ min (moment_at told outside.reading) last_moment) → phases ++ phase ∷ rest ≡ all → reading ≡ raised outside.reading 1 → IsGivenUp NoMemory all new (record outside { reading = reading })
+pub run_leaves : (phases rest all : List Phase) (phase : Phase) (old new : List Told) (outside : Outside) (moment reading : ℕ) (failed : Bool) → HasRunPhases phases old outside failed → LeavesPhase phase moment old new → IfSome outside.moments (λ told. moment ≡ min (moment_at told outside.reading) last_moment) → phases ++ phase ∷ rest ≡ all → reading ≡ raised outside.reading 1 → IsRunGivenUp NoMemory all new (record outside { reading = reading })
 run_leaves phases rest all phase old new outside moment reading failed so_far (inl is) told whole reads = record {
   opened = ap is_opened is ∙ so_far.opened;
   begun = (phase ∷ rest, sym whole ∙ ap (λ ps. ps ++ phase ∷ rest) (sym (ap phases_begun is ∙ so_far.phases_are)));
@@ -229,7 +229,7 @@ cut_in NoMemory story old new h = tt
 cut_in (Is fault) story old new h = h
 
 -- the run was given up in a transcript
-pub run_is_cut : (cut : Or WriteFault) (phases rest all : List Phase) (phase : Phase) (old new : List Told) (outside : Outside) (holds : Option (List ℕ)) (moment reading number : ℕ) (failed : Bool) → HasRun phases old outside failed → RunsPhase phase moment old new → IfSome outside.moments (λ told. moment ≡ min (moment_at told outside.reading) last_moment) → number ≡ length phases + 1 → phases ++ phase ∷ rest ≡ all → AppendsFront outside.holds holds (transcript number (state_of new).phase (replies_of new)) → reading ≡ raised outside.reading 1 → IsGivenUp cut all new (record outside { holds = holds; reading = reading })
+pub run_is_cut : (cut : Or WriteFault) (phases rest all : List Phase) (phase : Phase) (old new : List Told) (outside : Outside) (holds : Option (List ℕ)) (moment reading number : ℕ) (failed : Bool) → HasRunPhases phases old outside failed → RunsPhase phase moment old new → IfSome outside.moments (λ told. moment ≡ min (moment_at told outside.reading) last_moment) → number ≡ length phases + 1 → phases ++ phase ∷ rest ≡ all → AppendsFront outside.holds holds (transcript number (state_of new).phase (replies_of new)) → reading ≡ raised outside.reading 1 → IsRunGivenUp cut all new (record outside { holds = holds; reading = reading })
 run_is_cut cut phases rest all phase old new outside holds moment reading number failed so_far runs told count whole wrote reads =
     let begun : phases_begun new ≡ phases ++ phase ∷ [] = runs.goes.phases ∙ ap (λ ps. ps ++ phase ∷ []) so_far.phases_are in
     record {

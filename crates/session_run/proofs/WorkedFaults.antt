@@ -1,5 +1,5 @@
 -- Whose fault it was, worked out by hand: a row is committed, the disk fails under the next, and a third is committed.
-use Rattle.std.proofs.Common.{◌≡◌, ℕ, true, false, None, List, [], ◌∷◌, ◌++◌, reverse, refl, arith}
+use Rattle.std.proofs.Common.{◌≡◌, ℕ, true, false, Some, None, List, [], ◌∷◌, ◌++◌, reverse, refl, arith}
 use Rattle.std.specs.Prelude.{codes}
 use Rattle.cc_names.specs.Formed.{Plain}
 use Rattle.cc_names.specs.declared.rows.Deed.TheVariants as deeds
@@ -38,14 +38,31 @@ opened = told.Opened [] no_counts true
 fault : ℕ → ℕ → ℕ → ℕ → Told
 fault command before faults tick = told.Other (steps.Fault (tag command) None before faults tick)
 
+-- one whose row may be found until the tail is settled
+leaving : ℕ → ℕ → ℕ → ℕ → Told
+leaving command before faults tick = told.Other (steps.Fault (tag command) (Some (row command)) before faults tick)
+
 good : IsBlamed 0 (opened ∷ told.Commit (row 1) 5 ∷ fault 2 0 1 7 ∷ told.Commit (row 3) 13 ∷ []) (device calls)
 unfolding device calls put opened fault
-good = record { opening = refl; ends = (refl, (λ within. (refl, refl, omega arith), (refl, omega arith))) }
+good = record { opening = refl; ends = (refl, (λ within. (refl, refl, refl), (refl, tt))); behind = refl }
 
--- as the journal is settled behind the last fault one more call may fail
-settling : IsBlamed 0 (opened ∷ told.Commit (row 1) 5 ∷ fault 2 0 1 7 ∷ []) (device (Measured 0 ∷ put ++ put ++ Wrote 0 0 1 (0 ∷ []) ∷ Failed ∷ Failed ∷ []))
+-- the first two commands of a session, the second of which fails at its last sync, and then these calls
+broken : List Event → Device
+broken more = device (Measured 0 ∷ put ++ put ++ put ++ Wrote 0 0 1 (0 ∷ []) ∷ Failed ∷ more)
+
+-- the tail that it left open is settled, or a call of that fails
+settling : IsBlamed 0 (opened ∷ told.Commit (row 1) 5 ∷ leaving 2 0 1 9 ∷ []) (broken put)
+unfolding device broken put opened leaving
+settling = record { opening = refl; ends = (refl, (λ within. (refl, refl, refl), tt)); behind = (omega arith, omega arith) }
+
+settling_fails : IsBlamed 0 (opened ∷ told.Commit (row 1) 5 ∷ leaving 2 0 1 9 ∷ []) (broken (Failed ∷ []))
+unfolding device broken put opened leaving
+settling_fails = record { opening = refl; ends = (refl, (λ within. (refl, refl, refl), tt)); behind = (omega arith, omega arith) }
+
+-- so it is where the first command failed as it settled a tail that was opened open
+as_opened : IsBlamed 0 (opened ∷ fault 1 0 1 2 ∷ []) (device (Measured 0 ∷ Failed ∷ put))
 unfolding device put opened fault
-settling = record { opening = refl; ends = (refl, (λ within. (refl, refl, omega arith), omega arith)) }
+as_opened = record { opening = refl; ends = (λ within. (refl, refl, refl), tt); behind = (omega arith, omega arith) }
 
 -- The dodge: a failed append is tried once more, its row committed by tick 9, and the fault told of the next command, at
 -- whatever tick and with whatever counts.
@@ -56,7 +73,35 @@ dodge before faults tick h = absurd (omega (arith, h.ends.0))
 -- or it is told of no command
 unblamed : IsBlamed 0 (opened ∷ told.Commit (row 1) 5 ∷ []) (device (Measured 0 ∷ put ++ put ++ Failed ∷ [])) → ⊥
 unfolding device put opened
-unblamed h = absurd (omega (arith, h.ends.1))
+unblamed h = absurd (omega (arith, h.behind))
+
+-- Or the fault before takes it in: the sync of tick 7 fails under command 2, the write of tick 8 under command 3, which is answered by
+-- something else, and the fault is told with both.
+taken_in : (before faults : ℕ) → IsBlamed 0 (opened ∷ told.Commit (row 1) 5 ∷ fault 2 before faults 8 ∷ []) (device (Measured 0 ∷ put ++ put ++ Wrote 0 0 1 (0 ∷ []) ∷ Failed ∷ Failed ∷ [])) → ⊥
+unfolding device put opened fault
+taken_in before faults h =
+    let meets = h.ends.1.0 (omega arith) in
+    absurd (omega (arith, meets.0, meets.1, meets.2))
+
+-- Or it hides behind the last fault, which left nothing: the write of tick 8 fails under command 3, which is answered by want of
+-- memory.
+hidden : IsBlamed 0 (opened ∷ told.Commit (row 1) 5 ∷ fault 2 0 1 7 ∷ []) (device (Measured 0 ∷ put ++ put ++ Wrote 0 0 1 (0 ∷ []) ∷ Failed ∷ Failed ∷ [])) → ⊥
+unfolding device put opened fault
+hidden h = absurd (omega (arith, h.behind))
+
+-- or behind one that left a row, and the tail is settled then, or that fails too
+hidden_and_settled : IsBlamed 0 (opened ∷ told.Commit (row 1) 5 ∷ leaving 2 0 1 9 ∷ []) (broken (Failed ∷ put)) → ⊥
+unfolding device broken put opened leaving
+hidden_and_settled h = absurd (omega (arith, h.behind.0))
+
+hidden_and_not_settled : IsBlamed 0 (opened ∷ told.Commit (row 1) 5 ∷ leaving 2 0 1 9 ∷ []) (broken (Failed ∷ Failed ∷ [])) → ⊥
+unfolding device broken put opened leaving
+hidden_and_not_settled h = absurd (omega (arith, h.behind.1))
+
+-- no call stands behind the last commit, whether it failed or not
+behind_commit : IsBlamed 0 (opened ∷ told.Commit (row 1) 5 ∷ []) (device (Measured 0 ∷ put ++ put ++ put)) → ⊥
+unfolding device put opened
+behind_commit h = absurd (omega (arith, h.behind))
 
 -- a fault under which no call failed
 made_up : IsBlamed 0 (opened ∷ fault 1 0 1 5 ∷ []) (device (Measured 0 ∷ put ++ put)) → ⊥

@@ -1,24 +1,25 @@
 -- What a history says of the device calls of its session: which command met which fault, and what became of the files.
-use Rattle.std.specs.Prelude.{◌≡◌, ◌⊎◌, Bool, true, false, List, [], ◌∷◌}
+use Rattle.std.specs.Prelude.{◌≡◌, ◌≤◌, ◌+◌, ◌⊎◌, Bool, true, false, List, [], ◌∷◌}
 use Rattle.cc_names.specs.declared.steps.Step.TheVariants as steps
 use Rattle.cc_names.specs.declared.steps.Told.{Told}
 use Rattle.cc_names.specs.declared.steps.Told.TheVariants as told
-use Rattle.disk_model.specs.Counting.{raised}
+use Rattle.disk_model.specs.Counting.{next_count}
 use Rattle.disk_model.specs.Told.{Sight, IfTold, Both}
 use Rattle.legal_history.specs.Stories.Steps.{state_of}
 use Rattle.vob_journal.specs.Added.{WritesOn}
 use Rattle.vob_journal.specs.Reads.{SameFiles, SameObjects}
-use Rattle.base_core.specs.Backed.{is_faulted}
-use Rattle.base_core.specs.Counted.{CountsSteps}
+use Rattle.base_core.specs.Stopping.Backed.{may_be_open}
+use Rattle.base_core.specs.Story.Counted.{CountsSteps}
 use Rattle.session_run.specs.Blamed.{IsBlamed}
 use Rattle.session_run.specs.Causes.{Change}
 
--- A journal was settled: at most one fault more was counted, no call read, the file of objects is as it was, and where no fault
--- had left its tail open no call was made.
-pub record Settles (faulted : Bool) (old new : Sight) : Type 0 where
-  pub faults : (new.faults ≡ old.faults) ⊎ (new.faults ≡ raised old.faults)
+-- A journal was settled: at most two calls were made, at most one fault more was counted, no call read, the file of objects is
+-- as it was, and where no fault may have left its tail open no call was made.
+pub record Settles (ajar : Bool) (old new : Sight) : Type 0 where
+  pub few : new.ticks ≤ old.ticks + 2
+  pub faults : (new.faults ≡ old.faults) ⊎ (new.faults ≡ next_count old.faults)
   pub writes : Both WritesOn old.told new.told
-  pub rests : faulted ≡ false → new ≡ old
+  pub rests : ajar ≡ false → new ≡ old
 
 -- The steps of a history behind its first, from the disk as the base was opened to the disk as it came back. The disk was
 -- called within commits and faults alone, and each of these has its counts as its own call began and as it ended. Behind the
@@ -29,7 +30,7 @@ pub record CountsFrom (opened after : Sight) (story : List Told) : Type 0 where
   pub ended : Sight
   pub story_is : story ≡ first ∷ steps
   pub counts : CountsSteps steps opened ended
-  pub settled : Settles (is_faulted (state_of story).ends) ended after
+  pub settled : Settles (may_be_open (state_of story).ends) ended after
 
 -- *Whose fault*: opening counted no fault, and from then on the count rose at the faults of the history, and once more at most as
 -- the journal was settled, by the counts of some disk between one step and the next. Where the disk tells its device, the calls

@@ -9,7 +9,7 @@ use Rattle.legal_history.specs.Builds.Replied.{reply_from_nothing}
 use Rattle.legal_history.specs.Base.Rows.{Base}
 use Rattle.legal_history.specs.Builds.Active.{Build}
 use Rattle.legal_history.specs.Stories.States.{State, build_by}
-use Rattle.base_core.specs.Replying.{replies_by, in_lane}
+use Rattle.base_core.specs.Story.Replying.{replies_by, in_lane}
 use Rattle.session_run.specs.Rendered.{Replies, ended_over, transcripts}
 
 -- the reply to a command that built, by the build from nothing, or that the disk failed under it

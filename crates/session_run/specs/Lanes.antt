@@ -4,8 +4,8 @@ use Rattle.cc_names.specs.declared.commands.Lane.{Lane}
 use Rattle.cc_names.specs.declared.commands.Phase.{Phase}
 use Rattle.cc_names.specs.declared.memory.NoMemory.{NoMemory}
 use Rattle.cc_names.specs.declared.steps.Told.{Told}
-use Rattle.base_core.specs.Going.{Finishes, GoesOn}
-use Rattle.base_core.specs.Nexts.{waiting}
+use Rattle.base_core.specs.Calls.Going.{Finishes, GoesOn}
+use Rattle.base_core.specs.Keeping.Nexts.{waiting}
 use Rattle.legal_history.specs.Stories.States.{State, all_done, done_of, lane_at}
 use Rattle.legal_history.specs.Stories.Steps.{state_of}
 use Rattle.session_run.specs.Begun.{phases_begun, moments_begun, first_step, is_opened}

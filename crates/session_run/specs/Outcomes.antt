@@ -10,8 +10,8 @@ use Rattle.vob_journal.specs.Added.{Adds, may_read}
 use Rattle.vob_journal.specs.Reads.{SameFiles}
 use Rattle.legal_history.specs.Stories.Steps.{state_of}
 use Rattle.legal_history.specs.Stories.Lawful.{Legal}
-use Rattle.base_core.specs.Backed.{IsAccounted}
-use Rattle.base_core.specs.Opening.{FailsToOpen}
+use Rattle.base_core.specs.Stopping.Backed.{IsAccounted}
+use Rattle.base_core.specs.Bases.Opening.{FailsToOpen}
 use Rattle.base_core.specs.declared.opening.OpenCause.{OpenCause}
 use Rattle.session_run.specs.Accounted.{CountsFrom}
 use Rattle.session_run.specs.Causes.{Change, disk_rose}

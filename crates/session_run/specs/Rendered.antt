@@ -13,7 +13,7 @@ use Rattle.cc_names.specs.declared.steps.Told.TheVariants as told
 use Rattle.reply_text.specs.Replies.{render, is_made_line}
 use Rattle.legal_history.specs.Stories.States.{State, all_done, start}
 use Rattle.legal_history.specs.Stories.Steps.{after, state_of}
-use Rattle.base_core.specs.Replying.{replies_after, no_replies}
+use Rattle.base_core.specs.Story.Replying.{replies_after, no_replies}
 
 -- the replies to the commands of each lane
 abbrev pub Replies : Type 0

@@ -32,14 +32,14 @@ pub record IsJustOpened (story : List Told) : Type 0 where
   pub is : story ≡ told.Opened rows counts tells ∷ []
 
 -- a phase that can be run: it has the form of one, and each of its commands is carried out
-pub record IsReady (phase : Phase) : Type 0 where
+pub record IsReadyPhase (phase : Phase) : Type 0 where
   pub formed : IsPhase text_limit phase
   pub carried_out : AreCarriedOut phase
 
 -- a session whose phases can be run
 pub record IsRunnable (phases : List Phase) : Type 0 where
   pub few : length phases ≤ text_limit
-  pub ready : AllByRecursion IsReady phases
+  pub ready : AllByRecursion IsReadyPhase phases
 
 -- the outside of a run: what the sink held and holds, what the clock tells, and its reading then and now
 pub record Outside : Type 0 where
@@ -55,7 +55,7 @@ outside_of sink new_sink clock new_clock =
     record { held = sink.held; holds = new_sink.held; moments = clock.told; first = clock.readings; reading = new_clock.readings }
 
 -- these phases have been run, and their transcripts written
-pub record HasRun (phases : List Phase) (story : List Told) (outside : Outside) (failed : Bool) : Type 0 where
+pub record HasRunPhases (phases : List Phase) (story : List Told) (outside : Outside) (failed : Bool) : Type 0 where
   pub opened : is_opened story ≡ true
   pub phases_are : phases_begun story ≡ phases
   pub number : (state_of story).number ≡ length phases
@@ -76,7 +76,7 @@ ReadsBy NoMemory count outside = (outside.reading ≡ raised outside.first count
 ReadsBy (Is fault) count outside = outside.reading ≡ raised outside.first count
 
 -- the run of these phases was given up
-pub record IsGivenUp (cut : Or WriteFault) (phases : List Phase) (story : List Told) (outside : Outside) : Type 0 where
+pub record IsRunGivenUp (cut : Or WriteFault) (phases : List Phase) (story : List Told) (outside : Outside) : Type 0 where
   pub opened : is_opened story ≡ true
   pub begun : IsFront (phases_begun story) phases
   pub moments_are : IfSome outside.moments (λ told. moments_begun story ≡ clock_moments told outside.first (length (moments_begun story)))
@@ -100,5 +100,5 @@ run_status (Err (Is fault)) rose = statuses.WriteFault
 
 -- the phases were run, or their run was given up
 abbrev pub HasRunSo : Result Bool (Or WriteFault) → List Phase → List Told → Outside → Type 0
-HasRunSo (Ok failed) phases story outside = HasRun phases story outside failed
-HasRunSo (Err cut) phases story outside = IsGivenUp cut phases story outside
+HasRunSo (Ok failed) phases story outside = HasRunPhases phases story outside failed
+HasRunSo (Err cut) phases story outside = IsRunGivenUp cut phases story outside

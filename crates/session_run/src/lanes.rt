@@ -2,7 +2,7 @@
 
 ghost use Rattle.std.specs.Prelude.{◌≡◌, ℕ, ◌≤◌, ◌<◌, OnOk, length, true};
 ghost use Rattle.carried_out.specs.CarriedOut.{AreCarriedOut};
-ghost use Rattle.base_core.specs.Counted.{KeepsCount};
+ghost use Rattle.base_core.specs.Story.Counted.{KeepsCount};
 ghost use Rattle.legal_history.specs.Stories.States.{all_done};
 ghost use Rattle.legal_history.specs.Stories.Steps.{state_of};
 ghost use Rattle.session_run.specs.Begun.{is_opened};

@@ -22,8 +22,6 @@ mod phases;
 mod run;
 mod sessions;
 mod statuses;
-#[cfg(test)]
-mod tests;
 mod transcripts;
 mod words;
 

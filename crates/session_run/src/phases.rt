@@ -8,12 +8,12 @@ ghost use Rattle.cc_outside.specs.Moments.{moment_at};
 ghost use Rattle.legal_history.specs.Stories.States.{all_done};
 ghost use Rattle.legal_history.specs.Stories.Steps.{state_of};
 ghost use Rattle.legal_history.specs.Stories.Lawful.{last_moment};
-ghost use Rattle.base_core.specs.Counted.{KeepsCount};
-ghost use Rattle.base_core.specs.Replying.{replies_of};
+ghost use Rattle.base_core.specs.Story.Counted.{KeepsCount};
+ghost use Rattle.base_core.specs.Story.Replying.{replies_of};
 ghost use Rattle.session_run.specs.Begun.{first_step, is_opened};
 ghost use Rattle.session_run.specs.Rendered.{transcript};
 ghost use Rattle.session_run.specs.Lanes.{RunsPhase, LeavesPhase};
-ghost use Rattle.session_run.specs.Runs.{outside_of, IsJustOpened, IsReady, IsRunnable, HasRun, IsGivenUp, OnWriteFault};
+ghost use Rattle.session_run.specs.Runs.{outside_of, IsJustOpened, IsReadyPhase, IsRunnable, HasRunPhases, IsRunGivenUp, OnWriteFault};
 
 use crate::failures::any_failed;
 use crate::lanes::run_lanes;
@@ -47,7 +47,7 @@ fn carry_out<D: Disk>(
 ) -> Result<(), NoMemory>
     requires finished { all_done (state_of core.old.story) ≡ true }
     requires opened { is_opened core.old.story ≡ true }
-    requires ready { IsReady phase }
+    requires ready { IsReadyPhase phase }
     requires few { (state_of core.old.story).number + 1 < 2 ^ 32 }
     requires in_time { moment ≤ last_moment }
     ensures ok { OnOk result (RunsPhase phase moment core.old.story core.new.story) }
@@ -68,7 +68,7 @@ fn run_commands<D: Disk>(
 ) -> Result<(), NoMemory>
     requires finished { all_done (state_of core.old.story) ≡ true }
     requires opened { is_opened core.old.story ≡ true }
-    requires ready { IsReady phase }
+    requires ready { IsReadyPhase phase }
     requires few { (state_of core.old.story).number + 1 < 2 ^ 32 }
     requires in_time { moment ≤ last_moment }
     ensures ok { OnOk result (RunsPhase phase moment core.old.story core.new.story) }
@@ -116,12 +116,12 @@ pub(crate) fn run_phases<K: Sink, D: Disk, C: Clock>(
     requires opened { IsJustOpened core.old.story }
     requires runnable { IsRunnable phases.items }
     ensures ok { IfOk result
-        (HasRun phases.items core.new.story
+        (HasRunPhases phases.items core.new.story
         (outside_of (K.sight sink.old) (K.sight sink.new) (C.sight clock.old)
         (C.sight clock.new))) }
     ensures err { IfErr result
         (λ cut.
-        IsGivenUp cut phases.items core.new.story
+        IsRunGivenUp cut phases.items core.new.story
         (outside_of (K.sight sink.old) (K.sight sink.new) (C.sight clock.old)
         (C.sight clock.new))) }
     ensures first { first_step core.new.story ≡ first_step core.old.story }

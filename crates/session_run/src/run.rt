@@ -2,7 +2,7 @@
 
 ghost use Rattle.std.specs.Prelude.{◌≡◌, true};
 ghost use Rattle.legal_history.specs.Stories.Steps.{state_of};
-ghost use Rattle.base_core.specs.Backed.{is_faulted};
+ghost use Rattle.base_core.specs.Stopping.Backed.{may_be_open};
 ghost use Rattle.cc_names.specs.Counts.{rises};
 ghost use Rattle.disk_model.specs.Told.{IfTold};
 ghost use Rattle.disk_model.specs.Devices.{file_of, bytes_of};
@@ -78,7 +78,7 @@ fn stop_of(cause: OpenCause, rose: bool) -> Stop
 fn settle<D: Disk>(core: &mut Core<D>)
     ensures same { core.new.story ≡ core.old.story }
     ensures mended { IsMended (state_of core.new.story) core.new.sight }
-    ensures settles { Settles (is_faulted (state_of core.old.story).ends) core.old.sight
+    ensures settles { Settles (may_be_open (state_of core.old.story).ends) core.old.sight
         core.new.sight }
 {
     let _ = core.finish();

@@ -2,7 +2,7 @@
 
 ghost use Rattle.std.specs.Prelude.{◌≡◌, ◌≤◌, ◌<◌, ◌++◌, IfOk, OnOk, length};
 ghost use Rattle.legal_history.specs.Stories.Steps.{state_of};
-ghost use Rattle.base_core.specs.Replying.{replies_of};
+ghost use Rattle.base_core.specs.Story.Replying.{replies_of};
 ghost use Rattle.reply_text.specs.Replies.{render};
 ghost use Rattle.session_run.specs.Rendered.{phase_line, lanes_text, transcript};
 

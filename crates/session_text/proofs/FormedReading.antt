@@ -13,12 +13,12 @@ use Rattle.cc_names.specs.declared.refusals.SessionCause.TheVariants as causes
 use Rattle.cc_names.specs.declared.refusals.SessionError.{SessionError}
 use Rattle.session_text.specs.declared.kinds.Kind.{Kind}
 use Rattle.session_text.specs.declared.kinds.Kind.TheVariants as kinds
-use Rattle.session_text.specs.Kinds.{kind_of, kinds_of, said}
+use Rattle.session_text.specs.Kinds.{line_kind, kinds_of, said}
 use Rattle.session_text.specs.Commands.{command_of}
 use Rattle.session_text.specs.Shapes.{view}
 use Rattle.session_text.specs.Words.{Said}
 use Rattle.session_text.specs.Sessions.{Above, nothing, cause_or, cause_in, is_taken, lane_of, cause_of, with_lane, above_next, error_or, first_error, body_of, before_commands, before_lanes, commands_of, lanes_of, phases_of}
-use Rattle.session_text.specs.Formed.{IsCommand, IsLane, IsPhase, IsSession, AreAtMost}
+use Rattle.session_text.specs.Formed.{IsCommand, IsLane, IsPhase, IsFormedSession, AreAtMost}
 use Rattle.cc_names.proofs.LinesAndWords.{length-lines_of}
 use Rattle.session_text.proofs.FormedCommands.{command_is}
 use Rattle.session_text.proofs.FormedWords.{view_is}
@@ -99,7 +99,7 @@ said_narrow limit (word ∷ words) h = by (bytes_eq word (codes "phase")) (bytes
     by false true = tt
     by false false = let few : length words ≤ limit = omega (arith, h.0) in (few, h.1.1)
 
-kind_narrow : (limit : ℕ) (line : List ℕ) → length line ≤ limit → IsNarrowKind limit (kind_of line)
+kind_narrow : (limit : ℕ) (line : List ℕ) → length line ≤ limit → IsNarrowKind limit (line_kind line)
 unfolding IsNarrowKind
 kind_narrow limit [] h = tt
 kind_narrow limit (b ∷ bs) h = by (b == 35) (b == 124)
@@ -124,7 +124,7 @@ said_shorter (word ∷ words) line = by (bytes_eq word (codes "phase")) (bytes_e
     by false true = tt
     by false false = tt
 
-line_shorter : (line : List ℕ) → IsShorter (kind_of line) line
+line_shorter : (line : List ℕ) → IsShorter (line_kind line) line
 unfolding IsShorter
 line_shorter [] = tt
 line_shorter (b ∷ bs) = by (b == 35) (b == 124)
@@ -143,12 +143,12 @@ text_longer (kinds.Lane words) line rest h = omega arith
 text_longer (kinds.Command word words) line rest h = omega arith
 
 -- a body has no more bytes than its lines
-body_within : (lines : List (List ℕ)) → length (body_of (map kind_of lines)) ≤ total lines
+body_within : (lines : List (List ℕ)) → length (body_of (map line_kind lines)) ≤ total lines
 unfolding total
 body_within [] = omega arith
 body_within (line ∷ lines) =
     let more = body_within lines in
-    let here = text_longer (kind_of line) line (map kind_of lines) (line_shorter line) in
+    let here = text_longer (line_kind line) line (map line_kind lines) (line_shorter line) in
     omega arith
 
 one_more : (said : Said Command) (commands : List Command) → length (before_commands said commands) ≤ 1 + length commands
@@ -162,11 +162,11 @@ commands_more (kinds.Phase words) rest = omega arith
 commands_more (kinds.Lane words) rest = omega arith
 commands_more (kinds.Command word words) rest = one_more (command_of word words (body_of rest)) (commands_of rest)
 
-commands_within : (lines : List (List ℕ)) → length (commands_of (map kind_of lines)) ≤ length lines
+commands_within : (lines : List (List ℕ)) → length (commands_of (map line_kind lines)) ≤ length lines
 commands_within [] = omega arith
 commands_within (line ∷ lines) =
     let more = commands_within lines in
-    let here = commands_more (kind_of line) (map kind_of lines) in
+    let here = commands_more (line_kind line) (map line_kind lines) in
     omega arith
 
 one_formed : (limit : ℕ) (said : Said Command) (commands : List Command) → IfOk said (IsCommand limit) → AllByRecursion (IsCommand limit) commands → AllByRecursion (IsCommand limit) (before_commands said commands)
@@ -182,14 +182,14 @@ commands_kept limit (kinds.Lane words) rest n t cs = tt
 commands_kept limit (kinds.Command word words) rest n t cs =
     one_formed limit (command_of word words (body_of rest)) (commands_of rest) (command_is limit word words (body_of rest) n.0 n.1 t) cs
 
-commands_formed : (limit : ℕ) (lines : List (List ℕ)) → total lines ≤ limit → AllByRecursion (IsCommand limit) (commands_of (map kind_of lines))
+commands_formed : (limit : ℕ) (lines : List (List ℕ)) → total lines ≤ limit → AllByRecursion (IsCommand limit) (commands_of (map line_kind lines))
 unfolding total
 commands_formed limit [] t = tt
 commands_formed limit (line ∷ lines) t =
     let less : total lines ≤ limit = omega arith in
     let here : length line ≤ limit = omega arith in
-    let within : length (body_of (map kind_of lines)) ≤ limit = omega (arith, body_within lines) in
-    commands_kept limit (kind_of line) (map kind_of lines) (kind_narrow limit line here) within (commands_formed limit lines less)
+    let within : length (body_of (map line_kind lines)) ≤ limit = omega (arith, body_within lines) in
+    commands_kept limit (line_kind line) (map line_kind lines) (kind_narrow limit line here) within (commands_formed limit lines less)
 
 lane_formed : (limit : ℕ) (name : Said (List ℕ)) (commands : List Command) (lanes : List Lane) → IfOk name IsName → AreAtMost limit (IsCommand limit) commands → AllByRecursion (IsLane limit) lanes → AllByRecursion (IsLane limit) (before_lanes name commands lanes)
 lane_formed limit (Ok name) commands lanes n c ls = ((n, c), ls)
@@ -202,14 +202,14 @@ lanes_kept limit (kinds.Phase words) rest c ls = tt
 lanes_kept limit (kinds.Lane words) rest c ls = lane_formed limit (view words) (commands_of rest) (lanes_of rest) (view_is words) c ls
 lanes_kept limit (kinds.Command word words) rest c ls = ls
 
-lanes_formed : (limit : ℕ) (lines : List (List ℕ)) → total lines ≤ limit → length lines ≤ limit → AllByRecursion (IsLane limit) (lanes_of (map kind_of lines))
+lanes_formed : (limit : ℕ) (lines : List (List ℕ)) → total lines ≤ limit → length lines ≤ limit → AllByRecursion (IsLane limit) (lanes_of (map line_kind lines))
 unfolding total
 lanes_formed limit [] t n = tt
 lanes_formed limit (line ∷ lines) t n =
     let less : total lines ≤ limit = omega arith in
     let fewer : length lines ≤ limit = omega arith in
-    let count : length (commands_of (map kind_of lines)) ≤ limit = omega (arith, commands_within lines) in
-    lanes_kept limit (kind_of line) (map kind_of lines) (count, commands_formed limit lines less) (lanes_formed limit lines less fewer)
+    let count : length (commands_of (map line_kind lines)) ≤ limit = omega (arith, commands_within lines) in
+    lanes_kept limit (line_kind line) (map line_kind lines) (count, commands_formed limit lines less) (lanes_formed limit lines less fewer)
 
 -- where a line `lane` stands right, there are not too many lanes above it
 few_lanes : (lanes words : List (List ℕ)) (outside : Bool) → cause_or outside causes.NoPhase (cause_in (lane_of lanes words)) ≡ None → length lanes < 64
@@ -255,11 +255,11 @@ phases_more (kinds.Phase words) rest = omega arith
 phases_more (kinds.Lane words) rest = omega arith
 phases_more (kinds.Command word words) rest = omega arith
 
-phases_within : (lines : List (List ℕ)) → length (phases_of (map kind_of lines)) ≤ length lines
+phases_within : (lines : List (List ℕ)) → length (phases_of (map line_kind lines)) ≤ length lines
 phases_within [] = omega arith
 phases_within (line ∷ lines) =
     let more = phases_within lines in
-    let here = phases_more (kind_of line) (map kind_of lines) in
+    let here = phases_more (line_kind line) (map line_kind lines) in
     omega arith
 
 phases_kept : (limit : ℕ) (kind : Kind) (above : Above) (rest : List Kind) → (length (above_next above kind (body_of rest)).lanes ≤ 64 → length (above_next above kind (body_of rest)).lanes + length (lanes_of rest) ≤ 64)
@@ -270,21 +270,21 @@ phases_kept limit (kinds.Phase words) above rest n ls ps = let fits = n (omega a
 phases_kept limit (kinds.Lane words) above rest n ls ps = ps
 phases_kept limit (kinds.Command word words) above rest n ls ps = ps
 
-phases_formed : (limit n : ℕ) (above : Above) (lines : List (List ℕ)) → first_error n above (map kind_of lines) ≡ None → total lines ≤ limit → length lines ≤ limit → AllByRecursion (IsPhase limit) (phases_of (map kind_of lines))
+phases_formed : (limit n : ℕ) (above : Above) (lines : List (List ℕ)) → first_error n above (map line_kind lines) ≡ None → total lines ≤ limit → length lines ≤ limit → AllByRecursion (IsPhase limit) (phases_of (map line_kind lines))
 unfolding total
 phases_formed limit n above [] e t c = tt
 phases_formed limit n above (line ∷ lines) e t c =
-    let rest = map kind_of lines in
-    let next = above_next above (kind_of line) (body_of rest) in
-    let right = no_error (n + 1) (cause_of above (kind_of line) (body_of rest)) (first_error (n + 1) next rest) e in
+    let rest = map line_kind lines in
+    let next = above_next above (line_kind line) (body_of rest) in
+    let right = no_error (n + 1) (cause_of above (line_kind line) (body_of rest)) (first_error (n + 1) next rest) e in
     let less : total lines ≤ limit = omega arith in
     let fewer : length lines ≤ limit = omega arith in
-    phases_kept limit (kind_of line) above rest (lanes_within (n + 1) next rest right.1)
+    phases_kept limit (line_kind line) above rest (lanes_within (n + 1) next rest right.1)
     (lanes_formed limit lines less fewer)
     (phases_formed limit (n + 1) next lines right.1 less fewer)
 
 -- what is read where no line stands wrong is well formed
-pub phases_read : (text : List ℕ) → first_error 0 nothing (kinds_of text) ≡ None → IsSession (length text) (record { phases = phases_of (kinds_of text) })
+pub phases_read : (text : List ℕ) → first_error 0 nothing (kinds_of text) ≡ None → IsFormedSession (length text) (record { phases = phases_of (kinds_of text) })
 phases_read text e =
     let count : length (lines_of text) ≤ length text = length-lines_of text in
     (omega (arith, phases_within (lines_of text)), phases_formed (length text) 0 nothing (lines_of text) e (total-lines_of text) count)

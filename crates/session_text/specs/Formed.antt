@@ -98,5 +98,5 @@ abbrev pub IsPhase : ℕ → Phase → Type 0
 IsPhase limit phase = AreAtMost 64 (IsLane limit) phase.lanes
 
 -- The form of a session, whose texts and lists are within the limit.
-abbrev pub IsSession : ℕ → Session → Type 0
-IsSession limit session = AreAtMost limit (IsPhase limit) session.phases
+abbrev pub IsFormedSession : ℕ → Session → Type 0
+IsFormedSession limit session = AreAtMost limit (IsPhase limit) session.phases

@@ -2,7 +2,7 @@
 
 ghost use Rattle.std.specs.Prelude.{◌≡◌, ◌<◌, ◌^◌, ◌∷◌, length, MatchOption};
 ghost use Rattle.cc_names.specs.Cuts.{lines_of, words_of};
-ghost use Rattle.session_text.specs.Kinds.{kind_of, said};
+ghost use Rattle.session_text.specs.Kinds.{line_kind, said};
 ghost use Rattle.session_text.specs.Reading.{IsEnd, IsNext, IsAtEnd};
 
 use cc_names::cuts::{Words, first_newline};
@@ -70,8 +70,8 @@ fn said(line: &[u8]) -> Kind<'_>
     }
 }
 
-fn kind_of(line: &[u8]) -> Kind<'_>
-    ensures { result ≡ kind_of line.now }
+fn line_kind(line: &[u8]) -> Kind<'_>
+    ensures { result ≡ line_kind line.now }
 {
     match line.split_first() {
         None | Some((b'#', _)) => Kind::Skipped,
@@ -167,6 +167,6 @@ impl<'a> Rest<'a> {
         let (line, behind) = cut_line(self.bytes);
         self.bytes = behind;
         self.number += 1;
-        Some(kind_of(line))
+        Some(line_kind(line))
     }
 }

@@ -3,7 +3,7 @@
 ghost use Rattle.std.specs.Prelude.{◌≡◌, ◌<◌, ◌^◌, IfOk, length};
 ghost use Rattle.carried_out.specs.CarriedOut.{IsSessionCarriedOut};
 ghost use Rattle.cc_names.specs.Answers.{Gives};
-ghost use Rattle.session_text.specs.Formed.{IsSession};
+ghost use Rattle.session_text.specs.Formed.{IsFormedSession};
 ghost use Rattle.session_text.specs.Sessions.{session_of};
 
 use crate::checks::check;
@@ -106,7 +106,7 @@ pub fn read(
 ) -> Result<SessionText, Or<SessionError>>
     requires { length text < 2 ^ 32 }
     ensures session { Gives result (session_of text) }
-    ensures formed { IfOk result (IsSession (length text)) }
+    ensures formed { IfOk result (IsFormedSession (length text)) }
     ensures carried_out { IfOk result IsSessionCarriedOut }
 {
     check(alloc, hashing, text.as_bytes())?;

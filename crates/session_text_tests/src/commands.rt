@@ -37,14 +37,11 @@ fn right_lines(rt: HostRuntime) -> Result<(), Fail> {
         "checkout v -unreserved a",
         "mkbranch v fix a",
         "mkbranch v -nco fix .",
-        "rm v a",
         "checkin v a",
         "checkin v -identical .",
         "uncheckout v .",
         "rmname v a",
         "mv v a/b c",
-        "mklbtype REL",
-        "mkbrtype fix",
         "mklabel v REL a",
         "mklabel v -replace REL .",
         "mklabel v -config out REL",
@@ -53,11 +50,9 @@ fn right_lines(rt: HostRuntime) -> Result<(), Fail> {
         "rmdo v a",
         "scrub 0",
         "scrub 9223372036854775807",
-        "catcs v",
         "lsdo v",
         "ls v",
         "ls v .",
-        "cat v a",
         "cat v a@@/main/0",
         "cat v .@@/main/fix/more/18446744073709551615",
         "describe v a",
@@ -193,6 +188,9 @@ fn words_of(alloc: Global, command: &Command) -> Result<String, AllocError> {
         Command::Mkview { view } => format!(in alloc; "mkview {view}"),
         Command::Rmview { view, force } => format!(in alloc; "rmview {view} {force}"),
         Command::Save { view, path, text } => format!(in alloc; "save {view} {path} [{text}]"),
+        Command::Rm { view, path } => format!(in alloc; "rm {view} {path}"),
+        Command::Mklbtype { name } => format!(in alloc; "mklbtype {name}"),
+        Command::Mkbrtype { name } => format!(in alloc; "mkbrtype {name}"),
         Command::Clearmake {
             view,
             file,
@@ -209,6 +207,8 @@ fn words_of(alloc: Global, command: &Command) -> Result<String, AllocError> {
                 "clearmake {view} {file} {own_only} {rebuild} {jobs} {macros} {goals}"
             )
         }
+        Command::Catcs { view } => format!(in alloc; "catcs {view}"),
+        Command::Cat { view, path, .. } => format!(in alloc; "cat {view} {path}"),
         _ => format!(in alloc; "other"),
     }
 }
@@ -280,6 +280,26 @@ fn a_view_is_removed_by_force_or_not(rt: HostRuntime) -> Result<(), Fail> {
         RandomState::new(&rt)?,
         text,
         &["rmview v false", "rmview v true"],
+    )
+}
+
+#[test]
+fn commands_of_one_line_are_read(rt: HostRuntime) -> Result<(), Fail> {
+    let text =
+        b"phase\nlane a\nrm v a/b\nmklbtype REL\nmkbrtype fix\ncatcs v\ncat v a/b\ncat v .\n";
+    assert_lane(
+        &rt,
+        rt.alloc(),
+        RandomState::new(&rt)?,
+        text,
+        &[
+            "rm v a/b",
+            "mklbtype REL",
+            "mkbrtype fix",
+            "catcs v",
+            "cat v a/b",
+            "cat v .",
+        ],
     )
 }
 

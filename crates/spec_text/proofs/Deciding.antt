@@ -7,7 +7,7 @@ use Rattle.cc_names.specs.declared.selection.Selector.{Selector}
 use Rattle.cc_names.specs.declared.selection.Selector.TheVariants.{CheckedOut, Label, Latest, Wherever, Numbered, Config, Nothing}
 use Rattle.spec_text.specs.Laws.{FirstDecides, PicksNothing}
 use Rattle.spec_text.specs.Patterns.{matches}
-use Rattle.spec_text.specs.Rules.{Sources, finds, found_by, ends_scan, decides, deciding, picked_by}
+use Rattle.spec_text.specs.Rules.{Selectables, finds, found_by, ends_scan, decides, deciding, picked_by}
 
 found_before : {A : Type 0} (test : A → Bool) (xs ys : List A) → IsSome (find test xs) → find test (xs ++ ys) ≡ find test xs
 found_before test [] ys h = cc
@@ -29,7 +29,7 @@ found_passes {A} test (y ∷ xs) x h = by_test (test y) refl h (found_passes tes
     by_test true e some behind = let same : y ≡ x = cc in rw (← same) e
     by_test false e some behind = behind some
 
-ends_none : (sources : Sources) (element : ℕ) (before : Option ℕ) (selector : Selector) → ends_scan selector ≡ true → finds sources element before selector ≡ None
+ends_none : (sources : Selectables) (element : ℕ) (before : Option ℕ) (selector : Selector) → ends_scan selector ≡ true → finds sources element before selector ≡ None
 ends_none sources element before CheckedOut h = cc
 ends_none sources element before (Label name) h = cc
 ends_none sources element before (Latest names) h = cc
@@ -43,7 +43,7 @@ none_of f found true h e = refl
 none_of f (Some a) false h e = cc
 none_of f None false h e = cc
 
-by_rule : (sources : Sources) (element : ℕ) (names : List (List ℕ)) (found : Option Rule) → ((rule : Rule) → found ≡ Some rule → decides sources element names rule ≡ true) → (option_and_then (picked_by sources element) found ≡ None) ↔ IfSome found (λ rule. ends_scan rule.selector ≡ true)
+by_rule : (sources : Selectables) (element : ℕ) (names : List (List ℕ)) (found : Option Rule) → ((rule : Rule) → found ≡ Some rule → decides sources element names rule ≡ true) → (option_and_then (picked_by sources element) found ≡ None) ↔ IfSome found (λ rule. ends_scan rule.selector ≡ true)
 by_rule sources element names None holds = (λ h. tt, λ h. refl)
 by_rule sources element names (Some rule) holds =
     let tests = and_parts (matches rule.pattern names) (ends_scan rule.selector || is_some (found_by sources element rule)) (holds rule refl) in (

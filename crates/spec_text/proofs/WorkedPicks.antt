@@ -6,11 +6,11 @@ use Rattle.cc_names.specs.declared.rows.Kind.TheVariants.{File}
 use Rattle.cc_names.specs.declared.selection.Picked.{Picked}
 use Rattle.cc_names.specs.declared.selection.Rule.{Rule}
 use Rattle.date_text.proofs.OnLiterals.{dates_on_literals}
-use Rattle.spec_text.specs.Rules.{Sources, none_listed, pick}
+use Rattle.spec_text.specs.Rules.{Selectables, none_listed, pick}
 use Rattle.spec_text.specs.Specs.{rules_of}
 
 -- an element with two versions, of which the second is as old as the time of a rule
-abbrev two_versions : Option ℕ → Sources
+abbrev two_versions : Option ℕ → Selectables
 two_versions out = record {
   tree = VersionMade 6 1700000001 2 ∷ VersionMade 4 1700000000 2 ∷ ElementMade 2 1700000000 File ∷ [];
   labels = [];

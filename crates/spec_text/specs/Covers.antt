@@ -23,6 +23,6 @@ covers_from true fits behind xs = list_any behind (tails xs)
 covers_from false fits behind xs = first_fits fits behind xs
 
 -- Whether cards cover a list: each card that is not wild stands for one member that fits it.
-abbrev pub covers : {P A : Type 0} → (P → Bool) → (P → A → Bool) → List P → List A → Bool
-covers wild fits [] xs = has_none xs
-covers wild fits (p ∷ ps) xs = covers_from (wild p) (fits p) (covers wild fits ps) xs
+abbrev pub cards_cover : {P A : Type 0} → (P → Bool) → (P → A → Bool) → List P → List A → Bool
+cards_cover wild fits [] xs = has_none xs
+cards_cover wild fits (p ∷ ps) xs = covers_from (wild p) (fits p) (cards_cover wild fits ps) xs

@@ -9,7 +9,7 @@ use Rattle.cc_names.specs.declared.selection.Pattern.{Pattern}
 use Rattle.cc_names.specs.declared.selection.Rule.{Rule}
 use Rattle.cc_names.specs.declared.selection.Segment.TheVariants.{OneName}
 use Rattle.spec_text.specs.Patterns.{is_star, is_question_mark, matches}
-use Rattle.spec_text.specs.Rules.{Sources, sources_at, ends_scan, deciding, pick}
+use Rattle.spec_text.specs.Rules.{Selectables, sources_at, ends_scan, deciding, pick}
 
 -- a name without wild cards
 abbrev pub is_plain : List ℕ → Bool
@@ -34,14 +34,14 @@ MatchesEndsOfPaths =
 -- Rules behind one that decides change nothing.
 abbrev pub FirstDecides : Type 0
 FirstDecides =
-    (sources : Sources) (element : ℕ) (names : List (List ℕ)) (rules more : List Rule) →
+    (sources : Selectables) (element : ℕ) (names : List (List ℕ)) (rules more : List Rule) →
     IsSome (deciding sources element names rules) →
     pick sources element names (rules ++ more) ≡ pick sources element names rules
 
 -- Nothing is picked exactly where no rule decides or the one that does is `-none`.
 abbrev pub PicksNothing : Type 0
 PicksNothing =
-    (sources : Sources) (element : ℕ) (names : List (List ℕ)) (rules : List Rule) →
+    (sources : Selectables) (element : ℕ) (names : List (List ℕ)) (rules : List Rule) →
     (pick sources element names rules ≡ None)
     ↔ IfSome (deciding sources element names rules) (λ rule. ends_scan rule.selector ≡ true)
 

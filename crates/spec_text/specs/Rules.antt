@@ -16,14 +16,14 @@ use Rattle.spec_text.specs.Patterns.{matches}
 
 -- What there is to select from: the changes of the trees and of the labels, the newest first, the version of an element
 -- that the record of an object with a target lists, and the row that makes the text of the view's checkout.
-pub record Sources : Type 0 where
+pub record Selectables : Type 0 where
   pub tree : List TreeChange
   pub labels : List LabelChange
   pub listed : ℕ → List ℕ → ℕ → Option ℕ
   pub out : Option ℕ
 
 -- what there is to select from in the first rows of a base
-abbrev pub sources_at : ℕ → List TreeChange → List LabelChange → (ℕ → List ℕ → ℕ → Option ℕ) → Option ℕ → Sources
+abbrev pub sources_at : ℕ → List TreeChange → List LabelChange → (ℕ → List ℕ → ℕ → Option ℕ) → Option ℕ → Selectables
 sources_at rows tree labels listed out =
     record { tree = of_first_rows rows tree; labels = labels_of_first_rows rows labels; listed = listed; out = out }
 
@@ -32,16 +32,16 @@ abbrev pub none_listed : ℕ → List ℕ → ℕ → Option ℕ
 none_listed object target element = None
 
 -- an element's branch of a type, wherever it stands. `main` is named by the element
-abbrev pub branch_of_type : Sources → ℕ → List ℕ → Option ℕ
+abbrev pub branch_of_type : Selectables → ℕ → List ℕ → Option ℕ
 branch_of_type sources element name =
     if bytes_eq name (codes "main") then Some element else branch_named sources.tree element name
 
 -- the last version on a branch, where there is the branch
-abbrev pub latest_on : Sources → Option ℕ → Option ℕ → Option ℕ
+abbrev pub latest_on : Selectables → Option ℕ → Option ℕ → Option ℕ
 latest_on sources before branch = option_and_then (λ b. latest sources.tree b before) branch
 
 -- what a selector finds of an element. The time bears on LATEST alone
-abbrev pub finds : Sources → ℕ → Option ℕ → Selector → Option ℕ
+abbrev pub finds : Selectables → ℕ → Option ℕ → Selector → Option ℕ
 finds sources element before CheckedOut = sources.out
 finds sources element before (Label name) = holder sources.labels name element
 finds sources element before (Latest names) = latest_on sources before (branch_behind sources.tree element names)
@@ -52,7 +52,7 @@ finds sources element before (Config target object) = sources.listed object targ
 finds sources element before Nothing = None
 
 -- what a rule finds of an element
-abbrev pub found_by : Sources → ℕ → Rule → Option ℕ
+abbrev pub found_by : Selectables → ℕ → Rule → Option ℕ
 found_by sources element rule = finds sources element rule.before rule.selector
 
 -- whether a selector is `-none`
@@ -67,20 +67,20 @@ is_checkout _ = false
 
 -- whether a rule decides on an element at the path of these names: its pattern matches, and its selector finds a
 -- version or is `-none`
-abbrev pub decides : Sources → ℕ → List (List ℕ) → Rule → Bool
+abbrev pub decides : Selectables → ℕ → List (List ℕ) → Rule → Bool
 decides sources element names rule =
     matches rule.pattern names && (ends_scan rule.selector || is_some (found_by sources element rule))
 
 -- the rule that decides: the first that does
-abbrev pub deciding : Sources → ℕ → List (List ℕ) → List Rule → Option Rule
+abbrev pub deciding : Selectables → ℕ → List (List ℕ) → List Rule → Option Rule
 deciding sources element names rules = find (decides sources element names) rules
 
 -- what the rule that decides picks
-abbrev pub picked_by : Sources → ℕ → Rule → Option Picked
+abbrev pub picked_by : Selectables → ℕ → Rule → Option Picked
 picked_by sources element rule =
     option_map (λ row. record { row = row; line = rule.line; out = is_checkout rule.selector }) (found_by sources element rule)
 
 -- What rules pick of an element at the path of these names.
-abbrev pub pick : Sources → ℕ → List (List ℕ) → List Rule → Option Picked
+abbrev pub pick : Selectables → ℕ → List (List ℕ) → List Rule → Option Picked
 pick sources element names rules =
     option_and_then (picked_by sources element) (deciding sources element names rules)

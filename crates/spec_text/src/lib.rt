@@ -21,6 +21,3 @@ mod specs;
 
 pub use patterns::Matches;
 pub use specs::Spec;
-
-#[cfg(test)]
-mod tests;

@@ -1,4 +1,4 @@
-mod FirstRows
+pub mod FirstRows
 mod Found
 mod Links
 mod Places

@@ -42,8 +42,8 @@ abbrev pub AreInOrder : List Entry → Type 0
 AreInOrder entries = IsStrictlySortedBy (slice_cmp nat_cmp) (map name_of_entry entries)
 
 -- whether a branch has room for one more version
-abbrev pub is_ready : Forest → ℕ → Bool
-is_ready forest branch = list_any (λ b. b == branch) forest.ready
+abbrev pub has_room : Forest → ℕ → Bool
+has_room forest branch = list_any (λ b. b == branch) forest.ready
 
 -- whether a change uses a branch's room for one more version
 abbrev pub uses_room : TreeChange → ℕ → Bool
@@ -56,7 +56,7 @@ pub record AddsChange (old new : Forest) (change : TreeChange) : Type 0 where
   pub contents : new.contents ≡ old.contents
   pub room : old.room ≤ new.room + 1
   pub content_room : new.content_room ≡ old.content_room
-  pub ready : (b : ℕ) → uses_room change b ≡ false → IsTrue (is_ready old b) → IsTrue (is_ready new b)
+  pub ready : (b : ℕ) → uses_room change b ≡ false → IsTrue (has_room old b) → IsTrue (has_room new b)
 
 -- what one version holds is set, for which there was room, and nothing else
 pub record SetsContents (old new : Forest) (version : ℕ) (contents : Contents) : Type 0 where

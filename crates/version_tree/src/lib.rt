@@ -18,14 +18,12 @@ ghost use Rattle.cc_names.specs.Branches.{branch_named, branch_of_version, origi
 ghost use Rattle.cc_names.specs.declared.changes.TreeChange.TheVariants as changes;
 ghost use Rattle.version_tree.specs.declared.contents.Contents.TheVariants as contents;
 ghost use Rattle.cc_names.specs.Falling.{IsAbove, Falls};
-ghost use Rattle.version_tree.specs.Forest.{AddsChange, SetsContents, KeepsAll, AreInOrder, contents_of, entries_in, text_in, is_ready};
+ghost use Rattle.version_tree.specs.Forest.{AddsChange, SetsContents, KeepsAll, AreInOrder, contents_of, entries_in, text_in, has_room};
 
 mod branches;
 mod contents;
 pub mod laws;
 mod namesakes;
-#[cfg(test)]
-mod tests;
 
 use branches::{Branch, Later};
 use cc_names::by_row::{item_of, place_of};
@@ -142,12 +140,12 @@ impl Tree {
     /// one version on it. Takes time logarithmic in the branches; a list that is full is doubled, in time linear in it.
     pub fn reserve(&mut self, _alloc: Global, branch: Option<u64>) -> Result<(), NoMemory>
         ensures kept { KeepsAll self.old self.new }
-        ensures stay { (b : ℕ) → IsTrue (is_ready self.old b) → IsTrue (is_ready self.new b) }
+        ensures stay { (b : ℕ) → IsTrue (has_room self.old b) → IsTrue (has_room self.new b) }
         ensures room { OnOk result (0 < self.new.room) }
         ensures content_room { OnOk result (0 < self.new.content_room) }
         ensures ready { OnOk result
             (IfSome branch
-            (λ b. IsSome (latest self.old.changes b None) → IsTrue (is_ready self.new b))) }
+            (λ b. IsSome (latest self.old.changes b None) → IsTrue (has_room self.new b))) }
     {
         self.reserve_change()?;
         match branch {
@@ -159,7 +157,7 @@ impl Tree {
     // Makes room for one change and for what one version holds.
     fn reserve_change(&mut self) -> Result<(), NoMemory>
         ensures kept { KeepsAll self.old self.new }
-        ensures stay { (b : ℕ) → IsTrue (is_ready self.old b) → IsTrue (is_ready self.new b) }
+        ensures stay { (b : ℕ) → IsTrue (has_room self.old b) → IsTrue (has_room self.new b) }
         ensures room { OnOk result (0 < self.new.room) }
         ensures content_room { OnOk result (0 < self.new.content_room) }
     {
@@ -173,9 +171,9 @@ impl Tree {
     // Makes room for one version on a branch, where it is there.
     fn reserve_version(&mut self, branch: u64) -> Result<(), NoMemory>
         ensures kept { KeepsAll self.old self.new }
-        ensures stay { (b : ℕ) → IsTrue (is_ready self.old b) → IsTrue (is_ready self.new b) }
+        ensures stay { (b : ℕ) → IsTrue (has_room self.old b) → IsTrue (has_room self.new b) }
         ensures ready { OnOk result
-            (IsSome (latest self.old.changes branch None) → IsTrue (is_ready self.new branch)) }
+            (IsSome (latest self.old.changes branch None) → IsTrue (has_room self.new branch)) }
     {
         if let Some(place) = place_of(&self.branches, branch) {
             let on = &mut self.branches[place];
@@ -228,7 +226,7 @@ impl Tree {
     pub fn add_version(&mut self, row: u64, moment: u64, branch: u64)
         requires above { IsAbove row (map row_of_change self.old.changes) }
         requires room { 0 < self.old.room }
-        requires ready { IsTrue (is_ready self.old branch) }
+        requires ready { IsTrue (has_room self.old branch) }
         ensures { AddsChange self.old self.new (changes.VersionMade row moment branch) }
     {
         let change = TreeChange::VersionMade {

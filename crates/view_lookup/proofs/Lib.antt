@@ -1,7 +1,9 @@
 pub mod Arrows
 pub mod AtIndex
 pub mod Chains
+pub mod FirstTrees
 pub mod Fronts
+pub mod Growths
 pub mod Holdings
 pub mod Newest
 pub mod Endings

@@ -54,6 +54,18 @@ is_plain (deeds.Put w q bytes) h = record {
   making = λ v e n. refl;
   spec = λ v n made spec before. before;
 }
+is_plain (deeds.Rm w q) h = record {
+  tree = λ older moment changes. refl;
+  out = λ n. refl;
+  making = λ v e n. refl;
+  spec = λ v n made spec before. before;
+}
+is_plain (deeds.Mktype kind name) h = record {
+  tree = λ older moment changes. refl;
+  out = λ n. refl;
+  making = λ v e n. refl;
+  spec = λ v n made spec before. before;
+}
 is_plain (deeds.Publish w targets script entries outputs) h = record {
   tree = λ older moment changes. refl;
   out = λ n. refl;

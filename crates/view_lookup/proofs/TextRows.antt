@@ -3,12 +3,12 @@ use Rattle.std.proofs.Common.{◌≡◌, ℕ, suc, ◌<◌, ◌≤◌, ◌==◌,
 use Rattle.std.proofs.lemmas.Bool.Decides.{nat_tests}
 use Rattle.cc_names.specs.Formed.{Plain}
 use Rattle.legal_history.specs.Base.Rows.{Base, size, first_rows, row_at}
-use Rattle.legal_history.specs.Base.Texts.{Source, Bytes, OfRow, NoText, source_of, text}
+use Rattle.legal_history.specs.Base.Texts.{TextSource, Bytes, OfRow, NoText, source_of, text}
 use Rattle.legal_history.proofs.Bases.Stay.{all_rows}
 use Rattle.view_lookup.proofs.Newest.{no_later}
 
 -- the text of a source, where an earlier row has this one
-abbrev pub text_by : Base → List ℕ → Source → Option (List ℕ)
+abbrev pub text_by : Base → List ℕ → TextSource → Option (List ℕ)
 text_by older path source = elim source [ Bytes bytes ↦ Some bytes | OfRow origin ↦ text older origin path | NoText ↦ None ]
 
 -- the text of a row behind these, where there is one

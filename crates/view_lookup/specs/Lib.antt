@@ -1,6 +1,7 @@
 pub mod Covers
 pub mod Effects
 pub mod Ended
+pub mod Growing
 pub mod Indexed
 pub mod Known
 pub mod LookUps

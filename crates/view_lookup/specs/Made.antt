@@ -4,7 +4,7 @@ use Rattle.std.specs.List.{list_any}
 use Rattle.cc_names.specs.declared.rows.Deed.{Deed}
 use Rattle.cc_names.specs.declared.rows.Deed.TheVariants as deeds
 use Rattle.cc_names.specs.declared.rows.Kind.{Kind}
-use Rattle.legal_history.specs.Base.Texts.{Source, Bytes, OfRow, NoText}
+use Rattle.legal_history.specs.Base.Texts.{TextSource, Bytes, OfRow, NoText}
 use Rattle.legal_history.specs.Base.Views.{default_spec}
 use Rattle.view_lookup.specs.declared.texts.Source as code
 use Rattle.view_lookup.specs.declared.texts.Source.TheVariants as codes
@@ -19,7 +19,7 @@ kind_made (deeds.Mkelem v directory name kind out) = Some kind
 kind_made deed = None
 
 -- where code finds the text of a row
-abbrev pub plain_source : code.Source → Source
+abbrev pub plain_source : code.Source → TextSource
 plain_source (codes.Bytes bytes) = Bytes bytes.now
 plain_source (codes.OfRow row) = OfRow row
 plain_source codes.NoText = NoText

@@ -1,33 +1,43 @@
-// The rows of a base, with the marks by which those that bear on a subject are found.
+// The rows of a base, with the marks by which those that bear on a subject are found, and with the trees of versions.
 
-ghost use Rattle.std.specs.Prelude.{◌≡◌, ◌≤◌, ◌∷◌, [], length, reverse, true, OnOk};
+ghost use Rattle.std.specs.Prelude.{◌≡◌, ◌≤◌, ◌∷◌, [], length, reverse, true, IfOk, OnOk};
 ghost use Rattle.std.specs.Option.{option_copied};
 ghost use Rattle.carried_out.specs.CarriedOut.{is_made};
+ghost use Rattle.cc_names.specs.Versions.{of_first_rows};
+ghost use Rattle.legal_history.specs.Base.Changes.{tree};
 ghost use Rattle.legal_history.specs.Base.Rows.{first_rows, row_at, size};
 ghost use Rattle.legal_history.specs.Base.Fits.{fits, is_base, row_limit};
 ghost use Rattle.view_lookup.specs.Known.{are_made};
 ghost use Rattle.view_lookup.specs.LookUps.{last_of, newest, oldest};
-ghost use Rattle.view_lookup.specs.Shown.{HasRoom};
+ghost use Rattle.view_lookup.specs.Shown.{HasRoom, HasTreeRoom};
+ghost use Rattle.view_lookup.specs.Subjects.{borne};
 
+use crate::growth::{grow, growth_of, reserve_growth};
 use crate::look_ups::{LookUp, left_by, set_at, told_at};
 use crate::marks::{Link, mark_all};
 use crate::numbered::row_of;
 use crate::subjects::{count_subjects, named_targets};
 use cc_names::memory::NoMemory;
+use cc_names::names::Name;
 use cc_names::rows::{Deed, Row};
 use std::alloc::Global;
 use std::collections::HashMap;
 use std::hash::RandomState;
 use std::marker::Model;
+use version_tree::Tree;
 
-/// A base, and what bears on what. Contracts see the base as the model has it, its newest row first, and the room. That it
-/// is a base, whose rows were made by what is carried out so far, is part of the type.
+/// A base, what bears on what, and the trees of versions. Contracts see the base as the model has it, its newest row first, and
+/// the room. That it is a base, whose rows were made by what is carried out so far, is part of the type.
 #[derive(Drop)]
 pub struct Rows {
     hashing: RandomState,
+    alloc: Global,
     rows: Vec<Row>,
     links: Vec<Link>,
     newest: HashMap<u64, usize>,
+    tree: Tree,
+    // The name of a branch, copied before the branch is made.
+    name: Option<Name>,
 }
 
 impl Model for Rows {
@@ -43,23 +53,37 @@ impl Model for Rows {
 }
 
 impl Rows {
-    /// A base with row 0 alone, in which names are found by hashing them so. Takes no memory.
-    pub fn new(alloc: Global, hashing: RandomState) -> Rows
-        ensures { result.base ≡ [] }
+    /// A base with row 0 alone, in which names are found by hashing them so. Takes constant time.
+    pub fn new(alloc: Global, hashing: RandomState) -> Result<Rows, NoMemory>
+        ensures { IfOk result (λ rows. rows.base ≡ []) }
     {
-        Rows {
+        let tree = Tree::new(alloc, hashing)?;
+        Ok(Rows {
             hashing,
+            alloc,
             rows: Vec::new(alloc),
             links: Vec::new(alloc),
             newest: HashMap::new(alloc),
-        }
+            tree,
+            name: None,
+        })
     }
 
-    /// Makes room for one more row of this deed. Takes time linear in what the deed names; a list that is full is
-    /// doubled, in time linear in it.
+    /// Makes room for one more row of this deed. Takes time linear in what the deed names and logarithmic in the branches; a
+    /// list that is full is doubled, in time linear in it.
     pub fn reserve(&mut self, deed: &Deed) -> Result<(), NoMemory>
         ensures same { self.new.base ≡ self.old.base }
         ensures room { OnOk result (HasRoom self.new deed.now) }
+    {
+        self.reserve_marks(deed)?;
+        self.reserve_trees(deed)
+    }
+
+    // Makes room for the row and for its marks.
+    fn reserve_marks(&mut self, deed: &Deed) -> Result<(), NoMemory>
+        ensures same { self.new.base ≡ self.old.base }
+        ensures row { OnOk result (1 ≤ self.new.room) }
+        ensures marks { OnOk result (length (borne self.new.base deed.now) ≤ self.new.room) }
     {
         let number = self.rows.len() as u64 + 1;
         let targets = named_targets(self.rows.as_slice(), deed);
@@ -70,14 +94,33 @@ impl Rows {
         Ok(())
     }
 
-    /// Adds a row that fits. Takes time linear in the names that its deed has, and no memory.
+    // Makes room for what the row adds to the trees.
+    fn reserve_trees(&mut self, deed: &Deed) -> Result<(), NoMemory>
+        ensures same { self.new.base ≡ self.old.base }
+        ensures marks { self.new.room ≡ self.old.room }
+        ensures trees { OnOk result (HasTreeRoom self.new deed.now) }
+    {
+        let growth = growth_of(&self.all(), deed);
+        self.name = reserve_growth(self.alloc, &mut self.tree, growth)?;
+        Ok(())
+    }
+
+    /// Adds a row that fits. Takes time linear in the names that its deed has and logarithmic in the branches, and no memory.
     pub fn push(&mut self, row: Row)
         requires fits { fits self.old.base row.deed ≡ true }
         requires made { is_made row.deed ≡ true }
         requires room { HasRoom self.old row.deed }
         ensures { self.new.base ≡ row ∷ self.old.base }
     {
+        let growth = growth_of(&self.all(), row.deed());
         let number = self.rows.len() as u64 + 1;
+        grow(
+            &mut self.tree,
+            number,
+            row.moment(),
+            growth,
+            self.name.take(),
+        );
         let targets = named_targets(self.rows.as_slice(), row.deed());
         mark_all(
             self.hashing,
@@ -113,9 +156,12 @@ impl Rows {
     {
         let Rows {
             hashing: _,
+            alloc: _,
             rows,
             links: _,
             newest: _,
+            tree: _,
+            name: _,
         } = self;
         rows
     }
@@ -166,6 +212,15 @@ impl<'a> FirstRows<'a> {
         ensures limit { result ≤ row_limit }
     {
         self.count as u64 + 1
+    }
+
+    /// The trees of all rows of the base, with what these rows made of them.
+    pub(crate) fn tree(&self) -> &'a Tree
+        ensures { of_first_rows (size self.now) result.now.changes ≡ tree self.now }
+    {
+        let _count = self.count;
+        let base = self.base;
+        &base.tree
     }
 
     /// That each was made by what is carried out so far. Does nothing.

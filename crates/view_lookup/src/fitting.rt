@@ -12,7 +12,8 @@ ghost use Rattle.legal_history.specs.Base.Fits.{deed_fits, fits};
 use crate::bases::{FirstRows, row_at};
 use crate::objects::is_target;
 use crate::seen::kind_of;
-use crate::views::view_row;
+use crate::types::is_type_taken;
+use crate::views::{private, view_row};
 use cc_names::paths::Path;
 use cc_names::rows::{Deed, Kind, ReadOf, Row};
 
@@ -83,6 +84,8 @@ fn deed_fits(rows: &FirstRows<'_>, deed: &Deed) -> bool
         Deed::Mkview { view } => view_row(rows, view).is_none(),
         Deed::Rmview { view } => view_row(rows, view).is_some(),
         Deed::Put { view, .. } => view_row(rows, view).is_some(),
+        Deed::Rm { view, path } => private(rows, view, path).is_some(),
+        Deed::Mktype { name, .. } => !is_type_taken(rows, name),
         Deed::Publish { view, entries, .. } => {
             view_row(rows, view).is_some() && are_entries(rows, entries.as_slice())
         }

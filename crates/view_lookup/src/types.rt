@@ -2,6 +2,7 @@
 
 ghost use Rattle.std.specs.Prelude.{◌≡◌};
 ghost use Rattle.legal_history.specs.Base.Changes.{kind_of_type};
+ghost use Rattle.legal_history.specs.Base.Conditions.{is_reserved_name, is_type_taken};
 
 use crate::bases::FirstRows;
 use crate::look_ups::{Does, LookUp, only_if};
@@ -47,4 +48,21 @@ pub fn kind_of_type(rows: &FirstRows<'_>, name: &Name) -> Option<TypeKind>
     ensures { result ≡ kind_of_type rows.now name.now }
 {
     rows.last(&NamedOf { name })
+}
+
+/// Whether no type may have this name: `main`, `LATEST` or `CHECKEDOUT`.
+fn is_reserved_name(name: &Name) -> bool
+    ensures { result ≡ is_reserved_name name.now }
+{
+    let bytes = name.as_bytes();
+    bytes == b"main".as_slice()
+        || bytes == b"LATEST".as_slice()
+        || bytes == b"CHECKEDOUT".as_slice()
+}
+
+/// Whether a type of either kind has this name, or none may have it. Takes the time of `kind_of_type`.
+pub fn is_type_taken(rows: &FirstRows<'_>, name: &Name) -> bool
+    ensures { result ≡ is_type_taken rows.now name.now }
+{
+    kind_of_type(rows, name).is_some() || is_reserved_name(name)
 }

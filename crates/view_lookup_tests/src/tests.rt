@@ -176,7 +176,7 @@ fn row(alloc: Global, number: u64) -> Result<Row, Fail> {
 }
 
 fn nine_rows(alloc: Global, hashing: RandomState) -> Result<Rows, Fail> {
-    let mut base = Rows::new(alloc, hashing);
+    let mut base = Rows::new(alloc, hashing)?;
     for number in 1..10 {
         add(&mut base, row(alloc, number)?)?;
     }

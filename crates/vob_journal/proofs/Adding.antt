@@ -4,7 +4,7 @@ use Rattle.std.proofs.lemmas.List.Folds.{list_all-append}
 use Rattle.std.specs.List.{list_all}
 use Rattle.disk_model.specs.Devices.{Device, Event, Measured, Wrote, Tore, Synced, Failed, Measures, added}
 use Rattle.vob_journal.specs.Added.{Adds, WritesOn, may_read, may_write}
-use Rattle.vob_journal.specs.Calls.{put_down, settled_first, committed, Settles, StaysLoose, Commits, Fails}
+use Rattle.vob_journal.specs.Calls.{put_down, settled_first, committed, Settles, StaysLoose, CommitsFrame, FailsToAppend}
 use Rattle.vob_journal.specs.Frames.{written}
 use Rattle.vob_journal.specs.declared.left.Left.{Left}
 use Rattle.vob_journal.specs.Phases.{FailsToPut}
@@ -56,10 +56,10 @@ pub measured_adds : (d e : Device) → Measures 0 d e → Adds may_read d e
 measured_adds d e made = subst (Adds may_read d) (sym made) (adds_one may_read (Measured 0) d refl)
 
 -- what the calls of a journal's tail do
-pub commits_writes : (settled : Bool) (tail : ℕ) (payload : List ℕ) (d e : Device) → Commits settled tail payload d e → WritesOn d e
+pub commits_writes : (settled : Bool) (tail : ℕ) (payload : List ℕ) (d e : Device) → CommitsFrame settled tail payload d e → WritesOn d e
 commits_writes settled tail payload d e h = record { adds = committed_adds settled tail payload d e h.calls; objects = h.moves.passes.objects }
 
-pub fails_writes : (settled : Bool) (tail : ℕ) (payload : List ℕ) (left : Left) (d e : Device) → Fails settled tail payload left d e → WritesOn d e
+pub fails_writes : (settled : Bool) (tail : ℕ) (payload : List ℕ) (left : Left) (d e : Device) → FailsToAppend settled tail payload left d e → WritesOn d e
 fails_writes settled tail payload left d e h = record { adds = h.keeps.adds; objects = h.keeps.moves.passes.objects }
 
 pub settles_writes : (settled : Bool) (tail : ℕ) (d e : Device) → Settles settled tail d e → WritesOn d e

@@ -4,7 +4,7 @@ use Rattle.std.specs.Int.{w32, from_le_bytes, to_le_bytes}
 use Rattle.std.proofs.lemmas.List.{append_assoc, append-nil, take-append-le, drop-append-le, take-take, drop-take, get_or_append_left, get_or-take, drop_at, take_all}
 use Rattle.std.proofs.lemmas.Nat.{from_le_bytes-to_le_bytes_4}
 use Rattle.std.proofs.lemmas.Grind.{common_steps}
-use Rattle.vob_journal.specs.Frames.{size_of, head, listed, frames_within, frames}
+use Rattle.vob_journal.specs.Frames.{size_of, head, frames_behind, frames_within, frames}
 use Rattle.vob_journal.specs.Tails.{IsWhole}
 
 if_some : {A : Type 0} (b : Bool) (x p : A) → (if b then Some x else None) ≡ Some p → (b ≡ true) × (p ≡ x)
@@ -75,7 +75,7 @@ head_shut bytes ne = grind (arith, common_steps)
 pub head_short : (bytes : List ℕ) → length bytes < 5 + size_of bytes → head bytes ≡ None
 head_short bytes short = grind (arith, common_steps)
 
-listed_same : (found : Option (List ℕ)) (f g : ℕ → List (List ℕ)) → ((payload : List ℕ) → f (5 + length payload) ≡ g (5 + length payload)) → listed found f ≡ listed found g
+listed_same : (found : Option (List ℕ)) (f g : ℕ → List (List ℕ)) → ((payload : List ℕ) → f (5 + length payload) ≡ g (5 + length payload)) → frames_behind found f ≡ frames_behind found g
 listed_same None f g same = refl
 listed_same (Some payload) f g same = ap (λ rest. payload ∷ rest) (same payload)
 
@@ -91,14 +91,14 @@ pub frames_some : (bytes payload : List ℕ) → head bytes ≡ Some payload →
 unfolding frames
 frames_some bytes payload e =
     enough (length bytes) (suc (length bytes)) bytes (omega arith) (omega arith)
-    ∙ ap (λ found. listed found (λ n. frames_within (length bytes) (drop n bytes))) e
+    ∙ ap (λ found. frames_behind found (λ n. frames_within (length bytes) (drop n bytes))) e
     ∙ ap (λ rest. payload ∷ rest) (enough (length bytes) (length (drop (5 + length payload) bytes)) (drop (5 + length payload) bytes) (simp length-drop (omega arith)) (omega arith))
 
 pub frames_none : (bytes : List ℕ) → head bytes ≡ None → frames bytes ≡ []
 unfolding frames
 frames_none bytes e =
     enough (length bytes) (suc (length bytes)) bytes (omega arith) (omega arith)
-    ∙ ap (λ found. listed found (λ n. frames_within (length bytes) (drop n bytes))) e
+    ∙ ap (λ found. frames_behind found (λ n. frames_within (length bytes) (drop n bytes))) e
 
 pub frames_nil : frames [] ≡ []
 frames_nil = frames_none [] (head_short [] (omega arith))

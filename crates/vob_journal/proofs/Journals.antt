@@ -4,14 +4,14 @@ use Rattle.std.proofs.Math.Seq.{take-add}
 use Rattle.std.proofs.lemmas.Grind.{common_steps}
 use Rattle.std.proofs.lemmas.Bool.{cases_lt}
 use Rattle.std.proofs.lemmas.List.{append-nil, take-append-drop, drop_all, drop-drop, drop_more, get_or-drop, ext_get_or, length-take-le}
-use Rattle.disk_model.specs.Files.{stable, covers, IsImage}
+use Rattle.disk_model.specs.Files.{stable, is_written, IsImage}
 use Rattle.disk_model.specs.Devices.{Device, Measured, file_of, bytes_of, LeavesNow, Measures}
 use Rattle.disk_model.specs.Told.{IfTold, Both}
 use Rattle.vob_journal.specs.Frames.{frames, head, is_shut}
 use Rattle.vob_journal.specs.Moves.{Stands, Moves}
 use Rattle.vob_journal.specs.Reads.{Rests}
-use Rattle.vob_journal.specs.Shown.{told_list, told_rest, told_loose, IsKept}
-use Rattle.vob_journal.specs.Tails.{IsWhole, IsFront, IsTail, IsReading, list_at, loose_at}
+use Rattle.vob_journal.specs.Shown.{told_list, told_rest, told_loose, IsJournalKept}
+use Rattle.vob_journal.specs.Tails.{IsWhole, HoldsFront, IsTail, IsReading, list_at, loose_at}
 use Rattle.vob_journal.specs.Windows.{IfShows}
 use Rattle.vob_journal.specs.declared.window.Window.{Window}
 use Rattle.vob_journal.specs.Added.{may_read}
@@ -32,7 +32,7 @@ pub reading_list : (tail size : ℕ) (d : Device) → IsReading tail size d → 
 reading_list tail size d reading = sym (reading.whole.goes_on (drop tail (bytes_of 0 d))) ∙ ap frames (take-append-drop tail (bytes_of 0 d))
 
 -- a stop now
-pub kept_now : (told : Option Device) (ended settled : Bool) (tail size : ℕ) (window : Option Window) → IsKept told ended settled tail size window
+pub kept_now : (told : Option Device) (ended settled : Bool) (tail size : ℕ) (window : Option Window) → IsJournalKept told ended settled tail size window
     → IfTold told (λ d. (image : List ℕ) → LeavesNow 0 d image → Stands (told_list told ended tail) (told_loose told ended settled tail) image)
 kept_now None ended settled tail size window kept = tt
 kept_now (Some d) true true tail size window kept = λ image left.
@@ -90,9 +90,9 @@ same_moves None list loose now = tt
 same_moves (Some d) list loose now = record { passes = passes_none d _; now = now }
 
 -- what is known while a journal is read
-pub reading_of : (told : Option Device) (ended settled : Bool) (tail size : ℕ) (window : Option Window) → ended ≡ false → IsKept told ended settled tail size window
+pub reading_of : (told : Option Device) (ended settled : Bool) (tail size : ℕ) (window : Option Window) → ended ≡ false → IsJournalKept told ended settled tail size window
     → (tail ≤ size) × (size ≤ 2 ^ 62) × IfShows window told × IfTold told (IsReading tail size)
-reading_of told ended settled tail size window is kept = subst (λ b. IsKept told b settled tail size window) is kept
+reading_of told ended settled tail size window is kept = subst (λ b. IsJournalKept told b settled tail size window) is kept
 
 -- a read that found nothing new
 pub missed_list : (old new : Option Device) (tail : ℕ) → Both Rests old new → told_list new false tail ≡ told_list old false tail
@@ -165,7 +165,7 @@ shut_gate : (rest : List ℕ) → is_shut rest ≡ true → (0 < length rest) ×
 shut_gate [] e = absurd (cc)
 shut_gate (gate ∷ rest) e = (omega arith, λ one. grind (arith, common_steps))
 
-front_of : (tail size : ℕ) (d e : Device) → IsReading tail size d → Rests d e → IsFront (list_at tail e) tail (file_of 0 e)
+front_of : (tail size : ℕ) (d e : Device) → IsReading tail size d → Rests d e → HoldsFront (list_at tail e) tail (file_of 0 e)
 front_of tail size d e reading rests =
     let is = still_opened tail size d e reading rests in
     let same = ap (λ f. f.bytes) rests.same in
@@ -187,7 +187,7 @@ reading_ends true tail size d e reading rests is =
       front = front_of tail size d e reading rests;
       gate_synced = omega (arith, ap (λ f. f.least) stays, ap length same, gate.0, length-drop tail (bytes_of 0 d));
       gate = λ one. gate.1 (sym at ∙ one);
-      untouched = λ i below. ap (λ f. covers f.written i) stays;
+      untouched = λ i below. ap (λ f. is_written f.written i) stays;
     }
 reading_ends false tail size d e reading rests is =
     let stays = still_opened tail size d e reading rests in
@@ -195,7 +195,7 @@ reading_ends false tail size d e reading rests is =
       front = front_of tail size d e reading rests;
       longest = omega (arith, ap (λ f. f.most) stays);
       gate_last = omega (arith, ap (λ f. f.most) stays, ap (λ f. f.least) stays);
-      untouched = λ i ne. ap (λ f. covers f.written i) stays;
+      untouched = λ i ne. ap (λ f. is_written f.written i) stays;
       behind = refl;
     }
 

@@ -3,10 +3,10 @@ use Rattle.std.proofs.Common.{◌≡◌, ◌<◌, ◌+◌, ◌^◌, ℕ, Bool, t
 use Rattle.std.proofs.lemmas.List.{append-nil}
 use Rattle.disk_model.specs.Devices.{Device, file_of}
 use Rattle.vob_journal.specs.declared.left.Left.TheVariants.{Nothing, Earlier, InFlight}
-use Rattle.vob_journal.specs.Calls.{put_down, Keeps, Settles, StaysLoose, Commits, Fails}
+use Rattle.vob_journal.specs.Calls.{put_down, KeepsFrames, Settles, StaysLoose, CommitsFrame, FailsToAppend}
 use Rattle.vob_journal.specs.Frames.{frames, written}
 use Rattle.vob_journal.specs.Moves.{Stands, Between, Passes, Moves}
-use Rattle.vob_journal.specs.Phases.{PutsDown, FailsToPut, IsStaged, IsStagedAt, Stages, Opens, MayOpen}
+use Rattle.vob_journal.specs.Phases.{PutsDown, FailsToPut, IsStaged, IsStagedAt, Stages, OpensGate, MayOpen}
 use Rattle.vob_journal.specs.Tails.{IsShut, IsAjar, IsTail, list_at, loose_at}
 use Rattle.vob_journal.specs.Added.{Adds, may_write}
 use Rattle.vob_journal.proofs.Adding.{adds_none, adds_then, put_adds, failed_adds}
@@ -14,7 +14,7 @@ use Rattle.vob_journal.proofs.Passing.{passes_none, passes_then, passes_weaker, 
 use Rattle.vob_journal.proofs.Settling.{shut_image, ajar_image, shut_torn, ajar_torn, shut_closed, staged_put, staged_ajar, staged_opened}
 
 keeps_shut : (settled : Bool) (tail : ℕ) (d e : Device) → Adds may_write d e → Passes d e (Stands (list_at tail d) (loose_at settled tail d)) → IsShut (list_at tail d) tail (file_of 0 e)
-    → Keeps settled true tail d e
+    → KeepsFrames settled true tail d e
 keeps_shut settled tail d e adds passes shut = record {
   moves = record {
     passes = passes_weaker d e (Stands (list_at tail d) (loose_at settled tail d)) (Between (list_at tail d) (loose_at settled tail d) (list_at tail e) []) (λ image h. inl h) passes;
@@ -27,7 +27,7 @@ keeps_shut settled tail d e adds passes shut = record {
 
 keeps_ajar : (settled : Bool) (tail : ℕ) (loose : List (List ℕ)) (d e : Device) → Adds may_write d e
     → Passes d e (Between (list_at tail d) (loose_at settled tail d) (list_at tail d) loose) → IsAjar (list_at tail d) loose tail (file_of 0 e)
-    → Keeps settled false tail d e
+    → KeepsFrames settled false tail d e
 keeps_ajar settled tail loose d e adds passes ajar =
     let moves : Moves (list_at tail d) (loose_at settled tail d) (list_at tail d) loose d e =
     record { passes = passes; now = ajar_image (list_at tail d) loose tail (file_of 0 e) ajar } in
@@ -74,20 +74,20 @@ stages_put tail payload d e shut did =
     subst (Stages tail payload d) (sym did) (record { passes = passes; staged = staged_put list payload tail (file_of 0 d) shut; calls = refl })
 
 -- staging that failed
-pub staging_failed : (tail size : ℕ) (d e : Device) → IsTail true tail d → FailsToPut (tail + 1) size d e → Keeps true true tail d e
+pub staging_failed : (tail size : ℕ) (d e : Device) → IsTail true tail d → FailsToPut (tail + 1) size d e → KeepsFrames true true tail d e
 staging_failed tail size d e shut did =
     let list = list_at tail d in
     let failed = failed_put (IsShut list tail) (λ image. frames image ≡ list) (tail + 1) size (shut_image list tail) (shut_torn list tail size) d e shut did in
     keeps_shut true tail d e (failed_adds (tail + 1) size d e did) (passes_weaker d e (λ image. frames image ≡ list) (Stands list []) (λ image h. inl h) failed.0) failed.1
 
 -- a gate that was opened
-pub opens_put : (tail : ℕ) (payload : List ℕ) (d e : Device) → length payload < 2 ^ 32 → IsStagedAt tail payload d → PutsDown tail (1 ∷ []) d e → Opens tail payload d e
+pub opens_put : (tail : ℕ) (payload : List ℕ) (d e : Device) → length payload < 2 ^ 32 → IsStagedAt tail payload d → PutsDown tail (1 ∷ []) d e → OpensGate tail payload d e
 opens_put tail payload d e short staged did =
     let list = list_at tail d in
     let loose = payload ∷ [] in
     let ajar = staged_ajar list payload tail (file_of 0 d) short staged in
     let passes = put_passes (IsAjar list loose tail) (Stands list loose) tail 1 (ajar_image list loose tail) (ajar_torn list loose tail) d (1 ∷ []) refl ajar in
-    subst (Opens tail payload d) (sym did) (record { passes = passes; shut = staged_opened list payload tail (file_of 0 d) short staged; calls = refl })
+    subst (OpensGate tail payload d) (sym did) (record { passes = passes; shut = staged_opened list payload tail (file_of 0 d) short staged; calls = refl })
 
 -- a gate that may have been opened
 pub opening_failed : (tail : ℕ) (payload : List ℕ) (d e : Device) → length payload < 2 ^ 32 → IsStagedAt tail payload d → FailsToPut tail 1 d e → MayOpen tail payload d e
@@ -106,9 +106,9 @@ pub stages_ends : (tail : ℕ) (payload : List ℕ) (d e : Device) → Stages ta
 stages_ends tail payload d e s = subst (λ l. IsStaged l payload tail (file_of 0 e)) (sym s.staged.shut.front.lists) s.staged
 
 -- settling failed within a commit
-pub fails_settling : (settled : Bool) (tail : ℕ) (payload : List ℕ) (d e : Device) → StaysLoose settled tail d e → Fails settled tail payload Earlier d e
+pub fails_settling : (settled : Bool) (tail : ℕ) (payload : List ℕ) (d e : Device) → StaysLoose settled tail d e → FailsToAppend settled tail payload Earlier d e
 fails_settling settled tail payload d e stays = record {
-  keeps = subst (λ b. Keeps b false tail d e) (sym stays.was_loose) stays.keeps;
+  keeps = subst (λ b. KeepsFrames b false tail d e) (sym stays.was_loose) stays.keeps;
   loose = stays.same_loose ∙ ap (λ b. loose_at b tail d) (sym stays.was_loose);
 }
 
@@ -119,7 +119,7 @@ module _ (settled : Bool) (tail : ℕ) (payload : List ℕ) (d e : Device) (sett
       (λ image h. elim h [ inl old ↦ f image old | inr new ↦ f image (inl (new ∙ append-nil (list_at tail e) ∙ settles.keeps.same_list)) ]) settles.keeps.moves.passes
 
   -- staging failed within a commit
-  pub fails_staging : (f : Device) → Keeps true true tail e f → Fails settled tail payload Nothing d f
+  pub fails_staging : (f : Device) → KeepsFrames true true tail e f → FailsToAppend settled tail payload Nothing d f
   fails_staging f keeps =
       let P = Stands (list_at tail d) (loose_at settled tail d) in
       let more : Passes e f P = passes_weaker e f (Between (list_at tail e) [] (list_at tail f) []) P
@@ -142,7 +142,7 @@ module _ (settled : Bool) (tail : ℕ) (payload : List ℕ) (d e : Device) (sett
   staged_list f stages = stages.staged.shut.front.lists ∙ settles.keeps.same_list
 
   -- opening the gate failed within a commit
-  pub fails_opening : (f g : Device) → Stages tail payload e f → MayOpen tail payload f g → Fails settled tail payload InFlight d g
+  pub fails_opening : (f g : Device) → Stages tail payload e f → MayOpen tail payload f g → FailsToAppend settled tail payload InFlight d g
   fails_opening f g stages may =
       let list = list_at tail d in
       let same = staged_list f stages in
@@ -157,7 +157,7 @@ module _ (settled : Bool) (tail : ℕ) (payload : List ℕ) (d e : Device) (sett
       }
 
   -- a commit
-  pub commits : (f g : Device) → Stages tail payload e f → Opens tail payload f g → Commits settled tail payload d g
+  pub commits : (f g : Device) → Stages tail payload e f → OpensGate tail payload f g → CommitsFrame settled tail payload d g
   commits f g stages opens =
       let behind = tail + (5 + length payload) in
       let same = staged_list f stages in

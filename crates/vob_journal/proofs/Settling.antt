@@ -5,12 +5,12 @@ use Rattle.std.specs.Int.{w32, to_le_bytes}
 use Rattle.std.proofs.lemmas.List.{append_assoc, append-nil, take-append-drop, take_at, drop_at, drop_all, get_or-take, get_or-drop, get_or_past, ext_get_or, get_or_at, drop_more, length-take-le}
 use Rattle.std.proofs.lemmas.Bool.{cases_eq, cases_lt}
 use Rattle.std.proofs.lemmas.Grind.{common_steps}
-use Rattle.disk_model.specs.Files.{File, stable, covers, overwritten, IsImage, IsTorn}
+use Rattle.disk_model.specs.Files.{File, stable, is_written, overwritten, IsImage, IsTorn}
 use Rattle.disk_model.specs.Devices.{written_to}
 use Rattle.disk_model.proofs.Torn.{torn_overwritten, length_overwritten}
 use Rattle.vob_journal.specs.Frames.{frames, written}
 use Rattle.vob_journal.specs.Moves.{Stands}
-use Rattle.vob_journal.specs.Tails.{IsWhole, IsFront, IsShut, IsAjar}
+use Rattle.vob_journal.specs.Tails.{IsWhole, HoldsFront, IsShut, IsAjar}
 use Rattle.vob_journal.specs.Phases.{IsStaged}
 use Rattle.vob_journal.proofs.Framing.{head_shut, frames_none, frames_frame, frames_more, whole_more, head_written, length_written}
 
@@ -23,7 +23,7 @@ same_back n xs ys len same = ext_get_or 0 (drop n xs) (drop n ys) (simp length-d
     (λ i h. get_or-drop n xs i 0 ∙ same (n + i) (omega arith) (omega (arith, h, length-drop n xs)) ∙ sym (get_or-drop n ys i 0))
 
 -- a front that is the same in another file
-front_in : (list : List (List ℕ)) (tail : ℕ) (s s' : File) → IsFront list tail s → take tail s'.bytes ≡ take tail s.bytes → tail ≤ s'.least → s'.least ≤ length s'.bytes → IsFront list tail s'
+front_in : (list : List (List ℕ)) (tail : ℕ) (s s' : File) → HoldsFront list tail s → take tail s'.bytes ≡ take tail s.bytes → tail ≤ s'.least → s'.least ≤ length s'.bytes → HoldsFront list tail s'
 front_in list tail s s' front same synced reads = record {
   synced = synced;
   reads = reads;
@@ -31,14 +31,14 @@ front_in list tail s s' front same synced reads = record {
   lists = ap frames same ∙ front.lists;
 }
 
-front_torn : (list : List (List ℕ)) (tail place n : ℕ) (s : File) (left : List ℕ) → IsFront list tail s → tail ≤ place → IsTorn place n s.bytes left
+front_torn : (list : List (List ℕ)) (tail place n : ℕ) (s : File) (left : List ℕ) → HoldsFront list tail s → tail ≤ place → IsTorn place n s.bytes left
     → take tail left ≡ take tail s.bytes
 front_torn list tail place n s left front behind torn =
     same_front tail left s.bytes (omega (arith, front.synced, front.reads, torn.no_shorter)) (omega (arith, front.synced, front.reads))
     (λ i below. torn.below i (omega (arith, front.synced, front.reads)) (omega arith))
 
 -- a front, and what is found behind it
-front_split : (list : List (List ℕ)) (tail : ℕ) (s : File) (image : List ℕ) → IsFront list tail s → take tail image ≡ take tail s.bytes
+front_split : (list : List (List ℕ)) (tail : ℕ) (s : File) (image : List ℕ) → HoldsFront list tail s → take tail image ≡ take tail s.bytes
     → frames image ≡ list ++ frames (drop tail image)
 front_split list tail s image front same =
     ap frames (sym (take-append-drop tail image))
@@ -50,7 +50,7 @@ gate_of : (tail : ℕ) (image : List ℕ) → slice_index (drop tail image) 0 �
 gate_of tail image = get_or-drop tail image 0 0 ∙ ap (λ n. get_or image n 0) (omega arith)
 
 -- a front behind which no gate is open
-front_alone : (list : List (List ℕ)) (tail : ℕ) (s : File) (image : List ℕ) → IsFront list tail s → take tail image ≡ take tail s.bytes
+front_alone : (list : List (List ℕ)) (tail : ℕ) (s : File) (image : List ℕ) → HoldsFront list tail s → take tail image ≡ take tail s.bytes
     → slice_index image tail ≢ 1 → frames image ≡ list
 front_alone list tail s image front same shut =
     front_split list tail s image front same
@@ -106,7 +106,7 @@ shut_torn list tail n s left shut torn = record {
       shut.front.synced (omega (arith, shut.front.reads, torn.no_shorter));
   gate_synced = shut.gate_synced;
   gate = λ e. shut.gate (sym (torn.below tail (omega (arith, shut.gate_synced, shut.front.reads)) (omega arith)) ∙ e);
-  untouched = λ i below. uncovered (tail + 1) n i (covers s.written i) (inl (omega arith)) (shut.untouched i below);
+  untouched = λ i below. uncovered (tail + 1) n i (is_written s.written i) (inl (omega arith)) (shut.untouched i below);
 }
 
 either_side : (i tail : ℕ) → i ≢ tail → (i < tail) ⊎ (tail + 1 ≤ i)
@@ -120,7 +120,7 @@ ajar_torn list loose tail s left ajar torn = record {
       ajar.front.synced (omega (arith, ajar.front.reads, torn.no_shorter));
   longest = omega (arith, ajar.longest, torn.no_longer);
   gate_last = omega (arith, ajar.gate_last);
-  untouched = λ i ne. uncovered tail 1 i (covers s.written i) (either_side i tail ne) (ajar.untouched i ne);
+  untouched = λ i ne. uncovered tail 1 i (is_written s.written i) (either_side i tail ne) (ajar.untouched i ne);
   behind = ap (λ rest. frames (1 ∷ rest)) (elim (cases_lt tail (length s.bytes)) [
     | inl within ↦ same_back (tail + 1) left s.bytes (omega (arith, torn.no_shorter, torn.no_longer))
         (λ i behind below. torn.above i (omega (arith, torn.no_longer)) behind)
@@ -138,8 +138,8 @@ split_overwritten place piece bytes within =
       ap (drop place) whole ∙ drop_at (take place bytes) (piece ++ drop (place + length piece) bytes) place len,
     )
 
-stable_front : (list : List (List ℕ)) (tail place : ℕ) (s : File) (piece : List ℕ) → IsFront list tail s → tail ≤ place
-    → IsFront list tail (stable (overwritten place piece s.bytes))
+stable_front : (list : List (List ℕ)) (tail place : ℕ) (s : File) (piece : List ℕ) → HoldsFront list tail s → tail ≤ place
+    → HoldsFront list tail (stable (overwritten place piece s.bytes))
 stable_front list tail place s piece front behind =
     let torn = torn_overwritten place (length piece) piece s.bytes (omega arith) in
     front_in list tail s (stable (overwritten place piece s.bytes)) front (front_torn list tail place (length piece) s (overwritten place piece s.bytes) front behind torn)
@@ -192,7 +192,7 @@ staged_ajar list payload tail s short staged =
       front = staged.shut.front;
       longest = omega (arith, ap (λ f. f.most) staged.synced);
       gate_last = omega (arith, ap (λ f. f.most) staged.synced, ap (λ f. f.least) staged.synced);
-      untouched = λ i ne. ap (λ f. covers f.written i) staged.synced;
+      untouched = λ i ne. ap (λ f. is_written f.written i) staged.synced;
       behind = ap (λ bytes. frames (1 ∷ bytes)) staged.frame.1
           ∙ ap frames (staged_frame payload rest)
           ∙ frames_frame frame payload (0 ∷ rest) (head_written payload short) (length_written payload)

@@ -1,6 +1,6 @@
 -- What the calls of a journal answer.
 use Rattle.std.specs.Prelude.{◌≡◌, ◌+◌, ℕ, Bool, true, false, Option, Some, None, Result, Ok, Err, is_ok, List, [], ◌∷◌, drop}
-use Rattle.disk_model.specs.Counting.{raised}
+use Rattle.disk_model.specs.Counting.{next_count}
 use Rattle.disk_model.specs.Devices.{Device, bytes_of}
 use Rattle.disk_model.specs.Told.{Sight}
 use Rattle.vob_journal.specs.Frames.{is_shut}
@@ -28,7 +28,7 @@ OneMore old new = (new.ticks ≡ old.ticks + 1) × (new.faults ≡ old.faults)
 
 -- one device call that failed
 abbrev pub OneFault : Sight → Sight → Type 0
-OneFault old new = (new.ticks ≡ raised old.ticks) × (new.faults ≡ raised old.faults)
+OneFault old new = (new.ticks ≡ next_count old.ticks) × (new.faults ≡ next_count old.faults)
 
 -- no device call is made, and none fails
 abbrev pub MakesNoCall : {D T E : Type 0} → Result T E → D → D → Type 0

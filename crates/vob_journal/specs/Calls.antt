@@ -28,7 +28,7 @@ abbrev pub committed : Bool → ℕ → List ℕ → Device → Device
 committed settled tail payload d = put_down tail (1 ∷ []) (put_down (tail + 1) (written payload) (settled_first settled tail d))
 
 -- a settling call, or a phase of it, keeps the list
-pub record Keeps (settled settled' : Bool) (tail : ℕ) (d e : Device) : Type 0 where
+pub record KeepsFrames (settled settled' : Bool) (tail : ℕ) (d e : Device) : Type 0 where
   pub moves : Moves (list_at tail d) (loose_at settled tail d) (list_at tail e) (loose_at settled' tail e) d e
   pub ends : IsTail settled' tail e
   pub same_list : list_at tail e ≡ list_at tail d
@@ -36,23 +36,23 @@ pub record Keeps (settled settled' : Bool) (tail : ℕ) (d e : Device) : Type 0 
 
 -- the tail was settled
 pub record Settles (settled : Bool) (tail : ℕ) (d e : Device) : Type 0 where
-  pub keeps : Keeps settled true tail d e
+  pub keeps : KeepsFrames settled true tail d e
   pub calls : e ≡ settled_first settled tail d
 
 -- settling failed: what was loose is loose
 pub record StaysLoose (settled : Bool) (tail : ℕ) (d e : Device) : Type 0 where
   pub was_loose : settled ≡ false
-  pub keeps : Keeps false false tail d e
+  pub keeps : KeepsFrames false false tail d e
   pub same_loose : loose_at false tail e ≡ loose_at false tail d
 
 -- a payload was committed
-pub record Commits (settled : Bool) (tail : ℕ) (payload : List ℕ) (d e : Device) : Type 0 where
+pub record CommitsFrame (settled : Bool) (tail : ℕ) (payload : List ℕ) (d e : Device) : Type 0 where
   pub moves : Moves (list_at tail d) (loose_at settled tail d) (list_at (tail + (5 + length payload)) e) [] d e
   pub ends : IsTail true (tail + (5 + length payload)) e
   pub list : list_at (tail + (5 + length payload)) e ≡ list_at tail d ++ payload ∷ []
   pub calls : e ≡ committed settled tail payload d
 
 -- a commit failed, and left this
-pub record Fails (settled : Bool) (tail : ℕ) (payload : List ℕ) (left : Left) (d e : Device) : Type 0 where
-  pub keeps : Keeps settled (settled_after left) tail d e
+pub record FailsToAppend (settled : Bool) (tail : ℕ) (payload : List ℕ) (left : Left) (d e : Device) : Type 0 where
+  pub keeps : KeepsFrames settled (settled_after left) tail d e
   pub loose : loose_at (settled_after left) tail e ≡ loose_after left (loose_at settled tail d) payload

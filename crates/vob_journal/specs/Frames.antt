@@ -13,14 +13,14 @@ head bytes =
     then Some (take (size_of bytes) (drop 5 bytes)) else None
 
 -- a payload, and what is listed so many bytes on; all but a whole frame ends the list
-abbrev pub listed : Option (List ℕ) → (ℕ → List (List ℕ)) → List (List ℕ)
-listed None behind = []
-listed (Some payload) behind = payload ∷ behind (5 + length payload)
+abbrev pub frames_behind : Option (List ℕ) → (ℕ → List (List ℕ)) → List (List ℕ)
+frames_behind None behind = []
+frames_behind (Some payload) behind = payload ∷ behind (5 + length payload)
 
 -- the payloads of at most so many frames, from the first on
 abbrev pub frames_within : ℕ → List ℕ → List (List ℕ)
 frames_within zero bytes = []
-frames_within (suc most) bytes = listed (head bytes) (λ n. frames_within most (drop n bytes))
+frames_within (suc most) bytes = frames_behind (head bytes) (λ n. frames_within most (drop n bytes))
 
 -- The list of a journal: the payloads of its frames. No journal has more frames than bytes.
 unfoldable pub frames : List ℕ → List (List ℕ)

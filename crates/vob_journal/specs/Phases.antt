@@ -1,6 +1,6 @@
 -- The phases of a commit.
 use Rattle.std.specs.Prelude.{◌≡◌, ◌⊎◌, ◌≤◌, ◌+◌, ℕ, Bool, if◌then◌else◌, Result, MatchResult, List, [], ◌∷◌, ◌++◌, length, drop}
-use Rattle.disk_model.specs.Counting.{raised}
+use Rattle.disk_model.specs.Counting.{next_count}
 use Rattle.disk_model.specs.Files.{File, stable, IsTorn}
 use Rattle.disk_model.specs.Devices.{Device, Wrote, Tore, Failed, added, file_of, bytes_of}
 use Rattle.disk_model.specs.Told.{Sight}
@@ -39,7 +39,7 @@ pub record Stages (tail : ℕ) (payload : List ℕ) (d e : Device) : Type 0 wher
   pub calls : e ≡ put_down (tail + 1) (written payload) d
 
 -- the gate in front of a payload was opened
-pub record Opens (tail : ℕ) (payload : List ℕ) (d e : Device) : Type 0 where
+pub record OpensGate (tail : ℕ) (payload : List ℕ) (d e : Device) : Type 0 where
   pub passes : Passes d e (Stands (list_at tail d) (payload ∷ []))
   pub shut : IsShut (list_at tail d ++ payload ∷ []) (tail + (5 + length payload)) (file_of 0 e)
   pub calls : e ≡ put_down tail (1 ∷ []) d
@@ -54,7 +54,7 @@ pub record MayOpen (tail : ℕ) (payload : List ℕ) (d e : Device) : Type 0 whe
 abbrev pub Spends : {T E : Type 0} → ℕ → Result T E → Sight → Sight → Type 0
 Spends calls result old new = MatchResult result
     (λ _. (new.ticks ≡ old.ticks + calls) × (new.faults ≡ old.faults))
-    (λ _. (raised old.ticks ≤ new.ticks) × (new.ticks ≤ old.ticks + calls) × (new.faults ≡ raised old.faults))
+    (λ _. (next_count old.ticks ≤ new.ticks) × (new.ticks ≤ old.ticks + calls) × (new.faults ≡ next_count old.faults))
 
 -- the device calls of a commit
 abbrev pub calls_of : Bool → ℕ

@@ -1,6 +1,6 @@
 -- The device calls that read a journal.
 use Rattle.std.specs.Prelude.{◌≡◌, ◌⊎◌, ◌≤◌, ◌+◌, ◌-◌, ℕ, min, Result, Ok, Err, length}
-use Rattle.disk_model.specs.Counting.{raised}
+use Rattle.disk_model.specs.Counting.{next_count}
 use Rattle.disk_model.specs.Devices.{Device, Fetched, Failed, added, file_of, bytes_of, LeavesNow}
 use Rattle.disk_model.specs.Told.{Sight}
 use Rattle.cc_names.specs.declared.memory.Or.{Or}
@@ -32,7 +32,7 @@ ReadsPiece place d e = (e ≡ d) ⊎ (e ≡ added Failed d)
 abbrev pub FaultsOf : {T E : Type 0} → Result T (Or E) → ℕ → ℕ → Type 0
 FaultsOf (Ok x) old new = new ≡ old
 FaultsOf (Err NoMemory) old new = new ≡ old
-FaultsOf (Err (Is fault)) old new = new ≡ raised old
+FaultsOf (Err (Is fault)) old new = new ≡ next_count old
 
 -- at most so many device calls, and a fault only where the answer is one
 abbrev pub CountsReads : {T E : Type 0} → ℕ → Result T (Or E) → Sight → Sight → Type 0

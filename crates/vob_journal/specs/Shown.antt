@@ -47,7 +47,7 @@ told_loose None ended settled tail = []
 told_loose (Some d) ended settled tail = loose_of ended settled tail d
 
 -- what a journal keeps while its list is read, and from its end on
-abbrev pub IsKept : Option Device → Bool → Bool → ℕ → ℕ → Option Window → Type 0
-IsKept told true settled tail size window = (tail ≤ 2 ^ 62) × IfTold told (IsTail settled tail)
-IsKept told false settled tail size window =
+abbrev pub IsJournalKept : Option Device → Bool → Bool → ℕ → ℕ → Option Window → Type 0
+IsJournalKept told true settled tail size window = (tail ≤ 2 ^ 62) × IfTold told (IsTail settled tail)
+IsJournalKept told false settled tail size window =
     (tail ≤ size) × (size ≤ 2 ^ 62) × IfShows window told × IfTold told (IsReading tail size)

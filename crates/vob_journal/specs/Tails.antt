@@ -1,6 +1,6 @@
 -- How a journal's file ends, behind the last frame of its list.
 use Rattle.std.specs.Prelude.{◌≡◌, ◌≢◌, ◌≤◌, ◌<◌, ◌+◌, ℕ, max, Bool, true, false, List, [], ◌∷◌, ◌++◌, length, take, drop, slice_index}
-use Rattle.disk_model.specs.Files.{File, covers, stable}
+use Rattle.disk_model.specs.Files.{File, is_written, stable}
 use Rattle.disk_model.specs.Devices.{Device, file_of, bytes_of}
 use Rattle.vob_journal.specs.Frames.{frames}
 
@@ -9,7 +9,7 @@ pub record IsWhole (front : List ℕ) : Type 0 where
   pub goes_on : (rest : List ℕ) → frames (front ++ rest) ≡ frames front ++ frames rest
 
 -- up to its tail a file has this list whole, and all of that is on the disk
-pub record IsFront (list : List (List ℕ)) (tail : ℕ) (file : File) : Type 0 where
+pub record HoldsFront (list : List (List ℕ)) (tail : ℕ) (file : File) : Type 0 where
   pub synced : tail ≤ file.least
   pub reads : file.least ≤ length file.bytes
   pub whole : IsWhole (take tail file.bytes)
@@ -17,18 +17,18 @@ pub record IsFront (list : List (List ℕ)) (tail : ℕ) (file : File) : Type 0 
 
 -- A settled tail: a shut gate stands there, and it is on the disk.
 pub record IsShut (list : List (List ℕ)) (tail : ℕ) (file : File) : Type 0 where
-  pub front : IsFront list tail file
+  pub front : HoldsFront list tail file
   pub gate_synced : tail < file.least
   pub gate : slice_index file.bytes tail ≢ 1
-  pub untouched : (i : ℕ) → i ≤ tail → covers file.written i ≡ false
+  pub untouched : (i : ℕ) → i ≤ tail → is_written file.written i ≡ false
 
 -- A tail that is not settled: its gate byte may read as anything after a stop, and if it reads as open, then these are
 -- found behind the list.
 pub record IsAjar (list loose : List (List ℕ)) (tail : ℕ) (file : File) : Type 0 where
-  pub front : IsFront list tail file
+  pub front : HoldsFront list tail file
   pub longest : length file.bytes ≤ file.most
   pub gate_last : file.most ≤ max file.least (tail + 1)
-  pub untouched : (i : ℕ) → i ≢ tail → covers file.written i ≡ false
+  pub untouched : (i : ℕ) → i ≢ tail → is_written file.written i ≡ false
   pub behind : frames (1 ∷ drop (tail + 1) file.bytes) ≡ loose
 
 -- the list that ends at this tail

@@ -33,7 +33,7 @@ pub struct Journal<D: Disk> {
 }
 
 impl<D: Disk> Model for Journal<D> {
-    ghost use Rattle.vob_journal.specs.Shown.{Shown, told_list, told_rest, told_loose, IsKept};
+    ghost use Rattle.vob_journal.specs.Shown.{Shown, told_list, told_rest, told_loose, IsJournalKept};
 
     ghost Value = { Shown D };
 
@@ -49,7 +49,7 @@ impl<D: Disk> Model for Journal<D> {
     } };
 
     ghost invariant = { λ j.
-        IsKept (D.sight j.disk).told j.ended j.settled j.tail j.size j.window };
+        IsJournalKept (D.sight j.disk).told j.ended j.settled j.tail j.size j.window };
 }
 
 impl<D: Disk> Journal<D> {
@@ -168,6 +168,8 @@ impl<D: Disk> Journal<D> {
             (self.new.list ≡ self.old.list)
             × (self.new.loose ≡ loose_after self.new.left self.old.loose frame.now))) }
         ensures left { OnOk result (self.new.left ≡ lefts.Nothing) }
+        ensures earlier { OnErr result
+            (self.new.left ≡ lefts.Earlier → self.old.settled ≡ false) }
         ensures settled { self.new.settled ≡ settled_after self.new.left }
         ensures ended { self.new.ended ≡ true }
         ensures writes { Both WritesOn (D.sight self.old.disk).told (D.sight self.new.disk).told }

@@ -16,8 +16,6 @@ mod journal;
 mod left;
 mod reading;
 mod tail;
-#[cfg(test)]
-mod tests;
 mod window;
 
 pub use foreign::foreign_bytes;

@@ -1,12 +1,13 @@
 // How the tail of a journal is written, phase by phase.
 
-ghost use Rattle.std.specs.Prelude.{◌≡◌, ◌≤◌, ◌<◌, ◌+◌, ◌^◌, ◌∷◌, [], Bool, true, false, length, IfOk, MatchResult, if◌then◌else◌};
+ghost use Rattle.std.specs.Prelude.{◌≡◌, ◌≤◌, ◌<◌, ◌+◌, ◌^◌, ◌∷◌, [], Bool, true, false, length, IfOk, IfErr, MatchResult, if◌then◌else◌};
 ghost use Rattle.disk_model.specs.Devices.{bytes_of};
 ghost use Rattle.disk_model.specs.Told.{IfTold, Both};
 ghost use Rattle.vob_journal.specs.Answered.{MakesNoCall};
+ghost use Rattle.vob_journal.specs.declared.left.Left.TheVariants as lefts;
 ghost use Rattle.vob_journal.specs.Tails.{IsTail};
-ghost use Rattle.vob_journal.specs.Calls.{Keeps, Settles, StaysLoose, Commits, Fails};
-ghost use Rattle.vob_journal.specs.Phases.{PutsDown, FailsToPut, Stages, IsStagedAt, Opens, MayOpen, Spends, calls_of};
+ghost use Rattle.vob_journal.specs.Calls.{KeepsFrames, Settles, StaysLoose, CommitsFrame, FailsToAppend};
+ghost use Rattle.vob_journal.specs.Phases.{PutsDown, FailsToPut, Stages, IsStagedAt, OpensGate, MayOpen, Spends, calls_of};
 
 use crate::frame::Frame;
 use crate::left::Left;
@@ -56,7 +57,7 @@ fn stage<D: Disk>(disk: &mut D, tail: u64, frame: &Frame) -> Result<(), DiskFaul
     ensures most { IfOk result (λ _. tail + (5 + length frame.now) ≤ 2 ^ 62) }
     ensures told { MatchResult result
         (λ _. Both (Stages tail frame.now) (D.sight disk.old).told (D.sight disk.new).told)
-        (λ _. Both (Keeps true true tail) (D.sight disk.old).told (D.sight disk.new).told) }
+        (λ _. Both (KeepsFrames true true tail) (D.sight disk.old).told (D.sight disk.new).told) }
     ensures counts { Spends 2 result (D.sight disk.old) (D.sight disk.new) }
 {
     put_down(disk, tail + 1, frame.as_bytes())
@@ -66,7 +67,7 @@ fn stage<D: Disk>(disk: &mut D, tail: u64, frame: &Frame) -> Result<(), DiskFaul
 fn open_gate<D: Disk>(disk: &mut D, tail: u64, frame: &Frame) -> Result<(), DiskFault>
     requires { IfTold (D.sight disk.old).told (IsStagedAt tail frame.now) }
     ensures told { MatchResult result
-        (λ _. Both (Opens tail frame.now) (D.sight disk.old).told (D.sight disk.new).told)
+        (λ _. Both (OpensGate tail frame.now) (D.sight disk.old).told (D.sight disk.new).told)
         (λ _. Both (MayOpen tail frame.now) (D.sight disk.old).told (D.sight disk.new).told) }
     ensures counts { Spends 2 result (D.sight disk.old) (D.sight disk.new) }
 {
@@ -85,10 +86,11 @@ pub(crate) fn commit<D: Disk>(
     requires ends { IfTold (D.sight disk.old).told (IsTail settled tail) }
     ensures most { IfOk result (λ _. tail + (5 + length frame.now) ≤ 2 ^ 62) }
     ensures told { MatchResult result
-        (λ _. Both (Commits settled tail frame.now) (D.sight disk.old).told (D.sight disk.new).told)
+        (λ _. Both (CommitsFrame settled tail frame.now) (D.sight disk.old).told (D.sight disk.new).told)
         (λ left.
-        Both (Fails settled tail frame.now left) (D.sight disk.old).told
+        Both (FailsToAppend settled tail frame.now left) (D.sight disk.old).told
         (D.sight disk.new).told) }
+    ensures earlier { IfErr result (λ left. left ≡ lefts.Earlier → settled ≡ false) }
     ensures counts { Spends (calls_of settled) result (D.sight disk.old) (D.sight disk.new) }
 {
     if let Err(_) = settle_tail(disk, settled, tail) {

@@ -2,6 +2,7 @@
 
 use super::Core;
 use crate::logs::Appended;
+use carried_out::asks;
 use cc_names::copies::Copied;
 use cc_names::desks::Done;
 use cc_names::memory::{NoMemory, Or};
@@ -9,23 +10,35 @@ use cc_names::refusals::Refusal;
 use cc_names::replies::Reply;
 use cc_names::rows::{Row, Tag};
 use cc_names::steps::Step;
+use cc_names::texts::Text;
 use checkout_desk::{decide, view_of};
+use cleartool::answer;
 use disk_model::Disk;
 use std::alloc::Global;
 
 impl<D: Disk> Core<D> {
-    ghost use Rattle.std.specs.Prelude.{◌≡◌, OnOk, OnErr, IfOk};
+    ghost use Rattle.std.specs.Prelude.{◌≡◌, true, false, OnOk, OnErr, IfOk, IfSome};
+    ghost use Rattle.carried_out.specs.Queries.{asks};
     ghost use Rattle.cc_names.specs.declared.desks.Done.TheVariants as dones;
     ghost use Rattle.cc_names.specs.declared.desks.Next.TheVariants as nexts;
     ghost use Rattle.legal_history.specs.Stories.States.{next_tag};
     ghost use Rattle.legal_history.specs.Stories.Steps.{state_of};
-    ghost use Rattle.base_core.specs.Acting.{Acts, DecidesNext, IsNextRow, IsNextRefusal};
-    ghost use Rattle.base_core.specs.Counted.{KeepsCount};
-    ghost use Rattle.base_core.specs.Nexts.{next_of};
+    ghost use Rattle.base_core.specs.Calls.Acting.{
+      Acts,
+      AnswersNext,
+      DecidesNext,
+      IsNextAnswer,
+      IsNextRefusal,
+      IsRowToCommit,
+    };
+    ghost use Rattle.base_core.specs.Story.Counted.{KeepsCount};
+    ghost use Rattle.base_core.specs.Keeping.Nexts.{next_of, waiting};
 
-    /// What is decided of a lane's next command: its row or its first refusal.
+    /// What is decided of a lane's next command, which makes a row: the row, or its first refusal.
     fn decide(&self, alloc: Global, lane: u32) -> Result<Row, Or<Refusal>>
-        requires { next_of (state_of self.now.story) lane ≡ nexts.Act }
+        requires act { next_of (state_of self.now.story) lane ≡ nexts.Act }
+        requires no_query { IfSome (waiting (state_of self.now.story) lane)
+            (λ command. asks command ≡ false) }
         ensures { DecidesNext (state_of self.now.story) (next_tag (state_of self.now.story) lane)
             result }
     {
@@ -34,9 +47,21 @@ impl<D: Disk> Core<D> {
         decide(alloc, &self.log.rows(), command, occasion)
     }
 
+    /// What is decided of a lane's next command, which is a query: its text, or its first refusal.
+    fn find_answer(&self, alloc: Global, lane: u32) -> Result<Text, Or<Refusal>>
+        requires act { next_of (state_of self.now.story) lane ≡ nexts.Act }
+        requires query { IfSome (waiting (state_of self.now.story) lane)
+            (λ command. asks command ≡ true) }
+        ensures { AnswersNext (state_of self.now.story) (next_tag (state_of self.now.story) lane)
+            result }
+    {
+        let command = self.command(lane);
+        answer(alloc, &self.log.rows(), command)
+    }
+
     /// Commits the row of its lane's next command, or tells that the disk failed under it. An `Err` changes nothing.
     fn commit(&mut self, alloc: Global, row: Row) -> Result<Done, NoMemory>
-        requires { IsNextRow (state_of self.old.story) row }
+        requires { IsRowToCommit (state_of self.old.story) row }
         ensures ok { IfOk result (λ done. Acts self.old.story self.new.story row.tag.lane done) }
         ensures err { OnErr result (self.new ≡ self.old) }
         ensures counted { KeepsCount self.old self.new }
@@ -72,13 +97,25 @@ impl<D: Disk> Core<D> {
         Ok(())
     }
 
-    /// Carries out a lane's next command, which builds nothing: its row is committed, it is refused, or the disk fails
-    /// under it. An `Err` changes nothing. A commit has the disk's ticks as this call ends, and no fault was counted. A
-    /// fault has the counts of faults as this call begins and ends, and the ticks as it ends. A refusal and an `Err` make
-    /// no device call. Takes time linear in the command, in the row, in the lanes and in the steps since the last commit or
-    /// fault, however many rows there are.
-    pub fn act(&mut self, alloc: Global, lane: u32) -> Result<Done, NoMemory>
-        requires { next_of (state_of self.old.story) lane ≡ nexts.Act }
+    /// Answers its lane's next command. An `Err` changes nothing.
+    fn tell_answer(&mut self, alloc: Global, tag: Tag, text: Text) -> Result<(), NoMemory>
+        requires { IsNextAnswer (state_of self.old.story) tag text }
+        ensures ok { OnOk result (Acts self.old.story self.new.story tag.lane dones.Answered) }
+        ensures err { OnErr result (self.new ≡ self.old) }
+        ensures counted { KeepsCount self.old self.new }
+    {
+        let told = text.copy(alloc)?;
+        self.log.tell(Step::Answer { tag, text })?;
+        self.lanes.reply(tag.lane, Reply::Answer(told));
+        Ok(())
+    }
+
+    /// Carries out a lane's next command, which makes a row: the row is committed, the command is refused, or the disk fails
+    /// under it. An `Err` changes nothing.
+    fn make_row(&mut self, alloc: Global, lane: u32) -> Result<Done, NoMemory>
+        requires act { next_of (state_of self.old.story) lane ≡ nexts.Act }
+        requires no_query { IfSome (waiting (state_of self.old.story) lane)
+            (λ command. asks command ≡ false) }
         ensures ok { IfOk result (λ done. Acts self.old.story self.new.story lane done) }
         ensures err { OnErr result (self.new ≡ self.old) }
         ensures counted { KeepsCount self.old self.new }
@@ -91,6 +128,48 @@ impl<D: Disk> Core<D> {
                 Ok(Done::Refused)
             }
             Err(Or::NoMemory) => Err(NoMemory),
+        }
+    }
+
+    /// Carries out a lane's next command, which is a query: it is answered, or refused. An `Err` changes nothing.
+    fn ask(&mut self, alloc: Global, lane: u32) -> Result<Done, NoMemory>
+        requires act { next_of (state_of self.old.story) lane ≡ nexts.Act }
+        requires query { IfSome (waiting (state_of self.old.story) lane)
+            (λ command. asks command ≡ true) }
+        ensures ok { IfOk result (λ done. Acts self.old.story self.new.story lane done) }
+        ensures err { OnErr result (self.new ≡ self.old) }
+        ensures counted { KeepsCount self.old self.new }
+    {
+        let tag = self.tag(lane);
+        match self.find_answer(alloc, lane) {
+            Ok(text) => {
+                self.tell_answer(alloc, tag, text)?;
+                Ok(Done::Answered)
+            }
+            Err(Or::Is(refusal)) => {
+                self.refuse(alloc, tag, refusal)?;
+                Ok(Done::Refused)
+            }
+            Err(Or::NoMemory) => Err(NoMemory),
+        }
+    }
+
+    /// Carries out a lane's next command, which builds nothing: its row is committed, it is answered, it is refused, or the
+    /// disk fails under it. An `Err` changes nothing. A commit has the disk's ticks as this call ends, and no fault was
+    /// counted. A fault has the counts of faults as this call begins and ends, and the ticks as it ends. An answer, a refusal
+    /// and an `Err` make no device call. Takes time linear in the command, in the row or the answer, in the lanes and in the
+    /// steps since the last commit or fault, however many rows there are.
+    pub fn act(&mut self, alloc: Global, lane: u32) -> Result<Done, NoMemory>
+        requires { next_of (state_of self.old.story) lane ≡ nexts.Act }
+        ensures ok { IfOk result (λ done. Acts self.old.story self.new.story lane done) }
+        ensures err { OnErr result (self.new ≡ self.old) }
+        ensures counted { KeepsCount self.old self.new }
+    {
+        let command = self.command(lane);
+        if asks(command) {
+            self.ask(alloc, lane)
+        } else {
+            self.make_row(alloc, lane)
         }
     }
 }

@@ -19,9 +19,9 @@ impl<D: Disk> Core<D> {
     ghost use Rattle.legal_history.specs.Stories.Lawful.{last_moment, Legal};
     ghost use Rattle.legal_history.specs.Stories.States.{next_tag};
     ghost use Rattle.legal_history.specs.Stories.Steps.{state_of};
-    ghost use Rattle.base_core.specs.Building.{IsBuildKept};
-    ghost use Rattle.base_core.specs.Kept.{command_limit};
-    ghost use Rattle.base_core.specs.Nexts.{next_of, waiting};
+    ghost use Rattle.base_core.specs.Calls.Building.{IsBuildKept};
+    ghost use Rattle.base_core.specs.Keeping.Kept.{command_limit};
+    ghost use Rattle.base_core.specs.Keeping.Nexts.{next_of, waiting};
 
     /// The base, all its rows.
     pub(super) fn rows(&self) -> FirstRows<'_>

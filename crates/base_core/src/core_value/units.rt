@@ -39,8 +39,8 @@ impl<D: Disk> Core<D> {
     ghost use Rattle.build_script.specs.Ended.{ran_of};
     ghost use Rattle.legal_history.specs.Builds.Turns.{came_by_start};
     ghost use Rattle.legal_history.specs.Stories.Steps.{state_of};
-    ghost use Rattle.base_core.specs.BuildCalls.{
-      HasRun,
+    ghost use Rattle.base_core.specs.Calls.BuildCalls.{
+      IsRunOfUnit,
       IsBuilding,
       IsCarried,
       IsObjectRow,
@@ -54,8 +54,8 @@ impl<D: Disk> Core<D> {
       StepsTo,
       Tries,
     };
-    ghost use Rattle.base_core.specs.Counted.{KeepsCount};
-    ghost use Rattle.base_core.specs.Going.{GoesOn};
+    ghost use Rattle.base_core.specs.Story.Counted.{KeepsCount};
+    ghost use Rattle.base_core.specs.Calls.Going.{GoesOn};
 
     /// Tells a step by which a unit of a lane's build comes to something without a row. An `Err` changes nothing.
     fn note_step(&mut self, lane: u32, unit: u32, step: Step, came: Came) -> Result<(), NoMemory>
@@ -146,7 +146,7 @@ impl<D: Disk> Core<D> {
         targets: &[Path],
     ) -> Result<Ended, NoMemory>
         requires { IsStarted (state_of self.now.story) lane unit script.now targets.now }
-        ensures { IfOk result (λ ended. HasRun (state_of self.now.story) lane unit (ran_of ended)) }
+        ensures { IfOk result (λ ended. IsRunOfUnit (state_of self.now.story) lane unit (ran_of ended)) }
     {
         run_unit(
             alloc,
@@ -168,7 +168,7 @@ impl<D: Disk> Core<D> {
         outputs: List<Text>,
         reads: &[Path],
     ) -> Result<Row, NoMemory>
-        requires { HasRun (state_of self.now.story) lane unit
+        requires { IsRunOfUnit (state_of self.now.story) lane unit
             (record { result = Ok outputs; reads = reads.now }) }
         ensures { IfOk result (λ row. IsObjectRow (state_of self.now.story) lane unit row) }
     {
@@ -223,7 +223,7 @@ impl<D: Disk> Core<D> {
         unit: u32,
         ended: Ended,
     ) -> Result<UnitTurn, NoMemory>
-        requires { HasRun (state_of self.old.story) lane unit (ran_of ended) }
+        requires { IsRunOfUnit (state_of self.old.story) lane unit (ran_of ended) }
         ensures ok { IfOk result (λ turn. IsCarried self.old.story self.new.story lane unit turn) }
         ensures err { OnErr result (self.new ≡ self.old) }
         ensures counted { KeepsCount self.old self.new }

@@ -24,7 +24,7 @@ use Rattle.legal_history.specs.Stories.States.{State, decided, build_by}
 use Rattle.legal_history.specs.Stories.Steps.{after, after_step, noted, came_by_starting, active_after, begun}
 use Rattle.legal_history.specs.Stories.Committing.{MakesRow}
 use Rattle.legal_history.specs.Stories.Lawful.{Lawful, LawfulStep}
-use Rattle.legal_history.specs.Builds.UnitTurns.{Settles, EndsEarly, Starts}
+use Rattle.legal_history.specs.Builds.UnitTurns.{ComesTo, EndsEarly, Starts}
 use Rattle.legal_history.specs.Builds.Turns.{came_by_start, unreadable}
 use Rattle.legal_history.proofs.Stories.Goes.{of_lane}
 use Rattle.legal_history.proofs.Builds.ConsistentStays.{IsBegun, begins_consistent, consistent_faulted, is_object_stays, keeps_with, keeps_without}
@@ -43,7 +43,7 @@ early_fine s tag n end h e plain =
     waited_fine s s.base tag n e.build e.unit (λ b. Some n) (Ended end) h (of_lane s tag e.build e.waits.active) refl
     (keeps_without s.base e.build n e.unit (Ended end) e.waits.is_unit e.waits.waits (ready_by e.build e.unit e.ready) plain)
 
-settled_fine : (s : State) (tag : Tag) (n : ℕ) (end : UnitEnd) → is_base s.base ≡ true → Each (λ lane. IsFine s.base) s.active → Settles s tag n end → Each (λ lane. IsFine s.base) (noted s.active tag.lane (λ b. Some n) (Ended end))
+settled_fine : (s : State) (tag : Tag) (n : ℕ) (end : UnitEnd) → is_base s.base ≡ true → Each (λ lane. IsFine s.base) s.active → ComesTo s tag n end → Each (λ lane. IsFine s.base) (noted s.active tag.lane (λ b. Some n) (Ended end))
 settled_fine s tag n (ends.Kept id) base h e =
     let waits = e.open_unit.waits in
     waited_fine s s.base tag n e.build e.unit (λ b. Some n) (Ended (ends.Kept id)) h (of_lane s tag e.build waits.active) refl

@@ -26,7 +26,7 @@ use Rattle.legal_history.specs.Stories.States.{State, decided, build_by}
 use Rattle.legal_history.specs.Stories.Steps.{after, after_step, noted, noted_in, with_came, came_by_starting, active_after, begun, with_build, without_build, faulted_in}
 use Rattle.legal_history.specs.Stories.Committing.{MakesRow}
 use Rattle.legal_history.specs.Stories.Lawful.{Lawful, LawfulStep}
-use Rattle.legal_history.specs.Builds.UnitTurns.{Settles, Waits}
+use Rattle.legal_history.specs.Builds.UnitTurns.{ComesTo, Waits}
 use Rattle.legal_history.proofs.Stories.Goes.{of_lane, decided_is_idle}
 use Rattle.legal_history.proofs.Stories.DecidedSteps.{decided_of, says_of, begun_by, begun_is}
 use Rattle.legal_history.proofs.Builds.Room.{waiting, all_waiting, all_reserved, no_more_wait, fewer_wait, few_wait, put_waiting, put_new_waiting, without_waiting}
@@ -109,7 +109,7 @@ ended_room b active lane h = record {
   room = let fewer = without_waiting active (λ key. not (key == lane)) in let room = h.room in omega arith;
 }
 
-settled_room : (s : State) (tag : Tag) (n : ℕ) (end : UnitEnd) → HasRoom s.base s.active → Settles s tag n end → HasRoom s.base (noted s.active tag.lane (λ b. Some n) (Ended end))
+settled_room : (s : State) (tag : Tag) (n : ℕ) (end : UnitEnd) → HasRoom s.base s.active → ComesTo s tag n end → HasRoom s.base (noted s.active tag.lane (λ b. Some n) (Ended end))
 settled_room s tag n (ends.Kept id) h e = waited_room s tag n e.build e.unit (λ b. Some n) (Ended (ends.Kept id)) h e.open_unit.waits refl
 settled_room s tag n (ends.Failed (unit_faults.Script fault)) h e =
     waited_room s tag n e.build e.unit (λ b. Some n) (Ended (ends.Failed (unit_faults.Script fault))) h e.running.waits refl

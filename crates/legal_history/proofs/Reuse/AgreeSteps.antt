@@ -24,7 +24,7 @@ use Rattle.legal_history.specs.Stories.States.{State, decided, build_by}
 use Rattle.legal_history.specs.Stories.Steps.{after, after_step, active_after, begun, came_by_starting, noted}
 use Rattle.legal_history.specs.Stories.Lawful.{Lawful, LawfulStep}
 use Rattle.legal_history.specs.Builds.Turns.{came_by_start, unreadable}
-use Rattle.legal_history.specs.Builds.UnitTurns.{EndsEarly, Settles, Starts}
+use Rattle.legal_history.specs.Builds.UnitTurns.{EndsEarly, ComesTo, Starts}
 use Rattle.legal_history.proofs.Builds.AgreeStays.{begins_so, came_so, faulted_agrees, row_added}
 use Rattle.legal_history.proofs.Builds.AllBuilds.{Each, each_as, each_begun, each_faulted, each_without}
 use Rattle.legal_history.proofs.Builds.BuildSteps.{begun_begins}
@@ -52,7 +52,7 @@ early_agrees s tag n end h e plain =
     each_waited (AgreesSoFar s.base) s tag n e.build (λ b. Some n) (Ended end) h there refl
     (came_so s.base e.build n e.unit (Ended end) agrees (early_may s.base e.build n e.unit end agrees e.waits.is_unit e.waits.waits (ready_by e.build e.unit e.ready) e.ends plain))
 
-settled_agrees : (s : State) (tag : Tag) (n : ℕ) (end : UnitEnd) → IsTrusted s.base → is_base s.base ≡ true → AllHeld s → BuildsAgree s → Settles s tag n end → Each (λ lane. AgreesSoFar s.base) (noted s.active tag.lane (λ b. Some n) (Ended end))
+settled_agrees : (s : State) (tag : Tag) (n : ℕ) (end : UnitEnd) → IsTrusted s.base → is_base s.base ≡ true → AllHeld s → BuildsAgree s → ComesTo s tag n end → Each (λ lane. AgreesSoFar s.base) (noted s.active tag.lane (λ b. Some n) (Ended end))
 settled_agrees s tag n (ends.Kept id) trusted base held h e =
     let there = of_lane s tag e.build e.open_unit.waits.active in
     each_waited (AgreesSoFar s.base) s tag n e.build (λ b. Some n) (Ended (ends.Kept id)) h there refl

@@ -14,7 +14,7 @@ use Rattle.legal_history.specs.Base.Fits.{is_base}
 use Rattle.legal_history.specs.Stories.States.{State, decided, build_by}
 use Rattle.legal_history.specs.Stories.Steps.{after, after_step, noted, came_by_starting, came_of_unit, begun, with_came}
 use Rattle.legal_history.specs.Stories.Lawful.{Lawful, LawfulStep}
-use Rattle.legal_history.specs.Builds.UnitTurns.{Settles, Keeps}
+use Rattle.legal_history.specs.Builds.UnitTurns.{ComesTo, Keeps}
 use Rattle.legal_history.specs.Builds.Turns.{unreadable}
 use Rattle.legal_history.proofs.Stories.Goes.{of_lane}
 use Rattle.legal_history.proofs.Bases.Owned.{row_fits}
@@ -59,7 +59,7 @@ kept_given s tag n id base h e =
         subst (IsHeld s.base e.build n) number (kept_held s.base e.build n e.unit id base e.open_unit.waits.is_unit e.holds))
         (h.given.holds tag.lane e.build there))
 
-settled_given : (s : State) (tag : Tag) (n : ℕ) (end : UnitEnd) → is_base s.base ≡ true → AllHeld s → Settles s tag n end → Each (λ lane. HoldsGiven s.base) (noted s.active tag.lane (λ b. Some n) (Ended end))
+settled_given : (s : State) (tag : Tag) (n : ℕ) (end : UnitEnd) → is_base s.base ≡ true → AllHeld s → ComesTo s tag n end → Each (λ lane. HoldsGiven s.base) (noted s.active tag.lane (λ b. Some n) (Ended end))
 settled_given s tag n (ends.Kept id) base h e = kept_given s tag n id base h e
 settled_given s tag n (ends.Failed fault) base h e = without_object s tag.lane (λ b. Some n) (Ended (ends.Failed fault)) refl h
 settled_given s tag n (ends.Blocked path) base h e = without_object s tag.lane (λ b. Some n) (Ended (ends.Blocked path)) refl h

@@ -11,7 +11,7 @@ use Rattle.legal_history.specs.Base.Rows.{Base}
 use Rattle.legal_history.specs.Base.Fits.{is_base}
 use Rattle.legal_history.specs.Base.Values as values
 use Rattle.legal_history.specs.Laws.Stops.{IsLeftByStop, OfCommits, WithRowLeft, WithRowInFlight}
-use Rattle.legal_history.specs.Stories.Committing.{MayCommit, Leaves}
+use Rattle.legal_history.specs.Stories.Committing.{MayCommit, LeavesRow}
 use Rattle.legal_history.specs.Stories.Lawful.{Commits, Lawful, Legal, LegalFrom}
 use Rattle.legal_history.specs.Stories.States.{State, Opening, hanging, start, ticks_of}
 use Rattle.legal_history.specs.Stories.Steps.{after, state_from, state_of}
@@ -49,7 +49,7 @@ in_flight given s row h may =
     record { fits = (sound_step s x h.sound (commits s row may)).base; sound = λ given. base_step s x h.sound h.held (h.base given) (commits s row may) }
 
 -- what a fault leaves is such a row, or was left before
-fault_leaves : (given : Type 0) (s : State) (tag : Tag) (left : Option Plain) (row : Plain) → IsKept given s → Leaves s tag left → left ≡ Some row → IsGood given (row ∷ s.base)
+fault_leaves : (given : Type 0) (s : State) (tag : Tag) (left : Option Plain) (row : Plain) → IsKept given s → LeavesRow s tag left → left ≡ Some row → IsGood given (row ∷ s.base)
 fault_leaves given s tag None row h leaves is = absurd (cc)
 fault_leaves given s tag (Some own) row h (inl made) is = subst (λ r. IsGood given (r ∷ s.base)) (some_same is) (in_flight given s own h made.1)
 fault_leaves given s tag (Some own) row h (inr earlier) is = h.left row (earlier ∙ is)
@@ -120,6 +120,6 @@ fault_leaves_sound front rest tag row before faults tick o legal is sound =
     stop_leaves_sound front o (row ∷ (state_of front).base) (front_is_legal start front (x ∷ rest) legal) is sound
     (by (rest_is_legal start front (x ∷ rest) legal).0.leaves)
   where
-    by : Leaves (state_of front) tag (Some row) → IsLeftByStop (state_of front) (row ∷ (state_of front).base)
+    by : LeavesRow (state_of front) tag (Some row) → IsLeftByStop (state_of front) (row ∷ (state_of front).base)
     by (inl own) = WithRowInFlight row own.1 refl
     by (inr earlier) = WithRowLeft row earlier refl

@@ -17,7 +17,7 @@ use Rattle.legal_history.specs.Stories.States.{State, start, decided, is_next, n
 use Rattle.legal_history.specs.Stories.Steps.{after, state_from}
 use Rattle.legal_history.specs.Stories.Committing.{MakesRow}
 use Rattle.legal_history.specs.Stories.Lawful.{Lawful, LawfulStep, LegalFrom}
-use Rattle.legal_history.specs.Builds.UnitTurns.{Settles}
+use Rattle.legal_history.specs.Builds.UnitTurns.{ComesTo}
 
 pub front_is_legal : (s : State) (front rest : List Told) → LegalFrom s (front ++ rest) → LegalFrom s front
 front_is_legal s [] rest h = tt
@@ -55,7 +55,7 @@ nothing_is_committed row (deeds.Publish view targets script entries outputs) h =
 nothing_is_committed row (deeds.Wink view id) h = elim h.may [ inl o ↦ let e = o.waits.active in cc | inr r ↦ let e = r.waits.active in cc ]
 nothing_is_committed row deed h = let e = nothing_is_decided row.tag in cc
 
-nothing_settles : (tag : Tag) (n : ℕ) (outcome : UnitEnd) → Settles start tag n outcome → ⊥
+nothing_settles : (tag : Tag) (n : ℕ) (outcome : UnitEnd) → ComesTo start tag n outcome → ⊥
 nothing_settles tag n (ends.Kept id) h = let e = h.open_unit.waits.active in cc
 nothing_settles tag n (ends.Failed (unit_faults.Script fault)) h = let e = h.running.waits.active in cc
 nothing_settles tag n outcome h = let e = h.waits.active in cc

@@ -19,7 +19,7 @@ use Rattle.cc_names.specs.declared.units.Unit.{Unit}
 use Rattle.legal_history.specs.Base.Rows.{only_where}
 use Rattle.legal_history.specs.Builds.Active.{Active, Build, Came, build_of, came_to, is_outcome, unit_with_first}
 use Rattle.legal_history.specs.Base.Changes.{targets_of}
-use Rattle.legal_history.specs.Stories.Growth.{Continues, Goes, Over, On}
+use Rattle.legal_history.specs.Stories.Growth.{Continues, StaysTheBuild, Over, On}
 use Rattle.cc_names.specs.declared.refusals.Refusal.{Refusal}
 use Rattle.legal_history.specs.Commands.Decisions.{Decision}
 use Rattle.legal_history.specs.Commands.Lines.{decision}
@@ -27,7 +27,7 @@ use Rattle.legal_history.specs.Stories.States.{State, scene, decided, command_be
 use Rattle.legal_history.specs.Stories.Steps.{after, after_step, noted, with_came, begun, with_build, without_build, faulted_in, active_after}
 use Rattle.legal_history.specs.Stories.Committing.{MakesRow}
 use Rattle.legal_history.specs.Stories.Lawful.{Lawful, LawfulStep}
-use Rattle.legal_history.specs.Builds.UnitTurns.{Settles, Waits}
+use Rattle.legal_history.specs.Builds.UnitTurns.{ComesTo, Waits}
 use Rattle.legal_history.proofs.Stories.Tables.{find_put_same, find_put_other, find_without}
 
 pub continues_itself : (b : Build) → Continues b b
@@ -57,8 +57,8 @@ comes_to b n came waits = record {
 
 -- a build of one lane, after another build was put in for some lane
 put_in : (active : Active) (lane other : ℕ) (build new : Build) → build_of active lane ≡ Some build →
-    ((lane == other) ≡ true → Continues build new) → Goes build (build_of (put nat_cmp other new active) lane)
-put_in active lane other build new is on = elim (lane == other) as (λ (x : Bool). (lane == other) ≡ x → Goes build (build_of (put nat_cmp other new active) lane)) [
+    ((lane == other) ≡ true → Continues build new) → StaysTheBuild build (build_of (put nat_cmp other new active) lane)
+put_in active lane other build new is on = elim (lane == other) as (λ (x : Bool). (lane == other) ≡ x → StaysTheBuild build (build_of (put nat_cmp other new active) lane)) [
   | true ↦ λ e. let same : lane ≡ other = same_number lane other e in On new (rw same (find_put_same other new active)) (on e)
   | false ↦ λ e. On build (find_put_other lane other new active e ∙ is) (continues_itself build)
 ] refl
@@ -77,7 +77,7 @@ of_lane s tag build e = by (build_of s.active tag.lane) e
 -- a build of one lane, after a unit of some lane's build came to something
 noted_goes : (active : Active) (lane other : ℕ) (build b : Build) (unit : Build → Option ℕ) (n : ℕ) (came : Came) →
     build_of active lane ≡ Some build → build_of active other ≡ Some b → unit b ≡ Some n → is_outcome (came_to b n) ≡ false →
-    Goes build (build_of (noted active other unit came) lane)
+    StaysTheBuild build (build_of (noted active other unit came) lane)
 noted_goes active lane other build b unit n came is of_other number waits =
     rw of_other (put_in active lane other build (with_came b (unit b) came) is (λ e. goes_on (same_number lane other e)))
   where
@@ -109,7 +109,7 @@ decided_is_idle s tag e = lane_is_idle s tag (decided_is_next s tag e)
 
 -- a build of one lane, after another lane that was idle began one
 begun_goes : (active : Active) (lane other : ℕ) (build : Build) (new : Option Build) → build_of active lane ≡ Some build → build_of active other ≡ None →
-    Goes build (build_of (with_build active other new) lane)
+    StaysTheBuild build (build_of (with_build active other new) lane)
 begun_goes active lane other build None is idle = On build is (continues_itself build)
 begun_goes active lane other build (Some new) is idle = put_in active lane other build new is (λ e. absurd (clash (same_number lane other e)))
   where
@@ -117,15 +117,15 @@ begun_goes active lane other build (Some new) is idle = put_in active lane other
     clash e = let one : build_of active lane ≡ build_of active other = ap (build_of active) e in cc
 
 -- a build of one lane, after one ended
-ended_goes : (active : Active) (lane other : ℕ) (build : Build) → build_of active lane ≡ Some build → Goes build (build_of (without_build active other) lane)
-ended_goes active lane other build is = elim (lane == other) as (λ (x : Bool). (lane == other) ≡ x → Goes build (build_of (without_build active other) lane)) [
+ended_goes : (active : Active) (lane other : ℕ) (build : Build) → build_of active lane ≡ Some build → StaysTheBuild build (build_of (without_build active other) lane)
+ended_goes active lane other build is = elim (lane == other) as (λ (x : Bool). (lane == other) ≡ x → StaysTheBuild build (build_of (without_build active other) lane)) [
   | true ↦ λ e. Over (find_without lane other active ∙ ap (λ b. cond (not b) (build_of active lane) None) e)
   | false ↦ λ e. On build (find_without lane other active ∙ ap (λ b. cond (not b) (build_of active lane) None) e ∙ is) (continues_itself build)
 ] refl
 
 -- a build of one lane, after the disk failed under some lane
 faulted_goes : (active : Active) (lane other : ℕ) (build : Build) (b : Option Build) → build_of active lane ≡ Some build →
-    ((x : Build) → b ≡ Some x → build_of active other ≡ Some x) → Goes build (build_of (faulted_in active other b) lane)
+    ((x : Build) → b ≡ Some x → build_of active other ≡ Some x) → StaysTheBuild build (build_of (faulted_in active other b) lane)
 faulted_goes active lane other build None is of_other = On build is (continues_itself build)
 faulted_goes active lane other build (Some b) is of_other = put_in active lane other build (record b { faulted = true }) is goes_on
   where
@@ -145,19 +145,19 @@ faulted_goes active lane other build (Some b) is of_other = put_in active lane o
 
 -- a build of one lane, after a unit that waits of some lane's build came to something
 waited_goes : (s : State) (tag : Tag) (n : ℕ) (b : Build) (u : Unit) (lane : ℕ) (build : Build) (unit : Build → Option ℕ) (came : Came) →
-    build_of s.active lane ≡ Some build → Waits s tag n b u → unit b ≡ Some n → Goes build (build_of (noted s.active tag.lane unit came) lane)
+    build_of s.active lane ≡ Some build → Waits s tag n b u → unit b ≡ Some n → StaysTheBuild build (build_of (noted s.active tag.lane unit came) lane)
 waited_goes s tag n b u lane build unit came is h number =
     noted_goes s.active lane tag.lane build b unit n came is (of_lane s tag b h.active) number h.waits
 
 settled_goes : (s : State) (tag : Tag) (n : ℕ) (outcome : UnitEnd) (lane : ℕ) (build : Build) (came : Came) → build_of s.active lane ≡ Some build →
-    Settles s tag n outcome → Goes build (build_of (noted s.active tag.lane (λ b. Some n) came) lane)
+    ComesTo s tag n outcome → StaysTheBuild build (build_of (noted s.active tag.lane (λ b. Some n) came) lane)
 settled_goes s tag n (ends.Kept id) lane build came is h = waited_goes s tag n h.build h.unit lane build (λ b. Some n) came is h.open_unit.waits refl
 settled_goes s tag n (ends.Failed (unit_faults.Script fault)) lane build came is h =
     waited_goes s tag n h.build h.unit lane build (λ b. Some n) came is h.running.waits refl
 settled_goes s tag n outcome lane build came is h = waited_goes s tag n h.build h.unit lane build (λ b. Some n) came is h.waits refl
 
 committed_goes : (s : State) (row : Plain) (deed : Deed) (lane : ℕ) (build : Build) → build_of s.active lane ≡ Some build →
-    MakesRow s row deed → Goes build (build_of (active_after s.base s.active row.tag.lane deed) lane)
+    MakesRow s row deed → StaysTheBuild build (build_of (active_after s.base s.active row.tag.lane deed) lane)
 committed_goes s row (deeds.Publish view targets script entries outputs) lane build is h =
     waited_goes s row.tag h.n h.build h.unit lane build (λ b. unit_with_first b targets) _ is h.running.waits h.place
 committed_goes s row (deeds.Wink view id) lane build is h = elim h.may [
@@ -167,7 +167,7 @@ committed_goes s row (deeds.Wink view id) lane build is h = elim h.may [
 committed_goes s row deed lane build is h = On build is (continues_itself build)
 
 told_goes : (s : State) (step : Step) (lane : ℕ) (build : Build) → build_of s.active lane ≡ Some build → LawfulStep s step →
-    Goes build (build_of (after_step s step).active lane)
+    StaysTheBuild build (build_of (after_step s step).active lane)
 told_goes s (steps.Refused tag refusal) lane build is h = On build is (continues_itself build)
 told_goes s (steps.Answer tag text) lane build is h = On build is (continues_itself build)
 told_goes s (steps.Begin tag rows units) lane build is h = begun_goes s.active lane tag.lane build (begun s tag) is (decided_is_idle s tag h.chosen)
@@ -180,7 +180,7 @@ told_goes s step lane build is h = absurd h
 
 -- each lawful step leaves an active build going on, or ends it
 pub step_goes : (s : State) (x : Told) (lane : ℕ) (build : Build) → build_of s.active lane ≡ Some build → Lawful s x →
-    Goes build (build_of (after s x).active lane)
+    StaysTheBuild build (build_of (after s x).active lane)
 step_goes s (told.Opened rows counts tells) lane build is h = On build is (continues_itself build)
 step_goes s (told.Plan phase moment) lane build is h = On build is (continues_itself build)
 step_goes s (told.Commit row tick) lane build is h = committed_goes s row row.deed lane build is h.may.made

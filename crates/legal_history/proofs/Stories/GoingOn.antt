@@ -6,7 +6,7 @@ use Rattle.cc_names.specs.declared.units.Unit.{Unit}
 use Rattle.legal_history.specs.Base.Rows.{Base, first_rows}
 use Rattle.legal_history.specs.Builds.Active.{Build, build_of, came_to, unit_at}
 use Rattle.legal_history.specs.Builds.Consistency.{IsReady, IsConsistent}
-use Rattle.legal_history.specs.Stories.Growth.{Continues, Goes, Over, On, Extends}
+use Rattle.legal_history.specs.Stories.Growth.{Continues, StaysTheBuild, Over, On, Extends}
 use Rattle.legal_history.specs.Stories.States.{State, start}
 use Rattle.legal_history.specs.Stories.Steps.{after, state_of}
 use Rattle.legal_history.specs.Stories.Lawful.{Lawful, Legal}
@@ -42,7 +42,7 @@ goes_on_so (first ∷ story) x lane old new n unit legal e is later of_n came = 
     consistent : IsConsistent s.base old
     consistent = build_is_consistent (first ∷ story) lane old legal is
 
-    by : Goes old (build_of (after s x).active lane) → GoesOnSo s.base (after s x).base old new unit
+    by : StaysTheBuild old (build_of (after s x).active lane) → GoesOnSo s.base (after s x).base old new unit
     by (Over none) = absurd (cc)
     by (On on is_on c) = record {
       grown = step_extends s x (is_opened (after start first) story (first_opens first legal.0)) e;

@@ -87,7 +87,7 @@ fails_once_is_legal = (
             (
               record { build = _; unit = _; open_unit = record { waits = record { active = refl; is_unit = refl; waits = refl }; sound = refl; ready = refl; runs = refl }; nothing = refl },
               (
-                record { wanted = record { row = published 4; of_tag = refl; may = record { moment = refl; made = record { n = 0; build = _; unit = _; place = refl; running = record { waits = record { active = refl; is_unit = refl; waits = refl }; started = refl }; nothing = refl; made = refl } } }; rose = refl; later = le_by_compare 0 0 tt; leaves = inl (refl, record { moment = refl; made = record { n = 0; build = _; unit = _; place = refl; running = record { waits = record { active = refl; is_unit = refl; waits = refl }; started = refl }; nothing = refl; made = refl } }); ticked = refl },
+                record { wanted = record { row = published 4; of_tag = refl; may = record { moment = refl; made = record { n = 0; build = _; unit = _; place = refl; running = record { waits = record { active = refl; is_unit = refl; waits = refl }; sound = refl; started = refl }; nothing = refl; made = refl } } }; rose = refl; later = le_by_compare 0 0 tt; leaves = inl (refl, record { moment = refl; made = record { n = 0; build = _; unit = _; place = refl; running = record { waits = record { active = refl; is_unit = refl; waits = refl }; sound = refl; started = refl }; nothing = refl; made = refl } }); ticked = refl },
                 (
                   record { build = _; active = refl; over = refl },
                   (
@@ -95,7 +95,7 @@ fails_once_is_legal = (
                     (
                       record { build = _; unit = _; open_unit = record { waits = record { active = refl; is_unit = refl; waits = refl }; sound = refl; ready = refl; runs = refl }; nothing = refl },
                       (
-                        record { may = record { moment = refl; made = record { n = 0; build = _; unit = _; place = refl; running = record { waits = record { active = refl; is_unit = refl; waits = refl }; started = refl }; nothing = refl; made = refl } }; ticked = refl },
+                        record { may = record { moment = refl; made = record { n = 0; build = _; unit = _; place = refl; running = record { waits = record { active = refl; is_unit = refl; waits = refl }; sound = refl; started = refl }; nothing = refl; made = refl } }; ticked = refl },
                         (record { build = _; active = refl; over = refl }, tt),
                       ),
                     ),

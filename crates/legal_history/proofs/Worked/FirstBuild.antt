@@ -116,7 +116,7 @@ build_is_legal = (
                       build = _;
                       unit = _;
                       place = refl;
-                      running = record { waits = record { active = refl; is_unit = refl; waits = refl }; started = refl };
+                      running = record { waits = record { active = refl; is_unit = refl; waits = refl }; sound = refl; started = refl };
                       nothing = refl;
                       made = refl;
                     };

@@ -58,6 +58,11 @@ pub no_second_row : {s : State} {r : Plain} {targets : List (List ℕ)} {build :
 no_second_row active place outcome h =
     let a = h.running.waits.active in let p = h.place in let w = h.running.waits.waits in cc
 
+-- a build under which the disk failed commits no row of a unit that was running
+pub no_publish : {s : State} {r : Plain} {targets : List (List ℕ)} {build : Build} →
+    build_by s r.tag ≡ Some build → build.faulted ≡ true → Publishes s r targets → ⊥
+no_publish active faulted h = let a = h.running.waits.active in let f = h.running.sound in cc
+
 -- a build under which the disk failed starts nothing
 pub no_start : {s : State} {tag : Tag} {n : ℕ} {build : Build} → build_by s tag ≡ Some build → build.faulted ≡ true → Starts s tag n → ⊥
 no_start active faulted h = let a = h.open_unit.waits.active in let f = h.open_unit.sound in cc

@@ -71,7 +71,7 @@ both_build_is_legal = (
                         (
                           record { build = _; unit = _; open_unit = record { waits = record { active = refl; is_unit = refl; waits = refl }; sound = refl; ready = refl; runs = refl }; nothing = refl },
                           (
-                            record { may = record { moment = refl; made = record { n = 0; build = _; unit = _; place = refl; running = record { waits = record { active = refl; is_unit = refl; waits = refl }; started = refl }; nothing = refl; made = refl } }; ticked = refl },
+                            record { may = record { moment = refl; made = record { n = 0; build = _; unit = _; place = refl; running = record { waits = record { active = refl; is_unit = refl; waits = refl }; sound = refl; started = refl }; nothing = refl; made = refl } }; ticked = refl },
                             (
                               record { build = _; active = refl; over = refl },
                               (
@@ -81,7 +81,7 @@ both_build_is_legal = (
                                   (
                                     record { build = _; unit = _; open_unit = record { waits = record { active = refl; is_unit = refl; waits = refl }; sound = refl; ready = refl; runs = refl }; nothing = refl },
                                     (
-                                      record { may = record { moment = refl; made = record { n = 0; build = _; unit = _; place = refl; running = record { waits = record { active = refl; is_unit = refl; waits = refl }; started = refl }; nothing = refl; made = refl } }; ticked = refl },
+                                      record { may = record { moment = refl; made = record { n = 0; build = _; unit = _; place = refl; running = record { waits = record { active = refl; is_unit = refl; waits = refl }; sound = refl; started = refl }; nothing = refl; made = refl } }; ticked = refl },
                                       (record { build = _; active = refl; over = refl }, tt),
                                     ),
                                   ),

@@ -17,7 +17,7 @@ use Rattle.legal_history.specs.Stories.Steps.{state_of}
 use Rattle.legal_history.specs.Stories.Lawful.{Lawful}
 use Rattle.legal_history.specs.Worked.{tag, row, base_of}
 use Rattle.legal_history.proofs.Worked.FaultRows.{before_fault, published}
-use Rattle.legal_history.proofs.Worked.NoSteps.{apart, published_is, no_second, no_second_row, no_start, no_end, no_failure, no_early_end, no_keep, no_wink}
+use Rattle.legal_history.proofs.Worked.NoSteps.{apart, published_is, no_second, no_second_row, no_publish, no_start, no_end, no_failure, no_early_end, no_keep, no_wink}
 use Rattle.legal_history.proofs.Worked.StoryParts.{one_lane}
 use Rattle.legal_history.proofs.Worked.TwoViews.{v, w, hi, makefile, script, clearmake, publish, first_deeds}
 
@@ -99,3 +99,7 @@ faulted = state_of (before_fault ++ (told.Other (steps.Fault (tag 1 1 4) None 0 
 
 a_start_after_a_fault : Lawful faulted (told.Other (steps.Start (tag 1 1 4) 0)) → ⊥
 a_start_after_a_fault h = no_start refl refl h
+
+-- the row that was to be committed is not committed once more
+a_row_after_a_fault : Lawful faulted (told.Commit (published 4) 21) → ⊥
+a_row_after_a_fault h = no_publish refl refl h.may.made

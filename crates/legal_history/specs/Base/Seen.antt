@@ -9,7 +9,7 @@ use Rattle.cc_names.specs.declared.selection.Picked.{Picked}
 use Rattle.cc_names.specs.declared.selection.Rule.{Rule}
 use Rattle.cc_names.specs.declared.selection.Seen.{Seen}
 use Rattle.cc_names.specs.declared.selection.Seen.TheVariants.{Private, Element, Unselected, Nothing}
-use Rattle.spec_text.specs.Rules.{Sources, pick}
+use Rattle.spec_text.specs.Rules.{Selectables, pick}
 use Rattle.spec_text.specs.Specs.{rules_of}
 use Rattle.legal_history.specs.Base.Rows.{Base}
 use Rattle.legal_history.specs.Base.Catalogs.{Catalog, catalog_of, own_of, named}
@@ -32,7 +32,7 @@ abbrev pub rules : Base → List ℕ → List Rule
 rules b v = rules_of_spec (spec_text b v)
 
 -- what the view selects an element's version from
-abbrev pub sources : Base → List ℕ → ℕ → Sources
+abbrev pub sources : Base → List ℕ → ℕ → Selectables
 sources b v e = record { tree = tree b; labels = labels b; listed = listed b; out = making b v e }
 
 -- what the view's first rule that decides picks of the element at the path of these names

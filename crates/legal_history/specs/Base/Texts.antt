@@ -6,13 +6,13 @@ use Rattle.legal_history.specs.Base.Rows.{Base, size}
 use Rattle.legal_history.specs.Base.Views.{making}
 
 -- where the text that a row makes comes from: the row itself, an earlier row, or nowhere
-pub data Source : Type 0 where
-  Bytes : List ℕ → Source
-  OfRow : ℕ → Source
-  NoText : Source
+pub data TextSource : Type 0 where
+  Bytes : List ℕ → TextSource
+  OfRow : ℕ → TextSource
+  NoText : TextSource
 
 -- the text of the row that made the view's own
-abbrev pub of_making : Option ℕ → Source
+abbrev pub of_making : Option ℕ → TextSource
 of_making None = NoText
 of_making (Some row) = OfRow row
 
@@ -23,13 +23,13 @@ output_at path (target ∷ targets) [] = None
 output_at path (target ∷ targets) (output ∷ outputs) = if bytes_eq target path then Some output else output_at path targets outputs
 
 -- an output, where there is one
-abbrev pub of_output : Option (List ℕ) → Source
+abbrev pub of_output : Option (List ℕ) → TextSource
 of_output None = NoText
 of_output (Some output) = Bytes output
 
 -- A new element's version 0 is empty. A checkout or a branch begins with its origin's text, a checkin keeps what the
 -- view's checkout had at that moment, and a publish has an output for each of its targets.
-abbrev pub source_of : Base → List ℕ → Deed → Source
+abbrev pub source_of : Base → List ℕ → Deed → TextSource
 source_of older path (deeds.Mkelem v directory name kind out) = Bytes []
 source_of older path (deeds.Checkout v e origin reserved) = OfRow origin
 source_of older path (deeds.Branch v e origin name out) = OfRow origin

@@ -29,9 +29,10 @@ pub record IsOpen (s : State) (tag : Tag) (n : ℕ) (build : Build) (unit : Unit
   pub ready : is_ready build unit ≡ true
   pub runs : early s.base build unit ≡ None
 
--- a unit runs where it was started and has no outcome
+-- a unit runs where it was started and has no outcome, and its build has met no fault
 pub record IsRunning (s : State) (tag : Tag) (n : ℕ) (build : Build) (unit : Unit) : Type 0 where
   pub waits : Waits s tag n build unit
+  pub sound : build.faulted ≡ false
   pub started : came_to build n ≡ Some Started
 
 -- a unit's script is started where the unit is open and may reuse no object
@@ -66,10 +67,10 @@ pub record EndsEarly (s : State) (tag : Tag) (n : ℕ) (outcome : UnitEnd) : Typ
   pub ends : early s.base build unit ≡ Some outcome
 
 -- when a unit may settle so, without a row
-abbrev pub Settles : State → Tag → ℕ → UnitEnd → Type 0
-Settles s tag n (Kept id) = Keeps s tag n id
-Settles s tag n (Failed (Script fault)) = Fails s tag n fault
-Settles s tag n outcome = EndsEarly s tag n outcome
+abbrev pub ComesTo : State → Tag → ℕ → UnitEnd → Type 0
+ComesTo s tag n (Kept id) = Keeps s tag n id
+ComesTo s tag n (Failed (Script fault)) = Fails s tag n fault
+ComesTo s tag n outcome = EndsEarly s tag n outcome
 
 -- a view takes an object that a unit may reuse and that it does not hold at every target
 pub record Winks (s : State) (row : Plain) (view : List ℕ) (id : ℕ) : Type 0 where

@@ -11,7 +11,7 @@ use Rattle.legal_history.specs.Base.Changes.{held}
 use Rattle.legal_history.specs.Builds.Choices.{here, visible}
 use Rattle.legal_history.specs.Stories.Commanded.{IsOfCommand}
 use Rattle.legal_history.specs.Builds.Freshness.{AgreesSoFar}
-use Rattle.legal_history.specs.Stories.Growth.{Goes}
+use Rattle.legal_history.specs.Stories.Growth.{StaysTheBuild}
 use Rattle.legal_history.specs.Laws.Ends.{IsLeft, IsRefused, builds}
 use Rattle.legal_history.specs.Laws.FromNothing.{EndsAsFromNothing}
 use Rattle.legal_history.specs.Laws.Given.{HoldsGiven}
@@ -30,7 +30,7 @@ use Rattle.legal_history.specs.Builds.Consistency.{IsConsistent}
 abbrev pub BuildGoesOn : Type 0
 BuildGoesOn = (s : State) (x : Told) (lane : ℕ) (build : Build)
     → build_of s.active lane ≡ Some build → Lawful s x
-    → Goes build (build_of (after s x).active lane)
+    → StaysTheBuild build (build_of (after s x).active lane)
 
 -- After a lawful step a build that was active and is no more was left by its own end.
 abbrev pub BuildIsLeftByItsEnd : Type 0

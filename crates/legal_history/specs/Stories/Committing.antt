@@ -28,14 +28,14 @@ pub record RowFor (s : State) (tag : Tag) : Type 0 where
   pub may : MayCommit s row
 
 -- what a fault may leave: nothing, the row that was to be committed, or what the fault directly before it left
-abbrev pub Leaves : State → Tag → Option Plain → Type 0
-Leaves s tag None = ⊤
-Leaves s tag (Some row) = ((row.tag ≡ tag) × MayCommit s row) ⊎ (hanging s.ends ≡ Some row)
+abbrev pub LeavesRow : State → Tag → Option Plain → Type 0
+LeavesRow s tag None = ⊤
+LeavesRow s tag (Some row) = ((row.tag ≡ tag) × MayCommit s row) ⊎ (hanging s.ends ≡ Some row)
 
 -- The disk fails where a row was to be committed for this command.
 pub record FaultsAt (s : State) (tag : Tag) (left : Option Plain) (before faults tick : ℕ) : Type 0 where
   pub wanted : RowFor s tag
   pub rose : rises before faults ≡ true
   pub later : faults_of s.opened s.ends ≤ before
-  pub leaves : Leaves s tag left
+  pub leaves : LeavesRow s tag left
   pub ticked : rises (ticks_of s.opened s.ends) tick ≡ true

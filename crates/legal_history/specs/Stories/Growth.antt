@@ -19,6 +19,6 @@ pub record Continues (old new : Build) : Type 0 where
   pub outcomes : (n : ℕ) → is_outcome (came_to old n) ≡ true → came_to new n ≡ came_to old n
 
 -- an active build after a step: it goes on, or it is over
-pub data Goes (old : Build) (new : Option Build) : Type 0 where
-  Over : new ≡ None → Goes old new
-  On : (build : Build) → new ≡ Some build → Continues old build → Goes old new
+pub data StaysTheBuild (old : Build) (new : Option Build) : Type 0 where
+  Over : new ≡ None → StaysTheBuild old new
+  On : (build : Build) → new ≡ Some build → Continues old build → StaysTheBuild old new

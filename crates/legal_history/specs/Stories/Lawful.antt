@@ -18,7 +18,7 @@ use Rattle.legal_history.specs.Base.Fits.{is_base}
 use Rattle.legal_history.specs.Stories.States.{State, decided, build_by, all_done, ticks_of, start}
 use Rattle.legal_history.specs.Stories.Steps.{after}
 use Rattle.legal_history.specs.Builds.Turns.{is_complete}
-use Rattle.legal_history.specs.Builds.UnitTurns.{Settles, Starts}
+use Rattle.legal_history.specs.Builds.UnitTurns.{ComesTo, Starts}
 
 -- the last moment of the year 9999
 abbrev pub last_moment : ℕ
@@ -43,7 +43,7 @@ LawfulStep s (steps.Refused tag refusal) = decided s tag ≡ Some (Err refusal)
 LawfulStep s (steps.Answer tag text) = decided s tag ≡ Some (Ok (Answers text))
 LawfulStep s (steps.Begin tag rows units) = BeginsBuild s tag rows units
 LawfulStep s (steps.Start tag n) = Starts s tag n
-LawfulStep s (steps.Settled tag n outcome) = Settles s tag n outcome
+LawfulStep s (steps.Settled tag n outcome) = ComesTo s tag n outcome
 LawfulStep s (steps.End tag) = EndsBuild s tag
 LawfulStep s (steps.Fault tag left before faults tick) = FaultsAt s tag left before faults tick
 LawfulStep s step = ⊥

@@ -1,6 +1,6 @@
 -- the last place has the last phase
 use Rattle.std.proofs.Common.{sym, ◌∙◌}
-use Rattle.base_core.proofs.Phases.{last_phase-get_or}
+use Rattle.base_core.proofs.Keeping.Phases.{last_phase-get_or}
 use Rattle.base_core.proofs.commands.last_phase.Goals as goal
 
 pub returns : goal.returns

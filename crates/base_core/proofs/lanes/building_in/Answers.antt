@@ -1,9 +1,9 @@
 -- the first build in the view, lane by lane
 use Rattle.std.proofs.Common.{sym, ap, ◌∙◌, Some}
 use Rattle.std.specs.Prelude.{bytes_eq}
-use Rattle.base_core.specs.Lanes.{builds_in}
-use Rattle.base_core.proofs.LaneSets.{builds_count}
-use Rattle.base_core.proofs.SlotLists.{building_tag, tag_none, tag_first}
+use Rattle.base_core.specs.Keeping.Lanes.{builds_in}
+use Rattle.base_core.proofs.Keeping.LaneSets.{builds_count}
+use Rattle.base_core.proofs.Keeping.SlotLists.{building_tag, tag_none, tag_first}
 use Rattle.base_core.proofs.lanes.building_in.Goals as goal
 
 pub returns-in-Some : goal.returns-in-Some

@@ -1,8 +1,8 @@
 -- the rows of the builds, lane by lane
 use Rattle.std.proofs.Common.{length, arith, ap, ◌∙◌}
-use Rattle.base_core.specs.Lanes.{builds_in}
-use Rattle.base_core.proofs.LaneSets.{builds_count}
-use Rattle.base_core.proofs.SlotLists.{reserved_rows, rows_none}
+use Rattle.base_core.specs.Keeping.Lanes.{builds_in}
+use Rattle.base_core.proofs.Keeping.LaneSets.{builds_count}
+use Rattle.base_core.proofs.Keeping.SlotLists.{reserved_rows, rows_none}
 use Rattle.base_core.proofs.lanes.reserved_in.Goals as goal
 
 pub overflow_add-rows : goal.overflow_add-rows

@@ -1,6 +1,6 @@
 use Rattle.std.proofs.Common.{◌≡◌, ◌+◌, length}
-use Rattle.base_core.specs.Lanes.{builds_in}
-use Rattle.base_core.proofs.SlotLists.{rows_of}
+use Rattle.base_core.specs.Keeping.Lanes.{builds_in}
+use Rattle.base_core.proofs.Keeping.SlotLists.{rows_of}
 use Rattle.base_core.proofs.lanes.reserved_in.Given as goal
 
 abbrev pub invariant-loop-lane : goal.invariant-loop-lane

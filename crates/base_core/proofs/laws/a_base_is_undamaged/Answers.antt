@@ -1,5 +1,5 @@
 -- the journal of a base of readable rows
-use Rattle.base_core.proofs.Damages.{same_base, undamaged}
+use Rattle.base_core.proofs.Bases.Damages.{same_base, undamaged}
 use Rattle.base_core.proofs.laws.a_base_is_undamaged.Goals as goal
 
 pub returns-clause-undamaged : goal.returns-clause-undamaged

@@ -1,5 +1,5 @@
 -- what was found opens to a sound base
-use Rattle.base_core.proofs.FoundBases.{found_is_sound}
+use Rattle.base_core.proofs.Stopping.FoundBases.{found_is_sound}
 use Rattle.base_core.proofs.laws.a_found_base_is_sound.Goals as goal
 
 pub returns : goal.returns

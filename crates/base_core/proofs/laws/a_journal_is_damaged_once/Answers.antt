@@ -1,5 +1,5 @@
 -- a journal is damaged once
-use Rattle.base_core.proofs.Damages.{damaged_once}
+use Rattle.base_core.proofs.Bases.Damages.{damaged_once}
 use Rattle.base_core.proofs.laws.a_journal_is_damaged_once.Goals as goal
 
 pub returns : goal.returns

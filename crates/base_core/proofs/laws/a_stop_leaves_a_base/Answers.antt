@@ -1,5 +1,5 @@
 -- what a stop finds is a base
-use Rattle.base_core.proofs.FoundBases.{found_base}
+use Rattle.base_core.proofs.Stopping.FoundBases.{found_base}
 use Rattle.base_core.proofs.laws.a_stop_leaves_a_base.Goals as goal
 
 pub returns : goal.returns

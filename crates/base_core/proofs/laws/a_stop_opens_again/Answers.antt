@@ -1,5 +1,5 @@
 -- what a stop finds opens again
-use Rattle.base_core.proofs.FoundBases.{opens_again}
+use Rattle.base_core.proofs.Stopping.FoundBases.{opens_again}
 use Rattle.base_core.proofs.laws.a_stop_opens_again.Goals as goal
 
 pub returns : goal.returns

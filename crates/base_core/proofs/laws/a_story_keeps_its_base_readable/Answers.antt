@@ -1,6 +1,6 @@
 -- each row of a base is one that its story names
-use Rattle.base_core.specs.Readable.{IsReadable}
-use Rattle.base_core.proofs.Naming.{base_named, hanging_named}
+use Rattle.base_core.specs.Story.Readable.{IsReadable}
+use Rattle.base_core.proofs.Story.Naming.{base_named, hanging_named}
 use Rattle.base_core.proofs.laws.a_story_keeps_its_base_readable.Goals as goal
 
 pub returns-clause-base : goal.returns-clause-base

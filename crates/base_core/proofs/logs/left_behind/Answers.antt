@@ -1,7 +1,7 @@
 -- the newest commit or fault is looked for from the end
 use Rattle.std.proofs.Common.{ap, sym, ◌∙◌, ◌∷◌, []}
-use Rattle.base_core.specs.Leaving.{left_in, left_by}
-use Rattle.base_core.proofs.Leavings.{left_by-last, left_by-other}
+use Rattle.base_core.specs.Logging.Leaving.{left_in, left_by}
+use Rattle.base_core.proofs.Logging.Leavings.{left_by-last, left_by-other}
 use Rattle.base_core.proofs.logs.left_behind.Goals as goal
 
 pub returns-in-Commit : goal.returns-in-Commit

@@ -1,5 +1,5 @@
 use Rattle.std.proofs.Common.{◌≡◌, length}
-use Rattle.base_core.specs.Leaving.{left_in}
+use Rattle.base_core.specs.Logging.Leaving.{left_in}
 use Rattle.base_core.proofs.logs.left_behind.Given as goal
 
 abbrev pub invariant-loop-step : goal.invariant-loop-step

@@ -1,7 +1,7 @@
 -- a row that is not made yet, or does not fit
 use Rattle.std.proofs.Common.{◌≡◌, true, ap, sym, ◌∙◌}
 use Rattle.carried_out.specs.CarriedOut.{is_made}
-use Rattle.base_core.proofs.Unfit.{unfit_row, unmade_row}
+use Rattle.base_core.proofs.Bases.Unfit.{unfit_row, unmade_row}
 use Rattle.base_core.proofs.opening.next_row.Goals as goal
 use Rattle.base_core.proofs.opening.next_row.Goals.{else-is_made-via-then-is_made+else-fits, else-is_made-via-else-is_made}
 

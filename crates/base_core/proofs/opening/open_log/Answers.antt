@@ -1,9 +1,9 @@
 -- a base is opened, or is not
 use Rattle.std.proofs.Common.{sym, ◌∙◌, ap, subst}
-use Rattle.base_core.specs.Handed.{handed_in}
-use Rattle.base_core.specs.Opening.{FailsToOpen}
+use Rattle.base_core.specs.Story.Handed.{handed_in}
+use Rattle.base_core.specs.Bases.Opening.{FailsToOpen}
 use Rattle.base_core.specs.declared.opening.OpenCause.TheVariants as causes
-use Rattle.base_core.proofs.OpenedBases.{new_on, fails_at_once, fails_to_open, keeps_first, files_first, stops_first, opened_backed, is_opened}
+use Rattle.base_core.proofs.Bases.OpenedBases.{new_on, fails_at_once, fails_to_open, keeps_first, files_first, stops_first, opened_backed, is_opened}
 use Rattle.base_core.proofs.opening.open_log.Goals as goal
 
 pub returns-in-Err-clause-err : goal.returns-in-Err-clause-err

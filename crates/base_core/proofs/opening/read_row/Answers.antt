@@ -1,7 +1,7 @@
 -- one more row of a journal
 use Rattle.std.proofs.Common.{Some, sym, subst}
-use Rattle.base_core.specs.Reading.{NextIs}
-use Rattle.base_core.proofs.ReadRows.{read_more}
+use Rattle.base_core.specs.Bases.Reading.{NextIs}
+use Rattle.base_core.proofs.Bases.ReadRows.{read_more}
 use Rattle.base_core.proofs.opening.read_row.Goals as goal
 
 pub returns-in-Ok-clause-ok : goal.returns-in-Ok-clause-ok

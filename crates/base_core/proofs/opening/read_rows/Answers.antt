@@ -1,16 +1,22 @@
 -- one more row was read
-use Rattle.std.proofs.Common.{◌≡◌, ◌∷◌, Some, ap, sym, subst, ◌∙◌}
+use Rattle.std.proofs.Common.{◌≡◌, ◌∷◌, false, Some, Result, Ok, Err, ap, sym, subst, ◌∙◌}
+use Rattle.std.specs.Prelude.{is_err, OnOk}
 use Rattle.legal_history.specs.Base.Rows.{Base}
 use Rattle.legal_history.specs.Base.Fits.{fits}
-use Rattle.base_core.specs.Reading.{IsReadSoFar, ReadsOn}
-use Rattle.base_core.proofs.ReadRows.{reads_then, row_fits}
+use Rattle.base_core.specs.Bases.Reading.{IsReadSoFar, ReadsOn}
+use Rattle.base_core.proofs.Bases.ReadRows.{reads_then, row_fits}
 use Rattle.base_core.proofs.opening.read_rows.Goals as goal
+
+-- what holds of an Ok holds where there is no Err
+of_ok : {X E : Type 0} {A : Type 0} (r : Result X E) → is_err r ≡ false → OnOk r A → A
+of_ok (Ok x) e a = a
+of_ok (Err x) e a = absurd (cc)
 
 pub frames-preserved : goal.frames-preserved
 frames-preserved g c =
     let sight = g.D.Disk.sight in
     let found : ReadsOn sight c.all.result (Some c.in-Ok-Some.row) c.read_row.new.journal = subst (λ f. ReadsOn sight c.all.result f c.read_row.new.journal) c.in-Ok-Some.field-0-is c.in-Ok-Some.ensures.ok in
-    let grown : c.push.new.self.base ≡ c.in-Ok-Some.row ∷ c.all.result = c.push.ensures ∙ ap (λ (before : Base). c.in-Ok-Some.row ∷ before) (c.reserve.ensures.same ∙ sym c.all.ensures) in
+    let grown : c.add_row.new.rows.base ≡ c.in-Ok-Some.row ∷ c.all.result = of_ok c.add_row.result (sym c.is_err.ensures.value ∙ c.if-is_err.false) c.add_row.ensures ∙ ap (λ (before : Base). c.in-Ok-Some.row ∷ before) (sym c.all.ensures) in
     record {
       reads = reads_then sight c.args.journal.now c.frames.journal c.read_row.new.journal c.frames.invariant.reads c.in-Ok-Some.ensures.reads;
       so_far = subst (λ (b : Base). IsReadSoFar sight b c.read_row.new.journal) (sym grown) found;
@@ -20,14 +26,14 @@ frames-preserved g c =
 pub returns-then-is_err-clause-reads : goal.returns-then-is_err-clause-reads
 returns-then-is_err-clause-reads g c = reads_then g.D.Disk.sight c.args.journal.now c.frames.journal c.read_row.new.journal c.frames.invariant.reads c.in-Ok-Some.ensures.reads
 
-pub push-requires-clause-fits : goal.push-requires-clause-fits
-push-requires-clause-fits g c =
+pub add_row-requires-clause-fits : goal.add_row-requires-clause-fits
+add_row-requires-clause-fits g c =
     let sight = g.D.Disk.sight in
     let found : ReadsOn sight c.all.result (Some c.in-Ok-Some.row) c.read_row.new.journal = subst (λ f. ReadsOn sight c.all.result f c.read_row.new.journal) c.in-Ok-Some.field-0-is c.in-Ok-Some.ensures.ok in
-    subst (λ b. fits b c.in-Ok-Some.row.deed ≡ _) (c.all.ensures ∙ sym c.reserve.ensures.same) (row_fits c.all.result c.in-Ok-Some.row found.good)
+    subst (λ b. fits b c.in-Ok-Some.row.deed ≡ _) c.all.ensures (row_fits c.all.result c.in-Ok-Some.row found.good)
 
-pub push-requires-clause-made : goal.push-requires-clause-made
-push-requires-clause-made g c =
+pub add_row-requires-clause-made : goal.add_row-requires-clause-made
+add_row-requires-clause-made g c =
     let sight = g.D.Disk.sight in
     let found : ReadsOn sight c.all.result (Some c.in-Ok-Some.row) c.read_row.new.journal = subst (λ f. ReadsOn sight c.all.result f c.read_row.new.journal) c.in-Ok-Some.field-0-is c.in-Ok-Some.ensures.ok in
     found.readable.0.made

@@ -1,6 +1,6 @@
 use Rattle.std.proofs.Common.{◌≡◌, ◌-◌, length}
 use Rattle.legal_history.specs.Base.Fits.{row_limit}
-use Rattle.base_core.specs.Reading.{OnlyReads, IsReadSoFar}
+use Rattle.base_core.specs.Bases.Reading.{OnlyReads, IsReadSoFar}
 use Rattle.base_core.proofs.opening.read_rows.Given as goal
 
 abbrev pub invariant-frames : goal.invariant-frames

@@ -1,6 +1,7 @@
 use Rattle.std.proofs.Common.{Ok, ap, sym, ◌∙◌, subst, [], ◌∷◌, Result, List, ℕ, arith}
 use Rattle.make_text.specs.Walks.{Walk, number_of}
-use Rattle.make_graph.specs.Frames.{Goes, resume, news}
+use Rattle.make_graph.specs.Frames.{Goes, entered, resume, news}
+use Rattle.make_graph.specs.declared.walks.Frame.{Frame}
 use Rattle.make_graph.proofs.FrameLemmas.{news_opened, news_few, entered_new, enter_first}
 use Rattle.make_graph.proofs.walks.take.Goals as goal
 
@@ -12,8 +13,9 @@ run-requires-clause-room c =
     let few = news_few c.args.walk.now.marks in
     omega (arith, fewer, same, few, c.requires.size)
 
-pub returns-in-Enter-clause-goes : goal.returns-in-Enter-clause-goes
-returns-in-Enter-clause-goes c =
+pub returns-in_ok-first-in-Enter-clause-goes : goal.returns-in_ok-first-in-Enter-clause-goes
+returns-in_ok-first-in-Enter-clause-goes c =
     let all = enter_first c.args.units.now c.args.path.now c.args.walk.now c.in-Enter.unit (sym c.meet.ensures ∙ c.in-Enter.is)
-    ∙ ap (resume c.args.units.now 0 (record { unit = c.in-Enter.unit; next = 0 } ∷ [])) (sym c.mark.ensures) in
+    ∙ (ap (resume c.args.units.now 0 (entered c.args.units.now c.in-Enter.unit ∷ [])) (sym c.mark.ensures)
+    ∙ ap (λ (f : Frame). resume c.args.units.now 0 (f ∷ []) c.mark.new.self) (sym c.in_ok-first-in-Enter.ensures)) in
     subst (λ (r : Result Walk (List ℕ)). Goes c.run.result r (Ok c.run.new.walk)) (sym all) c.run.ensures.goes

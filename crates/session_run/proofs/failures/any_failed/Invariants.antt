@@ -1,6 +1,6 @@
 use Rattle.std.proofs.Common.{◌≡◌, ◌+◌, ◌≤◌, length}
 use Rattle.legal_history.specs.Stories.Steps.{state_of}
-use Rattle.base_core.specs.Replying.{replies_of}
+use Rattle.base_core.specs.Story.Replying.{replies_of}
 use Rattle.session_run.specs.Rendered.{lanes_fail}
 use Rattle.session_run.proofs.failures.any_failed.Given as goal
 

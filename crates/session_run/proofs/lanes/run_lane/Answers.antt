@@ -2,7 +2,7 @@ use Rattle.std.proofs.Common.{subst, sym, ◌∙◌}
 use Rattle.carried_out.specs.CarriedOut.{AreCarriedOut}
 use Rattle.legal_history.specs.Stories.Steps.{state_of}
 use Rattle.session_run.specs.Lanes.{IsFinished}
-use Rattle.base_core.proofs.Counts.{keeps_further}
+use Rattle.base_core.proofs.Story.Counts.{keeps_further}
 use Rattle.session_run.proofs.LaneSteps.{has_turned, has_rested, lane_goes_on, lane_leaves, lane_shrinks, lane_ends}
 use Rattle.session_run.proofs.lanes.run_lane.Goals as goal
 

@@ -1,6 +1,6 @@
 use Rattle.std.proofs.Common.{◌≡◌, ◌-◌, true}
 use Rattle.carried_out.specs.CarriedOut.{AreCarriedOut}
-use Rattle.base_core.specs.Counted.{KeepsCount}
+use Rattle.base_core.specs.Story.Counted.{KeepsCount}
 use Rattle.legal_history.specs.Stories.States.{done_of, lane_at}
 use Rattle.legal_history.specs.Stories.Steps.{state_of}
 use Rattle.session_run.specs.Begun.{is_opened}

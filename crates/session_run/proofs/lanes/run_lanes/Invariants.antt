@@ -1,4 +1,4 @@
-use Rattle.base_core.specs.Counted.{KeepsCount}
+use Rattle.base_core.specs.Story.Counted.{KeepsCount}
 use Rattle.session_run.specs.Lanes.{GoesInLanes}
 use Rattle.session_run.proofs.lanes.run_lanes.Given as goal
 

@@ -1,6 +1,6 @@
 use Rattle.std.proofs.Common.{ap, sym, subst, arith, length, ◌∙◌}
 use Rattle.carried_out.specs.CarriedOut.{AreCarriedOut}
-use Rattle.base_core.proofs.Counts.{keeps_further}
+use Rattle.base_core.proofs.Story.Counts.{keeps_further}
 use Rattle.session_run.proofs.PhaseSteps.{phase_begins, begins_within, runs_by, leaves_by}
 use Rattle.session_run.proofs.phases.carry_out.Goals as goal
 

@@ -5,8 +5,8 @@ use Rattle.std.specs.Vec.Iter.{into_iter_items}
 use Rattle.std.proofs.lemmas.Result.{err_from_is_err_and}
 use Rattle.cc_outside.specs.Moments.{moment_at}
 use Rattle.legal_history.specs.Stories.Lawful.{last_moment}
-use Rattle.session_run.specs.Runs.{IsReady}
-use Rattle.base_core.proofs.Counts.{keeps_further}
+use Rattle.session_run.specs.Runs.{IsReadyPhase}
+use Rattle.base_core.proofs.Story.Counts.{keeps_further}
 use Rattle.session_run.proofs.Running.{run_goes_on, run_leaves, run_is_cut, in_hand}
 use Rattle.session_run.proofs.phases.run_phases.Goals as goal
 
@@ -29,7 +29,7 @@ returns-in_err-run_commands-clause-err g c =
 pub loop-phase-preserved : goal.loop-phase-preserved
 loop-phase-preserved g c =
     let at = c.loop-phase in
-    let ready : AllByRecursion IsReady (c.in-Some.phase ∷ into_iter_items c.next.new.self) = subst (AllByRecursion IsReady) c.in-Some.ensures.steps.0 at.invariant.ready in
+    let ready : AllByRecursion IsReadyPhase (c.in-Some.phase ∷ into_iter_items c.next.new.self) = subst (AllByRecursion IsReadyPhase) c.in-Some.ensures.steps.0 at.invariant.ready in
     record {
       run =
           run_goes_on at.yielded c.in-Some.phase at.core.story c.run_commands.new.core.story

@@ -1,18 +1,18 @@
 use Rattle.std.proofs.Common.{◌≡◌, ◌≤◌, ◌++◌, length}
 use Rattle.std.specs.List.{AllByRecursion}
 use Rattle.std.specs.Vec.Iter.{into_iter_items}
-use Rattle.base_core.specs.Counted.{KeepsCount}
+use Rattle.base_core.specs.Story.Counted.{KeepsCount}
 use Rattle.session_run.specs.Asked.{text_limit}
 use Rattle.session_run.specs.Begun.{first_step}
-use Rattle.session_run.specs.Runs.{HasRun, IsReady}
+use Rattle.session_run.specs.Runs.{HasRunPhases, IsReadyPhase}
 use Rattle.session_run.proofs.phases.run_phases.Given as goal
 
 abbrev pub invariant-loop-phase : goal.invariant-loop-phase
 invariant-loop-phase g l = record {
-  run : HasRun l.yielded l.core.story (record { held = (g.K.Sink.sight l.initial.sink).held; holds = (g.K.Sink.sight l.sink).held; moments = (g.C.Clock.sight l.initial.clock).told; first = (g.C.Clock.sight l.initial.clock).readings; reading = (g.C.Clock.sight l.clock).readings }) l.failed;
+  run : HasRunPhases l.yielded l.core.story (record { held = (g.K.Sink.sight l.initial.sink).held; holds = (g.K.Sink.sight l.sink).held; moments = (g.C.Clock.sight l.initial.clock).told; first = (g.C.Clock.sight l.initial.clock).readings; reading = (g.C.Clock.sight l.clock).readings }) l.failed;
   first : first_step l.core.story ≡ first_step l.initial.core.story;
   rest : l.yielded ++ into_iter_items l.phase-iterator ≡ into_iter_items l.initial.phase-iterator;
-  ready : AllByRecursion IsReady (into_iter_items l.phase-iterator);
+  ready : AllByRecursion IsReadyPhase (into_iter_items l.phase-iterator);
   few : length (into_iter_items l.initial.phase-iterator) ≤ text_limit;
   number : l.number ≡ length l.yielded;
   faults : (g.K.Sink.sight l.initial.sink).faults ≤ (g.K.Sink.sight l.sink).faults;

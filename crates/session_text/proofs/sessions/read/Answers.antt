@@ -1,7 +1,7 @@
 use Rattle.std.proofs.Common.{◌≡◌, ◌∙◌, None, List, ℕ, length, ap, sym, subst}
 use Rattle.std.specs.List.{AllByRecursion}
 use Rattle.carried_out.specs.CarriedOut.{AreCarriedOut}
-use Rattle.session_text.specs.Formed.{IsSession}
+use Rattle.session_text.specs.Formed.{IsFormedSession}
 use Rattle.session_text.specs.Kinds.{kinds_of}
 use Rattle.session_text.specs.Reading.{Place, lines_at}
 use Rattle.session_text.specs.Sessions.{first_error, nothing, phases_of}
@@ -13,7 +13,7 @@ pub returns-clause-formed : goal.returns-clause-formed
 returns-clause-formed c =
     let right : first_error 0 nothing (kinds_of c.args.text) ≡ None =
     ap (λ (v : List ℕ). first_error 0 nothing (kinds_of v)) (sym c.as_bytes.ensures) ∙ c.in_ok-check.ensures.right in
-    let P : Place → Type 0 = λ place. IsSession (length c.args.text) (record { phases = phases_of (lines_at place) }) in
+    let P : Place → Type 0 = λ place. IsFormedSession (length c.args.text) (record { phases = phases_of (lines_at place) }) in
     subst P (sym c.in_ok-place.ensures) (phases_read c.args.text right)
 
 pub returns-clause-carried_out : goal.returns-clause-carried_out

@@ -1,5 +1,5 @@
 use Rattle.std.proofs.Common.{◌+◌, true, length}
-use Rattle.vob_journal.specs.Calls.{Keeps}
+use Rattle.vob_journal.specs.Calls.{KeepsFrames}
 use Rattle.vob_journal.specs.Phases.{PutsDown, FailsToPut, Stages}
 use Rattle.vob_journal.specs.Tails.{IsTail}
 use Rattle.vob_journal.proofs.Phasing.{stages_piece, staging_failed}
@@ -11,5 +11,5 @@ returns-clause-told g c =
     let tail = c.args.tail in
     let payload = c.args.frame.now in
     let piece = c.as_bytes.result.now in
-    answer_from c.put_down.result (IsTail true tail) (PutsDown (tail + 1) piece) (Stages tail payload) (FailsToPut (tail + 1) (length piece)) (Keeps true true tail) _ _
+    answer_from c.put_down.result (IsTail true tail) (PutsDown (tail + 1) piece) (Stages tail payload) (FailsToPut (tail + 1) (length piece)) (KeepsFrames true true tail) _ _
     (stages_piece tail payload piece c.as_bytes.ensures.bytes) (staging_failed tail (length piece)) c.requires.shut c.put_down.ensures.told

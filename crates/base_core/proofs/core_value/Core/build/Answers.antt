@@ -1,9 +1,9 @@
 -- a command that builds is carried out
 use Rattle.std.proofs.Common.{sym, subst}
-use Rattle.base_core.specs.BuildCalls.{Begins}
-use Rattle.base_core.specs.Going.{GoesOn}
-use Rattle.base_core.proofs.Counts.{keeps_further}
-use Rattle.base_core.proofs.Goings.{goes_nowhere, goes_further_on_err, finishes_further_on_ok, on_err}
+use Rattle.base_core.specs.Calls.BuildCalls.{Begins}
+use Rattle.base_core.specs.Calls.Going.{GoesOn}
+use Rattle.base_core.proofs.Story.Counts.{keeps_further}
+use Rattle.base_core.proofs.Building.Goings.{goes_nowhere, goes_further_on_err, finishes_further_on_ok, on_err}
 use Rattle.base_core.proofs.core_value.Core.build.Goals as goal
 
 pub returns-in_err-begin-clause-err : goal.returns-in_err-begin-clause-err

@@ -2,7 +2,7 @@
 use Rattle.std.proofs.Common.{ap, sym, ◌∙◌}
 use Rattle.legal_history.specs.Builds.Active.{build_of}
 use Rattle.legal_history.specs.Stories.Steps.{state_of}
-use Rattle.base_core.proofs.FoundBuilds.{build_kept}
+use Rattle.base_core.proofs.Building.FoundBuilds.{build_kept}
 use Rattle.base_core.proofs.core_value.Core.build_at.Goals as goal
 
 pub returns-clause-kept : goal.returns-clause-kept

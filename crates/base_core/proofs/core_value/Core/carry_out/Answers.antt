@@ -1,8 +1,8 @@
 -- a unit is carried out
 use Rattle.std.proofs.Common.{length, refl, subst}
-use Rattle.base_core.specs.BuildCalls.{Tries}
-use Rattle.base_core.proofs.Counts.{keeps_further}
-use Rattle.base_core.proofs.FoundBuilds.{carried_further, tried_in_turn}
+use Rattle.base_core.specs.Calls.BuildCalls.{Tries}
+use Rattle.base_core.proofs.Story.Counts.{keeps_further}
+use Rattle.base_core.proofs.Building.FoundBuilds.{carried_further}
 use Rattle.base_core.proofs.core_value.Core.carry_out.Goals as goal
 
 pub try_unit-requires : goal.try_unit-requires

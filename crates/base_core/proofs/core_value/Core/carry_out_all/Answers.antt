@@ -1,10 +1,10 @@
 -- the units of a build are carried out, one after the other, and it ends
 use Rattle.std.proofs.Common.{arith, subst}
-use Rattle.base_core.specs.BuildCalls.{IsCarried}
-use Rattle.base_core.specs.Going.{GoesOn}
-use Rattle.base_core.proofs.Counts.{keeps_further}
-use Rattle.base_core.proofs.FoundBuilds.{one_carried, carried_over, settled_so}
-use Rattle.base_core.proofs.Goings.{finishes_further, goes_further, finishes_further_on_ok, on_err, stays_on_err}
+use Rattle.base_core.specs.Calls.BuildCalls.{IsCarried}
+use Rattle.base_core.specs.Calls.Going.{GoesOn}
+use Rattle.base_core.proofs.Story.Counts.{keeps_further}
+use Rattle.base_core.proofs.Building.FoundBuilds.{one_carried, carried_over, settled_so}
+use Rattle.base_core.proofs.Building.Goings.{finishes_further, goes_further, finishes_further_on_ok, on_err, stays_on_err}
 use Rattle.base_core.proofs.core_value.Core.carry_out_all.Goals as goal
 
 pub returns-in_err-carry_out-clause-err : goal.returns-in_err-carry_out-clause-err

@@ -1,5 +1,5 @@
-use Rattle.base_core.specs.Counted.{KeepsCount}
-use Rattle.base_core.proofs.FoundBuilds.{AreCarried}
+use Rattle.base_core.specs.Story.Counted.{KeepsCount}
+use Rattle.base_core.proofs.Building.FoundBuilds.{AreCarried}
 use Rattle.base_core.proofs.core_value.Core.carry_out_all.Given as goal
 
 abbrev pub invariant-loop-unit : goal.invariant-loop-unit

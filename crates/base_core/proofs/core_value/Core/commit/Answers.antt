@@ -4,12 +4,12 @@ use Rattle.cc_names.specs.declared.steps.Step.TheVariants as steps
 use Rattle.cc_names.specs.declared.steps.Told.TheVariants as told
 use Rattle.legal_history.specs.Base.Fits.{fits}
 use Rattle.legal_history.specs.Stories.Steps.{state_of}
-use Rattle.base_core.specs.Appending.{IsCommitted, IsFaulted, Appends}
-use Rattle.base_core.specs.Kept.{IsKept}
-use Rattle.base_core.specs.Logs.{with_row, with_step_on}
-use Rattle.base_core.proofs.Faulting.{kept_next_fault, next_faults}
-use Rattle.base_core.proofs.Finishing.{kept_next_row}
-use Rattle.base_core.proofs.Rooms.{row_has_room}
+use Rattle.base_core.specs.Logging.Appending.{IsCommitted, IsFaulted, Appends}
+use Rattle.base_core.specs.Keeping.Kept.{IsCoreKept}
+use Rattle.base_core.specs.Logging.Logs.{with_row, with_step_on}
+use Rattle.base_core.proofs.Acting.Faulting.{kept_next_fault, next_faults}
+use Rattle.base_core.proofs.Acting.Finishing.{kept_next_row}
+use Rattle.base_core.proofs.Keeping.Rooms.{row_has_room}
 use Rattle.base_core.proofs.core_value.Core.commit.Goals as goal
 
 pub append-requires-clause-fits : goal.append-requires-clause-fits
@@ -25,15 +25,15 @@ reply-requires-in-Faulted-clause-room g c = (row_has_room c.self.inside.log c.se
 pub invariant_of-self-in-Committed : goal.invariant_of-self-in-Committed
 invariant_of-self-in-Committed g c =
     let done : IsCommitted c.self.inside.log c.append.new.self c.args.row = subst (Appends c.self.inside.log c.append.new.self c.args.row None) c.in-Committed.is c.in_ok-append.ensures.ok in
-    subst (λ log. IsKept log c.reply.new.self c.self.inside.moment) (sym done.grows)
-    (subst (λ lanes. IsKept (with_row c.self.inside.log c.args.row done.tick done.sight) lanes c.self.inside.moment) (sym c.reply.ensures)
+    subst (λ log. IsCoreKept log c.reply.new.self c.self.inside.moment) (sym done.grows)
+    (subst (λ lanes. IsCoreKept (with_row c.self.inside.log c.args.row done.tick done.sight) lanes c.self.inside.moment) (sym c.reply.ensures)
     (kept_next_row c.self.inside.log c.self.inside.lanes c.self.inside.moment c.args.self.now.story c.args.row c.tag-lane.result.lane done.tick done.sight done.ticked (ap (λ v. v.story) c.self.view_is) (ap (λ t. t.lane) c.tag-lane.ensures) c.self.invariant c.requires done.formed))
 
 pub invariant_of-self-in-Faulted : goal.invariant_of-self-in-Faulted
 invariant_of-self-in-Faulted g c =
     let done : IsFaulted c.self.inside.log c.append.new.self c.args.row None = subst (Appends c.self.inside.log c.append.new.self c.args.row None) c.in-Faulted.is c.in_ok-append.ensures.ok in
-    subst (λ log. IsKept log c.reply-in-Faulted.new.self c.self.inside.moment) (sym done.grows)
-    (subst (λ lanes. IsKept (with_step_on c.self.inside.log (steps.Fault c.args.row.tag done.left done.before done.faults done.tick) done.sight) lanes c.self.inside.moment) (sym c.reply-in-Faulted.ensures)
+    subst (λ log. IsCoreKept log c.reply-in-Faulted.new.self c.self.inside.moment) (sym done.grows)
+    (subst (λ lanes. IsCoreKept (with_step_on c.self.inside.log (steps.Fault c.args.row.tag done.left done.before done.faults done.tick) done.sight) lanes c.self.inside.moment) (sym c.reply-in-Faulted.ensures)
     (kept_next_fault c.self.inside.log c.self.inside.lanes c.self.inside.moment c.args.self.now.story c.args.row c.tag-lane.result.lane done.left done.before done.faults done.tick done.sight done.rose done.later done.leaves done.ticked (ap (λ v. v.story) c.self.view_is) (ap (λ t. t.lane) c.tag-lane.ensures) c.self.invariant c.requires done.formed))
 
 pub returns-in-Faulted-clause-ok : goal.returns-in-Faulted-clause-ok

@@ -6,17 +6,17 @@ use Rattle.legal_history.specs.Base.Rows.{size}
 use Rattle.legal_history.specs.Builds.Active.{build_of}
 use Rattle.legal_history.specs.Stories.States.{next_tag}
 use Rattle.legal_history.specs.Stories.Steps.{state_of}
-use Rattle.base_core.specs.Appending.{Appends, IsCommitted, IsFaulted}
-use Rattle.base_core.specs.Going.{GoesOn, HasOutcome, Finishes}
-use Rattle.base_core.specs.Kept.{IsKept}
-use Rattle.base_core.specs.Logs.{with_step, with_step_on}
-use Rattle.base_core.proofs.BrokenBuilds.{kept_broken_object, broken_object_finishes}
-use Rattle.base_core.proofs.FoundBuilds.{build_kept}
-use Rattle.base_core.proofs.Idle.{some_same}
-use Rattle.base_core.proofs.LaneSlots.{lane_slot, slot_there}
-use Rattle.base_core.proofs.ObjectSteps.{kept_object, object_so, object_fits, object_made}
-use Rattle.base_core.proofs.Rooms.{build_has_room}
-use Rattle.base_core.proofs.UnitCalls.{builds_waits}
+use Rattle.base_core.specs.Logging.Appending.{Appends, IsCommitted, IsFaulted}
+use Rattle.base_core.specs.Calls.Going.{GoesOn, HasOutcome, Finishes}
+use Rattle.base_core.specs.Keeping.Kept.{IsCoreKept}
+use Rattle.base_core.specs.Logging.Logs.{with_step, with_step_on}
+use Rattle.base_core.proofs.Building.BrokenBuilds.{kept_broken_object, broken_object_finishes}
+use Rattle.base_core.proofs.Building.FoundBuilds.{build_kept}
+use Rattle.base_core.proofs.Keeping.Idle.{some_same}
+use Rattle.base_core.proofs.Keeping.LaneSlots.{lane_slot, slot_there}
+use Rattle.base_core.proofs.Building.ObjectSteps.{kept_object, object_so, object_fits, object_made}
+use Rattle.base_core.proofs.Keeping.Rooms.{build_has_room}
+use Rattle.base_core.proofs.Building.UnitCalls.{builds_waits}
 use Rattle.base_core.proofs.core_value.Core.commit_object.Goals as goal
 
 pub tag-tag-requires : goal.tag-tag-requires
@@ -54,15 +54,15 @@ close-requires-clause-room g c = (build_has_room c.self.inside.log c.self.inside
 pub invariant_of-self-in-Committed : goal.invariant_of-self-in-Committed
 invariant_of-self-in-Committed g c =
     let done : IsCommitted c.self.inside.log c.append.new.self c.args.row = subst (Appends c.self.inside.log c.append.new.self c.args.row (Some (steps.End c.tag-tag.result))) c.in-Committed.is c.in_ok-append.ensures.ok in
-    subst (λ log. IsKept log c.note.new.self c.self.inside.moment) (sym done.grows)
+    subst (λ log. IsCoreKept log c.note.new.self c.self.inside.moment) (sym done.grows)
     (kept_object c.self.inside.log c.self.inside.lanes c.note.new.self c.self.inside.moment c.args.self.now.story c.args.lane c.args.unit c.size-number.result c.args.row done.tick done.sight done.ticked
     (ap (λ v. v.story) c.self.view_is) c.self.invariant c.requires (c.size-number.ensures.size ∙ ap size c.rows.ensures) c.a_build_is_consistent.ensures (λ build e. c.note.ensures build e) done.formed)
 
 pub invariant_of-self-in-Faulted : goal.invariant_of-self-in-Faulted
 invariant_of-self-in-Faulted g c =
     let done : IsFaulted c.self.inside.log c.append.new.self c.args.row (Some (steps.End c.tag-tag.result)) = subst (Appends c.self.inside.log c.append.new.self c.args.row (Some (steps.End c.tag-tag.result))) c.in-Faulted.is c.in_ok-append.ensures.ok in
-    subst (λ log. IsKept log c.close.new.self c.self.inside.moment) (sym done.grows)
-    (subst (λ lanes. IsKept (with_step (with_step_on c.self.inside.log (steps.Fault c.args.row.tag done.left done.before done.faults done.tick) done.sight) (steps.End c.tag-tag.result)) lanes c.self.inside.moment) (sym c.close.ensures)
+    subst (λ log. IsCoreKept log c.close.new.self c.self.inside.moment) (sym done.grows)
+    (subst (λ lanes. IsCoreKept (with_step (with_step_on c.self.inside.log (steps.Fault c.args.row.tag done.left done.before done.faults done.tick) done.sight) (steps.End c.tag-tag.result)) lanes c.self.inside.moment) (sym c.close.ensures)
     (kept_broken_object c.self.inside.log c.self.inside.lanes c.self.inside.moment c.args.self.now.story c.args.lane c.args.unit c.args.row c.tag-tag.result done.left done.before done.faults done.tick done.sight done.rose done.later done.leaves done.ticked
     (ap (λ v. v.story) c.self.view_is) c.self.invariant c.requires c.tag-tag.ensures c.a_build_is_consistent.ensures done.formed))
 

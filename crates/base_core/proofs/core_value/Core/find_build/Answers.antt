@@ -1,6 +1,6 @@
 -- the build of a lane is kept
 use Rattle.std.proofs.Common.{ap}
-use Rattle.base_core.proofs.FoundBuilds.{build_kept}
+use Rattle.base_core.proofs.Building.FoundBuilds.{build_kept}
 use Rattle.base_core.proofs.core_value.Core.find_build.Goals as goal
 
 pub returns-clause-kept : goal.returns-clause-kept

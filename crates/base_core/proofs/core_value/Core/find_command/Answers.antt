@@ -4,11 +4,11 @@ use Rattle.std.specs.Prelude.{option_and_then}
 use Rattle.cc_names.specs.declared.commands.Command.{Command}
 use Rattle.legal_history.specs.Stories.States.{lane_at, command_behind}
 use Rattle.legal_history.specs.Stories.Steps.{state_of}
-use Rattle.base_core.specs.Kept.{last_phase}
-use Rattle.base_core.specs.Lanes.{replies_at}
-use Rattle.base_core.specs.Nexts.{waiting}
-use Rattle.base_core.proofs.Commanded.{next_is_formed, next_is_carried_out}
-use Rattle.base_core.proofs.NextCommands.{waiting_kept}
+use Rattle.base_core.specs.Keeping.Kept.{last_phase}
+use Rattle.base_core.specs.Keeping.Lanes.{replies_at}
+use Rattle.base_core.specs.Keeping.Nexts.{waiting}
+use Rattle.base_core.proofs.Acting.Commanded.{next_is_formed, next_is_carried_out}
+use Rattle.base_core.proofs.Acting.NextCommands.{waiting_kept}
 use Rattle.base_core.proofs.core_value.Core.find_command.Goals as goal
 
 pub returns-clause-formed : goal.returns-clause-formed

@@ -2,7 +2,7 @@
 use Rattle.std.proofs.Common.{ap}
 use Rattle.build_script.specs.Ended.{ran_of, outputs_in}
 use Rattle.legal_history.specs.Stories.Steps.{state_of}
-use Rattle.base_core.proofs.FoundBuilds.{fails_so}
+use Rattle.base_core.proofs.Building.FoundBuilds.{fails_so}
 use Rattle.base_core.proofs.core_value.Core.finish_unit.Goals as goal
 
 pub settle-requires : goal.settle-requires

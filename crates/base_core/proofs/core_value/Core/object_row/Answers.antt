@@ -5,9 +5,9 @@ use Rattle.legal_history.specs.Builds.Active.{came_to, unit_at}
 use Rattle.legal_history.specs.Builds.Choices.{publish_of}
 use Rattle.legal_history.specs.Builds.Consistency.{IsConsistent}
 use Rattle.legal_history.specs.Stories.Steps.{state_of}
-use Rattle.base_core.specs.BuildCalls.{IsObjectRow}
-use Rattle.base_core.proofs.FoundBuilds.{if_ok}
-use Rattle.base_core.proofs.Idle.{some_same}
+use Rattle.base_core.specs.Calls.BuildCalls.{IsObjectRow}
+use Rattle.base_core.proofs.Building.FoundBuilds.{if_ok}
+use Rattle.base_core.proofs.Keeping.Idle.{some_same}
 use Rattle.base_core.proofs.core_value.Core.object_row.Goals as goal
 
 pub publish_row-requires-clause-formed : goal.publish_row-requires-clause-formed

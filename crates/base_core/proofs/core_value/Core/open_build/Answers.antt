@@ -2,18 +2,18 @@
 use Rattle.std.proofs.Common.{length, ap, sym, subst, ◌∙◌, arith}
 use Rattle.cc_names.specs.declared.steps.Step.TheVariants as steps
 use Rattle.legal_history.specs.Stories.Steps.{state_of}
-use Rattle.base_core.specs.BuildCalls.{IsBuilding}
-use Rattle.base_core.specs.Going.{GoesOn}
-use Rattle.base_core.specs.Kept.{IsKept}
-use Rattle.base_core.specs.Logs.{with_step}
-use Rattle.base_core.proofs.OpenSteps.{kept_opened, opened_so}
-use Rattle.base_core.proofs.Counts.{log_stays}
+use Rattle.base_core.specs.Calls.BuildCalls.{IsBuilding}
+use Rattle.base_core.specs.Calls.Going.{GoesOn}
+use Rattle.base_core.specs.Keeping.Kept.{IsCoreKept}
+use Rattle.base_core.specs.Logging.Logs.{with_step}
+use Rattle.base_core.proofs.Building.OpenSteps.{kept_opened, opened_so}
+use Rattle.base_core.proofs.Story.Counts.{log_stays}
 use Rattle.base_core.proofs.core_value.Core.open_build.Goals as goal
 
 pub invariant_of-self-2 : goal.invariant_of-self-2
 invariant_of-self-2 g c =
-    subst (λ log. IsKept log c.open.new.self c.self.inside.moment) (sym c.in_ok-tell.ensures.ok)
-    (subst (λ lanes. IsKept (with_step c.self.inside.log (steps.Begin c.tag-tag.result c.rows.result (length c.units.result.now))) lanes c.self.inside.moment) (sym c.open.ensures)
+    subst (λ log. IsCoreKept log c.open.new.self c.self.inside.moment) (sym c.in_ok-tell.ensures.ok)
+    (subst (λ lanes. IsCoreKept (with_step c.self.inside.log (steps.Begin c.tag-tag.result c.rows.result (length c.units.result.now))) lanes c.self.inside.moment) (sym c.open.ensures)
     (kept_opened c.self.inside.log c.self.inside.lanes c.self.inside.moment c.rows.result (length c.units.result.now) c.args.self.now.story c.tag-tag.result c.args.build
     (ap (λ v. v.story) c.self.view_is) c.self.invariant c.requires c.tag-tag.ensures c.rows.ensures (ap length c.units.ensures)))
 

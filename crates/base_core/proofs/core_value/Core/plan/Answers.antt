@@ -4,9 +4,9 @@ use Rattle.build_core.specs.Plans.{view_of}
 use Rattle.legal_history.specs.Builds.Active.{building}
 use Rattle.legal_history.specs.Stories.States.{next_tag}
 use Rattle.legal_history.specs.Stories.Steps.{state_of}
-use Rattle.base_core.proofs.Commanded.{builds_next, same_view}
-use Rattle.base_core.proofs.PlanSteps.{plans_so}
-use Rattle.base_core.proofs.UnitCalls.{builds_waits}
+use Rattle.base_core.proofs.Acting.Commanded.{builds_next, same_view}
+use Rattle.base_core.proofs.Building.PlanSteps.{plans_so}
+use Rattle.base_core.proofs.Building.UnitCalls.{builds_waits}
 use Rattle.base_core.proofs.core_value.Core.plan.Goals as goal
 
 pub command-command-requires : goal.command-command-requires

@@ -4,9 +4,9 @@ use Rattle.build_script.specs.Ended.{ran_of}
 use Rattle.legal_history.specs.Builds.Active.{came_to, unit_at}
 use Rattle.legal_history.specs.Builds.Choices.{here}
 use Rattle.legal_history.specs.Stories.Steps.{state_of}
-use Rattle.base_core.specs.BuildCalls.{HasRun}
-use Rattle.base_core.proofs.FoundBuilds.{if_ok, view_there}
-use Rattle.base_core.proofs.Idle.{some_same}
+use Rattle.base_core.specs.Calls.BuildCalls.{IsRunOfUnit}
+use Rattle.base_core.proofs.Building.FoundBuilds.{if_ok, view_there}
+use Rattle.base_core.proofs.Keeping.Idle.{some_same}
 use Rattle.base_core.proofs.core_value.Core.run.Goals as goal
 
 pub run_unit-requires-clause-view : goal.run_unit-requires-clause-view
@@ -16,7 +16,7 @@ pub returns : goal.returns
 returns g c =
     let is : c.requires.has.build ≡ c.build_at.result.now = some_same c.requires.has.build c.build_at.result.now (sym c.requires.has.active ∙ c.build_at.ensures.active) in
     let is_unit : unit_at c.build_at.result.now c.args.unit ≡ Some c.requires.has.unit = ap (λ b. unit_at b c.args.unit) (sym is) ∙ c.requires.has.is_unit in
-    if_ok c.run_unit.result (λ ended. ran_of ended ≡ here c.rows.result c.build_at.result.now c.args.unit c.requires.has.unit) (λ ended. HasRun (state_of c.args.self.now.story) c.args.lane c.args.unit (ran_of ended))
+    if_ok c.run_unit.result (λ ended. ran_of ended ≡ here c.rows.result c.build_at.result.now c.args.unit c.requires.has.unit) (λ ended. IsRunOfUnit (state_of c.args.self.now.story) c.args.lane c.args.unit (ran_of ended))
     (λ ended ran. record {
       build = c.build_at.result.now;
       active = c.build_at.ensures.active;

@@ -1,7 +1,7 @@
 -- the script of a unit is started
 use Rattle.legal_history.specs.Stories.States.{next_tag}
 use Rattle.legal_history.specs.Stories.Steps.{state_of}
-use Rattle.base_core.proofs.UnitCalls.{builds_waits}
+use Rattle.base_core.proofs.Building.UnitCalls.{builds_waits}
 use Rattle.base_core.proofs.core_value.Core.start.Goals as goal
 
 pub tag-tag-requires : goal.tag-tag-requires

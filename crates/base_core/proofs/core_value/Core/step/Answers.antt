@@ -2,10 +2,10 @@
 use Rattle.std.proofs.Common.{◌≡◌, ◌<◌, length, ap, sym, subst, ◌∙◌, arith}
 use Rattle.build_core.specs.UnitSteps.{IsStep}
 use Rattle.legal_history.specs.Stories.Steps.{state_of}
-use Rattle.base_core.specs.BuildCalls.{StepsTo}
-use Rattle.base_core.proofs.FoundBuilds.{if_ok, view_there}
-use Rattle.base_core.proofs.Idle.{some_same}
-use Rattle.base_core.proofs.StepsSo.{steps_so}
+use Rattle.base_core.specs.Calls.BuildCalls.{StepsTo}
+use Rattle.base_core.proofs.Building.FoundBuilds.{if_ok, view_there}
+use Rattle.base_core.proofs.Keeping.Idle.{some_same}
+use Rattle.base_core.proofs.Building.StepsSo.{steps_so}
 use Rattle.base_core.proofs.core_value.Core.step.Goals as goal
 
 pub step-requires-clause-view : goal.step-requires-clause-view

@@ -1,8 +1,8 @@
 -- a unit is tried
 use Rattle.std.proofs.Common.{subst}
 use Rattle.legal_history.specs.Stories.Steps.{state_of}
-use Rattle.base_core.specs.BuildCalls.{StepsTo}
-use Rattle.base_core.proofs.FoundBuilds.{started_has}
+use Rattle.base_core.specs.Calls.BuildCalls.{StepsTo}
+use Rattle.base_core.proofs.Building.FoundBuilds.{started_has}
 use Rattle.base_core.proofs.core_value.Core.try_unit.Goals as goal
 
 pub returns-in_ok-start-in-Start-clause-ok : goal.returns-in_ok-start-in-Start-clause-ok

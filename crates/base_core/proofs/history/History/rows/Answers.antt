@@ -1,8 +1,8 @@
 -- the rows are those that the story tells
 use Rattle.std.proofs.Common.{ap, sym, ◌∙◌}
-use Rattle.base_core.specs.Handed.{handed_in}
-use Rattle.base_core.specs.Telling.{rows_told}
-use Rattle.base_core.proofs.Stories.{rows_told_are}
+use Rattle.base_core.specs.Story.Handed.{handed_in}
+use Rattle.base_core.specs.Story.Telling.{rows_told}
+use Rattle.base_core.proofs.Story.Stories.{rows_told_are}
 use Rattle.base_core.proofs.history.History.rows.Goals as goal
 
 pub returns : goal.returns

@@ -1,5 +1,5 @@
 use Rattle.std.proofs.Common.{◌≡◌, take}
-use Rattle.base_core.specs.Lanes.{fresh_lanes}
+use Rattle.base_core.specs.Keeping.Lanes.{fresh_lanes}
 use Rattle.base_core.proofs.lanes.Lanes.begin.Given as goal
 
 abbrev pub invariant-loop-lane : goal.invariant-loop-lane

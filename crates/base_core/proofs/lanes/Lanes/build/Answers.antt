@@ -2,9 +2,9 @@
 use Rattle.std.proofs.Common.{◌-◌, length, get_or, sym, ap, ◌∙◌, arith}
 use Rattle.build_core.specs.Slots.{numbered}
 use Rattle.legal_history.specs.Builds.Active.{build_of}
-use Rattle.base_core.specs.Lanes.{builds_in}
-use Rattle.base_core.proofs.LaneSets.{build_there, builds_count}
-use Rattle.base_core.proofs.SlotLists.{build_nowhere, build_zero}
+use Rattle.base_core.specs.Keeping.Lanes.{builds_in}
+use Rattle.base_core.proofs.Keeping.LaneSets.{build_there, builds_count}
+use Rattle.base_core.proofs.Keeping.SlotLists.{build_nowhere, build_zero}
 use Rattle.base_core.proofs.lanes.Lanes.build.Goals as goal
 use Rattle.base_core.proofs.lanes.Lanes.build.Goals.{then-lane-eq0-via-then-lane-eq0, then-lane-eq0-via-else-lane-eq0+then-lane-len}
 

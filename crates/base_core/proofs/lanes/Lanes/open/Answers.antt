@@ -1,6 +1,6 @@
 -- a build begins in its lane's place
 use Rattle.std.proofs.Common.{◌-◌, get_or, set, Some, ap, ◌∙◌}
-use Rattle.base_core.proofs.LaneSets.{put_is}
+use Rattle.base_core.proofs.Keeping.LaneSets.{put_is}
 use Rattle.base_core.proofs.lanes.Lanes.open.Goals as goal
 
 pub returns : goal.returns

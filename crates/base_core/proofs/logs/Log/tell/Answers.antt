@@ -1,13 +1,13 @@
 -- a step is told behind the story
 use Rattle.std.proofs.Common.{ap, ◌∙◌}
-use Rattle.base_core.specs.Logs.{with_step}
-use Rattle.base_core.specs.Handed.{handed_in}
-use Rattle.base_core.proofs.Logged.{logged_step}
-use Rattle.base_core.proofs.LogSteps.{shown_step}
+use Rattle.base_core.specs.Logging.Logs.{with_step}
+use Rattle.base_core.specs.Story.Handed.{handed_in}
+use Rattle.base_core.proofs.Logging.Logged.{logged_step}
+use Rattle.base_core.proofs.Logging.LogSteps.{shown_step}
 use Rattle.base_core.proofs.logs.Log.tell.Goals as goal
 
 pub invariant_of-self-2 : goal.invariant_of-self-2
-invariant_of-self-2 g c = logged_step (handed_in c.self.inside.handed g.D.Disk.tells) c.self.inside.steps.items _ c.self.inside.rows.base c.self.inside.phases.items c.args.step _ _ _ _ _ c.self.invariant c.requires.alone c.requires.sound c.in_ok-push_step.ensures.ok
+invariant_of-self-2 g c = logged_step (handed_in c.self.inside.handed g.D.Disk.tells) c.self.inside.steps.items _ c.self.inside.rows.base c.self.inside.phases.items c.args.step _ _ _ _ _ _ c.self.invariant c.requires.alone c.requires.sound c.in_ok-push_step.ensures.ok
 
 pub returns-clause-ok : goal.returns-clause-ok
 returns-clause-ok g c =

@@ -1,7 +1,7 @@
 use Rattle.std.proofs.Common.{subst}
 use Rattle.disk_model.specs.Told.{Both}
 use Rattle.vob_journal.specs.Added.{WritesOn}
-use Rattle.vob_journal.specs.Calls.{Commits}
+use Rattle.vob_journal.specs.Calls.{CommitsFrame}
 use Rattle.vob_journal.proofs.Adding.{commits_writes}
 use Rattle.vob_journal.proofs.Telling.{both_map}
 use Rattle.vob_journal.proofs.journal.Journal.append.Goals as goal
@@ -10,4 +10,4 @@ pub returns-in-Ok-clause-writes : goal.returns-in-Ok-clause-writes
 returns-in-Ok-clause-writes g c =
     let journal = c.self.inside in
     subst (λ s. Both WritesOn (g.D.Disk.sight s.disk).told (g.D.Disk.sight c.commit.new.disk).told) c.self.view_is
-    (both_map (Commits journal.settled journal.tail c.args.frame.now) WritesOn _ _ (commits_writes journal.settled journal.tail c.args.frame.now) c.in-Ok.ensures.told)
+    (both_map (CommitsFrame journal.settled journal.tail c.args.frame.now) WritesOn _ _ (commits_writes journal.settled journal.tail c.args.frame.now) c.in-Ok.ensures.told)

@@ -8,7 +8,7 @@ use Rattle.vob_journal.specs.Found.{Finds, IsWithin, ShowsOn}
 use Rattle.vob_journal.specs.Frames.{head, is_shut}
 use Rattle.vob_journal.specs.Moves.{Moves}
 use Rattle.vob_journal.specs.Reads.{SameFiles}
-use Rattle.vob_journal.specs.Shown.{told_list, told_rest, told_loose, IsKept}
+use Rattle.vob_journal.specs.Shown.{told_list, told_rest, told_loose, IsJournalKept}
 use Rattle.vob_journal.proofs.Journals.{kept_now, same_moves, reading_of, missed_list, rest_moves, told_more, more_list, more_rest, ended_list, ended_loose, ended_rest, nothing_loose}
 use Rattle.vob_journal.proofs.Staying.{told_stay, told_rests, told_adds, told_adds_none}
 use Rattle.vob_journal.proofs.journal.Journal.next.Goals as goal
@@ -34,7 +34,7 @@ invariant_of-self g c =
     let is_within : tail + (5 + length c.in-Ok-Payload.payload) ≤ size = subst (IsWithin tail size) c.in-Ok-Payload.field-0-is c.in-Ok-Payload.ensures.within in
     let within = subst (λ p. tail + (5 + length p) ≤ size) (sym c.as_bytes.ensures) is_within in
     let shows = subst (ShowsOn new) c.in-Ok-Payload.field-0-is c.in-Ok-Payload.ensures.shows in
-    subst (λ b. IsKept new b settled (tail + (5 + length payload)) size (Some c.in-Ok-Payload.window)) (sym c.if-self.false)
+    subst (λ b. IsJournalKept new b settled (tail + (5 + length payload)) size (Some c.in-Ok-Payload.window)) (sym c.if-self.false)
     (within, kept.1, shows, told_more tail size payload old new kept.3 rests found within)
 
 pub returns-in-Ok-Payload-clause-gives : goal.returns-in-Ok-Payload-clause-gives

@@ -1,0 +1,54 @@
+-- The command that a lane has next is one of the phase: it has the form of one, and is carried out.
+use Rattle.std.proofs.Common.{◌≡◌, ℕ, zero, suc, true, false, Option, Some, None, List, refl, ap, sym, ◌∙◌}
+use Rattle.std.specs.Prelude.{option_and_then, slice_get}
+use Rattle.std.specs.List.{AllByRecursion}
+use Rattle.cc_names.specs.declared.commands.Command.{Command}
+use Rattle.cc_names.specs.declared.commands.Command.TheVariants as commands
+use Rattle.cc_names.specs.declared.commands.Lane.{Lane}
+use Rattle.cc_names.specs.declared.commands.Phase.{Phase}
+use Rattle.cc_names.specs.declared.desks.Next.TheVariants as nexts
+use Rattle.cc_names.specs.declared.rows.Tag.{Tag}
+use Rattle.session_text.specs.Formed.{IsCommand, IsLane, IsPhase}
+use Rattle.legal_history.specs.Stories.States.{State, lane_at, command_behind, next_tag}
+use Rattle.build_core.specs.Plans.{is_clearmake, view_of as build_view}
+use Rattle.checkout_desk.specs.Commands.{builds, view_of}
+use Rattle.carried_out.specs.CarriedOut.{AreCarriedOut, IsLaneCarriedOut, is_carried_out}
+use Rattle.base_core.specs.Keeping.Kept.{command_limit}
+use Rattle.base_core.specs.Keeping.Nexts.{next_by, next_of, waiting}
+use Rattle.base_core.proofs.Building.ObjectSteps.{all_at}
+
+-- what holds of all commands of all lanes holds of the one that is next
+in_lane : (Q : Lane → Type 0) (P : Command → Type 0) → ((lane : Lane) → Q lane → AllByRecursion P lane.commands) → (phase : Phase) (lane done : ℕ) (command : Command) → AllByRecursion Q phase.lanes
+    → option_and_then (command_behind done) (lane_at phase lane) ≡ Some command → P command
+in_lane Q P each phase zero done command all e = absurd (cc)
+in_lane Q P each phase (suc n) done command all e = by (slice_get phase.lanes n) refl e
+  where
+    by : (found : Option Lane) → slice_get phase.lanes n ≡ found → option_and_then (command_behind done) found ≡ Some command → P command
+    by None is e = absurd (cc)
+    by (Some lane) is e = all_at P lane.commands done command (each lane (all_at Q phase.lanes n lane all is)) e
+
+pub next_is_formed : (phase : Phase) (lane done : ℕ) (command : Command) → IsPhase command_limit phase → option_and_then (command_behind done) (lane_at phase lane) ≡ Some command → IsCommand command_limit command
+next_is_formed phase lane done command formed e = in_lane (IsLane command_limit) (IsCommand command_limit) (λ l is. is.1.1) phase lane done command formed.1 e
+
+pub next_is_carried_out : (phase : Phase) (lane done : ℕ) (command : Command) → AreCarriedOut phase → option_and_then (command_behind done) (lane_at phase lane) ≡ Some command → is_carried_out command ≡ true
+next_is_carried_out phase lane done command carried e = in_lane IsLaneCarriedOut (λ c. is_carried_out c ≡ true) (λ l is. is) phase lane done command carried e
+
+-- one that is acted on builds nothing
+acting : (command : Command) (tag : Tag) → next_by (Some command) tag ≡ nexts.Act → builds command ≡ false
+acting (commands.Clearmake view file own_only rebuild jobs macros goals) tag act = absurd (cc)
+acting command tag act = refl
+
+building : (command : Command) (tag : Tag) → next_by (Some command) tag ≡ nexts.Build tag → is_clearmake command ≡ true
+building (commands.Clearmake view file own_only rebuild jobs macros goals) tag builds = refl
+building command tag builds = cc
+
+pub acts : (s : State) (lane : ℕ) (command : Command) → waiting s lane ≡ Some command → next_of s lane ≡ nexts.Act → builds command ≡ false
+acts s lane command e act = acting command (next_tag s lane) (ap (λ found. next_by found (next_tag s lane)) (sym e) ∙ act)
+
+pub builds_next : (s : State) (lane : ℕ) (command : Command) → waiting s lane ≡ Some command → next_of s lane ≡ nexts.Build (next_tag s lane) → is_clearmake command ≡ true
+builds_next s lane command e build = building command (next_tag s lane) (ap (λ found. next_by found (next_tag s lane)) (sym e) ∙ build)
+
+-- the view in which a command builds is the one that it names
+pub same_view : (command : Command) → is_clearmake command ≡ true → view_of command ≡ build_view command
+same_view (commands.Clearmake view file own_only rebuild jobs macros goals) builds_it = refl
+same_view command builds_it = absurd (cc)

@@ -1,0 +1,86 @@
+-- What a core keeps after a fault of the disk under a command that builds nothing.
+use Rattle.std.proofs.Common.{◌≡◌, ℕ, ◌≤◌, inl, inr, true, Option, Some, None, Ok, List, [], ◌∷◌, ◌++◌, length, refl, ap, sym, subst, ◌∙◌, arith}
+use Rattle.std.specs.Prelude.{option_and_then}
+use Rattle.cc_names.specs.Formed.{Plain, IsFormed}
+use Rattle.cc_names.specs.declared.replies.Reply.TheVariants as replies
+use Rattle.cc_names.specs.declared.steps.Step.TheVariants as steps
+use Rattle.cc_names.specs.declared.steps.Told.{Told}
+use Rattle.cc_names.specs.declared.steps.Told.TheVariants as told
+use Rattle.disk_model.specs.Told.{Sight}
+use Rattle.legal_history.specs.Builds.Active.{build_of}
+use Rattle.legal_history.specs.Commands.Decisions.{Makes}
+use Rattle.legal_history.specs.Stories.States.{State, decided, build_if, build_by, ticks_of, faults_of}
+use Rattle.legal_history.specs.Stories.Steps.{after, state_of, done_by_fault, faulted_in}
+use Rattle.legal_history.specs.Stories.Committing.{LeavesRow, MayCommit}
+use Rattle.cc_names.specs.Counts.{rises}
+use Rattle.cc_names.specs.declared.desks.Done.TheVariants.{Faulted}
+use Rattle.base_core.specs.Calls.Acting.{Acts, IsRowToCommit, FinishesCommand}
+use Rattle.base_core.specs.Logging.Appending.{MayLeaveRow}
+use Rattle.base_core.specs.Keeping.Kept.{IsCoreKept}
+use Rattle.base_core.specs.Keeping.Lanes.{LaneKept, with_reply}
+use Rattle.base_core.specs.Logging.Logs.{Logged, with_step_on}
+use Rattle.base_core.specs.Story.Readable.{IsReadable}
+use Rattle.base_core.specs.Story.Replying.{in_lane, reply_to_fault, replies_of}
+use Rattle.base_core.proofs.Keeping.Idle.{decided_is_free}
+use Rattle.base_core.proofs.Keeping.KeptBuilds.{same_rows}
+use Rattle.base_core.proofs.Keeping.KeptSteps.{kept_finished}
+use Rattle.base_core.proofs.Story.Naming.{left_named}
+
+-- what a fault left is what it may leave
+pub leaves_so : (s : State) (row : Plain) (left : Option Plain) → MayCommit s row → MayLeaveRow s row left → LeavesRow s row.tag left
+leaves_so s row None may h = tt
+leaves_so s row (Some left) may (inl e) = inl (ap (λ r. r.tag) e, subst (MayCommit s) (sym e) may)
+leaves_so s row (Some left) may (inr e) = inr e
+
+-- what is kept then
+kept_fault : (log : Logged) (lanes : List LaneKept) (now : ℕ) (row : Plain) (left : Option Plain) (before faults tick : ℕ) (sight : Sight) → rises before faults ≡ true → faults_of (state_of log.story).opened (state_of log.story).ends ≤ before → MayLeaveRow (state_of log.story) row left
+    → rises (ticks_of (state_of log.story).opened (state_of log.story).ends) tick ≡ true → IsCoreKept log lanes now → FinishesCommand row.deed → row.moment ≡ now → decided (state_of log.story) row.tag ≡ Some (Ok (Makes row.deed)) → 1 ≤ row.tag.lane → row.tag.lane ≤ length lanes → IsReadable row
+    → IsCoreKept (with_step_on log (steps.Fault row.tag left before faults tick) sight) (with_reply lanes row.tag.lane replies.DiskFault) now
+kept_fault log lanes now row left before faults tick sight rose later leaves ticked h finishes in_time made low high readable =
+    kept_finished log lanes now x log.base sight row.tag replies.DiskFault h low high
+    (record {
+      lawful = record { wanted = record { row = row; of_tag = refl; may = may }; rose = rose; later = later; leaves = leaves_so s row left may leaves; ticked = ticked };
+      names = left_named IsReadable log.story row left leaves readable h.story.readable;
+      leads = h.story.base;
+    })
+    (record {
+      free = free;
+      same = record { phase = refl; number = refl; moment = refl };
+      rows = same_rows s (after s x) refl;
+      active = ap (faulted_in s.active row.tag.lane) no_build;
+      done = ap (done_by_fault s.done row.tag.lane) no_build;
+      said = λ l. ap (λ o. replies_of log.story l ++ in_lane l row.tag (reply_to_fault o)) no_build;
+    })
+  where
+    s : State
+    s = state_of log.story
+
+    x : Told
+    x = told.Other (steps.Fault row.tag left before faults tick)
+
+    may : MayCommit s row
+    may = record { moment = in_time ∙ sym h.phase.moment; made = finishes.made s row made }
+
+    free : build_of s.active row.tag.lane ≡ None
+    free = decided_is_free s row.tag (Ok (Makes row.deed)) made
+
+    no_build : build_by s row.tag ≡ None
+    no_build = ap (option_and_then (build_if row.tag)) free
+
+-- what is kept after a fault under a lane's next command
+pub kept_next_fault : (log : Logged) (lanes : List LaneKept) (now : ℕ) (story : List Told) (row : Plain) (lane : ℕ) (left : Option Plain) (before faults tick : ℕ) (sight : Sight) → rises before faults ≡ true → faults_of (state_of log.story).opened (state_of log.story).ends ≤ before → MayLeaveRow (state_of log.story) row left
+    → rises (ticks_of (state_of log.story).opened (state_of log.story).ends) tick ≡ true → log.story ≡ story → lane ≡ row.tag.lane → IsCoreKept log lanes now → IsRowToCommit (state_of story) row → IsFormed row
+    → IsCoreKept (with_step_on log (steps.Fault row.tag left before faults tick) sight) (with_reply lanes lane replies.DiskFault) now
+kept_next_fault log lanes now story row lane left before faults tick sight rose later leaves ticked same at_lane h next formed =
+    let here : IsRowToCommit (state_of log.story) row = subst (λ t. IsRowToCommit (state_of t) row) (sym same) next in
+    subst (λ l. IsCoreKept (with_step_on log (steps.Fault row.tag left before faults tick) sight) (with_reply lanes l replies.DiskFault) now) (sym at_lane)
+    (kept_fault log lanes now row left before faults tick sight rose later leaves ticked h here.finishes (here.at_moment ∙ h.phase.moment) here.made here.of_next.from
+    (omega (arith, here.of_next.upto, h.replies.count)) (record { formed = formed; made = here.carried_out }))
+
+-- how the story went on
+pub next_faults : (old new : List Told) (row : Plain) (left : Option Plain) (before faults tick : ℕ) → new ≡ old ++ told.Other (steps.Fault row.tag left before faults tick) ∷ [] → IsRowToCommit (state_of old) row → Acts old new row.tag.lane Faulted
+next_faults old new row left before faults tick e next = record {
+  step = told.Other (steps.Fault row.tag left before faults tick);
+  grows = e;
+  is = (next.of_next.next, row.deed, subst (λ t. decided (state_of old) t ≡ Some (Ok (Makes row.deed))) next.of_next.next next.made);
+}

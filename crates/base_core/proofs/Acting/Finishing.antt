@@ -1,0 +1,101 @@
+-- What a core keeps after a row, a refusal or an answer that finishes a command of a lane.
+use Rattle.std.proofs.Common.{◌≡◌, ℕ, ◌≤◌, true, Some, Ok, Err, List, [], ◌∷◌, ◌++◌, length, refl, ap, sym, subst, ◌∙◌, arith}
+use Rattle.cc_names.specs.Counts.{rises}
+use Rattle.cc_names.specs.Formed.{Plain, IsFormed}
+use Rattle.cc_names.specs.declared.refusals.Refusal.{Refusal}
+use Rattle.cc_names.specs.declared.replies.Reply.TheVariants as replies
+use Rattle.cc_names.specs.declared.rows.Tag.{Tag}
+use Rattle.cc_names.specs.declared.steps.Step.TheVariants as steps
+use Rattle.cc_names.specs.declared.steps.Told.{Told}
+use Rattle.cc_names.specs.declared.steps.Told.TheVariants as told
+use Rattle.disk_model.specs.Told.{Sight}
+use Rattle.legal_history.specs.Commands.Decisions.{Makes, Answers}
+use Rattle.legal_history.specs.Stories.States.{State, decided, next_command, ticks_of}
+use Rattle.legal_history.specs.Stories.Steps.{after, state_of}
+use Rattle.base_core.specs.Calls.Acting.{FinishesCommand, IsRowToCommit, IsNextAnswer, IsNextRefusal}
+use Rattle.base_core.specs.Keeping.Kept.{IsCoreKept}
+use Rattle.base_core.specs.Keeping.Lanes.{LaneKept, with_reply}
+use Rattle.base_core.specs.Logging.Logs.{Logged, with_row, with_step}
+use Rattle.base_core.specs.Story.Readable.{IsReadable}
+use Rattle.base_core.specs.Story.Replying.{in_lane, replies_of, reply_to_answer}
+use Rattle.base_core.proofs.Keeping.Idle.{decided_is_free}
+use Rattle.base_core.proofs.Keeping.KeptBuilds.{same_rows, more_rows}
+use Rattle.base_core.proofs.Keeping.KeptSteps.{kept_finished}
+
+-- what is kept after a commit
+kept_commit : (log : Logged) (lanes : List LaneKept) (now : ℕ) (row : Plain) (tick : ℕ) (sight : Sight) → rises (ticks_of (state_of log.story).opened (state_of log.story).ends) tick ≡ true → IsCoreKept log lanes now → FinishesCommand row.deed → row.moment ≡ now
+    → decided (state_of log.story) row.tag ≡ Some (Ok (Makes row.deed)) → 1 ≤ row.tag.lane → row.tag.lane ≤ length lanes → IsReadable row → IsCoreKept (with_row log row tick sight) (with_reply lanes row.tag.lane replies.Good) now
+kept_commit log lanes now row tick sight ticked h finishes in_time made low high readable =
+    let s : State = state_of log.story in
+    let x : Told = told.Commit row tick in
+    kept_finished log lanes now x (row ∷ log.base) sight row.tag replies.Good h low high
+    (record {
+      lawful = record { may = record { moment = in_time ∙ sym h.phase.moment; made = finishes.made s row made }; ticked = ticked };
+      names = readable;
+      leads = ap (λ b. row ∷ b) h.story.base;
+    })
+    (record {
+      free = decided_is_free s row.tag (Ok (Makes row.deed)) made;
+      same = record { phase = refl; number = refl; moment = refl };
+      rows = more_rows s (after s x) row refl;
+      active = finishes.active s.base s.active row.tag.lane;
+      done = finishes.done s.done row.tag.lane;
+      said = λ l. ap (λ r. replies_of log.story l ++ in_lane l row.tag r) (finishes.reply (row ∷ s.base));
+    })
+
+-- what is kept after a refusal
+kept_refusal : (log : Logged) (lanes : List LaneKept) (now : ℕ) (tag : Tag) (refusal : Refusal) → IsCoreKept log lanes now → decided (state_of log.story) tag ≡ Some (Err refusal) → 1 ≤ tag.lane → tag.lane ≤ length lanes
+    → IsCoreKept (with_step log (steps.Refused tag refusal)) (with_reply lanes tag.lane (replies.Refused refusal)) now
+kept_refusal log lanes now tag refusal h made low high =
+    let s : State = state_of log.story in
+    let x : Told = told.Other (steps.Refused tag refusal) in
+    kept_finished log lanes now x log.base log.sight tag (replies.Refused refusal) h low high
+    (record { lawful = made; names = tt; leads = h.story.base })
+    (record {
+      free = decided_is_free s tag (Err refusal) made;
+      same = record { phase = refl; number = refl; moment = refl };
+      rows = same_rows s (after s x) refl;
+      active = refl;
+      done = refl;
+      said = λ l. refl;
+    })
+
+-- what is kept after an answer
+kept_answer : (log : Logged) (lanes : List LaneKept) (now : ℕ) (tag : Tag) (text : List ℕ) → IsCoreKept log lanes now → decided (state_of log.story) tag ≡ Some (Ok (Answers text)) → reply_to_answer (next_command (state_of log.story) tag) text ≡ replies.Answer text → 1 ≤ tag.lane → tag.lane ≤ length lanes
+    → IsCoreKept (with_step log (steps.Answer tag text)) (with_reply lanes tag.lane (replies.Answer text)) now
+kept_answer log lanes now tag text h made reply low high =
+    let s : State = state_of log.story in
+    let x : Told = told.Other (steps.Answer tag text) in
+    kept_finished log lanes now x log.base log.sight tag (replies.Answer text) h low high
+    (record { lawful = made; names = tt; leads = h.story.base })
+    (record {
+      free = decided_is_free s tag (Ok (Answers text)) made;
+      same = record { phase = refl; number = refl; moment = refl };
+      rows = same_rows s (after s x) refl;
+      active = refl;
+      done = refl;
+      said = λ l. ap (λ r. replies_of log.story l ++ in_lane l tag (Some r)) reply;
+    })
+
+-- what is kept after the row of a lane's next command
+pub kept_next_row : (log : Logged) (lanes : List LaneKept) (now : ℕ) (story : List Told) (row : Plain) (lane tick : ℕ) (sight : Sight) → rises (ticks_of (state_of log.story).opened (state_of log.story).ends) tick ≡ true → log.story ≡ story → lane ≡ row.tag.lane → IsCoreKept log lanes now
+    → IsRowToCommit (state_of story) row → IsFormed row → IsCoreKept (with_row log row tick sight) (with_reply lanes lane replies.Good) now
+kept_next_row log lanes now story row lane tick sight ticked same at_lane h next formed =
+    let here : IsRowToCommit (state_of log.story) row = subst (λ t. IsRowToCommit (state_of t) row) (sym same) next in
+    subst (λ l. IsCoreKept (with_row log row tick sight) (with_reply lanes l replies.Good) now) (sym at_lane)
+    (kept_commit log lanes now row tick sight ticked h here.finishes (here.at_moment ∙ h.phase.moment) here.made here.of_next.from
+    (omega (arith, here.of_next.upto, h.replies.count)) (record { formed = formed; made = here.carried_out }))
+
+-- what is kept after the refusal of a lane's next command
+pub kept_next_refusal : (log : Logged) (lanes : List LaneKept) (now : ℕ) (story : List Told) (tag : Tag) (refusal : Refusal) → log.story ≡ story → IsCoreKept log lanes now → IsNextRefusal (state_of story) tag refusal
+    → IsCoreKept (with_step log (steps.Refused tag refusal)) (with_reply lanes tag.lane (replies.Refused refusal)) now
+kept_next_refusal log lanes now story tag refusal same h next =
+    let here : IsNextRefusal (state_of log.story) tag refusal = subst (λ t. IsNextRefusal (state_of t) tag refusal) (sym same) next in
+    kept_refusal log lanes now tag refusal h here.made here.of_next.from (omega (arith, here.of_next.upto, h.replies.count))
+
+-- what is kept after the answer to a lane's next command
+pub kept_next_answer : (log : Logged) (lanes : List LaneKept) (now : ℕ) (story : List Told) (tag : Tag) (text : List ℕ) → log.story ≡ story → IsCoreKept log lanes now → IsNextAnswer (state_of story) tag text
+    → IsCoreKept (with_step log (steps.Answer tag text)) (with_reply lanes tag.lane (replies.Answer text)) now
+kept_next_answer log lanes now story tag text same h next =
+    let here : IsNextAnswer (state_of log.story) tag text = subst (λ t. IsNextAnswer (state_of t) tag text) (sym same) next in
+    kept_answer log lanes now tag text h here.made here.reply here.of_next.from (omega (arith, here.of_next.upto, h.replies.count))

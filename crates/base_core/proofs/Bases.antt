@@ -1,0 +1,7 @@
+-- How a base is opened.
+pub mod Damages
+pub mod Freshly
+pub mod OpenedBases
+pub mod OpeningStep
+pub mod ReadRows
+pub mod Unfit

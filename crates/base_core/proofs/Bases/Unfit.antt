@@ -1,0 +1,22 @@
+-- Payloads that spell no readable row that may come next.
+use Rattle.std.proofs.Common.{◌≡◌, true, false, List, ℕ, sym, ap, ◌∙◌}
+use Rattle.carried_out.specs.CarriedOut.{is_made}
+use Rattle.cc_names.specs.Formed.{Plain, IsFormed}
+use Rattle.legal_history.specs.Base.Rows.{Base}
+use Rattle.legal_history.specs.Base.Fits.{fits}
+use Rattle.row_form.specs.Spelled.{spelled}
+use Rattle.row_form.proofs.ExactRow.{one_spelling}
+use Rattle.base_core.specs.Bases.Opening.{IsUnfit}
+use Rattle.base_core.specs.Story.Readable.{IsReadable}
+
+-- a payload that spells a row which does not fit spells none that does
+pub unfit_row : (b : Base) (payload : List ℕ) (row : Plain) → payload ≡ spelled row → IsReadable row → fits b row.deed ≡ false → IsUnfit b payload
+unfit_row b payload row is readable misfit = λ other good spells fit.
+    let same : row ≡ other = one_spelling row other readable.formed good.formed (sym is ∙ spells) in
+    let clash : true ≡ false = sym fit ∙ ap (λ r. fits b r.deed) (sym same) ∙ misfit in cc
+
+-- a payload that spells a row of a deed that is not made yet spells none that is
+pub unmade_row : (b : Base) (payload : List ℕ) (row : Plain) → payload ≡ spelled row → IsFormed row → is_made row.deed ≡ false → IsUnfit b payload
+unmade_row b payload row is formed unmade = λ other good spells fit.
+    let same : row ≡ other = one_spelling row other formed good.formed (sym is ∙ spells) in
+    let clash : true ≡ false = sym good.made ∙ ap (λ r. is_made r.deed) (sym same) ∙ unmade in cc

@@ -1,0 +1,15 @@
+-- Builds: what comes next for a unit, and what is kept after each step.
+pub mod BrokenBuilds
+pub mod BuildBegins
+pub mod Closing
+pub mod EndSteps
+pub mod FoundBuilds
+pub mod Goings
+pub mod Noting
+pub mod ObjectSteps
+pub mod OpenSteps
+pub mod PlanSteps
+pub mod Publishing
+pub mod StepsSo
+pub mod UnitCalls
+pub mod UnitNotes

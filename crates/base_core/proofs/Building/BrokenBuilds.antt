@@ -1,0 +1,189 @@
+-- What a core keeps, and how the story went on, where the disk failed under a lane's build, which ends with that.
+use Rattle.std.proofs.Common.{◌≡◌, ℕ, ◌-◌, ◌≤◌, true, false, Bool, ◌||◌, Option, Some, None, List, [], ◌∷◌, ◌++◌, append_assoc, length, set, refl, ap, sym, subst, ◌∙◌, arith}
+use Rattle.std.proofs.lemmas.List.{append-nil, set-set}
+use Rattle.std.specs.Ordering.{nat_cmp}
+use Rattle.std.specs.FinMap.Entries.{put}
+use Rattle.cc_names.specs.Counts.{rises}
+use Rattle.cc_names.specs.Formed.{Plain, IsFormed}
+use Rattle.cc_names.specs.declared.replies.Reply.TheVariants as replies
+use Rattle.cc_names.specs.declared.rows.Tag.{Tag}
+use Rattle.cc_names.specs.declared.steps.Step.TheVariants as steps
+use Rattle.cc_names.specs.declared.steps.Told.{Told}
+use Rattle.cc_names.specs.declared.steps.Told.TheVariants as told
+use Rattle.build_core.specs.Slots.{numbered}
+use Rattle.build_core.specs.SlotLaws.{put_numbered, without_numbered}
+use Rattle.disk_model.specs.Told.{Sight}
+use Rattle.legal_history.specs.Builds.Active.{Build, build_of}
+use Rattle.legal_history.specs.Builds.Consistency.{IsConsistent}
+use Rattle.legal_history.specs.Builds.Turns.{is_complete}
+use Rattle.legal_history.specs.Stories.Committing.{FaultsAt, LeavesRow, MayCommit}
+use Rattle.legal_history.specs.Stories.Lawful.{EndsBuild, Legal}
+use Rattle.legal_history.specs.Stories.States.{State, Faulted, start, done_of, with_done, next_tag, build_by, ticks_of, faults_of}
+use Rattle.legal_history.specs.Stories.Steps.{after, state_of, done_by_fault, faulted_in, without_build}
+use Rattle.base_core.specs.Logging.Appending.{MayLeaveRow}
+use Rattle.base_core.specs.Calls.BuildCalls.{IsObjectRow}
+use Rattle.base_core.specs.Calls.Building.{IsBuildKept}
+use Rattle.base_core.specs.Calls.Going.{SamePhase, Finishes}
+use Rattle.base_core.specs.Keeping.Kept.{IsStoryKept, IsPhaseKept, AreReplies, AreBuilds, IsCoreKept}
+use Rattle.base_core.specs.Keeping.Lanes.{LaneKept, lane_kept, replies_at, builds_in, with_closed}
+use Rattle.base_core.specs.Logging.Logs.{Logged, with_step, with_step_on}
+use Rattle.base_core.specs.Story.Readable.{IsReadable}
+use Rattle.base_core.specs.Story.Replying.{in_lane, reply_to_fault, reply_to_end, replies_of}
+use Rattle.base_core.proofs.Building.Closing.{build_is_by, builds_closed}
+use Rattle.base_core.proofs.Acting.Faulting.{leaves_so}
+use Rattle.base_core.proofs.Building.FoundBuilds.{build_kept}
+use Rattle.base_core.proofs.Story.Growing.{state_from-more}
+use Rattle.base_core.proofs.Keeping.KeptBuilds.{same_rows}
+use Rattle.base_core.proofs.Keeping.KeptReplies.{replies_more, replies_stay, replies_are_same}
+use Rattle.base_core.proofs.Keeping.KeptSteps.{phase_stays, story_more}
+use Rattle.base_core.proofs.Keeping.LaneCounts.{done_same, done_other}
+use Rattle.base_core.proofs.Keeping.LaneSets.{builds_count}
+use Rattle.base_core.proofs.Keeping.LaneSlots.{found_put, lane_slot}
+use Rattle.base_core.proofs.Story.Naming.{left_named}
+use Rattle.base_core.proofs.Building.ObjectSteps.{object_made, object_may}
+
+either : (b : Bool) → (b || true) ≡ true
+either true = refl
+either false = refl
+
+-- a build under which the disk failed
+abbrev pub broken : Build → Build
+broken build = record build { faulted = true }
+
+-- the state after a fault under a lane's build
+abbrev pub broken_state : State → ℕ → Build → Option Plain → ℕ → ℕ → State
+broken_state s lane build left faults tick = record s { active = put nat_cmp lane (broken build) s.active; ends = Faulted left faults tick ∷ s.ends }
+
+pub after_fault : (s : State) (lane : ℕ) (build : Build) (left : Option Plain) (before faults tick : ℕ) → build_by s (next_tag s lane) ≡ Some build → after s (told.Other (steps.Fault (next_tag s lane) left before faults tick)) ≡ broken_state s lane build left faults tick
+after_fault s lane build left before faults tick is = ap (λ o. record s { done = done_by_fault s.done lane o; active = faulted_in s.active lane o; ends = Faulted left faults tick ∷ s.ends }) is
+
+-- the log after a fault under a lane's build, and after the end of it
+abbrev pub broken_log : Logged → Tag → Option Plain → ℕ → ℕ → ℕ → Sight → Logged
+broken_log log tag left before faults tick sight = with_step (with_step_on log (steps.Fault tag left before faults tick) sight) (steps.End tag)
+
+-- what is kept then
+kept_broken : (log : Logged) (lanes : List LaneKept) (now lane : ℕ) (build : Build) (row : Plain) (left : Option Plain) (before faults tick : ℕ) (sight : Sight) → rises before faults ≡ true → faults_of (state_of log.story).opened (state_of log.story).ends ≤ before → MayLeaveRow (state_of log.story) row left
+    → rises (ticks_of (state_of log.story).opened (state_of log.story).ends) tick ≡ true → IsCoreKept log lanes now → 1 ≤ lane → lane ≤ length lanes → build_of (state_of log.story).active lane ≡ Some build → row.tag ≡ next_tag (state_of log.story) lane → MayCommit (state_of log.story) row → IsReadable row
+    → IsCoreKept (broken_log log (next_tag (state_of log.story) lane) left before faults tick sight) (with_closed lanes lane replies.DiskFault) now
+kept_broken log lanes now lane build row left before faults tick sight rose later leaves ticked h low high is tagged may readable = record {
+  story = story_more failed end log.base sight told_fault (record { lawful = subst (λ t. EndsBuild t tag) (sym state1) ends; names = tt; leads = told_fault.base });
+  phase = subst (λ t. IsPhaseKept t log.phases now) (sym state2) (phase_stays s (after s1 end) log.phases now h.phase same);
+  replies = replies_more story' end lanes tag replies.DiskFault (record (lane_kept lanes lane) { replies = replies_at lanes lane ++ replies.DiskFault ∷ []; build = None }) so_far low high
+      (λ l. ap (λ t. replies_of story' l ++ in_lane l tag (reply_to_end t.base (build_by t tag))) state1 ∙ ap (λ o. replies_of story' l ++ in_lane l tag (reply_to_end s.base o)) by_tag1)
+      refl refl refl refl;
+  builds = subst (λ t. AreBuilds t (builds_in (with_closed lanes lane replies.DiskFault))) (sym state2)
+      (builds_closed s (after s1 end) lanes lane replies.DiskFault h.builds low high same (same_rows s (after s1 end) refl) refl active);
+}
+  where
+    s : State
+    s = state_of log.story
+
+    tag : Tag
+    tag = next_tag s lane
+
+    fault : Told
+    fault = told.Other (steps.Fault tag left before faults tick)
+
+    end : Told
+    end = told.Other (steps.End tag)
+
+    failed : Logged
+    failed = with_step_on log (steps.Fault tag left before faults tick) sight
+
+    story' : List Told
+    story' = log.story ++ fault ∷ []
+
+    kept : IsBuildKept s lane build
+    kept = h.builds.kept lane build is
+
+    s1 : State
+    s1 = broken_state s lane build left faults tick
+
+    by_tag : build_by s tag ≡ Some build
+    by_tag = build_is_by s lane build is kept.tag
+
+    by_tag1 : build_by s1 tag ≡ Some (broken build)
+    by_tag1 = build_is_by s1 lane (broken build) (found_put lane (broken build) s.active) kept.tag
+
+    told_fault : IsStoryKept failed
+    told_fault = story_more log fault log.base sight h.story (record {
+      lawful = record { wanted = record { row = row; of_tag = tagged; may = may }; rose = rose; later = later; leaves = subst (λ t. LeavesRow s t left) tagged (leaves_so s row left may leaves); ticked = ticked };
+      names = left_named IsReadable log.story row left leaves readable h.story.readable;
+      leads = h.story.base;
+    })
+
+    ends : EndsBuild s1 tag
+    ends = record { build = broken build; active = by_tag1; over = either (is_complete (broken build)) }
+
+    state1 : state_of story' ≡ s1
+    state1 = state_from-more start log.story fault ∙ after_fault s lane build left before faults tick by_tag
+
+    state2 : state_of (story' ++ end ∷ []) ≡ after s1 end
+    state2 = state_from-more start story' end ∙ ap (λ t. after t end) state1
+
+    same : SamePhase s (after s1 end)
+    same = record { phase = refl; number = refl; moment = refl }
+
+    so_far : AreReplies story' lanes
+    so_far = replies_stay log.story fault lanes lanes h.replies (replies_are_same lanes)
+        (λ l. ap (λ o. replies_of log.story l ++ in_lane l tag (reply_to_fault o)) by_tag ∙ append-nil (replies_of log.story l))
+        (ap (λ o. done_by_fault s.done lane o) by_tag) refl
+
+    active : (after s1 end).active ≡ numbered 1 (set (builds_in lanes) (lane - 1) None)
+    active = ap (λ a. without_build (put nat_cmp lane (broken build) a) lane) h.builds.active
+        ∙ ap (λ a. without_build a lane) (put_numbered lane 1 (lane - 1) (broken build) (builds_in lanes) (omega arith) (omega (arith, high, builds_count lanes)))
+        ∙ without_numbered lane 1 (lane - 1) (set (builds_in lanes) (lane - 1) (Some (broken build))) (omega arith)
+        ∙ ap (numbered 1) (set-set (builds_in lanes) (lane - 1) (Some (broken build)) None)
+
+-- how the story went on
+pub broken_finishes : (log : Logged) (story : List Told) (lane : ℕ) (build : Build) (tag : Tag) (left : Option Plain) (before faults tick : ℕ) (sight : Sight) → log.story ≡ story → build_by (state_of story) (next_tag (state_of story) lane) ≡ Some build → tag ≡ next_tag (state_of story) lane → Finishes story (broken_log log tag left before faults tick sight).story lane
+broken_finishes log story lane build tag left before faults tick sight same is tagged = record {
+  steps = fault ∷ end ∷ [];
+  grows = ap (λ t. (t ++ fault ∷ []) ++ end ∷ []) same ∙ append_assoc story (fault ∷ []) (end ∷ []);
+  phase = record { phase = ap (λ t. t.phase) state; number = ap (λ t. t.number) state; moment = ap (λ t. t.moment) state };
+  done = ap (λ t. done_of t.done lane) state ∙ done_same s.done lane;
+  others = λ other differs. ap (λ t. done_of t.done other) state ∙ done_other s.done lane other differs;
+}
+  where
+    s : State
+    s = state_of story
+
+    fault : Told
+    fault = told.Other (steps.Fault tag left before faults tick)
+
+    end : Told
+    end = told.Other (steps.End tag)
+
+    s1 : State
+    s1 = broken_state s lane build left faults tick
+
+    state1 : state_of (story ++ fault ∷ []) ≡ s1
+    state1 = state_from-more start story fault ∙ ap (λ t. after s (told.Other (steps.Fault t left before faults tick))) tagged ∙ after_fault s lane build left before faults tick is
+
+    state : state_of ((log.story ++ fault ∷ []) ++ end ∷ []) ≡ record s1 { done = with_done s.done lane; active = without_build s1.active lane }
+    state = ap (λ t. state_of ((t ++ fault ∷ []) ++ end ∷ [])) same ∙ state_from-more start (story ++ fault ∷ []) end
+        ∙ ap (λ t. after t end) state1
+        ∙ ap (λ t. record s1 { done = with_done s.done t.lane; active = without_build s1.active t.lane }) tagged
+
+-- what is kept where the row of what a unit's run gave was not committed
+pub kept_broken_object : (log : Logged) (lanes : List LaneKept) (now : ℕ) (story : List Told) (lane n : ℕ) (row : Plain) (tag : Tag) (left : Option Plain) (before faults tick : ℕ) (sight : Sight) → rises before faults ≡ true → faults_of (state_of log.story).opened (state_of log.story).ends ≤ before → MayLeaveRow (state_of log.story) row left
+    → rises (ticks_of (state_of log.story).opened (state_of log.story).ends) tick ≡ true → log.story ≡ story → IsCoreKept log lanes now → IsObjectRow (state_of story) lane n row → tag ≡ next_tag (state_of story) lane
+    → ((told : List Told) (l : ℕ) (b : Build) → Legal told → build_of (state_of told).active l ≡ Some b → IsConsistent (state_of told).base b) → IsFormed row
+    → IsCoreKept (with_step (with_step_on log (steps.Fault row.tag left before faults tick) sight) (steps.End tag)) (with_closed lanes lane replies.DiskFault) now
+kept_broken_object log lanes now story lane n row tag left before faults tick sight rose later leaves ticked same h object tagged consistent formed =
+    let s = state_of log.story in
+    let here : IsObjectRow s lane n row = subst (λ t. IsObjectRow (state_of t) lane n row) (sym same) object in
+    let slot = lane_slot log lanes now lane here.build h here.active in
+    let of_tag : tag ≡ next_tag s lane = tagged ∙ ap (λ t. next_tag (state_of t) lane) (sym same) in
+    subst (λ t. IsCoreKept (with_step (with_step_on log (steps.Fault row.tag left before faults tick) sight) (steps.End t)) (with_closed lanes lane replies.DiskFault) now) (sym of_tag)
+    (subst (λ t. IsCoreKept (with_step (with_step_on log (steps.Fault t left before faults tick) sight) (steps.End (next_tag s lane))) (with_closed lanes lane replies.DiskFault) now) (sym here.of_tag)
+    (kept_broken log lanes now lane here.build row left before faults tick sight rose later leaves ticked h slot.from slot.upto here.active here.of_tag (object_may log lanes now lane n row h here consistent)
+    (record { formed = formed; made = object_made s lane n row here })))
+
+-- how the story went on
+pub broken_object_finishes : (log : Logged) (lanes : List LaneKept) (now : ℕ) (story : List Told) (lane n : ℕ) (row : Plain) (tag : Tag) (left : Option Plain) (before faults tick : ℕ) (sight : Sight) → log.story ≡ story → IsCoreKept log lanes now → IsObjectRow (state_of story) lane n row → tag ≡ next_tag (state_of story) lane
+    → Finishes story (with_step (with_step_on log (steps.Fault row.tag left before faults tick) sight) (steps.End tag)).story lane
+broken_object_finishes log lanes now story lane n row tag left before faults tick sight same h object tagged =
+    let kept = build_kept log lanes now story lane object.build same h object.active in
+    subst (λ t. Finishes story (with_step (with_step_on log (steps.Fault t left before faults tick) sight) (steps.End tag)).story lane) (tagged ∙ sym object.of_tag)
+    (broken_finishes log story lane object.build tag left before faults tick sight same (build_is_by (state_of story) lane object.build object.active kept.tag) tagged)

@@ -1,0 +1,47 @@
+-- What a core keeps after the begin of a build.
+use Rattle.std.proofs.Common.{◌≡◌, ℕ, ◌+◌, ◌≤◌, Some, None, Ok, List, ◌++◌, length, refl, ap, ◌∙◌, arith}
+use Rattle.std.proofs.lemmas.List.{append-nil}
+use Rattle.std.specs.Ordering.{nat_cmp}
+use Rattle.std.specs.FinMap.Entries.{put}
+use Rattle.cc_names.specs.declared.rows.Tag.{Tag}
+use Rattle.cc_names.specs.declared.steps.Step.TheVariants as steps
+use Rattle.cc_names.specs.declared.steps.Told.{Told}
+use Rattle.cc_names.specs.declared.steps.Told.TheVariants as told
+use Rattle.legal_history.specs.Base.Rows.{size}
+use Rattle.legal_history.specs.Builds.Active.{Build, build_of, reserved}
+use Rattle.legal_history.specs.Commands.Decisions.{Begins}
+use Rattle.legal_history.specs.Base.Fits.{row_limit}
+use Rattle.legal_history.specs.Stories.States.{State, decided}
+use Rattle.legal_history.specs.Stories.Steps.{after, begun, state_of, with_build}
+use Rattle.base_core.specs.Calls.Building.{IsBuildKept}
+use Rattle.base_core.specs.Keeping.Kept.{IsCoreKept}
+use Rattle.base_core.specs.Keeping.Lanes.{LaneKept, put_build}
+use Rattle.base_core.specs.Logging.Logs.{Logged, with_step}
+use Rattle.base_core.specs.Story.Replying.{replies_of}
+use Rattle.base_core.proofs.Keeping.Idle.{decided_is_free}
+use Rattle.base_core.proofs.Keeping.KeptBuilds.{same_rows}
+use Rattle.base_core.proofs.Keeping.KeptSteps.{kept_put}
+use Rattle.base_core.proofs.Keeping.Reserving.{rows_for}
+
+-- what is kept after the begin of a build that was decided
+pub kept_begin : (log : Logged) (lanes : List LaneKept) (now : ℕ) (tag : Tag) (build : Build) → IsCoreKept log lanes now → 1 ≤ tag.lane → tag.lane ≤ length lanes → decided (state_of log.story) tag ≡ Some (Ok (Begins build.units)) → begun (state_of log.story) tag ≡ Some build
+    → IsBuildKept (state_of log.story) tag.lane build → reserved (state_of log.story).active + length build.units ≤ row_limit
+    → IsCoreKept (with_step log (steps.Begin tag (size (state_of log.story).base) (length build.units))) (put_build lanes tag.lane (Some build)) now
+kept_begin log lanes now tag build h low high made begins is room =
+    kept_put log lanes now x log.base log.sight tag.lane build h low high
+    (record { lawful = record { units = build.units; chosen = made; at_rows = refl; of_units = refl }; names = tt; leads = h.story.base })
+    (record {
+      same = record { phase = refl; number = refl; moment = refl };
+      rows = same_rows s (after s x) refl;
+      active = ap (with_build s.active tag.lane) begins;
+      done = refl;
+      said = λ l. append-nil (replies_of log.story l);
+      kept = is;
+      room = omega (arith, room, ap rows_for (decided_is_free s tag (Ok (Begins build.units)) made));
+    })
+  where
+    s : State
+    s = state_of log.story
+
+    x : Told
+    x = told.Other (steps.Begin tag (size s.base) (length build.units))

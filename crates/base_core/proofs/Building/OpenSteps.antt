@@ -1,0 +1,81 @@
+-- What is kept, and how the story went on, where a build begins, and where a command is refused.
+use Rattle.std.proofs.Common.{◌≡◌, ℕ, ◌-◌, Option, Some, Ok, List, [], ◌∷◌, ◌++◌, length, set, refl, ap, sym, subst, ◌∙◌, arith}
+use Rattle.std.specs.Ordering.{nat_cmp}
+use Rattle.std.specs.FinMap.Entries.{put}
+use Rattle.cc_names.specs.declared.desks.Done.TheVariants as dones
+use Rattle.cc_names.specs.declared.rows.Tag.{Tag}
+use Rattle.cc_names.specs.declared.steps.Step.TheVariants as steps
+use Rattle.cc_names.specs.declared.steps.Told.{Told}
+use Rattle.cc_names.specs.declared.steps.Told.TheVariants as told
+use Rattle.legal_history.specs.Base.Rows.{size}
+use Rattle.legal_history.specs.Builds.Active.{Build, build_of}
+use Rattle.legal_history.specs.Commands.Decisions.{Begins}
+use Rattle.legal_history.specs.Stories.States.{State, start, done_of, with_done, next_tag}
+use Rattle.legal_history.specs.Stories.Steps.{after, begun, state_of, with_build}
+use Rattle.base_core.specs.Calls.Acting.{Acts, IsStepOf}
+use Rattle.base_core.specs.Calls.BuildCalls.{IsBuilding}
+use Rattle.base_core.specs.Calls.Building.{IsNextBuild}
+use Rattle.base_core.specs.Calls.Going.{GoesOn, Finishes}
+use Rattle.base_core.specs.Keeping.Kept.{IsCoreKept}
+use Rattle.base_core.specs.Keeping.Lanes.{LaneKept, put_build}
+use Rattle.base_core.specs.Logging.Logs.{Logged, with_step}
+use Rattle.base_core.proofs.Story.Growing.{state_from-more}
+use Rattle.base_core.proofs.Keeping.Idle.{decided_is_free, not_both}
+use Rattle.base_core.proofs.Keeping.LaneCounts.{done_same, done_other}
+use Rattle.base_core.proofs.Keeping.LaneSlots.{found_put}
+use Rattle.base_core.proofs.Building.BuildBegins.{kept_begin}
+
+-- what is kept where a build begins
+pub kept_opened : (log : Logged) (lanes : List LaneKept) (now rows count : ℕ) (story : List Told) (tag : Tag) (build : Build) → log.story ≡ story → IsCoreKept log lanes now → IsNextBuild (state_of story) build → tag ≡ build.tag → rows ≡ build.rows → count ≡ length build.units
+    → IsCoreKept (with_step log (steps.Begin tag rows count)) (put_build lanes tag.lane (Some build)) now
+kept_opened log lanes now rows count story tag build same h next tagged at_rows counted =
+    let s = state_of log.story in
+    let here : IsNextBuild s build = subst (λ t. IsNextBuild (state_of t) build) (sym same) next in
+    subst (λ t. IsCoreKept (with_step log (steps.Begin t rows count)) (put_build lanes t.lane (Some build)) now) (sym tagged)
+    (subst (λ r. IsCoreKept (with_step log (steps.Begin build.tag r count)) (put_build lanes build.tag.lane (Some build)) now) (sym (at_rows ∙ here.at_rows))
+    (subst (λ c. IsCoreKept (with_step log (steps.Begin build.tag (size s.base) c)) (put_build lanes build.tag.lane (Some build)) now) (sym counted)
+    (kept_begin log lanes now build.tag build h here.of_next.from (omega (arith, here.of_next.upto, h.replies.count)) here.made here.begins here.kept here.room)))
+
+-- how the story went on
+pub opened_so : (log : Logged) (rows count : ℕ) (story : List Told) (tag : Tag) (build : Build) → log.story ≡ story → IsNextBuild (state_of story) build → tag ≡ build.tag → GoesOn story (with_step log (steps.Begin tag rows count)).story build.tag.lane × IsBuilding (state_of (with_step log (steps.Begin tag rows count)).story) build.tag.lane (length build.units)
+opened_so log rows count story tag build same next tagged = (
+  record {
+    steps = x ∷ [];
+    grows = ap (λ t. t ++ x ∷ []) same;
+    phase = record { phase = ap (λ t. t.phase) state; number = ap (λ t. t.number) state; moment = ap (λ t. t.moment) state };
+    done = ap (λ t. t.done) state;
+    still = λ other is. absurd (not_both (build_of s.active build.tag.lane) other (decided_is_free s build.tag (Ok (Begins build.units)) next.made) is);
+  },
+  record { build = build; active = ap (λ t. build_of t.active build.tag.lane) state ∙ found_put build.tag.lane build s.active; of_units = refl; few = next.kept.formed.few },
+)
+  where
+    s : State
+    s = state_of story
+
+    x : Told
+    x = told.Other (steps.Begin tag rows count)
+
+    state : state_of (log.story ++ x ∷ []) ≡ record s { active = put nat_cmp build.tag.lane build s.active }
+    state = ap (λ t. state_of (t ++ x ∷ [])) same ∙ state_from-more start story x
+        ∙ ap (λ t. record s { active = with_build s.active t.lane (begun s t) }) tagged
+        ∙ ap (λ o. record s { active = with_build s.active build.tag.lane o }) next.begins
+
+-- a step that finishes a command of a lane, and leaves the last phase and its other lanes as they are
+step_finishes : (old new : List Told) (lane : ℕ) (step : Told) → new ≡ old ++ step ∷ [] → (after (state_of old) step).phase ≡ (state_of old).phase → (after (state_of old) step).number ≡ (state_of old).number → (after (state_of old) step).moment ≡ (state_of old).moment → (after (state_of old) step).done ≡ with_done (state_of old).done lane → Finishes old new lane
+step_finishes old new lane step e phase number moment done =
+    let state : state_of new ≡ after (state_of old) step = ap state_of e ∙ state_from-more start old step in
+    record {
+      steps = step ∷ [];
+      grows = e;
+      phase = record { phase = ap (λ t. t.phase) state ∙ phase; number = ap (λ t. t.number) state ∙ number; moment = ap (λ t. t.moment) state ∙ moment };
+      done = ap (λ t. done_of t.done lane) state ∙ ap (λ d. done_of d lane) done ∙ done_same (state_of old).done lane;
+      others = λ other differs. ap (λ t. done_of t.done other) state ∙ ap (λ d. done_of d other) done ∙ done_other (state_of old).done lane other differs;
+    }
+
+-- a lane's command that was refused is finished
+pub refused_finishes : (old new : List Told) (lane : ℕ) → Acts old new lane dones.Refused → Finishes old new lane
+refused_finishes old new lane acts = by acts.step acts.grows acts.is
+  where
+    by : (step : Told) → new ≡ old ++ step ∷ [] → IsStepOf (state_of old) (next_tag (state_of old) lane) dones.Refused step → Finishes old new lane
+    by (told.Other (steps.Refused tag refusal)) e is = step_finishes old new lane (told.Other (steps.Refused tag refusal)) e refl refl refl (ap (λ t. with_done (state_of old).done t.lane) is.0)
+    by step e is = absurd is

@@ -1,0 +1,81 @@
+-- What is kept, and how the story went on, after a step by which a unit comes to something without a row.
+use Rattle.std.proofs.Common.{◌≡◌, ◌≢◌, ℕ, ◌-◌, ◌⊎◌, inl, inr, Bool, true, false, Option, Some, List, [], ◌∷◌, ◌++◌, set, refl, ap, sym, subst, ◌∙◌, arith}
+use Rattle.std.proofs.lemmas.List.{append-nil}
+use Rattle.std.specs.Ordering.{nat_cmp}
+use Rattle.std.specs.FinMap.Entries.{put}
+use Rattle.cc_names.specs.declared.replies.Reply.{Reply}
+use Rattle.cc_names.specs.declared.steps.Step.{Step}
+use Rattle.cc_names.specs.declared.steps.Told.{Told}
+use Rattle.cc_names.specs.declared.steps.Told.TheVariants as told
+use Rattle.legal_history.specs.Builds.Active.{Build, Came, build_of, came_to, is_outcome}
+use Rattle.legal_history.specs.Stories.States.{State, start}
+use Rattle.legal_history.specs.Stories.Steps.{state_of, with_came}
+use Rattle.base_core.specs.Calls.BuildCalls.{Notes, Noted}
+use Rattle.base_core.specs.Calls.Going.{StillBuilds}
+use Rattle.base_core.specs.Keeping.Kept.{IsCoreKept}
+use Rattle.base_core.specs.Keeping.Lanes.{LaneKept, build_at, put_build}
+use Rattle.base_core.specs.Logging.Logs.{Logged, with_step}
+use Rattle.base_core.specs.Story.Replying.{replies_after, replies_by, replies_of}
+use Rattle.base_core.specs.Story.Telling.{stands_alone}
+use Rattle.base_core.proofs.Story.Growing.{state_from-more}
+use Rattle.base_core.proofs.Keeping.Idle.{some_same}
+use Rattle.base_core.proofs.Keeping.LaneCounts.{one_or_two}
+use Rattle.base_core.proofs.Keeping.LaneSlots.{lane_slot, found_put, found_else}
+use Rattle.base_core.proofs.Building.Noting.{kept_note}
+
+-- the replies after a step that names no phase
+replies_alone : (s : State) (step : Step) (replies : ℕ → List Reply) (l : ℕ) → stands_alone step ≡ true → replies_after s (told.Other step) replies l ≡ replies l ++ replies_by s l (told.Other step)
+replies_alone s step replies l h = refl
+
+-- a test does not hold and fail
+true_or_false : (b : Bool) → b ≡ true → b ≡ false → ⊥
+true_or_false b t f = cc
+
+-- what is kept then
+pub kept_noted : (log : Logged) (lanes more : List LaneKept) (now : ℕ) (story : List Told) (lane n : ℕ) (step : Step) (came : Came) → log.story ≡ story → IsCoreKept log lanes now → Notes (state_of story) lane n step came
+    → ((build : Build) → build_at lanes lane ≡ Some build → more ≡ put_build lanes lane (Some (with_came build (Some n) came))) → IsCoreKept (with_step log step) more now
+kept_noted log lanes more now story lane n step came same h notes set_so =
+    let here : Notes (state_of log.story) lane n step came = subst (λ t. Notes (state_of t) lane n step came) (sym same) notes in
+    let slot = lane_slot log lanes now lane here.build h here.active in
+    subst (λ ls. IsCoreKept (with_step log step) ls now) (sym (set_so here.build slot.held))
+    (kept_note log lanes now step lane n here.build came h slot.from slot.upto here.active here.lawful here.leaves
+    (λ l. replies_alone (state_of log.story) step (replies_of log.story) l here.alone ∙ ap (λ more. replies_of log.story l ++ more) (here.silent l) ∙ append-nil (replies_of log.story l)) here.sound)
+
+-- a unit's outcomes after it was noted
+pub outcome_noted : (build : Build) (n m : ℕ) (came : Came) → is_outcome (came_to build n) ≡ false → is_outcome (came_to build m) ≡ true → is_outcome (came_to (with_came build (Some n) came) m) ≡ true
+outcome_noted build n m came waits over = by (one_or_two m n)
+  where
+    by : (m ≡ n) ⊎ (m ≢ n) → is_outcome (came_to (with_came build (Some n) came) m) ≡ true
+    by (inl e) = absurd (let here : is_outcome (came_to build n) ≡ true = ap (λ k. is_outcome (came_to build k)) (sym e) ∙ over in true_or_false (is_outcome (came_to build n)) here waits)
+    by (inr differs) = ap is_outcome (found_else n m came build.comes differs) ∙ over
+
+-- how the story went on
+pub noted_so : (log : Logged) (story : List Told) (lane n : ℕ) (step : Step) (came : Came) → log.story ≡ story → Notes (state_of story) lane n step came → Noted story (with_step log step).story lane n came
+noted_so log story lane n step came same notes = record {
+  goes = record {
+    steps = told.Other step ∷ [];
+    grows = ap (λ t. t ++ told.Other step ∷ []) same;
+    phase = record { phase = ap (λ t. t.phase) state; number = ap (λ t. t.number) state; moment = ap (λ t. t.moment) state };
+    done = ap (λ t. t.done) state;
+    still = λ build is. still build (some_same notes.build build (sym notes.active ∙ is));
+  };
+  build = noted;
+  active = active;
+  came_to_it = found_put n came notes.build.comes;
+}
+  where
+    s : State
+    s = state_of story
+
+    noted : Build
+    noted = with_came notes.build (Some n) came
+
+    state : state_of (log.story ++ told.Other step ∷ []) ≡ record s { active = put nat_cmp lane noted s.active }
+    state = ap (λ t. state_of (t ++ told.Other step ∷ [])) same ∙ state_from-more start story (told.Other step) ∙ notes.leaves
+
+    active : build_of (state_of (log.story ++ told.Other step ∷ [])).active lane ≡ Some noted
+    active = ap (λ t. build_of t.active lane) state ∙ found_put lane noted s.active
+
+    still : (build : Build) → notes.build ≡ build → StillBuilds (state_of (log.story ++ told.Other step ∷ [])) lane build
+    still build e = subst (λ b. StillBuilds (state_of (log.story ++ told.Other step ∷ [])) lane b) e
+        (record { build = noted; active = active; units = refl; outcomes = λ m over. outcome_noted notes.build n m came notes.waits over })

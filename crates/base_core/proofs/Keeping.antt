@@ -1,0 +1,14 @@
+-- What a core keeps after one more step.
+pub mod Beginning
+pub mod Idle
+pub mod KeptBuilds
+pub mod KeptReplies
+pub mod KeptSteps
+pub mod LaneCounts
+pub mod LaneSets
+pub mod LaneSlots
+pub mod Phases
+pub mod Reserving
+pub mod Rooms
+pub mod SlotLists
+pub mod Staying

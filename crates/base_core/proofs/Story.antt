@@ -1,0 +1,7 @@
+-- What holds of stories as they grow.
+pub mod CountRows
+pub mod Counts
+pub mod Growing
+pub mod Naming
+pub mod Stories
+pub mod WorkedReplies

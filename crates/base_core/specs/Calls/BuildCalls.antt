@@ -1,0 +1,168 @@
+-- What the calls of a core on a lane's build ask and leave.
+use Rattle.std.specs.Prelude.{◌≡◌, ℕ, ◌<◌, ◌^◌, true, false, Option, Some, None, Ok, List, [], length}
+use Rattle.std.specs.Ordering.{nat_cmp}
+use Rattle.std.specs.FinMap.Entries.{put}
+use Rattle.cc_names.specs.Formed.{Plain}
+use Rattle.cc_names.specs.declared.desks.Begun.{Begun}
+use Rattle.cc_names.specs.declared.desks.Begun.TheVariants as begins
+use Rattle.cc_names.specs.declared.refusals.ScriptFault.{ScriptFault}
+use Rattle.cc_names.specs.declared.steps.Step.{Step}
+use Rattle.cc_names.specs.declared.steps.UnitEnd.{UnitEnd}
+use Rattle.cc_names.specs.declared.steps.Told.{Told}
+use Rattle.cc_names.specs.declared.steps.Told.TheVariants as told
+use Rattle.cc_names.specs.declared.units.Unit.{Unit}
+use Rattle.build_core.specs.UnitSteps.{Awaits}
+use Rattle.build_core.specs.declared.steps.UnitStep.{UnitStep}
+use Rattle.build_core.specs.declared.steps.UnitStep.TheVariants as next
+use Rattle.build_script.specs.Lines.{script_of}
+use Rattle.build_script.specs.Run.{Ran}
+use Rattle.build_script.specs.declared.lines.Line.{Line}
+use Rattle.legal_history.specs.Builds.Active.{Build, Came, Started, build_of, came_to, is_outcome, unit_at}
+use Rattle.legal_history.specs.Builds.Choices.{here, publish_of}
+use Rattle.legal_history.specs.Builds.Fresh.{script_text}
+use Rattle.legal_history.specs.Stories.States.{State, next_tag}
+use Rattle.legal_history.specs.Stories.Steps.{after, state_of, with_came}
+use Rattle.legal_history.specs.Stories.Lawful.{LawfulStep}
+use Rattle.legal_history.specs.Builds.UnitTurns.{IsOpen, ComesTo}
+use Rattle.legal_history.specs.Builds.Turns.{is_complete, unreadable}
+use Rattle.base_core.specs.Calls.Building.{IsBuildKept}
+use Rattle.base_core.specs.Calls.Going.{GoesOn, HasOutcome, Finishes}
+use Rattle.base_core.specs.Story.Faults.{is_fault}
+use Rattle.base_core.specs.Story.Replying.{replies_by}
+use Rattle.base_core.specs.Story.Telling.{stands_alone}
+use Rattle.base_core.specs.declared.turns.UnitTurn.{UnitTurn}
+use Rattle.base_core.specs.declared.turns.UnitTurn.TheVariants as turns
+
+-- a lane builds so many units
+pub record IsBuilding (s : State) (lane count : ℕ) : Type 0 where
+  pub build : Build
+  pub active : build_of s.active lane ≡ Some build
+  pub of_units : length build.units ≡ count
+  pub few : count < 2 ^ 32
+
+-- a build of so many units began, or goes on; or its command was refused
+abbrev pub Begins : List Told → List Told → ℕ → Begun → Type 0
+Begins old new lane (begins.Units count) = GoesOn old new lane × IsBuilding (state_of new) lane count
+Begins old new lane begins.Refused = Finishes old new lane
+
+-- unit n of a lane's build, all units before which have their outcomes
+pub record IsTurn (s : State) (lane n : ℕ) : Type 0 where
+  pub build : Build
+  pub active : build_of s.active lane ≡ Some build
+  pub few : length build.units < 2 ^ 32
+  pub within : n < length build.units
+  pub earlier : (m : ℕ) → m < n → is_outcome (came_to build m) ≡ true
+
+-- By this step, which names no row, unit n of a lane's build comes to something, and no command is replied.
+pub record Notes (s : State) (lane n : ℕ) (step : Step) (came : Came) : Type 0 where
+  pub build : Build
+  pub active : build_of s.active lane ≡ Some build
+  pub within : n < length build.units
+  pub waits : is_outcome (came_to build n) ≡ false
+  pub alone : stands_alone step ≡ true
+  pub sound : is_fault (told.Other step) ≡ false
+  pub lawful : LawfulStep s step
+  pub leaves : after s (told.Other step) ≡ record s { active = put nat_cmp lane (with_came build (Some n) came) s.active }
+  pub silent : (other : ℕ) → replies_by s other (told.Other step) ≡ []
+
+-- unit n of a lane's build has come to this, and the story went on
+pub record Noted (old new : List Told) (lane n : ℕ) (came : Came) : Type 0 where
+  pub goes : GoesOn old new lane
+  pub build : Build
+  pub active : build_of (state_of new).active lane ≡ Some build
+  pub came_to_it : came_to build n ≡ Some came
+
+-- unit n of a lane's build may settle so without a row
+pub record MaySettle (s : State) (lane n : ℕ) (end : UnitEnd) : Type 0 where
+  pub build : Build
+  pub active : build_of s.active lane ≡ Some build
+  pub within : n < length build.units
+  pub kept : IsBuildKept s lane build
+  pub waits : is_outcome (came_to build n) ≡ false
+  pub settles : ComesTo s (next_tag s lane) n end
+
+-- the script of unit n of a lane's build may be started; one that cannot be read has this fault
+pub record MayStart (s : State) (lane n : ℕ) (fault : Option ScriptFault) : Type 0 where
+  pub build : Build
+  pub active : build_of s.active lane ≡ Some build
+  pub within : n < length build.units
+  pub kept : IsBuildKept s lane build
+  pub unit : Unit
+  pub open_unit : IsOpen s (next_tag s lane) n build unit
+  pub fault_is : fault ≡ unreadable unit
+
+-- unit n of a lane's build has this script and these targets
+pub record HasScript (s : State) (lane n : ℕ) (script : List Line) (targets : List (List ℕ)) : Type 0 where
+  pub build : Build
+  pub active : build_of s.active lane ≡ Some build
+  pub unit : Unit
+  pub is_unit : unit_at build n ≡ Some unit
+  pub script_is : script_of (script_text unit.script) ≡ Ok script
+  pub targets_are : targets ≡ unit.targets
+
+-- unit n of a lane's build waits for this earlier unit, which makes one of its prerequisites and has no outcome
+pub record WaitsFor (s : State) (lane n m : ℕ) : Type 0 where
+  pub build : Build
+  pub active : build_of s.active lane ≡ Some build
+  pub unit : Unit
+  pub is_unit : unit_at build n ≡ Some unit
+  pub awaits : Awaits build unit m
+  pub earlier : m < n
+
+-- what comes next for unit n of a lane's build
+abbrev pub StepsTo : State → ℕ → ℕ → UnitStep → Type 0
+StepsTo s lane n next.Settled = HasOutcome s lane n
+StepsTo s lane n (next.NotReady m) = WaitsFor s lane n m
+StepsTo s lane n (next.Settle end) = MaySettle s lane n end
+StepsTo s lane n (next.Start script targets) = MayStart s lane n None × HasScript s lane n script targets
+StepsTo s lane n (next.Unreadable fault) = MayStart s lane n (Some fault)
+
+-- the row of what the run of unit n of a lane's build gave
+pub record IsObjectRow (s : State) (lane n : ℕ) (row : Plain) : Type 0 where
+  pub build : Build
+  pub active : build_of s.active lane ≡ Some build
+  pub unit : Unit
+  pub is_unit : unit_at build n ≡ Some unit
+  pub started : came_to build n ≡ Some Started
+  pub of_tag : row.tag ≡ next_tag s lane
+  pub at_moment : row.moment ≡ s.moment
+  pub made : publish_of s.base build n unit ≡ Some row.deed
+
+-- unit n of a lane's build was started, with this script and these targets
+pub record IsStarted (s : State) (lane n : ℕ) (script : List Line) (targets : List (List ℕ)) : Type 0 where
+  pub has : HasScript s lane n script targets
+  pub started : came_to has.build n ≡ Some Started
+
+-- unit n of a lane's build was started, and this is the run of its script on what it sees
+pub record IsRunOfUnit (s : State) (lane n : ℕ) (ran : Ran) : Type 0 where
+  pub build : Build
+  pub active : build_of s.active lane ≡ Some build
+  pub unit : Unit
+  pub is_unit : unit_at build n ≡ Some unit
+  pub started : came_to build n ≡ Some Started
+  pub kept : IsBuildKept s lane build
+  pub run : ran ≡ here s.base build n unit
+
+-- the units of a lane's build all have their outcomes
+pub record IsOver (s : State) (lane : ℕ) : Type 0 where
+  pub build : Build
+  pub active : build_of s.active lane ≡ Some build
+  pub complete : is_complete build ≡ true
+
+-- a unit of a lane's build has its outcome, and the story went on
+abbrev pub Settled : List Told → List Told → ℕ → ℕ → Type 0
+Settled old new lane n = GoesOn old new lane × HasOutcome (state_of new) lane n
+
+-- what became of a unit that was tried: it has its outcome, it waits for another and nothing changed, or its script was started
+abbrev pub Tries : List Told → List Told → ℕ → ℕ → UnitTurn → Type 0
+Tries old new lane n turns.Settled = Settled old new lane n
+Tries old new lane n (turns.NotReady m) = (new ≡ old) × WaitsFor (state_of old) lane n m
+Tries old new lane n (turns.Run script targets) = GoesOn old new lane × IsStarted (state_of new) lane n script targets
+Tries old new lane n turns.Faulted = Finishes old new lane
+
+-- what became of a unit that was carried out: it has its outcome, or the disk failed and its lane's command is finished
+abbrev pub IsCarried : List Told → List Told → ℕ → ℕ → UnitTurn → Type 0
+IsCarried old new lane n turns.Settled = Settled old new lane n
+IsCarried old new lane n (turns.NotReady m) = ⊥
+IsCarried old new lane n (turns.Run script targets) = ⊥
+IsCarried old new lane n turns.Faulted = Finishes old new lane

@@ -1,0 +1,4 @@
+-- What a core keeps at every moment.
+pub mod Kept
+pub mod Lanes
+pub mod Nexts

@@ -1,0 +1,4 @@
+-- What the disk keeps of a story, and what a stop may find.
+pub mod Backed
+pub mod Founds
+pub mod Standing

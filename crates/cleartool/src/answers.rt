@@ -1,0 +1,35 @@
+// The answer to a query.
+
+ghost use Rattle.std.specs.Prelude.{◌≡◌, true};
+ghost use Rattle.carried_out.specs.CarriedOut.{is_carried_out};
+ghost use Rattle.carried_out.specs.Queries.{asks};
+ghost use Rattle.legal_history.specs.Commands.Decisions.{Scene};
+ghost use Rattle.legal_history.specs.Commands.Lines.{decision};
+ghost use Rattle.cleartool.specs.Answering.{AnswersAs};
+
+use crate::config_specs::catcs;
+use crate::file_texts::cat;
+use cc_names::commands::Command;
+use cc_names::memory::Or;
+use cc_names::refusals::Refusal;
+use cc_names::texts::Text;
+use std::alloc::Global;
+use view_lookup::FirstRows;
+
+/// A query's text, or its first refusal in the order of the tests of its line. Takes the time of its query.
+pub fn answer(alloc: Global, rows: &FirstRows<'_>, command: &Command) -> Result<Text, Or<Refusal>>
+    requires carried_out { is_carried_out command.now ≡ true }
+    requires query { asks command.now ≡ true }
+    ensures { (scene : Scene) → scene.base ≡ rows.now
+        → AnswersAs result (decision scene command.now) }
+{
+    match command {
+        Command::Catcs { view } => catcs(alloc, rows, view),
+        Command::Cat {
+            view,
+            path,
+            version: None,
+        } => cat(alloc, rows, view, path),
+        _ => unreachable!(),
+    }
+}

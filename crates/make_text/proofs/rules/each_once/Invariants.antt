@@ -1,6 +1,0 @@
-use Rattle.std.proofs.Common.{◌≡◌}
-use Rattle.make_text.specs.WordPaths.{each_once}
-use Rattle.make_text.proofs.rules.each_once.Given as goal
-
-abbrev pub invariant-loop-path : goal.invariant-loop-path
-invariant-loop-path l = l.once.keys ≡ each_once l.yielded

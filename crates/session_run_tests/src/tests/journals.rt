@@ -1,0 +1,109 @@
+// Journals that are found: whole, cut short, damaged, and written by a run before.
+
+use super::{BUILT, FIRST, assert_outcome, disk_with, journal_of, outcome_on};
+use std::alloc::Global;
+use std::process::Abort;
+use std::random::RandomSource;
+use std::test::Fail;
+
+const VIEWS: &str = "phase\nlane a\nmkview v\nmkview w\n";
+
+#[test]
+fn a_base_is_found_again(rt: HostRuntime) -> Result<(), Fail> {
+    let alloc = rt.alloc();
+    let journal = journal_of(&rt, alloc, FIRST)?;
+    let disk = disk_with(alloc, journal.as_slice())?;
+    let session = "phase\nlane a\nmkview v\nclearmake v out\n";
+    let again = outcome_on(&rt, alloc, session, disk)?;
+    let written = format!(in alloc;
+        "phase 1\nlane a\n1 mkview refused C2 ViewExists\n2 clearmake ok\n{BUILT}"
+    )?;
+    assert_outcome(&rt, &again, 1, written.as_str(), 5);
+    Ok(())
+}
+
+// What an empty session comes to on a disk that holds this journal, which stays as it is.
+fn assert_found(
+    rt: &(impl Abort + RandomSource),
+    alloc: Global,
+    journal: &[u8],
+    written: &str,
+    code: u8,
+    rows: usize,
+) -> Result<(), Fail> {
+    let outcome = outcome_on(rt, alloc, "", disk_with(alloc, journal)?)?;
+    assert_outcome(rt, &outcome, code, written, rows);
+    assert_eq!(rt; outcome.disk.bytes(0), journal);
+    Ok(())
+}
+
+fn first_bytes(alloc: Global, bytes: &[u8], count: usize) -> Result<Vec<u8>, Fail> {
+    let mut first = Vec::new(alloc);
+    for byte in bytes.iter().take(count) {
+        first.push(*byte)?;
+    }
+    Ok(first)
+}
+
+// The journal of two views, whose second gate is neither open nor shut.
+fn with_another_gate(rt: &(impl Abort + RandomSource), alloc: Global) -> Result<Vec<u8>, Fail> {
+    let mut journal = journal_of(rt, alloc, VIEWS)?;
+    assert_eq!(rt; journal.len(), 65);
+    journal[32] = 7;
+    Ok(journal)
+}
+
+// The journal of two views has two frames of 32 bytes and a gate that is shut.
+#[test]
+fn a_journal_is_read_to_its_end(rt: HostRuntime) -> Result<(), Fail> {
+    let alloc = rt.alloc();
+    let journal = journal_of(&rt, alloc, VIEWS)?;
+    let cut = first_bytes(alloc, &journal, 40)?;
+    let ended = with_another_gate(&rt, alloc)?;
+    let cases: [(&[u8], usize); 5] = [
+        (&journal, 2),
+        (&cut, 1),
+        (&ended, 1),
+        (b"\x01\xff\0\0\0", 0),
+        (b"", 0),
+    ];
+    for (journal, rows) in cases {
+        assert_found(&rt, alloc, journal, "", 0, rows)?;
+    }
+    Ok(())
+}
+
+// The first two frames of the journal of two views, and the first of them once more.
+fn first_again(rt: &impl RandomSource, alloc: Global) -> Result<Vec<u8>, Fail> {
+    let journal = journal_of(rt, alloc, VIEWS)?;
+    let mut twice = first_bytes(alloc, &journal, 64)?;
+    for byte in journal.iter().take(32) {
+        twice.push(*byte)?;
+    }
+    Ok(twice)
+}
+
+// The journal of a view and a save without its first frame.
+fn without_first(rt: &(impl Abort + RandomSource), alloc: Global) -> Result<Vec<u8>, Fail> {
+    let journal = journal_of(rt, alloc, "phase\nlane a\nmkview v\nsave v in\n|hi\n")?;
+    assert!(rt; journal.len() > 32);
+    Ok(journal[32..].to_vec(alloc)?)
+}
+
+// A frame that is no row, one with nothing in it, a row that is there already, and one behind rows that are missing.
+#[test]
+fn a_damaged_journal_is_told(rt: HostRuntime) -> Result<(), Fail> {
+    let alloc = rt.alloc();
+    let twice = first_again(&rt, alloc)?;
+    let later = without_first(&rt, alloc)?;
+    let cases: [(&[u8], &str); 4] = [
+        (b"\x01\x01\0\0\0\x09\0", "damaged 1\n"),
+        (b"\x01\0\0\0\0\0", "damaged 1\n"),
+        (&twice, "damaged 3\n"),
+        (&later, "damaged 1\n"),
+    ];
+    for (journal, written) in cases {
+        assert_found(&rt, alloc, journal, written, 4, 0)?;
+    }
+    Ok(())
+}

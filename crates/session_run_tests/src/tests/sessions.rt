@@ -1,0 +1,75 @@
+// Sessions that save, and those that are none.
+
+use super::{Asked, assert_outcome, failing_disk, outcome_by};
+use std::test::Fail;
+
+const SAVES: &str = "phase\nlane a\nmkview v\nsave v in\n|hi\n";
+
+#[test]
+fn each_session_is_answered(rt: HostRuntime) -> Result<(), Fail> {
+    for (words, text, code, written, rows) in [
+        ("f run", "", 0, "", 0),
+        ("f run", "phase\n", 0, "phase 1\n", 0),
+        (
+            "f run",
+            "phase\nlane a\nfrob v\n",
+            3,
+            "bad session 3 UnknownCommand\n",
+            0,
+        ),
+        (
+            "f run",
+            "phase\nlane a\nsave v a//b\n",
+            3,
+            "bad session 3 BadWord\n",
+            0,
+        ),
+        ("f", SAVES, 2, "bad words\n", 0),
+        ("f big 1 0", SAVES, 2, "bad words\n", 0),
+        (
+            "f run",
+            SAVES,
+            0,
+            "phase 1\nlane a\n1 mkview ok\n2 save ok\n",
+            2,
+        ),
+        (
+            "f run",
+            "phase\nlane a\nsetcs v\n",
+            3,
+            "bad session 3 NotBuilt\n",
+            0,
+        ),
+        (
+            "f run",
+            "phase\nlane a\nmkview v\nlane b\nmkview v\nphase\nlane c\nsave v in\n",
+            1,
+            "phase 1\nlane a\n1 mkview ok\nlane b\n1 mkview refused C2 ViewExists\nphase 2\nlane c\n1 save ok\n",
+            2,
+        ),
+        (
+            "f run",
+            "phase\nlane a\nrmview v\nmkview v\nsave v in\nrmview v\nsave v in\nmkview v\nclearmake v in\n",
+            1,
+            "phase 1\nlane a\n1 rmview refused C1 NoView\n2 mkview ok\n3 save ok\n4 rmview ok\n5 save refused C1 NoView\n6 mkview ok\n7 clearmake refused B1 NoMakefile Makefile\n",
+            4,
+        ),
+        (
+            "f run",
+            "phase\nlane a\nsave v in\nmkview v\nmkview v\nsave v a/b\nsave v in\nsave v in/b\n",
+            1,
+            "phase 1\nlane a\n1 save refused C1 NoView\n2 mkview ok\n3 mkview refused C2 ViewExists\n4 save refused C3 NoPath a\n5 save ok\n6 save refused C4 NotDirectory in\n",
+            2,
+        ),
+    ] {
+        let asked = Asked {
+            words,
+            text,
+            read: 0,
+            write: 0,
+        };
+        let outcome = outcome_by(&rt, rt.alloc(), asked, failing_disk(rt.alloc(), &[])?)?;
+        assert_outcome(&rt, &outcome, code, written, rows);
+    }
+    Ok(())
+}

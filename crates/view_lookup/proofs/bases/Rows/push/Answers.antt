@@ -1,0 +1,97 @@
+-- The row's marks and its change of the trees are those of the row.
+use Rattle.std.proofs.Common.{◌≡◌, ℕ, ◌+◌, ◌&&◌, true, List, [], ◌∷◌, ◌++◌, length, map, reverse, nat_eq, sym, ap, ap₂, subst, ◌∙◌, arith, rules}
+use Rattle.std.proofs.lemmas.Grind.{common_steps}
+use Rattle.std.proofs.lemmas.List.{length-reverse, reverse-append}
+use Rattle.std.specs.HashMap.{get}
+use Rattle.std.specs.declared.random_state.RandomState.{RandomState}
+use Rattle.cc_names.specs.Falling.{IsAbove}
+use Rattle.cc_names.specs.Formed.{Plain}
+use Rattle.cc_names.specs.Versions.{row_of_change}
+use Rattle.cc_names.specs.declared.changes.TreeChange.{TreeChange}
+use Rattle.cc_names.specs.declared.rows.Deed.{Deed}
+use Rattle.legal_history.specs.Base.Changes.{tree}
+use Rattle.legal_history.specs.Base.Fits.{fits}
+use Rattle.legal_history.specs.Base.Rows.{Base, size}
+use Rattle.view_lookup.specs.Growing.{HasPlace, change_of, tree_change, with_change}
+use Rattle.view_lookup.specs.Known.{IsKnown}
+use Rattle.view_lookup.specs.Marked.{IsMarked, marked, with_marks}
+use Rattle.view_lookup.specs.Shown.{Shown}
+use Rattle.view_lookup.specs.Subjects.{key, named_targets, subjects}
+use Rattle.view_lookup.proofs.Growths.{above_tree, tree_by_change}
+use Rattle.view_lookup.proofs.bases.Rows.push.Goals as goal
+
+-- the marks of one row more
+marked_more : (hashing : RandomState) (n : ℕ) (targets : List (List ℕ)) (deed : Deed) (row : Plain) (older : Base) (q : ℕ) (rows : List ℕ)
+    → n ≡ size older → targets ≡ named_targets older row.deed → deed ≡ row.deed → rows ≡ marked hashing q older
+    → with_marks n q (map (key hashing) (subjects n targets deed)) rows ≡ marked hashing q (row ∷ older)
+marked_more hashing n targets deed row older q rows number named same before =
+    ap (λ m. with_marks m q (map (key hashing) (subjects m targets deed)) rows) number
+    ∙ ap (λ ts. with_marks (size older) q (map (key hashing) (subjects (size older) ts deed)) rows) named
+    ∙ ap (λ d. with_marks (size older) q (map (key hashing) (subjects (size older) (named_targets older row.deed) d)) rows) same
+    ∙ ap (with_marks (size older) q (map (key hashing) (subjects (size older) (named_targets older row.deed) row.deed))) before
+
+pub grow-requires-clause-above : goal.grow-requires-clause-above
+grow-requires-clause-above c =
+    let older : Base = reverse c.self.inside.rows.items in
+    let len : c.len.result ≡ length older = grind (arith, common_steps, length-reverse c.self.inside.rows.items) in
+    let number : c.len.result + 1 ≡ size older = omega arith in
+    subst (λ n. IsAbove n (map row_of_change c.self.inside.tree.changes)) (sym number)
+    (subst (λ (changes : List TreeChange). IsAbove (size older) (map row_of_change changes)) (sym c.self.invariant.trees) (above_tree older))
+
+pub grow-requires-clause-place : goal.grow-requires-clause-place
+grow-requires-clause-place c =
+    let older : Base = reverse c.self.inside.rows.items in
+    let growth = c.growth_of-growth.result in
+    let moment = c.moment.result in
+    let base_is : older ≡ c.args.self.now.base = ap (λ (shown : Shown). shown.base) c.self.view_is in
+    let len : c.len.result ≡ length older = grind (arith, common_steps, length-reverse c.self.inside.rows.items) in
+    let number : c.len.result + 1 ≡ size older = omega arith in
+    let change : change_of (c.len.result + 1) moment growth ≡ tree_change c.args.self.now.base moment c.args.row.deed =
+    ap (λ n. change_of n moment growth) (number ∙ ap (λ (b : Base). size b) (base_is ∙ sym c.all.ensures))
+    ∙ c.growth_of-growth.ensures.change moment
+    ∙ ap₂ (λ (b : Base) deed. tree_change b moment deed) c.all.ensures c.deed.ensures.deed in
+    let kept = subst (λ (shown : Shown). HasPlace shown.trees shown.name (tree_change c.args.self.now.base moment c.args.row.deed)) (sym c.self.view_is) (c.requires.room.trees moment) in
+    subst (λ added. HasPlace c.self.inside.tree c.take.result added) (sym change)
+    (subst (λ name. HasPlace c.self.inside.tree name (tree_change c.args.self.now.base moment c.args.row.deed)) (sym c.take.ensures.value) kept)
+
+pub invariant_of-self : goal.invariant_of-self
+invariant_of-self c =
+    let row : Plain = c.args.row in
+    let older : Base = reverse c.self.inside.rows.items in
+    let hashing = c.self.inside.hashing in
+    let growth = c.growth_of-growth.result in
+    let moment = c.moment.result in
+    let base_is : older ≡ c.args.self.now.base = ap (λ (shown : Shown). shown.base) c.self.view_is in
+    let len : c.len.result ≡ length older = grind (arith, common_steps, length-reverse c.self.inside.rows.items) in
+    let number : c.len.result + 1 ≡ size older = omega arith in
+    let items : c.push.new.self.items ≡ c.self.inside.rows.items ++ row ∷ [] = first_of (search rules, grind (arith, common_steps)) in
+    let back : reverse c.push.new.self.items ≡ row ∷ older = ap reverse items ∙ reverse-append c.self.inside.rows.items (row ∷ []) in
+    let fitting : fits older row.deed ≡ true = subst (λ (b : Base). fits b row.deed ≡ true) (sym base_is) c.requires.fits in
+    let known : IsKnown (row ∷ older) = record {
+      fitting = ap₂ (λ one two. one && two) fitting c.self.invariant.known.fitting;
+      made = ap₂ (λ one two. one && two) c.requires.made c.self.invariant.known.made;
+    } in
+    let named : c.named_targets-targets.result.now ≡ named_targets older row.deed =
+    c.named_targets-targets.ensures
+    ∙ ap (λ (rows : Base). named_targets (reverse rows) c.deed-2.result.now) c.as_slice.ensures.value
+    ∙ ap (named_targets older) c.deed-2.ensures.deed in
+    let change : change_of (c.len.result + 1) moment growth ≡ tree_change older row.moment row.deed =
+    ap (λ n. change_of n moment growth) (number ∙ ap (λ (b : Base). size b) (base_is ∙ sym c.all.ensures))
+    ∙ c.growth_of-growth.ensures.change moment
+    ∙ ap₂ (λ (b : Base) deed. tree_change b moment deed) (c.all.ensures ∙ sym base_is) c.deed.ensures.deed
+    ∙ ap (λ at. tree_change older at row.deed) c.moment.ensures in
+    let marks : IsMarked hashing c.mark_all.new.links.items (get nat_eq c.mark_all.new.newest) (row ∷ older) = record {
+      chained = c.mark_all.ensures.chained c.self.invariant.marks.chained;
+      rows = λ q.
+          c.mark_all.ensures.rows c.self.invariant.marks.chained q
+          ∙ marked_more hashing (c.len.result + 1) c.named_targets-targets.result.now c.deed-3.result.now row older q _ number named c.deed-3.ensures.deed (c.self.invariant.marks.rows q);
+    } in
+    record {
+      known = subst IsKnown (sym back) known;
+      marks = subst (λ (b : Base). IsMarked hashing c.mark_all.new.links.items (get nat_eq c.mark_all.new.newest) b) (sym back) marks;
+      trees = c.grow.ensures
+          ∙ ap (λ added. with_change added c.self.inside.tree.changes) change
+          ∙ ap (with_change (tree_change older row.moment row.deed)) c.self.invariant.trees
+          ∙ sym (tree_by_change row older)
+          ∙ ap tree (sym back);
+    }
