@@ -1,4 +1,4 @@
-// The value behind the lock: what a core is, and how it opens, begins phases and is taken apart.
+// A base with its story, kept on a disk: what a core is, and how it opens, begins phases and is taken apart.
 
 mod acting;
 mod building;

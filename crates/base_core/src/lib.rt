@@ -1,4 +1,4 @@
-// The value behind the lock: a base with its story, kept on a disk, which grows by lawful steps alone.
+// A base with its story, kept on a disk, which grows by lawful steps alone.
 //
 // What it is for: the top call opens the base that a disk stands for, begins phases, lets each lane carry out its next
 // command, and reads the replies. A `Core` keeps the rows, the story, the replies and the active builds; it takes all memory

@@ -14,7 +14,9 @@ use Rattle.legal_history.specs.Builds.Consistency.{IsConsistent}
 use Rattle.legal_history.proofs.Bases.Owned.{and_first}
 use Rattle.build_core.proofs.RunsEach.{each_at}
 use Rattle.build_core.proofs.RunsSeen.{makes_no_root}
-use Rattle.build_core.specs.BuildForms.{IsShort, IsUnitFormed}
+use Rattle.build_core.specs.BuildForms.{IsUnitFormed}
+use Rattle.make_text.specs.Macros.{expansion_limit}
+use Rattle.make_text.specs.UnitLaws.{IsShort}
 use Rattle.build_core.specs.Publishing.{HasObjects, CanPublish}
 
 -- a base has no more rows than it may have
@@ -33,7 +35,7 @@ consistent_objects b build units h = record {
 }
 
 -- the text of a script within the limit
-short_text : (script : UnitScript) → IsShort script → length (script_text script) ≤ 65536
+short_text : (script : UnitScript) → IsShort script → length (script_text script) ≤ expansion_limit
 short_text Bare h = omega arith
 short_text TooLong h = omega arith
 short_text (Lines text) h = h

@@ -4,23 +4,16 @@ use Rattle.std.specs.Prelude.{is_some}
 use Rattle.std.specs.List.{AllByRecursion}
 use Rattle.cc_names.specs.declared.commands.Macro.{Macro}
 use Rattle.cc_names.specs.declared.units.Unit.{Unit}
-use Rattle.cc_names.specs.declared.units.UnitScript.{UnitScript}
-use Rattle.cc_names.specs.declared.units.UnitScript.TheVariants.{Bare, TooLong, Lines}
 use Rattle.make_text.specs.Graphs.{units}
 use Rattle.make_text.specs.Statements.{Files}
-use Rattle.make_text.specs.UnitLaws.{IsUnit, IsShort as IsWithin}
+use Rattle.make_text.specs.UnitLaws.{IsUnit}
 use Rattle.make_text.proofs.UnitLaws as laws
 use Rattle.legal_history.proofs.Builds.OrderedUnits.{of_formed}
-use Rattle.build_core.specs.BuildForms.{IsShort, IsUnitFormed}
-
-short : (script : UnitScript) → IsWithin script → IsShort script
-short Bare h = tt
-short TooLong h = tt
-short (Lines text) h = h
+use Rattle.build_core.specs.BuildForms.{IsUnitFormed}
 
 each_formed : (made : List Unit) → AllByRecursion IsUnit made → AllByRecursion IsUnitFormed made
 each_formed [] h = tt
-each_formed (unit ∷ made) h = ((h.0.targets, short unit.script h.0.script), each_formed made h.1)
+each_formed (unit ∷ made) h = ((h.0.targets, h.0.script), each_formed made h.1)
 
 -- The units of a build are formed.
 pub units_formed : (files : Files) (file : Option (List ℕ)) (macros : List Macro) (goals : List (List ℕ)) (made : List Unit) → units files file macros goals ≡ Ok made → AllByRecursion IsUnitFormed made

@@ -1,22 +1,11 @@
 -- The form of a build: its view is a name, and each of its units is one that may be run and published.
-use Rattle.std.specs.Bool.{⊤}
-use Rattle.std.specs.Prelude.{ℕ, ◌<◌, ◌≤◌, ◌^◌, length}
+use Rattle.std.specs.Prelude.{◌<◌, ◌^◌, length}
 use Rattle.std.specs.List.{AllByRecursion}
 use Rattle.cc_names.specs.Formed.{AreTargets}
 use Rattle.cc_names.specs.Names.{IsName}
 use Rattle.cc_names.specs.declared.units.Unit.{Unit}
-use Rattle.cc_names.specs.declared.units.UnitScript.{UnitScript}
-use Rattle.cc_names.specs.declared.units.UnitScript.TheVariants as scripts
 use Rattle.legal_history.specs.Builds.Active.{Build}
-
--- the most bytes of the script of a unit
-abbrev pub script_limit : ℕ
-script_limit = 65536
-
--- a script within the limit
-abbrev pub IsShort : UnitScript → Type 0
-IsShort (scripts.Lines text) = length text ≤ script_limit
-IsShort script = ⊤
+use Rattle.make_text.specs.UnitLaws.{IsShort}
 
 -- the form of a unit: its targets are those of a row, and its script is within the limit
 abbrev pub IsUnitFormed : Unit → Type 0

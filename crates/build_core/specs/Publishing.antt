@@ -4,6 +4,7 @@ use Rattle.cc_names.specs.Formed.{Plain, AreTargets}
 use Rattle.cc_names.specs.Names.{IsName}
 use Rattle.cc_names.specs.Paths.{root}
 use Rattle.cc_names.specs.declared.units.Unit.{Unit}
+use Rattle.make_text.specs.Macros.{expansion_limit}
 use Rattle.legal_history.specs.Base.Rows.{Base, size}
 use Rattle.legal_history.specs.Builds.Active.{Build, came_to, object_of, unit_at}
 use Rattle.legal_history.specs.Builds.Choices.{here, publish_of}
@@ -20,7 +21,7 @@ pub record HasObjects (b : Base) (build : Build) : Type 0 where
 pub record CanPublish (b : Base) (build : Build) (unit : Unit) : Type 0 where
   pub view : IsName build.view
   pub targets : AreTargets unit.targets
-  pub script : length (script_text unit.script) ≤ 65536
+  pub script : length (script_text unit.script) ≤ expansion_limit
   pub objects : HasObjects b build
 
 -- The run of unit n on what it sees gave these outputs and asked for these paths.

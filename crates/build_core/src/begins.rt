@@ -1,6 +1,7 @@
 // The decision on a clearmake: the build that begins, or its first refusal.
 
 ghost use Rattle.std.specs.Prelude.{◌≡◌, ℕ, ◌+◌, ◌∷◌, [], ◌<◌, ◌≤◌, ◌^◌, length, true, option_copied, IsSome, IfOk, IfNone};
+ghost use Rattle.legal_history.specs.Base.Fits.{row_limit};
 ghost use Rattle.cc_names.specs.Answers.{Gives};
 ghost use Rattle.session_text.specs.Formed.{IsCommand};
 ghost use Rattle.legal_history.specs.Base.Rows.{size};
@@ -90,7 +91,7 @@ fn refusal_of_room(taken: u64, units: u64) -> Option<Refusal>
     ensures refusal { (scene : Scene)
         → size scene.base + reserved scene.active ≡ taken
         → result ≡ needs_room scene units }
-    ensures room { IfNone result (taken + units ≤ 4000000) }
+    ensures room { IfNone result (taken + units ≤ row_limit) }
 {
     if taken + units > ROW_LIMIT {
         Some(Refusal::Full(taken.min(ROW_LIMIT)))
@@ -119,7 +120,7 @@ fn begun(
     ensures formed { IfOk result AreUnits }
     ensures in_order { IfOk result InOrder }
     ensures view { IfOk result (λ units. IsSome (view_row rows.now view.now)) }
-    ensures room { IfOk result (λ units. taken + length units ≤ 4000000) }
+    ensures room { IfOk result (λ units. taken + length units ≤ row_limit) }
 {
     if let Some(refusal) = refusal_of_view(rows, view, busy) {
         return Err(Or::Is(refusal));
@@ -150,7 +151,7 @@ pub fn plan_build(
         → Plans occasion.tag scene command.now result }
     ensures view { IfOk result (λ build. IsSome (view_row rows.now build.view)) }
     ensures formed { IfOk result (λ build. IsBuildFormed build) }
-    ensures room { IfOk result (λ build. occasion.taken + length build.units ≤ 4000000) }
+    ensures room { IfOk result (λ build. occasion.taken + length build.units ≤ row_limit) }
 {
     match command {
         Command::Clearmake {

@@ -1,6 +1,7 @@
 // The row that the run of a unit's script publishes.
 
 ghost use Rattle.std.specs.Prelude.{◌≡◌, ◌<◌, ◌≤◌, ◌^◌, true, Some, length, map, IfOk, IsSome};
+ghost use Rattle.legal_history.specs.Stories.Lawful.{last_moment};
 ghost use Rattle.carried_out.specs.CarriedOut.{is_made};
 ghost use Rattle.cc_names.specs.declared.units.Unit as units;
 ghost use Rattle.legal_history.specs.Base.Rows.{first_rows};
@@ -74,7 +75,7 @@ pub fn publish_row(
 ) -> Result<Row, NoMemory>
     requires unit { unit < length build.now.units }
     requires view { IsSome (view_row (first_rows build.now.rows rows.now) build.now.view) }
-    requires moment { moment ≤ 253402300799 }
+    requires moment { moment ≤ last_moment }
     requires formed { (it : units.Unit)
         → unit_at build.now unit ≡ Some it
         → CanPublish rows.now build.now it }

@@ -1,8 +1,8 @@
 // What the program carries out so far.
 //
-// What it is for: the one place that says which commands are carried out, which of all commands are queries, and which
-// deeds the rows that commands make have. The reader of sessions answers the other commands as not built, and a base takes
-// no row of another deed. Where a command comes, it gets its line here.
+// What it is for: the one place that says which commands are carried out, and which deeds the rows that commands make have.
+// The reader of sessions answers the other commands as not built, and a base takes no row of another deed. Where a command
+// comes, it gets its line here.
 //
 // What it promises: each function is its definition in `specs/`.
 //
@@ -11,7 +11,6 @@
 
 ghost use Rattle.std.specs.Prelude.{◌≡◌};
 ghost use Rattle.carried_out.specs.CarriedOut.{is_carried_out, is_made};
-ghost use Rattle.carried_out.specs.Queries.{asks};
 
 use cc_names::commands::Command;
 use cc_names::rows::Deed;
@@ -31,26 +30,6 @@ pub fn is_carried_out(command: &Command) -> bool
             | Command::Clearmake { .. }
             | Command::Catcs { .. }
             | Command::Cat { version: None, .. }
-    )
-}
-
-/// Whether a command is a query, carried out or not: it asks for a text, and makes no row. Takes constant time.
-pub fn asks(command: &Command) -> bool
-    ensures { result ≡ asks command.now }
-{
-    matches!(
-        command,
-        Command::Catcs { .. }
-            | Command::Lsdo { .. }
-            | Command::Ls { .. }
-            | Command::Cat { .. }
-            | Command::Describe { .. }
-            | Command::Lsvtree { .. }
-            | Command::Lshistory { .. }
-            | Command::Catcr { .. }
-            | Command::Diffcr { .. }
-            | Command::Covers { .. }
-            | Command::Findmerge { .. }
     )
 }
 

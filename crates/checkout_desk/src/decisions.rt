@@ -1,12 +1,13 @@
 // The decision on a command.
 
 ghost use Rattle.std.specs.Prelude.{◌≡◌, ℕ, ◌<◌, ◌≤◌, ◌^◌, length, true, false, IfOk, OnOk};
+ghost use Rattle.legal_history.specs.Stories.Lawful.{last_moment};
 ghost use Rattle.session_text.specs.Formed.{IsCommand};
 ghost use Rattle.legal_history.specs.Base.Fits.{row_limit};
 ghost use Rattle.legal_history.specs.Commands.Decisions.{Scene};
 ghost use Rattle.legal_history.specs.Commands.Lines.{decision};
 ghost use Rattle.carried_out.specs.CarriedOut.{is_carried_out, is_made};
-ghost use Rattle.carried_out.specs.Queries.{asks};
+ghost use Rattle.legal_history.specs.Queries.QueryLines.{is_query};
 ghost use Rattle.checkout_desk.specs.Commands.{builds, view_of};
 ghost use Rattle.checkout_desk.specs.Deciding.{Sees, Decides};
 
@@ -32,9 +33,9 @@ pub fn decide(
 ) -> Result<Row, Or<Refusal>>
     requires carried_out { is_carried_out command.now ≡ true }
     requires no_build { builds command.now ≡ false }
-    requires no_query { asks command.now ≡ false }
+    requires no_query { is_query command.now ≡ false }
     requires formed { IsCommand 16777216 command.now }
-    requires in_time { occasion.moment ≤ 253402300799 }
+    requires in_time { occasion.moment ≤ last_moment }
 
     ensures decided { (scene : Scene) (now : ℕ)
         → Sees scene rows.now now (view_of command.now) occasion.busy occasion.taken

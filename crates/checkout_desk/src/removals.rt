@@ -1,6 +1,7 @@
 // Taking private files away.
 
 ghost use Rattle.std.specs.Prelude.{◌≡◌, ℕ, ◌<◌, ◌≤◌, ◌∷◌, [], ◌++◌, true, IfOk, IfNone, OnOk};
+ghost use Rattle.legal_history.specs.Stories.Lawful.{last_moment};
 ghost use Rattle.cc_names.specs.Formed.{IsBelowRoot};
 ghost use Rattle.carried_out.specs.CarriedOut.{is_made};
 ghost use Rattle.legal_history.specs.Base.Fits.{row_limit};
@@ -71,7 +72,7 @@ pub fn rm(
     occasion: Occasion,
 ) -> Result<Row, Or<Refusal>>
     requires below { IsBelowRoot path.now }
-    requires in_time { occasion.moment ≤ 253402300799 }
+    requires in_time { occasion.moment ≤ last_moment }
     ensures decided { (scene : Scene) (now : ℕ)
         → Sees scene rows.now now view.now occasion.busy occasion.taken
         → Decides occasion.tag occasion.moment result (rm scene view.now path.now) }

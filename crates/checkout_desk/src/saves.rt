@@ -1,6 +1,7 @@
 // Saving the text of a file.
 
 ghost use Rattle.std.specs.Prelude.{◌≡◌, ℕ, ◌<◌, ◌≤◌, ◌^◌, ◌∷◌, [], ◌++◌, length, true, IsSome, IfOk, IfNone, OnOk};
+ghost use Rattle.legal_history.specs.Stories.Lawful.{last_moment};
 ghost use Rattle.cc_names.specs.Formed.{IsBelowRoot};
 ghost use Rattle.cc_names.specs.declared.rows.Tag.{Tag};
 ghost use Rattle.legal_history.specs.Commands.Tests.{needs_selected, needs_directory};
@@ -117,7 +118,7 @@ pub fn save(
 ) -> Result<Row, Or<Refusal>>
     requires below { IsBelowRoot path.now }
     requires short { length text.now ≤ 16777216 }
-    requires in_time { occasion.moment ≤ 253402300799 }
+    requires in_time { occasion.moment ≤ last_moment }
     ensures decided { (scene : Scene) (now : ℕ)
         → Sees scene rows.now now view.now occasion.busy occasion.taken
         → Decides occasion.tag occasion.moment result (save scene view.now path.now text.now) }

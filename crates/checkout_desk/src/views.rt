@@ -1,6 +1,7 @@
 // The commands on views.
 
 ghost use Rattle.std.specs.Prelude.{◌≡◌, ℕ, List, Option, ◌<◌, ◌≤◌, ◌^◌, ◌∷◌, [], ◌++◌, length, IfNone, IfOk, OnOk, true};
+ghost use Rattle.legal_history.specs.Stories.Lawful.{last_moment};
 ghost use Rattle.cc_names.specs.Names.{IsName};
 ghost use Rattle.carried_out.specs.CarriedOut.{is_made};
 ghost use Rattle.legal_history.specs.Commands.Decisions.{Scene, first_refusal, needs_room};
@@ -40,7 +41,7 @@ pub fn mkview(
     view: &Name,
     occasion: Occasion,
 ) -> Result<Row, Or<Refusal>>
-    requires { occasion.moment ≤ 253402300799 }
+    requires { occasion.moment ≤ last_moment }
     ensures decided { (scene : Scene) (now : ℕ) (other : List ℕ) (busy : Option Tag)
         → Sees scene rows.now now other busy occasion.taken
         → Decides occasion.tag occasion.moment result (mkview scene view.now) }
@@ -100,7 +101,7 @@ pub fn rmview(
     force: bool,
     occasion: Occasion,
 ) -> Result<Row, Or<Refusal>>
-    requires { occasion.moment ≤ 253402300799 }
+    requires { occasion.moment ≤ last_moment }
     ensures decided { (scene : Scene) (now : ℕ)
         → Sees scene rows.now now view.now occasion.busy occasion.taken
         → Decides occasion.tag occasion.moment result (rmview scene view.now force) }

@@ -6,7 +6,7 @@ use Rattle.label_book.specs.Marks.{Marks}
 use Rattle.version_tree.specs.Forest.{Forest}
 use Rattle.spec_text.specs.Rules.{Selectables, sources_at, decides, picked_by}
 use Rattle.config_spec.specs.Listing.{Enrolled, listed_in}
-use Rattle.config_spec.specs.declared.picks.Sight.{Sight}
+use Rattle.config_spec.specs.declared.sights.Sight.{Sight}
 
 -- the sources in the first rows
 abbrev pub sources_in : ℕ → Forest → Marks → Enrolled → Option ℕ → Selectables

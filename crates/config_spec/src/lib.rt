@@ -2,9 +2,9 @@
 //
 // What it is for: every look-up of a path in a view asks, name by name, which version of an element stands there.
 //
-// What it promises: `pick` answers what the definition of config specs gives over the trees, the labels and the records
-// of objects as they were in the first rows of a base, whatever came later. It takes no memory. `laws` has what holds
-// whatever there is to pick from.
+// What it promises: `pick_from` answers what the definition of config specs gives over any `Sources`, and `pick` over the
+// trees, the labels and the records of objects as they were in the first rows of a base, whatever came later. They take no
+// memory. `laws` has what holds whatever there is to pick from.
 //
 // What it stands on: the rules as `spec_text` reads them, and the indexes of versions and of labels.
 #![tactic(auto)]
@@ -13,9 +13,12 @@ mod branches;
 pub mod laws;
 mod picks;
 mod rolls;
+mod sights;
+mod sources;
 
-pub use picks::pick;
+pub use picks::{pick, pick_from};
 pub use rolls::{Listed, Rolls};
+pub use sources::Sources;
 
 #[cfg(test)]
 mod tests;

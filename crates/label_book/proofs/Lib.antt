@@ -2,5 +2,5 @@ mod Added
 mod Chain
 mod InBook
 mod Newest
-mod Pairs
+pub mod Pairs
 mod Ready

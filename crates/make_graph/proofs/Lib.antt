@@ -6,3 +6,6 @@ mod MakerLemmas
 mod MarkLemmas
 pub mod StandingLaws
 mod Worked
+mod NumberSetLemmas
+mod ClosureSteps
+mod KeptLemmas

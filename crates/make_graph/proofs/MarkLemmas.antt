@@ -1,9 +1,7 @@
 -- Marks of the units that are needed.
-use Rattle.std.proofs.Common.{◌≡◌, inl, inr, refl, sym, ap, ◌∙◌, ℕ, zero, suc, ◌<◌, ◌≤◌, ◌==◌, nat_lt, nat_le, Bool, true, false, ◌||◌, ◌&&◌, List, ◌++◌, length, replicate, get_or, arith}
+use Rattle.std.proofs.Common.{◌≡◌, inl, inr, refl, sym, ap, ◌∙◌, ℕ, zero, suc, ◌<◌, ◌≤◌, ◌==◌, nat_lt, nat_le, Bool, true, false, ◌||◌, ◌&&◌, List, ◌++◌, arith}
 use Rattle.std.proofs.Math.Nat.{eq-or-lt_of_le}
 use Rattle.std.proofs.lemmas.Bool.Decides.{nat_tests}
-use Rattle.std.proofs.lemmas.Option.{slice_get_read}
-use Rattle.std.specs.Prelude.{unwrap_or}
 use Rattle.cc_names.specs.declared.units.Unit.{Unit}
 use Rattle.make_graph.specs.Marks.{AddsMarks, IsEnd}
 use Rattle.make_graph.specs.Waits.{makes_one, makers_of, needed, closure_of, prerequisites_at, is_in, is_marked}
@@ -26,10 +24,26 @@ and_false false = refl
 less : (n k : ℕ) → n < k → nat_lt n k ≡ true
 less n k h = grind (arith, nat_tests)
 
-no_marks : (k n : ℕ) → is_marked (replicate k false) n ≡ false
-no_marks zero n = refl
-no_marks (suc k) zero = refl
-no_marks (suc k) (suc n) = no_marks k n
+-- a mark for one number
+pub one_mark : (below number n : ℕ) (old new : Bool) → number < below → new ≡ (old || (n == number)) → new ≡ (old || (nat_lt n below && ((n == number) || false)))
+one_mark below number n old new lt h = by (n == number) refl
+  where
+    by : (b : Bool) → (n == number) ≡ b → new ≡ (old || (nat_lt n below && ((n == number) || false)))
+    by true same =
+        let is : nat_lt n below ≡ true = ap (λ m. nat_lt m below) (same_number n number same) ∙ less number below lt in
+        h ∙ (ap (λ t. old || t) same ∙ sym (ap (λ t. old || (t && ((n == number) || false))) is ∙ ap (λ t. old || (t || false)) same))
+    by false apart =
+        h ∙ (ap (λ t. old || t) apart ∙ sym (ap (λ t. old || (nat_lt n below && (t || false))) apart ∙ ap (λ t. old || t) (and_false (nat_lt n below))))
+
+pub no_mark : (below number n : ℕ) (old : Bool) → below ≤ number → old ≡ (old || (nat_lt n below && ((n == number) || false)))
+no_mark below number n old le = by (n == number) refl
+  where
+    by : (b : Bool) → (n == number) ≡ b → old ≡ (old || (nat_lt n below && ((n == number) || false)))
+    by true same =
+        let is : nat_lt n below ≡ false = grind (arith, nat_tests) in
+        sym (ap (λ t. old || (t && ((n == number) || false))) is ∙ or_false old)
+    by false apart =
+        sym (ap (λ t. old || (nat_lt n below && (t || false))) apart ∙ (ap (λ t. old || t) (and_false (nat_lt n below)) ∙ or_false old))
 
 -- ---- the walk down the units
 
@@ -57,25 +71,25 @@ none_behind units wanted end (suc k) le ends =
           ]
     ]
 
-pub first_marks : (units : List Unit) (unit end : ℕ) (marks : List Bool) → end ≤ unit → IsEnd unit (makers_of units (prerequisites_at units unit)) end →
-    AddsMarks end (makers_of units (prerequisites_at units unit)) (replicate end false) marks → HasMarks units unit end marks
-first_marks units unit end marks le ends adds = record {
+pub first_marks : (units : List Unit) (unit end : ℕ) (clear marks : List Bool) → ((n : ℕ) → is_marked clear n ≡ false) → end ≤ unit → IsEnd unit (makers_of units (prerequisites_at units unit)) end →
+    AddsMarks end (makers_of units (prerequisites_at units unit)) clear marks → HasMarks units unit end marks
+first_marks units unit end clear marks unset le ends adds = record {
   wanted = prerequisites_at units unit;
-  low = λ n lt. made n ∙ added (is_marked (replicate end false) n) false (nat_lt n end) _ (no_marks end n) (less n end lt);
+  low = λ n lt. made n ∙ added (is_marked clear n) false (nat_lt n end) _ (unset n) (less n end lt);
   all = λ n. ap (λ l. is_in l n) (none_behind units (prerequisites_at units unit) end unit le ends) ∙ above n (nat_lt n end) refl;
 }
   where
-    made : (n : ℕ) → is_marked marks n ≡ (is_marked (replicate end false) n || (nat_lt n end && makes_one units (prerequisites_at units unit) n))
-    made n = adds n ∙ ap (λ t. is_marked (replicate end false) n || (nat_lt n end && t)) (is_maker units (prerequisites_at units unit) n)
+    made : (n : ℕ) → is_marked marks n ≡ (is_marked clear n || (nat_lt n end && makes_one units (prerequisites_at units unit) n))
+    made n = adds n ∙ ap (λ t. is_marked clear n || (nat_lt n end && t)) (is_maker units (prerequisites_at units unit) n)
 
     above : (n : ℕ) (t : Bool) → nat_lt n end ≡ t →
         is_in (needed units end (prerequisites_at units unit)) n ≡ (is_in (needed units end (prerequisites_at units unit)) n || (nat_le end n && is_marked marks n))
     above n true h =
-        let none : nat_le end n ≡ false = grind (arith, nat_tests) in
-        sym (ap (λ t. is_in (needed units end (prerequisites_at units unit)) n || (t && is_marked marks n)) none ∙ or_false _)
+        let behind : nat_le end n ≡ false = grind (arith, nat_tests) in
+        sym (ap (λ t. is_in (needed units end (prerequisites_at units unit)) n || (t && is_marked marks n)) behind ∙ or_false _)
     above n false h =
-        let none : is_marked marks n ≡ false = made n ∙ (ap (λ t. is_marked (replicate end false) n || (t && makes_one units (prerequisites_at units unit) n)) h ∙ (or_false _ ∙ no_marks end n)) in
-        sym (ap (λ m. is_in (needed units end (prerequisites_at units unit)) n || (nat_le end n && m)) none ∙ (ap (λ t. is_in (needed units end (prerequisites_at units unit)) n || t) (and_false (nat_le end n)) ∙ or_false _))
+        let unmarked : is_marked marks n ≡ false = made n ∙ (ap (λ t. is_marked clear n || (t && makes_one units (prerequisites_at units unit) n)) h ∙ (or_false _ ∙ unset n)) in
+        sym (ap (λ m. is_in (needed units end (prerequisites_at units unit)) n || (nat_le end n && m)) unmarked ∙ (ap (λ t. is_in (needed units end (prerequisites_at units unit)) n || t) (and_false (nat_le end n)) ∙ or_false _))
 
 step_bits : (n k : ℕ) (x a b m : Bool) → b ≡ (a || (nat_lt n k && m)) → ((n ≡ k) → a ≡ true) →
     (((n == k) || x) || (nat_le (suc k) n && a)) ≡ (x || (nat_le k n && b))
@@ -148,7 +162,3 @@ pub all_marked : (units : List Unit) (unit : ℕ) (marks : List Bool) → HasMar
 all_marked units unit marks h n =
     let le : nat_le 0 n ≡ true = grind (arith, nat_tests) in
     sym (h.all n ∙ ap (λ t. t && is_marked marks n) le)
-
--- a mark that was read
-pub mark_read : (marks : List Bool) (k : ℕ) (b : Bool) → k < length marks → b ≡ get_or marks k b → is_marked marks k ≡ b
-mark_read marks k b lt at = ap (λ o. unwrap_or o false) (slice_get_read marks (length marks) k b refl lt at)

@@ -5,3 +5,4 @@ pub mod Numbered
 pub mod Frames
 pub mod UnitNumbers
 pub mod Items
+pub mod NumberSets

@@ -1,10 +1,11 @@
 // The units that a unit stands on.
 
-ghost use Rattle.std.specs.Prelude.{◌≡◌, ◌≤◌, ◌<◌, ◌∷◌, [], ℕ, length, replicate, false, IfOk};
+ghost use Rattle.std.specs.Prelude.{◌≡◌, ◌≤◌, ◌<◌, ◌∷◌, [], ℕ, length, IfOk};
 ghost use Rattle.make_graph.specs.Standing.{ClosureStands};
 ghost use Rattle.make_graph.specs.Waits.{is_in, is_marked, closure_of};
 ghost use Rattle.make_graph.specs.Marks.{AddsMarks, IsEnd};
 
+use crate::number_sets::NumberSet;
 use crate::unit_graphs::Graph;
 use cc_names::memory::NoMemory;
 use std::alloc::Global;
@@ -13,7 +14,7 @@ use std::marker::Model;
 /// The units that a unit stands on. Contracts see it as a mark for each unit up to the last that it may have.
 #[derive(Drop)]
 pub struct Closure {
-    marks: Vec<bool>,
+    marks: NumberSet,
 }
 
 impl Model for Closure {
@@ -21,7 +22,7 @@ impl Model for Closure {
 
     ghost Value = { List Bool };
 
-    ghost view = { λ closure. closure.marks.items };
+    ghost view = { λ closure. closure.marks };
 }
 
 impl Closure {
@@ -29,19 +30,17 @@ impl Closure {
     pub fn has(&self, unit: u32) -> bool
         ensures { result ≡ is_marked self.now unit }
     {
-        self.marks
-            .as_slice()
-            .get(unit as usize)
-            .copied()
-            .unwrap_or(false)
+        self.marks.has(unit)
     }
-}
 
-/// No unit of so many is marked.
-fn no_marks(alloc: Global, units: usize) -> Result<Vec<bool>, NoMemory>
-    ensures { IfOk result (λ marks. marks.items ≡ replicate units false) }
-{
-    Ok(vec![in alloc; false; units]?)
+    /// A copy of a closure that is kept. Takes time and memory linear in the words of its bits.
+    pub(crate) fn kept(alloc: Global, marks: &NumberSet) -> Result<Closure, NoMemory>
+        ensures { IfOk result (λ closure. closure ≡ marks.now) }
+    {
+        Ok(Closure {
+            marks: marks.copy(alloc)?,
+        })
+    }
 }
 
 /// One more than the greatest of these numbers that are below another, 0 where there is none.
@@ -59,21 +58,21 @@ fn end_below(numbers: &[u32], below: u32) -> u32
 }
 
 /// Marks a unit, if it is below a number.
-fn mark(marks: &mut Vec<bool>, below: u32, number: u32)
-    requires { below ≤ length marks.old.items }
-    ensures length { length marks.new.items ≡ length marks.old.items }
-    ensures marks { AddsMarks below (number ∷ []) marks.old.items marks.new.items }
+fn mark(marks: &mut NumberSet, below: u32, number: u32)
+    requires { below ≤ length marks.old }
+    ensures length { length marks.new ≡ length marks.old }
+    ensures marks { AddsMarks below (number ∷ []) marks.old marks.new }
 {
     if number < below {
-        marks[number as usize] = true;
+        marks.add(number);
     }
 }
 
 /// Marks those of these units that are below a number.
-fn mark_all(marks: &mut Vec<bool>, below: u32, numbers: &[u32])
-    requires { below ≤ length marks.old.items }
-    ensures length { length marks.new.items ≡ length marks.old.items }
-    ensures marks { AddsMarks below numbers.now marks.old.items marks.new.items }
+fn mark_all(marks: &mut NumberSet, below: u32, numbers: &[u32])
+    requires { below ≤ length marks.old }
+    ensures length { length marks.new ≡ length marks.old }
+    ensures marks { AddsMarks below numbers.now marks.old marks.new }
 {
     for number in numbers {
         mark(marks, below, *number);
@@ -84,8 +83,7 @@ fn mark_all(marks: &mut Vec<bool>, below: u32, numbers: &[u32])
 /// runs out.
 ///
 /// Takes memory and time linear in the greatest number of a unit that makes one of its prerequisites, and time linear in the
-/// prerequisites of the units that it stands on. Nothing of it is kept: sets for all units at once would take memory that
-/// grows with the square of their number, and suffix rules may serve as many units as a view has files.
+/// prerequisites of the units that it stands on.
 pub(crate) fn of_unit(graph: &Graph, alloc: Global, unit: u32) -> Result<Closure, NoMemory>
     requires { unit < length graph.now }
     ensures { IfOk result
@@ -93,11 +91,11 @@ pub(crate) fn of_unit(graph: &Graph, alloc: Global, unit: u32) -> Result<Closure
 {
     let wanted = graph.makers(unit);
     let mut number = end_below(wanted, unit);
-    let mut marks = no_marks(alloc, number as usize)?;
+    let mut marks = NumberSet::below(alloc, number as usize)?;
     mark_all(&mut marks, number, wanted);
     while number > 0 {
         number -= 1;
-        if marks[number as usize] {
+        if marks.has(number) {
             mark_all(&mut marks, number, graph.makers(number));
         }
     }

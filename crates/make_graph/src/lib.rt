@@ -14,7 +14,9 @@
 
 pub mod closures;
 pub mod goals;
+mod kept_closures;
 mod makers;
+mod number_sets;
 mod numbers;
 mod serving;
 pub mod unit_graphs;

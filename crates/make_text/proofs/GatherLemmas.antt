@@ -1,5 +1,5 @@
 -- All that rules are made of, by the numbers of the lines that are joined to them.
-use Rattle.std.proofs.Common.{◌≡◌, refl, sym, ap, ◌∙◌, subst, inl, inr, ⊎_elim, ℕ, ◌==◌, Bool, true, false, not, ◌&&◌, Option, Some, None, List, [], ◌∷◌, ◌++◌, filter, flat_map, fold, length, is_some, slice_get, replicate, zero, suc, if◌then◌else◌, arith}
+use Rattle.std.proofs.Common.{◌≡◌, refl, sym, ap, ◌∙◌, subst, ⊎_elim, ℕ, ◌==◌, Bool, true, false, not, ◌&&◌, Option, Some, None, List, [], ◌∷◌, ◌++◌, filter, flat_map, fold, length, is_some, slice_get, replicate, zero, suc, if◌then◌else◌, arith}
 use Rattle.std.proofs.Math.ListN.{set}
 use Rattle.std.proofs.lemmas.List.Sums.{fold-append}
 use Rattle.make_text.proofs.OnceLemmas.{not_none, with_again, still_included, with_joined}

@@ -1,5 +1,5 @@
 -- Rules that rule lines are joined to, by their places.
-use Rattle.std.proofs.Common.{◌≡◌, refl, sym, ap, ◌∙◌, ℕ, zero, suc, ◌+◌, ◌-◌, ◌<◌, ◌≤◌, Bool, true, false, ◌||◌, ◌&&◌, Option, Some, None, List, [], ◌∷◌, ◌++◌, find, flat_map, fold, length, map, option_map, is_some, IfOk, Result, Ok, Err, slice_get, unwrap_or, get_or, if◌then◌else◌, arith}
+use Rattle.std.proofs.Common.{◌≡◌, refl, sym, ap, ◌∙◌, ℕ, zero, suc, ◌+◌, ◌-◌, ◌<◌, ◌≤◌, Bool, true, false, ◌||◌, ◌&&◌, Option, Some, None, List, [], ◌∷◌, ◌++◌, find, fold, length, map, option_map, is_some, IfOk, Result, Ok, Err, slice_get, unwrap_or, get_or, if◌then◌else◌, arith}
 use Rattle.std.proofs.lemmas.List.{map-set, get_or-map}
 use Rattle.std.proofs.Math.Seq.{map-set_same}
 use Rattle.std.specs.declared.random_state.RandomState.{RandomState}
@@ -8,7 +8,7 @@ use Rattle.std.specs.List.{list_any}
 use Rattle.std.specs.Option.{option_or}
 use Rattle.std.proofs.Math.ListN.{set}
 use Rattle.make_text.proofs.OnceLemmas.{with_again}
-use Rattle.make_text.specs.Contents.{RuleLine, group_of, groups_of, made_with, with_line, rule_without, with_target}
+use Rattle.make_text.specs.Contents.{RuleLine, groups_of, made_with, with_line, rule_without, with_target}
 use Rattle.make_text.specs.Joining.{joined_with, joined_at, rule_of, rules_of, joined_targets, made_together, KnowsJoined, HasJoined, HasLonger, HasNew, HasTarget}
 use Rattle.make_text.specs.SuffixRules.{is_in_group}
 use Rattle.make_text.specs.declared.joining.JoinedRule.{JoinedRule}

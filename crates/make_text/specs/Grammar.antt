@@ -71,18 +71,24 @@ contents_of reading lines =
     contents_from reading.suffixes reading.phony (macros_of reading.macros) (groups_of lines) (joined_rules lines)
 
 -- what is tested behind the last line: each macro in the order of first definition, and then the phony targets
+abbrev pub ending_fault : Reading → Option MakeError
+ending_fault reading =
+    fault_or (macros_fault (macros_of reading.macros) reading.macros) (phony_fault reading.phony (reverse reading.rules))
+
+-- what a makefile says, by what was read of it, unless there is a fault behind its last line
 abbrev pub checked : Result Reading MakeError → Result Contents MakeError
 checked (Err fault) = Err fault
-checked (Ok reading) =
-    unless_fault
-    (fault_or (macros_fault (macros_of reading.macros) reading.macros) (phony_fault reading.phony (reverse reading.rules)))
-    (contents_of reading (reverse reading.rules))
+checked (Ok reading) = unless_fault (ending_fault reading) (contents_of reading (reverse reading.rules))
+
+-- the macros of the command line and then the lines of a makefile, read behind what was read
+abbrev pub lines_behind : Files → List ℕ → List ℕ → List Macro → Reading → Result Reading MakeError
+lines_behind files file text overrides reading =
+    and_then (with_overrides file overrides reading)
+    (read_lines (included files depth_limit file) file (logical_lines text))
 
 -- the lines of a makefile, read behind the macros of the command line
 abbrev pub lines_read : Files → List ℕ → List ℕ → List Macro → Result Reading MakeError
-lines_read files file text overrides =
-    and_then (with_overrides file overrides nothing_read)
-    (read_lines (included files depth_limit file) file (logical_lines text))
+lines_read files file text overrides = lines_behind files file text overrides nothing_read
 
 -- what a makefile of this text says
 abbrev pub makefile_of_text : Files → List ℕ → List Macro → Option (List ℕ) → Result Contents MakeError

@@ -1,12 +1,13 @@
 -- The steps by which a makefile is read line by line.
-use Rattle.std.specs.Prelude.{◌≡◌, ℕ, ◌+◌, false, Result, Ok, Err, List, [], ◌∷◌, fold, if◌then◌else◌}
+use Rattle.std.specs.Prelude.{◌≡◌, ℕ, ◌+◌, true, false, None, Result, Ok, Err, List, [], ◌∷◌, fold, length, if◌then◌else◌}
+use Rattle.std.specs.List.{list_any}
 use Rattle.cc_names.specs.Answers.{FaultIs}
 use Rattle.cc_names.specs.declared.memory.Or.{Or}
 use Rattle.cc_names.specs.declared.refusals.MakeError.{MakeError}
 use Rattle.make_text.specs.Contents.{RuleLine}
 use Rattle.make_text.specs.Macros.{is_among}
 use Rattle.make_text.specs.WordPaths.{with_path}
-use Rattle.make_text.specs.Statements.{Definition, Reading, with_definition, with_script_line, with_suffixes, suffixes_name, phony_name, and_then, read_line, within_limits}
+use Rattle.make_text.specs.Statements.{Definition, Reading, with_definition, with_script_line, with_suffixes, suffixes_name, phony_name, is_special, plain_targets, and_then, read_line, within_limits}
 use Rattle.make_text.specs.declared.logical_lines.LogicalLine.{LogicalLine}
 use Rattle.make_text.specs.declared.rule_lines.RuleWords.{RuleWords}
 
@@ -36,6 +37,28 @@ with_special words reading =
     record reading {
       suffixes = if is_among words.targets suffixes_name then with_suffixes reading.suffixes words.prerequisites else reading.suffixes;
       phony = if is_among words.targets phony_name then fold with_path reading.phony words.prerequisites else reading.phony;
+    }
+
+-- the rule line of these words, without a script
+abbrev pub line_of_words : List ℕ → ℕ → RuleWords → RuleLine
+line_of_words file n words =
+    record {
+      file = file;
+      line = n;
+      targets = plain_targets words.is_group words.targets;
+      prerequisites = words.prerequisites;
+      is_group = words.is_group;
+      is_special = list_any is_special words.targets;
+      script = None;
+    }
+
+-- what was read, with a rule line behind it, to which a script line that comes next belongs
+abbrev pub with_next_rule : RuleLine → Reading → Reading
+with_next_rule rule reading =
+    record reading {
+      targets = reading.targets + length rule.targets;
+      rules = rule ∷ reading.rules;
+      takes_script = true;
     }
 
 -- rule lines with a script line below the newest, where there is one

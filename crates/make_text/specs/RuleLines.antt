@@ -1,5 +1,5 @@
 -- The words of rule lines and include lines as they are read.
-use Rattle.std.specs.Prelude.{ℕ, Bool, not, Result, List}
+use Rattle.std.specs.Prelude.{ℕ, Bool, not, ◌&&◌, Result, List}
 use Rattle.std.specs.List.{list_all}
 use Rattle.cc_names.specs.declared.commands.Macro.{Macro}
 use Rattle.cc_names.specs.Cuts.{words_of}
@@ -12,11 +12,21 @@ use Rattle.make_text.specs.declared.rule_lines.RuleWords.{RuleWords}
 abbrev pub below_root : List (List ℕ) → Result (List (List ℕ)) MakeCause
 below_root words = or_cause (where_so (not (list_all is_path words)) BadPath) words
 
+-- a rule line of these words, or the fault of their paths
+abbrev pub rule_of_paths : Bool → List (List ℕ) → List (List ℕ) → Result RuleWords MakeCause
+rule_of_paths grouped targets prerequisites =
+    or_cause (where_so (not (list_all is_path targets && list_all is_path prerequisites)) BadPath)
+    (record { is_group = grouped; targets = targets; prerequisites = prerequisites })
+
+-- a rule line of these words, or their fault
+abbrev pub rule_of_words : Bool → List (List ℕ) → List (List ℕ) → Result RuleWords MakeCause
+rule_of_words grouped targets prerequisites =
+    or_cause (rule_words_fault grouped targets prerequisites)
+    (record { is_group = grouped; targets = targets; prerequisites = prerequisites })
+
 -- a rule line by what stands before its mark and behind it, once both were expanded
 abbrev pub rule_of_sides : Bool → List ℕ → List ℕ → Result RuleWords MakeCause
-rule_of_sides grouped before behind =
-    or_cause (rule_words_fault grouped (words_of before) (words_of behind))
-    (record { is_group = grouped; targets = words_of before; prerequisites = words_of behind })
+rule_of_sides grouped before behind = rule_of_words grouped (words_of before) (words_of behind)
 
 -- both sides of a rule line expanded, or the fault of their expansion
 abbrev pub expanded_sides : List Macro → List ℕ → List ℕ → Result (List ℕ × List ℕ) MakeCause

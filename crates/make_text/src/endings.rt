@@ -3,7 +3,7 @@
 ghost use Rattle.std.specs.Prelude.{◌≡◌, IfOk, filter, flat_map, not, reverse};
 ghost use Rattle.cc_names.specs.Answers.{Gives};
 ghost use Rattle.make_text.specs.Contents.{groups_of, is_suffix_rule, joined_rules, suffix_rules_of};
-ghost use Rattle.make_text.specs.Grammar.{contents_of, phony_fault};
+ghost use Rattle.make_text.specs.Grammar.{contents_of, ending_fault, phony_fault};
 ghost use Rattle.make_text.specs.Endings.{checked_reading};
 ghost use Rattle.make_text.specs.Joining.{KnowsGroups, rules_of};
 ghost use Rattle.make_text.specs.MacroChecks.{Finds};
@@ -148,6 +148,16 @@ fn contents_of(alloc: Global, hashing: RandomState, reading: Reading) -> Result<
     Ok(Makefile::of_parts(rules, prerequisites, suffix_rules, phony, macros))
 }
 
+/// Tests each macro, and then the phony targets.
+fn test_ending(alloc: Global, reading: &Reading) -> Result<(), Or<MakeError>>
+    ensures { Finds result (ending_fault reading.now) }
+{
+    match test_macros(alloc, reading.macros()) {
+        Ok(()) => test_phony(alloc, reading.phony(), reading.lines()),
+        Err(fault) => Err(fault),
+    }
+}
+
 /// What a makefile says, or the first fault behind its last line.
 pub(crate) fn checked(
     alloc: Global,
@@ -156,11 +166,8 @@ pub(crate) fn checked(
 ) -> Result<Makefile, Or<MakeError>>
     ensures { Gives result (checked_reading reading) }
 {
-    if let Err(fault) = test_macros(alloc, reading.macros()) {
-        return Err(fault);
+    match test_ending(alloc, &reading) {
+        Ok(()) => Ok(contents_of(alloc, hashing, reading)?),
+        Err(fault) => Err(fault),
     }
-    if let Err(fault) = test_phony(alloc, reading.phony(), reading.lines()) {
-        return Err(fault);
-    }
-    Ok(contents_of(alloc, hashing, reading)?)
 }

@@ -2,7 +2,7 @@
 
 ghost use Rattle.std.specs.Prelude.{◌≡◌, OnOk};
 ghost use Rattle.cc_names.specs.Answers.{Gives};
-ghost use Rattle.make_text.specs.Grammar.{lines_read};
+ghost use Rattle.make_text.specs.Grammar.{lines_behind, lines_read};
 ghost use Rattle.make_text.specs.LogicalLines.{logical_lines};
 ghost use Rattle.make_text.specs.ReadingSteps.{Leaves, counted_line_read};
 ghost use Rattle.make_text.specs.Readers.{Keeps};
@@ -168,6 +168,26 @@ fn include_line<X: Texts>(
     Ok(())
 }
 
+/// Reads the macros of the command line, and then the lines of a makefile.
+fn read_behind<X: Texts>(
+    reader: &mut Reader,
+    alloc: Global,
+    texts: &X,
+    file: &Rc<Path>,
+    text: &[u8],
+    overrides: &[Macro],
+) -> Result<(), Or<MakeError>>
+    requires { Keeps reader.old.scripted.keys reader.old.reading.rules }
+    ensures { Leaves result reader.new.reading
+        (lines_behind (X.texts texts.now) file.now.value text.now overrides.now
+        reader.old.reading) }
+{
+    match reader.fix_all(alloc, file, overrides) {
+        Ok(()) => read_lines(reader, alloc, texts, DEPTH_LIMIT, file, text),
+        Err(fault) => Err(fault),
+    }
+}
+
 /// Reads the lines of a makefile behind the macros of the command line. Takes time linear in the texts, in the values of the
 /// macros that each line reaches, and in what the lines expand to.
 pub(crate) fn read_all<X: Texts>(
@@ -182,11 +202,7 @@ pub(crate) fn read_all<X: Texts>(
         (lines_read (X.texts texts.now) file.now.value text.now overrides.now) }
 {
     let mut reader = Reader::new(alloc, hashing)?;
-    match reader.fix_all(alloc, file, overrides) {
-        Ok(()) => {}
-        Err(fault) => return Err(fault),
-    }
-    match read_lines(&mut reader, alloc, texts, DEPTH_LIMIT, file, text) {
+    match read_behind(&mut reader, alloc, texts, file, text, overrides) {
         Ok(()) => Ok(reader.into_reading()),
         Err(fault) => Err(fault),
     }

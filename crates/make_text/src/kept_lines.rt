@@ -56,27 +56,41 @@ fn script_bytes(alloc: Global, script: Option<Rc<Vec<u8>>>) -> Result<Vec<u8>, N
     }
 }
 
+/// A line of a script without its tab.
+fn behind_tab(line: &[u8]) -> &[u8]
+    ensures { result.now ≡ drop 1 line.now }
+{
+    match line.split_first() {
+        Some((_, rest)) => rest,
+        None => line,
+    }
+}
+
+/// Puts a line, with its newline, behind a script.
+fn put_line(script: &mut Vec<u8>, line: &[u8]) -> Result<(), NoMemory>
+    ensures { OnOk result (script.new.items ≡ script.old.items ++ line.now ++ (10 ∷ [])) }
+{
+    script.extend_from_slice(line)?;
+    script.push(b'\n')?;
+    Ok(())
+}
+
 /// A script with a line of it behind, without its tab and with its newline.
-fn with_line(alloc: Global, script: Vec<u8>, line: &[u8]) -> Result<Rc<Vec<u8>>, NoMemory>
+fn with_line(alloc: Global, mut script: Vec<u8>, line: &[u8]) -> Result<Rc<Vec<u8>>, NoMemory>
     ensures { IfOk result
         (λ longer. longer.value.items ≡ script.items ++ drop 1 line.now ++ (10 ∷ [])) }
 {
-    let mut longer = script;
-    if let Some((_, rest)) = line.split_first() {
-        longer.extend_from_slice(rest)?;
-    }
-    longer.push(b'\n')?;
-    Ok(Rc::new(alloc, longer)?)
+    put_line(&mut script, behind_tab(line))?;
+    Ok(Rc::new(alloc, script)?)
 }
 
 impl RuleLine {
     /// A rule line without a script, of this file and number.
     pub(crate) fn of(
-        alloc: Global,
         file: &Rc<Path>,
         line: u32,
         targets: List<Path>,
-        prerequisites: List<Path>,
+        prerequisites: Rc<List<Path>>,
         is_group: bool,
         is_special: bool,
     ) -> Result<RuleLine, NoMemory>
@@ -87,7 +101,7 @@ impl RuleLine {
               file = file.now.value;
               line = line;
               targets = targets;
-              prerequisites = prerequisites;
+              prerequisites = prerequisites.value;
               is_group = is_group;
               is_special = is_special;
               script = None;
@@ -97,7 +111,7 @@ impl RuleLine {
             file: file.clone()?,
             line,
             targets,
-            prerequisites: Rc::new(alloc, prerequisites)?,
+            prerequisites,
             is_group,
             is_special,
             script: None,

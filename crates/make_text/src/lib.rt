@@ -14,8 +14,6 @@
 
 pub mod contents;
 mod endings;
-#[cfg(test)]
-mod expansion_tests;
 mod expansions;
 mod gathering;
 mod including;
@@ -23,14 +21,10 @@ mod joining;
 mod kept_lines;
 pub mod laws;
 mod line_kinds;
-#[cfg(test)]
-mod line_tests;
 mod logical_lines;
 mod macro_checks;
 mod macros;
 pub mod numbers;
-#[cfg(test)]
-mod piece_tests;
 mod pieces;
 mod readers;
 mod readings;

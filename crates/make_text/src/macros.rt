@@ -25,6 +25,30 @@ pub(crate) struct Defined {
     pub(crate) is_fixed: bool,
 }
 
+impl Defined {
+    /// What a macro of this value is defined as at a line of a file.
+    pub(crate) fn at(
+        alloc: Global,
+        file: &Rc<Path>,
+        line: u32,
+        value: &[u8],
+        is_fixed: bool,
+    ) -> Result<Defined, NoMemory>
+        ensures value { IfOk result (λ made. made.value ≡ value.now) }
+        ensures file { IfOk result (λ made. made.file.value ≡ file.now.value) }
+        ensures line { IfOk result (λ made. made.line ≡ line) }
+        ensures is_fixed { IfOk result (λ made. made.is_fixed ≡ is_fixed) }
+    {
+        let file = file.clone()?;
+        Ok(Defined {
+            value: Text::from_bytes(alloc, value)?,
+            file,
+            line,
+            is_fixed,
+        })
+    }
+}
+
 /// The macros of a makefile: of each name the definition that counts, in the order of first definition. Contracts see them
 /// as their list.
 #[derive(Drop)]

@@ -5,7 +5,7 @@ ghost use Rattle.cc_names.specs.Answers.{FaultIs};
 ghost use Rattle.make_text.specs.Grammar.{nothing_read};
 ghost use Rattle.make_text.specs.MacroEntries.{definition_in};
 ghost use Rattle.make_text.specs.Readers.{open_rule};
-ghost use Rattle.make_text.specs.ReadingSteps.{Leaves, counted_line, counted_file, with_defined, ended_rule, with_special, with_newest_line};
+ghost use Rattle.make_text.specs.ReadingSteps.{Leaves, counted_line, counted_file, with_defined, ended_rule, with_special, with_newest_line, line_of_words, with_next_rule};
 ghost use Rattle.make_text.specs.Statements.{fault_at, assignment, override, with_rule, within_limits};
 
 use crate::kept_lines::RuleLine;
@@ -91,6 +91,27 @@ fn more(count: u64, by: usize) -> Result<u64, NoMemory>
         Some(sum) => Ok(sum),
         None => Err(NoMemory),
     }
+}
+
+/// The rule line of these words, without a script.
+fn line_of_words(
+    alloc: Global,
+    hashing: RandomState,
+    file: &Rc<Path>,
+    line: u32,
+    words: RuleWords,
+) -> Result<RuleLine, NoMemory>
+    ensures { IfOk result (λ rule. rule ≡ line_of_words file.now.value line words) }
+{
+    let RuleWords {
+        is_group,
+        targets,
+        prerequisites,
+    } = words;
+    let is_special = has_special(targets.as_slice());
+    let prerequisites = Rc::new(alloc, prerequisites)?;
+    let targets = plain_targets(alloc, hashing, is_group, targets)?;
+    RuleLine::of(file, line, targets, prerequisites, is_group, is_special)
 }
 
 impl Reading {
@@ -214,11 +235,12 @@ impl Reading {
         self.takes_script = false;
     }
 
-    /// Defines a macro.
-    fn define(&mut self, name: Text, defined: Defined) -> Result<(), NoMemory>
-        ensures { OnOk result (self.new ≡ with_defined (definition_in (name, defined)) self.old) }
+    /// Defines a macro of this name.
+    fn define(&mut self, alloc: Global, name: &[u8], defined: Defined) -> Result<(), NoMemory>
+        ensures { OnOk result
+            (self.new ≡ with_defined (definition_in (name.now, defined)) self.old) }
     {
-        self.macros.define(name, defined)?;
+        self.macros.define(Text::from_bytes(alloc, name)?, defined)?;
         Ok(())
     }
 
@@ -237,13 +259,8 @@ impl Reading {
         if let Some(cause) = macro_fault(name, value) {
             return Err(fault_at(alloc, file, line, cause));
         }
-        let defined = Defined {
-            value: Text::from_bytes(alloc, value)?,
-            file: file.clone()?,
-            line,
-            is_fixed: false,
-        };
-        self.define(Text::from_bytes(alloc, name)?, defined)?;
+        let defined = Defined::at(alloc, file, line, value, false)?;
+        self.define(alloc, name, defined)?;
         self.takes_script = false;
         Ok(())
     }
@@ -261,13 +278,8 @@ impl Reading {
         if let Some(cause) = macro_fault(name, value) {
             return Err(fault_at(alloc, file, 0, cause));
         }
-        let defined = Defined {
-            value: Text::from_bytes(alloc, value)?,
-            file: file.clone()?,
-            line: 0,
-            is_fixed: true,
-        };
-        self.define(Text::from_bytes(alloc, name)?, defined)?;
+        let defined = Defined::at(alloc, file, 0, value, true)?;
+        self.define(alloc, name, defined)?;
         Ok(())
     }
 
@@ -297,23 +309,15 @@ impl Reading {
         ensures { OnOk result (self.new ≡ with_rule file.now.value line words self.old) }
     {
         self.take_special(alloc, &words)?;
-        let RuleWords {
-            is_group,
-            targets,
-            prerequisites,
-        } = words;
-        let is_special = has_special(targets.as_slice());
-        let targets = plain_targets(alloc, hashing, is_group, targets)?;
-        self.targets = more(self.targets, targets.len())?;
-        self.rules.push(RuleLine::of(
-            alloc,
-            file,
-            line,
-            targets,
-            prerequisites,
-            is_group,
-            is_special,
-        )?)?;
+        self.put_rule(line_of_words(alloc, hashing, file, line, words)?)
+    }
+
+    /// Puts a rule line behind the others.
+    fn put_rule(&mut self, rule: RuleLine) -> Result<(), NoMemory>
+        ensures { OnOk result (self.new ≡ with_next_rule rule self.old) }
+    {
+        self.targets = more(self.targets, rule.targets().len())?;
+        self.rules.push(rule)?;
         self.takes_script = true;
         Ok(())
     }

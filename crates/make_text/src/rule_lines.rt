@@ -10,7 +10,7 @@ ghost use Rattle.make_text.specs.Lines.{is_byte};
 ghost use Rattle.make_text.specs.Macros.{Expansion, followed, plain, is_among, is_macro_name, has_bad_dollar, expansion_of, no_automatic};
 ghost use Rattle.make_text.specs.Steps.{IsOutcome};
 ghost use Rattle.make_text.specs.Statements.{macros_of, expanded_by, or_cause, where_so, macro_fault, expansion_fault, is_special, suffixes_name, is_suffix_byte, is_suffix, is_grouped, before_mark, mark_of, is_semicolon, rule_bytes_fault, line_words_fault, rule_words, include_words_fault, include_words};
-ghost use Rattle.make_text.specs.RuleLines.{below_root, rule_of_sides, expanded_sides};
+ghost use Rattle.make_text.specs.RuleLines.{below_root, rule_of_paths, rule_of_words, rule_of_sides, expanded_sides};
 
 use crate::expansions::{Automatic, EXPANSION_LIMIT, Outcome, expand};
 use crate::macros::MacroTable;
@@ -164,6 +164,43 @@ fn paths_of(alloc: Global, words: &[&[u8]]) -> Result<List<Path>, Or<MakeCause>>
     }
 }
 
+/// A rule line of these targets and prerequisites, which are paths below the root.
+fn rule_of_paths(
+    alloc: Global,
+    is_group: bool,
+    targets: &[&[u8]],
+    prerequisites: &[&[u8]],
+) -> Result<RuleWords, Or<MakeCause>>
+    ensures { Gives result
+        (rule_of_paths is_group (map (λ word. word.now) targets.now)
+        (map (λ word. word.now) prerequisites.now)) }
+{
+    let targets = paths_of(alloc, targets)?;
+    let prerequisites = paths_of(alloc, prerequisites)?;
+    Ok(RuleWords {
+        is_group,
+        targets,
+        prerequisites,
+    })
+}
+
+/// A rule line of these words, or why it is refused.
+fn rule_of_words(
+    alloc: Global,
+    is_group: bool,
+    targets: &[&[u8]],
+    prerequisites: &[&[u8]],
+) -> Result<RuleWords, Or<MakeCause>>
+    ensures { Gives result
+        (rule_of_words is_group (map (λ word. word.now) targets.now)
+        (map (λ word. word.now) prerequisites.now)) }
+{
+    match words_fault(is_group, targets, prerequisites) {
+        Some(cause) => Err(Or::Is(cause)),
+        None => rule_of_paths(alloc, is_group, targets, prerequisites),
+    }
+}
+
 /// A rule line by what its sides expand to.
 fn rule_of_sides(
     alloc: Global,
@@ -175,16 +212,12 @@ fn rule_of_sides(
 {
     let targets = words(alloc, before)?;
     let prerequisites = words(alloc, behind)?;
-    if let Some(cause) = words_fault(is_group, targets.as_slice(), prerequisites.as_slice()) {
-        return Err(Or::Is(cause));
-    }
-    let targets = paths_of(alloc, targets.as_slice())?;
-    let prerequisites = paths_of(alloc, prerequisites.as_slice())?;
-    Ok(RuleWords {
+    rule_of_words(
+        alloc,
         is_group,
-        targets,
-        prerequisites,
-    })
+        targets.as_slice(),
+        prerequisites.as_slice(),
+    )
 }
 
 /// A text expanded outside scripts.

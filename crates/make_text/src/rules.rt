@@ -1,6 +1,6 @@
 // The rules of a makefile.
 
-ghost use Rattle.std.specs.Prelude.{◌≡◌, ◌==◌, ◌&&◌, IfOk, OnOk, is_some, length, option_copied, option_map};
+ghost use Rattle.std.specs.Prelude.{◌≡◌, ◌==◌, ◌&&◌, [], IfOk, OnOk, is_some, length, option_copied, option_map};
 ghost use Rattle.make_text.specs.Contents.{rule_without, with_line};
 
 use crate::kept_lines::RuleLine;
@@ -11,7 +11,7 @@ use cc_names::memory::NoMemory;
 use cc_names::paths::Path;
 use cc_names::texts::Text;
 use indexmap::IndexSet;
-use std::alloc::Global;
+use std::alloc::{AllocError, Global};
 use std::hash::RandomState;
 use std::marker::Model;
 use std::rc::Rc;
@@ -58,6 +58,13 @@ impl Model for SuffixRule {
     ghost Value = { SuffixRule };
 
     ghost view = { λ r. record { from = r.from; to = r.to; script = r.script.value.items } };
+}
+
+/// The paths of a set as a list.
+fn listed(alloc: Global, paths: IndexSet<Path, RandomState>) -> Result<List<Path>, AllocError>
+    ensures { IfOk result (λ listed. listed ≡ paths.keys) }
+{
+    Ok(List::of(paths.into_iter().collect(alloc)?))
 }
 
 impl MakeRule {
@@ -143,10 +150,23 @@ impl MakeRule {
         ensures { IfOk result (λ paths. paths ≡ self.now.prerequisites) }
     {
         let mut paths = IndexSet::with_hasher(alloc, hashing);
+        self.put_prerequisites(alloc, &mut paths)?;
+        Ok(listed(alloc, paths)?)
+    }
+
+    /// Puts those of the prerequisites that are not there behind paths.
+    fn put_prerequisites(
+        &self,
+        alloc: Global,
+        paths: &mut IndexSet<Path, RandomState>,
+    ) -> Result<(), NoMemory>
+        requires { paths.old.keys ≡ [] }
+        ensures { OnOk result (paths.new.keys ≡ self.now.prerequisites) }
+    {
         for part in &self.parts {
-            put_paths(alloc, &mut paths, part.as_slice())?;
+            put_paths(alloc, paths, part.as_slice())?;
         }
-        Ok(List::of(paths.into_iter().collect(alloc)?))
+        Ok(())
     }
 
     /// A copy that shares what it can. Takes time and memory linear in the targets and the lines that were joined to it.

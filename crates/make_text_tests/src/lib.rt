@@ -1,4 +1,4 @@
-// The tests of `make_text` that need nothing private of it: tables of makefiles, right and wrong.
+// The tests of `make_text`: tables of makefiles, right and wrong.
 //
 // What it stands on: `make_text` and `cc_names`.
 #![tactic(auto)]
@@ -6,6 +6,10 @@
 #[cfg(test)]
 mod causes;
 #[cfg(test)]
+mod expansions;
+#[cfg(test)]
 mod files;
+#[cfg(test)]
+mod limits;
 #[cfg(test)]
 mod makefiles;

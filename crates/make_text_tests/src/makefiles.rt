@@ -1,39 +1,63 @@
 // What makefiles say.
 
 use crate::files::{TwoTexts, read};
-use cc_names::commands::Macro;
 use cc_names::memory::NoMemory;
 use cc_names::paths::Path;
 use cc_names::texts::Text;
-use make_text::contents::{Expanded, Makefile};
+use make_text::contents::Makefile;
 use make_text::rules::{MakeRule, SuffixRule};
-use std::alloc::{AllocError, Global};
+use std::alloc::Global;
 use std::hash::RandomState;
 use std::test::Fail;
 
-// A rule as words: targets, prerequisites and the script in brackets.
-fn words_of_rule(alloc: Global, hashing: RandomState, rule: &MakeRule) -> Result<String, NoMemory> {
+fn words_of_paths(
+    alloc: Global,
+    before: &str,
+    paths: &[Path],
+    behind: &str,
+) -> Result<String, NoMemory> {
     let mut words = String::new(alloc);
-    for target in rule.targets() {
-        words.push_str(format!(in alloc; "{target} ")?.as_str())?;
+    for path in paths {
+        words.push_str(format!(in alloc; "{before}{path}{behind}")?.as_str())?;
     }
-    words.push_str(":")?;
-    for path in rule.prerequisites(alloc, hashing)?.as_slice() {
-        words.push_str(format!(in alloc; " {path}")?.as_str())?;
-    }
-    if let Some(script) = rule.script() {
-        let script = Text::from_bytes(alloc, script)?;
-        words.push_str(format!(in alloc; " [{script}]")?.as_str())?;
-    }
-    words.push_str("|")?;
     Ok(words)
+}
+
+// A script in brackets, each of its lines with a `;` behind it.
+fn words_of_script(alloc: Global, script: &[u8]) -> Result<String, NoMemory> {
+    let mut words = String::from_str(alloc, " [")?;
+    for byte in script {
+        words.push(if *byte == b'\n' {
+            ';'
+        } else {
+            char::from(*byte)
+        })?;
+    }
+    words.push(']')?;
+    Ok(words)
+}
+
+fn words_of_any_script(alloc: Global, script: Option<&[u8]>) -> Result<String, NoMemory> {
+    match script {
+        Some(script) => words_of_script(alloc, script),
+        None => Ok(String::new(alloc)),
+    }
+}
+
+// A rule as words: targets, prerequisites and the script.
+fn words_of_rule(alloc: Global, hashing: RandomState, rule: &MakeRule) -> Result<String, NoMemory> {
+    let prerequisites = rule.prerequisites(alloc, hashing)?;
+    let targets = words_of_paths(alloc, "", rule.targets(), " ")?;
+    let paths = words_of_paths(alloc, " ", prerequisites.as_slice(), "")?;
+    let script = words_of_any_script(alloc, rule.script())?;
+    Ok(format!(in alloc; "{targets}:{paths}{script}|")?)
 }
 
 fn words_of_suffix_rule(alloc: Global, rule: &SuffixRule) -> Result<String, NoMemory> {
     let from = Text::from_bytes(alloc, rule.from_suffix())?;
     let to = Text::from_bytes(alloc, rule.to_suffix())?;
-    let script = Text::from_bytes(alloc, rule.script())?;
-    Ok(format!(in alloc; "{from} to {to} [{script}]|")?)
+    let script = words_of_script(alloc, rule.script())?;
+    Ok(format!(in alloc; "{from} to {to}{script}|")?)
 }
 
 // The rules as words, and then the suffix rules.
@@ -48,102 +72,74 @@ fn words_of(alloc: Global, hashing: RandomState, make: &Makefile) -> Result<Stri
     Ok(words)
 }
 
-#[test]
-fn makefiles_are_read(rt: HostRuntime) -> Result<(), Fail> {
-    let table = [
-        ("", ""),
-        ("O = a.o b.o\nall: $(O)\n", "all : a.o b.o|"),
-        ("a b: c d c\nb: e\n\techo\n", "a : c d|b : c d e [echo\n]|"),
-        ("a b &: c\n\techo\nb: d\n", "a b : c d [echo\n]|"),
-        ("a b &: c\n", "a : c|b : c|"),
-        ("a a b: c c d\na: d e\n", "a : c d e|b : c d|"),
-        (
-            "x &: c\na b &: d\n\techo\nb c: e d\n",
-            "x : c|a b : d e [echo\n]|c : e d|",
-        ),
-        (
-            ".c.o:\n\tcc $<\n.h.o: x\n\tno\n",
-            ".h.o : x [no\n]|.c to .o [cc $<\n]|",
-        ),
-        (".SUFFIXES:\n.c.o:\n\tcc\n", ".c.o : [cc\n]|"),
-        (
-            ".SUFFIXES: .z\n.z.o:\n\tz\n.o.z:\n\to\n",
-            ".o to .z [o\n]|.z to .o [z\n]|",
-        ),
-    ];
-    for (text, want) in table {
-        let texts = TwoTexts {
-            main: text.as_bytes(),
-            other: b"",
-        };
-        let hashing = RandomState::new(&rt)?;
-        let Ok(make) = read(rt.alloc(), hashing, &texts, &[]) else {
-            panic!(&rt; "{text:?} is a makefile");
-        };
-        let said = words_of(rt.alloc(), hashing, &make)?;
-        assert_eq!(rt; said.as_str(), want, "of {text:?}");
-    }
-    Ok(())
-}
+// Makefiles, and what they say.
+const MAKEFILES: &str = "\
+=> 
+=> all : a.o b.o|
+O = a.o b.o
+all: $(O)
+=> a : c d|b : c d e [echo;]|
+a b: c d c
+b: e
+\techo
+=> a b : c d [echo;]|
+a b &: c
+\techo
+b: d
+=> a : c|b : c|
+a b &: c
+=> a : c d e|b : c d|
+a a b: c c d
+a: d e
+=> x : c|a b : d e [echo;]|c : e d|
+x &: c
+a b &: d
+\techo
+b c: e d
+=> a : [a b;c;d e  ;]|
+a:
+\ta\\
+\tb
+\tc
+\td\\
+ \t e \\
 
-// The macro `A` of the command line.
-fn fixed(alloc: Global, value: &str) -> Result<Vec<Macro>, NoMemory> {
-    let mut macros = Vec::new(alloc);
-    macros.push(Macro {
-        name: Text::from_bytes(alloc, b"A")?,
-        value: Text::from_bytes(alloc, value.as_bytes())?,
-    })?;
-    Ok(macros)
-}
+=> .h.o : x [no;]|.c to .o [cc $<;]|
+.c.o:
+\tcc $<
+.h.o: x
+\tno
+=> .c.o : [cc;]|
+.SUFFIXES:
+.c.o:
+\tcc
+=> .o to .z [o;]|.z to .o [z;]|
+.SUFFIXES: .z
+.z.o:
+\tz
+.o.z:
+\to
+";
 
-#[test]
-fn the_command_line_overrides(rt: HostRuntime) -> Result<(), Fail> {
-    let macros = fixed(rt.alloc(), "two")?;
+// What a makefile says, or that it is none.
+fn words_of_text(alloc: Global, hashing: RandomState, text: &str) -> Result<String, NoMemory> {
     let texts = TwoTexts {
-        main: b"A = one\nB = <$A>\n",
+        main: text.as_bytes(),
         other: b"",
     };
-    let Ok(make) = read(
-        rt.alloc(),
-        RandomState::new(&rt)?,
-        &texts,
-        macros.as_slice(),
-    ) else {
-        panic!(&rt; "it is a makefile");
-    };
-    let target = Path::read(rt.alloc(), b"t")?;
-    let expanded = make.expand(rt.alloc(), b"$B $@", &target, None, b"")?;
-    assert!(rt;
-        matches!(&expanded, Expanded::Lines(text) if text.as_bytes() == b"<two> t".as_slice())
-    );
-    Ok(())
-}
-
-// So many macros, each of which refers to the next, once or twice. The last refers to none that is defined.
-fn chain(alloc: Global, count: u32, twice: bool) -> Result<String, AllocError> {
-    let mut text = String::new(alloc);
-    let mut index: u32 = 0;
-    for _ in 0..count {
-        index = index.saturating_add(1);
-        text.push_str(format!(in alloc; "A{index} = $(A{})", index.saturating_add(1))?.as_str())?;
-        if twice {
-            text.push_str(format!(in alloc; "$(A{})", index.saturating_add(1))?.as_str())?;
-        }
-        text.push_str("\n")?;
+    match read(alloc, hashing, &texts, &[]) {
+        Ok(make) => words_of(alloc, hashing, &make),
+        Err(_) => Ok(String::from_str(alloc, "no makefile")?),
     }
-    Ok(text)
 }
 
 #[test]
-fn long_chains_are_tested_at_once(rt: HostRuntime) -> Result<(), Fail> {
-    for (count, twice) in [(99_999, false), (60, true)] {
-        let text = chain(rt.alloc(), count, twice)?;
-        let texts = TwoTexts {
-            main: text.as_bytes(),
-            other: b"",
-        };
-        let made = read(rt.alloc(), RandomState::new(&rt)?, &texts, &[]);
-        assert!(&rt; made.is_ok(), "a chain of macros is no loop");
+fn makefiles_are_read(rt: HostRuntime) -> Result<(), Fail> {
+    for case in MAKEFILES.split("=> ") {
+        if let Some((wanted, text)) = case.split_once('\n') {
+            let said = words_of_text(rt.alloc(), RandomState::new(&rt)?, text)?;
+            assert_eq!(rt; said.as_str(), wanted, "of {text:?}");
+        }
     }
     Ok(())
 }

@@ -1,6 +1,6 @@
 -- What the turns of a lane do to the story.
-use Rattle.std.proofs.Common.{◌≡◌, ℕ, ◌-◌, ◌<◌, Bool, true, false, ◌&&◌, Option, Some, None, Result, Ok, List, [], ◌∷◌, refl, ap, ap₂, sym, subst, ◌∙◌, arith}
-use Rattle.std.specs.Prelude.{IfSome, IsSome, not, option_map, option_and_then, unwrap_or}
+use Rattle.std.proofs.Common.{◌≡◌, ℕ, ◌-◌, ◌<◌, Bool, true, false, ◌&&◌, Option, Some, None, Result, Ok, Err, List, [], ◌∷◌, refl, ap, ap₂, sym, subst, ◌∙◌, arith}
+use Rattle.std.specs.Prelude.{IfSome, IsSome, not, option_map, option_and_then}
 use Rattle.cc_names.specs.declared.commands.Command.{Command}
 use Rattle.cc_names.specs.declared.commands.Command.TheVariants as commands
 use Rattle.cc_names.specs.declared.desks.Done.{Done}
@@ -11,7 +11,6 @@ use Rattle.cc_names.specs.declared.rows.Tag.{Tag}
 use Rattle.cc_names.specs.declared.rows.Deed.{Deed}
 use Rattle.cc_names.specs.declared.rows.Deed.TheVariants as deeds
 use Rattle.cc_names.specs.declared.rows.TypeKind.TheVariants as type_kinds
-use Rattle.cc_names.specs.declared.selection.Picked.{Picked}
 use Rattle.cc_names.specs.declared.selection.Seen.{Seen}
 use Rattle.cc_names.specs.declared.selection.Seen.TheVariants.{Element, Unselected}
 use Rattle.cc_names.specs.declared.steps.Step.TheVariants as steps
@@ -20,28 +19,17 @@ use Rattle.cc_names.specs.declared.steps.Told.TheVariants as told
 use Rattle.base_core.proofs.Keeping.Idle.{decided_is_free}
 use Rattle.base_core.specs.Calls.Acting.{Acts, IsStepOf}
 use Rattle.carried_out.specs.CarriedOut.{is_carried_out, AreCarriedOut}
-use Rattle.carried_out.specs.Queries.{asks}
+use Rattle.legal_history.specs.Queries.QueryLines.{is_query}
 use Rattle.base_core.specs.Calls.Going.{SamePhase, Finishes, GoesOn}
 use Rattle.base_core.specs.Keeping.Nexts.{next_of, next_by, waiting}
 use Rattle.std.proofs.lemmas.List.{append-nil}
 use Rattle.legal_history.specs.Base.Rows.{only_where}
 use Rattle.legal_history.specs.Builds.Active.{build_of}
-use Rattle.cc_names.specs.Paths.{root}
-use Rattle.cc_names.specs.References.{held_at}
-use Rattle.legal_history.specs.Base.Changes.{held}
-use Rattle.legal_history.specs.Base.Seen.{at}
-use Rattle.legal_history.specs.Base.Views.{spec_text}
-use Rattle.legal_history.specs.Commands.Decisions.{Scene, Decision, Answers, Makes, answers, first_refusal, past, unless_refused}
-use Rattle.legal_history.specs.Commands.Tests.{needs_view}
-use Rattle.legal_history.specs.Queries.ElementTexts.{describe_text, lsvtree_text}
-use Rattle.legal_history.specs.Queries.HistoryTexts.{lshistory_text}
-use Rattle.legal_history.specs.Queries.ListingTexts.{ls_text, lsdo_text}
-use Rattle.legal_history.specs.Queries.Merges.{findmerge_text}
-use Rattle.legal_history.specs.Queries.QueryLines.{ls_tests, cat_tests, cat_version_tests, findmerge_tests, text_at, text_row, version_seen, answers_of, answers_of_object}
-use Rattle.legal_history.specs.Queries.RecordTexts.{catcr_text, diffcr_text, covers_text, uncovered}
+use Rattle.legal_history.specs.Commands.Decisions.{Scene, Decision, Makes, unless_refused}
 use Rattle.legal_history.specs.Commands.FileLines.{save_deed}
-use Rattle.legal_history.specs.Commands.Found.{for_object, for_selected}
 use Rattle.legal_history.specs.Commands.Lines.{decision}
+use Rattle.legal_history.proofs.Decisions.Handed.{IfDecided}
+use Rattle.legal_history.proofs.Decisions.Queried.{query_is}
 use Rattle.legal_history.specs.Stories.States.{State, start, scene, done_of, with_done, is_next, next_tag, decided, lane_at, build_if, build_by}
 use Rattle.legal_history.specs.Stories.Steps.{after, done_after, done_by_fault, state_of}
 use Rattle.session_run.specs.Begun.{is_opened}
@@ -59,69 +47,23 @@ unfolding EndsCommand
 makes_ends None deed h = h
 makes_ends (Some refusal) deed h = tt
 
-answers_end : (refusal : Option Refusal) (text : List ℕ) → EndsCommand (Some (unless_refused refusal (Answers text)))
+ends_if : (chosen : Result Decision Refusal) → IfDecided (λ decision. EndsCommand (Some (Ok decision))) chosen → EndsCommand (Some chosen)
 unfolding EndsCommand
-answers_end None text = tt
-answers_end (Some refusal) text = tt
-
-past_ends : (tests : List (Option Refusal)) (chosen : Result Decision Refusal) → EndsCommand (Some chosen) → EndsCommand (Some (past tests chosen))
-unfolding EndsCommand
-past_ends [] chosen h = h
-past_ends (Some refusal ∷ tests) chosen h = tt
-past_ends (None ∷ tests) chosen h = past_ends tests chosen h
-
-selected_ends : (path : List ℕ) (seen : Seen) (more : ℕ → Picked → Result Decision Refusal) → ((e : ℕ) (picked : Picked) → EndsCommand (Some (more e picked))) → EndsCommand (Some (for_selected path seen more))
-unfolding EndsCommand
-selected_ends path (Element e picked) more h = h e picked
-selected_ends path seen more h = tt
-
-object_ends : (path : List ℕ) (found : Option ℕ) (more : ℕ → Result Decision Refusal) → ((id : ℕ) → EndsCommand (Some (more id))) → EndsCommand (Some (for_object path found more))
-unfolding EndsCommand
-object_ends path (Some id) more h = h id
-object_ends path None more h = tt
-
--- what is answered of the element that a view selects makes no row
-of_selected : (sc : Scene) (v path : List ℕ) (text : ℕ → Picked → List ℕ) → EndsCommand (Some (answers_of sc v path text))
-of_selected sc v path text =
-    past_ends (needs_view sc.base v ∷ []) (for_selected path (at sc.base v path) (λ e picked. answers [] (text e picked)))
-    (selected_ends path (at sc.base v path) (λ e picked. answers [] (text e picked)) (λ e picked. answers_end None (text e picked)))
-
--- what is answered of the object that a view holds makes no row
-of_object : (sc : Scene) (v path : List ℕ) (text : ℕ → List ℕ) → EndsCommand (Some (answers_of_object sc v path text))
-of_object sc v path text =
-    object_ends path (held_at (held sc.base) v path) (λ id. answers [] (text id)) (λ id. answers_end None (text id))
+ends_if (Ok decision) so = so decision refl
+ends_if (Err refusal) so = tt
 
 -- a query makes no row
-query_ends : (sc : Scene) (command : Command) → asks command ≡ true → EndsCommand (Some (decision sc command))
-query_ends sc (commands.Catcs v) h = answers_end (first_refusal (needs_view sc.base v ∷ [])) (unwrap_or (spec_text sc.base v) [])
-query_ends sc (commands.Lsdo v) h = answers_end (first_refusal (needs_view sc.base v ∷ [])) (lsdo_text sc.base v)
-query_ends sc (commands.Ls v path) h = answers_end (first_refusal (ls_tests sc v (unwrap_or path root))) (ls_text sc.base v (unwrap_or path root))
-query_ends sc (commands.Cat v path None) h =
-    answers_end (first_refusal (cat_tests sc v path (at sc.base v path))) (text_at sc.base path (text_row sc.base v path (at sc.base v path)))
-query_ends sc (commands.Cat v path (Some name)) h =
-    answers_end (first_refusal (cat_version_tests sc v path (at sc.base v path) name)) (text_at sc.base path (version_seen sc.base (at sc.base v path) name))
-query_ends sc (commands.Describe v path) h = of_selected sc v path (describe_text sc.base v)
-query_ends sc (commands.Lsvtree v path) h = of_selected sc v path (λ e picked. lsvtree_text sc.base path e)
-query_ends sc (commands.Lshistory v path) h = of_selected sc v path (λ e picked. lshistory_text sc.base e)
-query_ends sc (commands.Catcr v path) h =
-    past_ends (needs_view sc.base v ∷ []) (answers_of_object sc v path (catcr_text sc.base)) (of_object sc v path (catcr_text sc.base))
-query_ends sc (commands.Diffcr v path w second) h =
-    past_ends (needs_view sc.base v ∷ needs_view sc.base w ∷ [])
-    (for_object path (held_at (held sc.base) v path) (λ one. answers_of_object sc w second (diffcr_text sc.base one)))
-    (object_ends path (held_at (held sc.base) v path) (λ one. answers_of_object sc w second (diffcr_text sc.base one)) (λ one. of_object sc w second (diffcr_text sc.base one)))
-query_ends sc (commands.Covers seer v path) h =
-    past_ends (needs_view sc.base seer ∷ needs_view sc.base v ∷ []) (answers_of_object sc v path (λ id. covers_text (uncovered sc.base seer id)))
-    (of_object sc v path (λ id. covers_text (uncovered sc.base seer id)))
-query_ends sc (commands.Findmerge v path branch) h =
-    answers_end (first_refusal (findmerge_tests sc v path branch (at sc.base v path))) (findmerge_text sc.base v path branch)
-query_ends sc command h = absurd (cc)
+query_ends : (sc : Scene) (command : Command) → is_query command ≡ true → EndsCommand (Some (decision sc command))
+unfolding EndsCommand
+query_ends sc command h =
+    ends_if (decision sc command) (query_is (λ decision. EndsCommand (Some (Ok decision))) sc command h (λ text. tt))
 
 saves_end : (v path text : List ℕ) (seen : Seen) (done : List (ℕ × ℕ)) (lane : ℕ) → done_after done lane (save_deed v path text seen) ≡ with_done done lane
 saves_end v path text (Element e picked) done lane = refl
 saves_end v path text (Unselected e) done lane = refl
 saves_end v path text seen done lane = refl
 
-decision_ends : (sc : Scene) (command : Command) (tag : Tag) → (not (asks command) && is_carried_out command) ≡ true → next_by (Some command) tag ≡ nexts.Act → EndsCommand (Some (decision sc command))
+decision_ends : (sc : Scene) (command : Command) (tag : Tag) → (not (is_query command) && is_carried_out command) ≡ true → next_by (Some command) tag ≡ nexts.Act → EndsCommand (Some (decision sc command))
 decision_ends sc (commands.Mkview v) tag h acts = makes_ends _ (deeds.Mkview v) (λ done lane. refl)
 decision_ends sc (commands.Rmview v force) tag h acts = makes_ends _ (deeds.Rmview v) (λ done lane. refl)
 decision_ends sc (commands.Save v path text) tag h acts = makes_ends _ _ (saves_end v path text _)
@@ -132,9 +74,9 @@ decision_ends sc (commands.Clearmake v file own_only rebuild jobs macros goals) 
 decision_ends sc command tag h acts = absurd (cc)
 
 command_ends : (sc : Scene) (command : Command) (tag : Tag) → is_carried_out command ≡ true → next_by (Some command) tag ≡ nexts.Act → EndsCommand (Some (decision sc command))
-command_ends sc command tag h acts = by (asks command) refl
+command_ends sc command tag h acts = by (is_query command) refl
   where
-    by : (query : Bool) → asks command ≡ query → EndsCommand (Some (decision sc command))
+    by : (query : Bool) → is_query command ≡ query → EndsCommand (Some (decision sc command))
     by true is = query_ends sc command is
     by false is = decision_ends sc command tag (ap₂ ◌&&◌ (ap not is) h) acts
 

@@ -11,6 +11,7 @@ pub mod Promises
 pub mod Ready
 pub mod Running
 pub mod Stopping
+pub mod StopStatuses
 pub mod Within
 mod Worked
 mod WorkedFaults

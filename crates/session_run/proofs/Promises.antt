@@ -179,7 +179,7 @@ run_cause (Ok true) true story phases intake outside faults disk by gives ran wr
 run_cause (Ok false) true story phases intake outside faults disk by gives ran wrote sound = (asked intake phases gives, by, λ opened. ran.finished)
 run_cause (Ok true) false story phases intake outside faults disk by gives ran wrote sound = (whole intake story phases outside true gives ran, ran.failures, by, sound)
 run_cause (Ok false) false story phases intake outside faults disk by gives ran wrote sound = (whole intake story phases outside false gives ran, ran.failures, by, sound)
-run_cause (Err NoMemory) rose story phases intake outside faults disk by gives left wrote sound = tt
+run_cause (Err NoMemory) rose story phases intake outside faults disk by gives left wrote sound = λ closed. not_false (is_opened story) left.opened closed
 run_cause (Err (Is fault)) rose story phases intake outside faults disk by gives left wrote sound = wrote
 
 -- Where no base was opened
@@ -273,13 +273,14 @@ stop_cause stops.TooLong intake faults disk h = (h, untouched disk)
 stop_cause (stops.BadSession error) intake faults disk h = (h.0, none_read intake error h.1, untouched disk)
 stop_cause (stops.Unopened (opens.Damaged row)) intake faults disk h = absurd h
 stop_cause (stops.Unopened opens.DiskFault) intake faults disk h = absurd h
-stop_cause (stops.Unopened opens.NoMemory) intake faults disk h = tt
+stop_cause (stops.Unopened opens.NoMemory) intake faults disk h = λ closed. refl
 
 -- a status that is no stop's is that of a cut
-cut_cause : (status : Status) (intake : Intake) (faults : Change ℕ) (disk : Change Sight) → is_cut status ≡ true → (status ≡ statuses.WriteFault → Rose faults.before faults.after) → HasCause status intake faults disk []
-cut_cause statuses.WriteFault intake faults disk e rose = rose refl
-cut_cause statuses.NoMemory intake faults disk e rose = tt
-cut_cause status intake faults disk e rose = absurd (cc)
+cut_cause : (status : Status) (intake : Intake) (faults : Change ℕ) (disk : Change Sight) → is_cut status ≡ true → (status ≡ statuses.WriteFault → Rose faults.before faults.after)
+    → (status ≡ statuses.NoMemory → disk.after.faults ≡ disk.before.faults) → HasCause status intake faults disk []
+cut_cause statuses.WriteFault intake faults disk e rose stood = rose refl
+cut_cause statuses.NoMemory intake faults disk e rose stood = λ closed. stood refl
+cut_cause status intake faults disk e rose stood = absurd (cc)
 
 cut_not_through : (status : Status) → is_cut status ≡ true → is_through status [] ≡ false
 cut_not_through statuses.WriteFault e = refl
@@ -299,9 +300,11 @@ not_through : (stop : Stop) (status : Status) (is : Bool) → is_cut status ≡ 
 not_through stop status true e h = cut_not_through status e
 not_through stop status false e h = ap (λ s. is_through s []) (h e) ∙ stop_not_through stop
 
-has_cause : (stop : Stop) (status : Status) (intake : Intake) (faults : Change ℕ) (disk : Change Sight) (is : Bool) → is_cut status ≡ is → HasCause (stop_status stop) intake faults disk [] → (is_cut status ≡ false → status ≡ stop_status stop) → (status ≡ statuses.WriteFault → Rose faults.before faults.after) → HasCause status intake faults disk []
-has_cause stop status intake faults disk true e h is rose = cut_cause status intake faults disk e rose
-has_cause stop status intake faults disk false e h is rose = subst (λ s. HasCause s intake faults disk []) (sym (is e)) h
+has_cause : (stop : Stop) (status : Status) (intake : Intake) (faults : Change ℕ) (disk : Change Sight) (is : Bool) → is_cut status ≡ is → HasCause (stop_status stop) intake faults disk [] → (is_cut status ≡ false → status ≡ stop_status stop) → (status ≡ statuses.WriteFault → Rose faults.before faults.after)
+    → (status ≡ statuses.NoMemory → stop ≡ stops.Unopened opens.NoMemory) → HasCause status intake faults disk []
+has_cause stop status intake faults disk true e h is rose memory =
+    cut_cause status intake faults disk e rose (λ so. subst (λ s. HasCause (stop_status s) intake faults disk []) (memory so) h refl)
+has_cause stop status intake faults disk false e h is rose memory = subst (λ s. HasCause s intake faults disk []) (sym (is e)) h
 
 stop_printed : (stop : Stop) (status : Status) (intake : Intake) (old new : Option (List ℕ)) (faults : Change ℕ) (disk : Change Sight) → IsFirst stop intake → HasCause (stop_status stop) intake faults disk [] → WritesStop stop status old new faults → ArePrinted status [] intake faults disk old new
 unfolding IsFirst
@@ -332,7 +335,7 @@ stops_so stop status intake outside faults disk same unread first cause wrote st
       built = built_none [] refl;
       printed = stop_printed stop status intake outside.held outside.holds faults disk first cause wrote;
       stopped = stopped;
-      cause = has_cause stop status intake faults disk (is_cut status) refl cause wrote.answer wrote.fault;
+      cause = has_cause stop status intake faults disk (is_cut status) refl cause wrote.answer wrote.fault wrote.memory;
       accounted = λ opened. absurd (cc);
       files = closed_files disk same;
     }
@@ -351,7 +354,7 @@ open_first (opens.Damaged row) false intake e = absurd (cc)
 open_first opens.DiskFault rose intake e = absurd (cc)
 
 open_cause : (because : OpenCause) (rose : Bool) (intake : Intake) (faults : Change ℕ) (disk : Change Sight) → disk_rose disk ≡ rose → IsAsked intake → StopsBy disk.before.told (λ d. frames (bytes_of 0 d)) because disk.before.faults disk.after.faults → HasCause (stop_status (open_stop because rose)) intake faults disk []
-open_cause opens.NoMemory rose intake faults disk by asked is = tt
+open_cause opens.NoMemory rose intake faults disk by asked is = λ closed. is
 open_cause (opens.Damaged row) true intake faults disk by asked is = (asked, by, λ opened. absurd (cc))
 open_cause (opens.Damaged row) false intake faults disk by asked is = (asked, is.1, by, refl)
 open_cause opens.DiskFault rose intake faults disk by asked is = (asked, is, λ opened. absurd (cc))

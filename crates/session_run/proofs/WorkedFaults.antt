@@ -111,3 +111,9 @@ made_up h = absurd (omega (arith, (h.ends.0 (omega arith)).1))
 -- a read that failed as the base was opened, and was made once more, is no fault of the first command
 reread : reads_first (Measured 0 ∷ Failed ∷ Fetched 0 0 4 ∷ []) ≡ false
 reread = refl
+
+-- What calls cannot tell: one that was made without need under a query, and failed, may be told of the command behind the query, since
+-- these are the calls of a run that is right. The calls of the core tell it.
+without_need : IsBlamed 0 (opened ∷ told.Other (steps.Answer (tag 1) []) ∷ fault 2 0 1 2 ∷ []) (device (Measured 0 ∷ Failed ∷ []))
+unfolding device opened fault
+without_need = record { opening = refl; ends = (λ within. (refl, refl, refl), tt); behind = (omega arith, omega arith) }

@@ -102,7 +102,7 @@ DiskDamaged disk row = IfTold disk.before.told (λ d. IsDamaged (frames (bytes_o
 abbrev pub DiskUndamaged : Change Sight → Type 0
 DiskUndamaged disk = IfTold disk.before.told (λ d. IsUndamaged (frames (bytes_of 0 d)))
 
--- *The cause of each status*. Memory may run out anywhere. The other causes exclude one another, a failed source and a failed
+-- *The cause of each status*. Memory may run out anywhere, but where no base was opened it hides no fault of the disk. The other causes exclude one another, a failed source and a failed
 -- sink aside, so each status but those comes exactly where its cause does, unless the sink fails or memory runs out. Where the
 -- disk failed and a base was opened, each command is finished.
 abbrev pub HasCause : Status → Intake → Change ℕ → Change Sight → List Told → Type 0
@@ -114,7 +114,7 @@ HasCause (statuses.Damaged row) intake sink_faults disk story = IsAsked intake �
 HasCause statuses.ReadFault intake sink_faults disk story = SourceFailed intake × IsUntouched disk story
 HasCause statuses.WriteFault intake sink_faults disk story = Rose sink_faults.before sink_faults.after
 HasCause statuses.DiskFault intake sink_faults disk story = IsAsked intake × (disk_rose disk ≡ true) × (is_opened story ≡ true → all_done (state_of story) ≡ true)
-HasCause statuses.NoMemory intake sink_faults disk story = Unit {0}
+HasCause statuses.NoMemory intake sink_faults disk story = is_opened story ≡ false → disk.after.faults ≡ disk.before.faults
 HasCause statuses.TooLong intake sink_faults disk story = GaveTooMuch intake × IsUntouched disk story
 
 -- the base was to be opened, as the source tells, whose count of faults did not rise

@@ -78,10 +78,11 @@ stop_line (stops.Unopened (opens.Damaged row)) = codes "damaged " ++ decimal row
 stop_line (stops.Unopened opens.DiskFault) = codes "disk fault\n"
 stop_line (stops.Unopened opens.NoMemory) = []
 
--- the line of a stop was written, unless the sink failed, which then took a front of it, or memory ran out, when nothing was
+-- the line of a stop was written, unless the sink failed, which then took a front of it; want of memory has no line
 pub record WritesStop (stop : Stop) (status : Status) (old new : Option (List ℕ)) (faults : Change ℕ) : Type 0 where
   pub whole : is_cut status ≡ false → Appends old new (stop_line stop)
   pub answer : is_cut status ≡ false → status ≡ stop_status stop
   pub front : status ≡ statuses.WriteFault → AppendsFront old new (stop_line stop)
   pub nothing : status ≡ statuses.NoMemory → Appends old new []
+  pub memory : status ≡ statuses.NoMemory → stop ≡ stops.Unopened opens.NoMemory
   pub fault : status ≡ statuses.WriteFault → Rose faults.before faults.after

@@ -7,11 +7,11 @@
 // order, every clearmake is replied as building from nothing is, each scrub lists exactly what is due, every object that a view
 // holds is live, and a stop at any device call finds what was acknowledged. That opens again, to a base that is sound where the
 // opened one was, so that the next call begins on a sound base (`laws`). A disk fault is told where a call on the disk
-// failed, and nowhere else.
+// failed, and nowhere else, unless the sink failed too or memory ran out.
 //
 // What it stands on: `base_core` for the history, `disk_model` and `vob_journal` for the disk and what a stop finds there,
-// `build_core` and `legal_history` for what a history means, `checkout_desk` for decisions, `session_text` and
-// `reply_text` for the texts, `cc_outside` for the source, the sink and the clock, and `cc_names` for plain data.
+// `legal_history` for what a history means, `carried_out` for the commands, `session_text` and `reply_text` for the texts,
+// `cc_outside` for the source, the sink and the clock, `arrayvec` and `itoa` for a line without memory, and `cc_names` for plain data.
 #![tactic(auto)]
 
 mod failures;

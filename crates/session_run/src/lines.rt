@@ -1,34 +1,33 @@
-// The line that is written where no base is opened.
+// The line that is written where no base is opened. It is made without memory, so that memory that runs out never hides a cause.
 
-ghost use Rattle.std.specs.Prelude.{◌≡◌, ◌++◌, IfOk, OnOk};
+ghost use Rattle.std.specs.Prelude.{◌≡◌, ◌≤◌, length};
 ghost use Rattle.base_core.specs.declared.opening.OpenCause.TheVariants as opens;
 ghost use Rattle.session_run.specs.declared.sessions.Stop.TheVariants as stops;
 ghost use Rattle.session_run.specs.Causes.{sink_faults};
-ghost use Rattle.session_run.specs.Statuses.{cause_word, error_words};
+ghost use Rattle.session_run.specs.Statuses.{cause_word};
 ghost use Rattle.session_run.specs.Stops.{stop_status, stop_line, WritesStop};
 
 use crate::sessions::Stop;
 use crate::statuses::Status;
+use arrayvec::ArrayString;
 use base_core::OpenCause;
-use cc_names::memory::NoMemory;
-use cc_names::numbers::push_number;
 use cc_names::refusals::{SessionCause, SessionError};
-use cc_names::texts::Text;
 use cc_outside::{Sink, write_whole};
-use std::alloc::Global;
+use itoa::Buffer;
 
-fn cause_word(cause: SessionCause) -> &'static [u8]
-    ensures { result.now ≡ cause_word cause }
+fn cause_word(cause: SessionCause) -> &'static str
+    ensures word { result.now ≡ cause_word cause }
+    ensures short { length result.now ≤ 14 }
 {
     match cause {
-        SessionCause::NoPhase => b"NoPhase",
-        SessionCause::NoLane => b"NoLane",
-        SessionCause::NoBody => b"NoBody",
-        SessionCause::TwoLanes => b"TwoLanes",
-        SessionCause::TooManyLanes => b"TooManyLanes",
-        SessionCause::UnknownCommand => b"UnknownCommand",
-        SessionCause::NotBuilt => b"NotBuilt",
-        SessionCause::BadWord => b"BadWord",
+        SessionCause::NoPhase => "NoPhase",
+        SessionCause::NoLane => "NoLane",
+        SessionCause::NoBody => "NoBody",
+        SessionCause::TwoLanes => "TwoLanes",
+        SessionCause::TooManyLanes => "TooManyLanes",
+        SessionCause::UnknownCommand => "UnknownCommand",
+        SessionCause::NotBuilt => "NotBuilt",
+        SessionCause::BadWord => "BadWord",
     }
 }
 
@@ -47,56 +46,61 @@ fn status_of(stop: Stop) -> Status
     }
 }
 
-fn push_error(alloc: Global, text: &mut Vec<u8>, error: SessionError) -> Result<(), NoMemory>
-    ensures { OnOk result (text.new.items ≡ text.old.items ++ error_words error) }
+fn text_line(text: &str) -> ArrayString<80>
+    requires { length text.now ≤ 80 }
+    ensures { result.bytes ≡ text.now }
 {
-    push_number(alloc, text, u64::from(error.line))?;
-    text.push(b' ')?;
-    text.extend_from_slice(cause_word(error.cause))?;
-    Ok(())
+    let mut line = ArrayString::new();
+    line.push_str(text);
+    line
 }
 
-fn error_line(alloc: Global, error: SessionError) -> Result<Text, NoMemory>
-    ensures { IfOk result (λ line. line ≡ stop_line (stops.BadSession error)) }
+fn error_line(error: SessionError) -> ArrayString<80>
+    ensures { result.bytes ≡ stop_line (stops.BadSession error) }
 {
-    let mut text = Vec::from_slice(alloc, b"bad session ")?;
-    push_error(alloc, &mut text, error)?;
-    text.push(b'\n')?;
-    Ok(Text::of(text))
+    let mut number = Buffer::new();
+    let mut line = ArrayString::new();
+    line.push_str("bad session ");
+    line.push_str(number.format(error.line));
+    line.push_str(" ");
+    line.push_str(cause_word(error.cause));
+    line.push_str("\n");
+    line
 }
 
-fn damaged_line(alloc: Global, row: u64) -> Result<Text, NoMemory>
-    ensures { IfOk result (λ line. line ≡ stop_line (stops.Unopened (opens.Damaged row))) }
+fn damaged_line(row: u64) -> ArrayString<80>
+    ensures { result.bytes ≡ stop_line (stops.Unopened (opens.Damaged row)) }
 {
-    let mut text = Vec::from_slice(alloc, b"damaged ")?;
-    push_number(alloc, &mut text, row)?;
-    text.push(b'\n')?;
-    Ok(Text::of(text))
+    let mut number = Buffer::new();
+    let mut line = ArrayString::new();
+    line.push_str("damaged ");
+    line.push_str(number.format(row));
+    line.push_str("\n");
+    line
 }
 
-fn line_of(alloc: Global, stop: Stop) -> Result<Text, NoMemory>
-    ensures { IfOk result (λ line. line ≡ stop_line stop) }
+fn line_of(stop: Stop) -> ArrayString<80>
+    ensures { result.bytes ≡ stop_line stop }
 {
     match stop {
-        Stop::BadWords => Text::from_bytes(alloc, b"bad words\n"),
-        Stop::ReadFault => Text::from_bytes(alloc, b"read fault\n"),
-        Stop::TooLong => Text::from_bytes(alloc, b"too long\n"),
-        Stop::BadSession(error) => error_line(alloc, error),
-        Stop::Unopened(OpenCause::Damaged(row)) => damaged_line(alloc, row),
-        Stop::Unopened(OpenCause::DiskFault) => Text::from_bytes(alloc, b"disk fault\n"),
-        Stop::Unopened(OpenCause::NoMemory) => Text::from_bytes(alloc, b""),
+        Stop::BadWords => text_line("bad words\n"),
+        Stop::ReadFault => text_line("read fault\n"),
+        Stop::TooLong => text_line("too long\n"),
+        Stop::BadSession(error) => error_line(error),
+        Stop::Unopened(OpenCause::Damaged(row)) => damaged_line(row),
+        Stop::Unopened(OpenCause::DiskFault) => text_line("disk fault\n"),
+        Stop::Unopened(OpenCause::NoMemory) => text_line(""),
     }
 }
 
-/// Writes the line of a stop, and answers the status.
-pub(crate) fn refuse<K: Sink>(alloc: Global, stop: Stop, sink: &mut K) -> Status
+/// Writes the line of a stop, and answers the status. Takes no memory.
+#[tactic(auto, using(crate::proofs::StopStatuses::only_memory))]
+pub(crate) fn refuse<K: Sink>(stop: Stop, sink: &mut K) -> Status
     ensures { WritesStop stop result (K.sight sink.old).held (K.sight sink.new).held
         (sink_faults (K.sight sink.old) (K.sight sink.new)) }
 {
-    let Ok(line) = line_of(alloc, stop) else {
-        return Status::NoMemory;
-    };
-    match write_whole(sink, line.as_bytes()) {
+    let line = line_of(stop);
+    match write_whole(sink, line.as_str().as_bytes()) {
         Ok(()) => status_of(stop),
         Err(_fault) => Status::WriteFault,
     }

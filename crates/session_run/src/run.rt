@@ -138,7 +138,7 @@ fn run_session<K: Sink, D: Disk, C: Clock>(
         Err(OpenFault { cause, disk }) => {
             let stop = stop_of(cause, has_risen(before, disk.counts().faults));
             Ended {
-                status: refuse(alloc, stop, sink),
+                status: refuse(stop, sink),
                 disk,
                 history: History::empty(alloc),
             }
@@ -197,7 +197,7 @@ pub fn run_words<S: Source, K: Sink, D: Disk, C: Clock>(
     match session_given(alloc, hashing, words, source) {
         Ok(phases) => run_session(alloc, hashing, phases, sink, disk, clock),
         Err(stop) => Ended {
-            status: refuse(alloc, stop, sink),
+            status: refuse(stop, sink),
             disk,
             history: History::empty(alloc),
         },

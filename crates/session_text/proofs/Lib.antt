@@ -1,3 +1,4 @@
+pub mod AheadLaws
 pub mod BuildWords
 pub mod Carried
 pub mod Ends

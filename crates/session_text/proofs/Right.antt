@@ -9,7 +9,7 @@ use Rattle.session_text.specs.declared.kinds.Kind.{Kind}
 use Rattle.session_text.specs.declared.kinds.Kind.TheVariants as kinds
 use Rattle.session_text.specs.Commands.{command_of}
 use Rattle.session_text.specs.Kinds.{Rest, kinds_of}
-use Rattle.session_text.specs.Reading.{IsEnd, IsNext, IsAtEnd, IsRight, IsFound, FindsCommand, Names, Says}
+use Rattle.session_text.specs.Reading.{IsEnd, IsNext, IsAtEnd, IsRight, IsFound, IsPast, FindsCommand, Names, Says}
 use Rattle.session_text.specs.Sessions.{Above, cause_or, cause_in, cause_of, above_next, is_empty, is_taken, lane_of, error_or, first_error, body_of, before_commands, commands_of}
 use Rattle.session_text.specs.Shapes.{view}
 use Rattle.session_text.specs.Words.{Said}
@@ -69,12 +69,6 @@ counts-one old new word words found right =
       ap length found.same ∙ one_more (command_of word words (body_of (kinds_of new.bytes))) (commands_of (kinds_of new.bytes)) says,
       right-behind (kinds.Command word words) (kinds_of new.bytes) all,
     )
-
--- lines were passed that what is asked of them does not count
-pub record IsPast {X : Type 0} (of : List Kind → X) (old rest : Rest) : Type 0 where
-  pub end : IsEnd rest.bytes old.bytes
-  pub right : IsRight (kinds_of old.bytes) → IsRight (kinds_of rest.bytes)
-  pub same : of (kinds_of old.bytes) ≡ of (kinds_of rest.bytes)
 
 pub past-none : {X : Type 0} (of : List Kind → X) (old : Rest) → IsPast of old old
 past-none of old = record { end = end-all old.bytes; right = λ r. r; same = refl }

@@ -1,15 +1,18 @@
 -- Steps from a place to the next.
-use Rattle.std.proofs.Common.{◌≡◌, ◌∙◌, ℕ, ◌+◌, ◌-◌, ◌≤◌, List, [], ◌∷◌, drop, length, refl, sym, ap, subst}
-use Rattle.std.specs.Prelude.{Ok}
+use Rattle.std.proofs.Common.{◌≡◌, ◌∙◌, ℕ, ◌+◌, ◌-◌, ◌≤◌, Some, List, [], ◌∷◌, drop, length, refl, sym, ap, subst, arith}
+use Rattle.std.specs.Prelude.{Ok, Err, IsOk, IfOk, slice_get}
 use Rattle.cc_names.specs.declared.commands.Command.{Command}
 use Rattle.cc_names.specs.declared.commands.Lane.{Lane}
 use Rattle.session_text.specs.declared.kinds.Kind.{Kind}
 use Rattle.session_text.specs.declared.kinds.Kind.TheVariants as kinds
 use Rattle.session_text.specs.Commands.{command_of}
 use Rattle.session_text.specs.Kinds.{Rest, kinds_of}
-use Rattle.session_text.specs.Reading.{IsEnd, IsFound, IsRight, FindsLane, FindsCommand, Says, Place, lines_at}
+use Rattle.session_text.specs.Reading.{IsEnd, IsFound, IsPast, IsPastCommand, IsRight, FindsLane, FindsCommand, Says, Place, lines_at}
 use Rattle.session_text.specs.Sessions.{before_lanes, before_commands, body_of, commands_of, lanes_of}
+use Rattle.session_text.specs.Ahead.{ahead_of, ahead_by}
 use Rattle.session_text.specs.Shapes.{view}
+use Rattle.session_text.specs.Words.{Said}
+use Rattle.session_text.proofs.AheadLaws.{command_asks}
 use Rattle.session_text.proofs.Ends.{end-behind, end-from}
 use Rattle.session_text.proofs.Right.{right-behind, right-command, right_along}
 
@@ -76,3 +79,71 @@ command-step place last old new left word words command now seen same is said l 
     is ∙ ap (λ v. commands_of (kinds_of v)) (sym bytes) ∙ same
     ∙ ap (λ v. before_commands v (commands_of (kinds_of new.bytes))) said
     ∙ ap (λ v. command ∷ commands_of v) (sym at_last)
+
+-- the first of the commands that are left is the one that the line says
+pub record IsFirst (word : List ℕ) (words : List (List ℕ)) (new : Rest) (now : List Command) : Type 0 where
+  pub command : Command
+  pub said : command_of word words (body_of (kinds_of new.bytes)) ≡ Ok command
+  pub is : now ≡ command ∷ commands_of (kinds_of new.bytes)
+
+said_command : (said : Said Command) → IsOk said → (command : Command) × (said ≡ Ok command)
+said_command (Ok command) h = (command, refl)
+said_command (Err cause) h = cc
+
+pub first-at : (place : Place) (old new : Rest) (left : ℕ) (word : List ℕ) (words : List (List ℕ)) (now : List Command)
+    → IsSeen place old (kinds.Command word words) new left → commands_of (kinds_of old.bytes) ≡ commands_of (kinds.Command word words ∷ kinds_of new.bytes)
+    → now ≡ commands_of (lines_at place) → IsRight (lines_at place) → IsFirst word words new now
+first-at place old new left word words now seen same is right =
+    let bytes : old.bytes ≡ drop place.from place.text = ap (λ (v : Rest). v.bytes) seen.rest in
+    let found = said_command (command_of word words (body_of (kinds_of new.bytes))) (says-at place old new word words left seen right) in
+    record {
+      command = found.0;
+      said = found.1;
+      is = is ∙ ap (λ v. commands_of (kinds_of v)) (sym bytes) ∙ same ∙ ap (λ v. before_commands v (commands_of (kinds_of new.bytes))) found.1;
+    }
+
+ok_same : (one other : Command) → (let ok : Command → Said Command = λ command. Ok command in ok one ≡ ok other) → one ≡ other
+ok_same one other e = cc
+
+pub first-is : (word : List ℕ) (words : List (List ℕ)) (new : Rest) (now : List Command) (command : Command) → IsFirst word words new now → command_of word words (body_of (kinds_of new.bytes)) ≡ Ok command → Some command ≡ slice_get now 0
+first-is word words new now command first said =
+    ap Some (ok_same command first.command (sym said ∙ first.said)) ∙ sym (ap (λ (v : List Command). slice_get v 0) first.is)
+
+-- and asks for what its word tells
+pub first-asks : (word : List ℕ) (words : List (List ℕ)) (new : Rest) (now : List Command) → IsFirst word words new now → ahead_of (slice_get now 0) ≡ ahead_by word
+first-asks word words new now first =
+    ap (λ (v : List Command). ahead_of (slice_get v 0)) first.is
+    ∙ (let P : Said Command → Type 0 = λ said. IfOk said (λ command. ahead_of (Some command) ≡ ahead_by word) in
+    subst P first.said (command_asks word words (body_of (kinds_of new.bytes))))
+
+-- the first command was passed
+pub command-past : (old found new : Rest) (word : List ℕ) (words : List (List ℕ)) → FindsCommand old word words found → IsPast commands_of found new → IsPastCommand old new
+command-past old found new word words finds past = record {
+  end = end-behind old.bytes found.bytes new.bytes finds.found.end past.end;
+  right = λ r. past.right (right-behind (kinds.Command word words) (kinds_of found.bytes) (finds.found.right r));
+  others = λ r.
+      let said = said_command (command_of word words (body_of (kinds_of found.bytes))) (right-command word words (kinds_of found.bytes) (finds.found.right r)) in
+      sym past.same
+      ∙ ap (drop 1) (sym (finds.same ∙ ap (λ v. before_commands v (commands_of (kinds_of found.bytes))) said.1));
+}
+
+-- how many bytes are left where lines stand right behind those of a place
+pub record IsLeft (place : Place) (last : Rest) (left : ℕ) : Type 0 where
+  pub there : drop (length place.text - left) place.text ≡ last.bytes
+  pub within : left ≤ length place.text
+  pub right : IsRight (kinds_of (drop (length place.text - left) place.text))
+  pub others : commands_of (lines_at (behind place left)) ≡ drop 1 (commands_of (lines_at place))
+
+pub left-at : (place : Place) (old new : Rest) (left : ℕ) → old ≡ record { number = 0; bytes = drop place.from place.text } → place.from ≤ length place.text → IsPastCommand old new → left ≡ length new.bytes → IsRight (lines_at place) → IsLeft place new left
+left-at place old new left rest within past is right =
+    let bytes : old.bytes ≡ drop place.from place.text = ap (λ (v : Rest). v.bytes) rest in
+    let end : IsEnd new.bytes (drop place.from place.text) = subst (λ v. IsEnd new.bytes v) bytes past.end in
+    let whole = end-behind place.text (drop place.from place.text) new.bytes (end-from place.text place.from within) end in
+    let there : drop (length place.text - left) place.text ≡ new.bytes = ap (λ n. drop (length place.text - n) place.text) is ∙ sym whole.same in
+    let here : IsRight (kinds_of old.bytes) = right_along (lines_at place) (kinds_of old.bytes) (ap kinds_of (sym bytes)) right in
+    record {
+      there = there;
+      within = omega (arith, is, whole.within);
+      right = right_along (kinds_of new.bytes) (kinds_of (drop (length place.text - left) place.text)) (ap kinds_of (sym there)) (past.right here);
+      others = ap (λ v. commands_of (kinds_of v)) there ∙ past.others here ∙ ap (λ v. drop 1 (commands_of (kinds_of v))) bytes;
+    }

@@ -1,3 +1,4 @@
+pub mod Ahead
 pub mod Clearmake
 pub mod Commands
 pub mod Formed

@@ -1,5 +1,5 @@
 -- How far lines were read, what stands above them, and what stands wrong.
-use Rattle.std.specs.Prelude.{◌≡◌, ℕ, ◌+◌, ◌-◌, ◌<◌, ◌≤◌, Option, Some, None, Result, Ok, Err, List, [], ◌∷◌, drop, length, IsOk}
+use Rattle.std.specs.Prelude.{◌≡◌, ℕ, Bool, true, false, ◌+◌, ◌-◌, ◌<◌, ◌≤◌, Option, Some, None, Result, Ok, Err, List, [], ◌∷◌, drop, length, IsOk}
 use Rattle.cc_names.specs.declared.memory.Or.{Or}
 use Rattle.cc_names.specs.declared.memory.Or.TheVariants.{NoMemory, Is}
 use Rattle.cc_names.specs.declared.refusals.SessionCause.{SessionCause}
@@ -64,6 +64,12 @@ pub record IsFound (old : Rest) (kind : Kind) (new : Rest) : Type 0 where
   pub end : IsEnd new.bytes old.bytes
   pub right : IsRight (kinds_of old.bytes) → IsRight (kind ∷ kinds_of new.bytes)
 
+-- lines were passed that what is asked of them does not count
+pub record IsPast {X : Type 0} (of : List Kind → X) (old rest : Rest) : Type 0 where
+  pub end : IsEnd rest.bytes old.bytes
+  pub right : IsRight (kinds_of old.bytes) → IsRight (kinds_of rest.bytes)
+  pub same : of (kinds_of old.bytes) ≡ of (kinds_of rest.bytes)
+
 -- the next phase was found, whose line says these words behind `phase`
 pub record FindsPhase (old : Rest) (words : List (List ℕ)) (new : Rest) : Type 0 where
   pub found : IsFound old (kinds.Phase words) new
@@ -78,6 +84,17 @@ pub record FindsLane (old : Rest) (words : List (List ℕ)) (new : Rest) : Type 
 pub record FindsCommand (old : Rest) (word : List ℕ) (words : List (List ℕ)) (new : Rest) : Type 0 where
   pub found : IsFound old (kinds.Command word words) new
   pub same : commands_of (kinds_of old.bytes) ≡ commands_of (kinds.Command word words ∷ kinds_of new.bytes)
+
+-- the first command was passed: where the lines stand right, so do those behind it, and the other commands stand there
+pub record IsPastCommand (old new : Rest) : Type 0 where
+  pub end : IsEnd new.bytes old.bytes
+  pub right : IsRight (kinds_of old.bytes) → IsRight (kinds_of new.bytes)
+  pub others : IsRight (kinds_of old.bytes) → commands_of (kinds_of new.bytes) ≡ drop 1 (commands_of (kinds_of old.bytes))
+
+-- the first command was passed, or there is none
+abbrev pub PassesCommand : Bool → Rest → Rest → Type 0
+PassesCommand true old new = IsPastCommand old new
+PassesCommand false old new = commands_of (kinds_of old.bytes) ≡ []
 
 -- words that name a lane
 abbrev pub Names : List (List ℕ) → Type 0

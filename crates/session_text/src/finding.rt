@@ -1,7 +1,7 @@
 // Where the next line of a kind stands.
 
 ghost use Rattle.std.specs.Prelude.{◌≡◌, [], MatchOption};
-ghost use Rattle.session_text.specs.Reading.{FindsPhase, FindsLane, FindsCommand};
+ghost use Rattle.session_text.specs.Reading.{FindsPhase, FindsLane, FindsCommand, IsPast, PassesCommand};
 ghost use Rattle.session_text.specs.Kinds.{kinds_of};
 ghost use Rattle.session_text.specs.Sessions.{commands_of, lanes_of, phases_of};
 
@@ -56,4 +56,27 @@ pub(crate) fn find_command<'a>(rest: &mut Rest<'a>) -> Option<(Bytes<'a>, Words<
         }
     }
     None
+}
+
+/// Goes past the body lines, and past lines that are skipped, to the next line that is neither.
+fn pass_body(rest: &mut Rest<'_>)
+    ensures { IsPast commands_of rest.old rest.new }
+{
+    let mut behind = rest.again();
+    'lines: while let Some(Kind::Skipped | Kind::Body(_)) = behind.next() {
+        *rest = behind.again();
+    }
+}
+
+/// Goes past the next command of a lane and its body lines, and answers whether there is one.
+pub(crate) fn pass_command(rest: &mut Rest<'_>) -> bool
+    ensures { PassesCommand result rest.old rest.new }
+{
+    match find_command(rest) {
+        None => false,
+        Some((_word, _words)) => {
+            pass_body(rest);
+            true
+        }
+    }
 }

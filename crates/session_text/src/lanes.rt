@@ -1,13 +1,14 @@
 // A lane, kept as its text, and its commands.
 
 ghost use Rattle.std.specs.Prelude.{◌≡◌, Ok, IfOk, length};
+ghost use Rattle.session_text.specs.Ahead.{ahead_by};
 ghost use Rattle.session_text.specs.Commands.{command_of};
 ghost use Rattle.session_text.specs.Kinds.{kinds_of};
 ghost use Rattle.session_text.specs.Reading.{Says};
 ghost use Rattle.session_text.specs.Sessions.{body_of};
 
 use crate::commands::command_of;
-use crate::finding::find_command;
+use crate::finding::{find_command, pass_command};
 use crate::kinds::{Bytes, Rest};
 use crate::places::Place;
 use cc_names::commands::{Command, Lane};
@@ -104,8 +105,66 @@ fn command_said(
     }
 }
 
+/// What the next of some commands asks for.
+#[derive(Clone, Copy, Debug, PartialEq, Eq)]
+pub enum Ahead {
+    /// There is no command.
+    Nothing,
+    /// To be carried out at once.
+    Act,
+    /// To build.
+    Build,
+}
+
+/// What the command of this word asks for.
+fn ahead_by(word: &[u8]) -> Ahead
+    ensures { result ≡ ahead_by word.now }
+{
+    if word == b"clearmake".as_slice() {
+        return Ahead::Build;
+    }
+    Ahead::Act
+}
+
 impl CommandsLeft {
-    ghost use Rattle.std.specs.Prelude.{◌≡◌, [], ◌∷◌, OnErr, IfOk, MatchOption, length};
+    ghost use Rattle.std.specs.Prelude.{◌≡◌, [], ◌∷◌, OnErr, IfOk, MatchOption, drop, length, slice_get};
+    ghost use Rattle.session_text.specs.Ahead.{ahead_of};
+
+    /// What the next command asks for. Takes time linear in its line, and no memory.
+    pub fn ahead(&self) -> Ahead
+        ensures { result ≡ ahead_of (slice_get self.now 0) }
+    {
+        let mut rest = self.place.rest();
+        match find_command(&mut rest) {
+            None => Ahead::Nothing,
+            Some((word, _words)) => ahead_by(word.as_slice()),
+        }
+    }
+
+    /// The next command, which is left. Takes time linear in its lines, and memory for it.
+    pub fn peek(&self, alloc: Global) -> Result<Option<Command>, NoMemory>
+        ensures { IfOk result (λ next. next ≡ slice_get self.now 0) }
+    {
+        let mut rest = self.place.rest();
+        let Some((word, words)) = find_command(&mut rest) else {
+            return Ok(None);
+        };
+        let command = command_said(alloc, self.place.hashing(), word, words, &rest)?;
+        Ok(Some(command))
+    }
+
+    /// Leaves the next command out, where there is one. Takes time linear in its lines, and no memory.
+    pub fn skip(&mut self)
+        ensures { self.new ≡ drop 1 self.old }
+    {
+        let mut rest = self.place.rest();
+        if !pass_command(&mut rest) {
+            return;
+        }
+        let left = rest.left();
+        drop(rest);
+        self.place.go_to(left);
+    }
 
     /// The next command. Takes time linear in its lines and those before it, and memory for it. An `Err` changes nothing.
     pub fn next(&mut self, alloc: Global) -> Result<Option<Command>, NoMemory>

@@ -25,6 +25,6 @@ mod sessions;
 mod shapes;
 mod words;
 
-pub use lanes::{CommandsLeft, LaneText};
+pub use lanes::{Ahead, CommandsLeft, LaneText};
 pub use phases::{LanesLeft, PhaseText};
 pub use sessions::{PhasesLeft, SessionText, read};

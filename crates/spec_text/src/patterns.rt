@@ -14,21 +14,20 @@ use crate::parts::split_part;
 use cc_names::lists::List;
 use cc_names::memory::{NoMemory, Or};
 use cc_names::names::is_name_byte;
-use cc_names::paths::Path;
 use cc_names::refusals::SpecCause;
 use cc_names::selection::{Pattern, Segment};
 use cc_names::texts::Text;
 use std::alloc::Global;
 
 /// The names of a path as they are taken from its front.
-fn names(path: &Path) -> Option<&[u8]>
+fn names(path: &[u8]) -> Option<&[u8]>
     ensures names { parts_left 47 (option_copied result) ≡ names_of path.now }
     ensures root { is_none (option_copied result) ≡ has_none (names_of path.now) }
 {
-    if path.is_root() {
+    if matches!(path, [b'.']) {
         return None;
     }
-    Some(path.as_bytes())
+    Some(path)
 }
 
 /// Whether the segments are the one segment `*`.
@@ -45,15 +44,15 @@ fn is_lone_star(segments: &[Segment]) -> bool
 pub trait Matches {
     ghost matches_path: { Self → List (List ℕ) → Bool };
 
-    /// Whether it matches the path, in time of its length times the path's and without memory.
-    fn matches(&self, path: &Path) -> bool
+    /// Whether it matches the path of these bytes, in time of its length times the path's and without memory.
+    fn matches(&self, path: &[u8]) -> bool
         ensures { result ≡ matches_path self.now (names_of path.now) };
 }
 
 impl Matches for Pattern {
     ghost matches_path = { matches };
 
-    fn matches(&self, path: &Path) -> bool {
+    fn matches(&self, path: &[u8]) -> bool {
         let names = names(path);
         matches_where(self.anchored, self.segments.as_slice(), names)
             || (!self.anchored && is_lone_star(self.segments.as_slice()) && names.is_none())

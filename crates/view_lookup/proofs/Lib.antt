@@ -5,8 +5,13 @@ pub mod FirstTrees
 pub mod Fronts
 pub mod Growths
 pub mod Holdings
+pub mod Labellings
 pub mod Newest
 pub mod Endings
+pub mod EntryEdits
+pub mod EntryRows
+pub mod EntryMoves
+pub mod EntryTold
 pub mod ElementKinds
 pub mod MadeDeeds
 pub mod MadeSoFar
@@ -14,6 +19,7 @@ pub mod Parts
 pub mod RowTexts
 pub mod RowsFit
 pub mod SpecRows
+pub mod SpecsSet
 pub mod TextRows
 pub mod Standing
 pub mod Oldest

@@ -10,7 +10,7 @@ use Rattle.cc_names.specs.Versions.{put_if}
 use Rattle.legal_history.specs.Base.Rows.{Base, size, first_rows, row_at, deed_of, deed_at}
 use Rattle.legal_history.proofs.Bases.Stay.{all_rows}
 use Rattle.view_lookup.specs.LookUps.{Deeds, Told, told, newest, told_by, told_at, first_told, left_by, last_of, IsCovered}
-use Rattle.view_lookup.specs.Subjects.{Subject, Life, Spec, Desk, File, Object, Out, Saved, Named, Living, Merge, is_same, key, borne, bears, keys_of}
+use Rattle.view_lookup.specs.Subjects.{Subject, Life, Spec, Desk, File, Object, Out, Saved, Entry, Named, Living, Merge, is_same, key, borne, bears, keys_of}
 use Rattle.view_lookup.specs.Marked.{with_marks, marked}
 use Rattle.std.specs.declared.random_state.RandomState.{RandomState}
 
@@ -85,6 +85,9 @@ same_key hashing (Out v e) (Out w f) is =
 same_key hashing (Saved v e) (Saved w f) is =
     let parts = both (bytes_eq w v) (f == e) is in
     ap₂ (λ name element. key hashing (Saved name element)) (same_text w v parts.0) (same_number f e parts.1)
+same_key hashing (Entry d name) (Entry f other) is =
+    let parts = both (f == d) (bytes_eq other name) is in
+    ap₂ (λ directory text. key hashing (Entry directory text)) (same_number f d parts.0) (same_text other name parts.1)
 same_key hashing (Named v) (Named w) is = ap (λ name. key hashing (Named name)) (same_text w v is)
 same_key hashing (Living id) (Living other) is = ap (λ object. key hashing (Living object)) (same_number other id is)
 same_key hashing (Merge e tail head) (Merge f one two) is =

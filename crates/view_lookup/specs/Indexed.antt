@@ -1,9 +1,12 @@
--- A base as it is kept: how contracts see it, and what holds of its rows, of their marks and of the trees of versions.
+-- A base as it is kept: how contracts see it, and what holds of its rows, of their marks, of the trees of versions, of labels and of
+-- config specs.
 use Rattle.std.specs.Prelude.{◌≡◌, ◌-◌, nat_eq, min, reverse, vec_len, vec_capacity}
 use Rattle.std.specs.HashMap.{get, spare}
-use Rattle.legal_history.specs.Base.Changes.{tree}
+use Rattle.legal_history.specs.Base.Changes.{labels, tree}
 use Rattle.view_lookup.specs.Known.{IsKnown}
+use Rattle.view_lookup.specs.Labelling.{AreLabels}
 use Rattle.view_lookup.specs.Marked.{IsMarked}
+use Rattle.view_lookup.specs.SetSpecs.{specs_set}
 use Rattle.view_lookup.specs.Shown.{Shown}
 use Rattle.view_lookup.specs.declared.bases.Rows.TheInside.{Inside}
 
@@ -14,11 +17,16 @@ shown_of inside = record {
   room = min (vec_capacity inside.rows - vec_len inside.rows) (min (vec_capacity inside.links - vec_len inside.links) (spare inside.newest));
   trees = inside.tree;
   name = inside.name;
+  labels = inside.labels;
+  spec = inside.spec;
+  spec_room = vec_capacity inside.specs - vec_len inside.specs;
 }
 
--- The rows are a base that is carried out so far, the links with the newest row of each key are its marks, and the changes of
--- the trees are those of its rows.
+-- The rows are a base that is carried out so far, the links with the newest row of each key are its marks, the changes of the
+-- trees and of the labels are those of its rows, and so are the config specs.
 pub record IsIndexed (inside : Inside) : Type 0 where
   pub known : IsKnown (reverse inside.rows.items)
   pub marks : IsMarked inside.hashing inside.links.items (get nat_eq inside.newest) (reverse inside.rows.items)
   pub trees : inside.tree.changes ≡ tree (reverse inside.rows.items)
+  pub labelled : AreLabels inside.labels.changes (labels (reverse inside.rows.items))
+  pub specs : reverse inside.specs.items ≡ specs_set (reverse inside.rows.items)

@@ -1,18 +1,25 @@
 -- What contracts see of a base that is kept: the base, its newest row first, and the room for one more row.
-use Rattle.std.specs.Prelude.{ℕ, ◌≤◌, Option, List, length}
+use Rattle.std.specs.Prelude.{◌≡◌, ℕ, ◌≤◌, Option, List, length}
 use Rattle.cc_names.specs.declared.rows.Deed.{Deed}
+use Rattle.cc_names.specs.declared.selection.Rule.{Rule}
 use Rattle.legal_history.specs.Base.Rows.{Base}
+use Rattle.label_book.specs.Marks.{Marks}
 use Rattle.version_tree.specs.Forest.{Forest}
 use Rattle.view_lookup.specs.Growing.{HasPlace, tree_change}
+use Rattle.view_lookup.specs.Labelling.{HasLabelRoom}
+use Rattle.view_lookup.specs.SetSpecs.{rules_set_if_short}
 use Rattle.view_lookup.specs.Subjects.{borne}
 
--- A base, and for how many more marks there is room; the trees of its versions with their room, and a name that is kept for
--- a branch.
+-- A base, and for how many more marks there is room; the trees of its versions and its labels with their room; a name that is
+-- kept for a branch, and rules for a config spec; and for how many more config specs there is room.
 pub record Shown : Type 0 where
   pub base : Base
   pub room : ℕ
   pub trees : Forest
   pub name : Option (List ℕ)
+  pub labels : Marks
+  pub spec : Option (List Rule)
+  pub spec_room : ℕ
 
 -- there is room for what a row of this deed adds to the trees, whenever it is made
 abbrev pub HasTreeRoom : Shown → Deed → Type 0
@@ -23,3 +30,6 @@ pub record HasRoom (shown : Shown) (deed : Deed) : Type 0 where
   pub row : 1 ≤ shown.room
   pub marks : length (borne shown.base deed) ≤ shown.room
   pub trees : HasTreeRoom shown deed
+  pub labels : HasLabelRoom shown.labels deed
+  pub spec : shown.spec ≡ rules_set_if_short deed
+  pub spec_room : 1 ≤ shown.spec_room

@@ -13,8 +13,8 @@ use Rattle.view_lookup.specs.declared.subjects.Subject as code
 use Rattle.view_lookup.specs.declared.subjects.Subject.TheVariants as codes
 
 -- A view's life, its config spec, and all that it takes out; a view's private file at a path, and the object that it holds
--- there; a view's checkout of an element, and the texts that it saves there; the type of a name; an object; and a merge of two
--- versions of an element.
+-- there; a view's checkout of an element, and the texts that it saves there; a name in a directory; the type of a name; an object;
+-- and a merge of two versions of an element.
 pub data Subject : Type 0 where
   Life : List ℕ → Subject
   Spec : List ℕ → Subject
@@ -23,18 +23,21 @@ pub data Subject : Type 0 where
   Object : List ℕ → List ℕ → Subject
   Out : List ℕ → ℕ → Subject
   Saved : List ℕ → ℕ → Subject
+  Entry : ℕ → List ℕ → Subject
   Named : List ℕ → Subject
   Living : ℕ → Subject
   Merge : ℕ → ℕ → ℕ → Subject
 
 -- what a deed that makes row n takes out, changes or gives back
 abbrev pub desk_subjects : ℕ → Deed → List Subject
-desk_subjects n (deeds.Mkelem v directory name kind out) = Out v n ∷ Desk v ∷ []
+desk_subjects n (deeds.Mkelem v directory name kind out) = Out v n ∷ Desk v ∷ Entry directory name ∷ []
 desk_subjects n (deeds.Checkout v e origin reserved) = Out v e ∷ Desk v ∷ []
 desk_subjects n (deeds.Branch v e origin name out) = Out v e ∷ Desk v ∷ []
 desk_subjects n (deeds.Save v e text) = Saved v e ∷ []
 desk_subjects n (deeds.Checkin v e) = Out v e ∷ []
 desk_subjects n (deeds.Uncheckout v e) = Out v e ∷ []
+desk_subjects n (deeds.Rmname v directory name) = Entry directory name ∷ []
+desk_subjects n (deeds.Mv v directory from_name to_name) = Entry directory from_name ∷ Entry directory to_name ∷ []
 desk_subjects n deed = []
 
 -- what becomes of objects by a deed that makes row n, where the object that it names has these targets
@@ -74,6 +77,7 @@ is_same (File v path) (File w q) = bytes_eq w v && bytes_eq q path
 is_same (Object v path) (Object w q) = bytes_eq w v && bytes_eq q path
 is_same (Out v e) (Out w f) = bytes_eq w v && (f == e)
 is_same (Saved v e) (Saved w f) = bytes_eq w v && (f == e)
+is_same (Entry directory name) (Entry other one) = (other == directory) && bytes_eq one name
 is_same (Named name) (Named other) = bytes_eq other name
 is_same (Living id) (Living other) = other == id
 is_same (Merge e tail head) (Merge f one two) = (f == e) && (one == tail) && (two == head)
@@ -91,6 +95,7 @@ key hashing (Saved v e) = key_with hashing 6 e v
 key hashing (Named name) = key_of hashing 7 name
 key hashing (Living id) = key_by hashing 8 (id ∷ [])
 key hashing (Merge e tail head) = key_by hashing 9 (e ∷ tail ∷ head ∷ [])
+key hashing (Entry directory name) = key_with hashing 10 directory name
 
 -- whether the next row bears on a subject
 abbrev pub bears : Subject → Base → Deed → Bool
@@ -109,6 +114,7 @@ plain (codes.File v path) = File v.now path.now
 plain (codes.Object v path) = Object v.now path.now
 plain (codes.Out v e) = Out v.now e
 plain (codes.Saved v e) = Saved v.now e
+plain (codes.Entry directory name) = Entry directory name.now
 plain (codes.Named name) = Named name.now
 plain (codes.Living id) = Living id
 plain (codes.Merge e tail head) = Merge e tail head

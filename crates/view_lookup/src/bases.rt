@@ -1,32 +1,40 @@
-// The rows of a base, with the marks by which those that bear on a subject are found, and with the trees of versions.
+// The rows of a base, with the marks by which those that bear on a subject are found, with the trees of versions, with the
+// labels and with the config specs.
 
-ghost use Rattle.std.specs.Prelude.{◌≡◌, ◌≤◌, ◌∷◌, [], length, reverse, true, IfOk, OnOk};
-ghost use Rattle.std.specs.Option.{option_copied};
+ghost use Rattle.std.specs.Prelude.{◌≡◌, ◌≤◌, ◌∷◌, [], ℕ, List, length, reverse, true, IfOk, OnOk};
+ghost use Rattle.std.specs.Option.{option_and_then, option_copied};
 ghost use Rattle.carried_out.specs.CarriedOut.{is_made};
+ghost use Rattle.cc_names.specs.Labels.{holder, labels_of_first_rows};
 ghost use Rattle.cc_names.specs.Versions.{of_first_rows};
-ghost use Rattle.legal_history.specs.Base.Changes.{tree};
-ghost use Rattle.legal_history.specs.Base.Rows.{first_rows, row_at, size};
+ghost use Rattle.legal_history.specs.Base.Changes.{labels, tree};
+ghost use Rattle.legal_history.specs.Base.Rows.{deed_at, first_rows, row_at, size};
 ghost use Rattle.legal_history.specs.Base.Fits.{fits, is_base, row_limit};
 ghost use Rattle.view_lookup.specs.Known.{are_made};
+ghost use Rattle.view_lookup.specs.Labelling.{HasLabelRoom};
 ghost use Rattle.view_lookup.specs.LookUps.{last_of, newest, oldest};
+ghost use Rattle.view_lookup.specs.SetSpecs.{rules_set, rules_set_if_short};
 ghost use Rattle.view_lookup.specs.Shown.{HasRoom, HasTreeRoom};
 ghost use Rattle.view_lookup.specs.Subjects.{borne};
 
 use crate::growth::{grow, growth_of, reserve_growth};
+use crate::labels::{relabel, reserve_labels};
 use crate::look_ups::{LookUp, left_by, set_at, told_at};
 use crate::marks::{Link, mark_all};
 use crate::numbered::row_of;
 use crate::subjects::{count_subjects, named_targets};
+use crate::view_specs::{Parsed, keep_spec, read_given, spec_of};
 use cc_names::memory::NoMemory;
 use cc_names::names::Name;
 use cc_names::rows::{Deed, Row};
+use label_book::Book;
+use spec_text::Spec;
 use std::alloc::Global;
 use std::collections::HashMap;
 use std::hash::RandomState;
 use std::marker::Model;
 use version_tree::Tree;
 
-/// A base, what bears on what, and the trees of versions. Contracts see the base as the model has it, its newest row first, and
+/// A base, what bears on what, the trees of versions, the labels, and the config specs. Contracts see the base as the model has it, its newest row first, and
 /// the room. That it is a base, whose rows were made by what is carried out so far, is part of the type.
 #[derive(Drop)]
 pub struct Rows {
@@ -36,8 +44,12 @@ pub struct Rows {
     links: Vec<Link>,
     newest: HashMap<u64, usize>,
     tree: Tree,
+    labels: Book,
     // The name of a branch, copied before the branch is made.
     name: Option<Name>,
+    specs: Vec<Parsed>,
+    // A config spec, read before the row is added that gives it to its view.
+    spec: Option<Spec>,
 }
 
 impl Model for Rows {
@@ -58,6 +70,7 @@ impl Rows {
         ensures { IfOk result (λ rows. rows.base ≡ []) }
     {
         let tree = Tree::new(alloc, hashing)?;
+        let labels = Book::new(alloc, hashing)?;
         Ok(Rows {
             hashing,
             alloc,
@@ -65,18 +78,25 @@ impl Rows {
             links: Vec::new(alloc),
             newest: HashMap::new(alloc),
             tree,
+            labels,
             name: None,
+            specs: Vec::new(alloc),
+            spec: None,
         })
     }
 
-    /// Makes room for one more row of this deed. Takes time linear in what the deed names and logarithmic in the branches; a
-    /// list that is full is doubled, in time linear in it.
+    /// Makes room for one more row of this deed. Takes time linear in what the deed names, for each label that it changes on an
+    /// element the time to find the label there and, where it is new there, to copy its name, for a config spec the time to read
+    /// it, and time logarithmic in the branches; a list that is full is doubled, in time linear in it.
     pub fn reserve(&mut self, deed: &Deed) -> Result<(), NoMemory>
         ensures same { self.new.base ≡ self.old.base }
         ensures room { OnOk result (HasRoom self.new deed.now) }
     {
         self.reserve_marks(deed)?;
-        self.reserve_trees(deed)
+        self.reserve_trees(deed)?;
+        self.reserve_labels(deed)?;
+        self.reserve_spec(deed)?;
+        Ok(())
     }
 
     // Makes room for the row and for its marks.
@@ -105,7 +125,34 @@ impl Rows {
         Ok(())
     }
 
-    /// Adds a row that fits. Takes time linear in the names that its deed has and logarithmic in the branches, and no memory.
+    // Makes room for what the row changes of labels.
+    fn reserve_labels(&mut self, deed: &Deed) -> Result<(), NoMemory>
+        ensures same { self.new.base ≡ self.old.base }
+        ensures marks { self.new.room ≡ self.old.room }
+        ensures trees { self.new.trees ≡ self.old.trees }
+        ensures name { self.new.name ≡ self.old.name }
+        ensures labels { OnOk result (HasLabelRoom self.new.labels deed.now) }
+    {
+        reserve_labels(self.alloc, &mut self.labels, deed)
+    }
+
+    // Reads the config spec that the row gives to its view, and makes room for it.
+    fn reserve_spec(&mut self, deed: &Deed) -> Result<(), NoMemory>
+        ensures same { self.new.base ≡ self.old.base }
+        ensures marks { self.new.room ≡ self.old.room }
+        ensures trees { self.new.trees ≡ self.old.trees }
+        ensures name { self.new.name ≡ self.old.name }
+        ensures labels { self.new.labels ≡ self.old.labels }
+        ensures spec { OnOk result (self.new.spec ≡ rules_set_if_short deed.now) }
+        ensures room { OnOk result (1 ≤ self.new.spec_room) }
+    {
+        self.specs.reserve(1)?;
+        self.spec = read_given(self.alloc, deed)?;
+        Ok(())
+    }
+
+    /// Adds a row that fits. Takes time linear in the names that its deed has, for each label that it changes on an element the
+    /// time to find the label there, and time logarithmic in the branches; no memory.
     pub fn push(&mut self, row: Row)
         requires fits { fits self.old.base row.deed ≡ true }
         requires made { is_made row.deed ≡ true }
@@ -130,6 +177,8 @@ impl Rows {
             targets,
             row.deed(),
         );
+        relabel(&mut self.labels, number, row.deed());
+        keep_spec(&mut self.specs, number, self.spec.take());
         self.rows.push(row).unwrap();
     }
 
@@ -161,7 +210,10 @@ impl Rows {
             links: _,
             newest: _,
             tree: _,
+            labels: _,
             name: _,
+            specs: _,
+            spec: _,
         } = self;
         rows
     }
@@ -223,9 +275,39 @@ impl<'a> FirstRows<'a> {
         &base.tree
     }
 
+    /// The labels of all rows of the base, with what these rows made of them.
+    pub(crate) fn labels(&self) -> &'a Book
+        ensures { (l : List ℕ) (e : ℕ)
+            → holder (labels_of_first_rows (size self.now) result.now.changes) l e
+            ≡ holder (labels self.now) l e }
+    {
+        let _count = self.count;
+        let base = self.base;
+        &base.labels
+    }
+
+    /// The rules that the row of this number gave to its view, where it is one of these rows. Takes time logarithmic in the
+    /// config specs.
+    pub(crate) fn spec_given(&self, row: u64) -> Option<&'a Spec>
+        ensures { option_copied result ≡ option_and_then rules_set (deed_at self.now row) }
+    {
+        if self.size() <= row {
+            return None;
+        }
+        let base = self.base;
+        spec_of(base.specs.as_slice(), row)
+    }
+
     /// That each was made by what is carried out so far. Does nothing.
     pub(crate) fn are_made(&self)
         ensures { are_made self.now ≡ true }
+    {
+        let _count = self.count;
+    }
+
+    /// That they are a base. Does nothing.
+    pub(crate) fn are_base(&self)
+        ensures { is_base self.now ≡ true }
     {
         let _count = self.count;
     }

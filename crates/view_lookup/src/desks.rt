@@ -24,7 +24,7 @@ pub struct Checkout {
     pub reserved: bool,
 }
 
-fn same_desk(view: &Name, element: u64, other: &Name, one: u64) -> bool
+pub(crate) fn same_desk(view: &Name, element: u64, other: &Name, one: u64) -> bool
     ensures { result ≡ (bytes_eq other.now view.now && (one == element)) }
 {
     same_name(view, other) && one == element

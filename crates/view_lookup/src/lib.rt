@@ -1,5 +1,5 @@
 // The base as a type, and what views see in it: which views there are, their private files, their checkouts, their config
-// specs, the objects that they hold, and what stands at a path.
+// specs, the objects that they hold, and what stands at a path; and what the trees of versions and the labels were.
 //
 // What it is for: the look-ups on which every decision on a command and every build stand.
 //
@@ -7,20 +7,24 @@
 // the model's definition over the base, with no condition on it. `first_rows` gives the base as it was at an earlier moment,
 // over which every look-up answers as of then.
 //
-// What it stands on: `cc_names` for rows, `carried_out` for the deeds that are made so far, and `legal_history` for the
-// definitions.
+// What it stands on: `cc_names` for rows, `carried_out` for the deeds that are made so far, `legal_history` for the
+// definitions, `version_tree` and `label_book` for the trees and the labels, and `config_spec` for how rules select.
 #![tactic(auto)]
 
 mod bases;
+mod catalogs;
 mod desks;
+mod edits;
 mod fitting;
 mod growth;
+mod labels;
 mod look_ups;
 mod marks;
 mod merges;
 mod number_keys;
 mod numbered;
 mod objects;
+mod picks;
 mod seen;
 mod standings;
 mod subjects;
@@ -31,14 +35,17 @@ mod view_specs;
 mod views;
 
 pub use bases::{FirstRows, Rows, first_rows, row_at};
+pub use catalogs::{named_by_checkout, named_by_version};
 pub use desks::{Checkout, checked_out, making};
 pub use fitting::{ROW_LIMIT, fits};
+pub use labels::holder;
 pub use merges::arrow_row;
 pub use objects::{held, live};
+pub use picks::{Records, pick};
 pub use seen::{at, file_at, is_directory, kind_of};
 pub use standings::oldest_out;
 pub use texts::{text_at, text_of};
 pub use trees::{branch_named, branch_of_version, latest_version, origin_of, version_numbered};
 pub use types::{is_type_taken, kind_of_type};
-pub use view_specs::spec_text;
+pub use view_specs::{rules, spec_text};
 pub use views::{private, view_row};

@@ -1,6 +1,7 @@
 // One number for some numbers, and for a name beside one, as `cc_names::keys` has it for names and paths.
 
 ghost use Rattle.std.specs.Prelude.{◌≡◌, ◌∷◌, []};
+ghost use Rattle.cc_names.specs.Keys.{key_at};
 ghost use Rattle.view_lookup.specs.NumberKeys.{key_by, key_with};
 
 use cc_names::names::Name;
@@ -28,13 +29,25 @@ pub(crate) fn key_by_three(hashing: RandomState, number: u64, one: u64, two: u64
     hasher.finish()
 }
 
-/// The key of two numbers and a name. Takes time linear in the name.
-pub(crate) fn key_with(hashing: RandomState, number: u64, other: u64, name: &Name) -> u64
+/// The key of two numbers and the bytes of a name. Takes time linear in the name.
+pub(crate) fn key_with(hashing: RandomState, number: u64, other: u64, name: &[u8]) -> u64
     ensures { result ≡ key_with hashing number other name.now }
 {
     let mut hasher = hashing.build_hasher();
     hasher.write_u64(number);
     hasher.write_u64(other);
+    hasher.write(name);
+    hasher.finish()
+}
+
+/// The key of a number, a name and the bytes of a path, as `cc_names::keys::key_at` has it. Takes time linear in both.
+pub(crate) fn key_within(hashing: RandomState, number: u64, name: &Name, path: &[u8]) -> u64
+    ensures { result ≡ key_at hashing number name.now path.now }
+{
+    let mut hasher = hashing.build_hasher();
+    hasher.write_u64(number);
+    hasher.write_usize(name.as_bytes().len());
     hasher.write(name.as_bytes());
+    hasher.write(path);
     hasher.finish()
 }

@@ -4,7 +4,7 @@ ghost use Rattle.std.specs.Prelude.{◌≡◌, ◌<◌, ◌≤◌, ◌^◌, ◌�
 ghost use Rattle.std.specs.List.{slice_get};
 ghost use Rattle.view_lookup.specs.Subjects as model;
 
-use crate::number_keys::{key_by_one, key_by_three, key_with};
+use crate::number_keys::{key_by_one, key_by_three, key_with, key_within};
 use crate::numbered::targets_of;
 use cc_names::keys::{key_at, key_of};
 use cc_names::names::Name;
@@ -22,13 +22,15 @@ pub(crate) enum Subject<'a> {
     /// All that a view takes out.
     Desk(&'a Name),
     /// A view's private file at a path.
-    File(&'a Name, &'a Path),
+    File(&'a Name, &'a [u8]),
     /// The object that a view holds at a path.
     Object(&'a Name, &'a Path),
     /// A view's checkout of an element.
     Out(&'a Name, u64),
     /// The texts that a view saves in its checkout of an element.
     Saved(&'a Name, u64),
+    /// A name in a directory.
+    Entry(u64, &'a [u8]),
     /// The type of a name.
     Named(&'a Name),
     /// An object.
@@ -53,6 +55,26 @@ fn two<'a>(first: Subject<'a>, second: Subject<'a>, index: usize) -> Option<Subj
     match index {
         0 => Some(first),
         1 => Some(second),
+        _ => None,
+    }
+}
+
+fn three<'a>(
+    first: Subject<'a>,
+    second: Subject<'a>,
+    third: Subject<'a>,
+    index: usize,
+) -> Option<Subject<'a>>
+    ensures subject { option_map model.plain result
+        ≡ slice_get
+        (model.plain first.entry ∷ model.plain second.entry ∷ model.plain third.entry ∷ [])
+        index }
+    ensures within { IfSome result (λ _. index < 2 ^ 32) }
+{
+    match index {
+        0 => Some(first),
+        1 => Some(second),
+        2 => Some(third),
         _ => None,
     }
 }
@@ -111,7 +133,17 @@ fn desk_subject_at<'a>(number: u64, deed: &'a Deed, index: usize) -> Option<Subj
     ensures within { IfSome result (λ _. index < 2 ^ 32) }
 {
     match deed {
-        Deed::Mkelem { view, .. } => two(Subject::Out(view, number), Subject::Desk(view), index),
+        Deed::Mkelem {
+            view,
+            directory,
+            name,
+            ..
+        } => three(
+            Subject::Out(view, number),
+            Subject::Desk(view),
+            Subject::Entry(*directory, name.as_bytes()),
+            index,
+        ),
         Deed::Checkout { view, element, .. } => {
             two(Subject::Out(view, *element), Subject::Desk(view), index)
         }
@@ -121,6 +153,21 @@ fn desk_subject_at<'a>(number: u64, deed: &'a Deed, index: usize) -> Option<Subj
         Deed::Save { view, element, .. } => one(Subject::Saved(view, *element), index),
         Deed::Checkin { view, element } => one(Subject::Out(view, *element), index),
         Deed::Uncheckout { view, element } => one(Subject::Out(view, *element), index),
+        Deed::Rmname {
+            directory,
+            name,
+            ..
+        } => one(Subject::Entry(*directory, name.as_bytes()), index),
+        Deed::Mv {
+            directory,
+            from_name,
+            to_name,
+            ..
+        } => two(
+            Subject::Entry(*directory, from_name.as_bytes()),
+            Subject::Entry(*directory, to_name.as_bytes()),
+            index,
+        ),
         _ => None,
     }
 }
@@ -166,8 +213,8 @@ pub(crate) fn subject_at<'a>(
         Deed::Mkview { view } => one(Subject::Life(view), index),
         Deed::Rmview { view } => one(Subject::Life(view), index),
         Deed::Setcs { view, .. } => one(Subject::Spec(view), index),
-        Deed::Put { view, path, .. } => one(Subject::File(view, path), index),
-        Deed::Rm { view, path } => one(Subject::File(view, path), index),
+        Deed::Put { view, path, .. } => one(Subject::File(view, path.as_bytes()), index),
+        Deed::Rm { view, path } => one(Subject::File(view, path.as_bytes()), index),
         Deed::Mktype { name, .. } => one(Subject::Named(name), index),
         Deed::Arrow {
             element,
@@ -201,13 +248,14 @@ impl Subject<'_> {
             Subject::Life(view) => key_of(hashing, 0, view),
             Subject::Spec(view) => key_of(hashing, 1, view),
             Subject::Desk(view) => key_of(hashing, 2, view),
-            Subject::File(view, path) => key_at(hashing, 3, view, path),
+            Subject::File(view, path) => key_within(hashing, 3, view, path),
             Subject::Object(view, path) => key_at(hashing, 4, view, path),
-            Subject::Out(view, element) => key_with(hashing, 5, element, view),
-            Subject::Saved(view, element) => key_with(hashing, 6, element, view),
+            Subject::Out(view, element) => key_with(hashing, 5, element, view.as_bytes()),
+            Subject::Saved(view, element) => key_with(hashing, 6, element, view.as_bytes()),
             Subject::Named(name) => key_of(hashing, 7, name),
             Subject::Living(object) => key_by_one(hashing, 8, object),
             Subject::Merge(element, tail, head) => key_by_three(hashing, 9, element, tail, head),
+            Subject::Entry(directory, name) => key_with(hashing, 10, directory, name),
         }
     }
 }

@@ -1,18 +1,25 @@
 // The config specs of views.
 
-ghost use Rattle.std.specs.Prelude.{◌≡◌};
+ghost use Rattle.std.specs.Prelude.{◌≡◌, ◌<◌, IfOk, map, reverse, vec_len, vec_capacity};
 ghost use Rattle.std.specs.Option.{option_copied};
+ghost use Rattle.cc_names.specs.Falling.{Falls};
+ghost use Rattle.legal_history.specs.Base.Seen.{rules};
 ghost use Rattle.legal_history.specs.Base.Views.{spec_text};
 ghost use Rattle.view_lookup.specs.Effects.{spec_row_effect};
 ghost use Rattle.view_lookup.specs.LookUps.{last_of};
 ghost use Rattle.view_lookup.specs.Made.{spec_made};
+ghost use Rattle.view_lookup.specs.SetSpecs.{or_no_rules, parsed_if_short, row_of_parsed, rules_at, rules_set_if_short, with_spec};
 
 use crate::bases::{FirstRows, row_at};
 use crate::look_ups::{Does, LookUp, later, left_by, only_if};
 use crate::subjects::Subject;
 use crate::views::{LifeOf, same_name};
+use cc_names::by_row::{ByRow, item_of};
+use cc_names::memory::{NoMemory, Or};
 use cc_names::names::Name;
 use cc_names::rows::Deed;
+use spec_text::Spec;
+use std::alloc::Global;
 
 /// The config spec with which a view begins.
 const DEFAULT_SPEC: &[u8] = b"element * CHECKEDOUT\nelement * /main/LATEST\n";
@@ -75,4 +82,73 @@ pub fn spec_text<'a>(rows: &FirstRows<'a>, view: &Name) -> Option<&'a [u8]>
 {
     let row = row_at(rows, spec_row(rows, view)?)?;
     spec_made(row.deed())
+}
+
+/// The rules of a config spec, by the row that gave it to its view.
+#[derive(Drop)]
+pub(crate) struct Parsed {
+    row: u64,
+    spec: Spec,
+}
+
+impl ByRow for Parsed {
+    ghost use Rattle.view_lookup.specs.SetSpecs.{row_of_parsed};
+
+    ghost row_in = { row_of_parsed };
+
+    fn row(&self) -> u64 {
+        self.row
+    }
+}
+
+/// The rules of a text of fewer than 2^32 bytes, where it can be read. Takes time linear in it.
+fn read_short(alloc: Global, text: &[u8]) -> Result<Option<Spec>, NoMemory>
+    ensures { IfOk result (λ spec. spec ≡ parsed_if_short text.now) }
+{
+    if text.len() > u32::MAX as usize {
+        return Ok(None);
+    }
+    match Spec::read(alloc, text) {
+        Ok(spec) => Ok(Some(spec)),
+        Err(Or::NoMemory) => Err(NoMemory),
+        Err(Or::Is(_)) => Ok(None),
+    }
+}
+
+/// The rules that a row of this deed gives to its view, where it gives any. Takes time linear in the config spec.
+pub(crate) fn read_given(alloc: Global, deed: &Deed) -> Result<Option<Spec>, NoMemory>
+    ensures { IfOk result (λ spec. spec ≡ rules_set_if_short deed.now) }
+{
+    match spec_made(deed) {
+        Some(text) => read_short(alloc, text),
+        None => Ok(None),
+    }
+}
+
+/// Keeps the rules that a row gives to its view, where it gives any.
+pub(crate) fn keep_spec(specs: &mut Vec<Parsed>, row: u64, spec: Option<Spec>)
+    requires room { vec_len specs.old < vec_capacity specs.old }
+    ensures { reverse specs.new.items ≡ with_spec row spec (reverse specs.old.items) }
+{
+    match spec {
+        None => {}
+        Some(spec) => specs.push(Parsed { row, spec }).unwrap(),
+    }
+}
+
+/// The rules that the row of this number gave, among config specs. Takes time logarithmic in them.
+pub(crate) fn spec_of(specs: &[Parsed], row: u64) -> Option<&Spec>
+    requires falling { Falls (map row_of_parsed (reverse specs.now)) }
+    ensures { option_copied result ≡ rules_at row (reverse specs.now) }
+{
+    let parsed = item_of(specs, row)?;
+    Some(&parsed.spec)
+}
+
+/// The rules of the view's config spec, where the view exists. Takes the time of `spec_text`, and time logarithmic in the config
+/// specs.
+pub fn rules<'a>(rows: &FirstRows<'a>, view: &Name) -> Option<&'a Spec>
+    ensures { or_no_rules (option_copied result) ≡ rules rows.now view.now }
+{
+    rows.spec_given(spec_row(rows, view)?)
 }

@@ -25,6 +25,12 @@ pub(crate) fn same_place(view: &Name, path: &Path, other: &Name, place: &Path) -
     same_name(view, other) && place.as_bytes() == path.as_bytes()
 }
 
+fn same_file(view: &Name, path: &[u8], other: &Name, place: &Path) -> bool
+    ensures { result ≡ (bytes_eq other.now view.now && bytes_eq place.now path.now) }
+{
+    same_name(view, other) && place.as_bytes() == path
+}
+
 /// The row with which a view's life began.
 #[derive(Clone, Copy)]
 pub(crate) struct LifeOf<'a> {
@@ -93,7 +99,7 @@ impl LookUp for EndOf<'_> {
 #[derive(Clone, Copy)]
 struct FileOf<'a> {
     view: &'a Name,
-    path: &'a Path,
+    path: &'a [u8],
 }
 
 impl LookUp for FileOf<'_> {
@@ -110,11 +116,11 @@ impl LookUp for FileOf<'_> {
     fn effect(&self, older: &FirstRows<'_>, deed: &Deed) -> Does<u64> {
         match deed {
             Deed::Put { view, path, .. } => only_if(
-                same_place(self.view, self.path, view, path),
+                same_file(self.view, self.path, view, path),
                 Does::Sets(older.size()),
             ),
             Deed::Rm { view, path } => {
-                only_if(same_place(self.view, self.path, view, path), Does::Ends)
+                only_if(same_file(self.view, self.path, view, path), Does::Ends)
             }
             _ => Does::Keeps,
         }
@@ -146,6 +152,13 @@ pub(crate) fn last_end(rows: &FirstRows<'_>, view: &Name) -> Option<u64>
 /// The row that put the view's private file at the path. Takes time linear in the two names, and in the rows with their key
 /// that come behind the one that is found.
 pub fn private(rows: &FirstRows<'_>, view: &Name, path: &Path) -> Option<u64>
+    ensures { result ≡ private rows.now view.now path.now }
+{
+    private_at(rows, view, path.as_bytes())
+}
+
+/// The same, for the bytes of a path.
+pub(crate) fn private_at(rows: &FirstRows<'_>, view: &Name, path: &[u8]) -> Option<u64>
     ensures { result ≡ private rows.now view.now path.now }
 {
     within(last_end(rows, view), rows.newest(&FileOf { view, path }))

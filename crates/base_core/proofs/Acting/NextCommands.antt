@@ -4,7 +4,7 @@ use Rattle.std.specs.Prelude.{option_and_then, option_map, is_none, OnOk, IfOk, 
 use Rattle.std.proofs.lemmas.Bool.Decides.{nat_tests}
 use Rattle.std.proofs.lemmas.Option.{slice_get_within}
 use Rattle.carried_out.specs.CarriedOut.{is_carried_out, is_made}
-use Rattle.carried_out.specs.Queries.{asks}
+use Rattle.legal_history.specs.Queries.QueryLines.{is_query}
 use Rattle.cc_names.specs.Formed.{Plain}
 use Rattle.cc_names.specs.declared.commands.Command.{Command}
 use Rattle.cc_names.specs.declared.commands.Command.TheVariants as commands
@@ -60,7 +60,7 @@ next_is s lane command free e =
     ap (λ is. only_where is (option_and_then (command_behind (done_of s.done lane)) (lane_at s.phase lane))) (ap₂ ◌&&◌ (same_as_itself (next_tag s lane)) (ap is_none free)) ∙ e
 
 -- what is decided of the command that waits
-pub decides_next : (story : List Told) (lane taken now : ℕ) (command : Command) (result : Result Plain (Or Refusal)) → Legal story → is_carried_out command ≡ true → builds command ≡ false → asks command ≡ false → (let s : State = state_of story in build_of s.active lane ≡ None → s.moment ≡ now → option_and_then (command_behind (done_of s.done lane)) (lane_at s.phase lane) ≡ Some command → taken ≡ size s.base + reserved s.active → Decides (next_tag s lane) now result (decision (scene s) command) → IfOk result (λ row. is_made row.deed ≡ true) → OnOk result (taken < row_limit) → DecidesNext s (next_tag s lane) result)
+pub decides_next : (story : List Told) (lane taken now : ℕ) (command : Command) (result : Result Plain (Or Refusal)) → Legal story → is_carried_out command ≡ true → builds command ≡ false → is_query command ≡ false → (let s : State = state_of story in build_of s.active lane ≡ None → s.moment ≡ now → option_and_then (command_behind (done_of s.done lane)) (lane_at s.phase lane) ≡ Some command → taken ≡ size s.base + reserved s.active → Decides (next_tag s lane) now result (decision (scene s) command) → IfOk result (λ row. is_made row.deed ≡ true) → OnOk result (taken < row_limit) → DecidesNext s (next_tag s lane) result)
 decides_next story lane taken now command (Ok row) legal carried idle quiet free moment e count decides made_row space =
     let s : State = state_of story in
     let within = in_phase s.phase lane (done_of s.done lane) command e in
@@ -109,7 +109,7 @@ waiting_kept log lanes now (suc n) h = ap (λ p. option_and_then (command_behind
         ap (λ k. option_and_then (command_behind k) (slice_get s.phase.lanes n)) counted
 
 -- what is decided of a lane's next command
-pub decided_so : (story : List Told) (lane : ℕ) (on : Occasion) (command : Command) (view : List ℕ) (rows : Base) (result : Result Plain (Or Refusal)) → Legal story → is_carried_out command ≡ true → builds command ≡ false → asks command ≡ false → build_of (state_of story).active lane ≡ None
+pub decided_so : (story : List Told) (lane : ℕ) (on : Occasion) (command : Command) (view : List ℕ) (rows : Base) (result : Result Plain (Or Refusal)) → Legal story → is_carried_out command ≡ true → builds command ≡ false → is_query command ≡ false → build_of (state_of story).active lane ≡ None
     → waiting (state_of story) lane ≡ Some command → on.tag ≡ next_tag (state_of story) lane → on.moment ≡ (state_of story).moment → rows ≡ (state_of story).base → on.busy ≡ building (state_of story).active view → on.taken ≡ size (state_of story).base + reserved (state_of story).active
     → ((scene : Scene) (moment : ℕ) → Sees scene rows moment view on.busy on.taken → Decides on.tag on.moment result (decision scene command)) → IfOk result (λ row. is_made row.deed ≡ true) → OnOk result (on.taken < row_limit) → DecidesNext (state_of story) (next_tag (state_of story) lane) result
 decided_so story lane on command view rows result legal carried idle quiet free e tagged moment rows_are is count decides made space =
@@ -118,13 +118,13 @@ decided_so story lane on command view rows result legal carried idle quiet free 
     decides_next story lane on.taken on.moment command result legal carried idle quiet free (sym moment) e count (subst (λ t. Decides t on.moment result (decision (scene s) command)) tagged (decides (scene s) on.moment sees)) made space
 
 -- a query is replied with its text
-replied_so : (command : Command) (text : List ℕ) → asks command ≡ true → reply_to_answer (Some command) text ≡ replies.Answer text
+replied_so : (command : Command) (text : List ℕ) → is_query command ≡ true → reply_to_answer (Some command) text ≡ replies.Answer text
 replied_so (commands.Scrub age) text query = absurd (cc)
 replied_so (commands.MklabelConfig view replace path label) text query = absurd (cc)
 replied_so command text query = refl
 
 -- what is answered to the query that waits
-pub answered_so : (s : State) (lane : ℕ) (command : Command) (result : Result (List ℕ) (Or Refusal)) → asks command ≡ true → build_of s.active lane ≡ None → waiting s lane ≡ Some command → AnswersAs result (decision (scene s) command) → AnswersNext s (next_tag s lane) result
+pub answered_so : (s : State) (lane : ℕ) (command : Command) (result : Result (List ℕ) (Or Refusal)) → is_query command ≡ true → build_of s.active lane ≡ None → waiting s lane ≡ Some command → AnswersAs result (decision (scene s) command) → AnswersNext s (next_tag s lane) result
 answered_so s lane command (Ok text) query free e answers =
     let within = in_phase s.phase lane (done_of s.done lane) command e in
     let next = next_is s lane command free e in

@@ -1,7 +1,7 @@
 -- The rows that commands make which build nothing.
 use Rattle.std.proofs.Common.{◌≡◌, ℕ, ◌||◌, true, false, Option, Some, None, Ok, List, refl, ap, subst, ◌∙◌}
 use Rattle.carried_out.specs.CarriedOut.{is_carried_out, is_made}
-use Rattle.carried_out.specs.Queries.{asks}
+use Rattle.legal_history.specs.Queries.QueryLines.{is_query}
 use Rattle.cc_names.specs.declared.commands.Command.{Command}
 use Rattle.cc_names.specs.declared.commands.Command.TheVariants as commands
 use Rattle.cc_names.specs.declared.refusals.Refusal.{Refusal}
@@ -46,7 +46,7 @@ finishes_save v path text (Element e picked) made = absurd (cc)
 finishes_save v path text (Unselected e) made = absurd (cc)
 
 -- the row of a command that is carried out, and neither builds nor asks, finishes the command
-pub command_finishes : (s : Scene) (command : Command) (deed : Deed) → is_carried_out command ≡ true → (builds command || asks command) ≡ false → decision s command ≡ Ok (Makes deed) → is_made deed ≡ true → FinishesCommand deed
+pub command_finishes : (s : Scene) (command : Command) (deed : Deed) → is_carried_out command ≡ true → (builds command || is_query command) ≡ false → decision s command ≡ Ok (Makes deed) → is_made deed ≡ true → FinishesCommand deed
 command_finishes s (commands.Mkview v) deed carried idle e made = subst FinishesCommand (same_deed _ (deeds.Mkview v) deed e) (finishes_mkview v)
 command_finishes s (commands.Rmview v force) deed carried idle e made = subst FinishesCommand (same_deed _ (deeds.Rmview v) deed e) (finishes_rmview v)
 command_finishes s (commands.Save v path text) deed carried idle e made =

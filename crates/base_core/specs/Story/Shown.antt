@@ -1,4 +1,4 @@
--- How contracts see the value behind the lock.
+-- How contracts see a core: its story, and how its disk was seen.
 use Rattle.std.specs.Prelude.{List}
 use Rattle.cc_names.specs.declared.steps.Told.{Told}
 use Rattle.disk_model.specs.Told.{Sight}

@@ -2,7 +2,6 @@
 
 use super::Core;
 use crate::logs::Appended;
-use carried_out::asks;
 use cc_names::copies::Copied;
 use cc_names::desks::Done;
 use cc_names::memory::{NoMemory, Or};
@@ -12,13 +11,13 @@ use cc_names::rows::{Row, Tag};
 use cc_names::steps::Step;
 use cc_names::texts::Text;
 use checkout_desk::{decide, view_of};
-use cleartool::answer;
+use cleartool::{answer, is_query};
 use disk_model::Disk;
 use std::alloc::Global;
 
 impl<D: Disk> Core<D> {
     ghost use Rattle.std.specs.Prelude.{◌≡◌, true, false, OnOk, OnErr, IfOk, IfSome};
-    ghost use Rattle.carried_out.specs.Queries.{asks};
+    ghost use Rattle.legal_history.specs.Queries.QueryLines.{is_query};
     ghost use Rattle.cc_names.specs.declared.desks.Done.TheVariants as dones;
     ghost use Rattle.cc_names.specs.declared.desks.Next.TheVariants as nexts;
     ghost use Rattle.legal_history.specs.Stories.States.{next_tag};
@@ -38,7 +37,7 @@ impl<D: Disk> Core<D> {
     fn decide(&self, alloc: Global, lane: u32) -> Result<Row, Or<Refusal>>
         requires act { next_of (state_of self.now.story) lane ≡ nexts.Act }
         requires no_query { IfSome (waiting (state_of self.now.story) lane)
-            (λ command. asks command ≡ false) }
+            (λ command. is_query command ≡ false) }
         ensures { DecidesNext (state_of self.now.story) (next_tag (state_of self.now.story) lane)
             result }
     {
@@ -51,7 +50,7 @@ impl<D: Disk> Core<D> {
     fn find_answer(&self, alloc: Global, lane: u32) -> Result<Text, Or<Refusal>>
         requires act { next_of (state_of self.now.story) lane ≡ nexts.Act }
         requires query { IfSome (waiting (state_of self.now.story) lane)
-            (λ command. asks command ≡ true) }
+            (λ command. is_query command ≡ true) }
         ensures { AnswersNext (state_of self.now.story) (next_tag (state_of self.now.story) lane)
             result }
     {
@@ -115,7 +114,7 @@ impl<D: Disk> Core<D> {
     fn make_row(&mut self, alloc: Global, lane: u32) -> Result<Done, NoMemory>
         requires act { next_of (state_of self.old.story) lane ≡ nexts.Act }
         requires no_query { IfSome (waiting (state_of self.old.story) lane)
-            (λ command. asks command ≡ false) }
+            (λ command. is_query command ≡ false) }
         ensures ok { IfOk result (λ done. Acts self.old.story self.new.story lane done) }
         ensures err { OnErr result (self.new ≡ self.old) }
         ensures counted { KeepsCount self.old self.new }
@@ -135,7 +134,7 @@ impl<D: Disk> Core<D> {
     fn ask(&mut self, alloc: Global, lane: u32) -> Result<Done, NoMemory>
         requires act { next_of (state_of self.old.story) lane ≡ nexts.Act }
         requires query { IfSome (waiting (state_of self.old.story) lane)
-            (λ command. asks command ≡ true) }
+            (λ command. is_query command ≡ true) }
         ensures ok { IfOk result (λ done. Acts self.old.story self.new.story lane done) }
         ensures err { OnErr result (self.new ≡ self.old) }
         ensures counted { KeepsCount self.old self.new }
@@ -166,7 +165,7 @@ impl<D: Disk> Core<D> {
         ensures counted { KeepsCount self.old self.new }
     {
         let command = self.command(lane);
-        if asks(command) {
+        if is_query(command) {
             self.ask(alloc, lane)
         } else {
             self.make_row(alloc, lane)

@@ -1,5 +1,5 @@
 -- What a query decides is a text, unless a test refuses: what holds of every text holds of whatever is decided of it.
-use Rattle.std.proofs.Common.{◌≡◌, ℕ, Bool, true, false, Some, None, List, [], ◌∷◌}
+use Rattle.std.proofs.Common.{◌≡◌, ℕ, true, Some, None, List, [], ◌∷◌}
 use Rattle.std.specs.Prelude.{unwrap_or}
 use Rattle.cc_names.specs.Paths.{root}
 use Rattle.cc_names.specs.References.{held_at}
@@ -17,24 +17,9 @@ use Rattle.legal_history.specs.Queries.ElementTexts.{describe_text, lsvtree_text
 use Rattle.legal_history.specs.Queries.HistoryTexts.{lshistory_text}
 use Rattle.legal_history.specs.Queries.ListingTexts.{ls_text, lsdo_text}
 use Rattle.legal_history.specs.Queries.Merges.{findmerge_text}
-use Rattle.legal_history.specs.Queries.QueryLines.{ls_tests, cat_tests, cat_version_tests, text_row, text_at, version_seen, answers_of, answers_of_object, findmerge_tests}
+use Rattle.legal_history.specs.Queries.QueryLines.{is_query, ls_tests, cat_tests, cat_version_tests, text_row, text_at, version_seen, answers_of, answers_of_object, findmerge_tests}
 use Rattle.legal_history.specs.Queries.RecordTexts.{catcr_text, diffcr_text, covers_text, uncovered}
 use Rattle.legal_history.proofs.Decisions.Handed.{IfDecided, past_is, selected_is, object_is, answer_is}
-
--- whether a command is a query
-abbrev pub is_query : Command → Bool
-is_query (commands.Catcs v) = true
-is_query (commands.Lsdo v) = true
-is_query (commands.Ls v path) = true
-is_query (commands.Cat v path version) = true
-is_query (commands.Describe v path) = true
-is_query (commands.Lsvtree v path) = true
-is_query (commands.Lshistory v path) = true
-is_query (commands.Catcr v path) = true
-is_query (commands.Diffcr v path other second) = true
-is_query (commands.Covers seer v path) = true
-is_query (commands.Findmerge v path branch) = true
-is_query command = false
 
 text_is : (P : Decision → Type 0) (s : Scene) (v path : List ℕ) (text : ℕ → Picked → List ℕ) → ((t : List ℕ) → P (Answers t)) → IfDecided P (answers_of s v path text)
 text_is P s v path text so =

@@ -1,7 +1,9 @@
--- The queries: the tests of each in their order, and its text.
-use Rattle.std.specs.Prelude.{ℕ, ◌||◌, is_none, Option, Some, None, Result, List, [], ◌∷◌, codes, unwrap_or, option_and_then, bytes_eq}
+-- The queries: which commands they are, the tests of each in their order, and its text.
+use Rattle.std.specs.Prelude.{ℕ, Bool, true, false, ◌||◌, is_none, Option, Some, None, Result, List, [], ◌∷◌, codes, unwrap_or, option_and_then, bytes_eq}
 use Rattle.cc_names.specs.Paths.{root}
 use Rattle.cc_names.specs.References.{held_at}
+use Rattle.cc_names.specs.declared.commands.Command.{Command}
+use Rattle.cc_names.specs.declared.commands.Command.TheVariants as commands
 use Rattle.cc_names.specs.declared.commands.VersionName.{VersionName}
 use Rattle.cc_names.specs.declared.refusals.Refusal.{Refusal}
 use Rattle.cc_names.specs.declared.refusals.Refusal.TheVariants as refusals
@@ -23,6 +25,21 @@ use Rattle.legal_history.specs.Base.Seen.{at, file_at}
 use Rattle.legal_history.specs.Commands.Tests.{refused_where, refused_unless, needs_view, needs_selected, needs_directory, needs_no_directory, needs_element}
 use Rattle.legal_history.specs.Base.Texts.{text}
 use Rattle.legal_history.specs.Base.Views.{spec_text}
+
+-- whether a command is a query: it asks for a text, and makes no row
+abbrev pub is_query : Command → Bool
+is_query (commands.Catcs v) = true
+is_query (commands.Lsdo v) = true
+is_query (commands.Ls v path) = true
+is_query (commands.Cat v path version) = true
+is_query (commands.Describe v path) = true
+is_query (commands.Lsvtree v path) = true
+is_query (commands.Lshistory v path) = true
+is_query (commands.Catcr v path) = true
+is_query (commands.Diffcr v path other second) = true
+is_query (commands.Covers seer v path) = true
+is_query (commands.Findmerge v path branch) = true
+is_query command = false
 
 -- `catcs V`: the view's config spec as it was set; a view that exists has one
 abbrev pub catcs : Scene → List ℕ → Result Decision Refusal

@@ -14,7 +14,7 @@ fn matched(alloc: Global, rule: &str, path: &str) -> Result<bool, Fail> {
     let spec = Spec::read(alloc, rule.as_bytes()).map_err(|_| "no spec")?;
     let path = Path::read(alloc, path.as_bytes()).map_err(|_| "no path")?;
     let rule = spec.rules().first().ok_or("no rule")?;
-    Ok(rule.pattern.matches(&path))
+    Ok(rule.pattern.matches(path.as_bytes()))
 }
 
 fn matches(rt: &impl Abort, alloc: Global, table: &[(&str, &str, bool)]) -> Result<(), Fail> {

@@ -1,19 +1,18 @@
 use Rattle.std.proofs.Common.{sym, ap, ◌∙◌}
-use Rattle.cc_names.specs.Versions.{of_first_rows}
 use Rattle.config_spec.specs.Children.{child}
 use Rattle.config_spec.proofs.Steps.{leads_on, leads_nowhere}
 use Rattle.config_spec.proofs.branches.branch_behind.Goals as goal
 
 pub returns-in-None : goal.returns-in-None
-returns-in-None c =
-    let changes = of_first_rows c.args.rows c.args.tree.now.changes in
+returns-in-None g c =
+    let changes = (g.S.Sources.selectables c.args.sources.now).tree in
     let none = c.in-None.ensures in
     sym (c.loop-name.invariant ∙ leads_nowhere changes c.args.element c.loop-name.branch c.args.names.now c.loop-name.name-index c.name-item.result
     c.loop-name-test.true (ap (child changes c.args.element c.loop-name.branch) (sym c.name-item.is) ∙ sym none))
 
 pub loop-name-preserved : goal.loop-name-preserved
-loop-name-preserved c =
-    let changes = of_first_rows c.args.rows c.args.tree.now.changes in
+loop-name-preserved g c =
+    let changes = (g.S.Sources.selectables c.args.sources.now).tree in
     let next = c.in-Some.ensures in
     c.loop-name.invariant ∙ leads_on changes c.args.element c.loop-name.branch c.args.names.now c.loop-name.name-index c.name-item.result c.in-Some.next
     c.loop-name-test.true (ap (child changes c.args.element c.loop-name.branch) (sym c.name-item.is) ∙ sym next)

@@ -1,6 +1,6 @@
 use Rattle.std.proofs.Common.{length}
 use Rattle.session_text.specs.Sessions.{lanes_of}
-use Rattle.session_text.proofs.Right.{IsPast}
+use Rattle.session_text.specs.Reading.{IsPast}
 use Rattle.session_text.proofs.finding.find_lane.Given as goal
 
 abbrev pub invariant-lines : goal.invariant-lines

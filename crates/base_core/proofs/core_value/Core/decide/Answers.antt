@@ -1,7 +1,7 @@
 -- the decision on a lane's next command is that of its state
 use Rattle.std.proofs.Common.{◌≡◌, false, None, ap, sym, subst, ◌∙◌}
 use Rattle.std.specs.Prelude.{IfSome}
-use Rattle.carried_out.specs.Queries.{asks}
+use Rattle.legal_history.specs.Queries.QueryLines.{is_query}
 use Rattle.checkout_desk.specs.Commands.{view_of}
 use Rattle.checkout_desk.specs.Deciding.{Sees}
 use Rattle.legal_history.specs.Builds.Active.{build_of, building}
@@ -21,7 +21,7 @@ pub decide-requires-clause-no_build : goal.decide-requires-clause-no_build
 decide-requires-clause-no_build g c = acts (state_of c.args.self.now.story) c.args.lane c.command-command.result.now c.command-command.ensures.next c.requires.act
 
 pub decide-requires-clause-no_query : goal.decide-requires-clause-no_query
-decide-requires-clause-no_query g c = subst (λ found. IfSome found (λ command. asks command ≡ false)) c.command-command.ensures.next c.requires.no_query
+decide-requires-clause-no_query g c = subst (λ found. IfSome found (λ command. is_query command ≡ false)) c.command-command.ensures.next c.requires.no_query
 
 pub returns : goal.returns
 returns g c =
@@ -29,7 +29,7 @@ returns g c =
     let free : build_of (state_of c.args.self.now.story).active c.args.lane ≡ None = subst (λ t. build_of (state_of t).active c.args.lane ≡ None) same
     (acting_is_free c.self.inside.log c.self.inside.lanes c.self.inside.moment c.args.lane c.self.invariant (ap (λ t. next_of (state_of t) c.args.lane) same ∙ c.requires.act)) in
     decided_so c.args.self.now.story c.args.lane c.occasion-occasion.result c.command-command.result.now (view_of c.command-command.result.now) c.rows.result c.decide.result
-    (subst Legal same c.self.invariant.story.legal) c.command-command.ensures.carried_out (acts (state_of c.args.self.now.story) c.args.lane c.command-command.result.now c.command-command.ensures.next c.requires.act) (subst (λ found. IfSome found (λ command. asks command ≡ false)) c.command-command.ensures.next c.requires.no_query) free
+    (subst Legal same c.self.invariant.story.legal) c.command-command.ensures.carried_out (acts (state_of c.args.self.now.story) c.args.lane c.command-command.result.now c.command-command.ensures.next c.requires.act) (subst (λ found. IfSome found (λ command. is_query command ≡ false)) c.command-command.ensures.next c.requires.no_query) free
     c.command-command.ensures.next c.occasion-occasion.ensures.tag c.occasion-occasion.ensures.moment (c.rows.ensures ∙ sym c.self.invariant.story.base ∙ ap (λ t. (state_of t).base) same)
     (c.occasion-occasion.ensures.busy ∙ ap (building (state_of c.args.self.now.story).active) c.view_of.ensures) c.occasion-occasion.ensures.taken
     (λ scene moment sees. c.decide.ensures.decided scene moment sees) c.decide.ensures.made c.decide.ensures.room

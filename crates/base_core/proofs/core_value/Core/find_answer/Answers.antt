@@ -1,7 +1,7 @@
 -- the answer to a lane's next command is that of its state
 use Rattle.std.proofs.Common.{◌≡◌, true, None, ap, sym, subst, ◌∙◌}
 use Rattle.std.specs.Prelude.{IfSome}
-use Rattle.carried_out.specs.Queries.{asks}
+use Rattle.legal_history.specs.Queries.QueryLines.{is_query}
 use Rattle.legal_history.specs.Builds.Active.{build_of}
 use Rattle.legal_history.specs.Stories.States.{scene}
 use Rattle.legal_history.specs.Stories.Steps.{state_of}
@@ -15,7 +15,7 @@ pub command-command-requires : goal.command-command-requires
 command-command-requires g c = acts_waits (state_of c.args.self.now.story) c.args.lane c.requires.act
 
 pub answer-requires-clause-query : goal.answer-requires-clause-query
-answer-requires-clause-query g c = subst (λ found. IfSome found (λ command. asks command ≡ true)) c.command-command.ensures.next c.requires.query
+answer-requires-clause-query g c = subst (λ found. IfSome found (λ command. is_query command ≡ true)) c.command-command.ensures.next c.requires.query
 
 pub returns : goal.returns
 returns g c =
@@ -23,5 +23,5 @@ returns g c =
     let same = ap (λ v. v.story) c.self.view_is in
     let free : build_of s.active c.args.lane ≡ None = subst (λ t. build_of (state_of t).active c.args.lane ≡ None) same
     (acting_is_free c.self.inside.log c.self.inside.lanes c.self.inside.moment c.args.lane c.self.invariant (ap (λ t. next_of (state_of t) c.args.lane) same ∙ c.requires.act)) in
-    answered_so s c.args.lane c.command-command.result.now c.answer.result (subst (λ found. IfSome found (λ command. asks command ≡ true)) c.command-command.ensures.next c.requires.query) free
+    answered_so s c.args.lane c.command-command.result.now c.answer.result (subst (λ found. IfSome found (λ command. is_query command ≡ true)) c.command-command.ensures.next c.requires.query) free
     c.command-command.ensures.next (c.answer.ensures (scene s) (sym (c.rows.ensures ∙ sym c.self.invariant.story.base ∙ ap (λ t. (state_of t).base) same)))

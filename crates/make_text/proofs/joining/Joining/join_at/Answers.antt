@@ -1,4 +1,4 @@
-use Rattle.std.proofs.Common.{◌<◌, ◌∙◌, sym, length, arith}
+use Rattle.std.proofs.Common.{◌∙◌, sym, arith}
 use Rattle.make_text.specs.Joining.{joined_targets, HasNew, HasLonger, HasTarget}
 use Rattle.make_text.proofs.JoinLemmas.{target_there, target_new}
 use Rattle.make_text.proofs.NumberLemmas.{number_within}

@@ -1,4 +1,4 @@
-use Rattle.std.proofs.Common.{◌≡◌, ap, ◌∙◌, ◌==◌, false, length, List, ℕ, map, arith}
+use Rattle.std.proofs.Common.{◌≡◌, ap, ◌∙◌, ◌==◌, false, length, map, arith}
 use Rattle.make_text.specs.Rules.{MakeRule}
 use Rattle.make_text.specs.WordPaths.{once_joined}
 use Rattle.make_text.proofs.OnceLemmas.{some_later}

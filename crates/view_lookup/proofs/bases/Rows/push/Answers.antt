@@ -1,23 +1,29 @@
--- The row's marks and its change of the trees are those of the row.
-use Rattle.std.proofs.Common.{◌≡◌, ℕ, ◌+◌, ◌&&◌, true, List, [], ◌∷◌, ◌++◌, length, map, reverse, nat_eq, sym, ap, ap₂, subst, ◌∙◌, arith, rules}
+-- The row's marks, its changes of the trees and of the labels and its config spec are those of the row.
+use Rattle.std.proofs.Common.{◌≡◌, ℕ, ◌+◌, ◌≤◌, ◌&&◌, true, List, [], ◌∷◌, ◌++◌, length, map, reverse, nat_eq, sym, ap, ap₂, subst, ◌∙◌, arith, rules}
 use Rattle.std.proofs.lemmas.Grind.{common_steps}
 use Rattle.std.proofs.lemmas.List.{length-reverse, reverse-append}
 use Rattle.std.specs.HashMap.{get}
 use Rattle.std.specs.declared.random_state.RandomState.{RandomState}
 use Rattle.cc_names.specs.Falling.{IsAbove}
-use Rattle.cc_names.specs.Formed.{Plain}
+use Rattle.cc_names.specs.Formed.{IsDeedFormed, Plain}
 use Rattle.cc_names.specs.Versions.{row_of_change}
+use Rattle.cc_names.specs.declared.changes.LabelChange.{LabelChange}
 use Rattle.cc_names.specs.declared.changes.TreeChange.{TreeChange}
 use Rattle.cc_names.specs.declared.rows.Deed.{Deed}
-use Rattle.legal_history.specs.Base.Changes.{tree}
+use Rattle.label_book.specs.Marks.{rows_of_pair}
+use Rattle.legal_history.specs.Base.Changes.{labels, labels_after, tree}
 use Rattle.legal_history.specs.Base.Fits.{fits}
 use Rattle.legal_history.specs.Base.Rows.{Base, size}
 use Rattle.view_lookup.specs.Growing.{HasPlace, change_of, tree_change, with_change}
 use Rattle.view_lookup.specs.Known.{IsKnown}
+use Rattle.view_lookup.specs.Labelling.{AreLabels, HasLabelRoom}
 use Rattle.view_lookup.specs.Marked.{IsMarked, marked, with_marks}
+use Rattle.view_lookup.specs.SetSpecs.{rules_set, specs_set, with_spec}
 use Rattle.view_lookup.specs.Shown.{Shown}
 use Rattle.view_lookup.specs.Subjects.{key, named_targets, subjects}
 use Rattle.view_lookup.proofs.Growths.{above_tree, tree_by_change}
+use Rattle.view_lookup.proofs.Labellings.{above_labels, after_same, same_twice}
+use Rattle.view_lookup.proofs.SpecsSet.{set_short}
 use Rattle.view_lookup.proofs.bases.Rows.push.Goals as goal
 
 -- the marks of one row more
@@ -54,6 +60,27 @@ grow-requires-clause-place c =
     subst (λ added. HasPlace c.self.inside.tree c.take.result added) (sym change)
     (subst (λ name. HasPlace c.self.inside.tree name (tree_change c.args.self.now.base moment c.args.row.deed)) (sym c.take.ensures.value) kept)
 
+pub relabel-requires-clause-above : goal.relabel-requires-clause-above
+relabel-requires-clause-above c = λ l e.
+    let older : Base = reverse c.self.inside.rows.items in
+    let kept = c.self.inside.labels.changes in
+    let len : c.len.result ≡ length older = grind (arith, common_steps, length-reverse c.self.inside.rows.items) in
+    let number : c.len.result + 1 ≡ size older = omega arith in
+    subst (λ n. IsAbove n (rows_of_pair l e kept)) (sym number) (above_labels older kept c.self.invariant.labelled l e)
+
+pub relabel-requires-clause-room : goal.relabel-requires-clause-room
+relabel-requires-clause-room c =
+    let kept = subst (λ (shown : Shown). HasLabelRoom shown.labels c.args.row.deed) (sym c.self.view_is) c.requires.room.labels in
+    subst (λ (deed : Deed). HasLabelRoom c.self.inside.labels deed) (sym c.deed-4.ensures.deed) kept
+
+pub relabel-requires-clause-formed : goal.relabel-requires-clause-formed
+relabel-requires-clause-formed c = subst IsDeedFormed (sym c.deed-4.ensures.deed) c.deed-4.ensures.formed.deed
+
+pub keep_spec-requires : goal.keep_spec-requires
+keep_spec-requires c =
+    let room = subst (λ (shown : Shown). 1 ≤ shown.spec_room) (sym c.self.view_is) c.requires.room.spec_room in
+    omega arith
+
 pub invariant_of-self : goal.invariant_of-self
 invariant_of-self c =
     let row : Plain = c.args.row in
@@ -86,6 +113,14 @@ invariant_of-self c =
           c.mark_all.ensures.rows c.self.invariant.marks.chained q
           ∙ marked_more hashing (c.len.result + 1) c.named_targets-targets.result.now c.deed-3.result.now row older q _ number named c.deed-3.ensures.deed (c.self.invariant.marks.rows q);
     } in
+    let kept = c.self.inside.labels.changes in
+    let at_number : labels_after (c.len.result + 1) c.deed-4.result.now (labels older) ≡ labels (row ∷ older) =
+    ap₂ (λ n deed. labels_after n deed (labels older)) number c.deed-4.ensures.deed in
+    let labelled : AreLabels c.relabel.new.book.changes (labels_after (c.len.result + 1) c.deed-4.result.now (labels older)) =
+    same_twice c.relabel.new.book.changes (labels_after (c.len.result + 1) c.deed-4.result.now kept) (labels_after (c.len.result + 1) c.deed-4.result.now (labels older))
+    c.relabel.ensures (after_same (c.len.result + 1) c.deed-4.result.now kept (labels older) c.self.invariant.labelled) in
+    let given : c.take-2.result ≡ rules_set row.deed =
+    c.take-2.ensures.value ∙ ap (λ (shown : Shown). shown.spec) c.self.view_is ∙ c.requires.room.spec ∙ set_short row.deed c.deed-4.ensures.formed.deed in
     record {
       known = subst IsKnown (sym back) known;
       marks = subst (λ (b : Base). IsMarked hashing c.mark_all.new.links.items (get nat_eq c.mark_all.new.newest) b) (sym back) marks;
@@ -94,4 +129,9 @@ invariant_of-self c =
           ∙ ap (with_change (tree_change older row.moment row.deed)) c.self.invariant.trees
           ∙ sym (tree_by_change row older)
           ∙ ap tree (sym back);
+      labelled = subst (λ (changes : List LabelChange). AreLabels c.relabel.new.book.changes changes) (at_number ∙ ap labels (sym back)) labelled;
+      specs = c.keep_spec.ensures
+          ∙ ap₂ (λ n rules. with_spec n rules (reverse c.self.inside.specs.items)) number given
+          ∙ ap (with_spec (size older) (rules_set row.deed)) c.self.invariant.specs
+          ∙ ap specs_set (sym back);
     }

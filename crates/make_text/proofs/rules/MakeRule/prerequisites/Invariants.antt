@@ -1,6 +1,0 @@
-use Rattle.std.proofs.Common.{◌≡◌, fold, map, drop}
-use Rattle.make_text.specs.WordPaths.{with_path, once_joined}
-use Rattle.make_text.proofs.rules.MakeRule.prerequisites.Given as goal
-
-abbrev pub invariant-loop-part : goal.invariant-loop-part
-invariant-loop-part l = fold (fold with_path) l.paths.keys (map (λ part. part.value) (drop l.part-index l.part-items)) ≡ once_joined (map (λ part. part.value) l.part-items)

@@ -1,0 +1,14 @@
+use Rattle.std.proofs.Common.{◌∙◌, refl, sym, ap, length}
+use Rattle.session_text.specs.declared.kinds.Kind.TheVariants as kinds
+use Rattle.session_text.specs.Ahead.{ahead_by}
+use Rattle.session_text.specs.Reading.{FindsCommand}
+use Rattle.session_text.proofs.Seen.{IsSeen, first-at, first-asks}
+use Rattle.session_text.proofs.lanes.CommandsLeft.ahead.Goals as goal
+
+pub returns : goal.returns
+returns c =
+    let finds : FindsCommand c.rest-rest.result c.in-Some.word c.in-Some._words c.find_command.new.rest = c.in-Some.ensures in
+    let seen : IsSeen c.self.inside.place c.rest-rest.result (kinds.Command c.in-Some.word c.in-Some._words) c.find_command.new.rest (length c.find_command.new.rest.bytes) =
+    record { rest = c.rest-rest.ensures.rest; within = c.rest-rest.ensures.within; found = finds.found; left = refl } in
+    let first = first-at c.self.inside.place c.rest-rest.result c.find_command.new.rest (length c.find_command.new.rest.bytes) c.in-Some.word c.in-Some._words c.args.self.now seen finds.same (sym c.self.view_is) c.rest-rest.ensures.right in
+    c.ahead_by.ensures ∙ ap ahead_by c.as_slice.ensures ∙ sym (first-asks c.in-Some.word c.in-Some._words c.find_command.new.rest c.args.self.now first)

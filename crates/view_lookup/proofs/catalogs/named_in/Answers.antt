@@ -1,0 +1,27 @@
+-- A name stands for another one in a catalog of fewer rows, until a row tells its element.
+use Rattle.std.proofs.Common.{◌≡◌, ℕ, ◌<◌, ◌≤◌, length, sym, ap, subst, ◌∙◌, arith}
+use Rattle.legal_history.specs.Base.Catalogs.{named}
+use Rattle.legal_history.specs.Base.Rows.{Base, first_rows, size}
+use Rattle.legal_history.proofs.Bases.Stay.{all_rows}
+use Rattle.view_lookup.specs.Entries.{catalog_in}
+use Rattle.view_lookup.proofs.catalogs.named_in.Goals as goal
+
+at_most_itself : (n : ℕ) → n ≤ n
+at_most_itself n = omega arith
+
+pub loop-found-init : goal.loop-found-init
+loop-found-init c =
+    ap (λ (b : Base). named c.args.name.now (catalog_in b c.args.catalog))
+    (c.first_rows-rows.ensures ∙ ap (λ n. first_rows n c.args.rows.now) c.size.ensures.size ∙ all_rows c.args.rows.now (size c.args.rows.now) (at_most_itself (size c.args.rows.now)))
+
+pub returns-in-Is : goal.returns-in-Is
+returns-in-Is c = sym c.in-Is.ensures ∙ c.loop-found.invariant
+
+pub loop-found-smaller : goal.loop-found-smaller
+loop-found-smaller c = subst (λ (b : Base). length b < length c.loop-found.rows) (sym c.first_rows-rows-in-As.ensures) c.in-As.ensures.0
+
+pub loop-found-preserved : goal.loop-found-preserved
+loop-found-preserved c =
+    ap (λ (b : Base). named c.in-As.other.now (catalog_in b c.in-As.older)) c.first_rows-rows-in-As.ensures
+    ∙ sym c.in-As.ensures.1
+    ∙ c.loop-found.invariant

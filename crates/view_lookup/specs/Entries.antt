@@ -1,0 +1,58 @@
+-- A name in a catalog, told by the newest row that bears on it: what rows do to the catalog of a view's checkout of a directory.
+use Rattle.std.specs.Prelude.{◌≡◌, ℕ, ◌<◌, Bool, true, false, ◌||◌, Option, List, length, bytes_eq}
+use Rattle.cc_names.specs.Last.{Sets, only_if}
+use Rattle.legal_history.specs.Base.Catalogs.{Catalog, Edit, Same, BeginsEmpty, BeginsAs, Adds, Removes, Renames, named, catalog_of, own_of, edit_of}
+use Rattle.legal_history.specs.Base.Rows.{Base, size, first_rows}
+use Rattle.view_lookup.specs.LookUps.{Deeds}
+use Rattle.view_lookup.specs.Ended.{or_else}
+use Rattle.view_lookup.specs.declared.edits.Edit as code
+use Rattle.view_lookup.specs.declared.edits.Edit.TheVariants as codes
+use Rattle.view_lookup.specs.declared.catalogs.Catalog as places
+use Rattle.view_lookup.specs.declared.catalogs.Catalog.TheVariants.{OfVersion, OfCheckout}
+use Rattle.view_lookup.specs.declared.catalogs.Entry.{Entry}
+use Rattle.view_lookup.specs.declared.catalogs.Entry.TheVariants.{Is, As}
+
+-- whether an edit begins the catalog of a checkout
+abbrev pub begins : Edit → Bool
+begins BeginsEmpty = true
+begins (BeginsAs origin) = true
+begins edit = false
+
+-- whether an edit gives a name, takes it away or changes it
+abbrev pub changes : List ℕ → Edit → Bool
+changes name (Adds other e) = bytes_eq other name
+changes name (Removes other) = bytes_eq other name
+changes name (Renames from_name to_name) = bytes_eq from_name name || bytes_eq to_name name
+changes name edit = false
+
+-- a checkout of a directory is begun
+abbrev pub begun_effect : List ℕ → ℕ → Deeds ℕ
+begun_effect v d older deed = only_if (begins (edit_of v d (size older) deed)) (Sets (size older))
+
+-- a name is changed in a checkout of a directory
+abbrev pub changed_effect : List ℕ → ℕ → List ℕ → Deeds ℕ
+changed_effect v d name older deed = only_if (changes name (edit_of v d (size older) deed)) (Sets (size older))
+
+-- either of them
+abbrev pub entry_effect : List ℕ → ℕ → List ℕ → Deeds ℕ
+entry_effect v d name older deed = or_else (begun_effect v d older deed) (changed_effect v d name older deed)
+
+-- an edit as code has it
+abbrev pub plain_edit : code.Edit → Edit
+plain_edit codes.Same = Same
+plain_edit codes.BeginsEmpty = BeginsEmpty
+plain_edit (codes.BeginsAs origin) = BeginsAs origin
+plain_edit (codes.Adds name e) = Adds name.now e
+plain_edit (codes.Removes name) = Removes name.now
+plain_edit (codes.Renames from_name to_name) = Renames from_name.now to_name.now
+
+-- the catalog that is meant, in a base
+abbrev pub catalog_in : Base → places.Catalog → Catalog
+catalog_in b (OfVersion r) = catalog_of b r
+catalog_in b (OfCheckout v d) = own_of b v.now d
+
+-- what is known of a name in a catalog is so, and where it stands for another name, that is one in a catalog of fewer rows
+abbrev pub IsEntryOf : Base → List ℕ → Catalog → Entry → Type 0
+IsEntryOf b name catalog (Is found) = named name catalog ≡ found
+IsEntryOf b name catalog (As count place other) =
+    (length (first_rows count b) < length b) × (named name catalog ≡ named other.now (catalog_in (first_rows count b) place))

@@ -1,0 +1,149 @@
+// Which element a name stands for in a catalog: in that of a version of a directory, or in that of a view's checkout of one.
+
+ghost use Rattle.std.specs.Prelude.{◌≡◌, Some};
+ghost use Rattle.legal_history.specs.Base.Catalogs.{catalog_of, named, own_of};
+ghost use Rattle.view_lookup.specs.Entries.{IsEntryOf, catalog_in, entry_effect};
+ghost use Rattle.view_lookup.specs.LookUps.{last_of};
+
+use crate::bases::{FirstRows, first_rows, row_at};
+use crate::edits::{BegunOf, ChangedOf, Edit, edit_of, is_name};
+use crate::look_ups::{later, left_by};
+use cc_names::names::Name;
+use cc_names::rows::Deed;
+
+/// A catalog: that of a version of a directory, or that of a view's checkout of one.
+#[derive(Clone, Copy)]
+enum Catalog<'a> {
+    OfVersion(u64),
+    OfCheckout(&'a Name, u64),
+}
+
+/// What a row tells of a name in a catalog: its element, if any, or that it stands for what a name stands for in a catalog of
+/// the rows below that one.
+#[derive(Clone, Copy)]
+enum Entry<'a> {
+    Is(Option<u64>),
+    As(u64, Catalog<'a>, &'a [u8]),
+}
+
+/// A name in the catalog of a version, by the row that made the version.
+fn entry_of_version<'a>(rows: &FirstRows<'a>, version: u64, name: &'a [u8]) -> Entry<'a>
+    ensures { IsEntryOf rows.now name.now (catalog_of rows.now version) result }
+{
+    match row_at(rows, version) {
+        None => Entry::Is(None),
+        Some(row) => match row.deed() {
+            Deed::Branch { origin, .. } => Entry::As(version, Catalog::OfVersion(*origin), name),
+            Deed::Checkin { view, element } => {
+                Entry::As(version, Catalog::OfCheckout(view, *element), name)
+            }
+            _ => Entry::Is(None),
+        },
+    }
+}
+
+/// A name in the catalog of a view's checkout of a directory, by the newest row that bears on it there.
+fn entry_by<'a>(
+    rows: &FirstRows<'a>,
+    view: &'a Name,
+    directory: u64,
+    name: &'a [u8],
+    number: u64,
+) -> Entry<'a>
+    requires { last_of (entry_effect view.now directory name.now) rows.now ≡ Some number }
+    ensures { IsEntryOf rows.now name.now (own_of rows.now view.now directory) result }
+{
+    rows.are_base();
+    match row_at(rows, number) {
+        None => Entry::Is(None),
+        Some(row) => match edit_of(view, directory, number, row.deed()) {
+            Edit::Same => Entry::Is(None),
+            Edit::BeginsEmpty => Entry::Is(None),
+            Edit::BeginsAs(origin) => Entry::As(number, Catalog::OfVersion(origin), name),
+            Edit::Adds(_, element) => Entry::Is(Some(element)),
+            Edit::Removes(_) => Entry::Is(None),
+            Edit::Renames(from, to) => {
+                if is_name(name, to) {
+                    Entry::As(
+                        number,
+                        Catalog::OfCheckout(view, directory),
+                        from.as_bytes(),
+                    )
+                } else {
+                    Entry::Is(None)
+                }
+            }
+        },
+    }
+}
+
+/// A name in the catalog of a view's checkout of a directory.
+fn entry_of_checkout<'a>(
+    rows: &FirstRows<'a>,
+    view: &'a Name,
+    directory: u64,
+    name: &'a [u8],
+) -> Entry<'a>
+    ensures { IsEntryOf rows.now name.now (own_of rows.now view.now directory) result }
+{
+    let begun = rows.newest(&BegunOf { view, directory });
+    let changed = rows.newest(&ChangedOf {
+        view,
+        directory,
+        name,
+    });
+    match left_by(later(begun, changed)) {
+        None => Entry::Is(None),
+        Some(number) => entry_by(rows, view, directory, name, number),
+    }
+}
+
+fn entry_of<'a>(rows: &FirstRows<'a>, catalog: Catalog<'a>, name: &'a [u8]) -> Entry<'a>
+    ensures { IsEntryOf rows.now name.now (catalog_in rows.now catalog.entry) result }
+{
+    match catalog {
+        Catalog::OfVersion(version) => entry_of_version(rows, version, name),
+        Catalog::OfCheckout(view, directory) => entry_of_checkout(rows, view, directory, name),
+    }
+}
+
+/// The element that a name stands for in a catalog. Goes from version to version, back to the one by which the name was changed
+/// last.
+fn named_in<'a>(rows: &FirstRows<'a>, catalog: Catalog<'a>, name: &'a [u8]) -> Option<u64>
+    ensures { result ≡ named name.now (catalog_in rows.now catalog.entry) }
+{
+    let mut rows = first_rows(rows, rows.size());
+    let mut catalog = catalog;
+    let mut name = name;
+    loop {
+        match entry_of(&rows, catalog, name) {
+            Entry::Is(found) => return found,
+            Entry::As(count, older, other) => {
+                rows = first_rows(&rows, count);
+                catalog = older;
+                name = other;
+            }
+        }
+    }
+}
+
+/// The element that a name stands for in the catalog of a version of a directory, where it is there. Takes time linear in the
+/// names, and in the versions since the name was changed last.
+pub fn named_by_version(rows: &FirstRows<'_>, version: u64, name: &Name) -> Option<u64>
+    ensures { result ≡ named name.now (catalog_of rows.now version) }
+{
+    named_in(rows, Catalog::OfVersion(version), name.as_bytes())
+}
+
+/// The element that a name stands for in the catalog of a view's checkout of a directory, where it is there. Takes time linear in
+/// the names, and in the versions since the name was changed last.
+pub fn named_by_checkout(
+    rows: &FirstRows<'_>,
+    view: &Name,
+    directory: u64,
+    name: &Name,
+) -> Option<u64>
+    ensures { result ≡ named name.now (own_of rows.now view.now directory) }
+{
+    named_in(rows, Catalog::OfCheckout(view, directory), name.as_bytes())
+}

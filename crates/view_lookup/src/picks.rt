@@ -1,0 +1,88 @@
+// Which version of an element a view selects.
+
+ghost use Rattle.std.specs.Prelude.{◌≡◌};
+ghost use Rattle.cc_names.specs.Paths.{names_of};
+ghost use Rattle.legal_history.specs.Base.Seen.{selected};
+
+use crate::bases::FirstRows;
+use crate::desks::making;
+use crate::labels::holder;
+use crate::trees::{branch_named, branch_of_version, latest_version, origin_of, version_numbered};
+use crate::view_specs::rules;
+use cc_names::names::Name;
+use cc_names::paths::Path;
+use cc_names::selection::Picked;
+use config_spec::{Sources, pick_from};
+
+/// What the records of objects list.
+pub trait Records {
+    ghost use Rattle.std.specs.Prelude.{◌≡◌};
+    ghost use Rattle.legal_history.specs.Base.Closures.{listed};
+
+    /// The version of the element that the record of an object with this target lists, where these rows have the object.
+    fn listed(&self, rows: &FirstRows<'_>, object: u64, target: &Path, element: u64) -> Option<u64>
+        ensures { result ≡ listed rows.now object target.now element };
+}
+
+/// What there is to select from in the first rows of a base, and the row that makes the text of the view's checkout.
+#[derive(Drop)]
+struct Sight<'a, 'b, R> {
+    rows: &'a FirstRows<'b>,
+    records: &'a R,
+    out: Option<u64>,
+}
+
+impl<R: Records> Sources for Sight<'_, '_, R> {
+    ghost use Rattle.view_lookup.specs.Picking.{selectables};
+
+    ghost selectables = { λ sight. selectables sight.rows.now sight.out };
+
+    fn branch_named(&self, element: u64, name: &Name) -> Option<u64> {
+        branch_named(self.rows, element, name)
+    }
+
+    fn branch_above(&self, branch: u64) -> Option<u64> {
+        branch_of_version(self.rows, origin_of(self.rows, branch)?)
+    }
+
+    fn latest(&self, branch: u64, before: Option<u64>) -> Option<u64> {
+        latest_version(self.rows, branch, before)
+    }
+
+    fn numbered(&self, branch: u64, number: u64) -> Option<u64> {
+        version_numbered(self.rows, branch, number)
+    }
+
+    fn holder(&self, label: &Name, element: u64) -> Option<u64> {
+        holder(self.rows, label, element)
+    }
+
+    fn listed(&self, object: u64, target: &Path, element: u64) -> Option<u64> {
+        self.records.listed(self.rows, object, target, element)
+    }
+
+    fn checkout(&self) -> Option<u64> {
+        self.out
+    }
+}
+
+/// What the first rule of the view's config spec that decides picks of the element at the path of these bytes. Takes the time of `making` and of
+/// `rules`, and for each rule tried the matching of the path and one look-up, for a rule that names a branch two for each of its
+/// names; no memory.
+pub fn pick<R: Records>(
+    rows: &FirstRows<'_>,
+    view: &Name,
+    element: u64,
+    path: &[u8],
+    records: &R,
+) -> Option<Picked>
+    ensures { result ≡ selected rows.now view.now element (names_of path.now) }
+{
+    let spec = rules(rows, view)?;
+    let sight = Sight {
+        rows,
+        records,
+        out: making(rows, view, element),
+    };
+    pick_from(&sight, spec, element, path)
+}
