@@ -9,7 +9,8 @@ CCBASE is the built program: `rt run` in crates/ccbase makes it, as out/ccbase t
 - two programs at once on one base: whoever comes second is told so, and every acknowledged row is there afterwards;
 - a session that is still being written: the base is not held meanwhile;
 - foreign bytes in FILE: they are told before the first row is written over them, and not told where no row can be;
-- a FILE that cannot be opened, words of no form, a text that is no session: one line says why, and no file is made.
+- a FILE that cannot be opened, words of no form, a text that is no session, an input that cannot be read: one line says why, and no
+  file is made.
 
 Prints a line for each check that passed, and ends with 1 at the first thing that is wrong.
 """
@@ -53,13 +54,13 @@ class Edge:
         with open(self.path(name), "wb") as file:
             file.write(data)
 
-    def start(self, words, text=None, closed=""):
-        """Starts the program; `closed` is what a shell writes to close descriptors. Without a text its input stays open."""
+    def start(self, words, text=None, descriptors=""):
+        """Starts the program; `descriptors` is what a shell writes to close or direct them. Without a text its input stays open."""
         with tempfile.TemporaryFile() as given:
             given.write(text or b"")
             given.seek(0)
             return subprocess.Popen(
-                ["sh", "-c", f'exec "$0" "$@" {closed}', self.program, *words],
+                ["sh", "-c", f'exec "$0" "$@" {descriptors}', self.program, *words],
                 cwd=self.folder,
                 stdin=subprocess.PIPE if text is None else given,
                 stdout=subprocess.PIPE,
@@ -71,12 +72,12 @@ class Edge:
         output, errors = process.communicate(text)
         return process.returncode, output, errors
 
-    def run(self, words, text, closed=""):
-        return self.end(self.start(words, text, closed))
+    def run(self, words, text, descriptors=""):
+        return self.end(self.start(words, text, descriptors))
 
-    def has(self, words, text, wanted, closed=""):
+    def has(self, words, text, wanted, descriptors=""):
         """Runs the program, which has to end so."""
-        same(" ".join(words), self.run(words, text, closed), wanted)
+        same(" ".join(words), self.run(words, text, descriptors), wanted)
 
     def holds(self, name, rows):
         """Checks that a base holds these rows, one shut gate behind them, and that it opens."""
@@ -201,6 +202,12 @@ def words_of_no_form(edge):
     edge.has_none_but([])
 
 
+def input_that_cannot_be_read(edge):
+    wanted = (5, b"read fault\n", b"ccbase: standard input: a read failed\n")
+    edge.has(["b", "run"], b"", wanted, "< .")
+    edge.has_none_but([])
+
+
 def no_session(edge):
     text = b"phase\nlane a\nfrob v\n"
     wanted = (3, b"bad session 3 UnknownCommand\n", b"ccbase: standard input: it is no session\n")
@@ -222,6 +229,7 @@ CHECKS = [
     rows_cut_short,
     files_that_cannot_be_opened,
     words_of_no_form,
+    input_that_cannot_be_read,
     no_session,
 ]
 

@@ -12,3 +12,4 @@ pub mod Reserving
 pub mod Rooms
 pub mod SlotLists
 pub mod Staying
+pub mod Waiting

@@ -5,16 +5,16 @@ mod building;
 mod looks;
 mod units;
 
-use crate::commands::last_phase;
 use crate::history::History;
 use crate::lanes::Lanes;
 use crate::logs::Log;
 use crate::opening::{OpenFault, open_log};
-use cc_names::commands::Phase;
+use crate::phases::last_phase;
 use cc_names::memory::NoMemory;
 use cc_names::replies::Reply;
 use cc_names::steps::Counts;
 use disk_model::{Disk, DiskFault};
+use session_text::PhaseText;
 use std::alloc::Global;
 use std::hash::RandomState;
 use std::marker::Model;
@@ -80,9 +80,14 @@ impl<D: Disk> Core<D> {
         }
     }
 
-    /// Begins a phase. An `Err` changes nothing. Makes no device call. Takes time linear in the number of lanes,
-    /// and memory for a reply to each of their commands.
-    pub fn begin_phase(&mut self, alloc: Global, phase: Phase, moment: u64) -> Result<(), NoMemory>
+    /// Begins a phase. An `Err` changes nothing. Makes no device call. Takes time linear in its text,
+    /// and memory for a reply to each of its commands: these are made one by one as their turn comes.
+    pub fn begin_phase(
+        &mut self,
+        alloc: Global,
+        phase: PhaseText,
+        moment: u64,
+    ) -> Result<(), NoMemory>
         requires finished { all_done (state_of self.old.story) ≡ true }
         requires formed { IsPhase command_limit phase }
         requires carried_out { AreCarriedOut phase }
@@ -100,11 +105,18 @@ impl<D: Disk> Core<D> {
     }
 
     /// The phase that began last.
-    pub fn phase(&self) -> &Phase
+    pub fn phase(&self) -> &PhaseText
         requires { 0 < (state_of self.now.story).number }
         ensures { result.now ≡ (state_of self.now.story).phase }
     {
         last_phase(self.log.phases())
+    }
+
+    /// How many lanes the last phase has.
+    pub fn lanes(&self) -> usize
+        ensures { result ≡ length (state_of self.now.story).phase.lanes }
+    {
+        self.lanes.count()
     }
 
     /// The replies to the finished commands of a lane of the last phase, in order.

@@ -2,20 +2,20 @@
 
 ghost use Rattle.std.specs.Prelude.{◌≡◌, []};
 
-use cc_names::commands::Phase;
 use cc_names::rows::Row;
 use cc_names::steps::{Counts, Step};
 use disk_model::Disk;
+use session_text::PhaseText;
 use std::alloc::Global;
 use std::marker::{Model, PhantomData};
 
-/// The story of a session with the rows and phases that it names. Contracts see it as the story, each commit told with
-/// its row and each plan with its phase. A session that opened no base has the empty story. Whether the disk told its device
-/// is a part of the story, and known by the disk's type alone.
+/// The story of a session with the rows and phases that it names, the phases kept as their text. Contracts see it as the story,
+/// each commit told with its row and each plan with its phase. A session that opened no base has the empty story. Whether the
+/// disk told its device is a part of the story, and known by the disk's type alone.
 #[derive(Drop)]
 pub struct History<D: Disk> {
     rows: Vec<Row>,
-    phases: Vec<Phase>,
+    phases: Vec<PhaseText>,
     steps: Vec<Step>,
     handed: Counts,
     on: PhantomData<D>,
@@ -58,7 +58,7 @@ impl<D: Disk> History<D> {
     /// The history of these steps with the rows and phases that they name, in their order.
     pub(crate) fn of(
         rows: Vec<Row>,
-        phases: Vec<Phase>,
+        phases: Vec<PhaseText>,
         steps: Vec<Step>,
         handed: Counts,
     ) -> History<D>

@@ -1,23 +1,26 @@
-// What is kept for the lanes of a phase: the replies to their finished commands, and their active builds.
+// What is kept for the lanes of a phase: the commands that are left, the replies to those that are finished, and the active
+// builds.
 
-ghost use Rattle.std.specs.Prelude.{◌≡◌, ◌≤◌};
+ghost use Rattle.std.specs.Prelude.{◌≡◌, ◌≤◌, IfOk};
 ghost use Rattle.build_core.specs.Slots.{numbered};
 ghost use Rattle.legal_history.specs.Base.Fits.{row_limit};
 ghost use Rattle.legal_history.specs.Builds.Active.{building, reserved};
 ghost use Rattle.base_core.specs.Keeping.Lanes.{builds_in};
 
 use build_core::{ActiveBuild, Came};
-use cc_names::commands::{Lane as Commands, Phase};
+use cc_names::commands::Command;
 use cc_names::memory::NoMemory;
 use cc_names::replies::Reply;
 use cc_names::rows::Tag;
+use session_text::{Ahead, CommandsLeft, LaneText, PhaseText};
 use std::alloc::Global;
 use std::marker::Model;
 
-/// A lane: the replies to its finished commands, in order, and its active build. It has room for a reply to each of its
-/// commands, so that none of them can lack one once it is carried out.
+/// A lane: its commands that are not finished, kept as their text, the replies to those that are, in order, and its active
+/// build. It has room for a reply to each of its commands, so that none of them can lack one once it is carried out.
 #[derive(Drop)]
 struct Lane {
+    commands: CommandsLeft,
     replies: Vec<Reply>,
     build: Option<ActiveBuild>,
 }
@@ -29,6 +32,7 @@ impl Model for Lane {
     ghost Value = { LaneKept };
 
     ghost view = { λ lane. record {
+      commands = lane.commands;
       replies = lane.replies.items;
       room = vec_capacity lane.replies;
       build = lane.build;
@@ -36,35 +40,41 @@ impl Model for Lane {
 }
 
 impl Lane {
-    ghost use Rattle.std.specs.Prelude.{◌≡◌, ◌<◌, ◌∷◌, ◌++◌, [], length, None, Some, IfOk, IsSome, option_copied};
+    ghost use Rattle.std.specs.Prelude.{◌≡◌, ◌<◌, ◌∷◌, ◌++◌, [], length, drop, None, Some, IfOk, IsSome, option_copied};
     ghost use Rattle.build_core.specs.Comes.{came_of};
     ghost use Rattle.legal_history.specs.Builds.Active.{Build};
     ghost use Rattle.legal_history.specs.Stories.Steps.{with_came};
     ghost use Rattle.base_core.specs.Keeping.Lanes.{begun_lane};
 
-    /// A lane as its phase begins, with no reply and no build.
-    fn new(alloc: Global, lane: &Commands) -> Result<Lane, NoMemory>
-        ensures { IfOk result (λ kept. kept ≡ begun_lane lane.now) }
+    /// A lane as its phase begins, with no reply and no build. Takes time linear in its text, and memory for a reply to each of
+    /// its commands.
+    fn new(alloc: Global, lane: LaneText) -> Result<Lane, NoMemory>
+        ensures { IfOk result (λ kept. kept ≡ begun_lane lane) }
     {
-        let replies = Vec::with_capacity(alloc, lane.commands.as_slice().len())?;
+        let (_name, commands) = lane.into_parts();
+        let replies = Vec::with_capacity(alloc, commands.count())?;
         Ok(Lane {
+            commands,
             replies,
             build: None,
         })
     }
 
-    /// Replies to the lane's next command.
+    /// Replies to the lane's next command, which is finished.
     fn reply(&mut self, reply: Reply)
         requires { length self.old.replies < self.old.room }
+        ensures commands { self.new.commands ≡ drop 1 self.old.commands }
         ensures replies { self.new.replies ≡ self.old.replies ++ reply ∷ [] }
         ensures room { self.new.room ≡ self.old.room }
         ensures build { self.new.build ≡ self.old.build }
     {
+        self.commands.skip();
         self.replies.push_reserved(reply);
     }
 
     /// Has another build, or none.
     fn set_build(&mut self, build: Option<ActiveBuild>)
+        ensures commands { self.new.commands ≡ self.old.commands }
         ensures replies { self.new.replies ≡ self.old.replies }
         ensures room { self.new.room ≡ self.old.room }
         ensures build { self.new.build ≡ build }
@@ -77,6 +87,7 @@ impl Lane {
         requires build { IsSome self.old.build }
         requires unit { (build : Build) → self.old.build ≡ Some build
             → unit < length build.units }
+        ensures commands { self.new.commands ≡ self.old.commands }
         ensures replies { self.new.replies ≡ self.old.replies }
         ensures room { self.new.room ≡ self.old.room }
         ensures build { (build : Build) → self.old.build ≡ Some build
@@ -109,10 +120,13 @@ impl Lanes {
     ghost use Rattle.legal_history.specs.Base.Fits.{row_limit};
     ghost use Rattle.legal_history.specs.Builds.Active.{Build, build_of, building, reserved};
     ghost use Rattle.legal_history.specs.Stories.Steps.{with_came};
+    ghost use Rattle.session_text.specs.Ahead.{ahead_of};
     ghost use Rattle.base_core.specs.Keeping.Lanes.{
       build_at,
       builds_in,
       fresh_lanes,
+      lane_in,
+      next_in,
       replies_at,
       room_at,
       put_build,
@@ -129,16 +143,52 @@ impl Lanes {
         }
     }
 
-    /// The lanes of a phase that begins. Takes time linear in their number, and memory for a reply to each command.
-    pub(crate) fn begin(alloc: Global, phase: &Phase) -> Result<Lanes, NoMemory>
+    /// The lanes of a phase that begins. Takes time linear in its text, and memory for a reply to each command.
+    pub(crate) fn begin(alloc: Global, phase: &PhaseText) -> Result<Lanes, NoMemory>
         ensures { IfOk result (λ lanes. lanes ≡ fresh_lanes phase.now.lanes) }
     {
-        let of_phase = phase.lanes.as_slice();
-        let mut lanes = Vec::with_capacity(alloc, of_phase.len())?;
-        for lane in of_phase {
+        let mut left = phase.lanes()?;
+        let mut lanes = Vec::new(alloc);
+        'each: while let Some(lane) = left.next(alloc)? {
             lanes.push(Lane::new(alloc, lane)?)?;
         }
         Ok(Lanes { lanes })
+    }
+
+    /// How many they are.
+    pub(crate) fn count(&self) -> usize
+        ensures { result ≡ length self.now }
+    {
+        self.lanes.len()
+    }
+
+    /// The lane of this number.
+    fn lane(&self, lane: u32) -> Option<&Lane>
+        ensures { option_copied result ≡ lane_in self.now lane }
+    {
+        let index = lane.checked_sub(1)?;
+        self.lanes.get(index as usize)
+    }
+
+    /// What the next command of a lane asks for. Takes time linear in its line and those before it that are left.
+    pub(crate) fn ahead(&self, lane: u32) -> Ahead
+        ensures { result ≡ ahead_of (next_in self.now lane) }
+    {
+        match self.lane(lane) {
+            Some(lane) => lane.commands.ahead(),
+            None => Ahead::Nothing,
+        }
+    }
+
+    /// The next command of a lane, which is left there. Takes time linear in its lines and those before it that are left, and
+    /// memory for it.
+    pub(crate) fn next(&self, alloc: Global, lane: u32) -> Result<Option<Command>, NoMemory>
+        ensures { IfOk result (λ command. command ≡ next_in self.now lane) }
+    {
+        match self.lane(lane) {
+            Some(lane) => lane.commands.peek(alloc),
+            None => Ok(None),
+        }
     }
 
     /// The replies to the finished commands of a lane, in order.

@@ -18,13 +18,13 @@
 // `view_lookup` and `session_text`, `build_script` and `make_text` for scripts and units, and `cc_names` for plain data.
 #![tactic(auto)]
 
-mod commands;
 mod core_value;
 mod history;
 mod lanes;
 pub mod laws;
 mod logs;
 mod opening;
+mod phases;
 mod turns;
 
 pub use core_value::Core;

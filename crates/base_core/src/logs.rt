@@ -7,13 +7,13 @@ ghost use Rattle.std.specs.Vec.{vec_len, vec_capacity};
 ghost use Rattle.std.specs.Option.{option_to_list};
 
 use crate::history::History;
-use cc_names::commands::Phase;
 use cc_names::copies::Copied;
 use cc_names::memory::NoMemory;
 use cc_names::rows::Row;
 use cc_names::steps::{Counts, Step};
 use disk_model::{Disk, DiskFault};
 use row_form::spell;
+use session_text::PhaseText;
 use std::alloc::Global;
 use std::marker::Model;
 use view_lookup::{FirstRows, Rows};
@@ -32,7 +32,7 @@ pub(crate) enum Appended {
 #[derive(Drop)]
 pub(crate) struct Log<D: Disk> {
     rows: Rows,
-    phases: Vec<Phase>,
+    phases: Vec<PhaseText>,
     steps: Vec<Step>,
     /// The disk's counts as it was handed in.
     handed: Counts,
@@ -167,7 +167,7 @@ impl<D: Disk> Log<D> {
     }
 
     /// Tells that a phase began. An `Err` changes nothing.
-    pub(crate) fn plan(&mut self, phase: Phase, moment: u64) -> Result<(), NoMemory>
+    pub(crate) fn plan(&mut self, phase: PhaseText, moment: u64) -> Result<(), NoMemory>
         requires few { length self.old.phases + 1 < 2 ^ 32 }
         ensures ok { OnOk result (self.new ≡ with_phase self.old phase moment) }
         ensures err { OnErr result (self.new ≡ self.old) }
@@ -276,7 +276,7 @@ impl<D: Disk> Log<D> {
     }
 
     /// The phases that began.
-    pub(crate) fn phases(&self) -> &[Phase]
+    pub(crate) fn phases(&self) -> &[PhaseText]
         ensures { result.now ≡ self.now.phases }
     {
         self.phases.as_slice()

@@ -1,6 +1,6 @@
 // How a base is opened: the rows of its journal are read one by one, and each has to fit those before it.
 
-ghost use Rattle.std.specs.Prelude.{◌≡◌, [], ◌∷◌, true, IfOk, IfErr, OnOk};
+ghost use Rattle.std.specs.Prelude.{◌≡◌, ◌&&◌, [], ◌∷◌, true, IfOk, IfErr, OnOk};
 ghost use Rattle.carried_out.specs.CarriedOut.{is_made};
 ghost use Rattle.legal_history.specs.Base.Fits.{fits};
 ghost use Rattle.disk_model.specs.Devices.{file_of, bytes_of};
@@ -54,6 +54,17 @@ fn next_payload<D: Disk>(alloc: Global, journal: &mut Journal<D>) -> Result<Opti
     }
 }
 
+/// Whether what is carried out so far makes a row, and it fits the rows before. Fails only where memory runs out.
+fn may_follow(alloc: Global, rows: &FirstRows<'_>, row: &Row) -> Result<bool, NoMemory>
+    ensures { IfOk result (λ is. is ≡ (is_made row.now.deed && fits rows.now row.now.deed)) }
+{
+    if is_made(row.deed()) {
+        fits(alloc, rows, row)
+    } else {
+        Ok(false)
+    }
+}
+
 /// The row that the payload of the next frame spells, where what is carried out so far makes it and it fits the rows before.
 fn next_row(
     alloc: Global,
@@ -66,13 +77,11 @@ fn next_row(
 {
     let number = rows.size();
     match read(alloc, hashing, payload) {
-        Ok(row) => {
-            if is_made(row.deed()) && fits(rows, &row) {
-                Ok(row)
-            } else {
-                Err(OpenCause::Damaged(number))
-            }
-        }
+        Ok(row) => match may_follow(alloc, rows, &row) {
+            Ok(true) => Ok(row),
+            Ok(false) => Err(OpenCause::Damaged(number)),
+            Err(NoMemory) => Err(OpenCause::NoMemory),
+        },
         Err(Or::NoMemory) => Err(OpenCause::NoMemory),
         Err(Or::Is(_)) => Err(OpenCause::Damaged(number)),
     }

@@ -2,6 +2,7 @@ mod Cames
 mod Early
 mod Members
 mod NeededUnits
+mod ReusedObjects
 pub mod RunsEach
 pub mod RunsEnded
 pub mod RunsEntries

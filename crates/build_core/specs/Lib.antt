@@ -2,6 +2,7 @@ pub mod BuildForms
 pub mod Comes
 pub mod Plans
 pub mod Publishing
+pub mod Reusing
 pub mod RunLaws
 pub mod SightLaws
 pub mod Sights

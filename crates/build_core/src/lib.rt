@@ -2,13 +2,14 @@
 //
 // What it is for: `plan_build` decides a clearmake: `graph` says which units its build has, over the files of its view,
 // or why it is refused. An `ActiveBuild` keeps what its units have come to; `step` says what comes next for a unit,
-// `run_unit` runs its script over what the unit sees, `publish_row` makes the row of what the run gave, and `reply_of` says
-// what a build that has ended is replied.
+// `run_unit` runs its script over what the unit sees, `reusable` says which object it may reuse in place of a run,
+// `publish_row` makes the row of what the run gave, and `reply_of` says what a build that has ended is replied.
 //
 // What it promises: a clearmake is decided as the model decides it, and what it begins is formed. The units, or the refusal
 // in their place, are those of the definition of the units of a build, for any files, makefile, macros and goals. An active
 // build is the model's, each step is one that the model lets the unit take, what a script finds is what the model lets the
-// unit see, and a run and its row are those that the model has for the unit. A reply is the model's.
+// unit see, and a run and its row, and the object that it may reuse, are those that the model has for the unit. A reply is the
+// model's.
 //
 // What it stands on: `make_text` for makefiles and the definition of units, `make_graph` for the units of a makefile that
 // was read, `view_lookup` for what a view sees, `build_script` for scripts, `session_text` for the form of
@@ -23,6 +24,7 @@ mod laws;
 mod plans;
 mod publishes;
 mod replies;
+mod reuse;
 mod runs;
 mod sights;
 mod steps;
@@ -33,5 +35,6 @@ pub use laws::{a_unit_may_publish, units_are_formed};
 pub use plans::graph;
 pub use publishes::publish_row;
 pub use replies::reply_of;
+pub use reuse::reusable;
 pub use runs::run_unit;
 pub use steps::{UnitStep, step};

@@ -1,11 +1,13 @@
 -- How include lines are looked for and how `pp` goes on.
-use Rattle.std.proofs.Common.{◌≡◌, ℕ, zero, suc, ◌+◌, ◌-◌, ◌<◌, ◌≤◌, Option, Some, None, Bool, true, false, Result, Ok, Err, List, [], ◌∷◌, ◌++◌, length, map, drop, reverse, refl, ap, sym, ◌∙◌, subst, arith}
+use Rattle.std.proofs.Common.{◌≡◌, ℕ, zero, suc, ◌+◌, ◌-◌, ◌<◌, ◌≤◌, Option, Some, None, Bool, true, false, Result, Ok, Err, List, [], ◌∷◌, ◌++◌, length, map, drop, reverse, refl, ap, sym, ◌∙◌, subst, arith, length-append}
 use Rattle.std.specs.Prelude.{nat_lt}
 use Rattle.std.proofs.lemmas.List.{map-append, reverse-append, length-reverse, length-map}
 use borrow.Author.Tests.{ltb-true, ltb-false}
 use Rattle.cc_names.specs.declared.refusals.ScriptFault.{ScriptFault}
 use Rattle.build_script.specs.Forms.{lines_in}
-use Rattle.build_script.specs.Includes.{include_of}
+use Rattle.cc_names.specs.Paths.{is_root}
+use Rattle.build_script.specs.Includes.{include_of, under}
+use Rattle.build_script.specs.Lines.{path_in}
 use Rattle.build_script.specs.Making.{includes, resumed}
 use Rattle.build_script.specs.Opens.{rest_of, rests_of}
 use Rattle.build_script.specs.Parts.{Carried, Gave, Halted}
@@ -22,6 +24,16 @@ lt_true m n h = by (nat_lt m n) refl
     by : (t : Bool) → nat_lt m n ≡ t → t ≡ true
     by true e = refl
     by false e = absurd (omega (arith, ltb-false _ _ e))
+
+-- too many bytes are no path
+too_long : (bytes : List ℕ) → 1024 < length bytes → path_in bytes ≡ None
+too_long [] h = absurd (omega arith)
+too_long (b ∷ bytes) h = rw (lt_true 1024 (length (b ∷ bytes)) h) refl
+
+-- and so there is no such path under a directory
+pub under_too_long : (path directory : List ℕ) → is_root directory ≡ false → 1024 < length directory + 1 + length path → under path directory ≡ None
+under_too_long path directory below h =
+    rw below (too_long (directory ++ 47 ∷ path) (omega (arith, length-append directory (47 ∷ path))))
 
 -- nothing is behind all items
 pub all_dropped : {X : Type 0} (items : List X) (n : ℕ) → length items ≤ n → drop n items ≡ []

@@ -8,6 +8,9 @@ use cc_names::memory::NoMemory;
 use cc_names::paths::Path;
 use std::alloc::Global;
 
+/// The most bytes that a path may have.
+const PATH_LIMIT: usize = 1_024;
+
 /// What an include line begins with, before its path and a `"`.
 const INCLUDE_START: &[u8] = b"#include \"";
 
@@ -42,12 +45,16 @@ pub(crate) fn include_of(alloc: Global, line: &[u8]) -> Result<Option<Path>, NoM
     quoted(alloc, &line[INCLUDE_START.len()..])
 }
 
-/// A path under a directory, or nothing where it would be longer than a path may be.
+/// A path under a directory, or nothing where it would be longer than a path may be: that is told by the lengths alone.
+#[tactic(auto, using(crate::proofs::IncludeLemmas::under_too_long))]
 pub(crate) fn under(alloc: Global, path: &Path, directory: &Path) -> Result<Option<Path>, NoMemory>
     ensures { IfOk result (λ place. place ≡ under path.now directory.now) }
 {
     if directory.is_root() {
         return Ok(Some(path.copy(alloc)?));
+    }
+    if directory.as_bytes().len() + 1 + path.as_bytes().len() > PATH_LIMIT {
+        return Ok(None);
     }
     let mut bytes = Vec::from_slice(alloc, directory.as_bytes())?;
     bytes.push(b'/')?;

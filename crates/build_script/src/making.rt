@@ -157,7 +157,8 @@ pub(crate) fn say(making: Making<'_>, made: &mut Made, more: &[u8]) -> Result<()
     Ok(())
 }
 
-/// A text with each occurrence of some bytes replaced by others. Takes time linear in the text and what is said.
+/// A text with each occurrence of some bytes replaced by others. Takes time linear in those bytes, the text and what is
+/// said.
 fn say_replaced(
     making: Making<'_>,
     made: &mut Made,
@@ -172,8 +173,9 @@ fn say_replaced(
     if from.is_empty() {
         return say(making, made, text);
     }
+    let finder = memmem::Finder::new(from);
     let mut rest = text;
-    while let Some(place) = memmem::find(rest, from) {
+    while let Some(place) = finder.find(rest) {
         say(making, made, &rest[..place])?;
         say(making, made, to)?;
         rest = &rest[place + from.len()..];

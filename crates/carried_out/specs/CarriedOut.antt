@@ -13,10 +13,21 @@ use Rattle.cc_names.specs.declared.rows.Deed.TheVariants as deeds
 abbrev pub is_carried_out : Command → Bool
 is_carried_out (commands.Mkview view) = true
 is_carried_out (commands.Rmview view force) = true
+is_carried_out (commands.Setcs view text) = true
+is_carried_out (commands.Mkelem view nco path) = true
+is_carried_out (commands.Mkdir view nco path) = true
+is_carried_out (commands.Checkout view unreserved path) = true
+is_carried_out (commands.Mkbranch view nco branch path) = true
 is_carried_out (commands.Save view path text) = true
 is_carried_out (commands.Rm view path) = true
+is_carried_out (commands.Checkin view identical path) = true
+is_carried_out (commands.Uncheckout view path) = true
+is_carried_out (commands.Rmname view path) = true
+is_carried_out (commands.Mv view path name) = true
 is_carried_out (commands.Mklbtype name) = true
 is_carried_out (commands.Mkbrtype name) = true
+is_carried_out (commands.Mklabel view replace label path) = true
+is_carried_out (commands.Rmlabel view label path) = true
 is_carried_out (commands.Clearmake view file own_only rebuild jobs macros goals) = true
 is_carried_out (commands.Catcs view) = true
 is_carried_out (commands.Cat view path None) = true
@@ -26,9 +37,20 @@ is_carried_out command = false
 abbrev pub is_made : Deed → Bool
 is_made (deeds.Mkview view) = true
 is_made (deeds.Rmview view) = true
+is_made (deeds.Setcs view text) = true
+is_made (deeds.Mkelem view directory name kind out) = true
+is_made (deeds.Checkout view element origin reserved) = true
+is_made (deeds.Branch view element origin name out) = true
+is_made (deeds.Save view element text) = true
+is_made (deeds.Checkin view element) = true
+is_made (deeds.Uncheckout view element) = true
+is_made (deeds.Rmname view directory name) = true
+is_made (deeds.Mv view directory from_name to_name) = true
 is_made (deeds.Put view path text) = true
 is_made (deeds.Rm view path) = true
 is_made (deeds.Mktype kind name) = true
+is_made (deeds.Label label element version) = true
+is_made (deeds.Unlabel label element) = true
 is_made (deeds.Publish view targets script entries outputs) = true
 is_made deed = false
 

@@ -23,10 +23,21 @@ pub fn is_carried_out(command: &Command) -> bool
         command,
         Command::Mkview { .. }
             | Command::Rmview { .. }
+            | Command::Setcs { .. }
+            | Command::Mkelem { .. }
+            | Command::Mkdir { .. }
+            | Command::Checkout { .. }
+            | Command::Mkbranch { .. }
             | Command::Save { .. }
             | Command::Rm { .. }
+            | Command::Checkin { .. }
+            | Command::Uncheckout { .. }
+            | Command::Rmname { .. }
+            | Command::Mv { .. }
             | Command::Mklbtype { .. }
             | Command::Mkbrtype { .. }
+            | Command::Mklabel { .. }
+            | Command::Rmlabel { .. }
             | Command::Clearmake { .. }
             | Command::Catcs { .. }
             | Command::Cat { version: None, .. }
@@ -41,9 +52,20 @@ pub fn is_made(deed: &Deed) -> bool
         deed,
         Deed::Mkview { .. }
             | Deed::Rmview { .. }
+            | Deed::Setcs { .. }
+            | Deed::Mkelem { .. }
+            | Deed::Checkout { .. }
+            | Deed::Branch { .. }
+            | Deed::Save { .. }
+            | Deed::Checkin { .. }
+            | Deed::Uncheckout { .. }
+            | Deed::Rmname { .. }
+            | Deed::Mv { .. }
             | Deed::Put { .. }
             | Deed::Rm { .. }
             | Deed::Mktype { .. }
+            | Deed::Label { .. }
+            | Deed::Unlabel { .. }
             | Deed::Publish { .. }
     )
 }

@@ -8,7 +8,8 @@ use crate::{
 };
 use cc_names::memory::Or;
 use std::alloc::Global;
-use std::io::{self, Cursor};
+use std::cell::Cell;
+use std::io::{self, Cursor, Read, Write};
 use std::test::Fail;
 use std::time::Duration;
 
@@ -96,14 +97,107 @@ fn a_reader_of_the_library_is_read_to_its_end(rt: HostRuntime) -> Result<(), Fai
     Ok(())
 }
 
+// More than the pieces that are asked for at once.
+#[test]
+fn a_long_reader_is_read_to_its_end(rt: HostRuntime) -> Result<(), Fail> {
+    let mut bytes = Vec::new(rt.alloc());
+    for place in 0..200_000u32 {
+        bytes.push((place % 251) as u8)?;
+    }
+    let mut source = StdSource::new(Cursor::new(bytes.as_slice()));
+    let text = read_whole(rt.alloc(), &mut source, 200_000)?;
+    assert!(rt; text.as_bytes() == bytes.as_slice());
+    Ok(())
+}
+
+// Gives a line once, and then fails.
+#[derive(Drop)]
+struct Breaking {
+    given: bool,
+}
+
+impl Read for Breaking {
+    fn read(&mut self, into: &mut [u8]) -> io::Result<usize> {
+        if self.given {
+            return Err(io::Error::from(io::ErrorKind::Other));
+        }
+        self.given = true;
+        let mut line = b"phase\n".as_slice();
+        line.read(into)
+    }
+}
+
+#[test]
+fn a_reader_that_fails_is_a_fault(rt: HostRuntime) {
+    let mut source = StdSource::new(Breaking { given: false });
+    let mut piece = [0; 8];
+    assert_eq!(rt; source.read(&mut piece), Ok(6));
+    assert_eq!(rt; &piece[..6], b"phase\n".as_slice());
+    assert_eq!(rt; source.read(&mut piece), Err(ReadFault));
+    let mut source = StdSource::new(Breaking { given: false });
+    let unread = read_whole(rt.alloc(), &mut source, 100).err();
+    assert_eq!(rt; unread, Some(Or::Is(Unread::Fault)));
+}
+
 #[test]
 fn a_writer_of_the_library_gets_the_whole_text(rt: HostRuntime) -> Result<(), Fail> {
     let mut bytes = Vec::new(rt.alloc());
     let mut sink = StdSink::new(&mut bytes);
-    assert_eq!(rt; write_whole(&mut sink, b"bad words\n"), Ok(()));
+    assert_eq!(rt; write_whole(&mut sink, b"phase 1\n"), Ok(()));
+    assert_eq!(rt; write_whole(&mut sink, b"lane a\n"), Ok(()));
     drop(sink);
-    assert_eq!(rt; bytes.as_slice(), b"bad words\n".as_slice());
+    assert_eq!(rt; bytes.as_slice(), b"phase 1\nlane a\n".as_slice());
     Ok(())
+}
+
+// Takes one byte at a call.
+#[derive(Drop)]
+struct Slow {
+    bytes: Vec<u8>,
+}
+
+impl Write for Slow {
+    fn write(&mut self, piece: &[u8]) -> io::Result<usize> {
+        let count = piece.len().min(1);
+        self.bytes.extend_from_slice(&piece[..count])?;
+        Ok(count)
+    }
+
+    fn flush(&mut self) -> io::Result<()> {
+        Ok(())
+    }
+}
+
+#[test]
+fn a_slow_writer_gets_the_whole_text(rt: HostRuntime) {
+    let mut slow = Slow {
+        bytes: Vec::new(rt.alloc()),
+    };
+    let mut sink = StdSink::new(&mut slow);
+    assert_eq!(rt; write_whole(&mut sink, b"phase 1\n"), Ok(()));
+    drop(sink);
+    assert_eq!(rt; slow.bytes.as_slice(), b"phase 1\n".as_slice());
+}
+
+// Takes nothing and says why.
+#[derive(Drop)]
+struct Broken;
+
+impl Write for Broken {
+    fn write(&mut self, _piece: &[u8]) -> io::Result<usize> {
+        Err(io::Error::from(io::ErrorKind::Other))
+    }
+
+    fn flush(&mut self) -> io::Result<()> {
+        Ok(())
+    }
+}
+
+#[test]
+fn a_writer_that_fails_is_a_fault(rt: HostRuntime) {
+    let mut sink = StdSink::new(Broken);
+    assert_eq!(rt; sink.write(b"abc"), Err(WriteFault));
+    assert_eq!(rt; write_whole(&mut sink, b"abc"), Err(WriteFault));
 }
 
 // A writer without room, which takes nothing and says so without an error.
@@ -114,14 +208,25 @@ fn a_writer_that_takes_nothing_is_a_fault(rt: HostRuntime) {
     assert_eq!(rt; write_whole(&mut sink, b"abc"), Err(WriteFault));
 }
 
-// A clock of the system that fails, or tells this moment.
+// A clock of the system that tells 5, fails, and tells 3 from then on; or one that fails always.
 struct Fake {
-    seconds: Option<u64>,
+    works: bool,
+    readings: Cell<u8>,
 }
 
 impl Drop for Fake {
     fn drop(self) {
-        let Fake { seconds: _ } = self;
+        let Fake {
+            works: _,
+            readings: _,
+        } = self;
+    }
+}
+
+fn clock_that(works: bool) -> Fake {
+    Fake {
+        works,
+        readings: Cell::new(0),
     }
 }
 
@@ -131,16 +236,23 @@ impl std::rt::Clock for Fake {
     }
 
     fn since_1970(&self) -> io::Result<Duration> {
-        match self.seconds {
-            Some(seconds) => Ok(Duration::from_secs(seconds)),
-            None => Err(io::Error::from(io::ErrorKind::Other)),
+        let reading = self.readings.get();
+        self.readings.set(reading.saturating_add(1));
+        match reading {
+            0 if self.works => Ok(Duration::from_secs(5)),
+            2.. if self.works => Ok(Duration::from_secs(3)),
+            _ => Err(io::Error::from(io::ErrorKind::Other)),
         }
     }
 }
 
 #[test]
-fn the_clock_of_the_system_tells_seconds_and_0_where_it_fails(rt: HostRuntime) {
-    let seconds = Some(1_700_000_000);
-    assert_eq!(rt; SystemClock::new(Fake { seconds }).now(), 1_700_000_000);
-    assert_eq!(rt; SystemClock::new(Fake { seconds: None }).now(), 0);
+fn the_clock_of_the_system_tells_its_last_answer_where_it_fails(rt: HostRuntime) {
+    let mut clock = SystemClock::new(clock_that(true));
+    for moment in [5, 5, 3] {
+        assert_eq!(rt; clock.now(), moment);
+    }
+    let mut broken = SystemClock::new(clock_that(false));
+    assert_eq!(rt; broken.now(), 0);
+    assert_eq!(rt; broken.now(), 0);
 }

@@ -1,1 +1,2 @@
-pub mod SaveTests
+pub mod FirstRefusals
+pub mod RuleBranches

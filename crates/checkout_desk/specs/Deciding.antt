@@ -1,16 +1,15 @@
--- What a call answers that decides a command.
-use Rattle.std.specs.Prelude.{◌≡◌, ℕ, ◌+◌, Option, Result, Ok, Err, List}
+-- What a call answers that decides a command, or a part of one.
+use Rattle.std.specs.Prelude.{◌≡◌, ℕ, ◌+◌, Option, Some, None, Result, Ok, Err, List}
 use Rattle.cc_names.specs.Formed.{Plain}
 use Rattle.cc_names.specs.declared.memory.Or.{Or}
 use Rattle.cc_names.specs.declared.memory.Or.TheVariants.{NoMemory, Is}
 use Rattle.cc_names.specs.declared.refusals.Refusal.{Refusal}
-use Rattle.cc_names.specs.declared.rows.Deed.TheVariants as deeds
 use Rattle.cc_names.specs.declared.rows.Tag.{Tag}
+use Rattle.cc_names.specs.declared.selection.Picked.{Picked}
 use Rattle.legal_history.specs.Base.Rows.{Base, size}
 use Rattle.legal_history.specs.Builds.Active.{building, reserved}
 use Rattle.legal_history.specs.Commands.Decisions.{Decision, Makes, Scene}
-use Rattle.legal_history.specs.Commands.FileLines.{save_deed}
-use Rattle.legal_history.specs.Base.Seen.{at}
+use Rattle.checkout_desk.specs.declared.found.Selected.{Selected}
 
 -- unless memory ran out, the refusal is the one that was decided
 abbrev pub RefusalIs : Or Refusal → Result Decision Refusal → Type 0
@@ -22,6 +21,25 @@ abbrev pub Decides : Tag → ℕ → Result Plain (Or Refusal) → Result Decisi
 Decides tag moment (Ok row) decision = (decision ≡ Ok (Makes row.deed)) × (row.tag ≡ tag) × (row.moment ≡ moment)
 Decides tag moment (Err refusal) decision = RefusalIs refusal decision
 
+-- unless memory ran out, the refusal is that of a test
+abbrev pub IsOfTest : Or Refusal → Option Refusal → Type 0
+IsOfTest NoMemory test = Unit {0}
+IsOfTest (Is refusal) test = test ≡ Some refusal
+
+-- a test is passed where it has no refusal, and else that is answered
+abbrev pub Tests : {A : Type 0} → Result A (Or Refusal) → Option Refusal → Type 0
+Tests (Ok passed) test = test ≡ None
+Tests (Err refusal) test = IsOfTest refusal test
+
+-- What was found is what the rest is decided of, whatever the rest is; where nothing was, the refusal is the decision.
+abbrev pub Finds : {A : Type 0} → Result A (Or Refusal) → ((A → Result Decision Refusal) → Result Decision Refusal) → Type 0
+Finds (Ok found) decided = (more : _) → decided more ≡ more found
+Finds (Err refusal) decided = (more : _) → RefusalIs refusal (decided more)
+
+-- what is decided of an element and of what was picked of it, as of both together
+abbrev pub apart : (Selected → Result Decision Refusal) → ℕ → Picked → Result Decision Refusal
+apart more e picked = more (record { element = e; picked = picked })
+
 -- The scene in which a command is decided: its base, its moment, the active build of this view, and how many rows there are
 -- and are reserved.
 pub record Sees (s : Scene) (b : Base) (now : ℕ) (v : List ℕ) (build : Option Tag) (rows : ℕ) : Type 0 where
@@ -29,7 +47,3 @@ pub record Sees (s : Scene) (b : Base) (now : ℕ) (v : List ℕ) (build : Optio
   pub moment : s.moment ≡ now
   pub busy : building s.active v ≡ build
   pub taken : size s.base + reserved s.active ≡ rows
-
--- a save at the path is one of a private file
-abbrev pub SavesPrivate : Base → List ℕ → List ℕ → Type 0
-SavesPrivate b v path = (text : List ℕ) → save_deed v path text (at b v path) ≡ deeds.Put v path text

@@ -11,6 +11,13 @@ ghost use Rattle.legal_history.specs.Queries.QueryLines.{is_query};
 ghost use Rattle.checkout_desk.specs.Commands.{builds, view_of};
 ghost use Rattle.checkout_desk.specs.Deciding.{Sees, Decides};
 
+use crate::branches::mkbranch;
+use crate::checkins::{checkin, uncheckout};
+use crate::checkouts::checkout;
+use crate::config_specs::setcs;
+use crate::elements::mkelem;
+use crate::labels::{mklabel, rmlabel};
+use crate::names::{mv, rmname};
 use crate::removals::rm;
 use crate::saves::save;
 use crate::types::mktype;
@@ -19,12 +26,11 @@ use cc_names::commands::Command;
 use cc_names::desks::Occasion;
 use cc_names::memory::Or;
 use cc_names::refusals::Refusal;
-use cc_names::rows::{Row, TypeKind};
+use cc_names::rows::{Kind, Row, TypeKind};
 use std::alloc::Global;
 use view_lookup::FirstRows;
 
-/// A command's row, or its first refusal in the order of the tests of its line. Takes time linear in the command, however
-/// many rows there are.
+/// A command's row, or its first refusal in the order of the tests of its line. Takes the time of its command.
 pub fn decide(
     alloc: Global,
     rows: &FirstRows<'_>,
@@ -46,10 +52,45 @@ pub fn decide(
     match command {
         Command::Mkview { view } => mkview(alloc, rows, view, occasion),
         Command::Rmview { view, force } => rmview(alloc, rows, view, *force, occasion),
+        Command::Setcs { view, text } => setcs(alloc, rows, view, text, occasion),
+        Command::Mkelem { view, nco, path } => {
+            mkelem(alloc, rows, view, *nco, Kind::File, path, occasion)
+        }
+        Command::Mkdir { view, nco, path } => {
+            mkelem(alloc, rows, view, *nco, Kind::Directory, path, occasion)
+        }
+        Command::Checkout {
+            view,
+            unreserved,
+            path,
+        } => checkout(alloc, rows, view, *unreserved, path, occasion),
+        Command::Mkbranch {
+            view,
+            nco,
+            branch,
+            path,
+        } => mkbranch(alloc, rows, view, *nco, branch, path, occasion),
         Command::Save { view, path, text } => save(alloc, rows, view, path, text, occasion),
         Command::Rm { view, path } => rm(alloc, rows, view, path, occasion),
+        Command::Checkin {
+            view,
+            identical,
+            path,
+        } => checkin(alloc, rows, view, *identical, path, occasion),
+        Command::Uncheckout { view, path } => uncheckout(alloc, rows, view, path, occasion),
+        Command::Rmname { view, path } => rmname(alloc, rows, view, path, occasion),
+        Command::Mv { view, path, name } => mv(alloc, rows, view, path, name, occasion),
         Command::Mklbtype { name } => mktype(alloc, rows, TypeKind::Label, name, occasion),
         Command::Mkbrtype { name } => mktype(alloc, rows, TypeKind::Branch, name, occasion),
+        Command::Mklabel {
+            view,
+            replace,
+            label,
+            path,
+        } => mklabel(alloc, rows, view, *replace, label, path, occasion),
+        Command::Rmlabel { view, label, path } => {
+            rmlabel(alloc, rows, view, label, path, occasion)
+        }
         _ => unreachable!(),
     }
 }

@@ -5,11 +5,21 @@
 // What it promises: the answer is the model's decision on the command, and a row has the command's tag and moment.
 //
 // What it stands on: `view_lookup` for what a view sees, `legal_history` for the definitions, `session_text` for the form of
-// commands, and `cc_names` for plain data.
+// commands, `spec_text` for config specs, and `cc_names` for plain data.
 #![tactic(auto)]
 
+mod branches;
+mod checkins;
+mod checkout_needs;
+mod checkouts;
 mod commands;
+mod config_specs;
 mod decisions;
+mod elements;
+mod found;
+mod labels;
+mod names;
+mod needs;
 mod removals;
 mod room;
 mod saves;

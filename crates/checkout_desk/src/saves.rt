@@ -1,113 +1,134 @@
 // Saving the text of a file.
 
-ghost use Rattle.std.specs.Prelude.{◌≡◌, ℕ, ◌<◌, ◌≤◌, ◌^◌, ◌∷◌, [], ◌++◌, length, true, IsSome, IfOk, IfNone, OnOk};
+ghost use Rattle.std.specs.Prelude.{◌≡◌, ℕ, ◌<◌, ◌≤◌, length, IfOk, OnOk, ◌++◌, ◌∷◌, [], true};
 ghost use Rattle.legal_history.specs.Stories.Lawful.{last_moment};
-ghost use Rattle.cc_names.specs.Formed.{IsBelowRoot};
-ghost use Rattle.cc_names.specs.declared.rows.Tag.{Tag};
-ghost use Rattle.legal_history.specs.Commands.Tests.{needs_selected, needs_directory};
+ghost use Rattle.cc_names.specs.Formed.{IsBelowRoot, IsDeedFormed};
 ghost use Rattle.legal_history.specs.Base.Fits.{row_limit};
 ghost use Rattle.legal_history.specs.Base.Seen.{at};
-ghost use Rattle.legal_history.specs.Base.Views.{view_row};
+ghost use Rattle.legal_history.specs.Base.Views.{out};
 ghost use Rattle.legal_history.specs.Commands.Decisions.{Scene, first_refusal, needs_room};
-ghost use Rattle.legal_history.specs.Commands.FileLines.{save, save_tests, saves_at};
+ghost use Rattle.legal_history.specs.Commands.FileLines.{save, save_deed, save_tests, saves_at, saves_element};
+ghost use Rattle.legal_history.specs.Base.Conditions.{is_directory};
 ghost use Rattle.carried_out.specs.CarriedOut.{is_made};
-ghost use Rattle.checkout_desk.specs.Deciding.{Sees, Decides, SavesPrivate};
+ghost use Rattle.checkout_desk.specs.Deciding.{Sees, Decides, Tests};
+ghost use Rattle.cc_names.specs.declared.rows.Tag.{Tag};
 
+use crate::checkout_needs::needs_out;
+use crate::found::parent_of;
+use crate::needs::{needs_directory, needs_idle, needs_selected, needs_view};
 use crate::room::needs_room;
 use cc_names::desks::Occasion;
 use cc_names::memory::{NoMemory, Or};
 use cc_names::names::Name;
 use cc_names::paths::Path;
 use cc_names::refusals::Refusal;
-use cc_names::rows::{Deed, Kind, Row, Tag};
+use cc_names::rows::{Deed, Row, Tag};
 use cc_names::selection::Seen;
 use cc_names::texts::Text;
 use std::alloc::Global;
-use view_lookup::{FirstRows, at, held, kind_of, view_row};
+use view_lookup::{FirstRows, at, checked_out, held, is_directory_element};
 
-/// The refusal of a directory in which a file may not be saved: nothing is selected there, or it is no directory.
-fn needs_directory(rows: &FirstRows<'_>, parent: Path, seen: Seen) -> Option<Refusal>
-    ensures { result
-        ≡ first_refusal (needs_selected parent seen ∷ needs_directory rows.now parent seen ∷ []) }
+/// An element that is saved at a path is no directory, and the view has it out.
+fn saves_element(
+    alloc: Global,
+    rows: &FirstRows<'_>,
+    view: &Name,
+    path: &Path,
+    element: u64,
+) -> Result<(), Or<Refusal>>
+    ensures { Tests result
+        (saves_element (is_directory rows.now element) path.now (out rows.now view.now element)) }
 {
-    match seen {
-        Seen::Element(element, _) => match kind_of(rows, element) {
-            Some(Kind::Directory) => None,
-            Some(Kind::File) => Some(Refusal::NotDirectory(parent)),
-            None => Some(Refusal::NotDirectory(parent)),
-        },
-        Seen::Private(_) => Some(Refusal::NotDirectory(parent)),
-        Seen::Unselected(_) => Some(Refusal::NoPath(parent)),
-        Seen::Nothing => Some(Refusal::NoPath(parent)),
+    if is_directory_element(rows, element) {
+        return Err(Or::Is(Refusal::IsDirectory(path.copy(alloc)?)));
     }
+    needs_out(alloc, path, checked_out(rows, view, element))
 }
 
-/// The refusal of a file that may not be saved at a path below the root: nothing stands there, and the view holds an
-/// object. Takes time linear in the path, however many rows there are.
+/// What stands at the path may be saved: a private file always, a file element that the view has out, and a new private file
+/// where the view holds no object.
 fn saves_at(
     alloc: Global,
     rows: &FirstRows<'_>,
     view: &Name,
     path: &Path,
-) -> Result<Option<Refusal>, NoMemory>
-    requires view { IsSome (view_row rows.now view.now) }
-    requires below { IsBelowRoot path.now }
-    ensures refusal { IfOk result
-        (λ refusal. refusal ≡ saves_at rows.now view.now path.now (at rows.now view.now path.now)) }
-    ensures private { IfOk result (λ refusal. SavesPrivate rows.now view.now path.now) }
+    seen: Seen,
+) -> Result<(), Or<Refusal>>
+    ensures { Tests result (saves_at rows.now view.now path.now seen) }
 {
-    match at(rows, view, path) {
-        Seen::Private(_) => Ok(None),
+    match seen {
+        Seen::Private(_) => Ok(()),
+        Seen::Element(element, _) => saves_element(alloc, rows, view, path, element),
+        Seen::Unselected(element) => saves_element(alloc, rows, view, path, element),
         Seen::Nothing => match held(rows, view, path) {
-            Some(_) => Ok(Some(Refusal::IsDerived(path.copy(alloc)?))),
-            None => Ok(None),
+            Some(_) => Err(Or::Is(Refusal::IsDerived(path.copy(alloc)?))),
+            None => Ok(()),
         },
-        // No element stands below the root so far.
-        Seen::Element(_, _) => unreachable!(),
-        Seen::Unselected(_) => unreachable!(),
     }
 }
 
-/// The first refusal of `save V P`, its room included. Takes time linear in the path, however many rows there are.
-fn save_refusal(
+/// The tests of `save V P` where this stands at the path, with that of its room.
+fn save_tests(
     alloc: Global,
     rows: &FirstRows<'_>,
     view: &Name,
     path: &Path,
+    seen: Seen,
     busy: Option<Tag>,
     taken: u64,
-) -> Result<Option<Refusal>, NoMemory>
-    requires below { IsBelowRoot path.now }
-    ensures refusal { IfOk result
-        (λ refusal.
-        (scene : Scene) (now : ℕ)
+) -> Result<(), Or<Refusal>>
+    requires seen { seen ≡ at rows.now view.now path.now }
+    ensures tests { (scene : Scene) (now : ℕ)
         → Sees scene rows.now now view.now busy taken
-        → refusal
-        ≡ first_refusal (save_tests scene view.now path.now ++ needs_room scene 1 ∷ [])) }
-    ensures room { IfOk result (λ refusal. IfNone refusal (taken < row_limit)) }
-    ensures private { IfOk result
-        (λ refusal. IfNone refusal (SavesPrivate rows.now view.now path.now)) }
+        → Tests result (first_refusal
+        (save_tests scene view.now path.now ++ needs_room scene 1 ∷ [])) }
+    ensures room { OnOk result (taken < row_limit) }
 {
-    if view_row(rows, view).is_none() {
-        return Ok(Some(Refusal::NoView));
-    }
-    match busy {
-        Some(build) => return Ok(Some(Refusal::Building(build))),
-        None => {}
-    }
-    let parent = path.parent(alloc)?.unwrap_or(Path::root());
+    needs_view(rows, view)?;
+    needs_idle(busy)?;
+    let parent = parent_of(alloc, path)?;
     let above = at(rows, view, &parent);
-    match needs_directory(rows, parent, above) {
-        Some(refusal) => return Ok(Some(refusal)),
-        None => {}
-    }
-    match saves_at(alloc, rows, view, path)? {
-        Some(refusal) => Ok(Some(refusal)),
-        None => Ok(needs_room(taken)),
+    needs_selected(alloc, &parent, above)?;
+    needs_directory(alloc, rows, &parent, above)?;
+    saves_at(alloc, rows, view, path, seen)?;
+    needs_room(taken)
+}
+
+/// What a save does where this stands at the path.
+fn save_deed(
+    alloc: Global,
+    view: &Name,
+    path: &Path,
+    text: &Text,
+    seen: Seen,
+) -> Result<Deed, NoMemory>
+    requires below { IsBelowRoot path.now }
+    requires short { length text.now ≤ 16777216 }
+    ensures deed { IfOk result (λ deed. deed ≡ save_deed view.now path.now text.now seen) }
+    ensures formed { IfOk result IsDeedFormed }
+    ensures made { IfOk result (λ deed. is_made deed ≡ true) }
+{
+    let view = view.copy(alloc)?;
+    match seen {
+        Seen::Element(element, _) => Ok(Deed::Save {
+            view,
+            element,
+            text: text.copy(alloc)?,
+        }),
+        Seen::Unselected(element) => Ok(Deed::Save {
+            view,
+            element,
+            text: text.copy(alloc)?,
+        }),
+        _ => Ok(Deed::Put {
+            view,
+            path: path.copy(alloc)?,
+            text: text.copy(alloc)?,
+        }),
     }
 }
 
-/// The row of `save V P`, or its first refusal.
+/// The row of `save V P`, or its first refusal. Takes the time of `at` and time linear in the text.
 pub fn save(
     alloc: Global,
     rows: &FirstRows<'_>,
@@ -125,14 +146,8 @@ pub fn save(
     ensures made { IfOk result (λ row. is_made row.deed ≡ true) }
     ensures room { OnOk result (occasion.taken < row_limit) }
 {
-    match save_refusal(alloc, rows, view, path, occasion.busy, occasion.taken)? {
-        Some(refusal) => return Err(Or::Is(refusal)),
-        None => {}
-    }
-    let deed = Deed::Put {
-        view: view.copy(alloc)?,
-        path: path.copy(alloc)?,
-        text: text.copy(alloc)?,
-    };
+    let seen = at(rows, view, path);
+    save_tests(alloc, rows, view, path, seen, occasion.busy, occasion.taken)?;
+    let deed = save_deed(alloc, view, path, text, seen)?;
     Ok(Row::of(occasion.tag, occasion.moment, deed))
 }

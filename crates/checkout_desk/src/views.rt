@@ -1,37 +1,33 @@
 // The commands on views.
 
-ghost use Rattle.std.specs.Prelude.{◌≡◌, ℕ, List, Option, ◌<◌, ◌≤◌, ◌^◌, ◌∷◌, [], ◌++◌, length, IfNone, IfOk, OnOk, true};
+ghost use Rattle.std.specs.Prelude.{◌≡◌, ℕ, List, Option, ◌<◌, ◌≤◌, IfOk, OnOk, true};
 ghost use Rattle.legal_history.specs.Stories.Lawful.{last_moment};
-ghost use Rattle.cc_names.specs.Names.{IsName};
 ghost use Rattle.carried_out.specs.CarriedOut.{is_made};
-ghost use Rattle.legal_history.specs.Commands.Decisions.{Scene, first_refusal, needs_room};
-ghost use Rattle.legal_history.specs.Commands.FileLines.{mkview, mkview_tests, rmview, rmview_tests};
+ghost use Rattle.legal_history.specs.Commands.Decisions.{Scene};
+ghost use Rattle.legal_history.specs.Commands.FileLines.{mkview, rmview};
 ghost use Rattle.legal_history.specs.Base.Fits.{row_limit};
-ghost use Rattle.legal_history.specs.Builds.Active.{Active};
-ghost use Rattle.legal_history.specs.Commands.Tests.{needs_no_checkouts};
-ghost use Rattle.checkout_desk.specs.Deciding.{Sees, Decides};
+ghost use Rattle.legal_history.specs.Commands.Tests.{needs_new_view, needs_no_checkouts};
+ghost use Rattle.checkout_desk.specs.Deciding.{Sees, Decides, Tests};
 ghost use Rattle.cc_names.specs.declared.rows.Tag.{Tag};
 
+use crate::needs::{needs_idle, needs_view};
 use crate::room::needs_room;
 use cc_names::desks::Occasion;
 use cc_names::memory::Or;
 use cc_names::names::Name;
 use cc_names::refusals::Refusal;
-use cc_names::rows::{Deed, Row, Tag};
+use cc_names::rows::{Deed, Row};
 use std::alloc::Global;
 use view_lookup::{FirstRows, oldest_out, view_row};
 
-/// The first refusal of `mkview V`, its room included.
-fn mkview_refusal(rows: &FirstRows<'_>, view: &Name, taken: u64) -> Option<Refusal>
-    ensures refusal { (scene : Scene) (moment : ℕ) (other : List ℕ) (busy : Option Tag)
-        → Sees scene rows.now moment other busy taken
-        → result ≡ first_refusal (mkview_tests scene view.now ++ needs_room scene 1 ∷ []) }
-    ensures room { IfNone result (taken < row_limit) }
+/// No view has the name.
+fn needs_new_view(rows: &FirstRows<'_>, view: &Name) -> Result<(), Or<Refusal>>
+    ensures { Tests result (needs_new_view rows.now view.now) }
 {
     if view_row(rows, view).is_some() {
-        return Some(Refusal::ViewExists);
+        return Err(Or::Is(Refusal::ViewExists));
     }
-    needs_room(taken)
+    Ok(())
 }
 
 /// The row of `mkview V`, or its first refusal.
@@ -48,48 +44,24 @@ pub fn mkview(
     ensures made { IfOk result (λ row. is_made row.deed ≡ true) }
     ensures room { OnOk result (occasion.taken < row_limit) }
 {
-    if let Some(refusal) = mkview_refusal(rows, view, occasion.taken) {
-        return Err(Or::Is(refusal));
-    }
-    let view = view.copy(alloc)?;
-    Ok(Row::of(occasion.tag, occasion.moment, Deed::Mkview { view }))
+    needs_new_view(rows, view)?;
+    needs_room(occasion.taken)?;
+    let deed = Deed::Mkview {
+        view: view.copy(alloc)?,
+    };
+    Ok(Row::of(occasion.tag, occasion.moment, deed))
 }
 
-/// The refusal of a view that has checkouts, unless it is to go by force.
-fn needs_no_checkouts(rows: &FirstRows<'_>, view: &Name, force: bool) -> Option<Refusal>
-    ensures { result ≡ needs_no_checkouts rows.now view.now force }
+/// The view has no checkout, unless it is to go by force. The refusal names its oldest one.
+fn needs_no_checkouts(rows: &FirstRows<'_>, view: &Name, force: bool) -> Result<(), Or<Refusal>>
+    ensures { Tests result (needs_no_checkouts rows.now view.now force) }
 {
     if force {
-        return None;
+        return Ok(());
     }
     match oldest_out(rows, view) {
-        Some(row) => Some(Refusal::HasCheckouts(row)),
-        None => None,
-    }
-}
-
-/// The first refusal of `rmview [-force] V`, its room included.
-fn rmview_refusal(
-    rows: &FirstRows<'_>,
-    view: &Name,
-    force: bool,
-    busy: Option<Tag>,
-    taken: u64,
-) -> Option<Refusal>
-    ensures refusal { (scene : Scene) (now : ℕ) → Sees scene rows.now now view.now busy taken
-        → result ≡ first_refusal (rmview_tests scene view.now force ++ needs_room scene 1 ∷ []) }
-    ensures room { IfNone result (taken < row_limit) }
-{
-    if view_row(rows, view).is_none() {
-        return Some(Refusal::NoView);
-    }
-    match busy {
-        Some(build) => return Some(Refusal::Building(build)),
-        None => {}
-    }
-    match needs_no_checkouts(rows, view, force) {
-        Some(refusal) => Some(refusal),
-        None => needs_room(taken),
+        Some(row) => Err(Or::Is(Refusal::HasCheckouts(row))),
+        None => Ok(()),
     }
 }
 
@@ -108,9 +80,12 @@ pub fn rmview(
     ensures made { IfOk result (λ row. is_made row.deed ≡ true) }
     ensures room { OnOk result (occasion.taken < row_limit) }
 {
-    if let Some(refusal) = rmview_refusal(rows, view, force, occasion.busy, occasion.taken) {
-        return Err(Or::Is(refusal));
-    }
-    let view = view.copy(alloc)?;
-    Ok(Row::of(occasion.tag, occasion.moment, Deed::Rmview { view }))
+    needs_view(rows, view)?;
+    needs_idle(occasion.busy)?;
+    needs_no_checkouts(rows, view, force)?;
+    needs_room(occasion.taken)?;
+    let deed = Deed::Rmview {
+        view: view.copy(alloc)?,
+    };
+    Ok(Row::of(occasion.tag, occasion.moment, deed))
 }

@@ -79,7 +79,7 @@ fn text_at<'a>(rows: &FirstRows<'a>, path: &Path, row: Option<u64>) -> &'a [u8]
 }
 
 /// The text of `cat V P`, that of the file which the view sees there or of the object that it holds, or its first refusal.
-/// Takes time linear in the path, in the text and in the targets of an object, however many rows there are.
+/// Takes the time of `at` three times, and time linear in the text and in the targets of an object.
 pub fn cat(
     alloc: Global,
     rows: &FirstRows<'_>,

@@ -13,6 +13,8 @@ mod answers;
 mod config_specs;
 mod file_texts;
 mod queries;
+mod version_names;
 
 pub use answers::answer;
 pub use queries::is_query;
+pub use version_names::{name_told, version_name};

@@ -1,5 +1,6 @@
 -- How the test of one macro goes on from that of others.
-use Rattle.std.proofs.Common.{◌≡◌, refl, sym, ap, ◌∙◌, subst, ℕ, ◌+◌, ◌-◌, ◌<◌, ◌≤◌, Bool, true, false, Option, Some, None, List, [], ◌∷◌, ◌++◌, length, drop, replicate, Err, add-one, arith, length-append}
+use Rattle.std.proofs.Common.{◌≡◌, refl, sym, ap, ◌∙◌, subst, ℕ, zero, suc, ◌+◌, ◌-◌, ◌<◌, ◌≤◌, Bool, true, false, Option, Some, None, List, [], ◌∷◌, ◌++◌, length, take, drop, replicate, Err, add-one, arith, length-append}
+use Rattle.std.proofs.lemmas.List.{length-take, length-drop}
 use Rattle.std.proofs.Math.Seq.{drop-cons}
 use Rattle.std.proofs.lemmas.Bool.{lt-ltb}
 use Rattle.cc_names.specs.Answers.{FaultIs}
@@ -11,14 +12,15 @@ use Rattle.std.specs.Prelude.{if◌then◌else◌}
 use Rattle.cc_names.specs.declared.commands.Macro.{Macro}
 use Rattle.cc_names.specs.declared.refusals.MakeCause.{MakeCause}
 use Rattle.cc_names.specs.declared.refusals.MakeCause.TheVariants.{LineTooLong, MacroLoop}
-use Rattle.make_text.specs.Expanding.{refer, goes_on, left_of, still}
+use Rattle.make_text.specs.Expanding.{refer, goes_on, left_of, still, Admits}
 use Rattle.make_text.specs.Macros.{Reference, Expansion, plain, followed, is_too_long, no_automatic}
 use Rattle.make_text.specs.MacroChecks.{AtEndUnless, Finds, definition_at, macro_fault_of}
-use Rattle.make_text.specs.Runs.{Runs, HasNamesApart}
-use Rattle.make_text.specs.Statements.{Definition, expansion_fault, fault_at}
+use Rattle.make_text.specs.Runs.{Runs, HasNamesApart, macro_at, state_at, len_in, result_in, EndsIn}
+use Rattle.make_text.specs.Statements.{Definition, macros_of, expansion_fault, fault_at}
 use Rattle.make_text.specs.Steps.{opened_of, IsRunning, IsAtEnd, Referred}
 use Rattle.make_text.specs.declared.expansions.Expanding.{Expanding}
-use Rattle.make_text.specs.declared.expansions.State.TheVariants.{Untouched}
+use Rattle.make_text.specs.declared.expansions.State.{State}
+use Rattle.make_text.specs.declared.expansions.State.TheVariants.{Untouched, Begun, Expanded}
 use Rattle.make_text.specs.declared.expansions.Step.{Step}
 use Rattle.make_text.specs.declared.expansions.Step.TheVariants.{Goes, Ends, Loops}
 use Rattle.make_text.proofs.ExpansionLemmas.{followed_nothing}
@@ -67,6 +69,33 @@ module _ (macros : List Macro) (automatic : ℕ → List ℕ) where
     opened = opened;
     running = subst (λ (w : List ℕ). IsRunning macros automatic (plain w) [] e) (sym written) (is_started macros automatic [] count e all rest opened states written);
   }
+
+-- a macro whose result is known gives so many bytes, and no loop
+pub known_result : (macros : List Macro) (automatic : ℕ → List ℕ) (e : Expanding) (i len : ℕ) → IsAtEnd macros automatic e → i < length macros → Some len ≡ len_in (state_at e.states.items i) →
+    (length (refer macros automatic (length macros) [] (macro_at macros i).name).bytes ≡ len) × ((refer macros automatic (length macros) [] (macro_at macros i).name).loops ≡ false)
+known_result macros automatic e i len h within is = by (state_at e.states.items i) refl is
+  where
+    by : (state : State) → state_at e.states.items i ≡ state → Some len ≡ len_in state →
+        (length (refer macros automatic (length macros) [] (macro_at macros i).name).bytes ≡ len) × ((refer macros automatic (length macros) [] (macro_at macros i).name).loops ≡ false)
+    by Untouched at is = absurd (cc)
+    by Begun at is = absurd (cc)
+    by (Expanded start l) at is =
+        let r = h.running.runs in
+        let written = e.written.items in
+        let same : len ≡ l = cc in
+        let ends : start + l ≤ length written = subst (EndsIn written) at (r.ends i within) in
+        let counted = r.counted in
+        let admits : Admits macros automatic r.memo r.size (length macros) [] = record { room = omega (arith, counted); apart = λ x bytes h. refl; defined = λ x h. refl } in
+        let gives : refer macros automatic (length macros) [] (macro_at macros i).name ≡ plain (take l (drop start written)) =
+        r.settled (macro_at macros i).name (take l (drop start written)) (r.results i within ∙ ap (result_in written) at) (length macros) [] admits in
+        let long : length (take l (drop start written)) ≡ l = omega (arith, ends, length-take l (drop start written), length-drop start written) in
+        (ap (λ (x : Expansion). length x.bytes) gives ∙ long ∙ sym same, ap (λ (x : Expansion). x.loops) gives)
+
+-- the macro at an index has the name of the definition there
+pub named_at : (definitions : List Definition) (i : ℕ) → (macro_at (macros_of definitions) i).name ≡ (definition_at definitions i).name
+named_at [] i = refl
+named_at (d ∷ definitions) zero = refl
+named_at (d ∷ definitions) (suc i) = named_at definitions i
 
 -- ---- the fault of a part of what there is
 

@@ -6,7 +6,10 @@ use Rattle.std.proofs.lemmas.List.{append-nil, take-append-drop, take_all, drop_
 use Rattle.std.proofs.lemmas.Slice.Eq.{bytes_eq-Decides}
 use Rattle.std.proofs.lemmas.Bool.{false_from_ne_true}
 use Rattle.cc_names.specs.declared.commands.Macro.{Macro}
-use Rattle.make_text.specs.Macros.{Piece, Byte, Reference, Expansion, plain, loop, followed, pieces_of, piece_expansion, pieces_expansion, value_in, is_among}
+use Rattle.std.specs.List.{position}
+use Rattle.make_text.specs.Lines.{is_dollar}
+use Rattle.make_text.proofs.PieceLemmas.{plain_all}
+use Rattle.make_text.specs.Macros.{Piece, Byte, Reference, Expansion, plain, loop, followed, expansion_of, pieces_of, piece_expansion, pieces_expansion, value_in, is_among}
 use Rattle.make_text.specs.Expanding.{Memo, Opened, names_of, refer, goes_on, left_of, still, Admits, Settled, Gives, AllGive}
 
 -- ---- expansions one after the other
@@ -241,3 +244,9 @@ module _ (macros : List Macro) (automatic : ℕ → List ℕ) where
       (followed_nothing (refer macros automatic (room_in opened) (names_of opened) name)
       ∙ ap (λ n. refer macros automatic n (names_of opened) name) left
       ∙ defined_expansion (length macros - suc (length opened)) (names_of opened) name value has apart)
+
+-- a text without a `$` is what it expands to
+pub no_dollar : (macros : List Macro) (automatic : ℕ → List ℕ) (text : List ℕ) → position is_dollar text ≡ None → expansion_of macros automatic text ≡ plain text
+no_dollar macros automatic text none =
+    ap (goes_on macros automatic (length macros) []) (plain_all text none ∙ append-nil (map Byte text))
+    ∙ bytes_expansion macros automatic (refer macros automatic (length macros) []) text

@@ -28,6 +28,12 @@ result_in written Untouched = None
 result_in written Begun = None
 result_in written (Expanded start len) = Some (take len (drop start written))
 
+-- how many they are
+abbrev pub len_in : State → Option ℕ
+len_in Untouched = None
+len_in Begun = None
+len_in (Expanded start len) = Some len
+
 -- they stand among the bytes that were written
 abbrev pub EndsIn : List ℕ → State → Type 0
 EndsIn written Untouched = Unit {0}

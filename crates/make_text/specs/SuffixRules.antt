@@ -26,6 +26,10 @@ is_in_group groups target = list_any (λ group. is_among group target) groups
 abbrev pub is_suffix_target : List (List ℕ) → List (List (List ℕ)) → List ℕ → Bool
 is_suffix_target suffixes groups target = is_pair_of suffixes target && not (is_in_group groups target)
 
+-- whether a target of a rule begins with a suffix
+abbrev pub begins_from : List ℕ → MakeRule → Bool
+begins_from from rule = list_any (λ target. begins_with target from) rule.targets
+
 -- the suffix rules that begin from a suffix
 abbrev pub suffix_rules_from : List (List ℕ) → List MakeRule → List ℕ → List SuffixRule
 suffix_rules_from suffixes rules from = flat_map (λ to. flat_map (suffix_rule_of from to) rules) suffixes

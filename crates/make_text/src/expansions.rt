@@ -1,14 +1,14 @@
 // What a text expands to, by the macros of a makefile.
 
 ghost use Rattle.std.specs.Prelude.{◌≡◌, ◌<◌, IfOk, [], length, replicate};
-ghost use Rattle.make_text.specs.Macros.{Expansion, expansion_of, is_too_long};
-ghost use Rattle.make_text.specs.Runs.{HasNamesApart};
+ghost use Rattle.make_text.specs.Macros.{Expansion, plain, expansion_of, is_too_long};
+ghost use Rattle.make_text.specs.Runs.{HasNamesApart, len_in, state_at};
 ghost use Rattle.make_text.specs.Statements.{macros_of};
 ghost use Rattle.make_text.specs.Steps.{automatic_of, IsRunning, work_of, EndsSafely, Ended, RefersSafely, Referred, Took, Went, FallsBelow, IsSomeRun, IsOutcome};
 ghost use Rattle.make_text.specs.declared.expansions.State.TheVariants as states;
 
 use crate::macros::MacroTable;
-use crate::pieces::{Part, cut_part};
+use crate::pieces::{Part, cut_part, first_dollar};
 use cc_names::memory::NoMemory;
 use std::alloc::{AllocError, Global};
 
@@ -126,6 +126,17 @@ impl<'a> Expanding<'a> {
         Step::Goes
     }
 
+    /// How many bytes a macro gave whose expansion ended.
+    pub(crate) fn known_len(&self, index: usize) -> Option<usize>
+        requires { index < length self.now.states.items }
+        ensures { result ≡ len_in (state_at self.now.states.items index) }
+    {
+        match self.states[index] {
+            State::Expanded(_start, len) => Some(len),
+            _ => None,
+        }
+    }
+
     /// A reference to the macro of this name.
     pub(crate) fn refer(
         &mut self,
@@ -225,8 +236,19 @@ fn bounded(written: Vec<u8>, loops: bool) -> Outcome
     }
 }
 
+/// The bytes of a text that has no reference, unless they are too many.
+fn plain_outcome(alloc: Global, text: &[u8]) -> Result<Outcome, NoMemory>
+    ensures { IfOk result (λ outcome. IsOutcome (plain text.now) outcome) }
+{
+    if text.len() > EXPANSION_LIMIT {
+        return Ok(Outcome::TooLong);
+    }
+    Ok(Outcome::Bytes(Vec::from_slice(alloc, text)?))
+}
+
 /// Expands a text. Takes time linear in the text, in the values of the macros that it reaches, each once, and in what it
-/// expands to, up to the most bytes of a line; and memory for as many bytes, and for one state a macro.
+/// expands to, up to the most bytes of a line; and memory for as many bytes, and for one state a macro, of which a text
+/// without a `$` needs none.
 pub(crate) fn expand<'a>(
     alloc: Global,
     macros: &'a MacroTable,
@@ -238,6 +260,9 @@ pub(crate) fn expand<'a>(
         IsOutcome (expansion_of (macros_of macros.now) (automatic_of automatic.now) text.now)
         outcome) }
 {
+    if first_dollar(text).is_none() {
+        return plain_outcome(alloc, text);
+    }
     let count = macros.len();
     let mut expanding = Expanding::of(alloc, count, text)?;
     'steps: loop {

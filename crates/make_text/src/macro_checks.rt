@@ -1,10 +1,10 @@
 // What is tested of each macro behind the last line: whether its expansion is too long, or meets itself.
 
-ghost use Rattle.std.specs.Prelude.{◌≡◌, ◌-◌, [], IfOk, length};
+ghost use Rattle.std.specs.Prelude.{◌≡◌, ◌<◌, ◌-◌, [], IfOk, length};
 ghost use Rattle.make_text.specs.Grammar.{macros_fault};
 ghost use Rattle.make_text.specs.MacroChecks.{AtEndUnless, RunsTo, Finds, macro_fault_of};
 ghost use Rattle.make_text.specs.Macros.{Expansion};
-ghost use Rattle.make_text.specs.Runs.{HasNamesApart};
+ghost use Rattle.make_text.specs.Runs.{HasNamesApart, macro_at};
 ghost use Rattle.make_text.specs.Statements.{macros_of, expansion_fault};
 ghost use Rattle.make_text.specs.Steps.{automatic_of, IsAtEnd, IsRunning, IsSomeRun};
 
@@ -72,15 +72,19 @@ impl<'a> Expanding<'a> {
         }
     }
 
-    /// Expands a reference to the macro of this name behind what was written, and tells its fault. Takes time linear in the
-    /// values of the macros that were not expanded yet, and in what it expands to.
+    /// Tells the fault of the macro at an index, by its name: a reference to it is expanded behind what was written, unless
+    /// its result is known. Takes time linear in the values of the macros that were not expanded yet, and in what it then
+    /// expands to; constant time where the result is known.
     fn test(
         &mut self,
         alloc: Global,
         macros: &'a MacroTable,
         automatic: &Automatic<'a>,
+        index: usize,
         name: &[u8],
     ) -> Result<Option<MakeCause>, NoMemory>
+        requires within { index < length (macros_of macros.now) }
+        requires named { (macro_at (macros_of macros.now) index).name ≡ name.now }
         requires apart { HasNamesApart (macros_of macros.now) }
         requires ended { IsAtEnd (macros_of macros.now) (automatic_of automatic.now) self.old }
         ensures fault { IfOk result
@@ -91,6 +95,9 @@ impl<'a> Expanding<'a> {
             (λ cause.
             AtEndUnless (macros_of macros.now) (automatic_of automatic.now) cause self.new) }
     {
+        if let Some(len) = self.known_len(index) {
+            return Ok(fault_of(len, false));
+        }
         let start = self.written.len();
         match self.refer(alloc, macros, name)? {
             Step::Loops => Ok(fault_of(self.written_behind(start), true)),
@@ -141,7 +148,7 @@ pub(crate) fn test_macros(alloc: Global, macros: &MacroTable) -> Result<(), Or<M
     for index in 0..macros.len() {
         expanding = renewed(alloc, macros, &automatic, expanding)?;
         let (name, file, line) = macros.definition(index);
-        if let Some(cause) = expanding.test(alloc, macros, &automatic, name)? {
+        if let Some(cause) = expanding.test(alloc, macros, &automatic, index, name)? {
             return Err(fault_at(alloc, file, line, cause));
         }
     }

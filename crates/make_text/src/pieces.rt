@@ -50,7 +50,8 @@ fn is_automatic(byte: u8) -> bool
     matches!(byte, b'@' | b'<' | b'*')
 }
 
-fn first_dollar(text: &[u8]) -> Option<usize>
+/// The place of the first `$` of a text.
+pub(crate) fn first_dollar(text: &[u8]) -> Option<usize>
     ensures place { result ≡ position is_dollar text.now }
     ensures within { IfSome result (λ index. index < length text.now) }
 {

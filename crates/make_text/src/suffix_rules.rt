@@ -1,11 +1,11 @@
 // The suffix rules among the rules of a makefile.
 
-ghost use Rattle.std.specs.Prelude.{◌≡◌, ◌++◌, [], IfOk, OnOk, flat_map, option_copied, unwrap_or};
+ghost use Rattle.std.specs.Prelude.{◌≡◌, ◌++◌, [], IfOk, OnOk, filter, flat_map, map, option_copied, unwrap_or};
 ghost use Rattle.std.specs.List.{list_any};
 ghost use Rattle.std.specs.Str.{bytes_eq};
 ghost use Rattle.make_text.specs.Contents.{groups_of, is_pair_of, is_suffix_rule, suffix_rule_of, suffix_rules_of};
 ghost use Rattle.make_text.specs.Joining.{KnowsGroups};
-ghost use Rattle.make_text.specs.SuffixRules.{is_pair_from, is_in_group, is_suffix_target, behind_front, suffix_rules_from};
+ghost use Rattle.make_text.specs.SuffixRules.{is_pair_from, is_in_group, is_suffix_target, behind_front, begins_from, begins_with, suffix_rules_from};
 ghost use Rattle.make_text.specs.Macros.{is_among};
 
 use crate::joining::group;
@@ -161,11 +161,12 @@ fn put_pair(
     made: &mut Vec<SuffixRule>,
     from: &Path,
     to: &Path,
-    rules: &[MakeRule],
+    rules: &[&MakeRule],
 ) -> Result<(), NoMemory>
     ensures { OnOk result
         (made.new.items
-        ≡ made.old.items ++ flat_map (suffix_rule_of from.now to.now) rules.now) }
+        ≡ made.old.items
+        ++ flat_map (suffix_rule_of from.now to.now) (map (λ rule. rule.now) rules.now)) }
 {
     for rule in rules {
         if makes_pair(rule, from, to) {
@@ -175,7 +176,67 @@ fn put_pair(
     Ok(())
 }
 
-/// Puts the suffix rules that begin from a suffix behind others.
+/// Whether a target begins with a suffix.
+fn begins_with(target: &Path, from: &Path) -> bool
+    ensures { result ≡ begins_with target.now from.now }
+{
+    match cut_front(target.as_bytes(), from.as_bytes()) {
+        Some(_) => true,
+        None => false,
+    }
+}
+
+/// Whether a target of a rule begins with a suffix.
+fn begins_from(from: &Path, rule: &MakeRule) -> bool
+    ensures { result ≡ begins_from from.now rule.now }
+{
+    for target in rule.targets() {
+        if begins_with(target, from) {
+            return true;
+        }
+    }
+    false
+}
+
+/// The rules of which a target begins with a suffix.
+fn rules_from<'a>(
+    alloc: Global,
+    from: &Path,
+    rules: &'a [MakeRule],
+) -> Result<Vec<&'a MakeRule>, NoMemory>
+    ensures { IfOk result
+        (λ begun. map (λ rule. rule.now) begun.items ≡ filter (begins_from from.now) rules.now) }
+{
+    let mut begun = Vec::new(alloc);
+    for rule in rules {
+        if begins_from(from, rule) {
+            begun.push(rule)?;
+        }
+    }
+    Ok(begun)
+}
+
+/// Puts the suffix rules that make any suffix from one behind others. Takes time linear in the suffixes for each rule.
+fn put_pairs(
+    alloc: Global,
+    made: &mut Vec<SuffixRule>,
+    suffixes: &[Path],
+    from: &Path,
+    rules: &[&MakeRule],
+) -> Result<(), NoMemory>
+    ensures { OnOk result
+        (made.new.items
+        ≡ made.old.items
+        ++ suffix_rules_from suffixes.now (map (λ rule. rule.now) rules.now) from.now) }
+{
+    for to in suffixes {
+        put_pair(alloc, made, from, to, rules)?;
+    }
+    Ok(())
+}
+
+/// Puts the suffix rules that begin from a suffix behind others. Takes time linear in the rules, and in the suffixes for
+/// each rule of which a target begins with that suffix.
 fn put_from(
     alloc: Global,
     made: &mut Vec<SuffixRule>,
@@ -187,13 +248,15 @@ fn put_from(
         (made.new.items
         ≡ made.old.items ++ suffix_rules_from suffixes.now rules.now from.now) }
 {
-    for to in suffixes {
-        put_pair(alloc, made, from, to, rules)?;
+    let begun = rules_from(alloc, from, rules)?;
+    if begun.is_empty() {
+        return Ok(());
     }
-    Ok(())
+    put_pairs(alloc, made, suffixes, from, begun.as_slice())
 }
 
-/// The suffix rules, in the order in which they are tried, by the rules that they are.
+/// The suffix rules, in the order in which they are tried, by the rules that they are. Takes time linear in the rules for
+/// each suffix, and in the suffixes for each suffix and each of the rules that begin with it.
 pub(crate) fn suffix_rules(
     alloc: Global,
     suffixes: &[Path],

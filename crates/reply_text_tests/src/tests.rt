@@ -44,25 +44,38 @@ fn digests_are_those_of_the_standard(rt: HostRuntime) -> Result<(), Fail> {
     Ok(())
 }
 
-// A lane `a` with the one command `mkview v`.
-fn lane(alloc: Global) -> Result<Lane, Fail> {
+// A lane of this name with a command `mkview` for each of these views.
+fn lane(alloc: Global, name: &[u8], views: &[&str]) -> Result<Lane, Fail> {
     let mut commands = Vec::new(alloc);
-    commands.push(Command::Mkview {
-        view: Name::read(alloc, b"v")?,
-    })?;
+    for view in views {
+        commands.push(Command::Mkview {
+            view: Name::read(alloc, view.as_bytes())?,
+        })?;
+    }
     Ok(Lane {
-        name: Name::read(alloc, b"a")?,
+        name: Name::read(alloc, name)?,
         commands: List::of(commands),
     })
 }
 
-// The phase with this one lane.
+// The phase with the lane `a`, which has the one command `mkview v`, and the lane `b` with two.
 fn phase(alloc: Global) -> Result<Phase, Fail> {
     let mut lanes = Vec::new(alloc);
-    lanes.push(lane(alloc)?)?;
+    lanes.push(lane(alloc, b"a", &["v"])?)?;
+    lanes.push(lane(alloc, b"b", &["v", "w"])?)?;
     Ok(Phase {
         lanes: List::of(lanes),
     })
+}
+
+#[test]
+fn the_commands_of_a_lane_are_numbered(rt: HostRuntime) -> Result<(), Fail> {
+    let phase = phase(rt.alloc())?;
+    let replies = [Reply::Refused(Refusal::ViewExists), Reply::Good];
+    let text = render(rt.alloc(), &phase, 2, &replies)?;
+    let lines = b"lane b\n1 mkview refused C2 ViewExists\n2 mkview ok\n";
+    assert_eq!(rt; text.as_bytes(), lines.as_slice());
+    Ok(())
 }
 
 // What a lane `a` with the one command `mkview v` prints for this reply, behind the command's word.
@@ -81,6 +94,7 @@ fn each_kind_of_reply_is_printed(rt: HostRuntime) -> Result<(), Fail> {
     assert_reply(&rt, alloc, Reply::Good, "ok")?;
     let version = Text::from_bytes(alloc, b"/main/fix/0")?;
     assert_reply(&rt, alloc, Reply::Version(version), "ok /main/fix/0")?;
+    assert_reply(&rt, alloc, Reply::Count(0), "ok 0")?;
     assert_reply(&rt, alloc, Reply::Count(1), "ok 1")?;
     assert_reply(&rt, alloc, Reply::DiskFault, "disk fault")?;
     assert_reply(&rt, alloc, Reply::Answer(Text::of(Vec::new(alloc))), "ok")?;
@@ -161,20 +175,45 @@ fn refusals_with_other_arguments_are_printed(rt: HostRuntime) -> Result<(), Fail
         rt.alloc(),
         Refusal::NoCheckoutRule(4),
         "C17 NoCheckoutRule 4",
-    )?;
-    assert_refused(
-        &rt,
-        rt.alloc(),
-        Refusal::BadSpec(2, SpecCause::BadDate),
-        "C22 BadSpec 2 BadDate",
-    )?;
-    let file = path(rt.alloc())?;
-    assert_refused(
-        &rt,
-        rt.alloc(),
-        Refusal::MakeError(file, 7, MakeCause::NotBuilt),
-        "M1 MakeError d/in 7 NotBuilt",
     )
+}
+
+#[test]
+fn the_causes_of_a_spec_are_printed(rt: HostRuntime) -> Result<(), Fail> {
+    for (cause, words) in [
+        (SpecCause::BadRule, "C22 BadSpec 2 BadRule"),
+        (SpecCause::BadPattern, "C22 BadSpec 2 BadPattern"),
+        (SpecCause::BadSelector, "C22 BadSpec 2 BadSelector"),
+        (SpecCause::BadDate, "C22 BadSpec 2 BadDate"),
+        (SpecCause::BadType, "C22 BadSpec 2 BadType"),
+        (SpecCause::NoBlock, "C22 BadSpec 2 NoBlock"),
+    ] {
+        assert_refused(&rt, rt.alloc(), Refusal::BadSpec(2, cause), words)?;
+    }
+    Ok(())
+}
+
+#[test]
+fn the_causes_of_a_makefile_are_printed(rt: HostRuntime) -> Result<(), Fail> {
+    for (cause, words) in [
+        (MakeCause::BadLine, "M1 MakeError d/in 7 BadLine"),
+        (MakeCause::BadMacro, "M1 MakeError d/in 7 BadMacro"),
+        (MakeCause::BadPath, "M1 MakeError d/in 7 BadPath"),
+        (MakeCause::LineTooLong, "M1 MakeError d/in 7 LineTooLong"),
+        (MakeCause::MacroLoop, "M1 MakeError d/in 7 MacroLoop"),
+        (MakeCause::TwoScripts, "M1 MakeError d/in 7 TwoScripts"),
+        (
+            MakeCause::IncludeAbsent,
+            "M1 MakeError d/in 7 IncludeAbsent",
+        ),
+        (MakeCause::IncludeDepth, "M1 MakeError d/in 7 IncludeDepth"),
+        (MakeCause::TooMany, "M1 MakeError d/in 7 TooMany"),
+        (MakeCause::PhonyScript, "M1 MakeError d/in 7 PhonyScript"),
+    ] {
+        let file = path(rt.alloc())?;
+        assert_refused(&rt, rt.alloc(), Refusal::MakeError(file, 7, cause), words)?;
+    }
+    Ok(())
 }
 
 fn name(alloc: Global) -> Result<Name, Or<NameFault>> {
@@ -345,6 +384,47 @@ fn units_that_are_made_are_printed(rt: HostRuntime) -> Result<(), Fail> {
     assert_unit(&rt, rt.alloc(), UnitWord::Winked(digest), "ok", winked)?;
     assert_unit(&rt, rt.alloc(), UnitWord::Made(digest), "ok", built)?;
     assert_unit(&rt, rt.alloc(), UnitWord::Bare, "ok", "made")
+}
+
+fn line_of(alloc: Global, path: &[u8], word: UnitWord) -> Result<UnitLine, Fail> {
+    Ok(UnitLine {
+        path: Path::read(alloc, path)?,
+        word,
+    })
+}
+
+// What a build of these two lines prints behind its own line.
+fn assert_two(
+    rt: &impl Abort,
+    alloc: Global,
+    one: UnitLine,
+    two: UnitLine,
+    words: &str,
+) -> Result<(), Fail> {
+    let mut lines = Vec::new(alloc);
+    lines.push(one)?;
+    lines.push(two)?;
+    assert_reply(rt, alloc, Reply::Built(List::of(lines)), words)
+}
+
+// A group with two targets, and a unit behind one that is made.
+#[test]
+fn several_lines_of_a_build_are_printed(rt: HostRuntime) -> Result<(), Fail> {
+    let alloc = rt.alloc();
+    let digest = Digest {
+        length: 3,
+        sha256: digest_of(b"hi\n"),
+    };
+    let one = line_of(alloc, b"x", UnitWord::Made(digest))?;
+    let two = line_of(alloc, b"y", UnitWord::Made(digest))?;
+    let built =
+        "ok\n  x built 3 98ea6e4f216f2fb4b69fff9b3a44842c38686ca685f3f55dc48c5d3fb1107be4\n  y built 3 98ea6e4f216f2fb4b69fff9b3a44842c38686ca685f3f55dc48c5d3fb1107be4";
+    assert_two(&rt, alloc, one, two, built)?;
+    let one = line_of(alloc, b"x", UnitWord::Made(digest))?;
+    let two = line_of(alloc, b"y", UnitWord::Blocked(Path::read(alloc, b"z")?))?;
+    let failed =
+        "failed\n  x built 3 98ea6e4f216f2fb4b69fff9b3a44842c38686ca685f3f55dc48c5d3fb1107be4\n  y blocked z";
+    assert_two(&rt, alloc, one, two, failed)
 }
 
 fn assert_failed(

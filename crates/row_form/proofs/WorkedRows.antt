@@ -1,6 +1,6 @@
 -- The spellings of rows of each deed, worked out by computation: the bytes are written by hand from the format. The rows are those
 -- of phase 1, lane 2 and command 3 at the last moment that a row may have, the end of the year 9999.
-use Rattle.std.proofs.Common.{◌≡◌, ℕ, ◌^◌, true, false, List, [], ◌∷◌, refl}
+use Rattle.std.proofs.Common.{◌≡◌, ℕ, ◌-◌, ◌^◌, true, false, List, [], ◌∷◌, refl}
 use Rattle.std.specs.Prelude.{codes}
 use Rattle.cc_names.specs.Formed.{Plain}
 use Rattle.cc_names.specs.declared.rows.Deed.{Deed}
@@ -48,13 +48,29 @@ a_mkelem : spelled (row (deeds.Mkelem (codes "v") 5 (codes "n") kinds.Directory 
     1 ∷ 0 ∷ 0 ∷ 0 ∷ 118 ∷ 5 ∷ 0 ∷ 0 ∷ 0 ∷ 0 ∷ 0 ∷ 0 ∷ 0 ∷ 1 ∷ 0 ∷ 0 ∷ 0 ∷ 110 ∷ 2 ∷ 1 ∷ [])
 a_mkelem = refl
 
+a_mkelem_of_a_file : spelled (row (deeds.Mkelem (codes "v") 5 (codes "n") kinds.File false)) ≡ bytes 1 4 (
+    1 ∷ 0 ∷ 0 ∷ 0 ∷ 118 ∷ 5 ∷ 0 ∷ 0 ∷ 0 ∷ 0 ∷ 0 ∷ 0 ∷ 0 ∷ 1 ∷ 0 ∷ 0 ∷ 0 ∷ 110 ∷ 1 ∷ 0 ∷ [])
+a_mkelem_of_a_file = refl
+
 a_checkout : spelled (row (deeds.Checkout (codes "v") 5 6 false)) ≡ bytes 1 5 (
     1 ∷ 0 ∷ 0 ∷ 0 ∷ 118 ∷ 5 ∷ 0 ∷ 0 ∷ 0 ∷ 0 ∷ 0 ∷ 0 ∷ 0 ∷ 6 ∷ 0 ∷ 0 ∷ 0 ∷ 0 ∷ 0 ∷ 0 ∷ 0 ∷ 0 ∷ [])
 a_checkout = refl
 
+a_reserved_checkout : spelled (row (deeds.Checkout (codes "v") 5 6 true)) ≡ bytes 1 5 (
+    1 ∷ 0 ∷ 0 ∷ 0 ∷ 118 ∷ 5 ∷ 0 ∷ 0 ∷ 0 ∷ 0 ∷ 0 ∷ 0 ∷ 0 ∷ 6 ∷ 0 ∷ 0 ∷ 0 ∷ 0 ∷ 0 ∷ 0 ∷ 0 ∷ 1 ∷ [])
+a_reserved_checkout = refl
+
 a_branch : spelled (row (deeds.Branch (codes "v") 5 6 (codes "B") outs.Unreserved)) ≡ bytes 1 6 (
     1 ∷ 0 ∷ 0 ∷ 0 ∷ 118 ∷ 5 ∷ 0 ∷ 0 ∷ 0 ∷ 0 ∷ 0 ∷ 0 ∷ 0 ∷ 6 ∷ 0 ∷ 0 ∷ 0 ∷ 0 ∷ 0 ∷ 0 ∷ 0 ∷ 1 ∷ 0 ∷ 0 ∷ 0 ∷ 66 ∷ 2 ∷ [])
 a_branch = refl
+
+a_branch_alone : spelled (row (deeds.Branch (codes "v") 5 6 (codes "B") outs.No)) ≡ bytes 1 6 (
+    1 ∷ 0 ∷ 0 ∷ 0 ∷ 118 ∷ 5 ∷ 0 ∷ 0 ∷ 0 ∷ 0 ∷ 0 ∷ 0 ∷ 0 ∷ 6 ∷ 0 ∷ 0 ∷ 0 ∷ 0 ∷ 0 ∷ 0 ∷ 0 ∷ 1 ∷ 0 ∷ 0 ∷ 0 ∷ 66 ∷ 0 ∷ [])
+a_branch_alone = refl
+
+a_reserved_branch : spelled (row (deeds.Branch (codes "v") 5 6 (codes "B") outs.Reserved)) ≡ bytes 1 6 (
+    1 ∷ 0 ∷ 0 ∷ 0 ∷ 118 ∷ 5 ∷ 0 ∷ 0 ∷ 0 ∷ 0 ∷ 0 ∷ 0 ∷ 0 ∷ 6 ∷ 0 ∷ 0 ∷ 0 ∷ 0 ∷ 0 ∷ 0 ∷ 0 ∷ 1 ∷ 0 ∷ 0 ∷ 0 ∷ 66 ∷ 1 ∷ [])
+a_reserved_branch = refl
 
 a_save : spelled (row (deeds.Save (codes "v") 5 [])) ≡ bytes 1 7 (
     1 ∷ 0 ∷ 0 ∷ 0 ∷ 118 ∷ 5 ∷ 0 ∷ 0 ∷ 0 ∷ 0 ∷ 0 ∷ 0 ∷ 0 ∷ 0 ∷ 0 ∷ 0 ∷ 0 ∷ [])
@@ -88,6 +104,10 @@ a_mktype : spelled (row (deeds.Mktype type_kinds.Label (codes "B"))) ≡ bytes 1
     1 ∷ 1 ∷ 0 ∷ 0 ∷ 0 ∷ 66 ∷ [])
 a_mktype = refl
 
+a_mktype_of_branches : spelled (row (deeds.Mktype type_kinds.Branch (codes "B"))) ≡ bytes 1 14 (
+    2 ∷ 1 ∷ 0 ∷ 0 ∷ 0 ∷ 66 ∷ [])
+a_mktype_of_branches = refl
+
 a_label : spelled (row (deeds.Label (codes "L") 5 6)) ≡ bytes 1 15 (
     1 ∷ 0 ∷ 0 ∷ 0 ∷ 76 ∷ 5 ∷ 0 ∷ 0 ∷ 0 ∷ 0 ∷ 0 ∷ 0 ∷ 0 ∷ 6 ∷ 0 ∷ 0 ∷ 0 ∷ 0 ∷ 0 ∷ 0 ∷ 0 ∷ [])
 a_label = refl
@@ -105,6 +125,16 @@ a_publish_of_two : spelled (row (deeds.Publish (codes "v") (codes "x" ∷ codes 
     1 ∷ 0 ∷ 0 ∷ 0 ∷ 118 ∷ 2 ∷ 0 ∷ 0 ∷ 0 ∷ 1 ∷ 0 ∷ 0 ∷ 0 ∷ 120 ∷ 1 ∷ 0 ∷ 0 ∷ 0 ∷ 121 ∷ 0 ∷ 0 ∷ 0 ∷ 0 ∷ 0 ∷ 0 ∷ 0 ∷ 0 ∷ 2 ∷
     0 ∷ 0 ∷ 0 ∷ 0 ∷ 0 ∷ 0 ∷ 0 ∷ 2 ∷ 0 ∷ 0 ∷ 0 ∷ 104 ∷ 105 ∷ [])
 a_publish_of_two = refl
+
+a_publish_of_three : spelled (row (deeds.Publish (codes "v") (codes "y" ∷ codes "x" ∷ codes "z" ∷ []) [] [] ([] ∷ [] ∷ [] ∷ []))) ≡ bytes 2 17 (
+    1 ∷ 0 ∷ 0 ∷ 0 ∷ 118 ∷ 3 ∷ 0 ∷ 0 ∷ 0 ∷ 1 ∷ 0 ∷ 0 ∷ 0 ∷ 121 ∷ 1 ∷ 0 ∷ 0 ∷ 0 ∷ 120 ∷ 1 ∷ 0 ∷ 0 ∷ 0 ∷ 122 ∷ 0 ∷ 0 ∷ 0 ∷ 0 ∷
+    0 ∷ 0 ∷ 0 ∷ 0 ∷ 3 ∷ 0 ∷ 0 ∷ 0 ∷ 0 ∷ 0 ∷ 0 ∷ 0 ∷ 0 ∷ 0 ∷ 0 ∷ 0 ∷ 0 ∷ 0 ∷ 0 ∷ 0 ∷ [])
+a_publish_of_three = refl
+
+a_publish_with_two_reads : spelled (row (deeds.Publish (codes "v") (codes "x" ∷ []) [] (read (codes "a") 7 ∷ read (codes "b") 0 ∷ []) ([] ∷ []))) ≡ bytes 1 17 (
+    1 ∷ 0 ∷ 0 ∷ 0 ∷ 118 ∷ 1 ∷ 0 ∷ 0 ∷ 0 ∷ 1 ∷ 0 ∷ 0 ∷ 0 ∷ 120 ∷ 0 ∷ 0 ∷ 0 ∷ 0 ∷ 2 ∷ 0 ∷ 0 ∷ 0 ∷ 1 ∷ 0 ∷ 0 ∷ 0 ∷ 97 ∷
+    7 ∷ 0 ∷ 0 ∷ 0 ∷ 0 ∷ 0 ∷ 0 ∷ 0 ∷ 1 ∷ 0 ∷ 0 ∷ 0 ∷ 98 ∷ 0 ∷ 0 ∷ 0 ∷ 0 ∷ 0 ∷ 0 ∷ 0 ∷ 0 ∷ 1 ∷ 0 ∷ 0 ∷ 0 ∷ 0 ∷ 0 ∷ 0 ∷ 0 ∷ [])
+a_publish_with_two_reads = refl
 
 a_wink : spelled (row (deeds.Wink (codes "v") 5)) ≡ bytes 1 18 (
     1 ∷ 0 ∷ 0 ∷ 0 ∷ 118 ∷ 5 ∷ 0 ∷ 0 ∷ 0 ∷ 0 ∷ 0 ∷ 0 ∷ 0 ∷ [])
@@ -132,6 +162,12 @@ a_publish_at : spelled (row (deeds.PublishAt (codes "v") (codes "x" ∷ []) (cod
     97 ∷ 7 ∷ 0 ∷ 0 ∷ 0 ∷ 0 ∷ 0 ∷ 0 ∷ 0 ∷ 1 ∷ 0 ∷ 0 ∷ 0 ∷ 1 ∷ 5 ∷ 0 ∷ 0 ∷ 0 ∷ 0 ∷ 0 ∷ 0 ∷ 0 ∷ 6 ∷ 0 ∷ 0 ∷ 0 ∷ 0 ∷ 0 ∷ 0 ∷
     0 ∷ [])
 a_publish_at = refl
+
+-- the last place that a byte of the file of objects may have
+a_publish_at_the_end : spelled (row (deeds.PublishAt (codes "v") (codes "x" ∷ []) [] [] (There (extent (2 ^ 63 - 2) 1) ∷ []))) ≡ bytes 1 23 (
+    1 ∷ 0 ∷ 0 ∷ 0 ∷ 118 ∷ 1 ∷ 0 ∷ 0 ∷ 0 ∷ 1 ∷ 0 ∷ 0 ∷ 0 ∷ 120 ∷ 0 ∷ 0 ∷ 0 ∷ 0 ∷ 0 ∷ 0 ∷ 0 ∷ 0 ∷ 1 ∷ 0 ∷ 0 ∷ 0 ∷ 1 ∷
+    254 ∷ 255 ∷ 255 ∷ 255 ∷ 255 ∷ 255 ∷ 255 ∷ 127 ∷ 1 ∷ 0 ∷ 0 ∷ 0 ∷ 0 ∷ 0 ∷ 0 ∷ 0 ∷ [])
+a_publish_at_the_end = refl
 
 a_publish_at_of_two : spelled (row (deeds.PublishAt (codes "v") (codes "x" ∷ codes "y" ∷ []) [] [] (Here [] ∷ There (extent 0 1048576) ∷ []))) ≡ bytes 2 23 (
     1 ∷ 0 ∷ 0 ∷ 0 ∷ 118 ∷ 2 ∷ 0 ∷ 0 ∷ 0 ∷ 1 ∷ 0 ∷ 0 ∷ 0 ∷ 120 ∷ 1 ∷ 0 ∷ 0 ∷ 0 ∷ 121 ∷ 0 ∷ 0 ∷ 0 ∷ 0 ∷ 0 ∷ 0 ∷ 0 ∷ 0 ∷ 2 ∷

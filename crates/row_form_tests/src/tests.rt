@@ -145,3 +145,87 @@ fn a_spelling_that_is_cut_is_no_row(rt: HostRuntime) -> Result<(), Fail> {
     assert_eq!(rt; first_uncut(rt.alloc(), hashing, &ROWS)?, None);
     Ok(())
 }
+
+// The row of `mkview v` at the moment behind the last that a row may have.
+const TOO_LATE: &[u8] =
+    b"\x01\x01\0\0\0\x02\0\0\0\x03\0\0\0\x80\x41\xf4\xff\x3a\0\0\0\x01\x01\0\0\0v";
+
+#[test]
+fn a_moment_past_the_last_is_named_by_its_place(rt: HostRuntime) -> Result<(), Fail> {
+    let hashing = RandomState::new(&rt)?;
+    assert_eq!(rt; fault_of(rt.alloc(), hashing, TOO_LATE)?, Some(13));
+    Ok(())
+}
+
+// A row of this path at which a private file is removed.
+fn removal(alloc: Global, path: &[u8]) -> Result<Vec<u8>, Fail> {
+    if path.len() > 2_000 {
+        return Err(Fail::new("a long path"));
+    }
+    let mut fields = b"\x01\0\0\0v".to_vec(alloc)?;
+    fields.extend_from_slice(&(path.len() as u32).to_le_bytes())?;
+    fields.extend_from_slice(path)?;
+    row_of(alloc, 1, 13, fields.as_slice())
+}
+
+#[test]
+fn a_path_has_1024_bytes(rt: HostRuntime) -> Result<(), Fail> {
+    let alloc = rt.alloc();
+    let hashing = RandomState::new(&rt)?;
+    let mut path = b"a".to_vec(alloc)?;
+    for _ in 0..511 {
+        path.extend_from_slice(b"/a")?;
+    }
+    path.push(b'a')?;
+    let longest = removal(alloc, path.as_slice())?;
+    assert_eq!(rt; fault_of(alloc, hashing, longest.as_slice())?, None);
+    path.push(b'a')?;
+    let longer = removal(alloc, path.as_slice())?;
+    assert_eq!(rt; fault_of(alloc, hashing, longer.as_slice())?, Some(27));
+    Ok(())
+}
+
+// Where a row that is cut to so many bytes fails: at the field in which the cut is, or at which it ends.
+const CUTS: [(usize, u64); 27] = [
+    (0, 0),
+    (1, 1),
+    (2, 1),
+    (3, 1),
+    (4, 1),
+    (5, 5),
+    (6, 5),
+    (7, 5),
+    (8, 5),
+    (9, 9),
+    (10, 9),
+    (11, 9),
+    (12, 9),
+    (13, 13),
+    (14, 13),
+    (15, 13),
+    (16, 13),
+    (17, 13),
+    (18, 13),
+    (19, 13),
+    (20, 13),
+    (21, 21),
+    (22, 22),
+    (23, 22),
+    (24, 22),
+    (25, 22),
+    (26, 22),
+];
+
+#[test]
+fn a_cut_is_named_by_its_field(rt: HostRuntime) -> Result<(), Fail> {
+    let alloc = rt.alloc();
+    let hashing = RandomState::new(&rt)?;
+    let bytes = row_of(alloc, 1, 1, b"\x01\0\0\0v")?;
+    assert_eq!(rt; bytes.len(), CUTS.len());
+    for (length, place) in CUTS {
+        assert!(rt; length <= bytes.len());
+        let fault = fault_of(alloc, hashing, &bytes[..length])?;
+        assert_eq!(rt; fault, Some(place), "of {length} bytes");
+    }
+    Ok(())
+}

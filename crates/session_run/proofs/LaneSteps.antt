@@ -1,6 +1,6 @@
 -- What the turns of a lane do to the story.
-use Rattle.std.proofs.Common.{◌≡◌, ℕ, ◌-◌, ◌<◌, Bool, true, false, ◌&&◌, Option, Some, None, Result, Ok, Err, List, [], ◌∷◌, refl, ap, ap₂, sym, subst, ◌∙◌, arith}
-use Rattle.std.specs.Prelude.{IfSome, IsSome, not, option_map, option_and_then}
+use Rattle.std.proofs.Common.{◌≡◌, ℕ, ◌-◌, ◌<◌, Bool, true, false, ◌||◌, Option, Some, None, Result, Ok, Err, List, [], ◌∷◌, refl, ap, ap₂, sym, subst, ◌∙◌, arith}
+use Rattle.std.specs.Prelude.{IfSome, IsSome, option_map, option_and_then}
 use Rattle.cc_names.specs.declared.commands.Command.{Command}
 use Rattle.cc_names.specs.declared.commands.Command.TheVariants as commands
 use Rattle.cc_names.specs.declared.desks.Done.{Done}
@@ -10,14 +10,13 @@ use Rattle.cc_names.specs.declared.refusals.Refusal.{Refusal}
 use Rattle.cc_names.specs.declared.rows.Tag.{Tag}
 use Rattle.cc_names.specs.declared.rows.Deed.{Deed}
 use Rattle.cc_names.specs.declared.rows.Deed.TheVariants as deeds
-use Rattle.cc_names.specs.declared.rows.TypeKind.TheVariants as type_kinds
-use Rattle.cc_names.specs.declared.selection.Seen.{Seen}
-use Rattle.cc_names.specs.declared.selection.Seen.TheVariants.{Element, Unselected}
 use Rattle.cc_names.specs.declared.steps.Step.TheVariants as steps
 use Rattle.cc_names.specs.declared.steps.Told.{Told}
 use Rattle.cc_names.specs.declared.steps.Told.TheVariants as told
+use Rattle.base_core.proofs.Acting.PlainRows.{command_finishes}
 use Rattle.base_core.proofs.Keeping.Idle.{decided_is_free}
 use Rattle.base_core.specs.Calls.Acting.{Acts, IsStepOf}
+use Rattle.checkout_desk.specs.Commands.{builds}
 use Rattle.carried_out.specs.CarriedOut.{is_carried_out, AreCarriedOut}
 use Rattle.legal_history.specs.Queries.QueryLines.{is_query}
 use Rattle.base_core.specs.Calls.Going.{SamePhase, Finishes, GoesOn}
@@ -25,8 +24,7 @@ use Rattle.base_core.specs.Keeping.Nexts.{next_of, next_by, waiting}
 use Rattle.std.proofs.lemmas.List.{append-nil}
 use Rattle.legal_history.specs.Base.Rows.{only_where}
 use Rattle.legal_history.specs.Builds.Active.{build_of}
-use Rattle.legal_history.specs.Commands.Decisions.{Scene, Decision, Makes, unless_refused}
-use Rattle.legal_history.specs.Commands.FileLines.{save_deed}
+use Rattle.legal_history.specs.Commands.Decisions.{Scene, Decision, Makes, Answers, Begins}
 use Rattle.legal_history.specs.Commands.Lines.{decision}
 use Rattle.legal_history.proofs.Decisions.Handed.{IfDecided}
 use Rattle.legal_history.proofs.Decisions.Queried.{query_is}
@@ -42,11 +40,6 @@ EndsCommand : Option (Result Decision Refusal) → Type 0
 EndsCommand (Some (Ok (Makes deed))) = (done : List (ℕ × ℕ)) (lane : ℕ) → done_after done lane deed ≡ with_done done lane
 EndsCommand decided = Unit {0}
 
-makes_ends : (refusal : Option Refusal) (deed : Deed) → ((done : List (ℕ × ℕ)) (lane : ℕ) → done_after done lane deed ≡ with_done done lane) → EndsCommand (Some (unless_refused refusal (Makes deed)))
-unfolding EndsCommand
-makes_ends None deed h = h
-makes_ends (Some refusal) deed h = tt
-
 ends_if : (chosen : Result Decision Refusal) → IfDecided (λ decision. EndsCommand (Some (Ok decision))) chosen → EndsCommand (Some chosen)
 unfolding EndsCommand
 ends_if (Ok decision) so = so decision refl
@@ -58,27 +51,26 @@ unfolding EndsCommand
 query_ends sc command h =
     ends_if (decision sc command) (query_is (λ decision. EndsCommand (Some (Ok decision))) sc command h (λ text. tt))
 
-saves_end : (v path text : List ℕ) (seen : Seen) (done : List (ℕ × ℕ)) (lane : ℕ) → done_after done lane (save_deed v path text seen) ≡ with_done done lane
-saves_end v path text (Element e picked) done lane = refl
-saves_end v path text (Unselected e) done lane = refl
-saves_end v path text seen done lane = refl
+-- a command that waits to be carried out builds nothing
+acts_alone : (command : Command) (tag : Tag) → next_by (Some command) tag ≡ nexts.Act → builds command ≡ false
+acts_alone (commands.Clearmake v file own_only rebuild jobs macros goals) tag acts = absurd (cc)
+acts_alone command tag acts = refl
 
-decision_ends : (sc : Scene) (command : Command) (tag : Tag) → (not (is_query command) && is_carried_out command) ≡ true → next_by (Some command) tag ≡ nexts.Act → EndsCommand (Some (decision sc command))
-decision_ends sc (commands.Mkview v) tag h acts = makes_ends _ (deeds.Mkview v) (λ done lane. refl)
-decision_ends sc (commands.Rmview v force) tag h acts = makes_ends _ (deeds.Rmview v) (λ done lane. refl)
-decision_ends sc (commands.Save v path text) tag h acts = makes_ends _ _ (saves_end v path text _)
-decision_ends sc (commands.Rm v path) tag h acts = makes_ends _ (deeds.Rm v path) (λ done lane. refl)
-decision_ends sc (commands.Mklbtype name) tag h acts = makes_ends _ (deeds.Mktype type_kinds.Label name) (λ done lane. refl)
-decision_ends sc (commands.Mkbrtype name) tag h acts = makes_ends _ (deeds.Mktype type_kinds.Branch name) (λ done lane. refl)
-decision_ends sc (commands.Clearmake v file own_only rebuild jobs macros goals) tag h acts = absurd (cc)
-decision_ends sc command tag h acts = absurd (cc)
+decision_ends : (sc : Scene) (command : Command) (tag : Tag) → is_carried_out command ≡ true → is_query command ≡ false → next_by (Some command) tag ≡ nexts.Act → EndsCommand (Some (decision sc command))
+unfolding EndsCommand
+decision_ends sc command tag carried quiet acts = ends_if (decision sc command) by
+  where
+    by : (made : Decision) → decision sc command ≡ Ok made → EndsCommand (Some (Ok made))
+    by (Makes deed) is = (command_finishes sc command deed carried (ap₂ ◌||◌ (acts_alone command tag acts) quiet) is).done
+    by (Answers text) is = tt
+    by (Begins units) is = tt
 
 command_ends : (sc : Scene) (command : Command) (tag : Tag) → is_carried_out command ≡ true → next_by (Some command) tag ≡ nexts.Act → EndsCommand (Some (decision sc command))
 command_ends sc command tag h acts = by (is_query command) refl
   where
     by : (query : Bool) → is_query command ≡ query → EndsCommand (Some (decision sc command))
     by true is = query_ends sc command is
-    by false is = decision_ends sc command tag (ap₂ ◌&&◌ (ap not is) h) acts
+    by false is = decision_ends sc command tag h is acts
 
 found_ends : (sc : Scene) (is : Bool) (found : Option Command) (tag : Tag) → IfSome found (λ command. is_carried_out command ≡ true) → next_by found tag ≡ nexts.Act → EndsCommand (option_map (decision sc) (only_where is found))
 unfolding EndsCommand

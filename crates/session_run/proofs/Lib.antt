@@ -1,5 +1,7 @@
 pub mod Blaming
+pub mod CommandWords
 pub mod Exactly
+pub mod FailedLanes
 mod Files
 pub mod FromNothing
 pub mod HandedOn

@@ -1,6 +1,6 @@
 // Whether a command of a phase failed.
 
-ghost use Rattle.std.specs.Prelude.{◌≡◌, ◌≤◌, ◌<◌, length};
+ghost use Rattle.std.specs.Prelude.{◌≡◌, ◌≤◌, length};
 ghost use Rattle.std.specs.List.{list_any, list_all};
 ghost use Rattle.legal_history.specs.Stories.Steps.{state_of};
 ghost use Rattle.base_core.specs.Story.Replying.{replies_of};
@@ -42,19 +42,15 @@ fn has_failure(replies: &[Reply]) -> bool
 /// Whether a command of the last phase failed: it was refused, or a unit of its build is not made. Takes time linear in the
 /// replies.
 pub(crate) fn any_failed<D: Disk>(core: &Core<D>) -> bool
-    requires begun { 0 < (state_of core.now.story).number }
     requires few { length (state_of core.now.story).phase.lanes ≤ 64 }
     ensures { result
         ≡ lanes_fail 1 (state_of core.now.story).phase.lanes (replies_of core.now.story) }
 {
-    let mut lane = 1u32;
-    let mut rest = core.phase().lanes.as_slice();
-    while let Some((_, behind)) = rest.split_first() {
-        if has_failure(core.replies(lane)) {
+    let lanes = core.lanes() as u32;
+    for index in 0..lanes {
+        if has_failure(core.replies(index + 1)) {
             return true;
         }
-        lane += 1;
-        rest = behind;
     }
     false
 }

@@ -54,7 +54,7 @@ pub(crate) fn run_lanes<D: Disk>(alloc: Global, core: &mut Core<D>) -> Result<()
     ensures finished { OnOk result (all_done (state_of core.new.story) ≡ true) }
     ensures counted { KeepsCount core.old core.new }
 {
-    let lanes = core.phase().lanes.as_slice().len() as u32;
+    let lanes = core.lanes() as u32;
     for index in 0..lanes {
         run_lane(alloc, core, index + 1)?;
     }

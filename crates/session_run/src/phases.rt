@@ -19,7 +19,6 @@ use crate::failures::any_failed;
 use crate::lanes::run_lanes;
 use crate::transcripts::transcript;
 use base_core::Core;
-use cc_names::commands::Phase;
 use cc_names::memory::{NoMemory, Or};
 use cc_names::rows::LAST_MOMENT;
 use cc_outside::{Clock, Sink, WriteFault, write_whole};
@@ -39,27 +38,6 @@ fn moment_of<C: Clock>(clock: &mut C) -> u64
 }
 
 /// Begins a phase and carries out its commands.
-fn carry_out<D: Disk>(
-    alloc: Global,
-    core: &mut Core<D>,
-    phase: Phase,
-    moment: u64,
-) -> Result<(), NoMemory>
-    requires finished { all_done (state_of core.old.story) ≡ true }
-    requires opened { is_opened core.old.story ≡ true }
-    requires ready { IsReadyPhase phase }
-    requires few { (state_of core.old.story).number + 1 < 2 ^ 32 }
-    requires in_time { moment ≤ last_moment }
-    ensures ok { OnOk result (RunsPhase phase moment core.old.story core.new.story) }
-    ensures err { OnErr result (LeavesPhase phase moment core.old.story core.new.story) }
-    ensures first { first_step core.new.story ≡ first_step core.old.story }
-    ensures counted { KeepsCount core.old core.new }
-{
-    core.begin_phase(alloc, phase, moment)?;
-    run_lanes(alloc, core)
-}
-
-/// Reads a phase from its text, begins it and carries out its commands.
 fn run_commands<D: Disk>(
     alloc: Global,
     core: &mut Core<D>,
@@ -76,8 +54,8 @@ fn run_commands<D: Disk>(
     ensures first { first_step core.new.story ≡ first_step core.old.story }
     ensures counted { KeepsCount core.old core.new }
 {
-    let phase = phase.read(alloc)?;
-    carry_out(alloc, core, phase, moment)
+    core.begin_phase(alloc, phase, moment)?;
+    run_lanes(alloc, core)
 }
 
 /// Writes the transcript of the last phase, which has this number.

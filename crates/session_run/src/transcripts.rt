@@ -7,6 +7,7 @@ ghost use Rattle.reply_text.specs.Replies.{render};
 ghost use Rattle.session_run.specs.Rendered.{phase_line, lanes_text, transcript};
 
 use base_core::Core;
+use cc_names::commands::Phase;
 use cc_names::memory::NoMemory;
 use cc_names::texts::Text;
 use disk_model::Disk;
@@ -25,17 +26,16 @@ fn push_lane<D: Disk>(
     alloc: Global,
     text: &mut Vec<u8>,
     core: &Core<D>,
+    phase: &Phase,
     lane: u32,
 ) -> Result<(), NoMemory>
-    requires begun { 0 < (state_of core.now.story).number }
     requires from { 1 ≤ lane }
     requires upto { lane ≤ length (state_of core.now.story).phase.lanes }
     ensures { OnOk result
         (text.new.items
-        ≡ text.old.items
-        ++ render (state_of core.now.story).phase lane (replies_of core.now.story lane)) }
+        ≡ text.old.items ++ render phase.now lane (replies_of core.now.story lane)) }
 {
-    let lines = render(alloc, core.phase(), lane, core.replies(lane))?;
+    let lines = render(alloc, phase, lane, core.replies(lane))?;
     text.extend_from_slice(lines.as_bytes())?;
     Ok(())
 }
@@ -49,17 +49,19 @@ fn push_lanes<D: Disk>(alloc: Global, text: &mut Vec<u8>, core: &Core<D>) -> Res
         ++ lanes_text (state_of core.now.story).phase 1 (state_of core.now.story).phase.lanes
         (replies_of core.now.story)) }
 {
+    let phase = core.phase().read(alloc)?;
     let mut lane = 1u32;
-    let mut rest = core.phase().lanes.as_slice();
+    let mut rest = phase.lanes.as_slice();
     while let Some((_, behind)) = rest.split_first() {
-        push_lane(alloc, text, core, lane)?;
+        push_lane(alloc, text, core, &phase, lane)?;
         lane += 1;
         rest = behind;
     }
     Ok(())
 }
 
-/// The transcript of the last phase, which has this number: its line, and the lines of its lanes.
+/// The transcript of the last phase, which has this number: its line, and the lines of its lanes. Takes time linear in the
+/// phase's text and in the replies, and memory for each of its commands while the lines are made.
 pub(crate) fn transcript<D: Disk>(
     alloc: Global,
     core: &Core<D>,

@@ -1,17 +1,15 @@
 -- What the next of some commands asks for is told by the word of its line.
-use Rattle.std.proofs.Common.{◌≡◌, ◌∙◌, ℕ, Bool, true, false, cond, Option, Some, List, [], ◌∷◌, refl, sym, ap, subst}
+use Rattle.std.proofs.Common.{◌≡◌, ℕ, Bool, true, false, cond, Some, List, [], ◌∷◌, refl, sym, subst}
 use Rattle.std.specs.Prelude.{Ok, Err, IfOk, codes}
 use Rattle.std.specs.List.{AllByRecursion}
 use Rattle.std.specs.Str.{bytes_eq}
 use Rattle.std.proofs.lemmas.Slice.Eq.{bytes_eq-Decides}
-use Rattle.carried_out.specs.CarriedOut.{is_carried_out}
 use Rattle.cc_names.specs.declared.commands.Command.{Command}
 use Rattle.cc_names.specs.declared.commands.Command.TheVariants as commands
-use Rattle.cc_names.specs.declared.refusals.SessionCause.TheVariants.{NotBuilt}
 use Rattle.session_text.specs.declared.lanes.Ahead.{Ahead}
 use Rattle.session_text.specs.declared.lanes.Ahead.TheVariants.{Act, Build}
 use Rattle.session_text.specs.Ahead.{ahead_of, ahead_by}
-use Rattle.session_text.specs.Commands.{moves, mv, by_record, labels, mklabel, scrub, cat, diffcr, mkarrow, findmerge, Line, table, said_in, where_carried_out, command_of}
+use Rattle.session_text.specs.Commands.{moves, mv, by_record, labels, mklabel, scrub, cat, diffcr, mkarrow, findmerge, Line, table, said_in, command_of}
 use Rattle.session_text.specs.Shapes.{has_flag, without_flag, first_name, behind_first, view_path, view_below, path_type, type_path, fits_beside}
 use Rattle.session_text.specs.Words.{Said, where_so, name_word, age_word, version_word, cat_word, latest_word, both, says, and_says}
 
@@ -202,14 +200,6 @@ in_table (line ∷ lines) word words text h = by (bytes_eq word line.word) refl 
     by true e later = subst (λ w. Asks (ahead_by w) (line.says words text)) (sym ((bytes_eq-Decides word line.word).0 e)) (h.0 words text)
     by false e later = later
 
-where_carried : (ahead : Ahead) (command : Command) (carried : Bool) → ahead_of (Some command) ≡ ahead → Asks ahead (cond carried (Ok command) (Err NotBuilt))
-where_carried ahead command true h = h
-where_carried ahead command false h = tt
-
-if_carried : (ahead : Ahead) (said : Said Command) → Asks ahead said → Asks ahead (and_says where_carried_out said)
-if_carried ahead (Ok command) h = where_carried ahead command (is_carried_out command) h
-if_carried ahead (Err cause) h = tt
-
 -- the command of a line asks for what its word tells
 pub command_asks : (word : List ℕ) (words : List (List ℕ)) (text : List ℕ) → IfOk (command_of word words text) (λ command. ahead_of (Some command) ≡ ahead_by word)
-command_asks word words text = if_carried (ahead_by word) (said_in table word words text) (in_table table word words text table_asks)
+command_asks word words text = in_table table word words text table_asks

@@ -1,16 +1,14 @@
 -- What the line of each command says has the form of that command.
 use Rattle.std.proofs.Common.{◌≡◌, ℕ, ◌≤◌, Bool, true, false, cond, List, [], ◌∷◌, length, refl}
-use Rattle.std.specs.Prelude.{Ok, Err, IfOk, IfSome, codes}
+use Rattle.std.specs.Prelude.{Ok, IfOk, IfSome, codes}
 use Rattle.std.specs.List.{AllByRecursion}
 use Rattle.std.specs.Str.{bytes_eq}
-use Rattle.carried_out.specs.CarriedOut.{is_carried_out}
 use Rattle.cc_names.specs.Formed.{IsTypeName, IsBelowRoot}
 use Rattle.cc_names.specs.Names.{IsName}
 use Rattle.cc_names.specs.Paths.{IsPath, parent_of}
 use Rattle.cc_names.specs.declared.commands.Command.{Command}
 use Rattle.cc_names.specs.declared.commands.Command.TheVariants as commands
-use Rattle.cc_names.specs.declared.refusals.SessionCause.TheVariants.{NotBuilt}
-use Rattle.session_text.specs.Commands.{rmview, mkbranch, save, moves, mv, by_record, labels, mklabel, rmlabel, scrub, ls, cat, diffcr, covers, mkarrow, findmerge, Line, table, said_in, where_carried_out, command_of}
+use Rattle.session_text.specs.Commands.{rmview, mkbranch, save, moves, mv, by_record, labels, mklabel, rmlabel, scrub, ls, cat, diffcr, covers, mkarrow, findmerge, Line, table, said_in, command_of}
 use Rattle.session_text.specs.Formed.{IsCommand, IsVersionName}
 use Rattle.session_text.specs.Shapes.{has_flag, without_flag, first_name, behind_first, view, only_type, view_path, view_below, maybe_path, type_path, path_type, flag_path, flag_below, fits_beside}
 use Rattle.session_text.specs.Words.{Said, where_so, name_word, age_word, version_word, cat_word, latest_word, both, says}
@@ -246,13 +244,6 @@ in_table limit (line ∷ lines) word words text h n w l = by (bytes_eq word line
     by true here later = here
     by false here later = later
 
-where_carried_is : (limit : ℕ) (command : Command) (carried : Bool) → IsCommand limit command → IfOk (cond carried (Ok command) (Err NotBuilt)) (IsCommand limit)
-where_carried_is limit command true h = h
-where_carried_is limit command false h = tt
-
 -- the command of a line has its form
 pub command_is : (limit : ℕ) (word : List ℕ) (words : List (List ℕ)) (text : List ℕ) → length words ≤ limit → AllByRecursion (λ w. length w ≤ limit) words → length text ≤ limit → IfOk (command_of word words text) (IsCommand limit)
-command_is limit word words text n w l =
-    and_says_is (IsCommand limit) (IsCommand limit) where_carried_out (said_in table word words text)
-    (λ command h. where_carried_is limit command (is_carried_out command) h)
-    (in_table limit table word words text (table_is limit) n w l)
+command_is limit word words text n w l = in_table limit table word words text (table_is limit) n w l

@@ -1,6 +1,6 @@
 -- What is known of lines that stand right.
-use Rattle.std.proofs.Common.{◌≡◌, ◌∙◌, ℕ, ◌+◌, ◌≤◌, Bool, true, false, not, cond, Option, Some, None, List, [], ◌∷◌, refl, sym, ap, length, arith}
-use Rattle.std.specs.Prelude.{Result, Ok, Err, IsOk, nat_le}
+use Rattle.std.proofs.Common.{◌≡◌, ◌∙◌, ℕ, ◌+◌, Bool, true, false, not, cond, Option, Some, None, List, [], ◌∷◌, refl, sym, ap, length, arith}
+use Rattle.std.specs.Prelude.{Ok, Err, IsOk, nat_le}
 use Rattle.cc_names.specs.declared.commands.Command.{Command}
 use Rattle.cc_names.specs.declared.refusals.SessionCause.{SessionCause}
 use Rattle.cc_names.specs.declared.refusals.SessionCause.TheVariants as causes
@@ -9,13 +9,13 @@ use Rattle.session_text.specs.declared.kinds.Kind.{Kind}
 use Rattle.session_text.specs.declared.kinds.Kind.TheVariants as kinds
 use Rattle.session_text.specs.Commands.{command_of}
 use Rattle.session_text.specs.Kinds.{Rest, kinds_of}
-use Rattle.session_text.specs.Reading.{IsEnd, IsNext, IsAtEnd, IsRight, IsFound, IsPast, FindsCommand, Names, Says}
-use Rattle.session_text.specs.Sessions.{Above, cause_or, cause_in, cause_of, above_next, is_empty, is_taken, lane_of, error_or, first_error, body_of, before_commands, commands_of}
+use Rattle.session_text.specs.Reading.{IsNext, IsAtEnd, IsRight, IsFound, IsPast, FindsCommand, Names, Says}
+use Rattle.session_text.specs.Sessions.{cause_or, cause_in, cause_of, above_next, is_empty, is_taken, error_or, first_error, body_of, before_commands, commands_of}
 use Rattle.session_text.specs.Shapes.{view}
 use Rattle.session_text.specs.Words.{Said}
 use Rattle.session_text.proofs.Ends.{end-all, end-behind}
 
-none_wrong : (n : ℕ) (cause : Option SessionCause) (later : Option SessionError) → error_or n cause later ≡ None → (cause ≡ None) × (later ≡ None)
+pub none_wrong : (n : ℕ) (cause : Option SessionCause) (later : Option SessionError) → error_or n cause later ≡ None → (cause ≡ None) × (later ≡ None)
 none_wrong n (Some cause) later e = cc
 none_wrong n None later e = (refl, e)
 

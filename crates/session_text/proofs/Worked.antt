@@ -74,6 +74,126 @@ merged : line_says (codes "findmerge" ∷ codes "w" ∷ codes "." ∷ codes "-fv
 unfolding line_says
 merged = refl
 
+ended_by_force : line_says (codes "rmview" ∷ codes "-force" ∷ codes "v" ∷ []) ≡ Ok (commands.Rmview (codes "v") true)
+unfolding line_says
+ended_by_force = refl
+
+rules_set : line_says (codes "setcs" ∷ codes "v" ∷ []) ≡ Ok (commands.Setcs (codes "v") [])
+unfolding line_says
+rules_set = refl
+
+file_made : line_says (codes "mkelem" ∷ codes "v" ∷ codes "-nco" ∷ codes "a" ∷ []) ≡ Ok (commands.Mkelem (codes "v") true (codes "a"))
+unfolding line_says
+file_made = refl
+
+directory_made : line_says (codes "mkdir" ∷ codes "v" ∷ codes "-nco" ∷ codes "a" ∷ []) ≡ Ok (commands.Mkdir (codes "v") true (codes "a"))
+unfolding line_says
+directory_made = refl
+
+taken_out : line_says (codes "checkout" ∷ codes "v" ∷ codes "-unreserved" ∷ codes "." ∷ []) ≡ Ok (commands.Checkout (codes "v") true (codes "."))
+unfolding line_says
+taken_out = refl
+
+branched : line_says (codes "mkbranch" ∷ codes "v" ∷ codes "-nco" ∷ codes "fix" ∷ codes "a" ∷ []) ≡ Ok (commands.Mkbranch (codes "v") true (codes "fix") (codes "a"))
+unfolding line_says
+branched = refl
+
+saved : line_says (codes "save" ∷ codes "v" ∷ codes "a" ∷ []) ≡ Ok (commands.Save (codes "v") (codes "a") [])
+unfolding line_says
+saved = refl
+
+removed : line_says (codes "rm" ∷ codes "v" ∷ codes "a" ∷ []) ≡ Ok (commands.Rm (codes "v") (codes "a"))
+unfolding line_says
+removed = refl
+
+taken_in : line_says (codes "checkin" ∷ codes "v" ∷ codes "-identical" ∷ codes "a" ∷ []) ≡ Ok (commands.Checkin (codes "v") true (codes "a"))
+unfolding line_says
+taken_in = refl
+
+given_up : line_says (codes "uncheckout" ∷ codes "v" ∷ codes "a" ∷ []) ≡ Ok (commands.Uncheckout (codes "v") (codes "a"))
+unfolding line_says
+given_up = refl
+
+name_removed : line_says (codes "rmname" ∷ codes "v" ∷ codes "a" ∷ []) ≡ Ok (commands.Rmname (codes "v") (codes "a"))
+unfolding line_says
+name_removed = refl
+
+moved : line_says (codes "mv" ∷ codes "v" ∷ codes "a/b" ∷ codes "c" ∷ []) ≡ Ok (commands.Mv (codes "v") (codes "a/b") (codes "c"))
+unfolding line_says
+moved = refl
+
+label_type_made : line_says (codes "mklbtype" ∷ codes "REL" ∷ []) ≡ Ok (commands.Mklbtype (codes "REL"))
+unfolding line_says
+label_type_made = refl
+
+branch_type_made : line_says (codes "mkbrtype" ∷ codes "fix" ∷ []) ≡ Ok (commands.Mkbrtype (codes "fix"))
+unfolding line_says
+branch_type_made = refl
+
+label_put : line_says (codes "mklabel" ∷ codes "v" ∷ codes "-replace" ∷ codes "REL" ∷ codes "a" ∷ []) ≡ Ok (commands.Mklabel (codes "v") true (codes "REL") (codes "a"))
+unfolding line_says
+label_put = refl
+
+label_taken_off : line_says (codes "rmlabel" ∷ codes "v" ∷ codes "REL" ∷ codes "a" ∷ []) ≡ Ok (commands.Rmlabel (codes "v") (codes "REL") (codes "a"))
+unfolding line_says
+label_taken_off = refl
+
+dropped : line_says (codes "rmdo" ∷ codes "v" ∷ codes "a" ∷ []) ≡ Ok (commands.Rmdo (codes "v") (codes "a"))
+unfolding line_says
+dropped = refl
+
+scrubbed : line_says (codes "scrub" ∷ codes "12" ∷ []) ≡ Ok (commands.Scrub 12)
+unfolding line_says
+scrubbed = refl
+
+rules_asked : line_says (codes "catcs" ∷ codes "v" ∷ []) ≡ Ok (commands.Catcs (codes "v"))
+unfolding line_says
+rules_asked = refl
+
+objects_asked : line_says (codes "lsdo" ∷ codes "v" ∷ []) ≡ Ok (commands.Lsdo (codes "v"))
+unfolding line_says
+objects_asked = refl
+
+root_asked : line_says (codes "ls" ∷ codes "v" ∷ []) ≡ Ok (commands.Ls (codes "v") None)
+unfolding line_says
+root_asked = refl
+
+directory_asked : line_says (codes "ls" ∷ codes "v" ∷ codes "d" ∷ []) ≡ Ok (commands.Ls (codes "v") (Some (codes "d")))
+unfolding line_says
+directory_asked = refl
+
+text_asked : line_says (codes "cat" ∷ codes "v" ∷ codes "a" ∷ []) ≡ Ok (commands.Cat (codes "v") (codes "a") None)
+unfolding line_says
+text_asked = refl
+
+element_asked : line_says (codes "describe" ∷ codes "v" ∷ codes "a" ∷ []) ≡ Ok (commands.Describe (codes "v") (codes "a"))
+unfolding line_says
+element_asked = refl
+
+versions_asked : line_says (codes "lsvtree" ∷ codes "v" ∷ codes "a" ∷ []) ≡ Ok (commands.Lsvtree (codes "v") (codes "a"))
+unfolding line_says
+versions_asked = refl
+
+history_asked : line_says (codes "lshistory" ∷ codes "v" ∷ codes "a" ∷ []) ≡ Ok (commands.Lshistory (codes "v") (codes "a"))
+unfolding line_says
+history_asked = refl
+
+record_asked : line_says (codes "catcr" ∷ codes "v" ∷ codes "a" ∷ []) ≡ Ok (commands.Catcr (codes "v") (codes "a"))
+unfolding line_says
+record_asked = refl
+
+difference_asked : line_says (codes "diffcr" ∷ codes "v" ∷ codes "a" ∷ codes "w" ∷ codes "b" ∷ []) ≡ Ok (commands.Diffcr (codes "v") (codes "a") (codes "w") (codes "b"))
+unfolding line_says
+difference_asked = refl
+
+cover_asked : line_says (codes "covers" ∷ codes "w" ∷ codes "v" ∷ codes "a" ∷ []) ≡ Ok (commands.Covers (codes "w") (codes "v") (codes "a"))
+unfolding line_says
+cover_asked = refl
+
+merge_noted : line_says (codes "mkarrow" ∷ codes "v" ∷ codes "a" ∷ codes "/main/fix/1" ∷ []) ≡ Ok (commands.Mkarrow (codes "v") (codes "a") (record { branches = codes "fix" ∷ []; number = 1 }))
+unfolding line_says
+merge_noted = refl
+
 -- a text that is none, by its line and cause
 wrong : ℕ → SessionCause → Result Session SessionError
 wrong line cause = Err (record { line = line; cause = cause })
@@ -109,6 +229,19 @@ not_built = refl
 bad_before_built : session_of (codes "phase\nlane a\nlsdo v w\n") ≡ wrong 3 causes.BadWord
 unfolding wrong
 bad_before_built = refl
+
+-- a line that stands wrong is told before any that is not carried out
+wrong_behind_not_built : session_of (codes "phase\nlane a\nmkview v\nlsdo v\nfrob\n") ≡ wrong 5 causes.UnknownCommand
+unfolding wrong
+wrong_behind_not_built = refl
+
+body_behind_not_built : session_of (codes "phase\nlane a\nlsdo v\n|x\n") ≡ wrong 4 causes.NoBody
+unfolding wrong
+body_behind_not_built = refl
+
+lane_behind_not_built : session_of (codes "phase\nlane a\nlsdo v\nlane a\n") ≡ wrong 4 causes.TwoLanes
+unfolding wrong
+lane_behind_not_built = refl
 
 blanks_alone : session_of (codes "phase\nlane a\n \t\n") ≡ wrong 3 causes.UnknownCommand
 unfolding wrong

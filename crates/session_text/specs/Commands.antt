@@ -1,11 +1,10 @@
 -- The commands: the word of each, the words behind it, and what they say. Where a command comes, it gets a definition and
--- a line of the table here.
+-- a line of the table or of a part of it here.
 use Rattle.std.specs.Prelude.{ℕ, Bool, true, false, Ok, Err, List, [], ◌∷◌, codes, if◌then◌else◌}
 use Rattle.std.specs.Str.{bytes_eq}
-use Rattle.carried_out.specs.CarriedOut.{is_carried_out}
 use Rattle.cc_names.specs.declared.commands.Command.{Command}
 use Rattle.cc_names.specs.declared.commands.Command.TheVariants as commands
-use Rattle.cc_names.specs.declared.refusals.SessionCause.TheVariants.{UnknownCommand, NotBuilt, BadWord}
+use Rattle.cc_names.specs.declared.refusals.SessionCause.TheVariants.{UnknownCommand, BadWord}
 use Rattle.session_text.specs.Words.{Said, where_so, name_word, age_word, version_word, cat_word, latest_word, both, says, and_says}
 use Rattle.session_text.specs.Shapes.{has_flag, without_flag, view, only_type, view_path, view_below, type_path, path_type, maybe_path, first_name, behind_first, flag_path, flag_below, fits_beside}
 use Rattle.session_text.specs.Clearmake.{clearmake}
@@ -178,7 +177,36 @@ line word says = record { word = word; says = λ words text. says words }
 abbrev pub line_with_body : List ℕ → (List (List ℕ) → List ℕ → Said Command) → Line
 line_with_body word says = record { word = word; says = says }
 
--- the commands
+-- the queries
+abbrev pub queries : List Line
+queries =
+    line (codes "catcs") catcs
+    ∷ line (codes "lsdo") lsdo
+    ∷ line (codes "ls") ls
+    ∷ line (codes "cat") cat
+    ∷ line (codes "describe") describe
+    ∷ line (codes "lsvtree") lsvtree
+    ∷ line (codes "lshistory") lshistory
+    ∷ line (codes "catcr") catcr
+    ∷ line (codes "diffcr") diffcr
+    ∷ line (codes "covers") covers
+    ∷ line (codes "mkarrow") mkarrow
+    ∷ line (codes "findmerge") findmerge
+    ∷ []
+
+-- the commands on types, labels and objects, and the queries
+abbrev pub types_on : List Line
+types_on =
+    line (codes "mklbtype") mklbtype
+    ∷ line (codes "mkbrtype") mkbrtype
+    ∷ line (codes "mklabel") mklabel
+    ∷ line (codes "rmlabel") rmlabel
+    ∷ line (codes "rmdo") rmdo
+    ∷ line (codes "scrub") scrub
+    ∷ line (codes "clearmake") clearmake
+    ∷ queries
+
+-- the commands: those on views and on elements, and all others
 abbrev pub table : List Line
 table =
     line (codes "mkview") mkview
@@ -194,26 +222,7 @@ table =
     ∷ line (codes "uncheckout") uncheckout
     ∷ line (codes "rmname") rmname
     ∷ line (codes "mv") mv
-    ∷ line (codes "mklbtype") mklbtype
-    ∷ line (codes "mkbrtype") mkbrtype
-    ∷ line (codes "mklabel") mklabel
-    ∷ line (codes "rmlabel") rmlabel
-    ∷ line (codes "rmdo") rmdo
-    ∷ line (codes "scrub") scrub
-    ∷ line (codes "clearmake") clearmake
-    ∷ line (codes "catcs") catcs
-    ∷ line (codes "lsdo") lsdo
-    ∷ line (codes "ls") ls
-    ∷ line (codes "cat") cat
-    ∷ line (codes "describe") describe
-    ∷ line (codes "lsvtree") lsvtree
-    ∷ line (codes "lshistory") lshistory
-    ∷ line (codes "catcr") catcr
-    ∷ line (codes "diffcr") diffcr
-    ∷ line (codes "covers") covers
-    ∷ line (codes "mkarrow") mkarrow
-    ∷ line (codes "findmerge") findmerge
-    ∷ []
+    ∷ types_on
 
 -- what the line of this word says, of these lines
 abbrev pub said_in : List Line → List ℕ → List (List ℕ) → List ℕ → Said Command
@@ -221,13 +230,10 @@ said_in [] word words text = Err UnknownCommand
 said_in (line ∷ lines) word words text =
     if bytes_eq word line.word then line.says words text else said_in lines word words text
 
--- a command where it is carried out
-abbrev pub where_carried_out : Command → Said Command
-where_carried_out command = if is_carried_out command then Ok command else Err NotBuilt
-
--- The command that a word says with the words behind it and with the text of its body, or the cause where it says none.
+-- The command that a word says with the words behind it and with the text of its body, carried out or not; or the cause
+-- where it says none.
 abbrev pub command_of : List ℕ → List (List ℕ) → List ℕ → Said Command
-command_of word words text = and_says where_carried_out (said_in table word words text)
+command_of word words text = said_in table word words text
 
 -- whether body lines may stand under a command
 abbrev pub takes_body : Command → Bool

@@ -1,16 +1,19 @@
-// Whether each line of a text stands right, below the lines above it.
+// Whether each line of a text stands right, below the lines above it, and is carried out.
 
-ghost use Rattle.std.specs.Prelude.{◌≡◌, ◌<◌, ◌^◌, [], None, OnOk, IfErr, length};
+ghost use Rattle.std.specs.Prelude.{◌≡◌, ◌<◌, ◌^◌, [], None, Ok, OnOk, IfErr, length};
 ghost use Rattle.std.specs.List.{list_any};
+ghost use Rattle.std.specs.Option.{option_or};
 ghost use Rattle.std.specs.Str.{bytes_eq};
 ghost use Rattle.cc_names.specs.Answers.{Gives};
 ghost use Rattle.session_text.specs.Kinds.{kinds_of};
 ghost use Rattle.session_text.specs.Reading.{IsWrong, fault_at};
-ghost use Rattle.session_text.specs.Sessions.{first_error, is_empty, is_taken, lane_of, nothing};
+ghost use Rattle.session_text.specs.Sessions.{error_in, error_or, is_empty, is_taken, lane_of, not_built};
 
 use crate::commands::{command_of, let_go, takes_body};
 use crate::kinds::{Bytes, Kind, Rest};
 use crate::shapes::view;
+use carried_out::is_carried_out;
+use cc_names::commands::Command;
 use cc_names::cuts::Words;
 use cc_names::memory::Or;
 use cc_names::names::Name;
@@ -22,16 +25,23 @@ use std::marker::Model;
 // The most lanes of a phase.
 const MOST_LANES: usize = 64;
 
+/// The error of the line with this number.
+fn error_at(number: u32, cause: SessionCause) -> SessionError
+    ensures { result ≡ record { line = number; cause = cause } }
+{
+    SessionError {
+        line: number,
+        cause,
+    }
+}
+
 /// A fault of the line with this number.
 fn fault_at(number: u32, fault: Or<SessionCause>) -> Or<SessionError>
     ensures { result ≡ fault_at number fault }
 {
     match fault {
         Or::NoMemory => Or::NoMemory,
-        Or::Is(cause) => Or::Is(SessionError {
-            line: number,
-            cause,
-        }),
+        Or::Is(cause) => Or::Is(error_at(number, cause)),
     }
 }
 
@@ -76,6 +86,31 @@ fn lane_of(alloc: Global, lanes: &[Name], words: Words<'_>) -> Result<Name, Or<S
     view(alloc, words)
 }
 
+/// Why a command is not carried out.
+fn not_built(command: &Command) -> Option<SessionCause>
+    ensures { result ≡ not_built (Ok command.now) }
+{
+    if is_carried_out(command) {
+        return None;
+    }
+    Some(SessionCause::NotBuilt)
+}
+
+/// The earlier of an error and of that of a later line of this number, where it has a cause.
+fn earlier(
+    error: Option<SessionError>,
+    number: u32,
+    cause: Option<SessionCause>,
+) -> Option<SessionError>
+    ensures { result ≡ option_or error (error_or number cause None) }
+{
+    match (error, cause) {
+        (Some(error), _) => Some(error),
+        (None, Some(cause)) => Some(error_at(number, cause)),
+        (None, None) => None,
+    }
+}
+
 /// What stands above a line: whether a phase has begun, the names of its lanes so far, and whether the last line that is not
 /// skipped, body lines aside, takes a body.
 #[derive(Drop)]
@@ -111,7 +146,7 @@ impl Above {
         }
     }
 
-    fn take_body(&mut self) -> Result<(), Or<SessionCause>>
+    fn take_body(&mut self) -> Result<Option<SessionCause>, Or<SessionCause>>
         ensures { Stands result self.old (kinds.Body []) [] self.new }
     {
         if !self.in_phase {
@@ -123,10 +158,10 @@ impl Above {
         if !self.takes_body {
             return Err(Or::Is(SessionCause::NoBody));
         }
-        Ok(())
+        Ok(None)
     }
 
-    fn take_phase(&mut self, mut words: Words<'_>) -> Result<(), Or<SessionCause>>
+    fn take_phase(&mut self, mut words: Words<'_>) -> Result<Option<SessionCause>, Or<SessionCause>>
         ensures { Stands result self.old (kinds.Phase words.entry) [] self.new }
     {
         if words.next().is_some() {
@@ -135,10 +170,14 @@ impl Above {
         self.in_phase = true;
         self.lanes.clear();
         self.takes_body = false;
-        Ok(())
+        Ok(None)
     }
 
-    fn take_lane(&mut self, alloc: Global, words: Words<'_>) -> Result<(), Or<SessionCause>>
+    fn take_lane(
+        &mut self,
+        alloc: Global,
+        words: Words<'_>,
+    ) -> Result<Option<SessionCause>, Or<SessionCause>>
         ensures { Stands result self.old (kinds.Lane words.entry) [] self.new }
     {
         if !self.in_phase {
@@ -147,7 +186,7 @@ impl Above {
         let name = lane_of(alloc, self.lanes.as_slice(), words)?;
         self.lanes.push(name)?;
         self.takes_body = false;
-        Ok(())
+        Ok(None)
     }
 
     fn take_command(
@@ -157,7 +196,7 @@ impl Above {
         word: &Bytes<'_>,
         words: Words<'_>,
         behind: &Rest<'_>,
-    ) -> Result<(), Or<SessionCause>>
+    ) -> Result<Option<SessionCause>, Or<SessionCause>>
         ensures { Stands result self.old (kinds.Command word.now words.entry)
             (body_of (kinds_of behind.now.bytes)) self.new }
     {
@@ -170,25 +209,26 @@ impl Above {
         match command_of(alloc, hashing, word.as_slice(), words, behind) {
             Ok(command) => {
                 self.takes_body = takes_body(&command);
+                let missing = not_built(&command);
                 let_go(command);
-                Ok(())
+                Ok(missing)
             }
             Err(fault) => Err(fault),
         }
     }
 
-    /// Takes in a line, with the lines behind it.
+    /// Takes in a line that stands right, with the lines behind it, and answers why it is not carried out.
     fn take(
         &mut self,
         alloc: Global,
         hashing: RandomState,
         kind: Kind<'_>,
         behind: &Rest<'_>,
-    ) -> Result<(), Or<SessionCause>>
+    ) -> Result<Option<SessionCause>, Or<SessionCause>>
         ensures { Stands result self.old kind.entry (body_of (kinds_of behind.now.bytes)) self.new }
     {
         match kind {
-            Kind::Skipped => Ok(()),
+            Kind::Skipped => Ok(None),
             Kind::Body(_bytes) => self.take_body(),
             Kind::Phase(words) => self.take_phase(words),
             Kind::Lane(words) => self.take_lane(alloc, words),
@@ -197,24 +237,28 @@ impl Above {
     }
 }
 
-/// Finds the first line of a text that stands wrong. Takes time linear in the text, and for each lane in those of its phase above
-/// it; and memory for one command.
+/// Finds the first line of a text that stands wrong or, where none does, the first that is not carried out. Takes time linear in the
+/// text, and for each lane in those of its phase above it; and memory for one command.
 pub(crate) fn check(
     alloc: Global,
     hashing: RandomState,
     text: &[u8],
 ) -> Result<(), Or<SessionError>>
     requires { length text.now < 2 ^ 32 }
-    ensures right { OnOk result (first_error 0 nothing (kinds_of text.now) ≡ None) }
-    ensures wrong { IfErr result
-        (λ fault. IsWrong fault (first_error 0 nothing (kinds_of text.now))) }
+    ensures right { OnOk result (error_in (kinds_of text.now) ≡ None) }
+    ensures wrong { IfErr result (λ fault. IsWrong fault (error_in (kinds_of text.now))) }
 {
     let mut above = Above::nothing(alloc);
     let mut rest = Rest::of(text);
+    let mut missing = None;
     'lines: while let Some(kind) = rest.next() {
-        if let Err(fault) = above.take(alloc, hashing, kind, &rest) {
-            return Err(fault_at(rest.number(), fault));
+        match above.take(alloc, hashing, kind, &rest) {
+            Ok(cause) => missing = earlier(missing, rest.number(), cause),
+            Err(fault) => return Err(fault_at(rest.number(), fault)),
         }
     }
-    Ok(())
+    match missing {
+        None => Ok(()),
+        Some(error) => Err(Or::Is(error)),
+    }
 }

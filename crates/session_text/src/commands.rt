@@ -1,13 +1,13 @@
 // The commands: the word of each, the words behind it, and what they say. Where a command comes, it gets a function and an
-// arm of `said` here.
+// arm of `command_of`, `said_of_types_on` or `said_of_queries` here.
 
-ghost use Rattle.std.specs.Prelude.{◌≡◌, IfOk};
+ghost use Rattle.std.specs.Prelude.{◌≡◌, [], IfOk};
 ghost use Rattle.std.specs.Str.{bytes_eq};
 ghost use Rattle.cc_names.specs.Answers.{Gives};
 ghost use Rattle.session_text.specs.Kinds.{kinds_of};
 ghost use Rattle.session_text.specs.Sessions.{body_of};
 ghost use Rattle.session_text.specs.Shapes.{fits_beside};
-ghost use Rattle.session_text.specs.Commands.{mkview, rmview, setcs, mkelem, mkdir, checkout, mkbranch, save, rm, checkin, uncheckout, rmname, mv, mklbtype, mkbrtype, mklabel, rmlabel, rmdo, scrub, catcs, lsdo, ls, cat, describe, lsvtree, lshistory, catcr, diffcr, covers, mkarrow, findmerge, by_record, labels, table, said_in, where_carried_out, command_of, takes_body};
+ghost use Rattle.session_text.specs.Commands.{mkview, rmview, setcs, mkelem, mkdir, checkout, mkbranch, save, rm, checkin, uncheckout, rmname, mv, mklbtype, mkbrtype, mklabel, rmlabel, rmdo, scrub, catcs, lsdo, ls, cat, describe, lsvtree, lshistory, catcr, diffcr, covers, mkarrow, findmerge, by_record, labels, queries, types_on, said_in, command_of, takes_body};
 
 use crate::bodies::body_of;
 use crate::builds::clearmake;
@@ -17,7 +17,6 @@ use crate::shapes::{
     take_flag, type_path, view, view_below, view_path,
 };
 use crate::words::{age_word, cat_word, latest_word, name_word, version_word};
-use carried_out::is_carried_out;
 use cc_names::commands::Command;
 use cc_names::cuts::Words;
 use cc_names::memory::{NoMemory, Or};
@@ -413,38 +412,15 @@ fn is(word: &[u8], text: &[u8]) -> bool
     word == text
 }
 
-/// The command of a line, whether it is carried out or not.
-fn said(
+/// The command of a line where it is a query, whether it is carried out or not. None of them takes a body.
+fn said_of_queries(
     alloc: Global,
-    hashing: RandomState,
     word: &[u8],
     words: Words<'_>,
-    behind: &Rest<'_>,
 ) -> Result<Command, Or<SessionCause>>
-    ensures { Gives result
-        (said_in table word.now words.entry (body_of (kinds_of behind.now.bytes))) }
+    ensures { Gives result (said_in queries word.now words.entry []) }
 {
     match word {
-        _ if is(word, b"mkview") => mkview(alloc, words),
-        _ if is(word, b"rmview") => rmview(alloc, words),
-        _ if is(word, b"setcs") => setcs(alloc, words, behind),
-        _ if is(word, b"mkelem") => mkelem(alloc, words),
-        _ if is(word, b"mkdir") => mkdir(alloc, words),
-        _ if is(word, b"checkout") => checkout(alloc, words),
-        _ if is(word, b"mkbranch") => mkbranch(alloc, words),
-        _ if is(word, b"save") => save(alloc, words, behind),
-        _ if is(word, b"rm") => rm(alloc, words),
-        _ if is(word, b"checkin") => checkin(alloc, words),
-        _ if is(word, b"uncheckout") => uncheckout(alloc, words),
-        _ if is(word, b"rmname") => rmname(alloc, words),
-        _ if is(word, b"mv") => mv(alloc, words),
-        _ if is(word, b"mklbtype") => mklbtype(alloc, words),
-        _ if is(word, b"mkbrtype") => mkbrtype(alloc, words),
-        _ if is(word, b"mklabel") => mklabel(alloc, words),
-        _ if is(word, b"rmlabel") => rmlabel(alloc, words),
-        _ if is(word, b"rmdo") => rmdo(alloc, words),
-        _ if is(word, b"scrub") => scrub(words),
-        _ if is(word, b"clearmake") => clearmake(alloc, hashing, words),
         _ if is(word, b"catcs") => catcs(alloc, words),
         _ if is(word, b"lsdo") => lsdo(alloc, words),
         _ if is(word, b"ls") => ls(alloc, words),
@@ -461,18 +437,29 @@ fn said(
     }
 }
 
-/// A command where it is carried out.
-fn where_carried_out(command: Command) -> Result<Command, SessionCause>
-    ensures { result ≡ where_carried_out command }
+/// The command of a line where it is on types, labels or objects, or a query, whether it is carried out or not. None of them takes
+/// a body.
+fn said_of_types_on(
+    alloc: Global,
+    hashing: RandomState,
+    word: &[u8],
+    words: Words<'_>,
+) -> Result<Command, Or<SessionCause>>
+    ensures { Gives result (said_in types_on word.now words.entry []) }
 {
-    if !is_carried_out(&command) {
-        let_go(command);
-        return Err(SessionCause::NotBuilt);
+    match word {
+        _ if is(word, b"mklbtype") => mklbtype(alloc, words),
+        _ if is(word, b"mkbrtype") => mkbrtype(alloc, words),
+        _ if is(word, b"mklabel") => mklabel(alloc, words),
+        _ if is(word, b"rmlabel") => rmlabel(alloc, words),
+        _ if is(word, b"rmdo") => rmdo(alloc, words),
+        _ if is(word, b"scrub") => scrub(words),
+        _ if is(word, b"clearmake") => clearmake(alloc, hashing, words),
+        _ => said_of_queries(alloc, word, words),
     }
-    Ok(command)
 }
 
-/// The command that a word says with the words behind it and with the body lines behind its line.
+/// The command that a word says with the words behind it and with the body lines behind its line, whether it is carried out or not.
 pub(crate) fn command_of(
     alloc: Global,
     hashing: RandomState,
@@ -482,9 +469,21 @@ pub(crate) fn command_of(
 ) -> Result<Command, Or<SessionCause>>
     ensures { Gives result (command_of word.now words.entry (body_of (kinds_of behind.now.bytes))) }
 {
-    match said(alloc, hashing, word, words, behind) {
-        Ok(command) => where_carried_out(command).map_err(Or::Is),
-        Err(fault) => Err(fault),
+    match word {
+        _ if is(word, b"mkview") => mkview(alloc, words),
+        _ if is(word, b"rmview") => rmview(alloc, words),
+        _ if is(word, b"setcs") => setcs(alloc, words, behind),
+        _ if is(word, b"mkelem") => mkelem(alloc, words),
+        _ if is(word, b"mkdir") => mkdir(alloc, words),
+        _ if is(word, b"checkout") => checkout(alloc, words),
+        _ if is(word, b"mkbranch") => mkbranch(alloc, words),
+        _ if is(word, b"save") => save(alloc, words, behind),
+        _ if is(word, b"rm") => rm(alloc, words),
+        _ if is(word, b"checkin") => checkin(alloc, words),
+        _ if is(word, b"uncheckout") => uncheckout(alloc, words),
+        _ if is(word, b"rmname") => rmname(alloc, words),
+        _ if is(word, b"mv") => mv(alloc, words),
+        _ => said_of_types_on(alloc, hashing, word, words),
     }
 }
 

@@ -41,6 +41,7 @@ fn each_cause_comes_at_its_line(rt: HostRuntime) -> Result<(), Fail> {
         ("lane\nphase x\n", 1, NoPhase),
         ("lane a b\n", 1, NoPhase),
         ("mkview\n", 1, NoPhase),
+        ("phase\r\nlane a\r\n", 1, NoPhase),
         // before the first lane of a phase
         ("phase\nmkview v\n", 2, NoLane),
         ("phase\nfrob\n", 2, NoLane),
@@ -54,6 +55,7 @@ fn each_cause_comes_at_its_line(rt: HostRuntime) -> Result<(), Fail> {
         ("phase\nlane a\nmkview v\n\n|x\n", 5, NoBody),
         ("phase\nlane a\nsave v in\n|x\nmkview v\n#\n|x\n", 7, NoBody),
         ("phase\nlane a\nsave v in\n|x\nlane b\n|x\n", 6, NoBody),
+        ("phase\nlane a\nclearmake v\n|x\n", 4, NoBody),
         // lanes
         ("phase\nlane a\nlane a b\n", 3, TwoLanes),
         ("phase\nlane a\nlane b\nmkview v\nlane a\n", 5, TwoLanes),
@@ -66,6 +68,7 @@ fn each_cause_comes_at_its_line(rt: HostRuntime) -> Result<(), Fail> {
         ("phase x\n", 1, BadWord),
         ("phase\nphase x\n", 2, BadWord),
         ("phase\nlane a\nmkview v\nphase phase\n", 4, BadWord),
+        ("phase\nlane a\nsave v in\n|x\nphase x\n", 5, BadWord),
         // first words
         ("phase\nlane a\nfrob v\n", 3, UnknownCommand),
         ("phase\nlane a\nfrob v", 3, UnknownCommand),
@@ -75,22 +78,38 @@ fn each_cause_comes_at_its_line(rt: HostRuntime) -> Result<(), Fail> {
         ("phase\nlane a\nphases\n", 3, UnknownCommand),
         ("phase\nlane a\nfrob v\r\n", 3, UnknownCommand),
         ("phase\nlane a\n\0mkview v\n", 3, UnknownCommand),
+        ("phase\nlane a\nsave v in\n |x\n", 4, UnknownCommand),
+        ("phase\nlane a\nsave v in\n \n|x\n", 4, UnknownCommand),
+        ("phase\nlane a\n # x\n", 3, UnknownCommand),
         // the first wrong line counts
         ("phase\nlane a\nmkview\nfrob\n", 3, BadWord),
-        ("phase\nlane a\nmkview v\nlsdo v\nfrob\n", 4, NotBuilt),
         ("phase\nlane a\nsave v .\n|x\n", 3, BadWord),
+        // a command that is not carried out makes no line wrong
+        ("phase\nlane a\nmkview v\nlsdo v\nscrub 0\n", 4, NotBuilt),
+        ("phase\nlane a\nmkview v\nlsdo v\nfrob\n", 5, UnknownCommand),
+        ("phase\nlane a\nlsdo v\n|x\n", 4, NoBody),
+        ("phase\nlane a\nlsdo v\nlane a\n", 4, TwoLanes),
+        ("phase\nlane a\nlsdo v\nphase x\n", 4, BadWord),
+        ("phase\nlane a\nlsdo v\nphase\nmkview v\n", 5, NoLane),
     ] {
         assert_wrong(&rt, rt.alloc(), hashing, text.as_bytes(), line, cause);
     }
     Ok(())
 }
 
-fn with_lanes(alloc: Global, lanes: u32, last: &[u8]) -> Result<Vec<u8>, Fail> {
-    let mut text = b"phase\n".to_vec(alloc)?;
-    for lane in 0..lanes {
+fn push_phase(alloc: Global, text: &mut Vec<u8>) -> Result<(), Fail> {
+    text.extend_from_slice(b"phase\n")?;
+    for lane in 0..64u32 {
         let line = format!(in alloc; "lane a{lane}\n")?;
         text.extend_from_slice(line.as_bytes())?;
     }
+    Ok(())
+}
+
+// A phase of 64 lanes, and a line below it.
+fn with_lanes(alloc: Global, last: &[u8]) -> Result<Vec<u8>, Fail> {
+    let mut text = Vec::new(alloc);
+    push_phase(alloc, &mut text)?;
     text.extend_from_slice(last)?;
     Ok(text)
 }
@@ -102,13 +121,26 @@ fn a_phase_has_64_lanes(rt: HostRuntime) -> Result<(), Fail> {
     for (last, cause) in [
         ("lane b\n", TooManyLanes),
         ("lane b c\n", TooManyLanes),
+        ("lane\n", TooManyLanes),
+        ("lane b/c\n", TooManyLanes),
         ("lane a0\n", TwoLanes),
         ("lane a63 c\n", TwoLanes),
+        ("lane a0 b c\n", TwoLanes),
         ("frob\n", UnknownCommand),
     ] {
-        let text = with_lanes(alloc, 64, last.as_bytes())?;
+        let text = with_lanes(alloc, last.as_bytes())?;
         assert_wrong(&rt, alloc, hashing, text.as_slice(), 66, cause);
     }
+    Ok(())
+}
+
+#[test]
+fn each_phase_has_64_lanes(rt: HostRuntime) -> Result<(), Fail> {
+    let alloc = rt.alloc();
+    let mut text = Vec::new(alloc);
+    push_phase(alloc, &mut text)?;
+    push_phase(alloc, &mut text)?;
+    assert_read(&rt, alloc, RandomState::new(&rt)?, text.as_slice(), None);
     Ok(())
 }
 
@@ -120,6 +152,7 @@ fn cause_of_byte(byte: u8) -> Option<SessionCause> {
     }
 }
 
+// Reads a text, or finds its third line wrong for this cause.
 fn assert_read(
     rt: &impl Abort,
     alloc: Global,
@@ -130,7 +163,10 @@ fn assert_read(
     assert!(rt; text.len() < 10_000);
     match (read_bytes(alloc, hashing, text), cause) {
         (Ok(_session), None) => {}
-        (Err(Or::Is(error)), Some(cause)) => assert_eq!(rt; error.cause, cause, "in {text:?}"),
+        (Err(Or::Is(error)), Some(cause)) => {
+            assert_eq!(rt; error.line, 3, "in {text:?}");
+            assert_eq!(rt; error.cause, cause, "in {text:?}");
+        }
         _ => panic!(rt; "{text:?}"),
     }
 }
@@ -143,6 +179,55 @@ fn a_word_has_bytes_33_to_126(rt: HostRuntime) -> Result<(), Fail> {
         let mut text = b"phase\nlane a\nclearmake v A=".to_vec(alloc)?;
         text.push(byte)?;
         assert_read(&rt, alloc, hashing, text.as_slice(), cause_of_byte(byte));
+    }
+    Ok(())
+}
+
+// The cause of the line `mkview v` with this byte behind it.
+fn cause_in_name(byte: u8) -> Option<SessionCause> {
+    match byte {
+        b'\n' | b' ' | b'\t' => None,
+        b'A'..=b'Z' | b'a'..=b'z' | b'0'..=b'9' | b'_' | b'-' | b'.' | b'+' => None,
+        _ => Some(BadWord),
+    }
+}
+
+#[test]
+fn a_name_has_the_bytes_of_names(rt: HostRuntime) -> Result<(), Fail> {
+    let alloc = rt.alloc();
+    let hashing = RandomState::new(&rt)?;
+    for byte in 0..=255u8 {
+        let mut text = b"phase\nlane a\nmkview v".to_vec(alloc)?;
+        text.push(byte)?;
+        assert_read(&rt, alloc, hashing, text.as_slice(), cause_in_name(byte));
+    }
+    Ok(())
+}
+
+// The cause of the line `mkview v` with this byte behind its first word.
+fn cause_behind_word(byte: u8) -> Option<SessionCause> {
+    match byte {
+        b' ' | b'\t' => None,
+        b'\n' => Some(BadWord),
+        _ => Some(UnknownCommand),
+    }
+}
+
+#[test]
+fn words_are_parted_by_blanks_alone(rt: HostRuntime) -> Result<(), Fail> {
+    let alloc = rt.alloc();
+    let hashing = RandomState::new(&rt)?;
+    for byte in 0..=255u8 {
+        let mut text = b"phase\nlane a\nmkview".to_vec(alloc)?;
+        text.push(byte)?;
+        text.extend_from_slice(b" v")?;
+        assert_read(
+            &rt,
+            alloc,
+            hashing,
+            text.as_slice(),
+            cause_behind_word(byte),
+        );
     }
     Ok(())
 }

@@ -6,7 +6,7 @@ ghost use Rattle.std.specs.Prelude.{◌<◌, ◌^◌, length};
 use crate::causes::assert_wrong;
 use crate::reading::phases_in;
 use cc_names::commands::{Command, Lane};
-use cc_names::refusals::SessionCause::{self, BadWord, NotBuilt};
+use cc_names::refusals::SessionCause::{self, BadWord, NotBuilt, UnknownCommand};
 use std::alloc::{AllocError, Global};
 use std::hash::RandomState;
 use std::process::Abort;
@@ -28,25 +28,8 @@ fn assert_line(
 fn right_lines(rt: HostRuntime) -> Result<(), Fail> {
     let hashing = RandomState::new(&rt)?;
     for line in [
-        "setcs v",
-        "mkelem v a/b",
-        "mkelem v -nco a",
-        "mkdir v a",
-        "mkdir v -nco a",
-        "checkout v .",
-        "checkout v -unreserved a",
-        "mkbranch v fix a",
-        "mkbranch v -nco fix .",
-        "checkin v a",
-        "checkin v -identical .",
-        "uncheckout v .",
-        "rmname v a",
-        "mv v a/b c",
-        "mklabel v REL a",
-        "mklabel v -replace REL .",
         "mklabel v -config out REL",
         "mklabel v -replace -config . REL",
-        "rmlabel v REL a",
         "rmdo v a",
         "scrub 0",
         "scrub 9223372036854775807",
@@ -156,6 +139,9 @@ fn wrong_lines(rt: HostRuntime) -> Result<(), Fail> {
         "clearmake v -f",
         "clearmake v -f a -f a",
         "clearmake v -f -V",
+        "clearmake v -f A=1",
+        "clearmake v -J -J 4",
+        "clearmake v -J=4",
         "clearmake v =b",
         "clearmake v a-b=c",
     ] {
@@ -172,12 +158,14 @@ fn a_new_path_has_1024_bytes(rt: HostRuntime) -> Result<(), Fail> {
     for _ in 0..509 {
         deep.extend_from_slice(b"d/")?;
     }
-    for (name, cause) in [("abcd", NotBuilt), ("abcde", BadWord)] {
+    // the line below it is wrong
+    for (name, line, cause) in [("abcd", 4, UnknownCommand), ("abcde", 3, BadWord)] {
         let mut text = b"phase\nlane a\nmv v ".to_vec(alloc)?;
         text.extend_from_slice(deep.as_slice())?;
         text.extend_from_slice(b"x ")?;
         text.extend_from_slice(name.as_bytes())?;
-        assert_wrong(&rt, alloc, hashing, text.as_slice(), 3, cause);
+        text.extend_from_slice(b"\nfrob")?;
+        assert_wrong(&rt, alloc, hashing, text.as_slice(), line, cause);
     }
     Ok(())
 }
@@ -209,6 +197,44 @@ fn words_of(alloc: Global, command: &Command) -> Result<String, AllocError> {
         }
         Command::Catcs { view } => format!(in alloc; "catcs {view}"),
         Command::Cat { view, path, .. } => format!(in alloc; "cat {view} {path}"),
+        command => words_of_elements(alloc, command),
+    }
+}
+
+// The same of a command on elements, config specs and labels.
+fn words_of_elements(alloc: Global, command: &Command) -> Result<String, AllocError> {
+    match command {
+        Command::Setcs { view, text } => format!(in alloc; "setcs {view} [{text}]"),
+        Command::Mkelem { view, nco, path } => format!(in alloc; "mkelem {view} {nco} {path}"),
+        Command::Mkdir { view, nco, path } => format!(in alloc; "mkdir {view} {nco} {path}"),
+        Command::Checkout {
+            view,
+            unreserved,
+            path,
+        } => format!(in alloc; "checkout {view} {unreserved} {path}"),
+        Command::Mkbranch {
+            view,
+            nco,
+            branch,
+            path,
+        } => format!(in alloc; "mkbranch {view} {nco} {branch} {path}"),
+        Command::Checkin {
+            view,
+            identical,
+            path,
+        } => format!(in alloc; "checkin {view} {identical} {path}"),
+        Command::Uncheckout { view, path } => format!(in alloc; "uncheckout {view} {path}"),
+        Command::Rmname { view, path } => format!(in alloc; "rmname {view} {path}"),
+        Command::Mv { view, path, name } => format!(in alloc; "mv {view} {path} {name}"),
+        Command::Mklabel {
+            view,
+            replace,
+            label,
+            path,
+        } => format!(in alloc; "mklabel {view} {replace} {label} {path}"),
+        Command::Rmlabel { view, label, path } => format!(in alloc;
+            "rmlabel {view} {label} {path}"
+        ),
         _ => format!(in alloc; "other"),
     }
 }
@@ -299,6 +325,40 @@ fn commands_of_one_line_are_read(rt: HostRuntime) -> Result<(), Fail> {
             "catcs v",
             "cat v a/b",
             "cat v .",
+        ],
+    )
+}
+
+#[test]
+fn commands_on_elements_are_read(rt: HostRuntime) -> Result<(), Fail> {
+    let text =
+        b"phase\nlane a\nsetcs v\n|element * -none\nmkelem v a/b\nmkelem v -nco a\nmkdir v a\nmkdir v -nco a\n\
+        checkout v .\ncheckout v -unreserved a\nmkbranch v fix a\nmkbranch v -nco fix .\ncheckin v a\n\
+        checkin v -identical .\nuncheckout v .\nrmname v a\nmv v a/b c\nmklabel v REL a\nmklabel v -replace REL .\n\
+        rmlabel v REL a\n";
+    assert_lane(
+        &rt,
+        rt.alloc(),
+        RandomState::new(&rt)?,
+        text,
+        &[
+            "setcs v [element * -none\n]",
+            "mkelem v false a/b",
+            "mkelem v true a",
+            "mkdir v false a",
+            "mkdir v true a",
+            "checkout v false .",
+            "checkout v true a",
+            "mkbranch v false fix a",
+            "mkbranch v true fix .",
+            "checkin v false a",
+            "checkin v true .",
+            "uncheckout v .",
+            "rmname v a",
+            "mv v a/b c",
+            "mklabel v false REL a",
+            "mklabel v true REL .",
+            "rmlabel v REL a",
         ],
     )
 }

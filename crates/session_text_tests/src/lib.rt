@@ -11,3 +11,5 @@ mod commands;
 mod reading;
 #[cfg(test)]
 mod sizes;
+#[cfg(test)]
+mod turns;

@@ -64,7 +64,8 @@ fn largest(alloc: Global) -> Result<Vec<u8>, Fail> {
     Ok(text)
 }
 
-fn length_of_body(phases: &[Phase]) -> Option<usize> {
+// The text of the one command of the one lane.
+fn body_in(phases: &[Phase]) -> Option<&[u8]> {
     let [phase] = phases else {
         return None;
     };
@@ -72,9 +73,25 @@ fn length_of_body(phases: &[Phase]) -> Option<usize> {
         return None;
     };
     match lane.commands.as_slice() {
-        [Command::Save { text, .. }] => Some(text.as_bytes().len()),
+        [Command::Save { text, .. }] => Some(text.as_bytes()),
         _ => None,
     }
+}
+
+#[test]
+fn a_body_keeps_each_byte(rt: HostRuntime) -> Result<(), Fail> {
+    let alloc = rt.alloc();
+    let hashing = RandomState::new(&rt)?;
+    for byte in 0..=255u8 {
+        if byte != b'\n' {
+            let mut text = b"phase\nlane a\nsave v in\n|".to_vec(alloc)?;
+            text.push(byte)?;
+            assert!(rt; text.len() < 10_000);
+            let phases = phases_in(alloc, hashing, text.as_slice())?;
+            assert_eq!(rt; body_in(phases.as_slice()), Some([byte, b'\n'].as_slice()));
+        }
+    }
+    Ok(())
 }
 
 #[test]
@@ -82,6 +99,7 @@ fn the_largest_text_is_read(rt: HostRuntime) -> Result<(), Fail> {
     let text = largest(rt.alloc())?;
     assert_eq!(rt; text.len(), 16_777_216);
     let phases = phases_in(rt.alloc(), RandomState::new(&rt)?, text.as_slice())?;
-    assert_eq!(rt; length_of_body(phases.as_slice()), Some(16_515_009));
+    let length = body_in(phases.as_slice()).map(|body| body.len());
+    assert_eq!(rt; length, Some(16_515_009));
     Ok(())
 }

@@ -1,5 +1,5 @@
 -- What stands at an index of a list, and what is left behind it.
-use Rattle.std.proofs.Common.{◌≡◌, ℕ, zero, suc, ◌+◌, ◌<◌, ◌≤◌, Some, None, List, [], ◌∷◌, length, drop, refl, ap, ◌∙◌, arith}
+use Rattle.std.proofs.Common.{◌≡◌, ℕ, zero, suc, ◌+◌, ◌<◌, Some, None, List, [], ◌∷◌, length, drop, refl, ap, ◌∙◌, arith}
 use Rattle.std.specs.List.{slice_get}
 
 -- something stands within the list
@@ -7,12 +7,6 @@ pub within_at : {A : Type 0} (xs : List A) (i : ℕ) (x : A) → slice_get xs i 
 within_at [] i x is = absurd (cc)
 within_at (first ∷ rest) zero x is = omega arith
 within_at (first ∷ rest) (suc i) x is = let below = within_at rest i x is in omega arith
-
--- nothing stands past its end
-pub past_at : {A : Type 0} (xs : List A) (i : ℕ) → slice_get xs i ≡ None → length xs ≤ i
-past_at [] i is = omega arith
-past_at (first ∷ rest) zero is = absurd (cc)
-past_at (first ∷ rest) (suc i) is = let below = past_at rest i is in omega arith
 
 pub drop_at : {A : Type 0} (xs : List A) (i : ℕ) (x : A) → slice_get xs i ≡ Some x → drop i xs ≡ x ∷ drop (i + 1) xs
 drop_at [] i x is = absurd (cc)
@@ -26,13 +20,3 @@ drop_past [] zero is = refl
 drop_past [] (suc i) is = refl
 drop_past (first ∷ rest) zero is = absurd (cc)
 drop_past (first ∷ rest) (suc i) is = drop_past rest i is
-
--- lists of one and two
-pub one_at : {A : Type 0} (x : A) (i : ℕ) → 0 < i → slice_get (x ∷ []) i ≡ None
-one_at x zero h = absurd (omega arith)
-one_at x (suc i) h = refl
-
-pub two_at : {A : Type 0} (x y : A) (i : ℕ) → 1 < i → slice_get (x ∷ y ∷ []) i ≡ None
-two_at x y zero h = absurd (omega arith)
-two_at x y (suc zero) h = absurd (omega arith)
-two_at x y (suc (suc i)) h = refl

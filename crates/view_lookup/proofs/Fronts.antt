@@ -9,7 +9,7 @@ use Rattle.legal_history.specs.Base.Fits.{deed_fits, fits, is_base, row_limit}
 use Rattle.view_lookup.specs.Known.{are_made, IsKnown, IsFront}
 
 -- both of two tests
-both : (a b : Bool) → (a && b) ≡ true → (a ≡ true) × (b ≡ true)
+pub both : (a b : Bool) → (a && b) ≡ true → (a ≡ true) × (b ≡ true)
 both true b h = (refl, h)
 both false b h = absurd (cc)
 

@@ -19,7 +19,7 @@ use Rattle.view_lookup.specs.Effects.{gone_effect, object_effect}
 use Rattle.view_lookup.specs.Ended.{ended_or}
 use Rattle.view_lookup.specs.Made.{is_target}
 use Rattle.view_lookup.specs.LookUps.{Deeds, last_of}
-use Rattle.view_lookup.proofs.MadeSoFar.{both}
+use Rattle.view_lookup.proofs.Fronts.{both}
 
 places_total : IsTotalOrder place_cmp
 places_total = then_total (on_total (λ (place : Place). place.0) nat_list_cmp_total) (on_total (λ (place : Place). place.1) nat_list_cmp_total)

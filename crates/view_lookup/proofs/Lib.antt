@@ -4,6 +4,7 @@ pub mod Chains
 pub mod FirstTrees
 pub mod Fronts
 pub mod Growths
+pub mod HeldSomewhere
 pub mod Holdings
 pub mod Labellings
 pub mod Newest
@@ -13,14 +14,17 @@ pub mod EntryRows
 pub mod EntryMoves
 pub mod EntryTold
 pub mod ElementKinds
-pub mod MadeDeeds
-pub mod MadeSoFar
 pub mod Parts
+pub mod PathFronts
+pub mod PooledObjects
 pub mod RowTexts
 pub mod RowsFit
 pub mod SpecRows
 pub mod SpecsSet
 pub mod TextRows
-pub mod Standing
 pub mod Oldest
 pub mod OldestOut
+pub mod JoinedListings
+pub mod ListingsStay
+pub mod ReservedOnce
+mod WorkedPools

@@ -8,9 +8,10 @@ use Rattle.cc_names.specs.Last.{Effect, Keeps, Ends, Sets, left}
 use Rattle.cc_names.specs.Formed.{Plain}
 use Rattle.cc_names.specs.Versions.{put_if}
 use Rattle.legal_history.specs.Base.Rows.{Base, size, first_rows, row_at, deed_of, deed_at}
+use Rattle.legal_history.specs.Builds.Reuse.{are_same_paths}
 use Rattle.legal_history.proofs.Bases.Stay.{all_rows}
 use Rattle.view_lookup.specs.LookUps.{Deeds, Told, told, newest, told_by, told_at, first_told, left_by, last_of, IsCovered}
-use Rattle.view_lookup.specs.Subjects.{Subject, Life, Spec, Desk, File, Object, Out, Saved, Entry, Named, Living, Merge, is_same, key, borne, bears, keys_of}
+use Rattle.view_lookup.specs.Subjects.{Subject, Life, Spec, Desk, File, Object, Out, Saved, Entry, Reserved, Named, Living, Winked, Merge, is_same, key, borne, bears, keys_of, Pool}
 use Rattle.view_lookup.specs.Marked.{with_marks, marked}
 use Rattle.std.specs.declared.random_state.RandomState.{RandomState}
 
@@ -68,6 +69,13 @@ same_text a b is = (bytes_eq-Decides a b).0 is
 same_number : (a b : ℕ) → (a == b) ≡ true → a ≡ b
 same_number a b is = (Decides-eqb a b).0 is
 
+same_paths : (one two : List (List ℕ)) → are_same_paths one two ≡ true → one ≡ two
+same_paths [] [] is = refl
+same_paths (p ∷ ps) (q ∷ qs) is =
+    let parts = both (bytes_eq p q) (are_same_paths ps qs) is in
+    ap₂ (λ path paths. path ∷ paths) (same_text p q parts.0) (same_paths ps qs parts.1)
+same_paths one two is = absurd (cc)
+
 -- subjects that are one have one key
 same_key : (hashing : RandomState) (one two : Subject) → is_same one two ≡ true → key hashing two ≡ key hashing one
 same_key hashing (Life v) (Life w) is = ap (λ name. key hashing (Life name)) (same_text w v is)
@@ -88,8 +96,11 @@ same_key hashing (Saved v e) (Saved w f) is =
 same_key hashing (Entry d name) (Entry f other) is =
     let parts = both (f == d) (bytes_eq other name) is in
     ap₂ (λ directory text. key hashing (Entry directory text)) (same_number f d parts.0) (same_text other name parts.1)
+same_key hashing (Reserved branch) (Reserved other) is = ap (λ it. key hashing (Reserved it)) (sym (same_number branch other is))
 same_key hashing (Named v) (Named w) is = ap (λ name. key hashing (Named name)) (same_text w v is)
 same_key hashing (Living id) (Living other) is = ap (λ object. key hashing (Living object)) (same_number other id is)
+same_key hashing (Winked id) (Winked other) is = ap (λ object. key hashing (Winked object)) (same_number other id is)
+same_key hashing (Pool targets) (Pool others) is = ap (λ paths. key hashing (Pool paths)) (same_paths others targets is)
 same_key hashing (Merge e tail head) (Merge f one two) is =
     let parts = both ((f == e) && (one == tail)) (two == head) is in
     let ends = both (f == e) (one == tail) parts.0 in

@@ -1,16 +1,19 @@
 -- Each row that does something to a thing bears on the thing's subject: a line for each deed that does.
-use Rattle.std.specs.Prelude.{◌≡◌, ℕ, Bool, true, false, ◌&&◌, ◌||◌, ◌==◌, List, [], ◌∷◌, map, bytes_eq, refl}
+use Rattle.std.specs.Prelude.{◌≡◌, ℕ, Bool, true, false, ◌&&◌, ◌||◌, ◌==◌, Option, Some, None, List, [], ◌∷◌, map, bytes_eq, refl, is_some}
 use Rattle.std.proofs.Common.{ap, sym, ◌∙◌}
 use Rattle.std.specs.List.{list_any}
 use Rattle.cc_names.specs.Last.{Effect, Keeps, Ends, Sets, only_if}
 use Rattle.cc_names.specs.declared.rows.Deed.TheVariants as deeds
 use Rattle.cc_names.specs.declared.rows.Out.TheVariants as outs
-use Rattle.legal_history.specs.Base.Changes.{targets_of}
+use Rattle.cc_names.specs.Versions.{is_number}
+use Rattle.legal_history.specs.Base.Changes.{targets_of, live}
 use Rattle.legal_history.specs.Base.Rows.{Base, size}
-use Rattle.view_lookup.specs.Effects.{life_effect, end_effect, gone_effect, file_effect, object_effect, living_effect, named_effect, merge_effect, set_effect, map_effect, kept_checkout, desk_effect, saved_effect, stands, standing_effect}
+use Rattle.view_lookup.specs.Effects.{life_effect, end_effect, gone_effect, file_effect, object_effect, living_effect, named_effect, merge_effect, set_effect, map_effect, kept_checkout, desk_effect, saved_effect, reserving_effect, stands, standing_effect, holds_one, winked_effect, pool_effect}
+use Rattle.legal_history.specs.Builds.Reuse.{are_same_paths}
 use Rattle.view_lookup.specs.LookUps.{IsCovered}
 use Rattle.view_lookup.specs.Made.{is_target}
-use Rattle.view_lookup.specs.Subjects.{Life, Spec, Desk, File, Object, Out, Saved, Named, Living, Merge, is_same}
+use Rattle.view_lookup.specs.Subjects.{Life, Spec, Desk, File, Object, Out, Saved, Reserved, Named, Living, Winked, Merge, is_same, reserved_branch, reserved_subjects, Pool}
+use Rattle.view_lookup.specs.Pool.{Test}
 
 -- an effect where a test holds is none where neither it nor another holds
 unless : {A : Type 0} (test other : Bool) (effect : Effect A) → (test || other) ≡ false → only_if test effect ≡ Keeps
@@ -75,6 +78,31 @@ living_covered id older (deeds.Scrub objects) h =
     unless_by (list_any (λ object. object == id) objects) (list_any (is_same (Living id)) (map Living objects)) Ends (among_objects id objects) h
 living_covered id older deed h = refl
 
+-- where two tests hold, of which the first one is the one of a subject among others
+unless_with : {A : Type 0} (test other rest : Bool) (effect : Effect A) → (test || rest) ≡ false → only_if (test && other) effect ≡ Keeps
+unless_with true other rest effect h = absurd (cc)
+unless_with false other rest effect h = refl
+
+pub winked_covered : (b : Base) (id : ℕ) → IsCovered (Winked id) (winked_effect b id)
+winked_covered b id older (deeds.Wink v other) h =
+    unless_with (other == id) (holds_one b v id (targets_of older other)) (list_any (is_same (Winked id)) (map (Object v) (targets_of older other))) (Sets other) h
+winked_covered b id older deed h = refl
+
+-- an effect where a test does not hold is none, whatever another test says
+never : {A : Type 0} (other : Bool) (effect : Effect A) → only_if (other && false) effect ≡ Keeps
+never true effect = refl
+never false effect = refl
+
+-- nor is there one where two of three tests are to hold, of which the first one fails
+unless_same : {A : Type 0} (other same passes rest : Bool) (effect : Effect A) → (same || rest) ≡ false → only_if (other && (same && passes)) effect ≡ Keeps
+unless_same other true passes rest effect h = absurd (cc)
+unless_same other false passes rest effect h = never other effect
+
+pub pool_covered : (b : Base) (targets : List (List ℕ)) (passes : Test) → IsCovered (Pool targets) (pool_effect b targets passes)
+pool_covered b targets passes older (deeds.Publish w made script entries outputs) h =
+    unless_same (is_some (live b (size older))) (are_same_paths made targets) (passes script entries) (list_any (is_same (Pool targets)) (map (Object w) made)) (Sets (size older)) h
+pool_covered b targets passes older deed h = never (is_some (live b (size older))) (Sets (size older))
+
 pub named_covered : (name : List ℕ) → IsCovered (Named name) (named_effect name)
 named_covered name older (deeds.Mktype kind made) h = unless (bytes_eq made name) false (Sets kind) h
 named_covered name older deed h = refl
@@ -94,7 +122,7 @@ desk_covered v e older (deeds.Mkelem w directory name kind true) h =
 desk_covered v e older (deeds.Mkelem w directory name kind false) h = refl
 desk_covered v e older (deeds.Checkout w f origin reserved) h =
     no_kept kept_checkout (only_if (bytes_eq w v && (f == e)) (Sets (record { row = size older; origin = origin; reserved = reserved })))
-    (unless (bytes_eq w v && (f == e)) false (Sets (record { row = size older; origin = origin; reserved = reserved })) h)
+    (unless (bytes_eq w v && (f == e)) (list_any (is_same (Out v e)) (reserved_subjects (reserved_branch older (deeds.Checkout w f origin reserved)))) (Sets (record { row = size older; origin = origin; reserved = reserved })) h)
 desk_covered v e older (deeds.Branch w f origin name outs.No) h = refl
 desk_covered v e older (deeds.Branch w f origin name outs.Reserved) h =
     no_kept kept_checkout (only_if (bytes_eq w v && (f == e)) (Sets (record { row = size older; origin = size older; reserved = true })))
@@ -111,19 +139,30 @@ saved_covered v e older (deeds.Save w f text) h = unless (bytes_eq w v && (f == 
 saved_covered v e older deed h = refl
 
 -- where two tests hold, of which the first one fails
-unless_both : {A : Type 0} (test other : Bool) (effect : Effect A) → (test || false) ≡ false → only_if (test && other) effect ≡ Keeps
-unless_both true other effect h = ap (λ is. only_if (is && other) effect) h
-unless_both false other effect h = refl
+unless_both : {A : Type 0} (test other more : Bool) (effect : Effect A) → (test || more) ≡ false → only_if (test && other) effect ≡ Keeps
+unless_both true other more effect h = ap (λ is. only_if (is && other) effect) h
+unless_both false other more effect h = refl
 
 pub standing_covered : (b : Base) (v : List ℕ) → IsCovered (Desk v) (standing_effect b v)
 standing_covered b v older (deeds.Mkelem w directory name kind true) h =
-    unless_both (bytes_eq w v) (stands b (record { view = w; element = size older; checkout = record { row = size older; origin = size older; reserved = true } })) (Sets (size older)) h
+    unless_both (bytes_eq w v) (stands b (record { view = w; element = size older; checkout = record { row = size older; origin = size older; reserved = true } })) false (Sets (size older)) h
 standing_covered b v older (deeds.Mkelem w directory name kind false) h = refl
 standing_covered b v older (deeds.Checkout w e origin reserved) h =
-    unless_both (bytes_eq w v) (stands b (record { view = w; element = e; checkout = record { row = size older; origin = origin; reserved = reserved } })) (Sets (size older)) h
+    unless_both (bytes_eq w v) (stands b (record { view = w; element = e; checkout = record { row = size older; origin = origin; reserved = reserved } }))
+    (list_any (is_same (Desk v)) (reserved_subjects (reserved_branch older (deeds.Checkout w e origin reserved)))) (Sets (size older)) h
 standing_covered b v older (deeds.Branch w e origin name outs.No) h = refl
 standing_covered b v older (deeds.Branch w e origin name outs.Reserved) h =
-    unless_both (bytes_eq w v) (stands b (record { view = w; element = e; checkout = record { row = size older; origin = size older; reserved = true } })) (Sets (size older)) h
+    unless_both (bytes_eq w v) (stands b (record { view = w; element = e; checkout = record { row = size older; origin = size older; reserved = true } })) false (Sets (size older)) h
 standing_covered b v older (deeds.Branch w e origin name outs.Unreserved) h =
-    unless_both (bytes_eq w v) (stands b (record { view = w; element = e; checkout = record { row = size older; origin = size older; reserved = false } })) (Sets (size older)) h
+    unless_both (bytes_eq w v) (stands b (record { view = w; element = e; checkout = record { row = size older; origin = size older; reserved = false } })) false (Sets (size older)) h
 standing_covered b v older deed h = refl
+
+unless_reserved : (branch n : ℕ) (reserved : Option ℕ) → list_any (is_same (Reserved branch)) (reserved_subjects reserved) ≡ false → only_if (is_number branch reserved) (Sets n) ≡ Keeps
+unless_reserved branch n None h = refl
+unless_reserved branch n (Some other) h = unless (branch == other) false (Sets n) h
+
+pub reserving_covered : (branch : ℕ) → IsCovered (Reserved branch) (reserving_effect branch)
+reserving_covered branch older (deeds.Mkelem v directory name kind out) h = unless_reserved branch (size older) (reserved_branch older (deeds.Mkelem v directory name kind out)) h
+reserving_covered branch older (deeds.Checkout v e origin reserved) h = unless_reserved branch (size older) (reserved_branch older (deeds.Checkout v e origin reserved)) h
+reserving_covered branch older (deeds.Branch v e origin name out) h = unless_reserved branch (size older) (reserved_branch older (deeds.Branch v e origin name out)) h
+reserving_covered branch older deed h = refl

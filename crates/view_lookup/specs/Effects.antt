@@ -1,9 +1,12 @@
 -- What rows do to the things that are looked up.
-use Rattle.std.specs.Prelude.{ℕ, Bool, ◌&&◌, ◌==◌, Option, Some, None, List, option_map, bytes_eq}
+use Rattle.std.specs.Prelude.{ℕ, Bool, false, ◌&&◌, ◌==◌, Option, Some, None, List, option_map, bytes_eq, is_some}
+use Rattle.std.specs.List.{list_any}
 use Rattle.cc_names.specs.Last.{Effect, Keeps, Ends, Sets, only_if}
+use Rattle.cc_names.specs.References.{held_at}
+use Rattle.cc_names.specs.declared.rows.Deed.{Deed}
 use Rattle.cc_names.specs.declared.rows.Deed.TheVariants as deeds
 use Rattle.cc_names.specs.declared.rows.TypeKind.{TypeKind}
-use Rattle.legal_history.specs.Base.Changes.{live_effect, targets_of, type_effect}
+use Rattle.legal_history.specs.Base.Changes.{held, live_effect, targets_of, type_effect, live}
 use Rattle.cc_names.specs.Versions.{is_number}
 use Rattle.legal_history.specs.Base.Checkouts.{row_of_checkout}
 use Rattle.legal_history.specs.Base.Conditions.{is_arrow}
@@ -12,6 +15,8 @@ use Rattle.legal_history.specs.Base.Views as model
 use Rattle.view_lookup.specs.Ended.{or_else}
 use Rattle.view_lookup.specs.LookUps.{Deeds, Told}
 use Rattle.view_lookup.specs.Made.{is_target}
+use Rattle.view_lookup.specs.Subjects.{reserved_branch}
+use Rattle.view_lookup.specs.Pool.{Test, publishes}
 use Rattle.view_lookup.specs.declared.desks.Checkout.{Checkout}
 use Rattle.view_lookup.specs.declared.desks.Taken.{Taken}
 
@@ -43,9 +48,28 @@ object_effect v path older (deeds.Wink w id) = only_if (bytes_eq w v && is_targe
 object_effect v path older (deeds.Drop w q) = only_if (bytes_eq w v && bytes_eq q path) Ends
 object_effect v path older deed = Keeps
 
+-- whether a view holds an object at one of these paths
+abbrev pub holds_one : Base → List ℕ → ℕ → List (List ℕ) → Bool
+holds_one b v id targets = list_any (λ target. is_number id (held_at (held b) v target)) targets
+
+-- whether the view of the row that made an object holds it at one of its targets
+abbrev pub held_by_maker : Base → ℕ → Option Deed → Bool
+held_by_maker b id (Some (deeds.Publish v targets script entries outputs)) = holds_one b v id targets
+held_by_maker b id _ = false
+
+-- a view winks an object in that it still holds at one of its targets
+abbrev pub winked_effect : Base → ℕ → Deeds ℕ
+winked_effect b id older (deeds.Wink v other) = only_if ((other == id) && holds_one b v id (targets_of older other)) (Sets other)
+winked_effect b id older deed = Keeps
+
 -- an object is made and scrubbed
 abbrev pub living_effect : ℕ → Deeds ℕ
 living_effect id older deed = live_effect id (size older) deed
+
+-- an object of these targets is made that is live in a base and whose record passes
+abbrev pub pool_effect : Base → List (List ℕ) → Test → Deeds ℕ
+pool_effect b targets passes older deed =
+    only_if (is_some (live b (size older)) && publishes targets passes deed) (Sets (size older))
 
 -- a type is made
 abbrev pub named_effect : List ℕ → Deeds TypeKind
@@ -114,3 +138,7 @@ standing_of b v (Some taken) = only_if (bytes_eq taken.view v && stands b taken)
 
 abbrev pub standing_effect : Base → List ℕ → Deeds ℕ
 standing_effect b v older deed = standing_of b v (model.made_out (size older) deed)
+
+-- a branch is reserved
+abbrev pub reserving_effect : ℕ → Deeds ℕ
+reserving_effect branch older deed = only_if (is_number branch (reserved_branch older deed)) (Sets (size older))

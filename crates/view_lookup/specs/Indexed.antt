@@ -1,10 +1,11 @@
--- A base as it is kept: how contracts see it, and what holds of its rows, of their marks, of the trees of versions, of labels and of
--- config specs.
+-- A base as it is kept: how contracts see it, and what holds of its rows, of their marks, of the trees of versions, of labels, of
+-- config specs and of what the records of objects list.
 use Rattle.std.specs.Prelude.{◌≡◌, ◌-◌, nat_eq, min, reverse, vec_len, vec_capacity}
 use Rattle.std.specs.HashMap.{get, spare}
 use Rattle.legal_history.specs.Base.Changes.{labels, tree}
 use Rattle.view_lookup.specs.Known.{IsKnown}
 use Rattle.view_lookup.specs.Labelling.{AreLabels}
+use Rattle.view_lookup.specs.Listings.{AreListings, versions_of}
 use Rattle.view_lookup.specs.Marked.{IsMarked}
 use Rattle.view_lookup.specs.SetSpecs.{specs_set}
 use Rattle.view_lookup.specs.Shown.{Shown}
@@ -20,13 +21,16 @@ shown_of inside = record {
   labels = inside.labels;
   spec = inside.spec;
   spec_room = vec_capacity inside.specs - vec_len inside.specs;
+  listing = versions_of inside.listing;
+  listing_room = spare inside.listings;
 }
 
 -- The rows are a base that is carried out so far, the links with the newest row of each key are its marks, the changes of the
--- trees and of the labels are those of its rows, and so are the config specs.
+-- trees and of the labels are those of its rows, and so are the config specs and what the records of its objects list.
 pub record IsIndexed (inside : Inside) : Type 0 where
   pub known : IsKnown (reverse inside.rows.items)
   pub marks : IsMarked inside.hashing inside.links.items (get nat_eq inside.newest) (reverse inside.rows.items)
   pub trees : inside.tree.changes ≡ tree (reverse inside.rows.items)
   pub labelled : AreLabels inside.labels.changes (labels (reverse inside.rows.items))
   pub specs : reverse inside.specs.items ≡ specs_set (reverse inside.rows.items)
+  pub listed : AreListings (λ id. versions_of (get nat_eq inside.listings id)) (reverse inside.rows.items)

@@ -7,11 +7,13 @@ use Rattle.label_book.specs.Marks.{Marks}
 use Rattle.version_tree.specs.Forest.{Forest}
 use Rattle.view_lookup.specs.Growing.{HasPlace, tree_change}
 use Rattle.view_lookup.specs.Labelling.{HasLabelRoom}
+use Rattle.view_lookup.specs.Listings.{HasListing, Versions, listing_made}
 use Rattle.view_lookup.specs.SetSpecs.{rules_set_if_short}
 use Rattle.view_lookup.specs.Subjects.{borne}
 
 -- A base, and for how many more marks there is room; the trees of its versions and its labels with their room; a name that is
--- kept for a branch, and rules for a config spec; and for how many more config specs there is room.
+-- kept for a branch, and rules for a config spec; for how many more config specs there is room; versions that are kept for an
+-- object, and for how many more objects there is room.
 pub record Shown : Type 0 where
   pub base : Base
   pub room : ℕ
@@ -20,6 +22,8 @@ pub record Shown : Type 0 where
   pub labels : Marks
   pub spec : Option (List Rule)
   pub spec_room : ℕ
+  pub listing : Option Versions
+  pub listing_room : ℕ
 
 -- there is room for what a row of this deed adds to the trees, whenever it is made
 abbrev pub HasTreeRoom : Shown → Deed → Type 0
@@ -33,3 +37,5 @@ pub record HasRoom (shown : Shown) (deed : Deed) : Type 0 where
   pub labels : HasLabelRoom shown.labels deed
   pub spec : shown.spec ≡ rules_set_if_short deed
   pub spec_room : 1 ≤ shown.spec_room
+  pub listing : HasListing shown.listing (listing_made shown.base deed)
+  pub listing_room : 1 ≤ shown.listing_room

@@ -1,20 +1,23 @@
 -- What rows bear on. Each deed says once which subjects it bears on; the rows that bear on a subject say what has become of it.
 -- Marks, and all that is looked up by them, rest on this alone.
-use Rattle.std.specs.Prelude.{ℕ, Bool, false, ◌&&◌, ◌==◌, List, [], ◌∷◌, map, bytes_eq}
+use Rattle.std.specs.Prelude.{ℕ, Bool, true, false, ◌&&◌, ◌==◌, Option, Some, None, List, [], ◌∷◌, map, bytes_eq}
 use Rattle.std.specs.List.{list_any}
 use Rattle.std.specs.declared.random_state.RandomState.{RandomState}
+use Rattle.cc_names.specs.Branches.{branch_of_version}
 use Rattle.cc_names.specs.Keys.{key_at, key_of}
 use Rattle.cc_names.specs.declared.rows.Deed.{Deed}
 use Rattle.cc_names.specs.declared.rows.Deed.TheVariants as deeds
-use Rattle.legal_history.specs.Base.Changes.{targets_of}
+use Rattle.cc_names.specs.declared.rows.Out.TheVariants as outs
+use Rattle.legal_history.specs.Base.Changes.{targets_of, tree}
 use Rattle.legal_history.specs.Base.Rows.{Base, size}
-use Rattle.view_lookup.specs.NumberKeys.{key_by, key_with}
+use Rattle.legal_history.specs.Builds.Reuse.{are_same_paths}
+use Rattle.view_lookup.specs.NumberKeys.{key_by, key_by_paths, key_with}
 use Rattle.view_lookup.specs.declared.subjects.Subject as code
 use Rattle.view_lookup.specs.declared.subjects.Subject.TheVariants as codes
 
 -- A view's life, its config spec, and all that it takes out; a view's private file at a path, and the object that it holds
--- there; a view's checkout of an element, and the texts that it saves there; a name in a directory; the type of a name; an object;
--- and a merge of two versions of an element.
+-- there; a view's checkout of an element, and the texts that it saves there; a name in a directory; the reserved checkouts on a
+-- branch; the type of a name; an object, its winks, and the objects of a list of targets; and a merge of two versions of an element.
 pub data Subject : Type 0 where
   Life : List ℕ → Subject
   Spec : List ℕ → Subject
@@ -24,49 +27,66 @@ pub data Subject : Type 0 where
   Out : List ℕ → ℕ → Subject
   Saved : List ℕ → ℕ → Subject
   Entry : ℕ → List ℕ → Subject
+  Reserved : ℕ → Subject
   Named : List ℕ → Subject
   Living : ℕ → Subject
+  Winked : ℕ → Subject
+  Pool : List (List ℕ) → Subject
   Merge : ℕ → ℕ → ℕ → Subject
 
--- what a deed that makes row n takes out, changes or gives back
-abbrev pub desk_subjects : ℕ → Deed → List Subject
-desk_subjects n (deeds.Mkelem v directory name kind out) = Out v n ∷ Desk v ∷ Entry directory name ∷ []
-desk_subjects n (deeds.Checkout v e origin reserved) = Out v e ∷ Desk v ∷ []
-desk_subjects n (deeds.Branch v e origin name out) = Out v e ∷ Desk v ∷ []
-desk_subjects n (deeds.Save v e text) = Saved v e ∷ []
-desk_subjects n (deeds.Checkin v e) = Out v e ∷ []
-desk_subjects n (deeds.Uncheckout v e) = Out v e ∷ []
-desk_subjects n (deeds.Rmname v directory name) = Entry directory name ∷ []
-desk_subjects n (deeds.Mv v directory from_name to_name) = Entry directory from_name ∷ Entry directory to_name ∷ []
-desk_subjects n deed = []
+-- the branch that a checkout reserves, where it reserves one
+abbrev pub reserved_subjects : Option ℕ → List Subject
+reserved_subjects None = []
+reserved_subjects (Some branch) = Reserved branch ∷ []
 
--- what becomes of objects by a deed that makes row n, where the object that it names has these targets
-abbrev pub object_subjects : ℕ → List (List ℕ) → Deed → List Subject
-object_subjects n targets (deeds.Publish v own script entries outputs) = Living n ∷ map (Object v) own
-object_subjects n targets (deeds.Wink v id) = map (Object v) targets
-object_subjects n targets (deeds.Drop v path) = Object v path ∷ []
-object_subjects n targets (deeds.Scrub objects) = map Living objects
-object_subjects n targets deed = desk_subjects n deed
+-- what a deed that makes row n takes out, changes or gives back, where its checkout reserves this branch
+abbrev pub desk_subjects : ℕ → Option ℕ → Deed → List Subject
+desk_subjects n branch (deeds.Mkelem v directory name kind out) = Out v n ∷ Desk v ∷ Entry directory name ∷ reserved_subjects branch
+desk_subjects n branch (deeds.Checkout v e origin reserved) = Out v e ∷ Desk v ∷ reserved_subjects branch
+desk_subjects n branch (deeds.Branch v e origin name out) = Out v e ∷ Desk v ∷ reserved_subjects branch
+desk_subjects n branch (deeds.Save v e text) = Saved v e ∷ []
+desk_subjects n branch (deeds.Checkin v e) = Out v e ∷ []
+desk_subjects n branch (deeds.Uncheckout v e) = Out v e ∷ []
+desk_subjects n branch (deeds.Rmname v directory name) = Entry directory name ∷ []
+desk_subjects n branch (deeds.Mv v directory from_name to_name) = Entry directory from_name ∷ Entry directory to_name ∷ []
+desk_subjects n branch deed = []
 
--- the subjects on which a deed bears that makes row n, where the object that it names has these targets
-abbrev pub subjects : ℕ → List (List ℕ) → Deed → List Subject
-subjects n targets (deeds.Mkview v) = Life v ∷ []
-subjects n targets (deeds.Rmview v) = Life v ∷ []
-subjects n targets (deeds.Setcs v text) = Spec v ∷ []
-subjects n targets (deeds.Put v path text) = File v path ∷ []
-subjects n targets (deeds.Rm v path) = File v path ∷ []
-subjects n targets (deeds.Mktype kind name) = Named name ∷ []
-subjects n targets (deeds.Arrow e tail head) = Merge e tail head ∷ []
-subjects n targets deed = object_subjects n targets deed
+-- what becomes of objects by a deed that makes row n, where the object that it names has these targets and its checkout reserves
+-- this branch
+abbrev pub object_subjects : ℕ → List (List ℕ) → Option ℕ → Deed → List Subject
+object_subjects n targets branch (deeds.Publish v own script entries outputs) = Living n ∷ Pool own ∷ map (Object v) own
+object_subjects n targets branch (deeds.Wink v id) = Winked id ∷ map (Object v) targets
+object_subjects n targets branch (deeds.Drop v path) = Object v path ∷ []
+object_subjects n targets branch (deeds.Scrub objects) = map Living objects
+object_subjects n targets branch deed = desk_subjects n branch deed
+
+-- the subjects on which a deed bears that makes row n, where the object that it names has these targets and its checkout reserves
+-- this branch
+abbrev pub subjects : ℕ → List (List ℕ) → Option ℕ → Deed → List Subject
+subjects n targets branch (deeds.Mkview v) = Life v ∷ []
+subjects n targets branch (deeds.Rmview v) = Life v ∷ []
+subjects n targets branch (deeds.Setcs v text) = Spec v ∷ []
+subjects n targets branch (deeds.Put v path text) = File v path ∷ []
+subjects n targets branch (deeds.Rm v path) = File v path ∷ []
+subjects n targets branch (deeds.Mktype kind name) = Named name ∷ []
+subjects n targets branch (deeds.Arrow e tail head) = Merge e tail head ∷ []
+subjects n targets branch deed = object_subjects n targets branch deed
 
 -- the targets of the object that a deed names, which an older row made
 abbrev pub named_targets : Base → Deed → List (List ℕ)
 named_targets older (deeds.Wink v id) = targets_of older id
 named_targets older deed = []
 
+-- the branch that the next row's checkout reserves: that of its origin, a new one for a new element or branch
+abbrev pub reserved_branch : Base → Deed → Option ℕ
+reserved_branch older (deeds.Mkelem v directory name kind true) = Some (size older)
+reserved_branch older (deeds.Checkout v e origin true) = branch_of_version (tree older) origin
+reserved_branch older (deeds.Branch v e origin name outs.Reserved) = Some (size older)
+reserved_branch older deed = None
+
 -- the subjects on which the next row bears
 abbrev pub borne : Base → Deed → List Subject
-borne older deed = subjects (size older) (named_targets older deed) deed
+borne older deed = subjects (size older) (named_targets older deed) (reserved_branch older deed) deed
 
 -- whether two subjects are one
 abbrev pub is_same : Subject → Subject → Bool
@@ -78,8 +98,11 @@ is_same (Object v path) (Object w q) = bytes_eq w v && bytes_eq q path
 is_same (Out v e) (Out w f) = bytes_eq w v && (f == e)
 is_same (Saved v e) (Saved w f) = bytes_eq w v && (f == e)
 is_same (Entry directory name) (Entry other one) = (other == directory) && bytes_eq one name
+is_same (Reserved branch) (Reserved other) = branch == other
 is_same (Named name) (Named other) = bytes_eq other name
 is_same (Living id) (Living other) = other == id
+is_same (Winked id) (Winked other) = other == id
+is_same (Pool targets) (Pool others) = are_same_paths others targets
 is_same (Merge e tail head) (Merge f one two) = (f == e) && (one == tail) && (two == head)
 is_same one two = false
 
@@ -96,6 +119,9 @@ key hashing (Named name) = key_of hashing 7 name
 key hashing (Living id) = key_by hashing 8 (id ∷ [])
 key hashing (Merge e tail head) = key_by hashing 9 (e ∷ tail ∷ head ∷ [])
 key hashing (Entry directory name) = key_with hashing 10 directory name
+key hashing (Reserved branch) = key_by hashing 11 (branch ∷ [])
+key hashing (Pool targets) = key_by_paths hashing 12 targets
+key hashing (Winked id) = key_by hashing 13 (id ∷ [])
 
 -- whether the next row bears on a subject
 abbrev pub bears : Subject → Base → Deed → Bool
@@ -115,6 +141,9 @@ plain (codes.Object v path) = Object v.now path.now
 plain (codes.Out v e) = Out v.now e
 plain (codes.Saved v e) = Saved v.now e
 plain (codes.Entry directory name) = Entry directory name.now
+plain (codes.Reserved branch) = Reserved branch
 plain (codes.Named name) = Named name.now
 plain (codes.Living id) = Living id
+plain (codes.Winked id) = Winked id
+plain (codes.Pool targets) = Pool targets.now
 plain (codes.Merge e tail head) = Merge e tail head

@@ -1,16 +1,17 @@
 // The rows of a base, with the marks by which those that bear on a subject are found, with the trees of versions, with the
-// labels and with the config specs.
+// labels, with the config specs and with what the records of objects list.
 
 ghost use Rattle.std.specs.Prelude.{◌≡◌, ◌≤◌, ◌∷◌, [], ℕ, List, length, reverse, true, IfOk, OnOk};
 ghost use Rattle.std.specs.Option.{option_and_then, option_copied};
 ghost use Rattle.carried_out.specs.CarriedOut.{is_made};
 ghost use Rattle.cc_names.specs.Labels.{holder, labels_of_first_rows};
-ghost use Rattle.cc_names.specs.Versions.{of_first_rows};
+ghost use Rattle.cc_names.specs.Versions.{of_first_rows, place};
 ghost use Rattle.legal_history.specs.Base.Changes.{labels, tree};
+ghost use Rattle.legal_history.specs.Base.Closures.{listing};
 ghost use Rattle.legal_history.specs.Base.Rows.{deed_at, first_rows, row_at, size};
 ghost use Rattle.legal_history.specs.Base.Fits.{fits, is_base, row_limit};
-ghost use Rattle.view_lookup.specs.Known.{are_made};
 ghost use Rattle.view_lookup.specs.Labelling.{HasLabelRoom};
+ghost use Rattle.view_lookup.specs.Listings.{HasListing, listing_made, versions_of};
 ghost use Rattle.view_lookup.specs.LookUps.{last_of, newest, oldest};
 ghost use Rattle.view_lookup.specs.SetSpecs.{rules_set, rules_set_if_short};
 ghost use Rattle.view_lookup.specs.Shown.{HasRoom, HasTreeRoom};
@@ -18,11 +19,13 @@ ghost use Rattle.view_lookup.specs.Subjects.{borne};
 
 use crate::growth::{grow, growth_of, reserve_growth};
 use crate::labels::{relabel, reserve_labels};
+use crate::listings::{Versions, keep_listing, listing_made};
 use crate::look_ups::{LookUp, left_by, set_at, told_at};
 use crate::marks::{Link, mark_all};
 use crate::numbered::row_of;
-use crate::subjects::{count_subjects, named_targets};
+use crate::subjects::{count_subjects, named_targets, reserved_branch};
 use crate::view_specs::{Parsed, keep_spec, read_given, spec_of};
+use cc_names::changes::Place;
 use cc_names::memory::NoMemory;
 use cc_names::names::Name;
 use cc_names::rows::{Deed, Row};
@@ -34,8 +37,9 @@ use std::hash::RandomState;
 use std::marker::Model;
 use version_tree::Tree;
 
-/// A base, what bears on what, the trees of versions, the labels, and the config specs. Contracts see the base as the model has it, its newest row first, and
-/// the room. That it is a base, whose rows were made by what is carried out so far, is part of the type.
+/// A base, what bears on what, the trees of versions, the labels, the config specs, and what the records of objects list.
+/// Contracts see the base as the model has it, its newest row first, and the room. That it is a base, whose rows were made by
+/// what is carried out so far, is part of the type.
 #[derive(Drop)]
 pub struct Rows {
     hashing: RandomState,
@@ -50,6 +54,9 @@ pub struct Rows {
     specs: Vec<Parsed>,
     // A config spec, read before the row is added that gives it to its view.
     spec: Option<Spec>,
+    listings: HashMap<u64, Versions>,
+    // What the record of an object lists, before its row is added.
+    listing: Option<Versions>,
 }
 
 impl Model for Rows {
@@ -82,12 +89,15 @@ impl Rows {
             name: None,
             specs: Vec::new(alloc),
             spec: None,
+            listings: HashMap::new(alloc),
+            listing: None,
         })
     }
 
     /// Makes room for one more row of this deed. Takes time linear in what the deed names, for each label that it changes on an
     /// element the time to find the label there and, where it is new there, to copy its name, for a config spec the time to read
-    /// it, and time logarithmic in the branches; a list that is full is doubled, in time linear in it.
+    /// it, for each entry of a record time linear in what it stands for, times logarithmic in what the record lists, and time
+    /// logarithmic in the branches; a list that is full is doubled, in time linear in it.
     pub fn reserve(&mut self, deed: &Deed) -> Result<(), NoMemory>
         ensures same { self.new.base ≡ self.old.base }
         ensures room { OnOk result (HasRoom self.new deed.now) }
@@ -96,6 +106,7 @@ impl Rows {
         self.reserve_trees(deed)?;
         self.reserve_labels(deed)?;
         self.reserve_spec(deed)?;
+        self.reserve_listing(deed)?;
         Ok(())
     }
 
@@ -106,8 +117,9 @@ impl Rows {
         ensures marks { OnOk result (length (borne self.new.base deed.now) ≤ self.new.room) }
     {
         let number = self.rows.len() as u64 + 1;
+        let branch = reserved_branch(&self.all(), deed);
         let targets = named_targets(self.rows.as_slice(), deed);
-        let count = count_subjects(number, targets, deed).max(1);
+        let count = count_subjects(number, targets, branch, deed).max(1);
         self.rows.reserve(count)?;
         self.links.reserve(count)?;
         self.newest.reserve(count)?;
@@ -151,6 +163,24 @@ impl Rows {
         Ok(())
     }
 
+    // Makes what the record of the row lists, and room for it.
+    fn reserve_listing(&mut self, deed: &Deed) -> Result<(), NoMemory>
+        ensures same { self.new.base ≡ self.old.base }
+        ensures marks { self.new.room ≡ self.old.room }
+        ensures trees { self.new.trees ≡ self.old.trees }
+        ensures name { self.new.name ≡ self.old.name }
+        ensures labels { self.new.labels ≡ self.old.labels }
+        ensures spec { self.new.spec ≡ self.old.spec }
+        ensures spec_room { self.new.spec_room ≡ self.old.spec_room }
+        ensures listing { OnOk result
+            (HasListing self.new.listing (listing_made self.new.base deed.now)) }
+        ensures room { OnOk result (1 ≤ self.new.listing_room) }
+    {
+        self.listings.reserve(1)?;
+        self.listing = listing_made(self.alloc, &self.all(), deed)?;
+        Ok(())
+    }
+
     /// Adds a row that fits. Takes time linear in the names that its deed has, for each label that it changes on an element the
     /// time to find the label there, and time logarithmic in the branches; no memory.
     pub fn push(&mut self, row: Row)
@@ -160,6 +190,7 @@ impl Rows {
         ensures { self.new.base ≡ row ∷ self.old.base }
     {
         let growth = growth_of(&self.all(), row.deed());
+        let branch = reserved_branch(&self.all(), row.deed());
         let number = self.rows.len() as u64 + 1;
         grow(
             &mut self.tree,
@@ -175,10 +206,12 @@ impl Rows {
             &mut self.newest,
             number,
             targets,
+            branch,
             row.deed(),
         );
         relabel(&mut self.labels, number, row.deed());
         keep_spec(&mut self.specs, number, self.spec.take());
+        keep_listing(&mut self.listings, number, self.listing.take());
         self.rows.push(row).unwrap();
     }
 
@@ -214,6 +247,8 @@ impl Rows {
             name: _,
             specs: _,
             spec: _,
+            listings: _,
+            listing: _,
         } = self;
         rows
     }
@@ -275,6 +310,17 @@ impl<'a> FirstRows<'a> {
         &base.tree
     }
 
+    /// Where the version that a row made stands. Takes time logarithmic in the changes of the trees.
+    pub(crate) fn place(&self, version: u64) -> Option<Place>
+        ensures { result ≡ place (tree self.now) version }
+    {
+        if self.size() <= version {
+            return None;
+        }
+        let base = self.base;
+        base.tree.place(version)
+    }
+
     /// The labels of all rows of the base, with what these rows made of them.
     pub(crate) fn labels(&self) -> &'a Book
         ensures { (l : List ℕ) (e : ℕ)
@@ -298,11 +344,15 @@ impl<'a> FirstRows<'a> {
         spec_of(base.specs.as_slice(), row)
     }
 
-    /// That each was made by what is carried out so far. Does nothing.
-    pub(crate) fn are_made(&self)
-        ensures { are_made self.now ≡ true }
+    /// What the record of an object lists, where it is one of these rows. Takes constant time.
+    pub(crate) fn listing(&self, object: u64) -> Option<&'a Versions>
+        ensures { HasListing (versions_of (option_copied result)) (listing self.now object) }
     {
-        let _count = self.count;
+        if self.size() <= object {
+            return None;
+        }
+        let base = self.base;
+        base.listings.get(&object)
     }
 
     /// That they are a base. Does nothing.

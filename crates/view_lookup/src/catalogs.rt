@@ -13,7 +13,7 @@ use cc_names::rows::Deed;
 
 /// A catalog: that of a version of a directory, or that of a view's checkout of one.
 #[derive(Clone, Copy)]
-enum Catalog<'a> {
+pub(crate) enum Catalog<'a> {
     OfVersion(u64),
     OfCheckout(&'a Name, u64),
 }
@@ -109,7 +109,11 @@ fn entry_of<'a>(rows: &FirstRows<'a>, catalog: Catalog<'a>, name: &'a [u8]) -> E
 
 /// The element that a name stands for in a catalog. Goes from version to version, back to the one by which the name was changed
 /// last.
-fn named_in<'a>(rows: &FirstRows<'a>, catalog: Catalog<'a>, name: &'a [u8]) -> Option<u64>
+pub(crate) fn named_in<'a>(
+    rows: &FirstRows<'a>,
+    catalog: Catalog<'a>,
+    name: &'a [u8],
+) -> Option<u64>
     ensures { result ≡ named name.now (catalog_in rows.now catalog.entry) }
 {
     let mut rows = first_rows(rows, rows.size());
@@ -128,15 +132,15 @@ fn named_in<'a>(rows: &FirstRows<'a>, catalog: Catalog<'a>, name: &'a [u8]) -> O
 }
 
 /// The element that a name stands for in the catalog of a version of a directory, where it is there. Takes time linear in the
-/// names, and in the versions since the name was changed last.
+/// names, and for each version since the name was changed last time linear in the versions behind it: the square of these versions.
 pub fn named_by_version(rows: &FirstRows<'_>, version: u64, name: &Name) -> Option<u64>
     ensures { result ≡ named name.now (catalog_of rows.now version) }
 {
     named_in(rows, Catalog::OfVersion(version), name.as_bytes())
 }
 
-/// The element that a name stands for in the catalog of a view's checkout of a directory, where it is there. Takes time linear in
-/// the names, and in the versions since the name was changed last.
+/// The element that a name stands for in the catalog of a view's checkout of a directory, where it is there. Takes the time of
+/// `named_by_version`.
 pub fn named_by_checkout(
     rows: &FirstRows<'_>,
     view: &Name,

@@ -1,6 +1,7 @@
 // What a view has checked out.
 
 ghost use Rattle.std.specs.Prelude.{◌≡◌, ◌==◌, ◌&&◌, bytes_eq, option_map};
+ghost use Rattle.legal_history.specs.Base.Conditions.{has_out};
 ghost use Rattle.legal_history.specs.Base.Views as model;
 ghost use Rattle.legal_history.specs.Base.Views.{making, out};
 ghost use Rattle.view_lookup.specs.Effects.{kept_checkout, map_effect, map_told, plain_checkout, plain_taken, row_of_kept};
@@ -217,6 +218,13 @@ pub fn checked_out(rows: &FirstRows<'_>, view: &Name, element: u64) -> Option<Ch
         last_end(rows, view),
         rows.newest(&TakenOf { view, element }),
     )
+}
+
+/// Whether the view has the element out. Takes the time of `checked_out`.
+pub fn has_out(rows: &FirstRows<'_>, view: &Name, element: u64) -> bool
+    ensures { result ≡ has_out rows.now view.now element }
+{
+    checked_out(rows, view, element).is_some()
 }
 
 /// The row of a checkout in place of it.

@@ -1,21 +1,30 @@
 // When a row fits the rows before it.
 
-ghost use Rattle.std.specs.Prelude.{◌≡◌, ◌||◌, Some, true};
+ghost use Rattle.std.specs.Prelude.{◌≡◌, ◌||◌, Some, true, IfErr, IfOk};
 ghost use Rattle.std.specs.List.{list_all};
-ghost use Rattle.carried_out.specs.CarriedOut.{is_made};
+ghost use Rattle.cc_names.specs.Formed.{IsDeedFormed, IsText};
+ghost use Rattle.cc_names.specs.declared.rows.Deed.TheVariants as deeds;
 ghost use Rattle.legal_history.specs.Base.Changes.{targets_of_deed};
 ghost use Rattle.legal_history.specs.Base.Closures.{is_among};
-ghost use Rattle.legal_history.specs.Base.Conditions.{element_of_text, is_entry, is_some_file, makes_file_text};
+ghost use Rattle.legal_history.specs.Base.Conditions.{element_of_text, is_entry, is_some_file, makes_file_text, may_be_scrubbed};
 ghost use Rattle.legal_history.specs.Base.Rows.{Base};
 ghost use Rattle.legal_history.specs.Base.Fits.{deed_fits, fits};
+ghost use Rattle.view_lookup.specs.Grouped.{sets_spec};
 
 use crate::bases::{FirstRows, row_at};
-use crate::objects::is_target;
+use crate::fitting_elements::{catalog_deed_fits, checkout_deed_fits, version_deed_fits};
+use crate::objects::{held, is_target, live};
+use crate::scrubs::may_be_scrubbed;
 use crate::seen::kind_of;
 use crate::types::is_type_taken;
 use crate::views::{private, view_row};
+use cc_names::memory::{NoMemory, Or};
+use cc_names::names::Name;
 use cc_names::paths::Path;
 use cc_names::rows::{Deed, Kind, ReadOf, Row};
+use cc_names::texts::Text;
+use spec_text::Spec;
+use std::alloc::Global;
 
 /// The most rows that a base may have, row 0 included.
 pub const ROW_LIMIT: u64 = 4_000_000;
@@ -76,28 +85,80 @@ fn are_entries(rows: &FirstRows<'_>, entries: &[ReadOf]) -> bool
     entries.iter().all(|entry| is_entry(rows, entry))
 }
 
-fn deed_fits(rows: &FirstRows<'_>, deed: &Deed) -> bool
-    requires made { is_made deed.now ≡ true }
-    ensures { result ≡ deed_fits rows.now deed.now }
+fn may_all_be_scrubbed(rows: &FirstRows<'_>, objects: &[u64]) -> bool
+    ensures { result ≡ list_all (may_be_scrubbed rows.now) objects.now }
 {
-    match deed {
-        Deed::Mkview { view } => view_row(rows, view).is_none(),
-        Deed::Rmview { view } => view_row(rows, view).is_some(),
-        Deed::Put { view, .. } => view_row(rows, view).is_some(),
-        Deed::Rm { view, path } => private(rows, view, path).is_some(),
-        Deed::Mktype { name, .. } => !is_type_taken(rows, name),
-        Deed::Publish { view, entries, .. } => {
-            view_row(rows, view).is_some() && are_entries(rows, entries.as_slice())
-        }
-        _ => false,
+    objects.iter().all(|object| may_be_scrubbed(rows, *object))
+}
+
+/// Whether a row that sets a view's config spec fits: there is the view, and the text is a config spec. Takes time linear in the
+/// text.
+fn setcs_fits(
+    alloc: Global,
+    rows: &FirstRows<'_>,
+    view: &Name,
+    text: &Text,
+) -> Result<bool, NoMemory>
+    requires { IsText text.now }
+    ensures fits { IfOk result (λ is. is ≡ deed_fits rows.now (deeds.Setcs view.now text.now)) }
+    ensures memory { IfErr result (λ _. sets_spec (deeds.Setcs view.now text.now) ≡ true) }
+{
+    if view_row(rows, view).is_none() {
+        return Ok(false);
+    }
+    match Spec::read(alloc, text.as_bytes()) {
+        Ok(_) => Ok(true),
+        Err(Or::Is(_)) => Ok(false),
+        Err(Or::NoMemory) => Err(NoMemory),
     }
 }
 
-/// Whether a row may be the next of a base, where what is carried out so far makes such rows. Takes time linear in the view's
-/// name, in the row's entries and in the targets of the objects that they name, however many rows there are; no memory.
-pub fn fits(rows: &FirstRows<'_>, row: &Row) -> bool
-    requires made { is_made row.now.deed ≡ true }
-    ensures { result ≡ fits rows.now row.now.deed }
+/// Whether a row of this deed may be the next of a base that has room for it.
+fn deed_fits(alloc: Global, rows: &FirstRows<'_>, deed: &Deed) -> Result<bool, NoMemory>
+    requires { IsDeedFormed deed.now }
+    ensures fits { IfOk result (λ is. is ≡ deed_fits rows.now deed.now) }
+    ensures memory { IfErr result (λ _. sets_spec deed.now ≡ true) }
 {
-    rows.size() < ROW_LIMIT && deed_fits(rows, row.deed())
+    match deed {
+        Deed::Mkview { view } => Ok(view_row(rows, view).is_none()),
+        Deed::Rmview { view } => Ok(view_row(rows, view).is_some()),
+        Deed::Setcs { view, text } => setcs_fits(alloc, rows, view, text),
+        Deed::Put { view, .. } => Ok(view_row(rows, view).is_some()),
+        Deed::Rm { view, path } => Ok(private(rows, view, path).is_some()),
+        Deed::Mktype { name, .. } => Ok(!is_type_taken(rows, name)),
+        Deed::Publish { view, entries, .. } => {
+            Ok(view_row(rows, view).is_some() && are_entries(rows, entries.as_slice()))
+        }
+        Deed::Wink { view, object } => {
+            Ok(view_row(rows, view).is_some() && live(rows, *object).is_some())
+        }
+        Deed::Drop { view, path } => Ok(held(rows, view, path).is_some()),
+        Deed::Scrub { objects } => Ok(may_all_be_scrubbed(rows, objects.as_slice())),
+        Deed::Mkelem { .. } | Deed::Rmname { .. } | Deed::Mv { .. } => {
+            Ok(catalog_deed_fits(rows, deed))
+        }
+        Deed::Checkout { .. }
+        | Deed::Branch { .. }
+        | Deed::Save { .. }
+        | Deed::Checkin { .. }
+        | Deed::Uncheckout { .. } => Ok(checkout_deed_fits(rows, deed)),
+        Deed::Label { .. } | Deed::Unlabel { .. } | Deed::Labels { .. } | Deed::Arrow { .. } => {
+            Ok(version_deed_fits(rows, deed))
+        }
+        Deed::PublishAt { .. } => Ok(false),
+    }
+}
+
+/// Whether a row may be the next of a base. Takes time linear in the names and the texts of the row, in its entries and in the
+/// targets of the objects that they name, and for each look-up the time of that. Memory is taken to read the config spec of a
+/// `Deed::Setcs`, by no other deed: `NoMemory` says nothing of the row, which may be asked of again.
+pub fn fits(alloc: Global, rows: &FirstRows<'_>, row: &Row) -> Result<bool, NoMemory>
+    ensures fits { IfOk result (λ is. is ≡ fits rows.now row.now.deed) }
+    ensures memory { IfErr result (λ _. sets_spec row.now.deed ≡ true) }
+{
+    if rows.size() < ROW_LIMIT {
+        deed_fits(alloc, rows, row.deed())
+    } else {
+        Ok(false)
+    }
 }

@@ -8,6 +8,7 @@ ghost use Rattle.cc_names.specs.Formed.{IsDeedFormed, element_of};
 ghost use Rattle.cc_names.specs.Labels.{holder};
 ghost use Rattle.label_book.specs.Marks.{KeepsAll, rows_of_pair};
 ghost use Rattle.legal_history.specs.Base.Changes.{all_placed, labels, labels_after};
+ghost use Rattle.legal_history.specs.Base.Conditions.{has_label};
 ghost use Rattle.view_lookup.specs.Labelling.{AreLabels, AreReady, HasLabelRoom};
 
 use crate::bases::FirstRows;
@@ -86,4 +87,11 @@ pub fn holder(rows: &FirstRows<'_>, label: &Name, element: u64) -> Option<u64>
     ensures { result ≡ holder (labels rows.now) label.now element }
 {
     rows.labels().at(label, element, rows.size())
+}
+
+/// Whether the label stands on a version of the element. Takes the time of `holder`.
+pub fn has_label(rows: &FirstRows<'_>, label: &Name, element: u64) -> bool
+    ensures { result ≡ has_label rows.now label.now element }
+{
+    holder(rows, label, element).is_some()
 }

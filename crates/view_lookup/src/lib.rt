@@ -1,5 +1,6 @@
 // The base as a type, and what views see in it: which views there are, their private files, their checkouts, their config
-// specs, the objects that they hold, and what stands at a path; and what the trees of versions and the labels were.
+// specs, the objects that they hold, and what stands at a path; which objects have the same targets; what the trees of versions
+// and the labels were, and who reserves a branch.
 //
 // What it is for: the look-ups on which every decision on a command and every build stand.
 //
@@ -13,11 +14,15 @@
 
 mod bases;
 mod catalogs;
+mod checkins;
 mod desks;
+mod directories;
 mod edits;
 mod fitting;
+mod fitting_elements;
 mod growth;
 mod labels;
+mod listings;
 mod look_ups;
 mod marks;
 mod merges;
@@ -25,6 +30,9 @@ mod number_keys;
 mod numbered;
 mod objects;
 mod picks;
+mod pool;
+mod reservations;
+mod scrubs;
 mod seen;
 mod standings;
 mod subjects;
@@ -36,16 +44,26 @@ mod views;
 
 pub use bases::{FirstRows, Rows, first_rows, row_at};
 pub use catalogs::{named_by_checkout, named_by_version};
-pub use desks::{Checkout, checked_out, making};
+pub use checkins::{
+    branch_of, is_unreserved, may_check_in, may_reserve, other_reserver_beside, reserver_beside,
+};
+pub use desks::{Checkout, checked_out, has_out, making};
+pub use directories::{has_name, has_out_by_name, is_directory_element, is_file_element};
 pub use fitting::{ROW_LIMIT, fits};
-pub use labels::holder;
+pub use labels::{has_label, holder};
 pub use merges::arrow_row;
-pub use objects::{held, live};
-pub use picks::{Records, pick};
+pub use objects::{held, held_at_all, live};
+pub use picks::pick;
+pub use pool::{RecordTest, newest_object, publishes};
+pub use reservations::{other_reserver, reserver};
+pub use scrubs::{is_held, may_be_scrubbed};
 pub use seen::{at, file_at, is_directory, kind_of};
 pub use standings::oldest_out;
 pub use texts::{text_at, text_of};
-pub use trees::{branch_named, branch_of_version, latest_version, origin_of, version_numbered};
-pub use types::{is_type_taken, kind_of_type};
+pub use trees::{
+    branch_named, branch_of_version, has_branch, is_latest, is_version_of, latest_beside,
+    latest_version, name_of_branch, origin_of, place_of, version_numbered,
+};
+pub use types::{is_branch_type, is_label_type, is_type_taken, kind_of_type};
 pub use view_specs::{rules, spec_text};
 pub use views::{private, view_row};

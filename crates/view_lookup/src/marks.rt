@@ -37,24 +37,25 @@ fn mark(links: &mut Vec<Link>, newest: &mut HashMap<u64, usize>, row: u64, key: 
     }
 }
 
-/// Marks a row for each subject on which its deed bears, where the object that it names has these targets. Takes time linear in
-/// the names that the deed has and in the targets, and no memory.
+/// Marks a row for each subject on which its deed bears, where the object that it names has these targets and its checkout
+/// reserves this branch. Takes time linear in the names that the deed has and in the targets, and no memory.
 pub(crate) fn mark_all(
     hashing: RandomState,
     links: &mut Vec<Link>,
     newest: &mut HashMap<u64, usize>,
     row: u64,
     targets: &[Path],
+    branch: Option<u64>,
     deed: &Deed,
 )
-    requires links { vec_len links.old + length (subjects row targets.now deed.now)
+    requires links { vec_len links.old + length (subjects row targets.now branch deed.now)
         ≤ vec_capacity links.old }
-    requires newest { length (subjects row targets.now deed.now) ≤ spare newest.old }
-    ensures { MarksAll row (map (key hashing) (subjects row targets.now deed.now)) links.old.items
+    requires newest { length (subjects row targets.now branch deed.now) ≤ spare newest.old }
+    ensures { MarksAll row (map (key hashing) (subjects row targets.now branch deed.now)) links.old.items
         (get nat_eq newest.old) links.new.items (get nat_eq newest.new) }
 {
     let mut index = 0;
-    while let Some(subject) = subject_at(row, targets, deed, index) {
+    while let Some(subject) = subject_at(row, targets, branch, deed, index) {
         mark(links, newest, row, subject.key(hashing));
         index += 1;
     }

@@ -1,10 +1,11 @@
-// One number for some numbers, and for a name beside one, as `cc_names::keys` has it for names and paths.
+// One number for some numbers, for a name beside one, and for some paths, as `cc_names::keys` has it for names and paths.
 
 ghost use Rattle.std.specs.Prelude.{◌≡◌, ◌∷◌, []};
 ghost use Rattle.cc_names.specs.Keys.{key_at};
-ghost use Rattle.view_lookup.specs.NumberKeys.{key_by, key_with};
+ghost use Rattle.view_lookup.specs.NumberKeys.{key_by, key_by_paths, key_with};
 
 use cc_names::names::Name;
+use cc_names::paths::Path;
 use std::hash::{BuildHasher, Hasher, RandomState};
 
 /// The key of a number and another one. Takes constant time.
@@ -49,5 +50,18 @@ pub(crate) fn key_within(hashing: RandomState, number: u64, name: &Name, path: &
     hasher.write_usize(name.as_bytes().len());
     hasher.write(name.as_bytes());
     hasher.write(path);
+    hasher.finish()
+}
+
+/// The key of a number and some paths. Takes time linear in them.
+pub(crate) fn key_by_paths(hashing: RandomState, number: u64, paths: &[Path]) -> u64
+    ensures { result ≡ key_by_paths hashing number paths.now }
+{
+    let mut hasher = hashing.build_hasher();
+    hasher.write_u64(number);
+    for path in paths {
+        hasher.write_usize(path.as_bytes().len());
+        hasher.write(path.as_bytes());
+    }
     hasher.finish()
 }

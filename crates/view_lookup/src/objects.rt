@@ -4,6 +4,7 @@ ghost use Rattle.std.specs.Prelude.{◌≡◌, ◌==◌, option_map};
 ghost use Rattle.std.specs.List.{list_any};
 ghost use Rattle.cc_names.specs.References.{held_at};
 ghost use Rattle.legal_history.specs.Base.Changes.{held, live};
+ghost use Rattle.legal_history.specs.Builds.Reuse.{held_at_all, held_at_each};
 ghost use Rattle.view_lookup.specs.Effects.{gone_effect};
 ghost use Rattle.view_lookup.specs.Ended.{number_of};
 ghost use Rattle.view_lookup.specs.LookUps.{newest};
@@ -157,6 +158,32 @@ pub fn held(rows: &FirstRows<'_>, view: &Name, path: &Path) -> Option<u64>
     ensures { result ≡ held_at (held rows.now) view.now path.now }
 {
     within(last_gone(rows, view), rows.newest(&ObjectOf { view, path }))
+}
+
+/// Whether the view holds the object at each of these paths. Takes the time of `held` for each path, as far as the first where
+/// it doesn't.
+fn is_held_at_each(rows: &FirstRows<'_>, view: &Name, paths: &[Path], object: u64) -> bool
+    ensures { result ≡ held_at_each rows.now view.now paths.now object }
+{
+    paths
+        .iter()
+        .all(|path| held(rows, view, path) == Some(object))
+}
+
+/// The object that the view holds at each of these paths, where it is one and there are paths. Takes the time of `held` for
+/// each path, as far as the first where the view holds another object or none.
+pub fn held_at_all(rows: &FirstRows<'_>, view: &Name, paths: &[Path]) -> Option<u64>
+    ensures { result ≡ held_at_all rows.now view.now paths.now }
+{
+    let [first, others @ ..] = paths else {
+        return None;
+    };
+    let object = held(rows, view, first)?;
+    if is_held_at_each(rows, view, others, object) {
+        Some(object)
+    } else {
+        None
+    }
 }
 
 /// The object's row, where it is live: from its publish until a scrub takes it. Takes time linear in the objects of the scrub, and

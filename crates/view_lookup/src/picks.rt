@@ -7,6 +7,7 @@ ghost use Rattle.legal_history.specs.Base.Seen.{selected};
 use crate::bases::FirstRows;
 use crate::desks::making;
 use crate::labels::holder;
+use crate::listings::listed;
 use crate::trees::{branch_named, branch_of_version, latest_version, origin_of, version_numbered};
 use crate::view_specs::rules;
 use cc_names::names::Name;
@@ -14,25 +15,14 @@ use cc_names::paths::Path;
 use cc_names::selection::Picked;
 use config_spec::{Sources, pick_from};
 
-/// What the records of objects list.
-pub trait Records {
-    ghost use Rattle.std.specs.Prelude.{◌≡◌};
-    ghost use Rattle.legal_history.specs.Base.Closures.{listed};
-
-    /// The version of the element that the record of an object with this target lists, where these rows have the object.
-    fn listed(&self, rows: &FirstRows<'_>, object: u64, target: &Path, element: u64) -> Option<u64>
-        ensures { result ≡ listed rows.now object target.now element };
-}
-
 /// What there is to select from in the first rows of a base, and the row that makes the text of the view's checkout.
 #[derive(Drop)]
-struct Sight<'a, 'b, R> {
+struct Sight<'a, 'b> {
     rows: &'a FirstRows<'b>,
-    records: &'a R,
     out: Option<u64>,
 }
 
-impl<R: Records> Sources for Sight<'_, '_, R> {
+impl Sources for Sight<'_, '_> {
     ghost use Rattle.view_lookup.specs.Picking.{selectables};
 
     ghost selectables = { λ sight. selectables sight.rows.now sight.out };
@@ -58,7 +48,7 @@ impl<R: Records> Sources for Sight<'_, '_, R> {
     }
 
     fn listed(&self, object: u64, target: &Path, element: u64) -> Option<u64> {
-        self.records.listed(self.rows, object, target, element)
+        listed(self.rows, object, target, element)
     }
 
     fn checkout(&self) -> Option<u64> {
@@ -66,22 +56,15 @@ impl<R: Records> Sources for Sight<'_, '_, R> {
     }
 }
 
-/// What the first rule of the view's config spec that decides picks of the element at the path of these bytes. Takes the time of `making` and of
-/// `rules`, and for each rule tried the matching of the path and one look-up, for a rule that names a branch two for each of its
-/// names; no memory.
-pub fn pick<R: Records>(
-    rows: &FirstRows<'_>,
-    view: &Name,
-    element: u64,
-    path: &[u8],
-    records: &R,
-) -> Option<Picked>
+/// What the first rule of the view's config spec that decides picks of the element at the path of these bytes; nothing in a
+/// view that there is not. Takes the time of `making` and of `rules`, and for each rule tried the matching of the path and one
+/// look-up, for a rule that names a branch two for each of its names; no memory.
+pub fn pick(rows: &FirstRows<'_>, view: &Name, element: u64, path: &[u8]) -> Option<Picked>
     ensures { result ≡ selected rows.now view.now element (names_of path.now) }
 {
     let spec = rules(rows, view)?;
     let sight = Sight {
         rows,
-        records,
         out: making(rows, view, element),
     };
     pick_from(&sight, spec, element, path)

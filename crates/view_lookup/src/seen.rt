@@ -1,28 +1,25 @@
 // What stands at a path in a view.
 
-ghost use Rattle.std.specs.Prelude.{◌≡◌, is_some, IsSome};
-ghost use Rattle.std.specs.List.{list_any};
-ghost use Rattle.cc_names.specs.Paths.{is_slash};
+ghost use Rattle.std.specs.Prelude.{◌≡◌, ◌<◌, ◌≤◌, length, is_some, IfSome, option_map};
+ghost use Rattle.std.specs.List.{position};
+ghost use Rattle.cc_names.specs.Paths.{is_slash, names_of};
 ghost use Rattle.cc_names.specs.Versions.{kind_of};
+ghost use Rattle.legal_history.specs.Base.Catalogs.{named};
 ghost use Rattle.legal_history.specs.Base.Changes.{tree};
-ghost use Rattle.legal_history.specs.Base.Seen.{at, file_at, directory_at};
-ghost use Rattle.legal_history.specs.Base.Views.{view_row};
+ghost use Rattle.legal_history.specs.Base.Rows.{Base};
+ghost use Rattle.legal_history.specs.Base.Seen.{as_seen, at, below, directory_at, element_at, entries_by, entries_of, file_at, path_limit, private_or, selected};
+ghost use Rattle.legal_history.specs.Base.Views.{private};
+ghost use Rattle.view_lookup.specs.Entries.{catalog_in};
 ghost use Rattle.view_lookup.specs.Made.{kind_made};
-ghost use Rattle.view_lookup.specs.Roots.{StandsSoFar};
 
 use crate::bases::{FirstRows, row_at};
-use crate::views::private;
+use crate::catalogs::{Catalog, named_in};
+use crate::picks::pick;
+use crate::views::private_at;
 use cc_names::names::Name;
 use cc_names::paths::Path;
 use cc_names::rows::{Deed, Kind};
 use cc_names::selection::{Picked, Seen};
-
-// The root's version 0, by the second rule of the default config spec.
-const ROOT: Picked = Picked {
-    row: 0,
-    line: 2,
-    out: false,
-};
 
 /// The kind of the element that a row of this deed makes.
 fn kind_made(deed: &Deed) -> Option<Kind>
@@ -45,37 +42,120 @@ pub fn kind_of(rows: &FirstRows<'_>, element: u64) -> Option<Kind>
     kind_made(row.deed())
 }
 
-fn has_slash(bytes: &[u8]) -> bool
-    ensures { result ≡ list_any is_slash bytes.now }
+/// The place of the first slash.
+fn first_slash(bytes: &[u8]) -> Option<usize>
+    ensures place { result ≡ position is_slash bytes.now }
+    ensures within { IfSome result (λ place. place < length bytes.now) }
 {
-    bytes.iter().any(|byte| *byte == b'/')
+    bytes.iter().position(|byte| *byte == b'/')
 }
 
-/// What stands at a path in a view that there is. So far no row makes an element, so it is the root, picked by the second
-/// rule of the default config spec, or a private file below it, or nothing. Takes the time of `private`.
-pub fn at(rows: &FirstRows<'_>, view: &Name, path: &Path) -> Seen
-    requires { IsSome (view_row rows.now view.now) }
-    ensures seen { result ≡ at rows.now view.now path.now }
-    // No row makes an element so far.
-    ensures so_far { StandsSoFar path.now result }
+/// An element at the path of these bytes, with what the view selects of it. Takes the time of `pick`.
+fn seen_element(rows: &FirstRows<'_>, view: &Name, element: u64, path: &[u8]) -> Seen
+    ensures { result
+        ≡ as_seen element (selected rows.now view.now element (names_of path.now)) }
 {
-    rows.are_made();
-    if path.is_root() {
-        return Seen::Element(0, ROOT);
+    match pick(rows, view, element, path) {
+        Some(picked) => Seen::Element(element, picked),
+        None => Seen::Unselected(element),
     }
-    if has_slash(path.as_bytes()) {
-        return Seen::Nothing;
+}
+
+/// The catalog of an element of which a version is picked, where it is a directory.
+fn entries_by<'a>(
+    view: &'a Name,
+    element: u64,
+    picked: Picked,
+    kind: Option<Kind>,
+) -> Option<Catalog<'a>>
+    ensures { (b : Base)
+        → option_map (catalog_in b) result ≡ entries_by b view.now element picked kind }
+{
+    match kind {
+        Some(Kind::Directory) => {
+            if picked.out {
+                Some(Catalog::OfCheckout(view, element))
+            } else {
+                Some(Catalog::OfVersion(picked.row))
+            }
+        }
+        Some(Kind::File) => None,
+        None => None,
     }
-    match private(rows, view, path) {
-        Some(row) => Seen::Private(row),
+}
+
+/// The catalog of what stands somewhere, where it is a directory of which a version is selected.
+fn entries_of<'a>(rows: &FirstRows<'_>, view: &'a Name, seen: Seen) -> Option<Catalog<'a>>
+    ensures { option_map (catalog_in rows.now) result ≡ entries_of rows.now view.now seen }
+{
+    match seen {
+        Seen::Element(element, picked) => {
+            entries_by(view, element, picked, kind_of(rows, element))
+        }
+        Seen::Private(_) => None,
+        Seen::Unselected(_) => None,
+        Seen::Nothing => None,
+    }
+}
+
+/// What stands at the path of these bytes, which has this last name, where the directory above has this catalog.
+fn in_catalog(
+    rows: &FirstRows<'_>,
+    view: &Name,
+    path: &[u8],
+    name: &[u8],
+    catalog: Catalog<'_>,
+) -> Seen
+    ensures { result
+        ≡ private_or (private rows.now view.now path.now)
+        (element_at rows.now view.now (names_of path.now)
+        (named name.now (catalog_in rows.now catalog.entry))) }
+{
+    if let Some(row) = private_at(rows, view, path) {
+        return Seen::Private(row);
+    }
+    match named_in(rows, catalog, name) {
+        Some(element) => seen_element(rows, view, element, path),
         None => Seen::Nothing,
     }
 }
 
-/// The row that made the file that a view sees at a path, where there is one: so far a private file of the view. Takes the
-/// time of `at`.
+/// What stands at the path of these bytes, which has this last name, where `above` stands at the path of the other names.
+fn below(rows: &FirstRows<'_>, view: &Name, path: &[u8], name: &[u8], above: Seen) -> Seen
+    requires { length path.now ≤ path_limit }
+    ensures { result
+        ≡ below rows.now view.now (names_of path.now) name.now
+        (entries_of rows.now view.now above) }
+{
+    match entries_of(rows, view, above) {
+        Some(catalog) => in_catalog(rows, view, path, name, catalog),
+        None => Seen::Nothing,
+    }
+}
+
+/// What stands at a path in a view. Takes time linear in the bytes of the path, and for each of its names, where a directory
+/// stands above it, one look-up of a private file (`private`), one of the name in the directory's catalog (`named_by_version`)
+/// and one selection of a version (`pick`); no memory.
+pub fn at(rows: &FirstRows<'_>, view: &Name, path: &Path) -> Seen
+    ensures { result ≡ at rows.now view.now path.now }
+{
+    let mut seen = seen_element(rows, view, 0, b".");
+    if path.is_root() {
+        return seen;
+    }
+    let bytes = path.as_bytes();
+    let mut start = 0;
+    while let Some(length) = first_slash(&bytes[start..]) {
+        let end = start + length;
+        seen = below(rows, view, &bytes[..end], &bytes[start..end], seen);
+        start = end + 1;
+    }
+    below(rows, view, bytes, &bytes[start..], seen)
+}
+
+/// The row that made the text of the file that a view sees at a path, where there is one: of a private file, or of the version
+/// of an element that is selected. Takes the time of `at`.
 pub fn file_at(rows: &FirstRows<'_>, view: &Name, path: &Path) -> Option<u64>
-    requires { IsSome (view_row rows.now view.now) }
     ensures { result ≡ file_at rows.now view.now path.now }
 {
     match at(rows, view, path) {
@@ -90,9 +170,8 @@ pub fn file_at(rows: &FirstRows<'_>, view: &Name, path: &Path) -> Option<u64>
     }
 }
 
-/// Whether a view that there is sees a directory at a path. Takes the time of `at`.
+/// Whether a view sees a directory at a path. Takes the time of `at`.
 pub fn is_directory(rows: &FirstRows<'_>, view: &Name, path: &Path) -> bool
-    requires { IsSome (view_row rows.now view.now) }
     ensures { result ≡ is_some (directory_at rows.now view.now path.now) }
 {
     match at(rows, view, path) {

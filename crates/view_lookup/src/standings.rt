@@ -13,7 +13,7 @@ use cc_names::names::Name;
 use cc_names::rows::Deed;
 
 /// Whether a checkout stands in these rows.
-fn stands(rows: &FirstRows<'_>, taken: Taken<'_>) -> bool
+pub(crate) fn stands(rows: &FirstRows<'_>, taken: Taken<'_>) -> bool
     ensures { result ≡ stands rows.now (plain_taken taken.entry) }
 {
     match checked_out(rows, taken.view, taken.element) {

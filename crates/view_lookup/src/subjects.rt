@@ -1,15 +1,17 @@
 // What rows bear on, and the keys by which the rows are found.
 
-ghost use Rattle.std.specs.Prelude.{◌≡◌, ◌<◌, ◌≤◌, ◌^◌, ◌∷◌, [], IfSome, length, map, option_map, reverse};
+ghost use Rattle.std.specs.Prelude.{◌≡◌, ◌+◌, ◌<◌, ◌≤◌, ◌^◌, ◌∷◌, [], IfSome, length, map, option_map, reverse};
 ghost use Rattle.std.specs.List.{slice_get};
 ghost use Rattle.view_lookup.specs.Subjects as model;
 
-use crate::number_keys::{key_by_one, key_by_three, key_with, key_within};
+use crate::bases::FirstRows;
+use crate::number_keys::{key_by_one, key_by_paths, key_by_three, key_with, key_within};
 use crate::numbered::targets_of;
+use crate::trees::branch_of_version;
 use cc_names::keys::{key_at, key_of};
 use cc_names::names::Name;
 use cc_names::paths::Path;
-use cc_names::rows::{Deed, Row};
+use cc_names::rows::{Deed, Out, Row};
 use std::hash::RandomState;
 
 /// Something on which rows bear: they say what has become of it.
@@ -31,10 +33,16 @@ pub(crate) enum Subject<'a> {
     Saved(&'a Name, u64),
     /// A name in a directory.
     Entry(u64, &'a [u8]),
+    /// The reserved checkouts on a branch.
+    Reserved(u64),
     /// The type of a name.
     Named(&'a Name),
     /// An object.
     Living(u64),
+    /// The winks of an object.
+    Winked(u64),
+    /// The objects with these targets, in this order.
+    Pool(&'a [Path]),
     /// A merge into a version of an element from another one: the element, that one, and the version.
     Merge(u64, u64, u64),
 }
@@ -59,23 +67,58 @@ fn two<'a>(first: Subject<'a>, second: Subject<'a>, index: usize) -> Option<Subj
     }
 }
 
-fn three<'a>(
-    first: Subject<'a>,
-    second: Subject<'a>,
-    third: Subject<'a>,
+/// The branch that a checkout reserves.
+fn reserved_at<'a>(branch: Option<u64>, index: usize) -> Option<Subject<'a>>
+    ensures subject { option_map model.plain result
+        ≡ slice_get (model.reserved_subjects branch) index }
+    ensures within { IfSome result (λ _. index < 2 ^ 32) }
+{
+    match branch {
+        None => None,
+        Some(branch) => one(Subject::Reserved(branch), index),
+    }
+}
+
+/// What a checkout of an element by a view bears on.
+fn taken_at<'a>(
+    view: &'a Name,
+    element: u64,
+    branch: Option<u64>,
     index: usize,
 ) -> Option<Subject<'a>>
     ensures subject { option_map model.plain result
         ≡ slice_get
-        (model.plain first.entry ∷ model.plain second.entry ∷ model.plain third.entry ∷ [])
+        (model.Out view.now element ∷ model.Desk view.now ∷ model.reserved_subjects branch)
         index }
-    ensures within { IfSome result (λ _. index < 2 ^ 32) }
+    ensures within { IfSome result (λ _. index ≤ 2 ^ 33) }
 {
     match index {
-        0 => Some(first),
-        1 => Some(second),
-        2 => Some(third),
-        _ => None,
+        0 => Some(Subject::Out(view, element)),
+        1 => Some(Subject::Desk(view)),
+        _ => reserved_at(branch, index - 2),
+    }
+}
+
+/// What the making of an element in a directory bears on.
+fn element_at<'a>(
+    view: &'a Name,
+    number: u64,
+    entry: Subject<'a>,
+    branch: Option<u64>,
+    index: usize,
+) -> Option<Subject<'a>>
+    ensures subject { option_map model.plain result
+        ≡ slice_get
+        (model.Out view.now number ∷ model.Desk view.now ∷ model.plain entry.entry
+        ∷ model.reserved_subjects branch)
+        index }
+    ensures within { IfSome result (λ _. index ≤ 2 ^ 33) }
+{
+    match index {
+        0 => Some(Subject::Out(view, number)),
+        1 => Some(Subject::Desk(view)),
+        2 => Some(entry),
+        _ => reserved_at(branch, index - 3),
     }
 }
 
@@ -89,7 +132,7 @@ fn object_at<'a>(view: &'a Name, targets: &'a [Path], index: usize) -> Option<Su
     Some(Subject::Object(view, target))
 }
 
-/// The object that a row makes, and what the view holds at its targets from then on.
+/// The object that a row makes, the objects with its targets, and what the view holds there from then on.
 fn made_at<'a>(
     number: u64,
     view: &'a Name,
@@ -97,11 +140,31 @@ fn made_at<'a>(
     index: usize,
 ) -> Option<Subject<'a>>
     ensures subject { option_map model.plain result
-        ≡ slice_get (model.Living number ∷ map (model.Object view.now) targets.now) index }
+        ≡ slice_get
+        (model.Living number ∷ model.Pool targets.now ∷ map (model.Object view.now) targets.now)
+        index }
+    ensures within { IfSome result (λ _. index ≤ 2 ^ 63 + 1) }
+{
+    match index {
+        0 => Some(Subject::Living(number)),
+        1 => Some(Subject::Pool(targets)),
+        _ => object_at(view, targets, index - 2),
+    }
+}
+
+/// The winks of an object, and what the view holds at its targets from one of them on.
+fn winked_at<'a>(
+    object: u64,
+    view: &'a Name,
+    targets: &'a [Path],
+    index: usize,
+) -> Option<Subject<'a>>
+    ensures subject { option_map model.plain result
+        ≡ slice_get (model.Winked object ∷ map (model.Object view.now) targets.now) index }
     ensures within { IfSome result (λ _. index ≤ 2 ^ 63) }
 {
     match index.checked_sub(1) {
-        None => Some(Subject::Living(number)),
+        None => Some(Subject::Winked(object)),
         Some(behind) => object_at(view, targets, behind),
     }
 }
@@ -126,11 +189,37 @@ pub(crate) fn named_targets<'a>(rows: &'a [Row], deed: &Deed) -> &'a [Path]
     }
 }
 
-/// One of the things that a deed takes out, changes or gives back that makes the row of a number.
-fn desk_subject_at<'a>(number: u64, deed: &'a Deed, index: usize) -> Option<Subject<'a>>
+/// The branch that the next row's checkout reserves, where it is of this deed: that of its origin, a new one for a new element or
+/// branch. Takes time logarithmic in the changes of the trees.
+pub(crate) fn reserved_branch(rows: &FirstRows<'_>, deed: &Deed) -> Option<u64>
+    ensures { result ≡ model.reserved_branch rows.now deed.now }
+{
+    match deed {
+        Deed::Mkelem { out: true, .. } => Some(rows.size()),
+        Deed::Checkout {
+            origin,
+            reserved: true,
+            ..
+        } => branch_of_version(rows, *origin),
+        Deed::Branch {
+            out: Out::Reserved,
+            ..
+        } => Some(rows.size()),
+        _ => None,
+    }
+}
+
+/// One of the things that a deed takes out, changes or gives back that makes the row of a number, where its checkout reserves
+/// this branch.
+fn desk_subject_at<'a>(
+    number: u64,
+    branch: Option<u64>,
+    deed: &'a Deed,
+    index: usize,
+) -> Option<Subject<'a>>
     ensures subject { option_map model.plain result
-        ≡ slice_get (model.desk_subjects number deed.now) index }
-    ensures within { IfSome result (λ _. index < 2 ^ 32) }
+        ≡ slice_get (model.desk_subjects number branch deed.now) index }
+    ensures within { IfSome result (λ _. index ≤ 2 ^ 33) }
 {
     match deed {
         Deed::Mkelem {
@@ -138,18 +227,15 @@ fn desk_subject_at<'a>(number: u64, deed: &'a Deed, index: usize) -> Option<Subj
             directory,
             name,
             ..
-        } => three(
-            Subject::Out(view, number),
-            Subject::Desk(view),
+        } => element_at(
+            view,
+            number,
             Subject::Entry(*directory, name.as_bytes()),
+            branch,
             index,
         ),
-        Deed::Checkout { view, element, .. } => {
-            two(Subject::Out(view, *element), Subject::Desk(view), index)
-        }
-        Deed::Branch { view, element, .. } => {
-            two(Subject::Out(view, *element), Subject::Desk(view), index)
-        }
+        Deed::Checkout { view, element, .. } => taken_at(view, *element, branch, index),
+        Deed::Branch { view, element, .. } => taken_at(view, *element, branch, index),
         Deed::Save { view, element, .. } => one(Subject::Saved(view, *element), index),
         Deed::Checkin { view, element } => one(Subject::Out(view, *element), index),
         Deed::Uncheckout { view, element } => one(Subject::Out(view, *element), index),
@@ -173,16 +259,17 @@ fn desk_subject_at<'a>(number: u64, deed: &'a Deed, index: usize) -> Option<Subj
 }
 
 /// One of the objects of which a deed tells, or of the places where a view holds one, else what the deed takes out, where the
-/// object that it names has these targets.
+/// object that it names has these targets and its checkout reserves this branch.
 fn object_subject_at<'a>(
     number: u64,
     targets: &'a [Path],
+    branch: Option<u64>,
     deed: &'a Deed,
     index: usize,
 ) -> Option<Subject<'a>>
     ensures subject { option_map model.plain result
-        ≡ slice_get (model.object_subjects number targets.now deed.now) index }
-    ensures within { IfSome result (λ _. index ≤ 2 ^ 63) }
+        ≡ slice_get (model.object_subjects number targets.now branch deed.now) index }
+    ensures within { IfSome result (λ _. index ≤ 2 ^ 63 + 1) }
 {
     match deed {
         Deed::Publish {
@@ -190,24 +277,25 @@ fn object_subject_at<'a>(
             targets: own,
             ..
         } => made_at(number, view, own.as_slice(), index),
-        Deed::Wink { view, .. } => object_at(view, targets, index),
+        Deed::Wink { view, object } => winked_at(*object, view, targets, index),
         Deed::Drop { view, path } => one(Subject::Object(view, path), index),
         Deed::Scrub { objects } => living_at(objects.as_slice(), index),
-        _ => desk_subject_at(number, deed, index),
+        _ => desk_subject_at(number, branch, deed, index),
     }
 }
 
 /// One of the subjects on which a deed bears that makes the row of a number, in their order, where the object that it names
-/// has these targets. Takes constant time.
+/// has these targets and its checkout reserves this branch. Takes constant time.
 pub(crate) fn subject_at<'a>(
     number: u64,
     targets: &'a [Path],
+    branch: Option<u64>,
     deed: &'a Deed,
     index: usize,
 ) -> Option<Subject<'a>>
     ensures subject { option_map model.plain result
-        ≡ slice_get (model.subjects number targets.now deed.now) index }
-    ensures within { IfSome result (λ _. index ≤ 2 ^ 63) }
+        ≡ slice_get (model.subjects number targets.now branch deed.now) index }
+    ensures within { IfSome result (λ _. index ≤ 2 ^ 63 + 1) }
 {
     match deed {
         Deed::Mkview { view } => one(Subject::Life(view), index),
@@ -221,16 +309,22 @@ pub(crate) fn subject_at<'a>(
             tail,
             head,
         } => one(Subject::Merge(*element, *tail, *head), index),
-        _ => object_subject_at(number, targets, deed, index),
+        _ => object_subject_at(number, targets, branch, deed, index),
     }
 }
 
-/// How many subjects a deed bears on, where the object that it names has these targets. Takes time linear in them.
-pub(crate) fn count_subjects(number: u64, targets: &[Path], deed: &Deed) -> usize
-    ensures { result ≡ length (model.subjects number targets.now deed.now) }
+/// How many subjects a deed bears on, where the object that it names has these targets and its checkout reserves this branch.
+/// Takes time linear in them.
+pub(crate) fn count_subjects(
+    number: u64,
+    targets: &[Path],
+    branch: Option<u64>,
+    deed: &Deed,
+) -> usize
+    ensures { result ≡ length (model.subjects number targets.now branch deed.now) }
 {
     let mut count = 0;
-    while let Some(_subject) = subject_at(number, targets, deed, count) {
+    while let Some(_subject) = subject_at(number, targets, branch, deed, count) {
         count += 1;
     }
     count
@@ -254,8 +348,11 @@ impl Subject<'_> {
             Subject::Saved(view, element) => key_with(hashing, 6, element, view.as_bytes()),
             Subject::Named(name) => key_of(hashing, 7, name),
             Subject::Living(object) => key_by_one(hashing, 8, object),
+            Subject::Winked(object) => key_by_one(hashing, 13, object),
             Subject::Merge(element, tail, head) => key_by_three(hashing, 9, element, tail, head),
             Subject::Entry(directory, name) => key_with(hashing, 10, directory, name),
+            Subject::Reserved(branch) => key_by_one(hashing, 11, branch),
+            Subject::Pool(targets) => key_by_paths(hashing, 12, targets),
         }
     }
 }

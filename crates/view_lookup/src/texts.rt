@@ -1,10 +1,9 @@
 // The texts that rows made.
 
-ghost use Rattle.std.specs.Prelude.{◌≡◌, IsSome};
+ghost use Rattle.std.specs.Prelude.{◌≡◌};
 ghost use Rattle.std.specs.Option.{option_copied};
 ghost use Rattle.legal_history.specs.Builds.Fresh.{texts};
 ghost use Rattle.legal_history.specs.Base.Texts.{of_making, of_output, output_at, source_of, text};
-ghost use Rattle.legal_history.specs.Base.Views.{view_row};
 ghost use Rattle.view_lookup.specs.Made.{plain_source};
 
 use crate::bases::{FirstRows, first_rows, row_at};
@@ -95,10 +94,8 @@ pub fn text_of<'a>(rows: &FirstRows<'a>, row: u64, path: &Path) -> Option<&'a [u
     None
 }
 
-/// The text of the file that the view sees at the path. Takes the time of `file_at` and
-/// `text_of`.
+/// The text of the file that the view sees at the path. Takes the time of `file_at` and of `text_of`.
 pub fn text_at<'a>(rows: &FirstRows<'a>, view: &Name, path: &Path) -> Option<&'a [u8]>
-    requires { IsSome (view_row rows.now view.now) }
     ensures { option_copied result ≡ texts rows.now view.now path.now }
 {
     let row = file_at(rows, view, path)?;

@@ -1,12 +1,27 @@
 // What the trees of versions had at the first rows.
 
 ghost use Rattle.std.specs.Prelude.{◌≡◌};
-ghost use Rattle.cc_names.specs.Branches.{branch_named, branch_of_version, origin_of};
-ghost use Rattle.cc_names.specs.Versions.{latest, numbered};
+ghost use Rattle.std.specs.Option.{option_copied};
+ghost use Rattle.cc_names.specs.Branches.{branch_named, branch_of_version, name_of_branch, origin_of};
+ghost use Rattle.cc_names.specs.Versions.{is_number, latest, numbered, place};
 ghost use Rattle.legal_history.specs.Base.Changes.{tree};
+ghost use Rattle.legal_history.specs.Base.Checkouts.{is_latest, latest_beside};
+ghost use Rattle.legal_history.specs.Base.Closures.{is_version_of};
+ghost use Rattle.legal_history.specs.Base.Conditions.{has_branch};
 
 use crate::bases::FirstRows;
+use cc_names::changes::Place;
 use cc_names::names::Name;
+
+/// Whether there is a number, and it is this one.
+pub(crate) fn is_number(number: u64, found: Option<u64>) -> bool
+    ensures { result ≡ is_number number found }
+{
+    match found {
+        None => false,
+        Some(other) => number == other,
+    }
+}
 
 /// The branch on which a version stands. Takes time logarithmic in the changes.
 pub fn branch_of_version(rows: &FirstRows<'_>, version: u64) -> Option<u64>
@@ -53,4 +68,54 @@ pub fn branch_named(rows: &FirstRows<'_>, element: u64, name: &Name) -> Option<u
     ensures { result ≡ branch_named (tree rows.now) element name.now }
 {
     rows.tree().branch_named(element, name, rows.size())
+}
+/// Whether the element has a branch of the type. Takes the time of `branch_named`.
+pub fn has_branch(rows: &FirstRows<'_>, element: u64, name: &Name) -> bool
+    ensures { result ≡ has_branch rows.now element name.now }
+{
+    branch_named(rows, element, name).is_some()
+}
+
+/// Where the version that a row made stands: its element, its branch and its number there. Takes time logarithmic in the changes.
+pub fn place_of(rows: &FirstRows<'_>, version: u64) -> Option<Place>
+    ensures { result ≡ place (tree rows.now) version }
+{
+    rows.place(version)
+}
+
+/// The name of a branch; `main` has none of its own. Takes time logarithmic in the changes.
+pub fn name_of_branch<'a>(rows: &FirstRows<'a>, branch: u64) -> Option<&'a Name>
+    ensures { option_copied result ≡ name_of_branch (tree rows.now) branch }
+{
+    let trees = rows.tree();
+    if branch < rows.size() {
+        trees.name(branch)
+    } else {
+        None
+    }
+}
+
+/// Whether a row made a version of the element. Takes time logarithmic in the changes.
+pub fn is_version_of(rows: &FirstRows<'_>, element: u64, row: u64) -> bool
+    ensures { result ≡ is_version_of rows.now element row }
+{
+    match place_of(rows, row) {
+        None => false,
+        Some(place) => place.element == element,
+    }
+}
+
+/// The latest version of the branch on which a version stands. Takes the time of `latest_version`.
+pub fn latest_beside(rows: &FirstRows<'_>, version: u64) -> Option<u64>
+    ensures { result ≡ latest_beside rows.now version }
+{
+    let branch = branch_of_version(rows, version)?;
+    latest_version(rows, branch, None)
+}
+
+/// Whether a version is the latest of its branch. Takes the time of `latest_version`.
+pub fn is_latest(rows: &FirstRows<'_>, version: u64) -> bool
+    ensures { result ≡ is_latest rows.now version }
+{
+    is_number(version, latest_beside(rows, version))
 }

@@ -2,7 +2,7 @@
 
 ghost use Rattle.std.specs.Prelude.{◌≡◌};
 ghost use Rattle.legal_history.specs.Base.Changes.{kind_of_type};
-ghost use Rattle.legal_history.specs.Base.Conditions.{is_reserved_name, is_type_taken};
+ghost use Rattle.legal_history.specs.Base.Conditions.{is_branch_type, is_label_type, is_reserved_name, is_type_taken};
 
 use crate::bases::FirstRows;
 use crate::look_ups::{Does, LookUp, only_if};
@@ -65,4 +65,18 @@ pub fn is_type_taken(rows: &FirstRows<'_>, name: &Name) -> bool
     ensures { result ≡ is_type_taken rows.now name.now }
 {
     kind_of_type(rows, name).is_some() || is_reserved_name(name)
+}
+
+/// Whether a type of labels has this name. Takes the time of `kind_of_type`.
+pub fn is_label_type(rows: &FirstRows<'_>, name: &Name) -> bool
+    ensures { result ≡ is_label_type rows.now name.now }
+{
+    matches!(kind_of_type(rows, name), Some(TypeKind::Label))
+}
+
+/// Whether a type of branches has this name; `main` is none. Takes the time of `kind_of_type`.
+pub fn is_branch_type(rows: &FirstRows<'_>, name: &Name) -> bool
+    ensures { result ≡ is_branch_type rows.now name.now }
+{
+    matches!(kind_of_type(rows, name), Some(TypeKind::Branch))
 }

@@ -152,8 +152,8 @@ fn publish(
     publish_of(alloc, view, targets, no_reads(alloc), outputs)
 }
 
-fn add(base: &mut Rows, row: Row) -> Result<(), Fail> {
-    if !is_made(row.deed()) || !fits(&base.all(), &row) {
+fn add(alloc: Global, base: &mut Rows, row: Row) -> Result<(), Fail> {
+    if !is_made(row.deed()) || !fits(alloc, &base.all(), &row)? {
         return Err(Fail::new("a row that does not fit"));
     }
     base.reserve(row.deed())?;
@@ -178,7 +178,7 @@ fn row(alloc: Global, number: u64) -> Result<Row, Fail> {
 fn nine_rows(alloc: Global, hashing: RandomState) -> Result<Rows, Fail> {
     let mut base = Rows::new(alloc, hashing)?;
     for number in 1..10 {
-        add(&mut base, row(alloc, number)?)?;
+        add(alloc, &mut base, row(alloc, number)?)?;
     }
     Ok(base)
 }
@@ -347,7 +347,11 @@ fn a_view_fits_where_it_is_not(rt: HostRuntime) -> Result<(), Fail> {
     let rows = base.all();
     for (count, view, fit) in VIEWS_MADE {
         let row = mkview(alloc, view)?;
-        assert_eq!(rt; fits(&first_rows(&rows, count), &row), fit, "over {count}");
+        assert_eq!(rt;
+            fits(alloc, &first_rows(&rows, count), &row)?,
+            fit,
+            "over {count}"
+        );
     }
     Ok(())
 }
@@ -359,7 +363,11 @@ fn a_private_file_fits_in_a_view(rt: HostRuntime) -> Result<(), Fail> {
     let rows = base.all();
     for (count, view, path, fit) in FILES_PUT {
         let row = put(alloc, view, path, b"text")?;
-        assert_eq!(rt; fits(&first_rows(&rows, count), &row), fit, "over {count}");
+        assert_eq!(rt;
+            fits(alloc, &first_rows(&rows, count), &row)?,
+            fit,
+            "over {count}"
+        );
     }
     Ok(())
 }
@@ -372,7 +380,11 @@ fn an_object_fits_behind_what_it_read(rt: HostRuntime) -> Result<(), Fail> {
     for (count, view, path, source, fit) in OBJECTS_MADE {
         let read = one_read(alloc, path, source)?;
         let row = publish_of(alloc, view, [b"x", b"y"], read, [b"", b""])?;
-        assert_eq!(rt; fits(&first_rows(&rows, count), &row), fit, "over {count}");
+        assert_eq!(rt;
+            fits(alloc, &first_rows(&rows, count), &row)?,
+            fit,
+            "over {count}"
+        );
     }
     Ok(())
 }

@@ -41,6 +41,101 @@ clearmake v y
   y failed X1 Absent x
 status 1, 3 rows
 ====
+# nor one of the same build
+save v Makefile
+|all: x y
+|x:
+|\techo hi > x
+|y:
+|\tcat x > y
+clearmake v
+----
+2 save ok
+3 clearmake failed
+  x built 3 98ea6e4f216f2fb4b69fff9b3a44842c38686ca685f3f55dc48c5d3fb1107be4
+  y failed X1 Absent x
+  all blocked y
+status 1, 3 rows
+====
+# a phony target that is a file of the view
+save v all
+|hi
+save v Makefile
+|.PHONY: all
+|all: a
+|a:
+|\techo hi > a
+clearmake v
+----
+2 save ok
+3 save ok
+4 clearmake ok
+  a built 3 98ea6e4f216f2fb4b69fff9b3a44842c38686ca685f3f55dc48c5d3fb1107be4
+  all made
+status 0, 4 rows
+====
+# sixteen files inside each other: a further one that is absent, and one that is there
+save v Makefile
+|include m1
+save v m1
+|include m2
+save v m2
+|include m3
+save v m3
+|include m4
+save v m4
+|include m5
+save v m5
+|include m6
+save v m6
+|include m7
+save v m7
+|include m8
+save v m8
+|include m9
+save v m9
+|include m10
+save v m10
+|include m11
+save v m11
+|include m12
+save v m12
+|include m13
+save v m13
+|include m14
+save v m14
+|include m15
+save v m15
+|include m16
+save v m16
+|include none
+clearmake v
+save v m16
+|include Makefile
+clearmake v
+----
+2 save ok
+3 save ok
+4 save ok
+5 save ok
+6 save ok
+7 save ok
+8 save ok
+9 save ok
+10 save ok
+11 save ok
+12 save ok
+13 save ok
+14 save ok
+15 save ok
+16 save ok
+17 save ok
+18 save ok
+19 clearmake refused M1 MakeError m16 1 IncludeAbsent
+20 save ok
+21 clearmake refused M1 MakeError m16 1 IncludeDepth
+status 1, 19 rows
+====
 # a cycle
 save v Makefile
 |a: b
@@ -104,6 +199,7 @@ save v Makefile
 |\tcat in > x
 |\techo foo > y
 clearmake v
+clearmake v
 ----
 2 save ok
 3 save ok
@@ -111,7 +207,11 @@ clearmake v
   x built 3 98ea6e4f216f2fb4b69fff9b3a44842c38686ca685f3f55dc48c5d3fb1107be4
   y built 4 b5bb9d8014a0f9b1d61e21e796d78dccdf1352f23cd32812f4850b878ae4944c
   all made
-status 0, 4 rows
+5 clearmake ok
+  x built 3 98ea6e4f216f2fb4b69fff9b3a44842c38686ca685f3f55dc48c5d3fb1107be4
+  y built 4 b5bb9d8014a0f9b1d61e21e796d78dccdf1352f23cd32812f4850b878ae4944c
+  all made
+status 0, 5 rows
 ====
 # an included file has changed
 save v a.c

@@ -3,6 +3,7 @@ use Rattle.std.proofs.Common.{◌≡◌, ℕ, ◌≤◌, true, Some, Ok, Err, Li
 use Rattle.cc_names.specs.Counts.{rises}
 use Rattle.cc_names.specs.Formed.{Plain, IsFormed}
 use Rattle.cc_names.specs.declared.refusals.Refusal.{Refusal}
+use Rattle.cc_names.specs.declared.replies.Reply.{Reply}
 use Rattle.cc_names.specs.declared.replies.Reply.TheVariants as replies
 use Rattle.cc_names.specs.declared.rows.Tag.{Tag}
 use Rattle.cc_names.specs.declared.steps.Step.TheVariants as steps
@@ -17,18 +18,19 @@ use Rattle.base_core.specs.Keeping.Kept.{IsCoreKept}
 use Rattle.base_core.specs.Keeping.Lanes.{LaneKept, with_reply}
 use Rattle.base_core.specs.Logging.Logs.{Logged, with_row, with_step}
 use Rattle.base_core.specs.Story.Readable.{IsReadable}
-use Rattle.base_core.specs.Story.Replying.{in_lane, replies_of, reply_to_answer}
+use Rattle.base_core.specs.Story.Replying.{in_lane, replies_of, reply_to_answer, reply_to_row}
 use Rattle.base_core.proofs.Keeping.Idle.{decided_is_free}
 use Rattle.base_core.proofs.Keeping.KeptBuilds.{same_rows, more_rows}
 use Rattle.base_core.proofs.Keeping.KeptSteps.{kept_finished}
 
 -- what is kept after a commit
 kept_commit : (log : Logged) (lanes : List LaneKept) (now : ℕ) (row : Plain) (tick : ℕ) (sight : Sight) → rises (ticks_of (state_of log.story).opened (state_of log.story).ends) tick ≡ true → IsCoreKept log lanes now → FinishesCommand row.deed → row.moment ≡ now
-    → decided (state_of log.story) row.tag ≡ Some (Ok (Makes row.deed)) → 1 ≤ row.tag.lane → row.tag.lane ≤ length lanes → IsReadable row → IsCoreKept (with_row log row tick sight) (with_reply lanes row.tag.lane replies.Good) now
-kept_commit log lanes now row tick sight ticked h finishes in_time made low high readable =
+    → decided (state_of log.story) row.tag ≡ Some (Ok (Makes row.deed)) → 1 ≤ row.tag.lane → row.tag.lane ≤ length lanes → IsReadable row → (reply : Reply) → reply_to_row (row ∷ log.base) row.deed ≡ Some reply
+    → IsCoreKept (with_row log row tick sight) (with_reply lanes row.tag.lane reply) now
+kept_commit log lanes now row tick sight ticked h finishes in_time made low high readable reply replied =
     let s : State = state_of log.story in
     let x : Told = told.Commit row tick in
-    kept_finished log lanes now x (row ∷ log.base) sight row.tag replies.Good h low high
+    kept_finished log lanes now x (row ∷ log.base) sight row.tag reply h low high
     (record {
       lawful = record { may = record { moment = in_time ∙ sym h.phase.moment; made = finishes.made s row made }; ticked = ticked };
       names = readable;
@@ -40,7 +42,7 @@ kept_commit log lanes now row tick sight ticked h finishes in_time made low high
       rows = more_rows s (after s x) row refl;
       active = finishes.active s.base s.active row.tag.lane;
       done = finishes.done s.done row.tag.lane;
-      said = λ l. ap (λ r. replies_of log.story l ++ in_lane l row.tag r) (finishes.reply (row ∷ s.base));
+      said = λ l. ap (λ r. replies_of log.story l ++ in_lane l row.tag r) (ap (λ b. reply_to_row (row ∷ b) row.deed) h.story.base ∙ replied);
     })
 
 -- what is kept after a refusal
@@ -79,12 +81,13 @@ kept_answer log lanes now tag text h made reply low high =
 
 -- what is kept after the row of a lane's next command
 pub kept_next_row : (log : Logged) (lanes : List LaneKept) (now : ℕ) (story : List Told) (row : Plain) (lane tick : ℕ) (sight : Sight) → rises (ticks_of (state_of log.story).opened (state_of log.story).ends) tick ≡ true → log.story ≡ story → lane ≡ row.tag.lane → IsCoreKept log lanes now
-    → IsRowToCommit (state_of story) row → IsFormed row → IsCoreKept (with_row log row tick sight) (with_reply lanes lane replies.Good) now
-kept_next_row log lanes now story row lane tick sight ticked same at_lane h next formed =
+    → IsRowToCommit (state_of story) row → IsFormed row → (reply : Reply) → reply_to_row (row ∷ log.base) row.deed ≡ Some reply
+    → IsCoreKept (with_row log row tick sight) (with_reply lanes lane reply) now
+kept_next_row log lanes now story row lane tick sight ticked same at_lane h next formed reply replied =
     let here : IsRowToCommit (state_of log.story) row = subst (λ t. IsRowToCommit (state_of t) row) (sym same) next in
-    subst (λ l. IsCoreKept (with_row log row tick sight) (with_reply lanes l replies.Good) now) (sym at_lane)
+    subst (λ l. IsCoreKept (with_row log row tick sight) (with_reply lanes l reply) now) (sym at_lane)
     (kept_commit log lanes now row tick sight ticked h here.finishes (here.at_moment ∙ h.phase.moment) here.made here.of_next.from
-    (omega (arith, here.of_next.upto, h.replies.count)) (record { formed = formed; made = here.carried_out }))
+    (omega (arith, here.of_next.upto, h.replies.count)) (record { formed = formed; made = here.carried_out }) reply replied)
 
 -- what is kept after the refusal of a lane's next command
 pub kept_next_refusal : (log : Logged) (lanes : List LaneKept) (now : ℕ) (story : List Told) (tag : Tag) (refusal : Refusal) → log.story ≡ story → IsCoreKept log lanes now → IsNextRefusal (state_of story) tag refusal

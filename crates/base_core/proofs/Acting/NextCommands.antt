@@ -29,9 +29,6 @@ use Rattle.legal_history.specs.Stories.States.{State, scene, done_of, lane_at, c
 use Rattle.legal_history.specs.Stories.Steps.{state_of}
 use Rattle.legal_history.specs.Stories.Lawful.{Legal}
 use Rattle.base_core.specs.Calls.Acting.{AnswersNext, DecidesNext}
-use Rattle.base_core.specs.Keeping.Kept.{last_phase, IsCoreKept}
-use Rattle.base_core.specs.Keeping.Lanes.{LaneKept, replies_at}
-use Rattle.base_core.specs.Logging.Logs.{Logged}
 use Rattle.base_core.specs.Keeping.Nexts.{waiting}
 use Rattle.base_core.specs.Story.Replying.{reply_to_answer}
 use Rattle.base_core.proofs.Acting.Fitting.{may_fits}
@@ -66,7 +63,7 @@ decides_next story lane taken now command (Ok row) legal carried idle quiet free
     let within = in_phase s.phase lane (done_of s.done lane) command e in
     let made : decided s (next_tag s lane) ≡ Some (decision (scene s) command) = ap (option_map (decision (scene s))) (next_is s lane command free e) in
     let at_lane : row.tag.lane ≡ lane = ap (λ t. t.lane) decides.1 in
-    let finishes = command_finishes (scene s) command row.deed carried (ap₂ ◌||◌ idle quiet) decides.0 made_row in
+    let finishes = command_finishes (scene s) command row.deed carried (ap₂ ◌||◌ idle quiet) decides.0 in
     let row_made = ap (decided s) decides.1 ∙ made ∙ ap Some decides.0 in (
       record {
         of_next = record {
@@ -92,21 +89,6 @@ decides_next story lane taken now command (Err (Is refusal)) legal carried idle 
       of_next = record { next = refl; from = within.0; upto = within.1 };
       made = made ∙ ap Some decides;
     }
-
--- a lane's next command by the replies that are kept is that by the story
-pub waiting_kept : (log : Logged) (lanes : List LaneKept) (now lane : ℕ) → IsCoreKept log lanes now → option_and_then (command_behind (length (replies_at lanes lane))) (lane_at (last_phase log.phases) lane) ≡ waiting (state_of log.story) lane
-waiting_kept log lanes now zero h = refl
-waiting_kept log lanes now (suc n) h = ap (λ p. option_and_then (command_behind (length (replies_at lanes (suc n)))) (lane_at p (suc n))) (sym h.phase.phase) ∙ by (slice_get s.phase.lanes n) refl
-  where
-    s : State
-    s = state_of log.story
-
-    by : (found : Option Lane) → slice_get s.phase.lanes n ≡ found → option_and_then (command_behind (length (replies_at lanes (suc n)))) (slice_get s.phase.lanes n) ≡ option_and_then (command_behind (done_of s.done (suc n))) (slice_get s.phase.lanes n)
-    by None is = ap (option_and_then (command_behind (length (replies_at lanes (suc n))))) is ∙ sym (ap (option_and_then (command_behind (done_of s.done (suc n)))) is)
-    by (Some one) is =
-        let within = slice_get_within s.phase.lanes n one is in
-        let counted : length (replies_at lanes (suc n)) ≡ done_of s.done (suc n) = ap length (h.replies.replies (suc n) (omega arith) (omega (arith, within, h.replies.count))) ∙ sym (h.replies.done (suc n)) in
-        ap (λ k. option_and_then (command_behind k) (slice_get s.phase.lanes n)) counted
 
 -- what is decided of a lane's next command
 pub decided_so : (story : List Told) (lane : ℕ) (on : Occasion) (command : Command) (view : List ℕ) (rows : Base) (result : Result Plain (Or Refusal)) → Legal story → is_carried_out command ≡ true → builds command ≡ false → is_query command ≡ false → build_of (state_of story).active lane ≡ None

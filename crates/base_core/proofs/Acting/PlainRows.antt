@@ -1,21 +1,33 @@
 -- The rows that commands make which build nothing.
-use Rattle.std.proofs.Common.{◌≡◌, ℕ, ◌||◌, true, false, Option, Some, None, Ok, List, refl, ap, subst, ◌∙◌}
-use Rattle.carried_out.specs.CarriedOut.{is_carried_out, is_made}
+use Rattle.std.proofs.Common.{◌≡◌, ℕ, Bool, not, ◌||◌, true, false, Option, Some, None, Result, Ok, List, [], ◌∷◌, refl, subst}
+use Rattle.carried_out.specs.CarriedOut.{is_carried_out}
 use Rattle.legal_history.specs.Queries.QueryLines.{is_query}
 use Rattle.cc_names.specs.declared.commands.Command.{Command}
 use Rattle.cc_names.specs.declared.commands.Command.TheVariants as commands
 use Rattle.cc_names.specs.declared.refusals.Refusal.{Refusal}
 use Rattle.cc_names.specs.declared.rows.Deed.{Deed}
 use Rattle.cc_names.specs.declared.rows.Deed.TheVariants as deeds
+use Rattle.cc_names.specs.declared.rows.Kind.{Kind}
+use Rattle.cc_names.specs.declared.rows.Kind.TheVariants.{File, Directory}
+use Rattle.cc_names.specs.declared.rows.Out.{Out}
 use Rattle.cc_names.specs.declared.rows.TypeKind.{TypeKind}
 use Rattle.cc_names.specs.declared.rows.TypeKind.TheVariants as type_kinds
+use Rattle.cc_names.specs.declared.selection.Picked.{Picked}
 use Rattle.cc_names.specs.declared.selection.Seen.{Seen}
 use Rattle.cc_names.specs.declared.selection.Seen.TheVariants.{Private, Element, Unselected, Nothing}
 use Rattle.checkout_desk.specs.Commands.{builds}
-use Rattle.legal_history.specs.Commands.Decisions.{Scene, Makes, unless_refused}
-use Rattle.legal_history.specs.Commands.FileLines.{save_deed}
-use Rattle.legal_history.specs.Commands.Lines.{decision}
 use Rattle.legal_history.specs.Base.Seen.{at}
+use Rattle.legal_history.specs.Commands.CheckoutLines.{branch_by, checkin_of, checkin_tests, checkout_deed, checkout_of, checkout_tests, deciding_rule, mkbranch_of, mkbranch_tests, out_unless, uncheckout_of}
+use Rattle.legal_history.specs.Commands.CheckoutTests.{needs_out}
+use Rattle.legal_history.specs.Commands.Decisions.{Scene, Decision, Makes, past, unless_refused}
+use Rattle.legal_history.specs.Commands.DirectoryLines.{mkelem_in, mv_in, mv_tests, rmname_in, rmname_tests}
+use Rattle.legal_history.specs.Commands.FileLines.{last_name, save_deed}
+use Rattle.legal_history.specs.Commands.Found.{for_element, for_selected}
+use Rattle.legal_history.specs.Commands.LabelLines.{mklabel_of, mklabel_tests, rmlabel_of, rmlabel_tests}
+use Rattle.legal_history.specs.Commands.Lines.{decision}
+use Rattle.legal_history.specs.Commands.Tests.{needs_free_path, needs_idle, needs_view}
+use Rattle.legal_history.specs.Base.Views.{out}
+use Rattle.legal_history.proofs.Decisions.Handed.{IfDecided, change_is, element_is, past_is, row_is, selected_is}
 use Rattle.base_core.specs.Calls.Acting.{FinishesCommand}
 
 -- a decision that was not refused makes its deed
@@ -29,31 +41,128 @@ finishes_mkview v = record { reply = λ b. refl; done = λ done lane. refl; acti
 finishes_rmview : (v : List ℕ) → FinishesCommand (deeds.Rmview v)
 finishes_rmview v = record { reply = λ b. refl; done = λ done lane. refl; active = λ b active lane. refl; made = λ s row made. made }
 
+finishes_setcs : (v text : List ℕ) → FinishesCommand (deeds.Setcs v text)
+finishes_setcs v text = record { reply = λ b. refl; done = λ done lane. refl; active = λ b active lane. refl; made = λ s row made. made }
+
+finishes_mkelem : (v : List ℕ) (d : ℕ) (name : List ℕ) (kind : Kind) (taken : Bool) → FinishesCommand (deeds.Mkelem v d name kind taken)
+finishes_mkelem v d name kind taken = record { reply = λ b. refl; done = λ done lane. refl; active = λ b active lane. refl; made = λ s row made. made }
+
+finishes_branch : (v : List ℕ) (e origin : ℕ) (name : List ℕ) (taken : Out) → FinishesCommand (deeds.Branch v e origin name taken)
+finishes_branch v e origin name taken = record { reply = λ b. refl; done = λ done lane. refl; active = λ b active lane. refl; made = λ s row made. made }
+
 finishes_put : (v path text : List ℕ) → FinishesCommand (deeds.Put v path text)
 finishes_put v path text = record { reply = λ b. refl; done = λ done lane. refl; active = λ b active lane. refl; made = λ s row made. made }
+
+finishes_element : (v : List ℕ) (e : ℕ) (text : List ℕ) → FinishesCommand (deeds.Save v e text)
+finishes_element v e text = record { reply = λ b. refl; done = λ done lane. refl; active = λ b active lane. refl; made = λ s row made. made }
 
 finishes_rm : (v path : List ℕ) → FinishesCommand (deeds.Rm v path)
 finishes_rm v path = record { reply = λ b. refl; done = λ done lane. refl; active = λ b active lane. refl; made = λ s row made. made }
 
+finishes_checkin : (v : List ℕ) (e : ℕ) → FinishesCommand (deeds.Checkin v e)
+finishes_checkin v e = record { reply = λ b. refl; done = λ done lane. refl; active = λ b active lane. refl; made = λ s row made. made }
+
+finishes_uncheckout : (v : List ℕ) (e : ℕ) → FinishesCommand (deeds.Uncheckout v e)
+finishes_uncheckout v e = record { reply = λ b. refl; done = λ done lane. refl; active = λ b active lane. refl; made = λ s row made. made }
+
+finishes_rmname : (v : List ℕ) (d : ℕ) (name : List ℕ) → FinishesCommand (deeds.Rmname v d name)
+finishes_rmname v d name = record { reply = λ b. refl; done = λ done lane. refl; active = λ b active lane. refl; made = λ s row made. made }
+
+finishes_mv : (v : List ℕ) (d : ℕ) (from_name to_name : List ℕ) → FinishesCommand (deeds.Mv v d from_name to_name)
+finishes_mv v d from_name to_name = record { reply = λ b. refl; done = λ done lane. refl; active = λ b active lane. refl; made = λ s row made. made }
+
 finishes_mktype : (kind : TypeKind) (name : List ℕ) → FinishesCommand (deeds.Mktype kind name)
 finishes_mktype kind name = record { reply = λ b. refl; done = λ done lane. refl; active = λ b active lane. refl; made = λ s row made. made }
 
--- a save of a private file, where no other is made
-finishes_save : (v path text : List ℕ) (seen : Seen) → is_made (save_deed v path text seen) ≡ true → FinishesCommand (save_deed v path text seen)
-finishes_save v path text Nothing made = finishes_put v path text
-finishes_save v path text (Private row) made = finishes_put v path text
-finishes_save v path text (Element e picked) made = absurd (cc)
-finishes_save v path text (Unselected e) made = absurd (cc)
+finishes_label : (label : List ℕ) (e version : ℕ) → FinishesCommand (deeds.Label label e version)
+finishes_label label e version = record { reply = λ b. refl; done = λ done lane. refl; active = λ b active lane. refl; made = λ s row made. made }
+
+finishes_unlabel : (label : List ℕ) (e : ℕ) → FinishesCommand (deeds.Unlabel label e)
+finishes_unlabel label e = record { reply = λ b. refl; done = λ done lane. refl; active = λ b active lane. refl; made = λ s row made. made }
+
+-- a save of a private file, or of the view's checkout of an element
+finishes_save : (v path text : List ℕ) (seen : Seen) → FinishesCommand (save_deed v path text seen)
+finishes_save v path text Nothing = finishes_put v path text
+finishes_save v path text (Private row) = finishes_put v path text
+finishes_save v path text (Element e picked) = finishes_element v e text
+finishes_save v path text (Unselected e) = finishes_element v e text
+
+-- a checkout, or a new branch that is checked out
+finishes_checkout : (v : List ℕ) (unreserved : Bool) (e : ℕ) (picked : Picked) (branch : Option (List ℕ)) → FinishesCommand (checkout_deed v unreserved e picked branch)
+finishes_checkout v unreserved e picked None = record { reply = λ b. refl; done = λ done lane. refl; active = λ b active lane. refl; made = λ s row made. made }
+finishes_checkout v unreserved e picked (Some name) = record { reply = λ b. refl; done = λ done lane. refl; active = λ b active lane. refl; made = λ s row made. made }
+
+-- a decision finishes its command by the row that it makes, if it makes one
+abbrev Finishes : Decision → Type 0
+Finishes (Makes deed) = FinishesCommand deed
+Finishes decided = Unit {0}
+
+-- a new element finishes its command
+mkelem_finishes : (s : Scene) (v : List ℕ) (nco : Bool) (kind : Kind) (path : List ℕ) (d : ℕ) → IfDecided Finishes (mkelem_in s v nco kind path d)
+mkelem_finishes s v nco kind path d =
+    row_is Finishes s (needs_free_path s.base v path d (last_name path) ∷ []) (deeds.Mkelem v d (last_name path) kind (not nco))
+    (λ made. finishes_mkelem v d (last_name path) kind (not nco))
+
+rmname_finishes : (s : Scene) (v path : List ℕ) (d : ℕ) → IfDecided Finishes (rmname_in s v path d)
+rmname_finishes s v path d = row_is Finishes s (rmname_tests s v path d) (deeds.Rmname v d (last_name path)) (λ made. finishes_rmname v d (last_name path))
+
+mv_finishes : (s : Scene) (v path name : List ℕ) (d : ℕ) → IfDecided Finishes (mv_in s v path name d)
+mv_finishes s v path name d = row_is Finishes s (mv_tests s v path name d) (deeds.Mv v d (last_name path) name) (λ made. finishes_mv v d (last_name path) name)
+
+checkout_finishes : (s : Scene) (v : List ℕ) (unreserved : Bool) (e : ℕ) (picked : Picked) → IfDecided Finishes (checkout_of s v unreserved e picked)
+checkout_finishes s v unreserved e picked =
+    let rule = deciding_rule s.base v picked in
+    row_is Finishes s (checkout_tests s v unreserved e picked rule) (checkout_deed v unreserved e picked (branch_by rule))
+    (λ made. finishes_checkout v unreserved e picked (branch_by rule))
+
+mkbranch_finishes : (s : Scene) (v : List ℕ) (nco : Bool) (name : List ℕ) (e : ℕ) (picked : Picked) → IfDecided Finishes (mkbranch_of s v nco name e picked)
+mkbranch_finishes s v nco name e picked =
+    row_is Finishes s (mkbranch_tests s v name e) (deeds.Branch v e picked.row name (out_unless nco)) (λ made. finishes_branch v e picked.row name (out_unless nco))
+
+checkin_finishes : (s : Scene) (v : List ℕ) (identical : Bool) (path : List ℕ) (e : ℕ) → IfDecided Finishes (checkin_of s v identical path e)
+checkin_finishes s v identical path e = row_is Finishes s (checkin_tests s v identical path e) (deeds.Checkin v e) (λ made. finishes_checkin v e)
+
+uncheckout_finishes : (s : Scene) (v path : List ℕ) (e : ℕ) → IfDecided Finishes (uncheckout_of s v path e)
+uncheckout_finishes s v path e = row_is Finishes s (needs_out path (out s.base v e) ∷ []) (deeds.Uncheckout v e) (λ made. finishes_uncheckout v e)
+
+mklabel_finishes : (s : Scene) (v : List ℕ) (replace : Bool) (label : List ℕ) (e : ℕ) (picked : Picked) → IfDecided Finishes (mklabel_of s v replace label e picked)
+mklabel_finishes s v replace label e picked = row_is Finishes s (mklabel_tests s v replace label e picked) (deeds.Label label e picked.row) (λ made. finishes_label label e picked.row)
+
+rmlabel_finishes : (s : Scene) (label path : List ℕ) (e : ℕ) → IfDecided Finishes (rmlabel_of s label path e)
+rmlabel_finishes s label path e = row_is Finishes s (rmlabel_tests s label path e) (deeds.Unlabel label e) (λ made. finishes_unlabel label e)
+
+-- so do the rows of what is selected at a path, and of the element that stands there, past some tests
+for_selected_finishes : (tests : List (Option Refusal)) (path : List ℕ) (seen : Seen) (more : ℕ → Picked → Result Decision Refusal) → ((e : ℕ) (picked : Picked) → IfDecided Finishes (more e picked)) →
+    IfDecided Finishes (past tests (for_selected path seen more))
+for_selected_finishes tests path seen more so = past_is Finishes tests (for_selected path seen more) (λ pass. selected_is Finishes path seen more (λ e picked same. so e picked))
+
+for_element_finishes : (tests : List (Option Refusal)) (path : List ℕ) (seen : Seen) (more : ℕ → Result Decision Refusal) → ((e : ℕ) → IfDecided Finishes (more e)) → IfDecided Finishes (past tests (for_element path seen more))
+for_element_finishes tests path seen more so = past_is Finishes tests (for_element path seen more) (λ pass. element_is Finishes path seen more so)
 
 -- the row of a command that is carried out, and neither builds nor asks, finishes the command
-pub command_finishes : (s : Scene) (command : Command) (deed : Deed) → is_carried_out command ≡ true → (builds command || is_query command) ≡ false → decision s command ≡ Ok (Makes deed) → is_made deed ≡ true → FinishesCommand deed
-command_finishes s (commands.Mkview v) deed carried idle e made = subst FinishesCommand (same_deed _ (deeds.Mkview v) deed e) (finishes_mkview v)
-command_finishes s (commands.Rmview v force) deed carried idle e made = subst FinishesCommand (same_deed _ (deeds.Rmview v) deed e) (finishes_rmview v)
-command_finishes s (commands.Save v path text) deed carried idle e made =
-    let same : save_deed v path text (at s.base v path) ≡ deed = same_deed _ (save_deed v path text (at s.base v path)) deed e in
-    subst FinishesCommand same (finishes_save v path text (at s.base v path) (ap is_made same ∙ made))
-command_finishes s (commands.Rm v path) deed carried idle e made = subst FinishesCommand (same_deed _ (deeds.Rm v path) deed e) (finishes_rm v path)
-command_finishes s (commands.Mklbtype name) deed carried idle e made = subst FinishesCommand (same_deed _ (deeds.Mktype type_kinds.Label name) deed e) (finishes_mktype type_kinds.Label name)
-command_finishes s (commands.Mkbrtype name) deed carried idle e made = subst FinishesCommand (same_deed _ (deeds.Mktype type_kinds.Branch name) deed e) (finishes_mktype type_kinds.Branch name)
-command_finishes s (commands.Clearmake v file own_only rebuild jobs macros goals) deed carried idle e made = absurd (cc)
-command_finishes s command deed carried idle e made = absurd (cc)
+pub command_finishes : (s : Scene) (command : Command) (deed : Deed) → is_carried_out command ≡ true → (builds command || is_query command) ≡ false → decision s command ≡ Ok (Makes deed) → FinishesCommand deed
+command_finishes s (commands.Mkview v) deed carried idle e = subst FinishesCommand (same_deed _ (deeds.Mkview v) deed e) (finishes_mkview v)
+command_finishes s (commands.Rmview v force) deed carried idle e = subst FinishesCommand (same_deed _ (deeds.Rmview v) deed e) (finishes_rmview v)
+command_finishes s (commands.Setcs v text) deed carried idle e = subst FinishesCommand (same_deed _ (deeds.Setcs v text) deed e) (finishes_setcs v text)
+command_finishes s (commands.Mkelem v nco path) deed carried idle e = change_is Finishes s v path (mkelem_in s v nco File path) (λ d changes. mkelem_finishes s v nco File path d) (Makes deed) e
+command_finishes s (commands.Mkdir v nco path) deed carried idle e = change_is Finishes s v path (mkelem_in s v nco Directory path) (λ d changes. mkelem_finishes s v nco Directory path d) (Makes deed) e
+command_finishes s (commands.Checkout v unreserved path) deed carried idle e =
+    for_selected_finishes (needs_view s.base v ∷ needs_idle s v ∷ []) path (at s.base v path) (checkout_of s v unreserved) (checkout_finishes s v unreserved) (Makes deed) e
+command_finishes s (commands.Mkbranch v nco name path) deed carried idle e =
+    for_selected_finishes (needs_view s.base v ∷ needs_idle s v ∷ []) path (at s.base v path) (mkbranch_of s v nco name) (mkbranch_finishes s v nco name) (Makes deed) e
+command_finishes s (commands.Save v path text) deed carried idle e = subst FinishesCommand (same_deed _ (save_deed v path text (at s.base v path)) deed e) (finishes_save v path text (at s.base v path))
+command_finishes s (commands.Rm v path) deed carried idle e = subst FinishesCommand (same_deed _ (deeds.Rm v path) deed e) (finishes_rm v path)
+command_finishes s (commands.Checkin v identical path) deed carried idle e =
+    for_element_finishes (needs_view s.base v ∷ needs_idle s v ∷ []) path (at s.base v path) (checkin_of s v identical path) (checkin_finishes s v identical path) (Makes deed) e
+command_finishes s (commands.Uncheckout v path) deed carried idle e =
+    for_element_finishes (needs_view s.base v ∷ needs_idle s v ∷ []) path (at s.base v path) (uncheckout_of s v path) (uncheckout_finishes s v path) (Makes deed) e
+command_finishes s (commands.Rmname v path) deed carried idle e = change_is Finishes s v path (rmname_in s v path) (λ d changes. rmname_finishes s v path d) (Makes deed) e
+command_finishes s (commands.Mv v path name) deed carried idle e = change_is Finishes s v path (mv_in s v path name) (λ d changes. mv_finishes s v path name d) (Makes deed) e
+command_finishes s (commands.Mklbtype name) deed carried idle e = subst FinishesCommand (same_deed _ (deeds.Mktype type_kinds.Label name) deed e) (finishes_mktype type_kinds.Label name)
+command_finishes s (commands.Mkbrtype name) deed carried idle e = subst FinishesCommand (same_deed _ (deeds.Mktype type_kinds.Branch name) deed e) (finishes_mktype type_kinds.Branch name)
+command_finishes s (commands.Mklabel v replace label path) deed carried idle e =
+    for_selected_finishes (needs_view s.base v ∷ []) path (at s.base v path) (mklabel_of s v replace label) (mklabel_finishes s v replace label) (Makes deed) e
+command_finishes s (commands.Rmlabel v label path) deed carried idle e =
+    for_element_finishes (needs_view s.base v ∷ []) path (at s.base v path) (rmlabel_of s label path) (rmlabel_finishes s label path) (Makes deed) e
+command_finishes s (commands.Clearmake v file own_only rebuild jobs macros goals) deed carried idle e = absurd (cc)
+command_finishes s command deed carried idle e = absurd (cc)

@@ -1,5 +1,5 @@
 -- Payloads that spell no readable row that may come next.
-use Rattle.std.proofs.Common.{◌≡◌, true, false, List, ℕ, sym, ap, ◌∙◌}
+use Rattle.std.proofs.Common.{◌≡◌, Bool, true, false, ◌&&◌, List, ℕ, refl, sym, ap, ◌∙◌}
 use Rattle.carried_out.specs.CarriedOut.{is_made}
 use Rattle.cc_names.specs.Formed.{Plain, IsFormed}
 use Rattle.legal_history.specs.Base.Rows.{Base}
@@ -20,3 +20,11 @@ pub unmade_row : (b : Base) (payload : List ℕ) (row : Plain) → payload ≡ s
 unmade_row b payload row is formed unmade = λ other good spells fit.
     let same : row ≡ other = one_spelling row other formed good.formed (sym is ∙ spells) in
     let clash : true ≡ false = sym good.made ∙ ap (λ r. is_made r.deed) (sym same) ∙ unmade in cc
+
+-- a payload that spells a row which is not made yet, or does not fit, spells none that may follow
+pub unmade_or_unfit : (b : Base) (payload : List ℕ) (row : Plain) → payload ≡ spelled row → IsFormed row → (is_made row.deed && fits b row.deed) ≡ false → IsUnfit b payload
+unmade_or_unfit b payload row is formed misses = by (is_made row.deed) refl misses
+  where
+    by : (t : Bool) → is_made row.deed ≡ t → (t && fits b row.deed) ≡ false → IsUnfit b payload
+    by true made misfit = unfit_row b payload row is (record { formed = formed; made = made }) misfit
+    by false unmade misfit = unmade_row b payload row is formed unmade

@@ -1,5 +1,5 @@
 -- What a core keeps, and how the story went on, where the disk failed under a lane's build, which ends with that.
-use Rattle.std.proofs.Common.{◌≡◌, ℕ, ◌-◌, ◌≤◌, true, false, Bool, ◌||◌, Option, Some, None, List, [], ◌∷◌, ◌++◌, append_assoc, length, set, refl, ap, sym, subst, ◌∙◌, arith}
+use Rattle.std.proofs.Common.{◌≡◌, ℕ, ◌-◌, ◌≤◌, true, false, Bool, ◌||◌, Option, Some, None, List, [], ◌∷◌, ◌++◌, append_assoc, drop, length, set, refl, ap, sym, subst, ◌∙◌, arith}
 use Rattle.std.proofs.lemmas.List.{append-nil, set-set}
 use Rattle.std.specs.Ordering.{nat_cmp}
 use Rattle.std.specs.FinMap.Entries.{put}
@@ -25,7 +25,7 @@ use Rattle.base_core.specs.Calls.BuildCalls.{IsObjectRow}
 use Rattle.base_core.specs.Calls.Building.{IsBuildKept}
 use Rattle.base_core.specs.Calls.Going.{SamePhase, Finishes}
 use Rattle.base_core.specs.Keeping.Kept.{IsStoryKept, IsPhaseKept, AreReplies, AreBuilds, IsCoreKept}
-use Rattle.base_core.specs.Keeping.Lanes.{LaneKept, lane_kept, replies_at, builds_in, with_closed}
+use Rattle.base_core.specs.Keeping.Lanes.{LaneKept, lane_kept, commands_at, replies_at, builds_in, with_closed}
 use Rattle.base_core.specs.Logging.Logs.{Logged, with_step, with_step_on}
 use Rattle.base_core.specs.Story.Readable.{IsReadable}
 use Rattle.base_core.specs.Story.Replying.{in_lane, reply_to_fault, reply_to_end, replies_of}
@@ -68,9 +68,9 @@ kept_broken : (log : Logged) (lanes : List LaneKept) (now lane : ℕ) (build : B
 kept_broken log lanes now lane build row left before faults tick sight rose later leaves ticked h low high is tagged may readable = record {
   story = story_more failed end log.base sight told_fault (record { lawful = subst (λ t. EndsBuild t tag) (sym state1) ends; names = tt; leads = told_fault.base });
   phase = subst (λ t. IsPhaseKept t log.phases now) (sym state2) (phase_stays s (after s1 end) log.phases now h.phase same);
-  replies = replies_more story' end lanes tag replies.DiskFault (record (lane_kept lanes lane) { replies = replies_at lanes lane ++ replies.DiskFault ∷ []; build = None }) so_far low high
+  replies = replies_more story' end lanes tag replies.DiskFault (record (lane_kept lanes lane) { commands = drop 1 (commands_at lanes lane); replies = replies_at lanes lane ++ replies.DiskFault ∷ []; build = None }) so_far low high
       (λ l. ap (λ t. replies_of story' l ++ in_lane l tag (reply_to_end t.base (build_by t tag))) state1 ∙ ap (λ o. replies_of story' l ++ in_lane l tag (reply_to_end s.base o)) by_tag1)
-      refl refl refl refl;
+      refl refl refl refl refl;
   builds = subst (λ t. AreBuilds t (builds_in (with_closed lanes lane replies.DiskFault))) (sym state2)
       (builds_closed s (after s1 end) lanes lane replies.DiskFault h.builds low high same (same_rows s (after s1 end) refl) refl active);
 }

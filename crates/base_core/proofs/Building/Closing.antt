@@ -1,5 +1,5 @@
 -- What a core keeps after the end of a build.
-use Rattle.std.proofs.Common.{◌≡◌, ◌≢◌, ℕ, ◌-◌, ◌≤◌, true, ◌||◌, Option, Some, None, List, [], ◌∷◌, ◌++◌, length, set, refl, ap, sym, subst, ◌∙◌, arith}
+use Rattle.std.proofs.Common.{◌≡◌, ◌≢◌, ℕ, ◌-◌, ◌≤◌, true, ◌||◌, Option, Some, None, List, [], ◌∷◌, ◌++◌, drop, length, set, refl, ap, sym, subst, ◌∙◌, arith}
 use Rattle.std.specs.Prelude.{if◌then◌else◌}
 use Rattle.cc_names.specs.declared.replies.Reply.{Reply}
 use Rattle.cc_names.specs.declared.replies.Reply.TheVariants as replies
@@ -18,7 +18,7 @@ use Rattle.legal_history.specs.Builds.Turns.{is_complete}
 use Rattle.base_core.specs.Calls.Building.{IsBuildKept}
 use Rattle.base_core.specs.Calls.Going.{SamePhase}
 use Rattle.base_core.specs.Keeping.Kept.{AreBuilds, IsPhaseKept, IsCoreKept}
-use Rattle.base_core.specs.Keeping.Lanes.{LaneKept, lane_kept, replies_at, builds_in, with_closed}
+use Rattle.base_core.specs.Keeping.Lanes.{LaneKept, lane_kept, commands_at, replies_at, builds_in, with_closed}
 use Rattle.base_core.specs.Logging.Logs.{Logged, with_step}
 use Rattle.base_core.specs.Story.Replying.{in_lane, reply_to_end, replies_of}
 use Rattle.base_core.proofs.Story.Growing.{state_from-more}
@@ -41,7 +41,7 @@ build_is_by s lane build is tag =
 pub builds_closed : (s t : State) (lanes : List LaneKept) (lane : ℕ) (reply : Reply) → AreBuilds s (builds_in lanes) → 1 ≤ lane → lane ≤ length lanes → SamePhase s t → KeepsRows s t → t.done ≡ with_done s.done lane → t.active ≡ numbered 1 (set (builds_in lanes) (lane - 1) None)
     → AreBuilds t (builds_in (with_closed lanes lane reply))
 builds_closed s t lanes lane reply h low high same rows done active =
-    subst (AreBuilds t) (sym (builds_set lanes (lane - 1) (record (lane_kept lanes lane) { replies = replies_at lanes lane ++ reply ∷ []; build = None })))
+    subst (AreBuilds t) (sym (builds_set lanes (lane - 1) (record (lane_kept lanes lane) { commands = drop 1 (commands_at lanes lane); replies = replies_at lanes lane ++ reply ∷ []; build = None })))
     (builds_put s t (builds_in lanes) lane None h low (omega (arith, high, builds_count lanes)) same rows (λ other differs. ap (λ d. done_of d other) done ∙ done_other s.done lane other differs) active (λ one e. absurd (cc))
     (omega (arith, h.reserves)))
 
@@ -51,7 +51,7 @@ pub kept_end : (log : Logged) (lanes : List LaneKept) (now lane : ℕ) (build : 
 kept_end log lanes now lane build h low high is over = record {
   story = story_more log x log.base log.sight h.story (record { lawful = record { build = build; active = by_tag; over = ap (λ b. b || build.faulted) over }; names = tt; leads = h.story.base });
   phase = subst (λ t. IsPhaseKept t log.phases now) (sym more) (phase_stays s (after s x) log.phases now h.phase same);
-  replies = replies_more log.story x lanes tag reply (record (lane_kept lanes lane) { replies = replies_at lanes lane ++ reply ∷ []; build = None }) h.replies low high (λ l. ap (λ r. replies_of log.story l ++ in_lane l tag r) replied) refl refl refl refl;
+  replies = replies_more log.story x lanes tag reply (record (lane_kept lanes lane) { commands = drop 1 (commands_at lanes lane); replies = replies_at lanes lane ++ reply ∷ []; build = None }) h.replies low high (λ l. ap (λ r. replies_of log.story l ++ in_lane l tag r) replied) refl refl refl refl refl;
   builds = subst (λ t. AreBuilds t (builds_in (with_closed lanes lane reply))) (sym more)
       (builds_closed s (after s x) lanes lane reply h.builds low high same (same_rows s (after s x) refl) refl (ap (λ a. without_build a lane) h.builds.active ∙ without_numbered lane 1 (lane - 1) (builds_in lanes) (omega arith)));
 }

@@ -1,7 +1,7 @@
 -- What a core keeps after the begin of a phase.
-use Rattle.std.proofs.Common.{◌≡◌, ℕ, zero, suc, ◌+◌, ◌-◌, ◌<◌, ◌≤◌, ◌^◌, true, Option, Some, None, List, [], ◌∷◌, ◌++◌, get_or, length, length-append, refl, ap, sym, subst, ◌∙◌, arith}
+use Rattle.std.proofs.Common.{◌≡◌, ℕ, zero, suc, ◌+◌, ◌-◌, ◌<◌, ◌≤◌, ◌^◌, true, Option, Some, None, List, [], ◌∷◌, ◌++◌, append_assoc, drop, get_or, length, length-append, refl, ap, sym, subst, ◌∙◌, arith}
 use Rattle.std.proofs.lemmas.List.{length-map}
-use Rattle.std.specs.Prelude.{slice_get}
+use Rattle.std.specs.Prelude.{MatchOption, slice_get}
 use Rattle.cc_names.specs.declared.commands.Lane.{Lane}
 use Rattle.cc_names.specs.declared.commands.Phase.{Phase}
 use Rattle.cc_names.specs.declared.steps.Told.{Told}
@@ -14,7 +14,7 @@ use Rattle.legal_history.specs.Stories.Lawful.{last_moment}
 use Rattle.legal_history.specs.Stories.States.{State, start, all_done, done_of, lane_at}
 use Rattle.legal_history.specs.Stories.Steps.{after, state_of}
 use Rattle.base_core.specs.Keeping.Kept.{last_phase, command_limit, IsStoryKept, IsPhaseKept, AreReplies, AreBuilds, IsCoreKept}
-use Rattle.base_core.specs.Keeping.Lanes.{LaneKept, no_lane, builds_in, fresh_lanes, replies_at, room_at}
+use Rattle.base_core.specs.Keeping.Lanes.{LaneKept, no_lane, builds_in, begun_lane, fresh_lanes, commands_at, replies_at, room_at}
 use Rattle.base_core.specs.Logging.Logs.{Logged, with_phase}
 use Rattle.base_core.specs.Story.Replying.{no_replies}
 use Rattle.base_core.proofs.Story.Growing.{state_from-more, replies_from-more}
@@ -22,6 +22,12 @@ use Rattle.base_core.proofs.Keeping.Idle.{nobody_builds, some_same}
 use Rattle.base_core.proofs.Keeping.KeptSteps.{log_more, story_more}
 use Rattle.base_core.proofs.Keeping.LaneSets.{builds_count}
 use Rattle.base_core.proofs.Keeping.Phases.{last_phase-more}
+
+-- fresh lanes have all their commands
+fresh_commands : (lanes : List Lane) (i : ℕ) (one : Lane) → slice_get lanes i ≡ Some one → (get_or (fresh_lanes lanes) i no_lane).commands ≡ one.commands
+fresh_commands [] i one is = absurd (cc)
+fresh_commands (lane ∷ lanes) zero one is = ap (λ l. l.commands) (some_same lane one is)
+fresh_commands (lane ∷ lanes) (suc i) one is = fresh_commands lanes i one is
 
 -- fresh lanes have no replies and no builds, and room for a reply to each command
 fresh_replies : (lanes : List Lane) (i : ℕ) → (get_or (fresh_lanes lanes) i no_lane).replies ≡ []
@@ -39,6 +45,12 @@ room_of_lane phase zero one is = absurd (cc)
 room_of_lane phase (suc n) one is =
     let here : suc n - 1 ≡ n = omega arith in
     subst (λ i. length one.commands ≤ (get_or (fresh_lanes phase.lanes) i no_lane).room) (sym here) (fresh_room phase.lanes n one is)
+
+left_of_lane : (phase : Phase) (lane : ℕ) (one : Lane) → lane_at phase lane ≡ Some one → commands_at (fresh_lanes phase.lanes) lane ≡ one.commands
+left_of_lane phase zero one is = absurd (cc)
+left_of_lane phase (suc n) one is =
+    let here : suc n - 1 ≡ n = omega arith in
+    subst (λ i. (get_or (fresh_lanes phase.lanes) i no_lane).commands ≡ one.commands) (sym here) (fresh_commands phase.lanes n one is)
 
 fresh_builds : (k : ℕ) (lanes : List Lane) → numbered k (builds_in (fresh_lanes lanes)) ≡ []
 fresh_builds k [] = refl
@@ -68,6 +80,7 @@ kept_plan log lanes now moment phase h finished formed carried few in_time = rec
     replies = λ lane low high. fresh_replies phase.lanes (lane - 1) ∙ sym (ap (λ f. f lane) (replies_from-more start no_replies log.story x));
     done = λ lane. ap (λ t. done_of t.done lane) more ∙ sym (ap (λ f. length (f lane)) (replies_from-more start no_replies log.story x));
     room = λ lane one is. room_of_lane phase lane one (ap (λ t. lane_at t.phase lane) (sym more) ∙ is);
+    left = λ lane one is. left_of_lane phase lane one (ap (λ t. lane_at t.phase lane) (sym more) ∙ is) ∙ ap (λ k. drop k one.commands) (sym (ap (λ t. done_of t.done lane) more));
   };
   builds = subst (λ t. AreBuilds t (builds_in (fresh_lanes phase.lanes))) (sym more) (record {
     count = builds_count (fresh_lanes phase.lanes) ∙ fresh_count;
@@ -97,3 +110,13 @@ kept_plan log lanes now moment phase h finished formed carried few in_time = rec
 
     told_phase : IsStoryKept (log_more log x log.base log.sight)
     told_phase = story_more log x log.base log.sight h.story (record { lawful = record { opened = h.story.opened; finished = finished; in_time = in_time }; names = tt; leads = h.story.base })
+
+-- the next of the lanes that are left
+pub next_lane : (found : Option Lane) (lane : Lane) (old new : List Lane) → MatchOption found ((old ≡ []) × (new ≡ [])) (λ one. old ≡ one ∷ new) → found ≡ Some lane → old ≡ lane ∷ new
+next_lane None lane old new h e = absurd (cc)
+next_lane (Some one) lane old new h e = let same : one ≡ lane = cc in h ∙ ap (λ l. l ∷ new) same
+
+-- one more lane begins
+pub more_lanes : (all : List Lane) (front : List LaneKept) (lane : Lane) (left before : List Lane) (kept : LaneKept) → fresh_lanes all ≡ front ++ fresh_lanes before → before ≡ lane ∷ left → kept ≡ begun_lane lane → fresh_lanes all ≡ (front ++ kept ∷ []) ++ fresh_lanes left
+more_lanes all front lane left before kept h e is =
+    h ∙ ap (λ v. front ++ fresh_lanes v) e ∙ ap (λ k. front ++ k ∷ fresh_lanes left) (sym is) ∙ sym (append_assoc front (kept ∷ []) (fresh_lanes left))

@@ -1,5 +1,5 @@
 -- What a core keeps after one more step of its story: one lemma for each kind of step.
-use Rattle.std.proofs.Common.{◌≡◌, ◌≢◌, ℕ, ◌+◌, ◌-◌, ◌≤◌, true, Option, Some, None, List, [], ◌∷◌, ◌++◌, length, set, refl, ap, sym, subst, ◌∙◌, arith}
+use Rattle.std.proofs.Common.{◌≡◌, ◌≢◌, ℕ, ◌+◌, ◌-◌, ◌≤◌, true, Option, Some, None, List, [], ◌∷◌, ◌++◌, drop, length, set, refl, ap, sym, subst, ◌∙◌, arith}
 use Rattle.std.specs.FinMap.Entries.{put}
 use Rattle.std.specs.Ordering.{nat_cmp}
 use Rattle.std.specs.Prelude.{is_some}
@@ -21,7 +21,7 @@ use Rattle.legal_history.specs.Stories.Steps.{after, state_of}
 use Rattle.base_core.specs.Calls.Building.{IsBuildKept}
 use Rattle.base_core.specs.Calls.Going.{SamePhase}
 use Rattle.base_core.specs.Keeping.Kept.{IsStoryKept, IsPhaseKept, AreBuilds, IsCoreKept}
-use Rattle.base_core.specs.Keeping.Lanes.{LaneKept, lane_kept, replies_at, builds_in, with_reply, put_build}
+use Rattle.base_core.specs.Keeping.Lanes.{LaneKept, lane_kept, commands_at, replies_at, builds_in, with_reply, put_build}
 use Rattle.base_core.specs.Logging.Logs.{Logged}
 use Rattle.base_core.specs.Story.Readable.{IsReadable, NamesOnly, TellsOnly}
 use Rattle.base_core.specs.Story.Replying.{in_lane, replies_after, replies_of}
@@ -87,7 +87,7 @@ pub kept_finished : (log : Logged) (lanes : List LaneKept) (now : ℕ) (x : Told
 kept_finished log lanes now x base sight tag reply h low high may finishes = record {
   story = story_more log x base sight h.story may;
   phase = subst (λ t. IsPhaseKept t log.phases now) (sym more) (phase_stays s (after s x) log.phases now h.phase finishes.same);
-  replies = replies_more log.story x lanes tag reply kept h.replies low high finishes.said finishes.done finishes.same.phase refl refl;
+  replies = replies_more log.story x lanes tag reply kept h.replies low high finishes.said finishes.done finishes.same.phase refl refl refl;
   builds = subst (AreBuilds (state_of (log.story ++ x ∷ []))) (sym (builds_same lanes (tag.lane - 1) kept refl))
       (subst (λ t. AreBuilds t (builds_in lanes)) (sym more) (builds_stay s (after s x) (builds_in lanes) h.builds finishes.same finishes.rows finishes.active still));
 }
@@ -96,7 +96,7 @@ kept_finished log lanes now x base sight tag reply h low high may finishes = rec
     s = state_of log.story
 
     kept : LaneKept
-    kept = record (lane_kept lanes tag.lane) { replies = replies_at lanes tag.lane ++ reply ∷ [] }
+    kept = record (lane_kept lanes tag.lane) { commands = drop 1 (commands_at lanes tag.lane); replies = replies_at lanes tag.lane ++ reply ∷ [] }
 
     more : state_of (log.story ++ x ∷ []) ≡ after s x
     more = state_from-more start log.story x
@@ -119,7 +119,7 @@ pub kept_put : (log : Logged) (lanes : List LaneKept) (now : ℕ) (x : Told) (ba
 kept_put log lanes now x base sight lane build h low high may puts = record {
   story = story_more log x base sight h.story may;
   phase = subst (λ t. IsPhaseKept t log.phases now) (sym more) (phase_stays s (after s x) log.phases now h.phase puts.same);
-  replies = replies_stay log.story x lanes (put_build lanes lane (Some build)) h.replies (same_where_set lanes lane kept low high refl refl) puts.said puts.done puts.same.phase;
+  replies = replies_stay log.story x lanes (put_build lanes lane (Some build)) h.replies (same_where_set lanes lane kept low high refl refl refl) puts.said puts.done puts.same.phase;
   builds = subst (AreBuilds (state_of (log.story ++ x ∷ []))) (sym (builds_set lanes (lane - 1) kept))
       (subst (λ t. AreBuilds t (set (builds_in lanes) (lane - 1) (Some build))) (sym more)
       (builds_put s (after s x) (builds_in lanes) lane (Some build) h.builds low within puts.same puts.rows (λ other differs. ap (λ d. done_of d other) puts.done) active there

@@ -4,6 +4,7 @@ use Rattle.std.proofs.lemmas.List.{get_or-set_same, get_or-set_other, length-map
 use Rattle.build_core.specs.Slots.{numbered, held_in}
 use Rattle.build_core.specs.SlotLaws.{find_numbered}
 use Rattle.legal_history.specs.Builds.Active.{Build, build_of}
+use Rattle.cc_names.specs.declared.commands.Command.{Command}
 use Rattle.cc_names.specs.declared.replies.Reply.{Reply}
 use Rattle.base_core.specs.Keeping.Lanes.{LaneKept, no_lane, lane_kept, builds_in, put_build}
 use Rattle.base_core.proofs.Keeping.LaneCounts.{one_or_two}
@@ -52,17 +53,18 @@ there [] i d e h = absurd (omega arith)
 there (lane ∷ lanes) zero d e h = refl
 there (lane ∷ lanes) (suc i) d e h = there lanes i d e (omega arith)
 
-abbrev lane_of : List Reply → ℕ → Option Build → LaneKept
-lane_of replies room build = record { replies = replies; room = room; build = build }
+abbrev lane_of : List Command → List Reply → ℕ → Option Build → LaneKept
+lane_of commands replies room build = record { commands = commands; replies = replies; room = room; build = build }
 
 -- a lane that differs from the one at its place in its build alone, put in its place
 pub put_is : (lanes : List LaneKept) (lane : ℕ) (found new : LaneKept) (build : Option Build) → 1 ≤ lane → lane ≤ length lanes → found ≡ get_or lanes (lane - 1) found
-    → new.replies ≡ found.replies → new.room ≡ found.room → new.build ≡ build → set lanes (lane - 1) new ≡ put_build lanes lane build
-put_is lanes lane found new build low high is replies room held =
+    → new.commands ≡ found.commands → new.replies ≡ found.replies → new.room ≡ found.room → new.build ≡ build → set lanes (lane - 1) new ≡ put_build lanes lane build
+put_is lanes lane found new build low high is commands replies room held =
     ap (set lanes (lane - 1))
-    (ap (λ r. lane_of r new.room new.build) (replies ∙ ap (λ l. l.replies) same)
-    ∙ ap (λ r. lane_of (lane_kept lanes lane).replies r new.build) (room ∙ ap (λ l. l.room) same)
-    ∙ ap (lane_of (lane_kept lanes lane).replies (lane_kept lanes lane).room) held)
+    (ap (λ r. lane_of r new.replies new.room new.build) (commands ∙ ap (λ l. l.commands) same)
+    ∙ ap (λ r. lane_of (lane_kept lanes lane).commands r new.room new.build) (replies ∙ ap (λ l. l.replies) same)
+    ∙ ap (λ r. lane_of (lane_kept lanes lane).commands (lane_kept lanes lane).replies r new.build) (room ∙ ap (λ l. l.room) same)
+    ∙ ap (lane_of (lane_kept lanes lane).commands (lane_kept lanes lane).replies (lane_kept lanes lane).room) held)
   where
     same : found ≡ lane_kept lanes lane
     same = is ∙ there lanes (lane - 1) found no_lane (omega arith)

@@ -20,7 +20,8 @@ use Rattle.legal_history.specs.Commands.Decisions.{Makes, Answers}
 use Rattle.legal_history.specs.Base.Fits.{fits}
 use Rattle.legal_history.specs.Stories.States.{State, decided, next_command, next_tag, with_done}
 use Rattle.legal_history.specs.Stories.Steps.{state_of, active_after, done_after}
-use Rattle.base_core.specs.Story.Replying.{reply_to_row, reply_to_answer}
+use Rattle.cleartool.specs.Naming.{name_told}
+use Rattle.base_core.specs.Story.Replying.{reply_to_row, reply_to_answer, row_reply}
 
 -- A step by which a command of this tag is finished, by its kind: the row that was decided, committed at the moment of the
 -- phase; the refusal or the answer that was decided; or the fault of the disk under the row that was decided.
@@ -43,9 +44,9 @@ pub record IsNextTag (s : State) (tag : Tag) : Type 0 where
   pub from : 1 ≤ tag.lane
   pub upto : tag.lane ≤ length s.phase.lanes
 
--- A row of this deed is of no build: its command makes it and is finished by it, and is replied that all is well.
+-- A row of this deed is of no build: its command makes it and is finished by it, with a reply.
 pub record FinishesCommand (deed : Deed) : Type 0 where
-  pub reply : (b : Base) → reply_to_row b deed ≡ Some replies.Good
+  pub reply : (b : Base) → reply_to_row b deed ≡ Some (row_reply (name_told b deed))
   pub done : (done : List (ℕ × ℕ)) (lane : ℕ) → done_after done lane deed ≡ with_done done lane
   pub active : (b : Base) (active : Active) (lane : ℕ) → active_after b active lane deed ≡ active
   pub made : (s : State) (row : Plain) → decided s row.tag ≡ Some (Ok (Makes row.deed)) → MakesRow s row deed

@@ -1,5 +1,5 @@
 -- What a core keeps: its story is legal, and its rows, its phases and what it keeps for its lanes are those of the story.
-use Rattle.std.specs.Prelude.{◌≡◌, ℕ, ◌<◌, ◌≤◌, ◌^◌, true, Option, Some, is_some, List, [], ◌∷◌, length}
+use Rattle.std.specs.Prelude.{◌≡◌, ℕ, ◌<◌, ◌≤◌, ◌^◌, true, Option, Some, is_some, List, [], ◌∷◌, drop, length}
 use Rattle.carried_out.specs.CarriedOut.{AreCarriedOut}
 use Rattle.cc_names.specs.declared.commands.Lane.{Lane}
 use Rattle.cc_names.specs.declared.commands.Phase.{Phase}
@@ -12,7 +12,7 @@ use Rattle.legal_history.specs.Stories.States.{State, done_of, lane_at}
 use Rattle.legal_history.specs.Stories.Steps.{state_of}
 use Rattle.legal_history.specs.Stories.Lawful.{Legal, last_moment}
 use Rattle.base_core.specs.Calls.Building.{IsBuildKept}
-use Rattle.base_core.specs.Keeping.Lanes.{LaneKept, builds_in, replies_at, room_at}
+use Rattle.base_core.specs.Keeping.Lanes.{LaneKept, builds_in, commands_at, replies_at, room_at}
 use Rattle.base_core.specs.Logging.Logs.{Logged}
 use Rattle.base_core.specs.Story.Readable.{IsReadable, TellsOnly}
 use Rattle.base_core.specs.Story.Replying.{replies_of}
@@ -44,13 +44,14 @@ pub record IsPhaseKept (s : State) (phases : List Phase) (now : ℕ) : Type 0 wh
   pub few : length phases < 2 ^ 32
   pub in_time : now ≤ last_moment
 
--- The replies kept for the lanes are those of the story, one for each finished command, and there is room for one to each
--- command.
+-- The commands kept for the lanes are those that are not finished, the replies are those of the story, one for each finished
+-- command, and there is room for one to each command.
 pub record AreReplies (story : List Told) (lanes : List LaneKept) : Type 0 where
   pub count : length lanes ≡ length (state_of story).phase.lanes
   pub replies : (lane : ℕ) → 1 ≤ lane → lane ≤ length lanes → replies_at lanes lane ≡ replies_of story lane
   pub done : (lane : ℕ) → done_of (state_of story).done lane ≡ length (replies_of story lane)
   pub room : (lane : ℕ) (one : Lane) → lane_at (state_of story).phase lane ≡ Some one → length one.commands ≤ room_at lanes lane
+  pub left : (lane : ℕ) (one : Lane) → lane_at (state_of story).phase lane ≡ Some one → commands_at lanes lane ≡ drop (done_of (state_of story).done lane) one.commands
 
 -- the active builds are those that are kept for the lanes, and there is room for their rows
 pub record AreBuilds (s : State) (builds : List (Option Build)) : Type 0 where

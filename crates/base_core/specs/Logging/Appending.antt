@@ -1,5 +1,8 @@
 -- What became of a row that was to be committed.
-use Rattle.std.specs.Prelude.{◌≡◌, ℕ, ◌<◌, ◌≤◌, ◌⊎◌, true, false, Option, Some, None}
+use Rattle.std.specs.Prelude.{◌≡◌, ℕ, ◌<◌, ◌≤◌, ◌⊎◌, true, false, Option, Some, None, List}
+use Rattle.cc_names.specs.declared.replies.Reply.{Reply}
+use Rattle.cc_names.specs.declared.replies.Reply.TheVariants as replies
+use Rattle.base_core.specs.Story.Replying.{row_reply}
 use Rattle.cc_names.specs.Formed.{Plain, IsFormed}
 use Rattle.cc_names.specs.declared.steps.Step.{Step}
 use Rattle.cc_names.specs.declared.steps.Step.TheVariants as steps
@@ -68,3 +71,8 @@ pub record IsFaulted (old new : Logged) (row : Plain) (ending : Option Step) : T
 abbrev pub Appends : Logged → Logged → Plain → Option Step → Appended → Type 0
 Appends old new row ending appends.Committed = IsCommitted old new row
 Appends old new row ending appends.Faulted = IsFaulted old new row ending
+
+-- what the command of a row that was to be committed is replied, where its version has this name
+abbrev pub append_reply : Appended → Option (List ℕ) → Reply
+append_reply appends.Committed name = row_reply name
+append_reply appends.Faulted name = replies.DiskFault

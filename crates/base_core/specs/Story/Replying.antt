@@ -29,6 +29,11 @@ reply_to_row b (deeds.Publish v targets script entries outputs) = None
 reply_to_row b (deeds.Wink v object) = None
 reply_to_row b deed = Some replies.Good
 
+-- the reply to a row that takes out or makes a version of this name, or none
+abbrev pub row_reply : Option (List ℕ) → Reply
+row_reply (Some name) = replies.Version name
+row_reply None = replies.Good
+
 -- the reply to a command that was answered: a scrub or the labels of a record that found nothing count nothing
 abbrev pub reply_to_answer : Option Command → List ℕ → Reply
 reply_to_answer (Some (commands.Scrub age)) text = replies.Count 0

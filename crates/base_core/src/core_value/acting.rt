@@ -1,5 +1,9 @@
 // How a core carries out commands that build nothing.
 
+ghost use Rattle.std.specs.Prelude.{◌≡◌};
+ghost use Rattle.base_core.specs.Logging.Appending.{append_reply};
+ghost use Rattle.base_core.specs.Story.Replying.{row_reply};
+
 use super::Core;
 use crate::logs::Appended;
 use cc_names::copies::Copied;
@@ -11,9 +15,30 @@ use cc_names::rows::{Row, Tag};
 use cc_names::steps::Step;
 use cc_names::texts::Text;
 use checkout_desk::{decide, view_of};
-use cleartool::{answer, is_query};
+use cleartool::{answer, is_query, name_told};
 use disk_model::Disk;
 use std::alloc::Global;
+
+/// The reply to the command of a row that was committed: the version of this name, where it takes out or makes one, else that all
+/// is well.
+fn row_reply(name: Option<Text>) -> Reply
+    ensures { result ≡ row_reply name }
+{
+    match name {
+        Some(name) => Reply::Version(name),
+        None => Reply::Good,
+    }
+}
+
+/// The reply to the command of a row that was to be committed, where its version has this name.
+fn append_reply(appended: Appended, name: Option<Text>) -> Reply
+    ensures { result ≡ append_reply appended name }
+{
+    match appended {
+        Appended::Committed => row_reply(name),
+        Appended::Faulted => Reply::DiskFault,
+    }
+}
 
 impl<D: Disk> Core<D> {
     ghost use Rattle.std.specs.Prelude.{◌≡◌, true, false, OnOk, OnErr, IfOk, IfSome};
@@ -33,6 +58,17 @@ impl<D: Disk> Core<D> {
     ghost use Rattle.base_core.specs.Story.Counted.{KeepsCount};
     ghost use Rattle.base_core.specs.Keeping.Nexts.{next_of, waiting};
 
+    /// Whether a lane's next command is a query.
+    fn asks(&self, alloc: Global, lane: u32) -> Result<bool, NoMemory>
+        requires act { next_of (state_of self.now.story) lane ≡ nexts.Act }
+        ensures { IfOk result
+            (λ asks. IfSome (waiting (state_of self.now.story) lane)
+            (λ command. is_query command ≡ asks)) }
+    {
+        let command = self.command(alloc, lane)?;
+        Ok(is_query(&command))
+    }
+
     /// What is decided of a lane's next command, which makes a row: the row, or its first refusal.
     fn decide(&self, alloc: Global, lane: u32) -> Result<Row, Or<Refusal>>
         requires act { next_of (state_of self.now.story) lane ≡ nexts.Act }
@@ -41,9 +77,9 @@ impl<D: Disk> Core<D> {
         ensures { DecidesNext (state_of self.now.story) (next_tag (state_of self.now.story) lane)
             result }
     {
-        let command = self.command(lane);
-        let occasion = self.occasion(lane, view_of(command));
-        decide(alloc, &self.log.rows(), command, occasion)
+        let command = self.command(alloc, lane)?;
+        let occasion = self.occasion(lane, view_of(&command));
+        decide(alloc, &self.log.rows(), &command, occasion)
     }
 
     /// What is decided of a lane's next command, which is a query: its text, or its first refusal.
@@ -54,8 +90,8 @@ impl<D: Disk> Core<D> {
         ensures { AnswersNext (state_of self.now.story) (next_tag (state_of self.now.story) lane)
             result }
     {
-        let command = self.command(lane);
-        answer(alloc, &self.log.rows(), command)
+        let command = self.command(alloc, lane)?;
+        answer(alloc, &self.log.rows(), &command)
     }
 
     /// Commits the row of its lane's next command, or tells that the disk failed under it. An `Err` changes nothing.
@@ -66,13 +102,16 @@ impl<D: Disk> Core<D> {
         ensures counted { KeepsCount self.old self.new }
     {
         let lane = row.tag().lane;
-        match self.log.append(alloc, row, None)? {
+        let name = name_told(alloc, &self.log.rows(), row.deed())?;
+        let appended = self.log.append(alloc, row, None)?;
+        let reply = append_reply(appended, name);
+        match appended {
             Appended::Committed => {
-                self.lanes.reply(lane, Reply::Good);
+                self.lanes.reply(lane, reply);
                 Ok(Done::Committed)
             }
             Appended::Faulted => {
-                self.lanes.reply(lane, Reply::DiskFault);
+                self.lanes.reply(lane, reply);
                 Ok(Done::Faulted)
             }
         }
@@ -157,15 +196,14 @@ impl<D: Disk> Core<D> {
     /// disk fails under it. An `Err` changes nothing. A commit has the disk's ticks as this call ends, and no fault was
     /// counted. A fault has the counts of faults as this call begins and ends, and the ticks as it ends. An answer, a refusal
     /// and an `Err` make no device call. Takes time linear in the command, in the row or the answer, in the lanes and in the
-    /// steps since the last commit or fault, however many rows there are.
+    /// steps since the last commit or fault, and what `decide` or `answer` takes of the base.
     pub fn act(&mut self, alloc: Global, lane: u32) -> Result<Done, NoMemory>
         requires { next_of (state_of self.old.story) lane ≡ nexts.Act }
         ensures ok { IfOk result (λ done. Acts self.old.story self.new.story lane done) }
         ensures err { OnErr result (self.new ≡ self.old) }
         ensures counted { KeepsCount self.old self.new }
     {
-        let command = self.command(lane);
-        if is_query(command) {
+        if self.asks(alloc, lane)? {
             self.ask(alloc, lane)
         } else {
             self.make_row(alloc, lane)

@@ -32,9 +32,9 @@ impl<D: Disk> Core<D> {
         ensures { PlansNext (state_of self.now.story) (next_tag (state_of self.now.story) lane)
             result }
     {
-        let command = self.command(lane);
-        let occasion = self.occasion(lane, view_of(command));
-        plan_build(alloc, self.hashing, &self.rows(), command, occasion)
+        let command = self.command(alloc, lane)?;
+        let occasion = self.occasion(lane, view_of(&command));
+        plan_build(alloc, self.hashing, &self.rows(), &command, occasion)
     }
 
     /// Begins the build that was decided for the next command of its lane. An `Err` changes nothing.

@@ -1,20 +1,21 @@
 // What a core looks at: its rows, and a lane's next command and build.
 
 use super::Core;
-use crate::commands::{next_by, next_command};
 use build_core::ActiveBuild;
 use cc_names::commands::Command;
 use cc_names::desks::{Next, Occasion};
+use cc_names::memory::NoMemory;
 use cc_names::rows::Tag;
 use disk_model::Disk;
+use session_text::Ahead;
+use std::alloc::Global;
 use view_lookup::FirstRows;
 
 impl<D: Disk> Core<D> {
-    ghost use Rattle.std.specs.Prelude.{◌≡◌, ◌<◌, ◌≤◌, ◌+◌, ◌^◌, true, Some, IsSome, option_copied};
+    ghost use Rattle.std.specs.Prelude.{◌≡◌, ◌<◌, ◌≤◌, ◌+◌, ◌^◌, true, Some, IfOk, IsSome, option_copied};
     ghost use Rattle.carried_out.specs.CarriedOut.{is_carried_out};
     ghost use Rattle.session_text.specs.Formed.{IsCommand};
     ghost use Rattle.legal_history.specs.Base.Rows.{size};
-    ghost use Rattle.cc_names.specs.declared.commands.Command.{Command};
     ghost use Rattle.legal_history.specs.Builds.Active.{Build, build_of, building, reserved};
     ghost use Rattle.legal_history.specs.Stories.Lawful.{last_moment, Legal};
     ghost use Rattle.legal_history.specs.Stories.States.{next_tag};
@@ -61,35 +62,30 @@ impl<D: Disk> Core<D> {
         }
     }
 
-    /// The first command of a lane that is not finished.
-    fn find_command(&self, lane: u32) -> Option<&Command>
-        ensures next { option_copied result ≡ waiting (state_of self.now.story) lane }
-        ensures formed { (command : Command) → waiting (state_of self.now.story) lane ≡ Some command
-            → IsCommand command_limit command }
-        ensures carried_out { (command : Command)
-            → waiting (state_of self.now.story) lane ≡ Some command
-            → is_carried_out command ≡ true }
-    {
-        next_command(self.log.phases(), lane, self.lanes.finished(lane))
-    }
-
-    /// The next command of a lane that has one.
-    pub(super) fn command(&self, lane: u32) -> &Command
+    /// The next command of a lane that has one. Takes time linear in its lines and those before it that are left, and memory
+    /// for it.
+    pub(super) fn command(&self, alloc: Global, lane: u32) -> Result<Command, NoMemory>
         requires { IsSome (waiting (state_of self.now.story) lane) }
-        ensures next { waiting (state_of self.now.story) lane ≡ Some result.now }
-        ensures formed { IsCommand command_limit result.now }
-        ensures carried_out { is_carried_out result.now ≡ true }
+        ensures next { IfOk result
+            (λ command. waiting (state_of self.now.story) lane ≡ Some command) }
+        ensures formed { IfOk result (λ command. IsCommand command_limit command) }
+        ensures carried_out { IfOk result (λ command. is_carried_out command ≡ true) }
     {
-        self.find_command(lane).unwrap()
+        match self.lanes.next(alloc, lane)? {
+            Some(command) => Ok(command),
+            None => unreachable!(),
+        }
     }
 
-    /// What a lane has to do next. Takes the same time whatever was done before.
+    /// What a lane has to do next. Takes time linear in the line of its next command and those before it that are left, whatever
+    /// was done before.
     pub fn next(&self, lane: u32) -> Next
         ensures { result ≡ next_of (state_of self.now.story) lane }
     {
-        match self.find_command(lane) {
-            None => Next::Done,
-            Some(command) => next_by(command, self.tag(lane)),
+        match self.lanes.ahead(lane) {
+            Ahead::Nothing => Next::Done,
+            Ahead::Act => Next::Act,
+            Ahead::Build => Next::Build(self.tag(lane)),
         }
     }
 

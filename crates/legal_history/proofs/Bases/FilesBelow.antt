@@ -76,7 +76,7 @@ made_row n (deeds.Checkout v e origin reserved) = refl
 made_row n (deeds.Branch v e origin name how) = branch_row v e n how
 made_row n deed = refl
 
-out_row : (v : List ℕ) (e n : ℕ) (deed : Deed) (checkout : Checkout) → out_effect v e n deed ≡ Sets checkout → checkout.row ≡ n
+pub out_row : (v : List ℕ) (e n : ℕ) (deed : Deed) (checkout : Checkout) → out_effect v e n deed ≡ Sets checkout → checkout.row ≡ n
 unfolding own_row
 out_row v e n deed checkout h =
     let set = set_is v e (made_out n deed) checkout (out_sets v e n deed checkout h) in

@@ -92,7 +92,7 @@ abbrev pub Keyed : Sources → Type 0
 Keyed [] = ⊤
 Keyed (source ∷ sources) = (source.1 ≡ source.0.1) × Keyed sources
 
-put_keyed : (s : Source) (row : ℕ) (sources : Sources) → row ≡ s.1 → Keyed sources → Keyed (put source_cmp s row sources)
+pub put_keyed : (s : Source) (row : ℕ) (sources : Sources) → row ≡ s.1 → Keyed sources → Keyed (put source_cmp s row sources)
 put_keyed s row [] own h = (own, tt)
 put_keyed s row (source ∷ sources) own h = by (source_cmp s source.0) refl (put_keyed s row sources own h.1)
   where
@@ -101,15 +101,15 @@ put_keyed s row (source ∷ sources) own h = by (source_cmp s source.0) refl (pu
     by Equal e rest = (own ∙ (one_source s source.0 (ap is_eq e)).row, h.1)
     by Greater e rest = (h.0, rest)
 
-joined_keyed : (one others : Sources) → Keyed one → Keyed others → Keyed (joined_sources one others)
+pub joined_keyed : (one others : Sources) → Keyed one → Keyed others → Keyed (joined_sources one others)
 joined_keyed [] others h g = g
 joined_keyed (source ∷ one) others h g = joined_keyed one (put source_cmp source.0 source.1 others) h.1 (put_keyed source.0 source.1 others h.0 g)
 
-entry_keyed : (t : Bool) (of_object : ℕ → Sources) (entry : ReadOf) → ((id : ℕ) → Keyed (of_object id)) → Keyed (sources_of_entry t of_object entry)
+pub entry_keyed : (t : Bool) (of_object : ℕ → Sources) (entry : ReadOf) → ((id : ℕ) → Keyed (of_object id)) → Keyed (sources_of_entry t of_object entry)
 entry_keyed true of_object entry h = h entry.row
 entry_keyed false of_object entry h = (refl, tt)
 
-entries_keyed : (b : Base) (of_object : ℕ → Sources) (entries : List ReadOf) → ((id : ℕ) → Keyed (of_object id)) → Keyed (sources_of b of_object entries)
+pub entries_keyed : (b : Base) (of_object : ℕ → Sources) (entries : List ReadOf) → ((id : ℕ) → Keyed (of_object id)) → Keyed (sources_of b of_object entries)
 entries_keyed b of_object [] h = tt
 entries_keyed b of_object (entry ∷ entries) h =
     joined_keyed (sources_of_entry (is_publish b entry.row) of_object entry) (sources_of b of_object entries) (entry_keyed (is_publish b entry.row) of_object entry h) (entries_keyed b of_object entries h)

@@ -3,7 +3,7 @@
 /// A first byte, a deed's code, bytes of fields, and the place of the fault. The fields begin at 22.
 pub(crate) type FaultLine = (u8, u8, &'static [u8], u64);
 
-pub(crate) const FAULTS: [FaultLine; 64] = [
+pub(crate) const FAULTS: [FaultLine; 65] = [
     (0, 1, b"\x01\0\0\0v", 0),
     (3, 1, b"\x01\0\0\0v", 0),
     (255, 1, b"\x01\0\0\0v", 0),
@@ -14,6 +14,7 @@ pub(crate) const FAULTS: [FaultLine; 64] = [
     (2, 20, b"", 21),
     (2, 22, b"", 21),
     (1, 1, b"\0\0\0\0", 22),
+    (1, 1, b"\xff\xff\xff\xffv", 22),
     (1, 1, b"\x01\0\0\0v\0", 27),
     (1, 2, b"\x02\0\0\0-v", 22),
     (1, 3, b"\x01\0\0\0/", 22),

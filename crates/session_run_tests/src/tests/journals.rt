@@ -90,13 +90,28 @@ fn without_first(rt: &(impl Abort + RandomSource), alloc: Global) -> Result<Vec<
     Ok(journal[32..].to_vec(alloc)?)
 }
 
+// The frame of a mkview with the code 99, which no deed has.
+const NO_DEED: &[u8] =
+    b"\x01\x1b\0\0\0\x01\x01\0\0\0\x01\0\0\0\x01\0\0\0\0\xf1\x53\x65\0\0\0\0\x63\x01\0\0\0v\0";
+
+// The frame of a publish that ends behind its first target and announces 4,294,967,295 of them.
+const MANY_TARGETS: &[u8] =
+    b"\x01\x24\0\0\0\x01\x01\0\0\0\x01\0\0\0\x01\0\0\0\0\xf1\x53\x65\0\0\0\0\x11\x01\0\0\0v\xff\xff\xff\xff\x01\0\0\0x\0";
+
+// The rows of mkview of a view and of a wink of row 1, which is no object.
+const WINK_OF_A_VIEW: &[u8] =
+    b"\x01\x1b\0\0\0\x01\x01\0\0\0\x01\0\0\0\x01\0\0\0\0\xf1\x53\x65\0\0\0\0\x01\x01\0\0\0v\x01\x23\0\0\0\x01\x01\0\0\0\x01\0\0\0\x02\0\0\0\0\xf1\x53\x65\0\0\0\0\x12\x01\0\0\0v\x01\0\0\0\0\0\0\0\0";
+
 // A frame that is no row, one with nothing in it, a row that is there already, and one behind rows that are missing.
 #[test]
 fn a_damaged_journal_is_told(rt: HostRuntime) -> Result<(), Fail> {
     let alloc = rt.alloc();
     let twice = first_again(&rt, alloc)?;
     let later = without_first(&rt, alloc)?;
-    let cases: [(&[u8], &str); 4] = [
+    let cases: [(&[u8], &str); 7] = [
+        (NO_DEED, "damaged 1\n"),
+        (MANY_TARGETS, "damaged 1\n"),
+        (WINK_OF_A_VIEW, "damaged 2\n"),
         (b"\x01\x01\0\0\0\x09\0", "damaged 1\n"),
         (b"\x01\0\0\0\0\0", "damaged 1\n"),
         (&twice, "damaged 3\n"),

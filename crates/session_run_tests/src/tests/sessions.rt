@@ -1,6 +1,7 @@
 // Sessions that save, and those that are none.
 
-use super::{Asked, assert_outcome, failing_disk, outcome_by};
+use super::{Asked, assert_outcome, failing_disk, outcome_by, outcome_on};
+use std::alloc::Global;
 use std::test::Fail;
 
 const SAVES: &str = "phase\nlane a\nmkview v\nsave v in\n|hi\n";
@@ -24,6 +25,22 @@ fn each_session_is_answered(rt: HostRuntime) -> Result<(), Fail> {
             "bad session 3 BadWord\n",
             0,
         ),
+        ("f run", "lane a\n", 3, "bad session 1 NoPhase\n", 0),
+        ("f run", "phase\nmkview v\n", 3, "bad session 2 NoLane\n", 0),
+        (
+            "f run",
+            "phase\nlane a\nmkview v\n|x\n",
+            3,
+            "bad session 4 NoBody\n",
+            0,
+        ),
+        (
+            "f run",
+            "phase\nlane a\nlane a\n",
+            3,
+            "bad session 3 TwoLanes\n",
+            0,
+        ),
         ("f", SAVES, 2, "bad words\n", 0),
         ("f big 1 0", SAVES, 2, "bad words\n", 0),
         (
@@ -35,7 +52,7 @@ fn each_session_is_answered(rt: HostRuntime) -> Result<(), Fail> {
         ),
         (
             "f run",
-            "phase\nlane a\nsetcs v\n",
+            "phase\nlane a\nlsdo v\n",
             3,
             "bad session 3 NotBuilt\n",
             0,
@@ -71,5 +88,24 @@ fn each_session_is_answered(rt: HostRuntime) -> Result<(), Fail> {
         let outcome = outcome_by(&rt, rt.alloc(), asked, failing_disk(rt.alloc(), &[])?)?;
         assert_outcome(&rt, &outcome, code, written, rows);
     }
+    Ok(())
+}
+
+// A phase of so many lanes without commands.
+fn with_lanes(alloc: Global, lanes: u32) -> Result<String, Fail> {
+    let mut text = String::from_str(alloc, "phase\n")?;
+    for lane in 0..lanes {
+        let line = format!(in alloc; "lane a{lane}\n")?;
+        text.push_str(line.as_str())?;
+    }
+    Ok(text)
+}
+
+#[test]
+fn a_session_of_a_phase_and_65_lanes_is_none(rt: HostRuntime) -> Result<(), Fail> {
+    let text = with_lanes(rt.alloc(), 65)?;
+    let disk = failing_disk(rt.alloc(), &[])?;
+    let outcome = outcome_on(&rt, rt.alloc(), text.as_str(), disk)?;
+    assert_outcome(&rt, &outcome, 3, "bad session 66 TooManyLanes\n", 0);
     Ok(())
 }

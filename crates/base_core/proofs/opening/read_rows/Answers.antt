@@ -1,8 +1,10 @@
 -- one more row was read
-use Rattle.std.proofs.Common.{◌≡◌, ◌∷◌, false, Some, Result, Ok, Err, ap, sym, subst, ◌∙◌}
+use Rattle.std.proofs.Common.{◌≡◌, ◌<◌, ◌&&◌, ◌∷◌, Bool, true, false, Some, Result, Ok, Err, length, nat_lt, refl, ap, sym, subst, ◌∙◌, arith}
+use Rattle.std.proofs.lemmas.Bool.{ltb-true}
 use Rattle.std.specs.Prelude.{is_err, OnOk}
-use Rattle.legal_history.specs.Base.Rows.{Base}
-use Rattle.legal_history.specs.Base.Fits.{fits}
+use Rattle.cc_names.specs.declared.rows.Deed.{Deed}
+use Rattle.legal_history.specs.Base.Rows.{Base, size}
+use Rattle.legal_history.specs.Base.Fits.{deed_fits, fits, row_limit}
 use Rattle.base_core.specs.Bases.Reading.{IsReadSoFar, ReadsOn}
 use Rattle.base_core.proofs.Bases.ReadRows.{reads_then, row_fits}
 use Rattle.base_core.proofs.opening.read_rows.Goals as goal
@@ -11,6 +13,23 @@ use Rattle.base_core.proofs.opening.read_rows.Goals as goal
 of_ok : {X E : Type 0} {A : Type 0} (r : Result X E) → is_err r ≡ false → OnOk r A → A
 of_ok (Ok x) e a = a
 of_ok (Err x) e a = absurd (cc)
+
+-- a row that fits finds fewer rows than there may be
+below_limit : (b : Base) (deed : Deed) → fits b deed ≡ true → size b < row_limit
+below_limit b deed fit = by (nat_lt (size b) row_limit) refl fit
+  where
+    by : (is : Bool) → nat_lt (size b) row_limit ≡ is → (is && deed_fits b deed) ≡ true → size b < row_limit
+    by true is fit = ltb-true _ _ is
+    by false is fit = absurd (cc)
+
+pub frames-smaller : goal.frames-smaller
+frames-smaller g c =
+    let sight = g.D.Disk.sight in
+    let found : ReadsOn sight c.all.result (Some c.in-Ok-Some.row) c.read_row.new.journal = subst (λ f. ReadsOn sight c.all.result f c.read_row.new.journal) c.in-Ok-Some.field-0-is c.in-Ok-Some.ensures.ok in
+    let count = ap length (of_ok c.add_row.result (sym c.is_err.ensures.value ∙ c.if-is_err.false) c.add_row.ensures) in
+    let all = ap length c.all.ensures in
+    let below = below_limit c.all.result c.in-Ok-Some.row.deed (row_fits c.all.result c.in-Ok-Some.row found.good) in
+    omega (arith, count, all, below)
 
 pub frames-preserved : goal.frames-preserved
 frames-preserved g c =

@@ -2,6 +2,7 @@ use Rattle.std.proofs.Common.{◌<◌, ◌∙◌, sym, subst, length, arith}
 use Rattle.make_text.specs.Statements.{macros_of}
 use Rattle.make_text.specs.Macros.{expansion_of}
 use Rattle.make_text.specs.Steps.{automatic_of, opened_of, IsOutcome}
+use Rattle.make_text.proofs.ExpansionLemmas.{no_dollar}
 use Rattle.make_text.proofs.RunLemmas.{runs_longer}
 use Rattle.make_text.proofs.StepLemmas.{is_started, too_long}
 use Rattle.make_text.proofs.expansions.expand.Goals as goal
@@ -42,3 +43,6 @@ steps-preserved c =
     let total = expansion_of (macros_of c.args.macros.now) (automatic_of c.args.automatic.now) c.args.text.now in
     let went = rw c.in-Goes.is at (c.in_ok-step.ensures.went total c.steps.invariant.1) in
     (c.steps.invariant.0, went)
+
+pub returns-then-is_none : goal.returns-then-is_none
+returns-then-is_none c = rw (no_dollar (macros_of c.args.macros.now) (automatic_of c.args.automatic.now) c.args.text.now (grind arith)) c.plain_outcome.ensures

@@ -3,8 +3,11 @@ use Rattle.std.proofs.lemmas.List.{length-map}
 use Rattle.cc_names.specs.Answers.{FaultIs}
 use Rattle.make_text.specs.MacroChecks.{definition_at}
 use Rattle.make_text.specs.Statements.{macro_of, macros_of, fault_at}
-use Rattle.make_text.proofs.CheckLemmas.{macros_step, finds_fault}
+use Rattle.make_text.proofs.CheckLemmas.{macros_step, finds_fault, named_at}
 use Rattle.make_text.proofs.macro_checks.test_macros.Goals as goal
+
+pub test-requires-clause-named : goal.test-requires-clause-named
+test-requires-clause-named c = named_at c.args.macros.now c.loop-index.index ∙ sym c.definition-line.ensures.name
 
 pub returns-in-Some : goal.returns-in-Some
 returns-in-Some c =

@@ -1,15 +1,10 @@
-use Rattle.std.proofs.Common.{◌≡◌, ◌+◌, ◌≤◌, length}
+use Rattle.std.proofs.Common.{◌≡◌, ◌+◌, drop}
 use Rattle.legal_history.specs.Stories.Steps.{state_of}
 use Rattle.base_core.specs.Story.Replying.{replies_of}
 use Rattle.session_run.specs.Rendered.{lanes_fail}
 use Rattle.session_run.proofs.failures.any_failed.Given as goal
 
-abbrev pub invariant-loop-behind : goal.invariant-loop-behind
-invariant-loop-behind g l = record {
-  fails : lanes_fail 1 (state_of l.core.story).phase.lanes (replies_of l.core.story) ≡ lanes_fail l.lane l.rest (replies_of l.core.story);
-  from : 1 ≤ l.lane;
-  within : l.lane + length l.rest ≡ length (state_of l.core.story).phase.lanes + 1;
-}
-
-abbrev pub decreases-loop-behind : goal.decreases-loop-behind
-decreases-loop-behind g l = length l.rest
+abbrev pub invariant-loop-index : goal.invariant-loop-index
+invariant-loop-index g l =
+    lanes_fail 1 (state_of l.core.story).phase.lanes (replies_of l.core.story)
+    ≡ lanes_fail (l.index + 1) (drop l.index (state_of l.core.story).phase.lanes) (replies_of l.core.story)

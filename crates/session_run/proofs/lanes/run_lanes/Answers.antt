@@ -16,4 +16,4 @@ loop-index-preserved g c = record {
 pub returns-clause-finished : goal.returns-clause-finished
 returns-clause-finished g c =
     lanes_end c.loop-index.index c.args.core.now.story c.loop-index.core.story c.loop-index.invariant.goes
-    (omega (arith, ap (λ xs. length xs) c.as_slice.ensures, ap (λ p. length p.lanes) c.phase.ensures))
+    (omega (arith, c.lanes-lanes.ensures))

@@ -12,13 +12,13 @@ use Rattle.view_lookup.proofs.marks.mark_all.Goals as goal
 
 pub loop-subject-preserved : goal.loop-subject-preserved
 loop-subject-preserved c =
-    let keys = map (key c.args.hashing) (subjects c.args.row c.args.targets.now c.args.deed.now) in
+    let keys = map (key c.args.hashing) (subjects c.args.row c.args.targets.now c.args.branch c.args.deed.now) in
     let index = c.loop-subject.index in
     let at : slice_get keys index ≡ Some (key c.args.hashing (plain c.in-Some.subject)) =
-    slice_get-map (key c.args.hashing) (subjects c.args.row c.args.targets.now c.args.deed.now) index ∙ ap (option_map (key c.args.hashing)) (sym c.in-Some.ensures.subject) in
+    slice_get-map (key c.args.hashing) (subjects c.args.row c.args.targets.now c.args.branch c.args.deed.now) index ∙ ap (option_map (key c.args.hashing)) (sym c.in-Some.ensures.subject) in
     let left : drop index keys ≡ key c.args.hashing (plain c.in-Some.subject) ∷ drop (index + 1) keys = drop_at keys index (key c.args.hashing (plain c.in-Some.subject)) at in
-    let within : index < length (subjects c.args.row c.args.targets.now c.args.deed.now) =
-    within_at (subjects c.args.row c.args.targets.now c.args.deed.now) index (plain c.in-Some.subject) (sym c.in-Some.ensures.subject) in
+    let within : index < length (subjects c.args.row c.args.targets.now c.args.branch c.args.deed.now) =
+    within_at (subjects c.args.row c.args.targets.now c.args.branch c.args.deed.now) index (plain c.in-Some.subject) (sym c.in-Some.ensures.subject) in
     record {
       chained = λ before. c.mark.ensures.marks.chained (c.loop-subject.invariant.chained before);
       rows = λ before q.
@@ -35,9 +35,9 @@ loop-subject-preserved c =
 
 pub returns : goal.returns
 returns c =
-    let keys = map (key c.args.hashing) (subjects c.args.row c.args.targets.now c.args.deed.now) in
+    let keys = map (key c.args.hashing) (subjects c.args.row c.args.targets.now c.args.branch c.args.deed.now) in
     let index = c.loop-subject.index in
-    let none : slice_get keys index ≡ None = slice_get-map (key c.args.hashing) (subjects c.args.row c.args.targets.now c.args.deed.now) index ∙ ap (option_map (key c.args.hashing)) (sym c.in_default.ensures.subject) in
+    let none : slice_get keys index ≡ None = slice_get-map (key c.args.hashing) (subjects c.args.row c.args.targets.now c.args.branch c.args.deed.now) index ∙ ap (option_map (key c.args.hashing)) (sym c.in_default.ensures.subject) in
     record {
       chained = c.loop-subject.invariant.chained;
       rows = λ before q.

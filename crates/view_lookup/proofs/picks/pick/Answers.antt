@@ -7,13 +7,13 @@ use Rattle.view_lookup.specs.Picking.{selectables}
 use Rattle.view_lookup.proofs.picks.pick.Goals as goal
 
 pub returns-in_err-spec : goal.returns-in_err-spec
-returns-in_err-spec g c =
+returns-in_err-spec c =
     let b = c.args.rows.now in
     let e = c.args.element in
     c.from_residual.ensures ∙ ap (pick (sources b c.args.view.now e) e (names_of c.args.path.now)) c.in_err-spec.ensures
 
 pub returns : goal.returns
-returns g c =
+returns c =
     let b = c.args.rows.now in
     let e = c.args.element in
     c.pick_from.ensures

@@ -14,22 +14,22 @@ use Rattle.base_core.proofs.Acting.NextCommands.{decided_so}
 use Rattle.base_core.proofs.Building.UnitCalls.{acts_waits}
 use Rattle.base_core.proofs.core_value.Core.decide.Goals as goal
 
-pub command-command-requires : goal.command-command-requires
-command-command-requires g c = acts_waits (state_of c.args.self.now.story) c.args.lane c.requires.act
+pub command-requires : goal.command-requires
+command-requires g c = acts_waits (state_of c.args.self.now.story) c.args.lane c.requires.act
 
 pub decide-requires-clause-no_build : goal.decide-requires-clause-no_build
-decide-requires-clause-no_build g c = acts (state_of c.args.self.now.story) c.args.lane c.command-command.result.now c.command-command.ensures.next c.requires.act
+decide-requires-clause-no_build g c = acts (state_of c.args.self.now.story) c.args.lane c.in_ok-command.command c.in_ok-command.ensures.next c.requires.act
 
 pub decide-requires-clause-no_query : goal.decide-requires-clause-no_query
-decide-requires-clause-no_query g c = subst (λ found. IfSome found (λ command. is_query command ≡ false)) c.command-command.ensures.next c.requires.no_query
+decide-requires-clause-no_query g c = subst (λ found. IfSome found (λ command. is_query command ≡ false)) c.in_ok-command.ensures.next c.requires.no_query
 
 pub returns : goal.returns
 returns g c =
     let same = ap (λ v. v.story) c.self.view_is in
     let free : build_of (state_of c.args.self.now.story).active c.args.lane ≡ None = subst (λ t. build_of (state_of t).active c.args.lane ≡ None) same
     (acting_is_free c.self.inside.log c.self.inside.lanes c.self.inside.moment c.args.lane c.self.invariant (ap (λ t. next_of (state_of t) c.args.lane) same ∙ c.requires.act)) in
-    decided_so c.args.self.now.story c.args.lane c.occasion-occasion.result c.command-command.result.now (view_of c.command-command.result.now) c.rows.result c.decide.result
-    (subst Legal same c.self.invariant.story.legal) c.command-command.ensures.carried_out (acts (state_of c.args.self.now.story) c.args.lane c.command-command.result.now c.command-command.ensures.next c.requires.act) (subst (λ found. IfSome found (λ command. is_query command ≡ false)) c.command-command.ensures.next c.requires.no_query) free
-    c.command-command.ensures.next c.occasion-occasion.ensures.tag c.occasion-occasion.ensures.moment (c.rows.ensures ∙ sym c.self.invariant.story.base ∙ ap (λ t. (state_of t).base) same)
+    decided_so c.args.self.now.story c.args.lane c.occasion-occasion.result c.in_ok-command.command (view_of c.in_ok-command.command) c.rows.result c.decide.result
+    (subst Legal same c.self.invariant.story.legal) c.in_ok-command.ensures.carried_out (acts (state_of c.args.self.now.story) c.args.lane c.in_ok-command.command c.in_ok-command.ensures.next c.requires.act) (subst (λ found. IfSome found (λ command. is_query command ≡ false)) c.in_ok-command.ensures.next c.requires.no_query) free
+    c.in_ok-command.ensures.next c.occasion-occasion.ensures.tag c.occasion-occasion.ensures.moment (c.rows.ensures ∙ sym c.self.invariant.story.base ∙ ap (λ t. (state_of t).base) same)
     (c.occasion-occasion.ensures.busy ∙ ap (building (state_of c.args.self.now.story).active) c.view_of.ensures) c.occasion-occasion.ensures.taken
     (λ scene moment sees. c.decide.ensures.decided scene moment sees) c.decide.ensures.made c.decide.ensures.room

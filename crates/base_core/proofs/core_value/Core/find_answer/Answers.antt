@@ -11,11 +11,11 @@ use Rattle.base_core.proofs.Acting.NextCommands.{answered_so}
 use Rattle.base_core.proofs.Building.UnitCalls.{acts_waits}
 use Rattle.base_core.proofs.core_value.Core.find_answer.Goals as goal
 
-pub command-command-requires : goal.command-command-requires
-command-command-requires g c = acts_waits (state_of c.args.self.now.story) c.args.lane c.requires.act
+pub command-requires : goal.command-requires
+command-requires g c = acts_waits (state_of c.args.self.now.story) c.args.lane c.requires.act
 
 pub answer-requires-clause-query : goal.answer-requires-clause-query
-answer-requires-clause-query g c = subst (λ found. IfSome found (λ command. is_query command ≡ true)) c.command-command.ensures.next c.requires.query
+answer-requires-clause-query g c = subst (λ found. IfSome found (λ command. is_query command ≡ true)) c.in_ok-command.ensures.next c.requires.query
 
 pub returns : goal.returns
 returns g c =
@@ -23,5 +23,5 @@ returns g c =
     let same = ap (λ v. v.story) c.self.view_is in
     let free : build_of s.active c.args.lane ≡ None = subst (λ t. build_of (state_of t).active c.args.lane ≡ None) same
     (acting_is_free c.self.inside.log c.self.inside.lanes c.self.inside.moment c.args.lane c.self.invariant (ap (λ t. next_of (state_of t) c.args.lane) same ∙ c.requires.act)) in
-    answered_so s c.args.lane c.command-command.result.now c.answer.result (subst (λ found. IfSome found (λ command. is_query command ≡ true)) c.command-command.ensures.next c.requires.query) free
-    c.command-command.ensures.next (c.answer.ensures (scene s) (sym (c.rows.ensures ∙ sym c.self.invariant.story.base ∙ ap (λ t. (state_of t).base) same)))
+    answered_so s c.args.lane c.in_ok-command.command c.answer.result (subst (λ found. IfSome found (λ command. is_query command ≡ true)) c.in_ok-command.ensures.next c.requires.query) free
+    c.in_ok-command.ensures.next (c.answer.ensures (scene s) (sym (c.rows.ensures ∙ sym c.self.invariant.story.base ∙ ap (λ t. (state_of t).base) same)))

@@ -1,6 +1,9 @@
-use Rattle.std.proofs.Common.{◌≡◌, take}
+use Rattle.std.proofs.Common.{◌≡◌, ◌++◌, length}
 use Rattle.base_core.specs.Keeping.Lanes.{fresh_lanes}
 use Rattle.base_core.proofs.lanes.Lanes.begin.Given as goal
 
-abbrev pub invariant-loop-lane : goal.invariant-loop-lane
-invariant-loop-lane l = l.lanes.items ≡ fresh_lanes (take l.lane-index l.of_phase)
+abbrev pub invariant-each : goal.invariant-each
+invariant-each l = fresh_lanes l.phase.lanes ≡ l.lanes.items ++ fresh_lanes l.left
+
+abbrev pub decreases-each : goal.decreases-each
+decreases-each l = length l.left

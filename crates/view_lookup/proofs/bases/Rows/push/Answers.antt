@@ -1,5 +1,5 @@
--- The row's marks, its changes of the trees and of the labels and its config spec are those of the row.
-use Rattle.std.proofs.Common.{◌≡◌, ℕ, ◌+◌, ◌≤◌, ◌&&◌, true, List, [], ◌∷◌, ◌++◌, length, map, reverse, nat_eq, sym, ap, ap₂, subst, ◌∙◌, arith, rules}
+-- The row's marks, its changes of the trees and of the labels, its config spec and what its record lists are those of the row.
+use Rattle.std.proofs.Common.{◌≡◌, ℕ, ◌+◌, ◌≤◌, ◌&&◌, true, Option, List, [], ◌∷◌, ◌++◌, length, map, reverse, nat_eq, nat_lt, sym, ap, ap₂, subst, ◌∙◌, arith, rules}
 use Rattle.std.proofs.lemmas.Grind.{common_steps}
 use Rattle.std.proofs.lemmas.List.{length-reverse, reverse-append}
 use Rattle.std.specs.HashMap.{get}
@@ -12,29 +12,33 @@ use Rattle.cc_names.specs.declared.changes.TreeChange.{TreeChange}
 use Rattle.cc_names.specs.declared.rows.Deed.{Deed}
 use Rattle.label_book.specs.Marks.{rows_of_pair}
 use Rattle.legal_history.specs.Base.Changes.{labels, labels_after, tree}
-use Rattle.legal_history.specs.Base.Fits.{fits}
+use Rattle.legal_history.specs.Base.Fits.{deed_fits, fits, row_limit}
 use Rattle.legal_history.specs.Base.Rows.{Base, size}
 use Rattle.view_lookup.specs.Growing.{HasPlace, change_of, tree_change, with_change}
 use Rattle.view_lookup.specs.Known.{IsKnown}
 use Rattle.view_lookup.specs.Labelling.{AreLabels, HasLabelRoom}
+use Rattle.view_lookup.specs.Listings.{AreListings, HasListing, Versions, listing_made, version_in, versions_of, with_listing}
 use Rattle.view_lookup.specs.Marked.{IsMarked, marked, with_marks}
 use Rattle.view_lookup.specs.SetSpecs.{rules_set, specs_set, with_spec}
 use Rattle.view_lookup.specs.Shown.{Shown}
-use Rattle.view_lookup.specs.Subjects.{key, named_targets, subjects}
+use Rattle.view_lookup.specs.Subjects.{key, named_targets, reserved_branch, subjects}
+use Rattle.legal_history.proofs.Bases.Owned.{and_second}
 use Rattle.view_lookup.proofs.Growths.{above_tree, tree_by_change}
 use Rattle.view_lookup.proofs.Labellings.{above_labels, after_same, same_twice}
+use Rattle.view_lookup.proofs.ListingsStay.{listings_more}
 use Rattle.view_lookup.proofs.SpecsSet.{set_short}
 use Rattle.view_lookup.proofs.bases.Rows.push.Goals as goal
 
 -- the marks of one row more
-marked_more : (hashing : RandomState) (n : ℕ) (targets : List (List ℕ)) (deed : Deed) (row : Plain) (older : Base) (q : ℕ) (rows : List ℕ)
-    → n ≡ size older → targets ≡ named_targets older row.deed → deed ≡ row.deed → rows ≡ marked hashing q older
-    → with_marks n q (map (key hashing) (subjects n targets deed)) rows ≡ marked hashing q (row ∷ older)
-marked_more hashing n targets deed row older q rows number named same before =
-    ap (λ m. with_marks m q (map (key hashing) (subjects m targets deed)) rows) number
-    ∙ ap (λ ts. with_marks (size older) q (map (key hashing) (subjects (size older) ts deed)) rows) named
-    ∙ ap (λ d. with_marks (size older) q (map (key hashing) (subjects (size older) (named_targets older row.deed) d)) rows) same
-    ∙ ap (with_marks (size older) q (map (key hashing) (subjects (size older) (named_targets older row.deed) row.deed))) before
+marked_more : (hashing : RandomState) (n : ℕ) (targets : List (List ℕ)) (branch : Option ℕ) (deed : Deed) (row : Plain) (older : Base) (q : ℕ) (rows : List ℕ)
+    → n ≡ size older → targets ≡ named_targets older row.deed → branch ≡ reserved_branch older row.deed → deed ≡ row.deed → rows ≡ marked hashing q older
+    → with_marks n q (map (key hashing) (subjects n targets branch deed)) rows ≡ marked hashing q (row ∷ older)
+marked_more hashing n targets branch deed row older q rows number named reserved same before =
+    ap (λ m. with_marks m q (map (key hashing) (subjects m targets branch deed)) rows) number
+    ∙ ap (λ ts. with_marks (size older) q (map (key hashing) (subjects (size older) ts branch deed)) rows) named
+    ∙ ap (λ own. with_marks (size older) q (map (key hashing) (subjects (size older) (named_targets older row.deed) own deed)) rows) reserved
+    ∙ ap (λ d. with_marks (size older) q (map (key hashing) (subjects (size older) (named_targets older row.deed) (reserved_branch older row.deed) d)) rows) same
+    ∙ ap (with_marks (size older) q (map (key hashing) (subjects (size older) (named_targets older row.deed) (reserved_branch older row.deed) row.deed))) before
 
 pub grow-requires-clause-above : goal.grow-requires-clause-above
 grow-requires-clause-above c =
@@ -71,14 +75,19 @@ relabel-requires-clause-above c = λ l e.
 pub relabel-requires-clause-room : goal.relabel-requires-clause-room
 relabel-requires-clause-room c =
     let kept = subst (λ (shown : Shown). HasLabelRoom shown.labels c.args.row.deed) (sym c.self.view_is) c.requires.room.labels in
-    subst (λ (deed : Deed). HasLabelRoom c.self.inside.labels deed) (sym c.deed-4.ensures.deed) kept
+    subst (λ (deed : Deed). HasLabelRoom c.self.inside.labels deed) (sym c.deed-5.ensures.deed) kept
 
 pub relabel-requires-clause-formed : goal.relabel-requires-clause-formed
-relabel-requires-clause-formed c = subst IsDeedFormed (sym c.deed-4.ensures.deed) c.deed-4.ensures.formed.deed
+relabel-requires-clause-formed c = subst IsDeedFormed (sym c.deed-5.ensures.deed) c.deed-5.ensures.formed.deed
 
 pub keep_spec-requires : goal.keep_spec-requires
 keep_spec-requires c =
     let room = subst (λ (shown : Shown). 1 ≤ shown.spec_room) (sym c.self.view_is) c.requires.room.spec_room in
+    omega arith
+
+pub keep_listing-requires : goal.keep_listing-requires
+keep_listing-requires c =
+    let room = subst (λ (shown : Shown). 1 ≤ shown.listing_room) (sym c.self.view_is) c.requires.room.listing_room in
     omega arith
 
 pub invariant_of-self : goal.invariant_of-self
@@ -100,8 +109,10 @@ invariant_of-self c =
     } in
     let named : c.named_targets-targets.result.now ≡ named_targets older row.deed =
     c.named_targets-targets.ensures
-    ∙ ap (λ (rows : Base). named_targets (reverse rows) c.deed-2.result.now) c.as_slice.ensures.value
-    ∙ ap (named_targets older) c.deed-2.ensures.deed in
+    ∙ ap (λ (rows : Base). named_targets (reverse rows) c.deed-3.result.now) c.as_slice.ensures.value
+    ∙ ap (named_targets older) c.deed-3.ensures.deed in
+    let reserved : c.reserved_branch-branch.result ≡ reserved_branch older row.deed =
+    c.reserved_branch-branch.ensures ∙ ap₂ (λ (b : Base) deed. reserved_branch b deed) (c.all-2.ensures ∙ sym base_is) c.deed-2.ensures.deed in
     let change : change_of (c.len.result + 1) moment growth ≡ tree_change older row.moment row.deed =
     ap (λ n. change_of n moment growth) (number ∙ ap (λ (b : Base). size b) (base_is ∙ sym c.all.ensures))
     ∙ c.growth_of-growth.ensures.change moment
@@ -111,16 +122,21 @@ invariant_of-self c =
       chained = c.mark_all.ensures.chained c.self.invariant.marks.chained;
       rows = λ q.
           c.mark_all.ensures.rows c.self.invariant.marks.chained q
-          ∙ marked_more hashing (c.len.result + 1) c.named_targets-targets.result.now c.deed-3.result.now row older q _ number named c.deed-3.ensures.deed (c.self.invariant.marks.rows q);
+          ∙ marked_more hashing (c.len.result + 1) c.named_targets-targets.result.now c.reserved_branch-branch.result c.deed-4.result.now row older q _ number named reserved c.deed-4.ensures.deed (c.self.invariant.marks.rows q);
     } in
     let kept = c.self.inside.labels.changes in
-    let at_number : labels_after (c.len.result + 1) c.deed-4.result.now (labels older) ≡ labels (row ∷ older) =
-    ap₂ (λ n deed. labels_after n deed (labels older)) number c.deed-4.ensures.deed in
-    let labelled : AreLabels c.relabel.new.book.changes (labels_after (c.len.result + 1) c.deed-4.result.now (labels older)) =
-    same_twice c.relabel.new.book.changes (labels_after (c.len.result + 1) c.deed-4.result.now kept) (labels_after (c.len.result + 1) c.deed-4.result.now (labels older))
-    c.relabel.ensures (after_same (c.len.result + 1) c.deed-4.result.now kept (labels older) c.self.invariant.labelled) in
+    let at_number : labels_after (c.len.result + 1) c.deed-5.result.now (labels older) ≡ labels (row ∷ older) =
+    ap₂ (λ n deed. labels_after n deed (labels older)) number c.deed-5.ensures.deed in
+    let labelled : AreLabels c.relabel.new.book.changes (labels_after (c.len.result + 1) c.deed-5.result.now (labels older)) =
+    same_twice c.relabel.new.book.changes (labels_after (c.len.result + 1) c.deed-5.result.now kept) (labels_after (c.len.result + 1) c.deed-5.result.now (labels older))
+    c.relabel.ensures (after_same (c.len.result + 1) c.deed-5.result.now kept (labels older) c.self.invariant.labelled) in
     let given : c.take-2.result ≡ rules_set row.deed =
-    c.take-2.ensures.value ∙ ap (λ (shown : Shown). shown.spec) c.self.view_is ∙ c.requires.room.spec ∙ set_short row.deed c.deed-4.ensures.formed.deed in
+    c.take-2.ensures.value ∙ ap (λ (shown : Shown). shown.spec) c.self.view_is ∙ c.requires.room.spec ∙ set_short row.deed c.deed-5.ensures.formed.deed in
+    let made = versions_of c.take-3.result in
+    let listings : ℕ → Option Versions = λ id. versions_of (get nat_eq c.self.inside.listings id) in
+    let own : HasListing made (listing_made older row.deed) =
+    subst (λ map. HasListing (versions_of map) (listing_made older row.deed)) (sym c.take-3.ensures.value)
+    (subst (λ (shown : Shown). HasListing shown.listing (listing_made shown.base row.deed)) (sym c.self.view_is) c.requires.room.listing) in
     record {
       known = subst IsKnown (sym back) known;
       marks = subst (λ (b : Base). IsMarked hashing c.mark_all.new.links.items (get nat_eq c.mark_all.new.newest) b) (sym back) marks;
@@ -134,4 +150,7 @@ invariant_of-self c =
           ∙ ap₂ (λ n rules. with_spec n rules (reverse c.self.inside.specs.items)) number given
           ∙ ap (with_spec (size older) (rules_set row.deed)) c.self.invariant.specs
           ∙ ap specs_set (sym back);
+      listed = subst (AreListings (λ id. versions_of (get nat_eq c.keep_listing.new.listings id))) (sym back)
+          (λ id e. ap (version_in e) (c.keep_listing.ensures id ∙ ap (λ n. with_listing n made listings id) number)
+          ∙ listings_more listings made row older c.self.invariant.known.fitting (and_second (nat_lt (size older) row_limit) (deed_fits older row.deed) fitting) c.self.invariant.listed own id e);
     }

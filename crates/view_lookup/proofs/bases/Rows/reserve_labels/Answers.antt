@@ -9,4 +9,5 @@ invariant_of-self c = record {
   trees = c.self.invariant.trees;
   labelled = same_twice _ _ _ (record { pairs = c.reserve_labels.ensures.kept.pairs }) c.self.invariant.labelled;
   specs = c.self.invariant.specs;
+  listed = c.self.invariant.listed;
 }

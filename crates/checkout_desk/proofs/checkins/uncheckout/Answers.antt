@@ -1,0 +1,13 @@
+-- What is decided of the element that was found is decided of the path.
+use Rattle.std.proofs.Common.{arith}
+use Rattle.std.proofs.lemmas.Grind.{common_steps}
+use Rattle.legal_history.specs.Commands.CheckoutLines.{uncheckout_of}
+use Rattle.checkout_desk.proofs.checkins.uncheckout.Goals as goal
+
+pub returns-in_err-element-clause-decided : goal.returns-in_err-element-clause-decided
+returns-in_err-element-clause-decided c = λ scene now sees.
+    grind (arith, common_steps, c.in_err-element.ensures scene now c.args.occasion.taken sees (uncheckout_of scene c.args.view.now c.args.path.now))
+
+pub returns-clause-decided : goal.returns-clause-decided
+returns-clause-decided c = λ scene now sees.
+    grind (arith, common_steps, c.in_ok-element.ensures scene now c.args.occasion.taken sees (uncheckout_of scene c.args.view.now c.args.path.now), c.uncheckout_of.ensures.decided scene now sees)

@@ -1,0 +1,2 @@
+pub mod BranchNames
+pub mod NextNames

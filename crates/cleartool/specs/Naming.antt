@@ -1,0 +1,34 @@
+-- The names of versions, told from a branch upwards, and of versions that the next row makes.
+use Rattle.std.specs.Prelude.{ℕ, Option, Some, None, List, [], ◌∷◌, ◌++◌, codes, decimal, length, option_map}
+use Rattle.std.specs.Option.{option_map_or}
+use Rattle.cc_names.specs.Branches.{names_of_branch}
+use Rattle.cc_names.specs.Versions.{versions_on}
+use Rattle.cc_names.specs.declared.changes.TreeChange.{TreeChange}
+use Rattle.cc_names.specs.declared.rows.Deed.{Deed}
+use Rattle.cc_names.specs.declared.rows.Deed.TheVariants as deeds
+use Rattle.legal_history.specs.Base.Rows.{Base}
+use Rattle.legal_history.specs.Queries.VersionNames.{behind_slashes, version_name}
+
+-- the names behind `main` that lead to a branch; none where there is no branch
+abbrev pub names_above : List TreeChange → Option ℕ → List (List ℕ)
+names_above changes branch = option_map_or (names_of_branch changes) branch []
+
+-- the name of the next version of a branch, where the branch has an element
+abbrev pub name_on : List TreeChange → ℕ → Option ℕ → List ℕ
+name_on changes branch element =
+    option_map_or (λ e. behind_slashes (codes "main" ∷ names_of_branch changes branch) ++ 47 ∷ decimal (length (versions_on changes branch))) element []
+
+-- the name of version 0 of a new branch of this name
+abbrev pub name_of_new : List TreeChange → Option ℕ → List ℕ → List ℕ
+name_of_new changes above name = behind_slashes (codes "main" ∷ (names_above changes above ++ name ∷ [])) ++ 47 ∷ decimal 0
+
+-- the version that a row of this deed takes out or makes, by the row's own number
+abbrev pub version_told : ℕ → Deed → Option ℕ
+version_told n (deeds.Checkout v e origin reserved) = Some origin
+version_told n (deeds.Branch v e origin name out) = Some n
+version_told n (deeds.Checkin v e) = Some n
+version_told n deed = None
+
+-- the name of the version that the newest row of a base takes out or makes
+abbrev pub name_told : Base → Deed → Option (List ℕ)
+name_told b deed = option_map (version_name b) (version_told (length b) deed)

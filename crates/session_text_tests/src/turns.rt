@@ -1,0 +1,64 @@
+// The commands of a lane that are left: what the next one asks for, and going past it.
+
+use crate::reading::read_bytes;
+use session_text::Ahead::{self, Act, Build, Nothing};
+use session_text::CommandsLeft;
+use std::alloc::Global;
+use std::hash::RandomState;
+use std::process::Abort;
+use std::test::Fail;
+
+fn first_lane(
+    rt: &impl Abort,
+    alloc: Global,
+    hashing: RandomState,
+    text: &[u8],
+) -> Result<CommandsLeft, Fail> {
+    assert!(rt; text.len() < 10_000);
+    let mut phases = read_bytes(alloc, hashing, text)?.into_phases();
+    let Some(phase) = phases.next()? else {
+        panic!(rt; "a phase");
+    };
+    let mut lanes = phase.lanes()?;
+    let Some(lane) = lanes.next(alloc)? else {
+        panic!(rt; "a lane");
+    };
+    let (_name, left) = lane.into_parts();
+    Ok(left)
+}
+
+fn assert_turns(
+    rt: &impl Abort,
+    alloc: Global,
+    mut left: CommandsLeft,
+    turns: &[Ahead],
+) -> Result<(), Fail> {
+    assert_eq!(rt; left.count(), turns.len());
+    for turn in turns {
+        assert_eq!(rt; left.ahead(), *turn);
+        assert!(rt; left.peek(alloc)?.is_some());
+        left.skip();
+    }
+    left.skip();
+    assert_eq!(rt; left.ahead(), Nothing);
+    assert!(rt; left.peek(alloc)?.is_none());
+    Ok(())
+}
+
+#[test]
+fn each_command_has_its_turn(rt: HostRuntime) -> Result<(), Fail> {
+    let hashing = RandomState::new(&rt)?;
+    for (text, turns) in [
+        ("phase\nlane a\n", [].as_slice()),
+        ("phase\nlane a\nlane b\nmkview v\n", [].as_slice()),
+        ("phase\nlane a\n# note\n\nclearmake v", [Build].as_slice()),
+        (
+            "phase\nlane a\nmkview v\nsave v in\n|a\n\n|clearmake v\n#\nclearmake v in\nrmview v\nphase\nlane a\nmkview w\n",
+            [Act, Act, Build, Act].as_slice(),
+        ),
+    ] {
+        let left = first_lane(&rt, rt.alloc(), hashing, text.as_bytes())?;
+        assert_turns(&rt, rt.alloc(), left, turns)?;
+    }
+    Ok(())
+}

@@ -1,0 +1,19 @@
+-- The newest live object of a list of targets that passes is the last one that is set among such objects.
+use Rattle.std.proofs.Common.{◌≡◌, ℕ, Bool, true, false, ◌&&◌, Option, Some, List, [], ◌∷◌, refl}
+use Rattle.std.specs.Prelude.{is_some}
+use Rattle.cc_names.specs.Last.{Sets, only_if, left}
+use Rattle.legal_history.specs.Base.Changes.{live}
+use Rattle.legal_history.specs.Base.Rows.{Base, size}
+use Rattle.view_lookup.specs.Effects.{pool_effect}
+use Rattle.view_lookup.specs.LookUps.{last_of}
+use Rattle.view_lookup.specs.Pool.{Test, newest_passing, publishes}
+
+by_test : (is : Bool) (n : ℕ) (one two : Option ℕ) → one ≡ two → elim is as (λ _. Option ℕ) [ true ↦ Some n | false ↦ one ] ≡ left (only_if is (Sets n)) two
+by_test true n one two h = refl
+by_test false n one two h = h
+
+pub pooled_by_last : (b rows : Base) (targets : List (List ℕ)) (passes : Test) → newest_passing b targets passes rows ≡ last_of (pool_effect b targets passes) rows
+pooled_by_last b [] targets passes = refl
+pooled_by_last b (row ∷ older) targets passes =
+    by_test (is_some (live b (size older)) && publishes targets passes row.deed) (size older) (newest_passing b targets passes older)
+    (last_of (pool_effect b targets passes) older) (pooled_by_last b older targets passes)

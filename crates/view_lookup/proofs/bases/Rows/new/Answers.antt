@@ -1,0 +1,21 @@
+-- A base with no row has no objects.
+use Rattle.std.proofs.Common.{rules, List, reverse, nat_eq, ap, sym, ◌∙◌}
+use Rattle.std.specs.FinMap.Entries.{find}
+use Rattle.std.specs.Map.{lookup}
+use Rattle.std.specs.Ordering.{nat_cmp}
+use Rattle.cc_names.specs.Formed.{Plain}
+use Rattle.legal_history.specs.Base.Closures.{listing}
+use Rattle.view_lookup.specs.Listings.{version_in, versions_of}
+use Rattle.view_lookup.proofs.bases.Rows.new.Goals as goal
+
+pub invariant_of-result : goal.invariant_of-result
+invariant_of-result c = record {
+  known = search rules;
+  marks = search rules;
+  trees = search rules;
+  labelled = search rules;
+  specs = search rules;
+  listed = λ id e.
+      ap (λ entries. version_in e (versions_of (lookup (nat_eq id) entries))) c.new-7.ensures.empty
+      ∙ sym (ap (λ (rows : List Plain). find nat_cmp e (listing (reverse rows) id)) c.new-3.ensures.items);
+}

@@ -1,0 +1,95 @@
+// Which objects some view holds, and which may be scrubbed.
+
+ghost use Rattle.std.specs.Prelude.{◌≡◌};
+ghost use Rattle.cc_names.specs.References.{is_held};
+ghost use Rattle.legal_history.specs.Base.Changes.{held};
+ghost use Rattle.legal_history.specs.Base.Conditions.{may_be_scrubbed};
+ghost use Rattle.legal_history.specs.Base.Rows.{deed_at};
+ghost use Rattle.view_lookup.specs.Effects.{held_by_maker, holds_one};
+
+use crate::bases::{FirstRows, row_at};
+use crate::look_ups::{Does, LookUp, only_if};
+use crate::numbered::targets_of;
+use crate::objects::{held, live};
+use crate::subjects::Subject;
+use crate::trees::is_number;
+use cc_names::names::Name;
+use cc_names::paths::Path;
+use cc_names::rows::Deed;
+
+/// Whether a view holds an object at one of these paths.
+fn holds_one(rows: &FirstRows<'_>, view: &Name, object: u64, targets: &[Path]) -> bool
+    ensures { result ≡ holds_one rows.now view.now object targets.now }
+{
+    targets
+        .iter()
+        .any(|target| is_number(object, held(rows, view, target)))
+}
+
+/// The winks of an object by views that hold it still in these rows.
+#[derive(Clone, Copy)]
+struct WinkedOf<'a> {
+    rows: &'a FirstRows<'a>,
+    object: u64,
+}
+
+impl LookUp for WinkedOf<'_> {
+    type Item = u64;
+
+    ghost use Rattle.view_lookup.specs.Covers.{winked_covered};
+    ghost use Rattle.view_lookup.specs.Effects.{winked_effect};
+    ghost use Rattle.view_lookup.specs.Subjects as subjects;
+
+    ghost effect = { λ it. winked_effect it.rows.now it.object };
+
+    ghost about = { λ it. subjects.Winked it.object };
+
+    fn effect(&self, older: &FirstRows<'_>, deed: &Deed) -> Does<u64> {
+        match deed {
+            Deed::Wink { view, object } => {
+                let targets = targets_of(older.as_slice(), *object);
+                only_if(
+                    *object == self.object && holds_one(self.rows, view, self.object, targets),
+                    Does::Sets(*object),
+                )
+            }
+            _ => Does::Keeps,
+        }
+    }
+
+    fn subject(&self) -> Subject<'_> {
+        Subject::Winked(self.object)
+    }
+
+    ghost covered = { λ it. winked_covered it.rows.now it.object };
+}
+
+/// Whether the view of the row that made an object holds it at one of its targets.
+fn is_held_by_maker(rows: &FirstRows<'_>, object: u64) -> bool
+    ensures { result ≡ held_by_maker rows.now object (deed_at rows.now object) }
+{
+    match row_at(rows, object) {
+        None => false,
+        Some(row) => match row.deed() {
+            Deed::Publish { view, targets, .. } => {
+                holds_one(rows, view, object, targets.as_slice())
+            }
+            _ => false,
+        },
+    }
+}
+
+/// Whether some view holds the object. Takes for each of its targets the time of `held`: once for the view that made it, and once
+/// for each wink behind the last one whose view holds it still.
+pub fn is_held(rows: &FirstRows<'_>, object: u64) -> bool
+    ensures { result ≡ is_held (held rows.now) object }
+{
+    is_held_by_maker(rows, object) || rows.last(&WinkedOf { rows, object }).is_some()
+}
+
+/// Whether an object is live and no view holds it. Takes the time of `live` and of `is_held`.
+pub fn may_be_scrubbed(rows: &FirstRows<'_>, object: u64) -> bool
+    ensures { result ≡ may_be_scrubbed rows.now object }
+{
+    live(rows, object).is_some() && !is_held(rows, object)
+}

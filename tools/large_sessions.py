@@ -1,0 +1,145 @@
+#!/usr/bin/env python3
+"""Prints a large session, to time ccbase on.
+
+    tools/large_sessions.py NAME [SIZE [SEED]]
+
+    large_sessions.py versions 50000 > half.txt;  time ccbase half.base run < half.txt | tail -1
+    large_sessions.py versions > whole.txt;       time ccbase whole.base run < whole.txt | tail -1
+
+NAME says what is large, SIZE how large: the size of the table below where none is given. What costs a look-up the same however large a
+base is takes twice the time at twice the size. No command of a session is refused, so the status is 0; each session wants a
+base of its own. The same NAME, SIZE and SEED (0 where none is given) give the same session; only `commands` draws.
+
+    NAME      SIZE      the session
+    commands  100000    so many commands: files in directories of 10, and then files drawn to be changed and labelled
+    names     10000     a directory with so many names, each added in a version of its own
+    depth     40        a path of so many directories, and 1,000 versions of the file at its end
+    versions  100000    a file with so many versions, and a view that selects one in the middle
+    rules     1000      a config spec of so many rules, of which the last decides on all, and 1,000 versions that it selects
+    labels    10000     a label on each of so many files, and then on the next version of each
+
+So `commands` has ten files for each hundred commands, 10,000 in 1,000 directories at its full size."""
+import sys
+
+
+def draws(seed):
+    """Numbers below 2^31, the same for the same seed."""
+    x = seed
+    while True:
+        x = (x * 6364136223846793005 + 1442695040888963407) % 2**64
+        yield x >> 33
+
+
+def new_version(view, path, text):
+    """The commands that make a version with a text of one line."""
+    return [f"checkout {view} {path}", f"save {view} {path}\n|{text}", f"checkin {view} {path}"]
+
+
+def new_file(view, path, text):
+    """The commands that make a file with a first version, in a directory that is out."""
+    return [f"mkelem {view} {path}", f"save {view} {path}\n|{text}", f"checkin {view} {path}"]
+
+
+def folder_of(number):
+    """The directory of a file, each of which has ten."""
+    return f"d{number // 10}"
+
+
+def files(size):
+    """The commands that make so many files, in directories of ten, and their paths."""
+    paths = [f"{folder_of(n)}/f{n}" for n in range(size)]
+    commands = ["mkview v", "checkout v ."]
+    for number, path in enumerate(paths):
+        if number % 10 == 0:
+            commands.append(f"mkdir v {folder_of(number)}")
+        commands += new_file("v", path, f"first of {number}")
+        if number % 10 == 9 or number == size - 1:
+            commands.append(f"checkin v {folder_of(number)}")
+    return commands + ["checkin v ."], paths
+
+
+def of_commands(size, seed):
+    """Files and directories, and then changes and labels of files that are drawn, up to so many commands."""
+    commands, paths = files(max(size // 10, 1))
+    commands.append("mklbtype REL")
+    numbers = draws(seed)
+    while len(commands) < size:
+        path = paths[next(numbers) % len(paths)]
+        commands += new_version("v", path, f"at command {len(commands)}") + [f"mklabel v -replace REL {path}"]
+    # The last change may be cut short: then a file stays out.
+    return commands[:size]
+
+
+def of_names(size, _seed):
+    """A directory that grows by a name in each of its versions."""
+    commands = ["mkview v", "checkout v .", "mkdir v d", "checkin v d", "checkin v ."]
+    for number in range(size):
+        commands += ["checkout v d", f"mkelem v -nco d/f{number}", "checkin v d"]
+    return commands + [f"cat v d/f{size - 1}"]
+
+
+def of_depth(size, _seed):
+    """Directories in one another, and changes of the file in the last."""
+    folders = ["/".join(["d"] * depth) for depth in range(1, size + 1)]
+    path = "/".join(["d"] * size + ["f"])
+    commands = ["mkview v", "checkout v ."] + [f"mkdir v {folder}" for folder in folders]
+    commands += new_file("v", path, "first") + [f"checkin v {folder}" for folder in reversed(folders)] + ["checkin v ."]
+    for number in range(1000):
+        commands += new_version("v", path, f"change {number}")
+    return commands + [f"cat v {path}"]
+
+
+def of_versions(size, _seed):
+    """A file with many versions, seen at its latest and in the middle."""
+    commands = ["mkview v", "checkout v ."] + new_file("v", "f", "first") + ["checkin v ."]
+    for number in range(2, size + 1):
+        commands += new_version("v", "f", number)
+    spec = f"|element f /main/{size // 2}\n|element * /main/LATEST"
+    return commands + ["cat v f", f"setcs v\n{spec}", "cat v f"]
+
+
+def of_rules(size, _seed):
+    """A config spec whose rules all match and find nothing, but for the last."""
+    commands = ["mkview v", "checkout v ."] + new_file("v", "f", "first") + ["checkin v ."]
+    spec = [f"|element * REL{number}" for number in range(size - 1)] + ["|element * /main/LATEST"]
+    commands.append("\n".join(["setcs v"] + spec))
+    for number in range(1000):
+        commands += new_version("v", "f", f"change {number}")
+    return commands + ["cat v f"]
+
+
+def of_labels(size, _seed):
+    """Files that are all labelled, changed and labelled again."""
+    commands, paths = files(size)
+    commands.append("mklbtype REL")
+    commands += [f"mklabel v REL {path}" for path in paths]
+    for path in paths:
+        commands += new_version("v", path, "second")
+    return commands + [f"mklabel v -replace REL {path}" for path in paths]
+
+
+# What is large: its full size, its least size, its greatest one, and its commands.
+SESSIONS = {
+    "commands": (100_000, 10, None, of_commands),
+    "names": (10_000, 1, None, of_names),
+    "depth": (40, 1, 511, of_depth),
+    "versions": (100_000, 2, None, of_versions),
+    "rules": (1_000, 1, None, of_rules),
+    "labels": (10_000, 1, None, of_labels),
+}
+
+
+def main():
+    words = sys.argv[1:]
+    if not 1 <= len(words) <= 3 or words[0] not in SESSIONS or not all(word.isdecimal() for word in words[1:]):
+        sys.exit(__doc__)
+    full, least, most, commands = SESSIONS[words[0]]
+    size, seed = (int(words[1]) if len(words) > 1 else full), (int(words[2]) if len(words) > 2 else 0)
+    if size < least or (most is not None and size > most):
+        sys.exit(f"{words[0]}: from {least} on" + (f", at most {most}" if most is not None else ""))
+    for line in ["phase", "lane a"] + commands(size, seed):
+        print(line)
+
+
+if __name__ == "__main__":
+    main()
