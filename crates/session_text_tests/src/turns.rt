@@ -1,6 +1,7 @@
 // The commands of a lane that are left: what the next one asks for, and going past it.
 
 use crate::reading::read_bytes;
+use cc_names::memory::NoMemory;
 use session_text::Ahead::{self, Act, Build, Nothing};
 use session_text::CommandsLeft;
 use std::alloc::Global;
@@ -27,22 +28,38 @@ fn first_lane(
     Ok(left)
 }
 
+// Whether a command is left.
+fn is_left(alloc: Global, left: &CommandsLeft) -> Result<bool, NoMemory> {
+    let command = left.peek(alloc)?;
+    Ok(command.is_some())
+}
+
+// The next command asks for this, and is gone past.
+fn assert_turn(
+    rt: &impl Abort,
+    alloc: Global,
+    left: &mut CommandsLeft,
+    turn: Ahead,
+) -> Result<(), NoMemory> {
+    assert_eq!(rt; left.ahead(), turn);
+    assert_eq!(rt; is_left(alloc, left)?, turn != Nothing);
+    left.skip();
+    Ok(())
+}
+
+// The commands ask for these in turn, and then none is left.
 fn assert_turns(
     rt: &impl Abort,
     alloc: Global,
-    mut left: CommandsLeft,
+    left: &mut CommandsLeft,
     turns: &[Ahead],
-) -> Result<(), Fail> {
+) -> Result<(), NoMemory> {
     assert_eq!(rt; left.count(), turns.len());
     for turn in turns {
-        assert_eq!(rt; left.ahead(), *turn);
-        assert!(rt; left.peek(alloc)?.is_some());
-        left.skip();
+        assert_turn(rt, alloc, left, *turn)?;
     }
-    left.skip();
-    assert_eq!(rt; left.ahead(), Nothing);
-    assert!(rt; left.peek(alloc)?.is_none());
-    Ok(())
+    assert_turn(rt, alloc, left, Nothing)?;
+    assert_turn(rt, alloc, left, Nothing)
 }
 
 #[test]
@@ -57,8 +74,8 @@ fn each_command_has_its_turn(rt: HostRuntime) -> Result<(), Fail> {
             [Act, Act, Build, Act].as_slice(),
         ),
     ] {
-        let left = first_lane(&rt, rt.alloc(), hashing, text.as_bytes())?;
-        assert_turns(&rt, rt.alloc(), left, turns)?;
+        let mut left = first_lane(&rt, rt.alloc(), hashing, text.as_bytes())?;
+        assert_turns(&rt, rt.alloc(), &mut left, turns)?;
     }
     Ok(())
 }
