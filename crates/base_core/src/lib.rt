@@ -13,7 +13,7 @@
 // of objects stays as it was.
 //
 // What it stands on: `carried_out` for what is made so far, `vob_journal`, `row_form` and `disk_model` for the disk,
-// `checkout_desk` for the decisions on rows, `cleartool` for the answers to queries,
+// `checkout_desk` for the decisions on rows, `cleartool` for the answers to queries and the names of versions,
 // `build_core` for builds, `legal_history` for the model and the laws of builds in legal stories,
 // `view_lookup` and `session_text`, `build_script` and `make_text` for scripts and units, and `cc_names` for plain data.
 #![tactic(auto)]

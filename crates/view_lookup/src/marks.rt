@@ -51,7 +51,8 @@ pub(crate) fn mark_all(
     requires links { vec_len links.old + length (subjects row targets.now branch deed.now)
         ≤ vec_capacity links.old }
     requires newest { length (subjects row targets.now branch deed.now) ≤ spare newest.old }
-    ensures { MarksAll row (map (key hashing) (subjects row targets.now branch deed.now)) links.old.items
+    ensures { MarksAll row (map (key hashing) (subjects row targets.now branch deed.now))
+        links.old.items
         (get nat_eq newest.old) links.new.items (get nat_eq newest.new) }
 {
     let mut index = 0;

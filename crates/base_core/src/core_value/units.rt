@@ -146,7 +146,8 @@ impl<D: Disk> Core<D> {
         targets: &[Path],
     ) -> Result<Ended, NoMemory>
         requires { IsStarted (state_of self.now.story) lane unit script.now targets.now }
-        ensures { IfOk result (λ ended. IsRunOfUnit (state_of self.now.story) lane unit (ran_of ended)) }
+        ensures { IfOk result
+            (λ ended. IsRunOfUnit (state_of self.now.story) lane unit (ran_of ended)) }
     {
         run_unit(
             alloc,
