@@ -1,2 +1,3 @@
 pub mod BranchNames
 pub mod NextNames
+pub mod NamesBack

@@ -1,11 +1,11 @@
 -- Each branch on the way up leaves the next one, among fewer rows.
 use Rattle.std.proofs.Common.{◌≡◌, ℕ, zero, suc, ◌<◌, ◌≤◌, List, [], ◌∷◌, ◌++◌, Option, length, map, reverse, append-nil, append_assoc, refl, ap, ap₂, sym, subst, ◌∙◌, arith, Bor}
-use Rattle.std.proofs.lemmas.List.{map-append, reverse-append}
 use Rattle.cleartool.specs.Naming.{names_above}
 use Rattle.legal_history.specs.Base.Changes.{tree}
 use Rattle.legal_history.specs.Base.Rows.{Base, first_rows, size}
 use Rattle.legal_history.proofs.Bases.Stay.{all_rows}
 use Rattle.view_lookup.proofs.Fronts.{size_of_first}
+use Rattle.cleartool.proofs.NamesBack.{one_more}
 use Rattle.cleartool.proofs.version_names.names_upwards.Goals as goal
 
 at_most_itself : (n : ℕ) → n ≤ n
@@ -17,12 +17,6 @@ fewer b zero behind below = absurd (omega (arith, behind))
 fewer b (suc n) behind below =
     let size_is = size_of_first b n (omega (arith, below)) in
     omega (arith, size_is, below)
-
--- one more name stands before those that were found later
-one_more : (items : List (Bor (List ℕ))) (name : Bor (List ℕ)) → reverse (map (λ (name : Bor (List ℕ)). name.now) (items ++ name ∷ [])) ≡ name.now ∷ reverse (map (λ (name : Bor (List ℕ)). name.now) items)
-one_more items name =
-    ap reverse (map-append (λ (name : Bor (List ℕ)). name.now) items (name ∷ []))
-    ∙ reverse-append (map (λ (name : Bor (List ℕ)). name.now) items) (name.now ∷ [])
 
 pub loop-next-init : goal.loop-next-init
 loop-next-init c =

@@ -1,14 +1,8 @@
 -- The last name that is left goes behind what is written.
 use Rattle.std.proofs.Common.{◌≡◌, ℕ, ◌<◌, List, [], ◌∷◌, ◌++◌, length, map, reverse, append-nil, append_assoc, refl, ap, sym, ◌∙◌, arith, Bor, vec_len, rules}
-use Rattle.std.proofs.lemmas.List.{map-append, reverse-append}
 use Rattle.legal_history.specs.Queries.VersionNames.{behind_slashes}
+use Rattle.cleartool.proofs.NamesBack.{one_more}
 use Rattle.cleartool.proofs.version_names.push_names.Goals as goal
-
--- names with one more behind them, told from the last one on
-one_more : (items : List (Bor (List ℕ))) (name : Bor (List ℕ)) → reverse (map (λ (name : Bor (List ℕ)). name.now) (items ++ name ∷ [])) ≡ name.now ∷ reverse (map (λ (name : Bor (List ℕ)). name.now) items)
-one_more items name =
-    ap reverse (map-append (λ (name : Bor (List ℕ)). name.now) items (name ∷ []))
-    ∙ reverse-append (map (λ (name : Bor (List ℕ)). name.now) items) (name.now ∷ [])
 
 shorter : (items : List (Bor (List ℕ))) (name : Bor (List ℕ)) → length items < length (items ++ name ∷ [])
 shorter [] name = omega arith
