@@ -8,7 +8,8 @@
 
 NAME says what is large, SIZE how large: the size of the table below where none is given. What costs a look-up the same however large a
 base is takes twice the time at twice the size. No command of a session is refused, so the status is 0; each session wants a
-base of its own. The same NAME, SIZE and SEED (0 where none is given) give the same session; only `commands` draws.
+base of its own, but for `again`, which goes on with the base of one that builds. The same NAME, SIZE and SEED (0 where none is
+given) give the same session; only `commands` draws.
 
     NAME      SIZE      the session
     commands  100000    so many commands: files in directories of 10, and then files drawn to be changed and labelled
@@ -17,8 +18,13 @@ base of its own. The same NAME, SIZE and SEED (0 where none is given) give the s
     versions  100000    a file with so many versions, and a view that selects one in the middle
     rules     1000      a config spec of so many rules, of which the last decides on all, and 1,000 versions that it selects
     labels    10000     a label on each of so many files, and then on the next version of each
+    views     1000      seven views that build the same so many targets, each from a version of its own
+    entries   9999      so many units, each of which reads the same 100 versions, built by two views
+    records   100000    so many live objects of one target, each of another script, and ten builds that wink in the oldest ones
+    again     1         so many builds of the view `v` with nothing to do, on the base that `views` or `entries` left
 
-So `commands` has ten files for each hundred commands, 10,000 in 1,000 directories at its full size."""
+So `commands` has ten files for each hundred commands, 10,000 in 1,000 directories at its full size. What a build with nothing
+to do costs is the time of `again 2` less that of `again 1`; the rest of `again 1` is the opening of the base."""
 import sys
 
 
@@ -78,6 +84,48 @@ def of_names(size, _seed):
     return commands + [f"cat v d/f{size - 1}"]
 
 
+def a_makefile(lines):
+    """The commands that bring in a makefile of these lines, in a root that is not out."""
+    body = "".join(f"\n|{line}" for line in lines)
+    return ["checkout v .", "mkelem v Makefile", f"save v Makefile{body}", "checkin v Makefile", "checkin v ."]
+
+
+def targets(count):
+    """The names of so many targets."""
+    return [f"o{number}" for number in range(count)]
+
+
+def of_views(size, _seed):
+    """Seven views: the first builds a target from each of so many files, and the others wink these in."""
+    commands, paths = files(size)
+    rules = [line for name, path in zip(targets(size), paths) for line in (f"{name}: {path}", f"\tcat {path} > {name}")]
+    commands += a_makefile(["all: " + " ".join(targets(size))] + rules)
+    commands += [f"mkview v{number}" for number in range(1, 7)] + ["phase", "lane b", "clearmake v"]
+    for number in range(1, 7):
+        commands += [f"lane b{number}", f"clearmake v{number}"]
+    return commands
+
+
+def of_entries(size, _seed):
+    """Units that read the same hundred files, built by one view and winked in by another."""
+    commands, paths = files(100)
+    rules = [line for name in targets(size) for line in (f"{name}:", f"\tcat $(ALL) > {name}")]
+    commands += a_makefile(["ALL = " + " ".join(paths), "all: " + " ".join(targets(size))] + rules)
+    return commands + ["mkview w", "phase", "lane b", "clearmake v", "lane c", "clearmake w"]
+
+
+def of_records(size, _seed):
+    """Objects of one target that differ in a macro, and builds of another view that look through all of them."""
+    commands = ["mkview v"] + a_makefile(["out:", "\techo $(NOTE) > out"])
+    commands += [f"clearmake v -u NOTE={number}" for number in range(size)] + ["mkview w"]
+    return commands + [f"clearmake w NOTE={number}" for number in range(min(size, 10))]
+
+
+def of_again(size, _seed):
+    """Builds of a view that has built all."""
+    return ["clearmake v"] * size
+
+
 def of_depth(size, _seed):
     """Directories in one another, and changes of the file in the last."""
     folders = ["/".join(["d"] * depth) for depth in range(1, size + 1)]
@@ -126,6 +174,10 @@ SESSIONS = {
     "versions": (100_000, 2, None, of_versions),
     "rules": (1_000, 1, None, of_rules),
     "labels": (10_000, 1, None, of_labels),
+    "views": (1_000, 1, 9_999, of_views),
+    "entries": (9_999, 1, 9_999, of_entries),
+    "records": (100_000, 1, None, of_records),
+    "again": (1, 1, None, of_again),
 }
 
 

@@ -9,7 +9,7 @@ pub mod Noting
 pub mod ObjectSteps
 pub mod OpenSteps
 pub mod PlanSteps
-pub mod Publishing
 pub mod StepsSo
 pub mod UnitCalls
 pub mod UnitNotes
+pub mod UnitRows

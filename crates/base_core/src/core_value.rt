@@ -3,6 +3,7 @@
 mod acting;
 mod building;
 mod looks;
+mod unit_rows;
 mod units;
 
 use crate::history::History;

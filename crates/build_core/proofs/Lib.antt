@@ -1,4 +1,5 @@
 mod Cames
+mod ChosenObjects
 mod Early
 mod Members
 mod NeededUnits

@@ -1,6 +1,6 @@
 -- The newest live object whose record matches a unit is the newest one of the unit's targets that is of its script and of what it
 -- sees.
-use Rattle.std.proofs.Common.{◌≡◌, refl, ap, ◌∙◌, ℕ, ◌<◌, Bool, true, false, ◌&&◌, Option, Some, List, [], ◌∷◌, bytes_eq, arith}
+use Rattle.std.proofs.Common.{◌≡◌, refl, ap, ◌∙◌, ℕ, ◌<◌, Bool, true, false, ◌&&◌, Option, Some, [], ◌∷◌, bytes_eq, arith}
 use Rattle.std.specs.Prelude.{is_some}
 use Rattle.std.specs.List.{list_all}
 use Rattle.std.proofs.lemmas.Bool.Decides.{Decides-eqb}

@@ -1,6 +1,7 @@
 -- What comes next for a unit of an active build.
 use Rattle.std.specs.Prelude.{◌≡◌, ℕ, ◌<◌, Bool, true, false, Option, Some, None, Ok, Err, List, [], ◌∷◌, length}
 use Rattle.std.specs.Option.{option_or}
+use Rattle.cc_names.specs.Versions.{is_number}
 use Rattle.cc_names.specs.declared.refusals.ScriptFault.{ScriptFault}
 use Rattle.cc_names.specs.declared.steps.UnitEnd.{UnitEnd}
 use Rattle.cc_names.specs.declared.units.Unit.{Unit}
@@ -9,6 +10,7 @@ use Rattle.build_script.specs.declared.lines.Line.{Line}
 use Rattle.legal_history.specs.Base.Rows.{Base, first_rows}
 use Rattle.legal_history.specs.Builds.Active.{Build, came_to, is_outcome, unit_at, unit_with}
 use Rattle.legal_history.specs.Builds.Fresh.{script_text}
+use Rattle.legal_history.specs.Builds.Reuse.{held_at_all, reusable}
 use Rattle.legal_history.specs.Builds.Turns.{early_in, is_ready}
 use Rattle.build_core.specs.declared.steps.UnitStep.{UnitStep}
 use Rattle.build_core.specs.declared.steps.UnitStep.TheVariants as next
@@ -44,31 +46,50 @@ pub record IsOpen (rows : Base) (build : Build) (unit : Unit) : Type 0 where
   pub ready : is_ready build unit ≡ true
   pub runs : early_in rows build unit ≡ None
 
--- the unit is open, and its script was read
-pub record Starts (rows : Base) (build : Build) (unit : Unit) (script : List Line) (targets : List (List ℕ)) : Type 0 where
-  pub open_unit : IsOpen rows build unit
+-- unit n is open, and the object that it may reuse is the one that its build's view holds at every target
+pub record Keeps (b : Base) (build : Build) (n : ℕ) (unit : Unit) (id : ℕ) : Type 0 where
+  pub open_unit : IsOpen (first_rows build.rows b) build unit
+  pub chosen : reusable b build n unit ≡ Some id
+  pub holds : held_at_all b build.view unit.targets ≡ Some id
+
+-- unit n is open, and its build's view does not hold the object that it may reuse at every target
+pub record Winks (b : Base) (build : Build) (n : ℕ) (unit : Unit) (id : ℕ) : Type 0 where
+  pub open_unit : IsOpen (first_rows build.rows b) build unit
+  pub chosen : reusable b build n unit ≡ Some id
+  pub lacks : is_number id (held_at_all b build.view unit.targets) ≡ false
+
+-- unit n is open, and may reuse no object
+pub record IsToRun (b : Base) (build : Build) (n : ℕ) (unit : Unit) : Type 0 where
+  pub open_unit : IsOpen (first_rows build.rows b) build unit
+  pub nothing : reusable b build n unit ≡ None
+
+-- unit n is to run, and its script was read
+pub record Starts (b : Base) (build : Build) (n : ℕ) (unit : Unit) (script : List Line) (targets : List (List ℕ)) : Type 0 where
+  pub to_run : IsToRun b build n unit
   pub script_is : script_of (script_text unit.script) ≡ Ok script
   pub targets_are : targets ≡ unit.targets
 
--- the unit is open, and its script cannot be read
-pub record IsUnreadable (rows : Base) (build : Build) (unit : Unit) (fault : ScriptFault) : Type 0 where
-  pub open_unit : IsOpen rows build unit
+-- unit n is to run, and its script cannot be read
+pub record IsUnreadable (b : Base) (build : Build) (n : ℕ) (unit : Unit) (fault : ScriptFault) : Type 0 where
+  pub to_run : IsToRun b build n unit
   pub fault_is : script_of (script_text unit.script) ≡ Err fault
 
--- what comes next for a unit without an outcome
-abbrev pub IsNext : Base → Build → Unit → UnitStep → Type 0
-IsNext rows build unit next.Settled = ⊥
-IsNext rows build unit (next.NotReady m) = Awaits build unit m
-IsNext rows build unit (next.Settle end) = EndsEarly rows build unit end
-IsNext rows build unit (next.Start script targets) = Starts rows build unit script targets
-IsNext rows build unit (next.Unreadable fault) = IsUnreadable rows build unit fault
+-- what comes next for unit n, which has no outcome
+abbrev pub IsNext : Base → Build → ℕ → Unit → UnitStep → Type 0
+IsNext b build n unit next.Settled = ⊥
+IsNext b build n unit (next.NotReady m) = Awaits build unit m
+IsNext b build n unit (next.Settle end) = EndsEarly (first_rows build.rows b) build unit end
+IsNext b build n unit (next.Keep id) = Keeps b build n unit id
+IsNext b build n unit (next.Wink id) = Winks b build n unit id
+IsNext b build n unit (next.Start script targets) = Starts b build n unit script targets
+IsNext b build n unit (next.Unreadable fault) = IsUnreadable b build n unit fault
 
 -- unit n has no outcome, and this comes next for it
 pub record Waits (b : Base) (build : Build) (n : ℕ) (step : UnitStep) : Type 0 where
   pub unit : Unit
   pub is_unit : unit_at build n ≡ Some unit
   pub waits : is_outcome (came_to build n) ≡ false
-  pub next : IsNext (first_rows build.rows b) build unit step
+  pub next : IsNext b build n unit step
 
 -- What comes next for unit n of a build: nothing where it has its outcome.
 abbrev pub IsStep : Base → Build → ℕ → UnitStep → Type 0

@@ -3,7 +3,8 @@
 // What it is for: `plan_build` decides a clearmake: `graph` says which units its build has, over the files of its view,
 // or why it is refused. An `ActiveBuild` keeps what its units have come to; `step` says what comes next for a unit,
 // `run_unit` runs its script over what the unit sees, `reusable` says which object it may reuse in place of a run,
-// `publish_row` makes the row of what the run gave, and `reply_of` says what a build that has ended is replied.
+// `publish_row` makes the row of what the run gave, `wink_row` that by which the view takes an object in, and `reply_of` says
+// what a build that has ended is replied.
 //
 // What it promises: a clearmake is decided as the model decides it, and what it begins is formed. The units, or the refusal
 // in their place, are those of the definition of the units of a build, for any files, makefile, macros and goals. An active
@@ -28,6 +29,7 @@ mod reuse;
 mod runs;
 mod sights;
 mod steps;
+mod winks;
 
 pub use active::{ActiveBuild, Came};
 pub use begins::plan_build;
@@ -38,3 +40,4 @@ pub use replies::reply_of;
 pub use reuse::reusable;
 pub use runs::run_unit;
 pub use steps::{UnitStep, step};
+pub use winks::wink_row;

@@ -8,6 +8,7 @@ ghost use Rattle.legal_history.specs.Base.Views.{view_row};
 ghost use Rattle.legal_history.specs.Builds.Active.{unit_at};
 ghost use Rattle.legal_history.specs.Builds.Choices.{visible};
 ghost use Rattle.legal_history.specs.Builds.Reuse.{agrees, entry_agrees, held_at_all, if_matches, matches, newest_match, reusable};
+ghost use Rattle.build_core.specs.Reusing.{object_chosen, IsChosen};
 ghost use Rattle.build_core.specs.Sights.{AreNeeds};
 
 use crate::active::ActiveBuild;
@@ -19,6 +20,29 @@ use cc_names::units::Unit;
 use make_graph::closures::Closure;
 use std::alloc::Global;
 use view_lookup::{FirstRows, RecordTest, held_at_all, newest_object, publishes, row_at};
+
+/// The object that a unit may reuse, if there is one, by whether its build's view holds it.
+#[derive(Clone, Copy)]
+pub(crate) enum Chosen {
+    /// There is none.
+    Nothing,
+    /// This one, which the view holds at every target.
+    Held(u64),
+    /// This one, which the view does not hold at every target.
+    Other(u64),
+}
+
+impl Chosen {
+    /// The object, however the view holds it.
+    fn object(self) -> Option<u64>
+        ensures { result ≡ object_chosen self }
+    {
+        match self {
+            Chosen::Nothing => None,
+            Chosen::Held(id) | Chosen::Other(id) => Some(id),
+        }
+    }
+}
 
 /// A unit of an active build, with which the records of objects are compared.
 #[derive(Drop)]
@@ -112,18 +136,60 @@ fn newest_match(unit: &Compared<'_>) -> Option<u64>
     newest_object(unit.rows, unit.unit.targets.as_slice(), unit)
 }
 
-/// The object of the view, else the newest unless the view's own alone may be reused.
-fn own_or_newest(unit: &Compared<'_>) -> Option<u64>
-    requires { unit.now.build.now.rebuild ≡ false }
-    ensures { result
-        ≡ reusable unit.now.rows.now unit.now.build.now unit.now.number unit.now.unit.now }
+/// The newest live object whose record matches, where the view's own does not.
+fn other_match(unit: &Compared<'_>) -> Chosen
+    requires rebuild { unit.now.build.now.rebuild ≡ false }
+    requires any { unit.now.build.now.own_only ≡ false }
+    requires own { let b = unit.now.rows.now in
+        let build = unit.now.build.now in
+        if_matches b build unit.now.number unit.now.unit.now
+        (held_at_all b build.view unit.now.unit.now.targets)
+        ≡ None }
+    ensures { IsChosen unit.now.rows.now unit.now.build.now unit.now.number unit.now.unit.now result }
 {
-    let own = own_match(unit);
-    if own.is_some() || unit.build.own_only() {
-        own
-    } else {
-        newest_match(unit)
+    match newest_match(unit) {
+        Some(id) => Chosen::Other(id),
+        None => Chosen::Nothing,
     }
+}
+
+/// The object of the view, else the newest unless the view's own alone may be reused.
+fn own_or_newest(unit: &Compared<'_>) -> Chosen
+    requires { unit.now.build.now.rebuild ≡ false }
+    ensures { IsChosen unit.now.rows.now unit.now.build.now unit.now.number unit.now.unit.now result }
+{
+    match own_match(unit) {
+        Some(id) => Chosen::Held(id),
+        None if unit.build.own_only() => Chosen::Nothing,
+        None => other_match(unit),
+    }
+}
+
+/// The object that a unit of an active build may reuse, as `reusable` has it, and whether the view holds it at every target.
+pub(crate) fn choose(
+    alloc: Global,
+    rows: &FirstRows<'_>,
+    build: &ActiveBuild,
+    unit: u32,
+) -> Result<Chosen, NoMemory>
+    requires unit { unit < length build.now.units }
+    requires view { IsSome (view_row (first_rows build.now.rows rows.now) build.now.view) }
+    ensures { (it : units.Unit)
+        → unit_at build.now unit ≡ Some it
+        → IfOk result (IsChosen rows.now build.now unit it) }
+{
+    if build.rebuild() {
+        return Ok(Chosen::Nothing);
+    }
+    let closure = build.needs(alloc, unit)?;
+    let compared = Compared {
+        rows,
+        build,
+        number: unit,
+        unit: &build.units()[unit as usize],
+        closure: &closure,
+    };
+    Ok(own_or_newest(&compared))
 }
 
 /// The object that a unit of an active build may reuse: the one that the build's view holds at every target, where its record
@@ -146,16 +212,6 @@ pub fn reusable(
         → unit_at build.now unit ≡ Some it
         → IfOk result (λ found. found ≡ reusable rows.now build.now unit it) }
 {
-    if build.rebuild() {
-        return Ok(None);
-    }
-    let closure = build.needs(alloc, unit)?;
-    let compared = Compared {
-        rows,
-        build,
-        number: unit,
-        unit: &build.units()[unit as usize],
-        closure: &closure,
-    };
-    Ok(own_or_newest(&compared))
+    let chosen = choose(alloc, rows, build, unit)?;
+    Ok(chosen.object())
 }

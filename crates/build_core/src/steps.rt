@@ -1,16 +1,18 @@
 // What comes next for a unit of an active build.
 
-ghost use Rattle.std.specs.Prelude.{◌≡◌, ◌<◌, ◌^◌, true, false, length, IfOk, IfSome, IsSome};
+ghost use Rattle.std.specs.Prelude.{◌≡◌, ◌<◌, ◌^◌, ℕ, true, false, Some, length, IfOk, IfSome, IsSome};
 ghost use Rattle.cc_names.specs.Answers.{Gives};
 ghost use Rattle.build_script.specs.Lines.{script_of};
-ghost use Rattle.legal_history.specs.Base.Rows.{first_rows};
-ghost use Rattle.legal_history.specs.Builds.Active.{came_to, is_outcome};
+ghost use Rattle.legal_history.specs.Base.Rows.{Base, first_rows};
+ghost use Rattle.legal_history.specs.Builds.Active.{Build, came_to, is_outcome, unit_at};
 ghost use Rattle.legal_history.specs.Builds.Fresh.{script_text};
+ghost use Rattle.legal_history.specs.Builds.Turns.{early_in};
 ghost use Rattle.legal_history.specs.Base.Views.{view_row};
-ghost use Rattle.build_core.specs.UnitSteps.{first_awaited, IsNext, IsStep, IsOpen};
+ghost use Rattle.build_core.specs.UnitSteps.{first_awaited, IsNext, IsOpen, IsStep, IsToRun};
 
 use crate::active::ActiveBuild;
 use crate::ends::early;
+use crate::reuse::{Chosen, choose};
 use build_script::scripts::Script;
 use cc_names::copies::Copied;
 use cc_names::lists::List;
@@ -29,11 +31,15 @@ pub enum UnitStep {
     Settled,
     /// It waits for this unit, the first of those that make its prerequisites and have no outcome.
     NotReady(u32),
-    /// It ends without a run.
+    /// It ends without a run and without an object.
     Settle(UnitEnd),
-    /// Its script, and the targets that a run is to write.
+    /// It keeps this object, which its build's view holds at every target.
+    Keep(u64),
+    /// Its build's view takes this object in, which it does not hold at every target.
+    Wink(u64),
+    /// It may reuse no object: its script, and the targets that a run is to write.
     Start(Script, List<Path>),
-    /// Its script cannot be read.
+    /// It may reuse no object, and its script cannot be read.
     Unreadable(ScriptFault),
 }
 
@@ -75,15 +81,11 @@ fn read_script(alloc: Global, unit: &Unit) -> Result<Script, Or<ScriptFault>>
     Script::read(alloc, text)
 }
 
-/// The start of an open unit.
-fn start(
-    alloc: Global,
-    rows: &FirstRows<'_>,
-    build: &ActiveBuild,
-    unit: &Unit,
-) -> Result<UnitStep, NoMemory>
-    requires { IsOpen rows.now build.now unit.now }
-    ensures { IfOk result (λ step. IsNext rows.now build.now unit.now step) }
+/// The start of a unit that is to run.
+fn start(alloc: Global, unit: &Unit) -> Result<UnitStep, NoMemory>
+    ensures { (b : Base) (build : Build) (n : ℕ)
+        → IsToRun b build n unit.now
+        → IfOk result (λ step. IsNext b build n unit.now step) }
 {
     match read_script(alloc, unit) {
         Ok(script) => {
@@ -95,30 +97,71 @@ fn start(
     }
 }
 
-/// What comes next for a unit without an outcome, where these are the rows that its build sees.
-fn next(
+/// The step of an open unit: by the object that it may reuse, else its start.
+fn reuse_or_start(
+    alloc: Global,
+    rows: &FirstRows<'_>,
+    build: &ActiveBuild,
+    number: u32,
+    unit: &Unit,
+) -> Result<UnitStep, NoMemory>
+    requires unit { unit_at build.now number ≡ Some unit.now }
+    requires view { IsSome (view_row (first_rows build.now.rows rows.now) build.now.view) }
+    requires open_unit { IsOpen (first_rows build.now.rows rows.now) build.now unit.now }
+    ensures { IfOk result (λ step. IsNext rows.now build.now number unit.now step) }
+{
+    match choose(alloc, rows, build, number)? {
+        Chosen::Held(id) => Ok(UnitStep::Keep(id)),
+        Chosen::Other(id) => Ok(UnitStep::Wink(id)),
+        Chosen::Nothing => start(alloc, unit),
+    }
+}
+
+/// The end of a unit without a run, by the rows that its build sees.
+fn end_without_run(
     alloc: Global,
     rows: &FirstRows<'_>,
     build: &ActiveBuild,
     unit: &Unit,
+) -> Result<Option<UnitEnd>, NoMemory>
+    requires { IsSome (view_row (first_rows build.now.rows rows.now) build.now.view) }
+    ensures { IfOk result
+        (λ end.
+        end
+        ≡ early_in (first_rows build.now.rows rows.now) build.now unit.now) }
+{
+    let seen = first_rows(rows, build.rows());
+    early(alloc, &seen, build, unit)
+}
+
+/// What comes next for a unit without an outcome.
+fn next(
+    alloc: Global,
+    rows: &FirstRows<'_>,
+    build: &ActiveBuild,
+    number: u32,
+    unit: &Unit,
 ) -> Result<UnitStep, NoMemory>
+    requires unit { unit_at build.now number ≡ Some unit.now }
     requires few { length build.now.units < 2 ^ 32 }
-    requires view { IsSome (view_row rows.now build.now.view) }
-    ensures { IfOk result (λ step. IsNext rows.now build.now unit.now step) }
+    requires view { IsSome (view_row (first_rows build.now.rows rows.now) build.now.view) }
+    ensures { IfOk result (λ step. IsNext rows.now build.now number unit.now step) }
 {
     if let Some(other) = first_awaited(build, unit.prerequisites.as_slice()) {
         return Ok(UnitStep::NotReady(other));
     }
-    if let Some(end) = early(alloc, rows, build, unit)? {
+    if let Some(end) = end_without_run(alloc, rows, build, unit)? {
         return Ok(UnitStep::Settle(end));
     }
-    start(alloc, rows, build, unit)
+    reuse_or_start(alloc, rows, build, number, unit)
 }
 
-/// What comes next for a unit of an active build: nothing where it has its outcome; else the
-/// wait for another unit, the end without a run, or its start with its script. Fails only where memory runs out.
+/// What comes next for a unit of an active build: nothing where it has its outcome; else the wait for another unit, the end
+/// without a run, the object that it keeps or that its view takes in, or its start with its script. Fails only where memory
+/// runs out.
 ///
-/// Takes look-ups by the paths of the unit's prerequisites and targets, and time linear in the bytes of the script.
+/// Takes look-ups by the paths of the unit's prerequisites and targets; what `reusable` takes; and where it may reuse no object
+/// time linear in the bytes of the script.
 pub fn step(
     alloc: Global,
     rows: &FirstRows<'_>,
@@ -133,6 +176,5 @@ pub fn step(
     if build.has_outcome(unit) {
         return Ok(UnitStep::Settled);
     }
-    let rows = first_rows(rows, build.rows());
-    next(alloc, &rows, build, &build.units()[unit as usize])
+    next(alloc, rows, build, unit, &build.units()[unit as usize])
 }

@@ -1,5 +1,5 @@
 -- What the program carries out so far: the commands, and the deeds that its rows may have.
-use Rattle.std.specs.Prelude.{◌≡◌, Bool, true, false, None}
+use Rattle.std.specs.Prelude.{◌≡◌, Bool, true, false}
 use Rattle.std.specs.List.{AllByRecursion}
 use Rattle.cc_names.specs.declared.commands.Command.{Command}
 use Rattle.cc_names.specs.declared.commands.Command.TheVariants as commands
@@ -9,7 +9,7 @@ use Rattle.cc_names.specs.declared.commands.Session.{Session}
 use Rattle.cc_names.specs.declared.rows.Deed.{Deed}
 use Rattle.cc_names.specs.declared.rows.Deed.TheVariants as deeds
 
--- whether a command is carried out; `cat` so far of no named version
+-- whether a command is carried out
 abbrev pub is_carried_out : Command → Bool
 is_carried_out (commands.Mkview view) = true
 is_carried_out (commands.Rmview view force) = true
@@ -30,7 +30,9 @@ is_carried_out (commands.Mklabel view replace label path) = true
 is_carried_out (commands.Rmlabel view label path) = true
 is_carried_out (commands.Clearmake view file own_only rebuild jobs macros goals) = true
 is_carried_out (commands.Catcs view) = true
-is_carried_out (commands.Cat view path None) = true
+is_carried_out (commands.Cat view path version) = true
+is_carried_out (commands.Describe view path) = true
+is_carried_out (commands.Lshistory view path) = true
 is_carried_out command = false
 
 -- whether a command that is carried out, or a unit of a build, may make a row of this deed
@@ -52,6 +54,7 @@ is_made (deeds.Mktype kind name) = true
 is_made (deeds.Label label element version) = true
 is_made (deeds.Unlabel label element) = true
 is_made (deeds.Publish view targets script entries outputs) = true
+is_made (deeds.Wink view object) = true
 is_made deed = false
 
 -- All commands of a lane are carried out.

@@ -15,7 +15,7 @@ ghost use Rattle.carried_out.specs.CarriedOut.{is_carried_out, is_made};
 use cc_names::commands::Command;
 use cc_names::rows::Deed;
 
-/// Whether a command is carried out, with whatever words; `cat` so far of no named version. Takes constant time.
+/// Whether a command is carried out, with whatever words. Takes constant time.
 pub fn is_carried_out(command: &Command) -> bool
     ensures { result ≡ is_carried_out command.now }
 {
@@ -40,7 +40,9 @@ pub fn is_carried_out(command: &Command) -> bool
             | Command::Rmlabel { .. }
             | Command::Clearmake { .. }
             | Command::Catcs { .. }
-            | Command::Cat { version: None, .. }
+            | Command::Cat { .. }
+            | Command::Describe { .. }
+            | Command::Lshistory { .. }
     )
 }
 
@@ -67,5 +69,6 @@ pub fn is_made(deed: &Deed) -> bool
             | Deed::Label { .. }
             | Deed::Unlabel { .. }
             | Deed::Publish { .. }
+            | Deed::Wink { .. }
     )
 }

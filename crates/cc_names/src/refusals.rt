@@ -31,8 +31,6 @@ pub struct SpecError {
 /// Why a makefile cannot be read.
 #[derive(Clone, Copy, Debug, PartialEq, Eq)]
 pub enum MakeCause {
-    /// What this line asks for is not carried out yet.
-    NotBuilt,
     /// It is no line of a makefile.
     BadLine,
     /// A `$` that begins no macro, or a macro without a proper name.

@@ -1,3 +1,5 @@
 pub mod BranchNames
 pub mod NextNames
 pub mod NamesBack
+pub mod HistoryRows
+pub mod Refused

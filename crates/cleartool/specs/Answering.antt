@@ -3,6 +3,7 @@ use Rattle.std.specs.Prelude.{◌≡◌, ℕ, Result, Ok, Err, List}
 use Rattle.cc_names.specs.declared.memory.Or.{Or}
 use Rattle.cc_names.specs.declared.memory.Or.TheVariants.{NoMemory, Is}
 use Rattle.cc_names.specs.declared.refusals.Refusal.{Refusal}
+use Rattle.cc_names.specs.declared.selection.Picked.{Picked}
 use Rattle.legal_history.specs.Commands.Decisions.{Decision, Answers}
 
 -- the text or the refusal that was decided, unless memory ran out
@@ -10,3 +11,10 @@ abbrev pub AnswersAs : Result (List ℕ) (Or Refusal) → Result Decision Refusa
 AnswersAs (Ok text) decision = decision ≡ Ok (Answers text)
 AnswersAs (Err (Is refusal)) decision = decision ≡ Err refusal
 AnswersAs (Err NoMemory) decision = Unit {0}
+
+-- the element that was found, and what was picked of it, is that of which a text answers, whatever it tells; where there is none
+-- the refusal was decided
+abbrev pub FindsSelected : Result (ℕ × Picked) (Or Refusal) → ((ℕ → Picked → List ℕ) → Result Decision Refusal) → Type 0
+FindsSelected (Ok found) decided = (text : ℕ → Picked → List ℕ) → decided text ≡ Ok (Answers (text found.0 found.1))
+FindsSelected (Err (Is refusal)) decided = (text : ℕ → Picked → List ℕ) → decided text ≡ Err refusal
+FindsSelected (Err NoMemory) decided = Unit {0}

@@ -1,2 +1,4 @@
 pub mod Answering
 pub mod Naming
+pub mod Histories
+pub mod Descriptions

@@ -8,7 +8,10 @@ ghost use Rattle.legal_history.specs.Commands.Lines.{decision};
 ghost use Rattle.cleartool.specs.Answering.{AnswersAs};
 
 use crate::config_specs::catcs;
+use crate::descriptions::describe;
 use crate::file_texts::cat;
+use crate::histories::lshistory;
+use crate::version_texts::cat_version;
 use cc_names::commands::Command;
 use cc_names::memory::Or;
 use cc_names::refusals::Refusal;
@@ -30,6 +33,13 @@ pub fn answer(alloc: Global, rows: &FirstRows<'_>, command: &Command) -> Result<
             path,
             version: None,
         } => cat(alloc, rows, view, path),
+        Command::Cat {
+            view,
+            path,
+            version: Some(name),
+        } => cat_version(alloc, rows, view, path, name),
+        Command::Describe { view, path } => describe(alloc, rows, view, path),
+        Command::Lshistory { view, path } => lshistory(alloc, rows, view, path),
         _ => unreachable!(),
     }
 }

@@ -66,7 +66,7 @@ fn text_row(rows: &FirstRows<'_>, view: &Name, path: &Path) -> Option<u64>
 }
 
 /// The text that a row made at a path; no bytes where there is none.
-fn text_at<'a>(rows: &FirstRows<'a>, path: &Path, row: Option<u64>) -> &'a [u8]
+pub(crate) fn text_at<'a>(rows: &FirstRows<'a>, path: &Path, row: Option<u64>) -> &'a [u8]
     ensures { result.now ≡ text_at rows.now path.now row }
 {
     match row {

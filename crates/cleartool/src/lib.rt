@@ -11,9 +11,13 @@
 
 mod answers;
 mod config_specs;
+mod descriptions;
 mod file_texts;
+mod found;
+mod histories;
 mod queries;
 mod version_names;
+mod version_texts;
 
 pub use answers::answer;
 pub use queries::is_query;

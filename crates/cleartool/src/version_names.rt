@@ -6,7 +6,7 @@ ghost use Rattle.cc_names.specs.Formed.{Plain};
 ghost use Rattle.cc_names.specs.Versions.{element_of_branch, latest};
 ghost use Rattle.legal_history.specs.Base.Changes.{tree};
 ghost use Rattle.legal_history.specs.Base.Rows.{size, first_rows};
-ghost use Rattle.legal_history.specs.Queries.VersionNames.{behind_slashes, version_name};
+ghost use Rattle.legal_history.specs.Queries.VersionNames.{behind_slashes, branch_name, version_name};
 ghost use Rattle.cleartool.specs.Naming.{names_above, name_of_new, name_on, name_told};
 ghost use Rattle.cc_names.specs.declared.rows.Deed.TheVariants.{Checkin};
 
@@ -106,6 +106,18 @@ fn branch_text(
     let mut text = Vec::from_slice(alloc, b"/main")?;
     push_names(&mut text, names)?;
     Ok(text)
+}
+
+/// The path of a branch that a row made, as `/main/fix`; `/main` where it made none. Takes time linear in the name, and for each
+/// branch in it time logarithmic in the changes.
+pub(crate) fn branch_name(
+    alloc: Global,
+    rows: &FirstRows<'_>,
+    branch: u64,
+) -> Result<Vec<u8>, NoMemory>
+    ensures { IfOk result (λ text. text.items ≡ branch_name rows.now branch) }
+{
+    branch_text(alloc, rows, Some(branch))
 }
 
 /// A path of a branch and a number there, as `/main/fix/1`.

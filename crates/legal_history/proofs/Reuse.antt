@@ -9,6 +9,7 @@ pub mod FromNothing
 pub mod GivenCommits
 pub mod GivenRows
 pub mod GivenSteps
+pub mod HeldBefore
 pub mod KeptObjects
 pub mod LeftByStops
 pub mod Matched
@@ -26,8 +27,8 @@ pub mod SeenTexts
 pub mod SelectedCovers
 pub mod SoundBases
 pub mod SoundRows
+pub mod Taken
 pub mod TakenObjects
 pub mod TrueObjects
-pub mod TrustedBases
 pub mod ViewsApart
 pub mod WinkedObjects

@@ -5,6 +5,10 @@ pub mod Fronts
 pub mod Goes
 pub mod GoingOn
 pub mod Grows
+pub mod LaterBuilds
+pub mod LaterLanes
+pub mod LaterSteps
+pub mod LaterStories
 pub mod Leaving
 pub mod Rising
 pub mod Room

@@ -13,6 +13,7 @@ mod Replies
 mod ReuseRows
 mod ScrubRows
 mod Selection
+mod SideBySide
 mod StoryParts
 mod StoryRows
 mod TimeRows

@@ -9,6 +9,7 @@ pub mod Ends
 pub mod FirstRows
 pub mod FromNothing
 pub mod Given
+pub mod LaterLaws
 pub mod Listed
 pub mod Objects
 pub mod RecordLaws
@@ -17,4 +18,5 @@ pub mod Selected
 pub mod StopLaws
 pub mod Stops
 pub mod StoryLaws
+pub mod TakenLaws
 pub mod Unfinished

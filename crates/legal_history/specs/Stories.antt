@@ -2,6 +2,7 @@
 pub mod Commanded
 pub mod Committing
 pub mod Growth
+pub mod Lanes
 pub mod Lawful
 pub mod States
 pub mod Steps

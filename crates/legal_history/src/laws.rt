@@ -3,7 +3,9 @@
 pub mod bases;
 pub mod builds;
 pub mod decisions;
+pub mod later;
 pub mod records;
 pub mod reuse;
 pub mod stops;
 pub mod stories;
+pub mod taken;

@@ -9,9 +9,8 @@
 // an active build goes on until its own end, and what a started unit sees never changes. Whatever a stop leaves of a legal
 // story is a base, and a sound one where the base was sound as it was opened. In a sound base an object that a unit may reuse
 // is worth the run of the unit's script, and a unit that keeps it or winks it in leaves its build as from nothing. So a build
-// that ends is as the build from nothing, unit by unit, whatever it reused. This holds where the base was sound as it was
-// opened; while builds reuse nothing, as so far (`Reuse.reuses`), it holds over any base. Where a view covers a record,
-// running the record again gives what it has stored.
+// that ends is as the build from nothing, unit by unit, whatever it reused, where the base was sound as it was opened. Where a
+// view covers a record, running the record again gives what it has stored.
 //
 // What it stands on: `cc_names` for plain data, names and the changes of the indexes, `spec_text` for config specs,
 // `date_text` for dates, `make_text` for the units of a build, `build_script` for the runs of scripts, and `sha2` for digests.

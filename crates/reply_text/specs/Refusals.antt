@@ -25,7 +25,6 @@ spec_cause spec_causes.NoBlock = codes "NoBlock"
 
 -- the cause of a bad makefile
 abbrev pub make_cause : MakeCause → List ℕ
-make_cause make_causes.NotBuilt = codes "NotBuilt"
 make_cause make_causes.BadLine = codes "BadLine"
 make_cause make_causes.BadMacro = codes "BadMacro"
 make_cause make_causes.BadPath = codes "BadPath"

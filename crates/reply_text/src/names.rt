@@ -109,7 +109,6 @@ pub(crate) fn make_cause(cause: MakeCause) -> &'static [u8]
     ensures { result.now ≡ make_cause cause }
 {
     match cause {
-        MakeCause::NotBuilt => b"NotBuilt",
         MakeCause::BadLine => b"BadLine",
         MakeCause::BadMacro => b"BadMacro",
         MakeCause::BadPath => b"BadPath",

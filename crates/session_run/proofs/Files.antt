@@ -1,5 +1,5 @@
 -- What a session leaves of the files.
-use Rattle.std.proofs.Common.{◌≡◌, Bool, true, false, Option, Some, None, List, [], ◌∷◌, refl, ap, sym, subst, ◌∙◌}
+use Rattle.std.proofs.Common.{◌≡◌, true, false, Option, Some, None, List, [], ◌∷◌, refl, ap, sym, subst, ◌∙◌}
 use Rattle.cc_names.specs.declared.steps.Step.TheVariants as steps
 use Rattle.cc_names.specs.declared.steps.Told.{Told}
 use Rattle.cc_names.specs.declared.steps.Told.TheVariants as told
@@ -9,14 +9,11 @@ use Rattle.legal_history.specs.Stories.States.{State, start}
 use Rattle.legal_history.specs.Stories.Steps.{after, state_from, state_of}
 use Rattle.vob_journal.specs.Added.{WritesOn}
 use Rattle.vob_journal.specs.Reads.{SameFiles, SameObjects}
-use Rattle.vob_journal.proofs.Staying.{told_then}
 use Rattle.vob_journal.proofs.Telling.{both_map, both_then}
 use Rattle.base_core.specs.Stopping.Backed.{may_be_open}
 use Rattle.base_core.specs.Story.Counted.{CountsStep, CountsSteps}
 use Rattle.session_run.specs.Accounted.{CountsFrom, KeepsFiles, is_calm}
-use Rattle.session_run.specs.Begun.{first_step}
 use Rattle.session_run.specs.Causes.{Change}
-use Rattle.session_run.specs.Headline.{BeginsOn}
 
 -- the file of objects is as it was before, also through a third moment
 objects_then : (one two three : Option Device) → Both SameObjects one two → Both SameObjects two three → Both SameObjects one three

@@ -36,12 +36,13 @@ opened_on disk story opened status held holds history is =
     ap (λ o. o.base) same ∙ reverse-reverse begins.base
 
 pub handed_on : FoundBaseIsSound → SoundnessIsHandedOn
-handed_on law before after next left read k story later opening opened status held holds stopped is told since may next_told history begun sound =
-    let keeps : KeepsPrefix before after story = stopped.on_base (has_opened story opening is) in
-    let same : keeps.opening ≡ opening = some_same _ _ (sym keeps.opened ∙ is) in
-    let again : OpensAgain keeps.opening.base (frames (bytes_of 0 read)) =
-    told_so after.told left (λ d. (k : ℕ) (image : List ℕ) → before.ticks < k → MayLeave 0 d k image → OpensAgain keeps.opening.base (frames image)) told keeps.again k (bytes_of 0 read) since may
-    in
-    let begins : BeginsOn next later = history.base (has_opened later opened begun) in
-    subst IsSound (sym (opened_on next later opened status held holds history begun))
-    (law keeps.opening.base begins.base next read begins.handed next_told again begins.on (subst (λ o. IsSound o.base) (sym same) sound))
+handed_on law before after next left read k story later status held holds stopped is_open told since may next_told history sound = record {
+  base = λ opened begun.
+      let keeps : KeepsPrefix before after story = stopped.on_base is_open in
+      let again : OpensAgain keeps.opening.base (frames (bytes_of 0 read)) =
+      told_so after.told left (λ d. (k : ℕ) (image : List ℕ) → before.ticks < k → MayLeave 0 d k image → OpensAgain keeps.opening.base (frames image)) told keeps.again k (bytes_of 0 read) since may
+      in
+      let begins : BeginsOn next later = history.base (has_opened later opened begun) in
+      subst IsSound (sym (opened_on next later opened status held holds history begun))
+      (law keeps.opening.base begins.base next read begins.handed next_told again begins.on (sound.base keeps.opening keeps.opened));
+}

@@ -11,6 +11,7 @@ pub mod Objects
 pub mod PhaseSteps
 pub mod Promises
 pub mod Ready
+pub mod Reused
 pub mod Running
 pub mod Stopping
 pub mod StopStatuses

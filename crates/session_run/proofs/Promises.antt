@@ -1,5 +1,5 @@
 -- The promises of the headline, from what a run or a stop left.
-use Rattle.std.proofs.Common.{◌≡◌, ℕ, inl, inr, Bool, true, false, Option, Some, None, Result, Ok, Err, List, [], ◌∷◌, ◌++◌, length, refl, ap, sym, subst, ◌∙◌}
+use Rattle.std.proofs.Common.{◌≡◌, ℕ, inl, inr, Bool, true, false, Option, Some, None, Result, Ok, Err, List, [], ◌++◌, length, refl, ap, sym, subst, ◌∙◌}
 use Rattle.std.specs.Prelude.{IfSome, IfOk, IfErr}
 use Rattle.std.specs.Io.KnownBytes.{Appends}
 use Rattle.std.proofs.lemmas.List.{append-nil}
@@ -8,7 +8,6 @@ use Rattle.cc_names.specs.declared.memory.Or.{Or}
 use Rattle.cc_names.specs.declared.memory.Or.TheVariants.{NoMemory, Is}
 use Rattle.cc_names.specs.declared.refusals.SessionError.{SessionError}
 use Rattle.cc_names.specs.declared.refusals.SessionCause.TheVariants as causes
-use Rattle.cc_names.specs.declared.steps.Step.TheVariants as steps
 use Rattle.cc_names.specs.declared.steps.Told.{Told}
 use Rattle.cc_names.specs.declared.steps.Told.TheVariants as told
 use Rattle.cc_names.specs.Counts.{Rose, raised, rises}
@@ -31,9 +30,8 @@ use Rattle.legal_history.specs.Stories.Steps.{state_of}
 use Rattle.legal_history.specs.Stories.Lawful.{Legal}
 use Rattle.session_run.specs.Causes.{Change, DiskUndamaged, Intake, IsAsked, IsUntouched, IsWhole, HasCause, disk_rose}
 use Rattle.session_run.specs.Asked.{is_session, is_read, phases_spelled}
-use Rattle.session_run.specs.FromNothing.{text_from_nothing}
 use Rattle.session_run.specs.Begun.{IsFront, first_step, is_opened, is_through, phases_begun, moments_begun}
-use Rattle.session_run.specs.Headline.{BeginsOn, IsSession, ReadsClock, IsOneHistory, AreFromNothing, ArePrinted, clock_moments}
+use Rattle.session_run.specs.Headline.{BeginsOn, IsSession, ReadsClock, IsOneHistory, ArePrinted, clock_moments}
 use Rattle.session_run.specs.Rendered.{rendered}
 use Rattle.session_run.specs.Runs.{IsJustOpened, Outside, HasRunPhases, HasRunSo, IsRunGivenUp, OnWriteFault, run_status}
 use Rattle.session_run.specs.Statuses.{is_cut, status_line}
@@ -47,7 +45,6 @@ use Rattle.session_run.specs.declared.statuses.Status.{Status}
 use Rattle.session_run.specs.declared.statuses.Status.TheVariants as statuses
 use Rattle.base_core.proofs.Bases.Damages.{undamaged_on}
 use Rattle.session_run.proofs.Blaming.{blamed}
-use Rattle.session_run.proofs.FromNothing.{Laws, are_from_nothing}
 use Rattle.session_run.proofs.Running.{clock_length, raised_none}
 use Rattle.session_run.proofs.Files.{closed_files, keeps_files}
 use Rattle.session_run.proofs.Stopping.{keeps_prefix, stays_closed, stays_untouched}
@@ -125,17 +122,6 @@ history_none status disk old new not = record {
   cut = λ opened e. absurd (cc);
 }
 
--- Builds as from nothing
-empty_nowhere : {A : Type 0} (front rest : List A) (x : A) → [] ≡ front ++ x ∷ rest → ⊥
-empty_nowhere [] rest x e = cc
-empty_nowhere (y ∷ front) rest x e = cc
-
-pub built_none : (story : List Told) → story ≡ [] → AreFromNothing story
-built_none story empty = record {
-  text = ap rendered empty ∙ sym (ap text_from_nothing empty);
-  each = λ front rest tag build grows is sound. absurd (empty_nowhere front rest (told.Other (steps.End tag)) (sym empty ∙ grows));
-}
-
 -- Printed replies
 printed_whole : (status : Status) (story : List Told) (intake : Intake) (faults : Change ℕ) (disk : Change Sight) (old new : Option (List ℕ)) → is_opened story ≡ true → is_cut status ≡ false → Appends old new (rendered story) → ArePrinted status story intake faults disk old new
 printed_whole status story intake faults disk old new opened whole written = record {
@@ -198,8 +184,8 @@ counts_from one ran settled sight just keeps same settles = record {
 }
 
 -- a base was opened, and this is what became of it: the story as it was when the journal was settled is the one that was run
-pub runs_opened : (laws : Laws) (result : Result Bool (Or WriteFault)) (phases : List Phase) (status : Status) (first : Option Told) (one ran : Shown) (settled history : List Told) (before : ℕ) (sight now : Sight) (outside : Outside) (faults : Change ℕ) → let story = ran.story in IsJustOpened one.story → KeepsCount one ran → Settles (may_be_open (state_of ran.story).ends) ran.sight sight → settled ≡ story → history ≡ settled → now ≡ sight → status ≡ run_status result (rises before sight.faults) → first_step story ≡ first → Legal settled → IfOk result (HasRunPhases phases story outside) → IfErr result (λ cut. IsRunGivenUp cut phases story outside) → OnWriteFault result (Rose faults.before faults.after) → IsAccounted (state_of settled) sight → IsMended (state_of settled) sight → AllOpenAgain settled → RunsOpened phases status first history before (record { before = one.sight; after = now }) outside faults
-runs_opened laws result phases status first one ran settled history before sight now outside faults just keeps settles kept same seen is begins legal done left wrote accounted mended again =
+pub runs_opened : (result : Result Bool (Or WriteFault)) (phases : List Phase) (status : Status) (first : Option Told) (one ran : Shown) (settled history : List Told) (before : ℕ) (sight now : Sight) (outside : Outside) (faults : Change ℕ) → let story = ran.story in IsJustOpened one.story → KeepsCount one ran → Settles (may_be_open (state_of ran.story).ends) ran.sight sight → settled ≡ story → history ≡ settled → now ≡ sight → status ≡ run_status result (rises before sight.faults) → first_step story ≡ first → Legal settled → IfOk result (HasRunPhases phases story outside) → IfErr result (λ cut. IsRunGivenUp cut phases story outside) → OnWriteFault result (Rose faults.before faults.after) → IsAccounted (state_of settled) sight → IsMended (state_of settled) sight → AllOpenAgain settled → RunsOpened phases status first history before (record { before = one.sight; after = now }) outside faults
+runs_opened result phases status first one ran settled history before sight now outside faults just keeps settles kept same seen is begins legal done left wrote accounted mended again =
     subst (λ s. RunsOpened phases status first s before (record { before = one.sight; after = now }) outside faults) (sym same)
     (subst (λ d. RunsOpened phases status first settled before (record { before = one.sight; after = d }) outside faults) (sym seen)
     (record {
@@ -207,7 +193,6 @@ runs_opened laws result phases status first one ran settled history before sight
       status_is = is;
       first_is = ap first_step kept ∙ begins;
       legal = legal;
-      built = are_from_nothing laws settled legal;
       ran = subst (λ s. HasRunSo result phases s outside) (sym kept) (ran_so result done left);
       fault = wrote;
       accounted = accounted;
@@ -224,7 +209,6 @@ runs_opened laws result phases status first one ran settled history before sight
 pub record Promised (status : Status) (story : List Told) (intake : Intake) (outside : Outside) (faults : Change ℕ) (disk : Change Sight) : Type 0 where
   pub session : IsSession status story intake outside.moments (readings_of outside)
   pub history : IsOneHistory status story disk.before outside.held outside.holds
-  pub built : AreFromNothing story
   pub printed : ArePrinted status story intake faults disk outside.held outside.holds
   pub stopped : IsStopped disk.before disk.after story
   pub cause : HasCause status intake faults disk story
@@ -332,7 +316,6 @@ stops_so stop status intake outside faults disk same unread first cause wrote st
     record {
       session = session_none status intake outside not unread;
       history = history_none status disk.before outside.held outside.holds not;
-      built = built_none [] refl;
       printed = stop_printed stop status intake outside.held outside.holds faults disk first cause wrote;
       stopped = stopped;
       cause = has_cause stop status intake faults disk (is_cut status) refl cause wrote.answer wrote.fault wrote.memory;
@@ -374,7 +357,6 @@ promised_run phases status story intake outside faults disk was now gives (inl r
     (record {
       session = run_session ran.result rose story phases intake outside gives ran.ran;
       history = run_history ran.result rose story phases disk.before outside ran.legal run.begins ran.ran;
-      built = ran.built;
       printed = run_printed ran.result rose story phases intake outside faults disk ran.ran;
       stopped = keeps_prefix disk.before disk.after story run.begins ran.legal ran.accounted ran.mended ran.again;
       cause = run_cause ran.result rose story phases intake outside faults disk refl gives ran.ran ran.fault (undamaged_on disk.before run.begins.base run.begins.handed run.begins.on);

@@ -1,15 +1,16 @@
 -- The headline of the product:
 --
 -- For every session, the printed replies are those of one legal history that holds each command once in its lane's order,
--- and every clearmake reply is that of building from nothing on the versions its view selects at the reference row; stopped
--- at any device call, the disk holds a prefix of the history's commits with every acknowledged one.
+-- and every clearmake reply is that of building from nothing on the versions its view selects at the reference row, where the
+-- base that was opened is sound, whatever objects were reused; stopped at any device call, the disk holds a prefix of the
+-- history's commits with every acknowledged one.
 --
 -- A call of the program is seen as plain values: its words, what the source had left and gave, what the sink holds, what the
 -- clock tells, what the disk tells as it was handed in and as it came back, its status, and the story of the base that it
 -- opened, which is empty where it opened none. Each record is one promise of the sentence, `IsStopped` in `Stopped` the last
 -- of them; `HasCause` adds when each status comes, `IsAccountedFor` in `Accounted` which command met which fault, `Objects` which
--- objects a scrub takes and that those that views hold are live. What they say of bytes, moments and stops holds where the
--- source, the sink, the clock and the disk tell them.
+-- objects a scrub takes and that those that views hold are live, `Reused` which objects builds take in place of runs. What they
+-- say of bytes, moments and stops holds where the source, the sink, the clock and the disk tell them.
 use Rattle.std.specs.Prelude.{◌≡◌, ◌≢◌, ◌⊎◌, ℕ, zero, suc, ◌+◌, ◌<◌, min, true, false, Option, Some, IfSome, Err, List, [], ◌∷◌, ◌++◌, length}
 use Rattle.std.specs.Io.KnownBytes.{Appends}
 use Rattle.cc_names.specs.declared.refusals.SessionError.{SessionError}
@@ -30,7 +31,7 @@ use Rattle.session_text.specs.Sessions.{session_of}
 use Rattle.legal_history.specs.Stories.Commanded.{IsOfCommand}
 use Rattle.legal_history.specs.Builds.Replied.{reply_of, reply_from_nothing}
 use Rattle.legal_history.specs.Builds.Active.{Build}
-use Rattle.legal_history.specs.Stories.States.{State, all_done, build_by}
+use Rattle.legal_history.specs.Stories.States.{all_done, build_by}
 use Rattle.legal_history.specs.Stories.Steps.{state_of}
 use Rattle.legal_history.specs.Stories.Lawful.{Legal, last_moment}
 use Rattle.session_run.specs.Asked.{phases_spelled, is_run, is_session}
@@ -93,17 +94,21 @@ pub record IsOneHistory (status : Status) (story : List Told) (disk : Sight) (ol
   pub complete : is_through status story ≡ true → all_done (state_of story) ≡ true
   pub cut : is_opened story ≡ true → status ≡ statuses.WriteFault → IsCutAtLast story (earlier_text story) old new
 
--- A build that ends: it is the one of its lane's clearmake, whose build from nothing at the reference rows, on the versions
--- that the view selects there, has the same units; and what its units have come to is replied as that build says.
-pub record IsFromNothing (s : State) (lane : ℕ) (build : Build) : Type 0 where
-  pub of_command : IsOfCommand s lane build
-  pub reply : reply_of s.base build ≡ reply_from_nothing s.base build
+-- *Commanded*: each build of the history that ends is the one of its lane's clearmake, whose build from nothing at the reference
+-- rows, on the versions that the view selects there, has the same units.
+pub record AreOfTheirCommands (story : List Told) : Type 0 where
+  pub each : (front rest : List Told) (tag : Tag) (build : Build)
+      → story ≡ front ++ told.Other (steps.End tag) ∷ rest
+      → build_by (state_of front) tag ≡ Some build → IsOfCommand (state_of front) tag.lane build
 
--- *Builds as from nothing*: each build of the history that ends, and under which no disk failed. So the text of the history
--- is the one that building from nothing tells.
+-- *Builds as from nothing*: what the units of each build of the history have come to, where it ends and no disk failed under it,
+-- is replied as its build from nothing is. So the text of the history is the one that building from nothing tells.
 pub record AreFromNothing (story : List Told) : Type 0 where
   pub text : rendered story ≡ text_from_nothing story
-  pub each : (front rest : List Told) (tag : Tag) (build : Build) → story ≡ front ++ told.Other (steps.End tag) ∷ rest → build_by (state_of front) tag ≡ Some build → build.faulted ≡ false → IsFromNothing (state_of front) tag.lane build
+  pub each : (front rest : List Told) (tag : Tag) (build : Build)
+      → story ≡ front ++ told.Other (steps.End tag) ∷ rest
+      → build_by (state_of front) tag ≡ Some build → build.faulted ≡ false
+      → reply_of (state_of front).base build ≡ reply_from_nothing (state_of front).base build
 
 -- the status's line was written; the line of a bad session names the first line that stands wrong
 pub record PrintsLine (status : Status) (text old new : Option (List ℕ)) : Type 0 where

@@ -10,6 +10,7 @@ pub mod Lanes
 pub mod Objects
 pub mod Outcomes
 pub mod Rendered
+pub mod Reused
 pub mod Runs
 pub mod Statuses
 pub mod Stopped

@@ -16,7 +16,7 @@ use Rattle.base_core.specs.declared.opening.OpenCause.{OpenCause}
 use Rattle.session_run.specs.Accounted.{CountsFrom}
 use Rattle.session_run.specs.Causes.{Change, disk_rose}
 use Rattle.session_run.specs.Begun.{first_step}
-use Rattle.session_run.specs.Headline.{AreFromNothing, BeginsOn}
+use Rattle.session_run.specs.Headline.{BeginsOn}
 use Rattle.session_run.specs.Runs.{Outside, HasRunSo, OnWriteFault, run_status}
 use Rattle.session_run.specs.Stopped.{AllOpenAgain, IsMended}
 use Rattle.session_run.specs.Stops.{WritesStop, open_stop}
@@ -29,7 +29,6 @@ pub record RunsOpened (phases : List Phase) (status : Status) (first : Option To
   pub status_is : status ≡ run_status result (rises before disk.after.faults)
   pub first_is : first_step story ≡ first
   pub legal : Legal story
-  pub built : AreFromNothing story
   pub ran : HasRunSo result phases story outside
   pub fault : OnWriteFault result (Rose faults.before faults.after)
   pub accounted : IsAccounted (state_of story) disk.after

@@ -4,10 +4,12 @@
 //
 // What it promises: the headline of the product, in `specs/Headline.antt`, and when each status comes, in
 // `specs/Causes.antt`. The printed replies are those of one legal history, which holds each command once in its lane's
-// order, every clearmake is replied as building from nothing is, each scrub lists exactly what is due, every object that a view
-// holds is live, and a stop at any device call finds what was acknowledged. That opens again, to a base that is sound where the
-// opened one was, so that the next call begins on a sound base (`laws`). A disk fault is told where a call on the disk
-// failed, and nowhere else, unless the sink failed too or memory ran out.
+// order; where the base that was opened is sound, every clearmake is replied as building from nothing is and its units have their
+// outcomes from nothing. Over any base each object that is reused has a record of just what its unit sees, none that would do is
+// passed over, each scrub lists exactly what is due, every object that a view holds is live, and a stop at any device call finds
+// what was acknowledged. That opens again, to a base that is sound where the opened one was, so that the next call begins on a
+// sound base (`laws`). A disk fault is told where a call on the disk failed, and nowhere else, unless the sink failed too or
+// memory ran out.
 //
 // What it stands on: `base_core` for the history, `disk_model` and `vob_journal` for the disk and what a stop finds there,
 // `legal_history` for what a history means, `carried_out` for the commands, `session_text` and `reply_text` for the texts,

@@ -1,6 +1,7 @@
 // The top call.
 
 ghost use Rattle.std.specs.Prelude.{◌≡◌, true};
+ghost use Rattle.legal_history.specs.Base.Values.{IsSound};
 ghost use Rattle.legal_history.specs.Stories.Steps.{state_of};
 ghost use Rattle.base_core.specs.Stopping.Backed.{may_be_open};
 ghost use Rattle.cc_names.specs.Counts.{rises};
@@ -10,13 +11,15 @@ ghost use Rattle.disk_model.specs.Files.{stable};
 ghost use Rattle.session_run.specs.Accounted.{IsAccountedFor, KeepsFiles, Settles};
 ghost use Rattle.session_run.specs.Causes.{intake_of, sink_faults, FindsDamage, HasCause, LeavesAlone, TakesNoMore};
 ghost use Rattle.session_run.specs.Begun.{first_step, is_opened};
-ghost use Rattle.session_run.specs.Headline.{clock_readings, IsSession, IsOneHistory, AreFromNothing, ArePrinted};
+ghost use Rattle.session_run.specs.Headline.{clock_readings, IsSession, IsOneHistory, AreOfTheirCommands, AreFromNothing, ArePrinted};
 ghost use Rattle.session_run.specs.Objects.{HeldObjectsAreLive, ScrubsListWhatIsDue};
 ghost use Rattle.session_run.specs.Outcomes.{RunsOpened, RunsSession};
+ghost use Rattle.session_run.specs.Reused.{HaveTheirOutcomes, PassNothingOver, TakeWhatTheySee, WasSound};
 ghost use Rattle.session_run.specs.Runs.{IsJustOpened, IsRunnable, outside_of, run_status};
 ghost use Rattle.session_run.specs.Stopped.{IsHandedIn, IsMended, IsStopped};
 ghost use Rattle.session_run.specs.Stops.{open_stop};
 
+use crate::laws::{builds_are_as_from_nothing, objects_are_reused_well, objects_are_scrubbed_well};
 use crate::lines::refuse;
 use crate::phases::run_phases;
 use crate::sessions::{Stop, session_given};
@@ -27,10 +30,6 @@ use cc_names::memory::Or;
 use cc_names::texts::Text;
 use cc_outside::{Clock, Sink, Source, WriteFault};
 use disk_model::Disk;
-use legal_history::laws::builds::{a_build_is_as_from_nothing, a_build_is_of_its_command};
-use legal_history::laws::stories::{
-    a_held_object_is_live_at_each_step, a_scrub_of_a_story_lists_what_is_due,
-};
 use session_text::PhaseText;
 use std::alloc::Global;
 use std::hash::RandomState;
@@ -103,8 +102,6 @@ fn run_opened<K: Sink, D: Disk, C: Clock>(
 {
     let mut core = core;
     let run = run_phases(alloc, &mut core, phases, sink, clock);
-    a_build_is_as_from_nothing();
-    a_build_is_of_its_command();
     a_stop_opens_again();
     settle(&mut core);
     let status = status_of(run, has_risen(before, core.counts().faults));
@@ -167,7 +164,12 @@ pub fn run_words<S: Source, K: Sink, D: Disk, C: Clock>(
         (clock_readings (C.sight clock.old) (C.sight clock.new)) }
     ensures history { IsOneHistory result.status result.history (D.sight disk)
         (K.sight sink.old).held (K.sight sink.new).held }
-    ensures built { AreFromNothing result.history }
+    ensures commanded { AreOfTheirCommands result.history }
+    ensures built { WasSound result.history → AreFromNothing result.history }
+    ensures outcomes { WasSound result.history → HaveTheirOutcomes result.history }
+    ensures reused { TakeWhatTheySee result.history }
+    ensures sought { PassNothingOver result.history }
+    ensures sound { WasSound result.history → IsSound (state_of result.history).base }
     ensures scrubs { ScrubsListWhatIsDue result.history }
     ensures held { HeldObjectsAreLive result.history }
     ensures printed { ArePrinted result.status result.history
@@ -192,8 +194,9 @@ pub fn run_words<S: Source, K: Sink, D: Disk, C: Clock>(
         (record { before = D.sight disk; after = D.sight result.disk }) result.history }
     ensures taken { TakesNoMore (intake_of words.now (S.sight source.old) (S.sight source.new)) }
 {
-    a_scrub_of_a_story_lists_what_is_due();
-    a_held_object_is_live_at_each_step();
+    builds_are_as_from_nothing();
+    objects_are_reused_well();
+    objects_are_scrubbed_well();
     match session_given(alloc, hashing, words, source) {
         Ok(phases) => run_session(alloc, hashing, phases, sink, disk, clock),
         Err(stop) => Ended {

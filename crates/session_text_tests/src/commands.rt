@@ -36,11 +36,7 @@ fn right_lines(rt: HostRuntime) -> Result<(), Fail> {
         "lsdo v",
         "ls v",
         "ls v .",
-        "cat v a@@/main/0",
-        "cat v .@@/main/fix/more/18446744073709551615",
-        "describe v a",
         "lsvtree v a",
-        "lshistory v .",
         "catcr v a",
         "diffcr v a w b",
         "covers w v .",
@@ -196,7 +192,22 @@ fn words_of(alloc: Global, command: &Command) -> Result<String, AllocError> {
             )
         }
         Command::Catcs { view } => format!(in alloc; "catcs {view}"),
-        Command::Cat { view, path, .. } => format!(in alloc; "cat {view} {path}"),
+        Command::Cat {
+            view,
+            path,
+            version: None,
+        } => format!(in alloc; "cat {view} {path}"),
+        Command::Cat {
+            view,
+            path,
+            version: Some(name),
+        } => {
+            let branches = name.branches.len();
+            let number = name.number;
+            format!(in alloc; "cat {view} {path} {branches} {number}")
+        }
+        Command::Describe { view, path } => format!(in alloc; "describe {view} {path}"),
+        Command::Lshistory { view, path } => format!(in alloc; "lshistory {view} {path}"),
         command => words_of_elements(alloc, command),
     }
 }
@@ -311,8 +322,8 @@ fn a_view_is_removed_by_force_or_not(rt: HostRuntime) -> Result<(), Fail> {
 
 #[test]
 fn commands_of_one_line_are_read(rt: HostRuntime) -> Result<(), Fail> {
-    let text =
-        b"phase\nlane a\nrm v a/b\nmklbtype REL\nmkbrtype fix\ncatcs v\ncat v a/b\ncat v .\n";
+    let text = b"phase\nlane a\nrm v a/b\nmklbtype REL\nmkbrtype fix\ncatcs v\ncat v a/b\ncat v .\n\
+        cat v a@@/main/0\ncat v .@@/main/fix/more/18446744073709551615\ndescribe v a\nlshistory v .\n";
     assert_lane(
         &rt,
         rt.alloc(),
@@ -325,6 +336,10 @@ fn commands_of_one_line_are_read(rt: HostRuntime) -> Result<(), Fail> {
             "catcs v",
             "cat v a/b",
             "cat v .",
+            "cat v a 0 0",
+            "cat v . 2 18446744073709551615",
+            "describe v a",
+            "lshistory v .",
         ],
     )
 }

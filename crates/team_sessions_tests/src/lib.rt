@@ -35,6 +35,8 @@ mod opened_again;
 #[cfg(test)]
 mod private_files;
 #[cfg(test)]
+mod queries;
+#[cfg(test)]
 mod selections;
 #[cfg(test)]
 mod sessions;

@@ -3,7 +3,7 @@
 use crate::sessions::{ALONE, AT_ONCE, Front, NEVER_RUN, assert_sessions};
 use std::test::Fail;
 
-// A makefile and its source in the base, built by two views. No row is refused, so command N made row N.
+// A makefile and its source in the base, built by one view and winked in by another. No row is refused, so command N made row N.
 const TWO_VIEWS: Front = Front {
     asked: "\
 phase
@@ -40,7 +40,7 @@ lane a
   out built 3 98ea6e4f216f2fb4b69fff9b3a44842c38686ca685f3f55dc48c5d3fb1107be4
 11 mkview ok
 12 clearmake ok
-  out built 3 98ea6e4f216f2fb4b69fff9b3a44842c38686ca685f3f55dc48c5d3fb1107be4
+  out winked 3 98ea6e4f216f2fb4b69fff9b3a44842c38686ca685f3f55dc48c5d3fb1107be4
 ",
     moments: AT_ONCE,
 };
@@ -120,7 +120,7 @@ checkout w in
 19 checkout ok /main/fix/1
 status 1, 18 rows
 ====
-# a checkout is a row of its own, so a build in its view reads that; the other view goes on with the version
+# a checkout is a row of its own, so a build in its view reads that; the other view keeps what it has from the version
 checkout w in
 clearmake w
 save w in
@@ -135,8 +135,8 @@ clearmake v
 16 clearmake ok
   out built 4 7d865e959b2466918c9863afca942d0fb89d7c9ac0c99bafc3749504ded97730
 17 clearmake ok
-  out built 3 98ea6e4f216f2fb4b69fff9b3a44842c38686ca685f3f55dc48c5d3fb1107be4
-status 0, 17 rows
+  out kept 3 98ea6e4f216f2fb4b69fff9b3a44842c38686ca685f3f55dc48c5d3fb1107be4
+status 0, 16 rows
 ";
 
 #[test]

@@ -28,3 +28,5 @@ pub mod JoinedListings
 pub mod ListingsStay
 pub mod ReservedOnce
 mod WorkedPools
+pub mod Walked
+pub mod LabelsFound

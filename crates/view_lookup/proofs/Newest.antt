@@ -11,7 +11,7 @@ use Rattle.legal_history.specs.Base.Rows.{Base, size, first_rows, row_at, deed_o
 use Rattle.legal_history.specs.Builds.Reuse.{are_same_paths}
 use Rattle.legal_history.proofs.Bases.Stay.{all_rows}
 use Rattle.view_lookup.specs.LookUps.{Deeds, Told, told, newest, told_by, told_at, first_told, left_by, last_of, IsCovered}
-use Rattle.view_lookup.specs.Subjects.{Subject, Life, Spec, Desk, File, Object, Out, Saved, Entry, Reserved, Named, Living, Winked, Merge, is_same, key, borne, bears, keys_of, Pool}
+use Rattle.view_lookup.specs.Subjects.{Subject, Life, Spec, Desk, File, Object, Out, Saved, Entry, Reserved, Named, Living, Winked, Merge, History, is_same, key, borne, bears, keys_of, Pool}
 use Rattle.view_lookup.specs.Marked.{with_marks, marked}
 use Rattle.std.specs.declared.random_state.RandomState.{RandomState}
 
@@ -106,6 +106,7 @@ same_key hashing (Merge e tail head) (Merge f one two) is =
     let ends = both (f == e) (one == tail) parts.0 in
     ap (λ into. key hashing (Merge f one into)) (same_number two head parts.1)
     ∙ ap₂ (λ element from. key hashing (Merge element from head)) (same_number f e ends.0) (same_number one tail ends.1)
+same_key hashing (History e) (History f) is = ap (λ element. key hashing (History element)) (same_number f e is)
 same_key hashing one two is = absurd (cc)
 
 -- a deed is marked for the key of each subject on which it bears

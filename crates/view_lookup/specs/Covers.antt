@@ -5,14 +5,16 @@ use Rattle.std.specs.List.{list_any}
 use Rattle.cc_names.specs.Last.{Effect, Keeps, Ends, Sets, only_if}
 use Rattle.cc_names.specs.declared.rows.Deed.TheVariants as deeds
 use Rattle.cc_names.specs.declared.rows.Out.TheVariants as outs
+use Rattle.cc_names.specs.declared.rows.Placed.{Placed}
 use Rattle.cc_names.specs.Versions.{is_number}
 use Rattle.legal_history.specs.Base.Changes.{targets_of, live}
 use Rattle.legal_history.specs.Base.Rows.{Base, size}
 use Rattle.view_lookup.specs.Effects.{life_effect, end_effect, gone_effect, file_effect, object_effect, living_effect, named_effect, merge_effect, set_effect, map_effect, kept_checkout, desk_effect, saved_effect, reserving_effect, stands, standing_effect, holds_one, winked_effect, pool_effect}
 use Rattle.legal_history.specs.Builds.Reuse.{are_same_paths}
+use Rattle.view_lookup.specs.Histories.{history_effect, is_placed_on}
 use Rattle.view_lookup.specs.LookUps.{IsCovered}
 use Rattle.view_lookup.specs.Made.{is_target}
-use Rattle.view_lookup.specs.Subjects.{Life, Spec, Desk, File, Object, Out, Saved, Reserved, Named, Living, Winked, Merge, is_same, reserved_branch, reserved_subjects, Pool}
+use Rattle.view_lookup.specs.Subjects.{Life, Spec, Desk, File, Object, Out, Saved, Reserved, Named, Living, Winked, Merge, History, history_at, is_same, reserved_branch, reserved_subjects, Pool}
 use Rattle.view_lookup.specs.Pool.{Test}
 
 -- an effect where a test holds is none where neither it nor another holds
@@ -166,3 +168,20 @@ reserving_covered branch older (deeds.Mkelem v directory name kind out) h = unle
 reserving_covered branch older (deeds.Checkout v e origin reserved) h = unless_reserved branch (size older) (reserved_branch older (deeds.Checkout v e origin reserved)) h
 reserving_covered branch older (deeds.Branch v e origin name out) h = unless_reserved branch (size older) (reserved_branch older (deeds.Branch v e origin name out)) h
 reserving_covered branch older deed h = refl
+
+-- an element among those on which a label is put
+among_placed : (e : ℕ) (placed : List Placed) → list_any (is_same (History e)) (map history_at placed) ≡ list_any (is_placed_on e) placed
+among_placed e [] = refl
+among_placed e (one ∷ placed) = ap (λ rest. (one.element == e) || rest) (among_placed e placed)
+
+pub history_covered : (e : ℕ) → IsCovered (History e) (history_effect e)
+history_covered e older (deeds.Mkelem v directory name kind out) h =
+    unless (size older == e) (list_any (is_same (History e)) (reserved_subjects (reserved_branch older (deeds.Mkelem v directory name kind out)))) (Sets (size older)) h
+history_covered e older (deeds.Branch v f origin name out) h =
+    unless (f == e) (list_any (is_same (History e)) (reserved_subjects (reserved_branch older (deeds.Branch v f origin name out)))) (Sets (size older)) h
+history_covered e older (deeds.Checkin v f) h = unless (f == e) false (Sets (size older)) h
+history_covered e older (deeds.Label label f version) h = unless (f == e) false (Sets (size older)) h
+history_covered e older (deeds.Unlabel label f) h = unless (f == e) false (Sets (size older)) h
+history_covered e older (deeds.Labels label placed) h =
+    unless_by (list_any (is_placed_on e) placed) (list_any (is_same (History e)) (map history_at placed)) (Sets (size older)) (among_placed e placed) h
+history_covered e older deed h = refl

@@ -20,3 +20,6 @@ pub mod Pool
 pub mod SetSpecs
 pub mod Shown
 pub mod Subjects
+pub mod Walks
+pub mod Histories
+pub mod LabelSets

@@ -8,6 +8,7 @@ use Rattle.cc_names.specs.Keys.{key_at, key_of}
 use Rattle.cc_names.specs.declared.rows.Deed.{Deed}
 use Rattle.cc_names.specs.declared.rows.Deed.TheVariants as deeds
 use Rattle.cc_names.specs.declared.rows.Out.TheVariants as outs
+use Rattle.cc_names.specs.declared.rows.Placed.{Placed}
 use Rattle.legal_history.specs.Base.Changes.{targets_of, tree}
 use Rattle.legal_history.specs.Base.Rows.{Base, size}
 use Rattle.legal_history.specs.Builds.Reuse.{are_same_paths}
@@ -17,7 +18,8 @@ use Rattle.view_lookup.specs.declared.subjects.Subject.TheVariants as codes
 
 -- A view's life, its config spec, and all that it takes out; a view's private file at a path, and the object that it holds
 -- there; a view's checkout of an element, and the texts that it saves there; a name in a directory; the reserved checkouts on a
--- branch; the type of a name; an object, its winks, and the objects of a list of targets; and a merge of two versions of an element.
+-- branch; the type of a name; an object, its winks, and the objects of a list of targets; a merge of two versions of an element;
+-- and what is done to an element and to its labels.
 pub data Subject : Type 0 where
   Life : List ℕ → Subject
   Spec : List ℕ → Subject
@@ -33,6 +35,7 @@ pub data Subject : Type 0 where
   Winked : ℕ → Subject
   Pool : List (List ℕ) → Subject
   Merge : ℕ → ℕ → ℕ → Subject
+  History : ℕ → Subject
 
 -- the branch that a checkout reserves, where it reserves one
 abbrev pub reserved_subjects : Option ℕ → List Subject
@@ -41,11 +44,12 @@ reserved_subjects (Some branch) = Reserved branch ∷ []
 
 -- what a deed that makes row n takes out, changes or gives back, where its checkout reserves this branch
 abbrev pub desk_subjects : ℕ → Option ℕ → Deed → List Subject
-desk_subjects n branch (deeds.Mkelem v directory name kind out) = Out v n ∷ Desk v ∷ Entry directory name ∷ reserved_subjects branch
+desk_subjects n branch (deeds.Mkelem v directory name kind out) =
+    Out v n ∷ Desk v ∷ Entry directory name ∷ History n ∷ reserved_subjects branch
 desk_subjects n branch (deeds.Checkout v e origin reserved) = Out v e ∷ Desk v ∷ reserved_subjects branch
-desk_subjects n branch (deeds.Branch v e origin name out) = Out v e ∷ Desk v ∷ reserved_subjects branch
+desk_subjects n branch (deeds.Branch v e origin name out) = Out v e ∷ Desk v ∷ History e ∷ reserved_subjects branch
 desk_subjects n branch (deeds.Save v e text) = Saved v e ∷ []
-desk_subjects n branch (deeds.Checkin v e) = Out v e ∷ []
+desk_subjects n branch (deeds.Checkin v e) = Out v e ∷ History e ∷ []
 desk_subjects n branch (deeds.Uncheckout v e) = Out v e ∷ []
 desk_subjects n branch (deeds.Rmname v directory name) = Entry directory name ∷ []
 desk_subjects n branch (deeds.Mv v directory from_name to_name) = Entry directory from_name ∷ Entry directory to_name ∷ []
@@ -60,6 +64,10 @@ object_subjects n targets branch (deeds.Drop v path) = Object v path ∷ []
 object_subjects n targets branch (deeds.Scrub objects) = map Living objects
 object_subjects n targets branch deed = desk_subjects n branch deed
 
+-- the element of a version on which a label is put
+abbrev pub history_at : Placed → Subject
+history_at placed = History placed.element
+
 -- the subjects on which a deed bears that makes row n, where the object that it names has these targets and its checkout reserves
 -- this branch
 abbrev pub subjects : ℕ → List (List ℕ) → Option ℕ → Deed → List Subject
@@ -70,6 +78,9 @@ subjects n targets branch (deeds.Put v path text) = File v path ∷ []
 subjects n targets branch (deeds.Rm v path) = File v path ∷ []
 subjects n targets branch (deeds.Mktype kind name) = Named name ∷ []
 subjects n targets branch (deeds.Arrow e tail head) = Merge e tail head ∷ []
+subjects n targets branch (deeds.Label label e version) = History e ∷ []
+subjects n targets branch (deeds.Unlabel label e) = History e ∷ []
+subjects n targets branch (deeds.Labels label placed) = map history_at placed
 subjects n targets branch deed = object_subjects n targets branch deed
 
 -- the targets of the object that a deed names, which an older row made
@@ -104,6 +115,7 @@ is_same (Living id) (Living other) = other == id
 is_same (Winked id) (Winked other) = other == id
 is_same (Pool targets) (Pool others) = are_same_paths others targets
 is_same (Merge e tail head) (Merge f one two) = (f == e) && (one == tail) && (two == head)
+is_same (History e) (History f) = f == e
 is_same one two = false
 
 -- The key by which the marks of a subject are found. Subjects that share one are told apart by the rows.
@@ -122,6 +134,7 @@ key hashing (Entry directory name) = key_with hashing 10 directory name
 key hashing (Reserved branch) = key_by hashing 11 (branch ∷ [])
 key hashing (Pool targets) = key_by_paths hashing 12 targets
 key hashing (Winked id) = key_by hashing 13 (id ∷ [])
+key hashing (History e) = key_by hashing 14 (e ∷ [])
 
 -- whether the next row bears on a subject
 abbrev pub bears : Subject → Base → Deed → Bool
@@ -147,3 +160,4 @@ plain (codes.Living id) = Living id
 plain (codes.Winked id) = Winked id
 plain (codes.Pool targets) = Pool targets.now
 plain (codes.Merge e tail head) = Merge e tail head
+plain (codes.History e) = History e

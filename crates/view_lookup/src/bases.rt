@@ -16,6 +16,7 @@ ghost use Rattle.view_lookup.specs.LookUps.{last_of, newest, oldest};
 ghost use Rattle.view_lookup.specs.SetSpecs.{rules_set, rules_set_if_short};
 ghost use Rattle.view_lookup.specs.Shown.{HasRoom, HasTreeRoom};
 ghost use Rattle.view_lookup.specs.Subjects.{borne};
+ghost use Rattle.view_lookup.specs.Walks.{all_told};
 
 use crate::growth::{grow, growth_of, reserve_growth};
 use crate::labels::{relabel, reserve_labels};
@@ -25,6 +26,7 @@ use crate::marks::{Link, mark_all};
 use crate::numbered::row_of;
 use crate::subjects::{count_subjects, named_targets, reserved_branch};
 use crate::view_specs::{Parsed, keep_spec, read_given, spec_of};
+use crate::walks::add_told;
 use cc_names::changes::Place;
 use cc_names::memory::NoMemory;
 use cc_names::names::Name;
@@ -413,5 +415,25 @@ impl<'a> FirstRows<'a> {
             links = &links[..place];
         }
         oldest
+    }
+    /// The numbers of all of them that do something to a thing, the newest first. Takes time linear in the names of its subject
+    /// and in the rows with its key.
+    pub(crate) fn all_told<L: LookUp>(&self, alloc: Global, look: &L) -> Result<Vec<u64>, NoMemory>
+        ensures { IfOk result
+            (λ numbers. numbers.items ≡ all_told (L.effect look.now) self.now) }
+    {
+        let base = self.base;
+        let mut numbers = Vec::new(alloc);
+        let mut bound = self.size();
+        let mut links = base.links.as_slice();
+        let mut next = base.newest.get(&look.subject().key(base.hashing)).copied();
+        while let Some(place) = next {
+            let link = &links[place];
+            add_told(self, &mut numbers, bound, link.row, look)?;
+            bound = bound.min(link.row);
+            next = link.older;
+            links = &links[..place];
+        }
+        Ok(numbers)
     }
 }

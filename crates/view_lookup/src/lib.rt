@@ -21,6 +21,7 @@ mod edits;
 mod fitting;
 mod fitting_elements;
 mod growth;
+mod history;
 mod labels;
 mod listings;
 mod look_ups;
@@ -39,8 +40,11 @@ mod subjects;
 mod texts;
 mod trees;
 mod types;
+mod version_labels;
+mod version_names;
 mod view_specs;
 mod views;
+mod walks;
 
 pub use bases::{FirstRows, Rows, first_rows, row_at};
 pub use catalogs::{named_by_checkout, named_by_version};
@@ -50,6 +54,7 @@ pub use checkins::{
 pub use desks::{Checkout, checked_out, has_out, making};
 pub use directories::{has_name, has_out_by_name, is_directory_element, is_file_element};
 pub use fitting::{ROW_LIMIT, fits};
+pub use history::history_of;
 pub use labels::{has_label, holder};
 pub use merges::arrow_row;
 pub use objects::{held, held_at_all, live};
@@ -65,5 +70,7 @@ pub use trees::{
     latest_version, name_of_branch, origin_of, place_of, version_numbered,
 };
 pub use types::{is_branch_type, is_label_type, is_type_taken, kind_of_type};
+pub use version_labels::labels_on;
+pub use version_names::version_named;
 pub use view_specs::{rules, spec_text};
 pub use views::{private, view_row};

@@ -11,7 +11,7 @@ use crate::trees::branch_of_version;
 use cc_names::keys::{key_at, key_of};
 use cc_names::names::Name;
 use cc_names::paths::Path;
-use cc_names::rows::{Deed, Out, Row};
+use cc_names::rows::{Deed, Out, Placed, Row};
 use std::hash::RandomState;
 
 /// Something on which rows bear: they say what has become of it.
@@ -45,6 +45,8 @@ pub(crate) enum Subject<'a> {
     Pool(&'a [Path]),
     /// A merge into a version of an element from another one: the element, that one, and the version.
     Merge(u64, u64, u64),
+    /// What is done to an element and to its labels.
+    History(u64),
 }
 
 fn one<'a>(first: Subject<'a>, index: usize) -> Option<Subject<'a>>
@@ -110,7 +112,7 @@ fn element_at<'a>(
     ensures subject { option_map model.plain result
         ≡ slice_get
         (model.Out view.now number ∷ model.Desk view.now ∷ model.plain entry.entry
-        ∷ model.reserved_subjects branch)
+        ∷ model.History number ∷ model.reserved_subjects branch)
         index }
     ensures within { IfSome result (λ _. index ≤ 2 ^ 33) }
 {
@@ -118,8 +120,41 @@ fn element_at<'a>(
         0 => Some(Subject::Out(view, number)),
         1 => Some(Subject::Desk(view)),
         2 => Some(entry),
+        3 => Some(Subject::History(number)),
+        _ => reserved_at(branch, index - 4),
+    }
+}
+
+/// What the making of a branch of an element by a view bears on.
+fn branch_at<'a>(
+    view: &'a Name,
+    element: u64,
+    branch: Option<u64>,
+    index: usize,
+) -> Option<Subject<'a>>
+    ensures subject { option_map model.plain result
+        ≡ slice_get
+        (model.Out view.now element ∷ model.Desk view.now ∷ model.History element
+        ∷ model.reserved_subjects branch)
+        index }
+    ensures within { IfSome result (λ _. index ≤ 2 ^ 33) }
+{
+    match index {
+        0 => Some(Subject::Out(view, element)),
+        1 => Some(Subject::Desk(view)),
+        2 => Some(Subject::History(element)),
         _ => reserved_at(branch, index - 3),
     }
+}
+
+/// One of the elements on whose versions a label is put.
+fn placed_at<'a>(placed: &[Placed], index: usize) -> Option<Subject<'a>>
+    ensures subject { option_map model.plain result
+        ≡ slice_get (map model.history_at placed.now) index }
+    ensures within { IfSome result (λ _. index < 2 ^ 63) }
+{
+    let one = placed.get(index)?;
+    Some(Subject::History(one.element))
 }
 
 /// The object that a view holds at one of these targets.
@@ -235,9 +270,13 @@ fn desk_subject_at<'a>(
             index,
         ),
         Deed::Checkout { view, element, .. } => taken_at(view, *element, branch, index),
-        Deed::Branch { view, element, .. } => taken_at(view, *element, branch, index),
+        Deed::Branch { view, element, .. } => branch_at(view, *element, branch, index),
         Deed::Save { view, element, .. } => one(Subject::Saved(view, *element), index),
-        Deed::Checkin { view, element } => one(Subject::Out(view, *element), index),
+        Deed::Checkin { view, element } => two(
+            Subject::Out(view, *element),
+            Subject::History(*element),
+            index,
+        ),
         Deed::Uncheckout { view, element } => one(Subject::Out(view, *element), index),
         Deed::Rmname {
             directory,
@@ -309,6 +348,9 @@ pub(crate) fn subject_at<'a>(
             tail,
             head,
         } => one(Subject::Merge(*element, *tail, *head), index),
+        Deed::Label { element, .. } => one(Subject::History(*element), index),
+        Deed::Unlabel { element, .. } => one(Subject::History(*element), index),
+        Deed::Labels { placed, .. } => placed_at(placed.as_slice(), index),
         _ => object_subject_at(number, targets, branch, deed, index),
     }
 }
@@ -350,6 +392,7 @@ impl Subject<'_> {
             Subject::Living(object) => key_by_one(hashing, 8, object),
             Subject::Winked(object) => key_by_one(hashing, 13, object),
             Subject::Merge(element, tail, head) => key_by_three(hashing, 9, element, tail, head),
+            Subject::History(element) => key_by_one(hashing, 14, element),
             Subject::Entry(directory, name) => key_with(hashing, 10, directory, name),
             Subject::Reserved(branch) => key_by_one(hashing, 11, branch),
             Subject::Pool(targets) => key_by_paths(hashing, 12, targets),

@@ -3,8 +3,8 @@
 use crate::sessions::{IN_A_VIEW, assert_sessions};
 use std::test::Fail;
 
-// What builds reply. A row is made by `mkview`, by each save and by each unit with an object. Nothing is reused yet, so each build
-// builds all its units. The digests are those of `sha256sum`.
+// What builds reply. A row is made by `mkview`, by each save and by each unit whose object is built or winked in; none by a unit
+// that keeps its object. The digests are those of `sha256sum`.
 const BUILDS: &str = "\
 # a unit fails, and what stands on it is blocked, but nothing else
 save v Makefile
@@ -208,10 +208,10 @@ clearmake v
   y built 4 b5bb9d8014a0f9b1d61e21e796d78dccdf1352f23cd32812f4850b878ae4944c
   all made
 5 clearmake ok
-  x built 3 98ea6e4f216f2fb4b69fff9b3a44842c38686ca685f3f55dc48c5d3fb1107be4
-  y built 4 b5bb9d8014a0f9b1d61e21e796d78dccdf1352f23cd32812f4850b878ae4944c
+  x kept 3 98ea6e4f216f2fb4b69fff9b3a44842c38686ca685f3f55dc48c5d3fb1107be4
+  y kept 4 b5bb9d8014a0f9b1d61e21e796d78dccdf1352f23cd32812f4850b878ae4944c
   all made
-status 0, 5 rows
+status 0, 4 rows
 ====
 # an included file has changed
 save v a.c
@@ -242,9 +242,9 @@ clearmake v
 7 save ok
 8 clearmake ok
   a built 6 5891b5b522d5df086d0ff0b110fbd9d21bb4fc7163af34d08286a2e846f6be03
-  b built 4 7d865e959b2466918c9863afca942d0fb89d7c9ac0c99bafc3749504ded97730
+  b kept 4 7d865e959b2466918c9863afca942d0fb89d7c9ac0c99bafc3749504ded97730
   all made
-status 0, 10 rows
+status 0, 9 rows
 ====
 # an included file that is looked for in directories too, goes away and comes back
 save v a.c

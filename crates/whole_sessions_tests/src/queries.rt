@@ -159,7 +159,7 @@ lane a
 mkview v
 save v in
 |hi
-cat v in@@/main/0
+lsdo v
 ----
 bad session 6 NotBuilt
 status 3, 0 rows

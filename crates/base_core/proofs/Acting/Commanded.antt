@@ -1,5 +1,5 @@
 -- The command that a lane has next is one of the phase: it has the form of one, and is carried out.
-use Rattle.std.proofs.Common.{◌≡◌, ℕ, zero, suc, true, false, Option, Some, None, List, refl, ap, sym, ◌∙◌}
+use Rattle.std.proofs.Common.{◌≡◌, ℕ, zero, suc, true, false, Option, Some, None, refl, ap, sym, ◌∙◌}
 use Rattle.std.specs.Prelude.{option_and_then, slice_get}
 use Rattle.std.specs.List.{AllByRecursion}
 use Rattle.cc_names.specs.declared.commands.Command.{Command}
@@ -15,7 +15,7 @@ use Rattle.checkout_desk.specs.Commands.{builds, view_of}
 use Rattle.carried_out.specs.CarriedOut.{AreCarriedOut, IsLaneCarriedOut, is_carried_out}
 use Rattle.base_core.specs.Keeping.Kept.{command_limit}
 use Rattle.base_core.specs.Keeping.Nexts.{next_by, next_of, waiting}
-use Rattle.base_core.proofs.Building.ObjectSteps.{all_at}
+use Rattle.base_core.proofs.Building.UnitRows.{all_at}
 
 -- what holds of all commands of all lanes holds of the one that is next
 in_lane : (Q : Lane → Type 0) (P : Command → Type 0) → ((lane : Lane) → Q lane → AllByRecursion P lane.commands) → (phase : Phase) (lane done : ℕ) (command : Command) → AllByRecursion Q phase.lanes

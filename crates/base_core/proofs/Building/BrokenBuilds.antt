@@ -14,14 +14,12 @@ use Rattle.build_core.specs.Slots.{numbered}
 use Rattle.build_core.specs.SlotLaws.{put_numbered, without_numbered}
 use Rattle.disk_model.specs.Told.{Sight}
 use Rattle.legal_history.specs.Builds.Active.{Build, build_of}
-use Rattle.legal_history.specs.Builds.Consistency.{IsConsistent}
 use Rattle.legal_history.specs.Builds.Turns.{is_complete}
-use Rattle.legal_history.specs.Stories.Committing.{FaultsAt, LeavesRow, MayCommit}
-use Rattle.legal_history.specs.Stories.Lawful.{EndsBuild, Legal}
+use Rattle.legal_history.specs.Stories.Committing.{LeavesRow, MayCommit}
+use Rattle.legal_history.specs.Stories.Lawful.{EndsBuild}
 use Rattle.legal_history.specs.Stories.States.{State, Faulted, start, done_of, with_done, next_tag, build_by, ticks_of, faults_of}
 use Rattle.legal_history.specs.Stories.Steps.{after, state_of, done_by_fault, faulted_in, without_build}
 use Rattle.base_core.specs.Logging.Appending.{MayLeaveRow}
-use Rattle.base_core.specs.Calls.BuildCalls.{IsObjectRow}
 use Rattle.base_core.specs.Calls.Building.{IsBuildKept}
 use Rattle.base_core.specs.Calls.Going.{SamePhase, Finishes}
 use Rattle.base_core.specs.Keeping.Kept.{IsStoryKept, IsPhaseKept, AreReplies, AreBuilds, IsCoreKept}
@@ -31,7 +29,6 @@ use Rattle.base_core.specs.Story.Readable.{IsReadable}
 use Rattle.base_core.specs.Story.Replying.{in_lane, reply_to_fault, reply_to_end, replies_of}
 use Rattle.base_core.proofs.Building.Closing.{build_is_by, builds_closed}
 use Rattle.base_core.proofs.Acting.Faulting.{leaves_so}
-use Rattle.base_core.proofs.Building.FoundBuilds.{build_kept}
 use Rattle.base_core.proofs.Story.Growing.{state_from-more}
 use Rattle.base_core.proofs.Keeping.KeptBuilds.{same_rows}
 use Rattle.base_core.proofs.Keeping.KeptReplies.{replies_more, replies_stay, replies_are_same}
@@ -40,7 +37,7 @@ use Rattle.base_core.proofs.Keeping.LaneCounts.{done_same, done_other}
 use Rattle.base_core.proofs.Keeping.LaneSets.{builds_count}
 use Rattle.base_core.proofs.Keeping.LaneSlots.{found_put, lane_slot}
 use Rattle.base_core.proofs.Story.Naming.{left_named}
-use Rattle.base_core.proofs.Building.ObjectSteps.{object_made, object_may}
+use Rattle.base_core.proofs.Building.UnitRows.{Gives}
 
 either : (b : Bool) → (b || true) ≡ true
 either true = refl
@@ -165,25 +162,23 @@ broken_finishes log story lane build tag left before faults tick sight same is t
         ∙ ap (λ t. after t end) state1
         ∙ ap (λ t. record s1 { done = with_done s.done t.lane; active = without_build s1.active t.lane }) tagged
 
--- what is kept where the row of what a unit's run gave was not committed
-pub kept_broken_object : (log : Logged) (lanes : List LaneKept) (now : ℕ) (story : List Told) (lane n : ℕ) (row : Plain) (tag : Tag) (left : Option Plain) (before faults tick : ℕ) (sight : Sight) → rises before faults ≡ true → faults_of (state_of log.story).opened (state_of log.story).ends ≤ before → MayLeaveRow (state_of log.story) row left
-    → rises (ticks_of (state_of log.story).opened (state_of log.story).ends) tick ≡ true → log.story ≡ story → IsCoreKept log lanes now → IsObjectRow (state_of story) lane n row → tag ≡ next_tag (state_of story) lane
-    → ((told : List Told) (l : ℕ) (b : Build) → Legal told → build_of (state_of told).active l ≡ Some b → IsConsistent (state_of told).base b) → IsFormed row
+-- what is kept where a row that was to give a unit an object was not committed
+pub kept_broken_object : (log : Logged) (lanes : List LaneKept) (now lane n : ℕ) (row : Plain) (object : ℕ) (tag : Tag) (left : Option Plain) (before faults tick : ℕ) (sight : Sight) → rises before faults ≡ true → faults_of (state_of log.story).opened (state_of log.story).ends ≤ before → MayLeaveRow (state_of log.story) row left
+    → rises (ticks_of (state_of log.story).opened (state_of log.story).ends) tick ≡ true → IsCoreKept log lanes now → Gives (state_of log.story) lane n row object → tag ≡ next_tag (state_of log.story) lane → IsFormed row
     → IsCoreKept (with_step (with_step_on log (steps.Fault row.tag left before faults tick) sight) (steps.End tag)) (with_closed lanes lane replies.DiskFault) now
-kept_broken_object log lanes now story lane n row tag left before faults tick sight rose later leaves ticked same h object tagged consistent formed =
+kept_broken_object log lanes now lane n row object tag left before faults tick sight rose later leaves ticked h g tagged formed =
     let s = state_of log.story in
-    let here : IsObjectRow s lane n row = subst (λ t. IsObjectRow (state_of t) lane n row) (sym same) object in
-    let slot = lane_slot log lanes now lane here.build h here.active in
-    let of_tag : tag ≡ next_tag s lane = tagged ∙ ap (λ t. next_tag (state_of t) lane) (sym same) in
-    subst (λ t. IsCoreKept (with_step (with_step_on log (steps.Fault row.tag left before faults tick) sight) (steps.End t)) (with_closed lanes lane replies.DiskFault) now) (sym of_tag)
-    (subst (λ t. IsCoreKept (with_step (with_step_on log (steps.Fault t left before faults tick) sight) (steps.End (next_tag s lane))) (with_closed lanes lane replies.DiskFault) now) (sym here.of_tag)
-    (kept_broken log lanes now lane here.build row left before faults tick sight rose later leaves ticked h slot.from slot.upto here.active here.of_tag (object_may log lanes now lane n row h here consistent)
-    (record { formed = formed; made = object_made s lane n row here })))
+    let slot = lane_slot log lanes now lane g.build h g.active in
+    subst (λ t. IsCoreKept (with_step (with_step_on log (steps.Fault row.tag left before faults tick) sight) (steps.End t)) (with_closed lanes lane replies.DiskFault) now) (sym tagged)
+    (subst (λ t. IsCoreKept (with_step (with_step_on log (steps.Fault t left before faults tick) sight) (steps.End (next_tag s lane))) (with_closed lanes lane replies.DiskFault) now) (sym g.of_tag)
+    (kept_broken log lanes now lane g.build row left before faults tick sight rose later leaves ticked h slot.from slot.upto g.active g.of_tag g.may (record { formed = formed; made = g.made })))
 
 -- how the story went on
-pub broken_object_finishes : (log : Logged) (lanes : List LaneKept) (now : ℕ) (story : List Told) (lane n : ℕ) (row : Plain) (tag : Tag) (left : Option Plain) (before faults tick : ℕ) (sight : Sight) → log.story ≡ story → IsCoreKept log lanes now → IsObjectRow (state_of story) lane n row → tag ≡ next_tag (state_of story) lane
+pub broken_object_finishes : (log : Logged) (lanes : List LaneKept) (now : ℕ) (story : List Told) (lane n : ℕ) (row : Plain) (object : ℕ) (tag : Tag) (left : Option Plain) (before faults tick : ℕ) (sight : Sight) → log.story ≡ story → IsCoreKept log lanes now → Gives (state_of log.story) lane n row object → tag ≡ next_tag (state_of log.story) lane
     → Finishes story (with_step (with_step_on log (steps.Fault row.tag left before faults tick) sight) (steps.End tag)).story lane
-broken_object_finishes log lanes now story lane n row tag left before faults tick sight same h object tagged =
-    let kept = build_kept log lanes now story lane object.build same h object.active in
-    subst (λ t. Finishes story (with_step (with_step_on log (steps.Fault t left before faults tick) sight) (steps.End tag)).story lane) (tagged ∙ sym object.of_tag)
-    (broken_finishes log story lane object.build tag left before faults tick sight same (build_is_by (state_of story) lane object.build object.active kept.tag) tagged)
+broken_object_finishes log lanes now story lane n row object tag left before faults tick sight same h g tagged =
+    let s = state_of log.story in
+    let by_tag = build_is_by s lane g.build g.active (h.builds.kept lane g.build g.active).tag in
+    subst (λ t. Finishes t (with_step (with_step_on log (steps.Fault row.tag left before faults tick) sight) (steps.End tag)).story lane) same
+    (subst (λ t. Finishes log.story (with_step (with_step_on log (steps.Fault t left before faults tick) sight) (steps.End tag)).story lane) (tagged ∙ sym g.of_tag)
+    (broken_finishes log log.story lane g.build tag left before faults tick sight refl by_tag tagged))

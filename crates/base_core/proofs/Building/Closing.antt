@@ -1,5 +1,5 @@
 -- What a core keeps after the end of a build.
-use Rattle.std.proofs.Common.{◌≡◌, ◌≢◌, ℕ, ◌-◌, ◌≤◌, true, ◌||◌, Option, Some, None, List, [], ◌∷◌, ◌++◌, drop, length, set, refl, ap, sym, subst, ◌∙◌, arith}
+use Rattle.std.proofs.Common.{◌≡◌, ℕ, ◌-◌, ◌≤◌, true, ◌||◌, Option, Some, None, List, [], ◌∷◌, ◌++◌, drop, length, set, refl, ap, sym, subst, ◌∙◌, arith}
 use Rattle.std.specs.Prelude.{if◌then◌else◌}
 use Rattle.cc_names.specs.declared.replies.Reply.{Reply}
 use Rattle.cc_names.specs.declared.replies.Reply.TheVariants as replies
@@ -22,7 +22,6 @@ use Rattle.base_core.specs.Keeping.Lanes.{LaneKept, lane_kept, commands_at, repl
 use Rattle.base_core.specs.Logging.Logs.{Logged, with_step}
 use Rattle.base_core.specs.Story.Replying.{in_lane, reply_to_end, replies_of}
 use Rattle.base_core.proofs.Story.Growing.{state_from-more}
-use Rattle.base_core.proofs.Keeping.Idle.{not_both}
 use Rattle.base_core.proofs.Keeping.KeptBuilds.{KeepsRows, same_rows, builds_put}
 use Rattle.base_core.proofs.Keeping.KeptReplies.{replies_more}
 use Rattle.base_core.proofs.Keeping.KeptSteps.{phase_stays, story_more}

@@ -11,11 +11,15 @@ use Rattle.build_script.specs.Run.{Ran}
 use Rattle.build_script.specs.declared.lines.Line.{Line}
 use Rattle.legal_history.specs.Base.Rows.{Base, first_rows}
 use Rattle.legal_history.specs.Builds.Active.{Build, Started, build_of, came_to, is_outcome}
-use Rattle.legal_history.specs.Stories.States.{State}
+use Rattle.legal_history.specs.Builds.Reuse.{reusable}
+use Rattle.legal_history.specs.Builds.UnitTurns.{IsRunning}
+use Rattle.legal_history.specs.Laws.TakenLaws.{FoundAfterTheStartIsNotHeld}
+use Rattle.legal_history.specs.Stories.Lawful.{Legal}
+use Rattle.legal_history.specs.Stories.States.{State, next_tag}
 use Rattle.legal_history.specs.Stories.Steps.{state_of}
 use Rattle.legal_history.specs.Builds.Turns.{all_over}
 use Rattle.legal_history.specs.Base.Views.{view_row}
-use Rattle.base_core.specs.Calls.BuildCalls.{IsCarried, MaySettle, HasScript, IsStarted, IsRunOfUnit, IsOver, Noted, Settled}
+use Rattle.base_core.specs.Calls.BuildCalls.{IsCarried, MaySettle, MayWink, HasScript, IsStarted, IsRunOfUnit, IsOver, Noted, Settled, Tries}
 use Rattle.base_core.specs.Calls.Building.{IsBuildKept}
 use Rattle.base_core.specs.declared.turns.UnitTurn.{UnitTurn}
 use Rattle.base_core.specs.declared.turns.UnitTurn.TheVariants as turns
@@ -53,7 +57,15 @@ started_has old new lane n script targets has noted =
       },
     )
 
--- a unit whose run failed may settle so
+-- a unit whose script was run is running
+runs_so : (s : State) (lane n : ℕ) (ran : Ran) (h : IsRunOfUnit s lane n ran) → IsRunning s (next_tag s lane) n h.build h.unit
+runs_so s lane n ran h = record {
+  waits = record { active = build_is_by s lane h.build h.active h.kept.tag; is_unit = h.is_unit; waits = ap is_outcome h.started };
+  sound = h.kept.sound;
+  started = h.started;
+}
+
+-- where its run failed, it may settle so
 pub fails_so : (s : State) (lane n : ℕ) (ran : Ran) (fault : ScriptFault) → IsRunOfUnit s lane n ran → ran.result ≡ Err fault → MaySettle s lane n (ends.Failed (faults.Script fault))
 fails_so s lane n ran fault h failed = record {
   build = h.build;
@@ -61,13 +73,35 @@ fails_so s lane n ran fault h failed = record {
   within = slice_get_within h.build.units n h.unit h.is_unit;
   kept = h.kept;
   waits = ap is_outcome h.started;
-  settles = record {
-    build = h.build;
-    unit = h.unit;
-    running = record { waits = record { active = build_is_by s lane h.build h.active h.kept.tag; is_unit = h.is_unit; waits = ap is_outcome h.started }; sound = h.kept.sound; started = h.started };
-    fails = ap (λ r. r.result) (sym h.run) ∙ failed;
-  };
+  settles = record { build = h.build; unit = h.unit; running = runs_so s lane n ran h; fails = ap (λ r. r.result) (sym h.run) ∙ failed };
 }
+
+-- an object that it may reuse by now may be taken in, by the law that its view does not hold it
+pub finds_so : (story : List Told) (lane n object : ℕ) (ran : Ran) → Legal story → FoundAfterTheStartIsNotHeld → (h : IsRunOfUnit (state_of story) lane n ran) → reusable (state_of story).base h.build n h.unit ≡ Some object → MayWink (state_of story) lane n object
+finds_so story lane n object ran legal law h chosen =
+    let runs = runs_so (state_of story) lane n ran h in
+    record {
+      build = h.build;
+      active = h.active;
+      within = slice_get_within h.build.units n h.unit h.is_unit;
+      kept = h.kept;
+      unit = h.unit;
+      may = inr runs;
+      chosen = chosen;
+      lacks = law story (next_tag (state_of story) lane) n h.build h.unit object legal runs chosen;
+    }
+
+-- what a call found that did not fail
+pub found_is : {A E : Type 0} (r : Result A E) (a : A) (P : A → Type 0) → r ≡ Ok a → IfOk r P → P a
+found_is r a P is h = subst (λ r. IfOk r P) is h
+
+-- what became of a unit that was tried and carried out at once
+pub carried_tries : {E : Type 0} (old new : List Told) (lane n : ℕ) (r : Result UnitTurn E) → IfOk r (IsCarried old new lane n) → IfOk r (Tries old new lane n)
+carried_tries old new lane n (Err e) h = tt
+carried_tries old new lane n (Ok turns.Settled) h = h
+carried_tries old new lane n (Ok (turns.NotReady m)) h = absurd h
+carried_tries old new lane n (Ok (turns.Run script targets)) h = absurd h
+carried_tries old new lane n (Ok turns.Faulted) h = h
 
 -- The first n units of a lane's build, which has so many, were carried out.
 pub record AreCarried (old new : List Told) (lane n count : ℕ) : Type 0 where

@@ -1,5 +1,5 @@
 -- What is kept, and how the story went on, where a build begins, and where a command is refused.
-use Rattle.std.proofs.Common.{◌≡◌, ℕ, ◌-◌, Option, Some, Ok, List, [], ◌∷◌, ◌++◌, length, set, refl, ap, sym, subst, ◌∙◌, arith}
+use Rattle.std.proofs.Common.{◌≡◌, ℕ, Some, Ok, List, [], ◌∷◌, ◌++◌, length, refl, ap, sym, subst, ◌∙◌, arith}
 use Rattle.std.specs.Ordering.{nat_cmp}
 use Rattle.std.specs.FinMap.Entries.{put}
 use Rattle.cc_names.specs.declared.desks.Done.TheVariants as dones

@@ -1,5 +1,5 @@
 -- What comes next for a unit of a lane's build, by what is kept of the build.
-use Rattle.std.proofs.Common.{◌≡◌, ℕ, ◌<◌, true, false, Option, Some, None, length, ap, sym, subst}
+use Rattle.std.proofs.Common.{◌≡◌, ℕ, ◌<◌, inl, false, Option, Some, None, length, ap, sym, subst}
 use Rattle.cc_names.specs.declared.refusals.ScriptFault.{ScriptFault}
 use Rattle.cc_names.specs.declared.units.Unit.{Unit}
 use Rattle.build_core.specs.UnitSteps as unit_steps
@@ -13,7 +13,7 @@ use Rattle.legal_history.specs.Builds.Fresh.{script_text, sees_file, sees_direct
 use Rattle.legal_history.specs.Builds.Consistency.{IsConsistent}
 use Rattle.legal_history.specs.Builds.Serials.{standing_or_file}
 use Rattle.legal_history.specs.Stories.States.{State, next_tag}
-use Rattle.legal_history.specs.Builds.UnitTurns.{Waits}
+use Rattle.legal_history.specs.Builds.UnitTurns.{IsOpen, Waits}
 use Rattle.legal_history.specs.Builds.Turns.{fault_of, standing_of_unit}
 use Rattle.base_core.specs.Calls.BuildCalls.{MayStart, StepsTo}
 use Rattle.base_core.specs.Calls.Building.{IsBuildKept}
@@ -24,15 +24,20 @@ use Rattle.base_core.proofs.Building.UnitCalls.{early_is, early_settles, awaits_
 waiting_unit : (s : State) (lane n : ℕ) (build : Build) (unit : Unit) → IsBuildKept s lane build → build_of s.active lane ≡ Some build → unit_at build n ≡ Some unit → is_outcome (came_to build n) ≡ false → Waits s (next_tag s lane) n build unit
 waiting_unit s lane n build unit kept active is waits = record { active = build_is_by s lane build active kept.tag; is_unit = is; waits = waits }
 
--- a unit that nothing ends may be started
-starts : (s : State) (lane n : ℕ) (build : Build) (unit : Unit) (fault : Option ScriptFault) → IsBuildKept s lane build → build_of s.active lane ≡ Some build → n < length build.units → unit_at build n ≡ Some unit → is_outcome (came_to build n) ≡ false → unit_steps.IsOpen (first_rows build.rows s.base) build unit → fault ≡ fault_of (script_of (script_text unit.script)) → MayStart s lane n fault
-starts s lane n build unit fault kept active within is waits runs fault_is = record {
+-- a unit that nothing ends is open
+opens : (s : State) (lane n : ℕ) (build : Build) (unit : Unit) → IsBuildKept s lane build → build_of s.active lane ≡ Some build → unit_at build n ≡ Some unit → is_outcome (came_to build n) ≡ false → unit_steps.IsOpen (first_rows build.rows s.base) build unit → IsOpen s (next_tag s lane) n build unit
+opens s lane n build unit kept active is waits runs = record { waits = waiting_unit s lane n build unit kept active is waits; sound = kept.sound; ready = runs.ready; runs = runs.runs }
+
+-- one that may reuse no object may be started
+starts : (s : State) (lane n : ℕ) (build : Build) (unit : Unit) (fault : Option ScriptFault) → IsBuildKept s lane build → build_of s.active lane ≡ Some build → n < length build.units → unit_at build n ≡ Some unit → is_outcome (came_to build n) ≡ false → unit_steps.IsToRun s.base build n unit → fault ≡ fault_of (script_of (script_text unit.script)) → MayStart s lane n fault
+starts s lane n build unit fault kept active within is waits to_run fault_is = record {
   build = build;
   active = active;
   within = within;
   kept = kept;
   unit = unit;
-  open_unit = record { waits = waiting_unit s lane n build unit kept active is waits; sound = kept.sound; ready = runs.ready; runs = runs.runs };
+  open_unit = opens s lane n build unit kept active is waits to_run.open_unit;
+  nothing = to_run.nothing;
   fault_is = fault_is;
 }
 
@@ -53,8 +58,26 @@ steps_so s b lane n build step kept active within consistent same h = here step 
           (early_is (sees_directory (first_rows build.rows s.base) build.view) (λ path. standing_or_file (sees_file (first_rows build.rows s.base) build.view path) (standing_of_unit build path)) h.unit end h.next.ends)
           (record { build = build; unit = h.unit; waits = waiting_unit s lane n build h.unit kept active h.is_unit h.waits; sound = kept.sound; ready = h.next.ready; ends = h.next.ends });
     }
+    here (next.Keep id) h = record {
+      build = build;
+      active = active;
+      within = within;
+      kept = kept;
+      waits = h.waits;
+      settles = record { build = build; unit = h.unit; open_unit = opens s lane n build h.unit kept active h.is_unit h.waits h.next.open_unit; chosen = h.next.chosen; holds = h.next.holds };
+    }
+    here (next.Wink id) h = record {
+      build = build;
+      active = active;
+      within = within;
+      kept = kept;
+      unit = h.unit;
+      may = inl (opens s lane n build h.unit kept active h.is_unit h.waits h.next.open_unit);
+      chosen = h.next.chosen;
+      lacks = h.next.lacks;
+    }
     here (next.Start script targets) h = (
-      starts s lane n build h.unit None kept active within h.is_unit h.waits h.next.open_unit (sym (ap fault_of h.next.script_is)),
+      starts s lane n build h.unit None kept active within h.is_unit h.waits h.next.to_run (sym (ap fault_of h.next.script_is)),
       record { build = build; active = active; unit = h.unit; is_unit = h.is_unit; script_is = h.next.script_is; targets_are = h.next.targets_are },
     )
-    here (next.Unreadable fault) h = starts s lane n build h.unit (Some fault) kept active within h.is_unit h.waits h.next.open_unit (sym (ap fault_of h.next.fault_is))
+    here (next.Unreadable fault) h = starts s lane n build h.unit (Some fault) kept active within h.is_unit h.waits h.next.to_run (sym (ap fault_of h.next.fault_is))

@@ -9,12 +9,12 @@ use Rattle.cc_names.specs.declared.steps.Told.TheVariants as told
 use Rattle.session_text.specs.Formed.{IsPhase}
 use Rattle.carried_out.specs.CarriedOut.{AreCarriedOut}
 use Rattle.build_core.specs.Slots.{numbered}
-use Rattle.legal_history.specs.Builds.Active.{Build, build_of, reserved}
+use Rattle.legal_history.specs.Builds.Active.{build_of, reserved}
 use Rattle.legal_history.specs.Stories.Lawful.{last_moment}
 use Rattle.legal_history.specs.Stories.States.{State, start, all_done, done_of, lane_at}
 use Rattle.legal_history.specs.Stories.Steps.{after, state_of}
-use Rattle.base_core.specs.Keeping.Kept.{last_phase, command_limit, IsStoryKept, IsPhaseKept, AreReplies, AreBuilds, IsCoreKept}
-use Rattle.base_core.specs.Keeping.Lanes.{LaneKept, no_lane, builds_in, begun_lane, fresh_lanes, commands_at, replies_at, room_at}
+use Rattle.base_core.specs.Keeping.Kept.{last_phase, command_limit, IsStoryKept, IsPhaseKept, AreBuilds, IsCoreKept}
+use Rattle.base_core.specs.Keeping.Lanes.{LaneKept, no_lane, builds_in, begun_lane, fresh_lanes, commands_at, room_at}
 use Rattle.base_core.specs.Logging.Logs.{Logged, with_phase}
 use Rattle.base_core.specs.Story.Replying.{no_replies}
 use Rattle.base_core.proofs.Story.Growing.{state_from-more, replies_from-more}

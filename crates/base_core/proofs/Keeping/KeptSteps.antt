@@ -1,5 +1,5 @@
 -- What a core keeps after one more step of its story: one lemma for each kind of step.
-use Rattle.std.proofs.Common.{◌≡◌, ◌≢◌, ℕ, ◌+◌, ◌-◌, ◌≤◌, true, Option, Some, None, List, [], ◌∷◌, ◌++◌, drop, length, set, refl, ap, sym, subst, ◌∙◌, arith}
+use Rattle.std.proofs.Common.{◌≡◌, ℕ, ◌+◌, ◌-◌, ◌≤◌, true, Some, None, List, [], ◌∷◌, ◌++◌, drop, length, set, refl, ap, sym, subst, ◌∙◌, arith}
 use Rattle.std.specs.FinMap.Entries.{put}
 use Rattle.std.specs.Ordering.{nat_cmp}
 use Rattle.std.specs.Prelude.{is_some}
@@ -9,13 +9,13 @@ use Rattle.cc_names.specs.declared.rows.Tag.{Tag}
 use Rattle.cc_names.specs.declared.steps.Step.TheVariants as steps
 use Rattle.cc_names.specs.declared.steps.Told.{Told}
 use Rattle.cc_names.specs.declared.steps.Told.TheVariants as told
-use Rattle.build_core.specs.Slots.{numbered, held_in}
+use Rattle.build_core.specs.Slots.{numbered}
 use Rattle.build_core.specs.SlotLaws.{put_numbered}
 use Rattle.disk_model.specs.Told.{Sight}
 use Rattle.legal_history.specs.Base.Fits.{row_limit}
 use Rattle.legal_history.specs.Base.Rows.{Base}
 use Rattle.legal_history.specs.Builds.Active.{Build, build_of, reserved}
-use Rattle.legal_history.specs.Stories.Lawful.{Lawful, Legal}
+use Rattle.legal_history.specs.Stories.Lawful.{Lawful}
 use Rattle.legal_history.specs.Stories.States.{State, start, done_of, with_done}
 use Rattle.legal_history.specs.Stories.Steps.{after, state_of}
 use Rattle.base_core.specs.Calls.Building.{IsBuildKept}
@@ -23,10 +23,10 @@ use Rattle.base_core.specs.Calls.Going.{SamePhase}
 use Rattle.base_core.specs.Keeping.Kept.{IsStoryKept, IsPhaseKept, AreBuilds, IsCoreKept}
 use Rattle.base_core.specs.Keeping.Lanes.{LaneKept, lane_kept, commands_at, replies_at, builds_in, with_reply, put_build}
 use Rattle.base_core.specs.Logging.Logs.{Logged}
-use Rattle.base_core.specs.Story.Readable.{IsReadable, NamesOnly, TellsOnly}
+use Rattle.base_core.specs.Story.Readable.{IsReadable, NamesOnly}
 use Rattle.base_core.specs.Story.Replying.{in_lane, replies_after, replies_of}
 use Rattle.base_core.proofs.Story.Growing.{state_from-more, legal_more}
-use Rattle.base_core.proofs.Keeping.Idle.{build_in_slot, not_both, some_same}
+use Rattle.base_core.proofs.Keeping.Idle.{not_both, some_same}
 use Rattle.base_core.proofs.Keeping.KeptBuilds.{KeepsRows, stays, builds_stay, builds_put}
 use Rattle.base_core.proofs.Keeping.KeptReplies.{replies_more, replies_stay, same_where_set}
 use Rattle.base_core.proofs.Keeping.LaneCounts.{done_other}

@@ -10,7 +10,7 @@ use Rattle.cc_names.specs.declared.commands.Command.{Command}
 use Rattle.cc_names.specs.declared.commands.Lane.{Lane}
 use Rattle.build_core.specs.Slots.{numbered, held_in}
 use Rattle.legal_history.specs.Builds.Active.{Build, build_of}
-use Rattle.legal_history.specs.Stories.States.{State, command_behind, done_of, lane_at}
+use Rattle.legal_history.specs.Stories.States.{State, command_behind, done_of}
 use Rattle.legal_history.specs.Stories.Steps.{state_of}
 use Rattle.base_core.specs.Keeping.Kept.{IsCoreKept}
 use Rattle.base_core.specs.Keeping.Lanes.{LaneKept, build_at, builds_in, replies_at, room_at}

@@ -3,11 +3,14 @@ use Rattle.std.specs.Prelude.{◌≡◌, ℕ, ◌<◌, ◌^◌, true, false, Opt
 use Rattle.std.specs.Ordering.{nat_cmp}
 use Rattle.std.specs.FinMap.Entries.{put}
 use Rattle.cc_names.specs.Formed.{Plain}
+use Rattle.cc_names.specs.Versions.{is_number}
 use Rattle.cc_names.specs.declared.desks.Begun.{Begun}
 use Rattle.cc_names.specs.declared.desks.Begun.TheVariants as begins
 use Rattle.cc_names.specs.declared.refusals.ScriptFault.{ScriptFault}
+use Rattle.cc_names.specs.declared.rows.Deed.TheVariants as deeds
 use Rattle.cc_names.specs.declared.steps.Step.{Step}
 use Rattle.cc_names.specs.declared.steps.UnitEnd.{UnitEnd}
+use Rattle.cc_names.specs.declared.steps.UnitEnd.TheVariants.{Kept}
 use Rattle.cc_names.specs.declared.steps.Told.{Told}
 use Rattle.cc_names.specs.declared.steps.Told.TheVariants as told
 use Rattle.cc_names.specs.declared.units.Unit.{Unit}
@@ -17,9 +20,12 @@ use Rattle.build_core.specs.declared.steps.UnitStep.TheVariants as next
 use Rattle.build_script.specs.Lines.{script_of}
 use Rattle.build_script.specs.Run.{Ran}
 use Rattle.build_script.specs.declared.lines.Line.{Line}
+use Rattle.legal_history.specs.Base.Rows.{size}
 use Rattle.legal_history.specs.Builds.Active.{Build, Came, Started, build_of, came_to, is_outcome, unit_at}
 use Rattle.legal_history.specs.Builds.Choices.{here, publish_of}
 use Rattle.legal_history.specs.Builds.Fresh.{script_text}
+use Rattle.legal_history.specs.Builds.Reuse.{held_at_all, reusable}
+use Rattle.legal_history.specs.Laws.FromNothing.{MayTake}
 use Rattle.legal_history.specs.Stories.States.{State, next_tag}
 use Rattle.legal_history.specs.Stories.Steps.{after, state_of, with_came}
 use Rattle.legal_history.specs.Stories.Lawful.{LawfulStep}
@@ -89,7 +95,19 @@ pub record MayStart (s : State) (lane n : ℕ) (fault : Option ScriptFault) : Ty
   pub kept : IsBuildKept s lane build
   pub unit : Unit
   pub open_unit : IsOpen s (next_tag s lane) n build unit
+  pub nothing : reusable s.base build n unit ≡ None
   pub fault_is : fault ≡ unreadable unit
+
+-- the view of a lane's build may take in this object for unit n, which may reuse it; the view does not hold it at every target
+pub record MayWink (s : State) (lane n id : ℕ) : Type 0 where
+  pub build : Build
+  pub active : build_of s.active lane ≡ Some build
+  pub within : n < length build.units
+  pub kept : IsBuildKept s lane build
+  pub unit : Unit
+  pub may : MayTake s (next_tag s lane) n build unit
+  pub chosen : reusable s.base build n unit ≡ Some id
+  pub lacks : is_number id (held_at_all s.base build.view unit.targets) ≡ false
 
 -- unit n of a lane's build has this script and these targets
 pub record HasScript (s : State) (lane n : ℕ) (script : List Line) (targets : List (List ℕ)) : Type 0 where
@@ -114,6 +132,8 @@ abbrev pub StepsTo : State → ℕ → ℕ → UnitStep → Type 0
 StepsTo s lane n next.Settled = HasOutcome s lane n
 StepsTo s lane n (next.NotReady m) = WaitsFor s lane n m
 StepsTo s lane n (next.Settle end) = MaySettle s lane n end
+StepsTo s lane n (next.Keep id) = MaySettle s lane n (Kept id)
+StepsTo s lane n (next.Wink id) = MayWink s lane n id
 StepsTo s lane n (next.Start script targets) = MayStart s lane n None × HasScript s lane n script targets
 StepsTo s lane n (next.Unreadable fault) = MayStart s lane n (Some fault)
 
@@ -126,7 +146,20 @@ pub record IsObjectRow (s : State) (lane n : ℕ) (row : Plain) : Type 0 where
   pub started : came_to build n ≡ Some Started
   pub of_tag : row.tag ≡ next_tag s lane
   pub at_moment : row.moment ≡ s.moment
+  pub nothing : reusable s.base build n unit ≡ None
   pub made : publish_of s.base build n unit ≡ Some row.deed
+
+-- the row by which the view of a lane's build takes in this object for unit n
+pub record IsWinkRow (s : State) (lane n id : ℕ) (row : Plain) : Type 0 where
+  pub may : MayWink s lane n id
+  pub of_tag : row.tag ≡ next_tag s lane
+  pub at_moment : row.moment ≡ s.moment
+  pub winks : row.deed ≡ deeds.Wink may.build.view id
+
+-- a row that gives unit n of a lane's build this object: what its run gave is the next row, and an object taken in is its own
+pub data GivesObject (s : State) (lane n : ℕ) (row : Plain) (object : ℕ) : Type 0 where
+  Published : IsObjectRow s lane n row → object ≡ size s.base → GivesObject s lane n row object
+  TakenIn : IsWinkRow s lane n object row → GivesObject s lane n row object
 
 -- unit n of a lane's build was started, with this script and these targets
 pub record IsStarted (s : State) (lane n : ℕ) (script : List Line) (targets : List (List ℕ)) : Type 0 where
@@ -142,6 +175,11 @@ pub record IsRunOfUnit (s : State) (lane n : ℕ) (ran : Ran) : Type 0 where
   pub started : came_to build n ≡ Some Started
   pub kept : IsBuildKept s lane build
   pub run : ran ≡ here s.base build n unit
+
+-- the run of unit n of a lane's build gave these outputs and asked for these paths, and the unit may reuse no object
+pub record MayPublish (s : State) (lane n : ℕ) (outputs reads : List (List ℕ)) : Type 0 where
+  pub run : IsRunOfUnit s lane n (record { result = Ok outputs; reads = reads })
+  pub nothing : reusable s.base run.build n run.unit ≡ None
 
 -- the units of a lane's build all have their outcomes
 pub record IsOver (s : State) (lane : ℕ) : Type 0 where

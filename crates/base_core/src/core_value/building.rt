@@ -117,7 +117,8 @@ impl<D: Disk> Core<D> {
     /// the build ends. After an `Err` the story may have gone on by steps of this build, which is then active. Each commit
     /// and fault among the steps has the disk's counts as `act` says, of its own turn; beside them no device call is made,
     /// whatever is answered. Takes time linear in the makefile, in what the scripts read and write, and in the steps since the
-    /// last commit or fault; and for each read one look-up of its path.
+    /// last commit or fault; for each read one look-up of its path; and for each unit what `reusable` takes, once more after a
+    /// run.
     pub fn build(&mut self, alloc: Global, lane: u32) -> Result<(), NoMemory>
         requires { next_of (state_of self.old.story) lane
             ≡ nexts.Build (next_tag (state_of self.old.story) lane) }

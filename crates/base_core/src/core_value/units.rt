@@ -1,24 +1,19 @@
-// The turn of a unit of a lane's build.
+// The turn of a unit of a lane's build: what comes next for it, and the run of its script.
 
 ghost use Rattle.std.specs.Prelude.{◌≡◌};
 ghost use Rattle.build_core.specs.Comes.{came_of};
 ghost use Rattle.legal_history.specs.Builds.Turns.{came_by_start};
 
 use super::Core;
-use crate::logs::Appended;
 use crate::turns::UnitTurn;
-use build_core::{Came, UnitStep, a_unit_may_publish, publish_row, run_unit, step};
+use build_core::{Came, UnitStep, run_unit, step};
 use build_script::outcomes::{Ended, Outcome};
 use build_script::scripts::Script;
 use cc_names::copies::Copied;
-use cc_names::lists::List;
 use cc_names::memory::NoMemory;
 use cc_names::paths::Path;
 use cc_names::refusals::{ScriptFault, UnitFault};
-use cc_names::replies::Reply;
-use cc_names::rows::Row;
 use cc_names::steps::{Step, UnitEnd};
-use cc_names::texts::Text;
 use disk_model::Disk;
 use legal_history::laws::builds::a_build_is_consistent;
 use std::alloc::Global;
@@ -34,7 +29,7 @@ fn came_by_start(fault: Option<ScriptFault>) -> Came
 }
 
 impl<D: Disk> Core<D> {
-    ghost use Rattle.std.specs.Prelude.{◌≡◌, ◌<◌, ℕ, Ok, OnOk, OnErr, IfOk};
+    ghost use Rattle.std.specs.Prelude.{◌≡◌, ◌<◌, ℕ, OnOk, OnErr, IfOk};
     ghost use Rattle.build_core.specs.Comes.{came_of};
     ghost use Rattle.build_script.specs.Ended.{ran_of};
     ghost use Rattle.legal_history.specs.Builds.Turns.{came_by_start};
@@ -43,7 +38,6 @@ impl<D: Disk> Core<D> {
       IsRunOfUnit,
       IsBuilding,
       IsCarried,
-      IsObjectRow,
       IsStarted,
       IsTurn,
       MaySettle,
@@ -110,8 +104,9 @@ impl<D: Disk> Core<D> {
         step(alloc, &self.rows(), self.build_at(lane), unit)
     }
 
-    /// Tries a unit of a lane's build: it has its outcome already, it waits for another, it ends without a run, or its script
-    /// is started. An `Err` changes nothing.
+    /// Tries a unit of a lane's build: it has its outcome already, it waits for another, it ends without a run, it keeps an
+    /// object or the build's view takes one in for it, or its script is started. Where the disk fails the build ends. An `Err`
+    /// changes nothing.
     fn try_unit(&mut self, alloc: Global, lane: u32, unit: u32) -> Result<UnitTurn, NoMemory>
         requires { (count : ℕ) × IsBuilding (state_of self.old.story) lane count × (unit < count) }
         ensures ok { IfOk result (λ turn. Tries self.old.story self.new.story lane unit turn) }
@@ -125,6 +120,11 @@ impl<D: Disk> Core<D> {
                 self.settle(alloc, lane, unit, end)?;
                 Ok(UnitTurn::Settled)
             }
+            UnitStep::Keep(object) => {
+                self.settle(alloc, lane, unit, UnitEnd::Kept(object))?;
+                Ok(UnitTurn::Settled)
+            }
+            UnitStep::Wink(object) => self.wink(alloc, lane, unit, object),
             UnitStep::Start(script, targets) => {
                 self.start(lane, unit, None)?;
                 Ok(UnitTurn::Run(script, targets))
@@ -160,63 +160,8 @@ impl<D: Disk> Core<D> {
         )
     }
 
-    /// The row of what the run of a unit of a lane's build gave.
-    fn object_row(
-        &self,
-        alloc: Global,
-        lane: u32,
-        unit: u32,
-        outputs: List<Text>,
-        reads: &[Path],
-    ) -> Result<Row, NoMemory>
-        requires { IsRunOfUnit (state_of self.now.story) lane unit
-            (record { result = Ok outputs; reads = reads.now }) }
-        ensures { IfOk result (λ row. IsObjectRow (state_of self.now.story) lane unit row) }
-    {
-        a_build_is_consistent();
-        a_unit_may_publish();
-        publish_row(
-            alloc,
-            &self.rows(),
-            self.build_at(lane),
-            unit,
-            self.moment,
-            outputs,
-            reads,
-        )
-    }
-
-    /// Commits the row of what the run of a unit of a lane's build gave. Where the disk fails under it the build ends. An
-    /// `Err` changes nothing.
-    fn commit_object(
-        &mut self,
-        alloc: Global,
-        lane: u32,
-        unit: u32,
-        row: Row,
-    ) -> Result<UnitTurn, NoMemory>
-        requires { IsObjectRow (state_of self.old.story) lane unit row }
-        ensures ok { IfOk result (λ turn. IsCarried self.old.story self.new.story lane unit turn) }
-        ensures err { OnErr result (self.new ≡ self.old) }
-        ensures counted { KeepsCount self.old self.new }
-    {
-        a_build_is_consistent();
-        let tag = self.tag(lane);
-        let number = self.log.rows().size();
-        match self.log.append(alloc, row, Some(Step::End { tag }))? {
-            Appended::Committed => {
-                self.lanes.note(lane, unit, Came::Given(number));
-                Ok(UnitTurn::Settled)
-            }
-            Appended::Faulted => {
-                self.lanes.close(lane, Reply::DiskFault);
-                Ok(UnitTurn::Faulted)
-            }
-        }
-    }
-
-    /// Finishes a unit of a lane's build whose script was run: its object is committed, or it fails with the script's fault.
-    /// Where the disk fails the build ends. An `Err` changes nothing.
+    /// Finishes a unit of a lane's build whose script was run: it gets an object, or it fails with the script's fault. Where
+    /// the disk fails the build ends. An `Err` changes nothing.
     fn finish_unit(
         &mut self,
         alloc: Global,
@@ -233,8 +178,7 @@ impl<D: Disk> Core<D> {
         match result {
             Ok(outcome) => {
                 let Outcome { outputs } = outcome;
-                let row = self.object_row(alloc, lane, unit, outputs, reads.as_slice())?;
-                self.commit_object(alloc, lane, unit, row)
+                self.give_object(alloc, lane, unit, outputs, reads.as_slice())
             }
             Err(fault) => {
                 self.settle(alloc, lane, unit, UnitEnd::Failed(UnitFault::Script(fault)))?;

@@ -23,7 +23,7 @@ use Rattle.legal_history.proofs.Builds.CommandStays.{apart_from_idle, begun_comm
 use Rattle.legal_history.proofs.Stories.SoundStories.{IsSound, none_active, sound_first, sound_step}
 
 -- each active build is the one of its lane's command
-abbrev AllCommanded : State → Type 0
+abbrev pub AllCommanded : State → Type 0
 AllCommanded s = Each (IsOfCommand s) s.active
 
 -- an idle lane finishes a command
@@ -107,7 +107,7 @@ told_commanded s (steps.Fault tag left before faults tick) h e =
     (subst (λ t. build_by s t ≡ None → build_of s.active t.lane ≡ None) e.wanted.of_tag (fault_idle s e.wanted.row e.wanted.row.deed e.wanted.may.made))
 told_commanded s step h e = absurd e
 
-step_commanded : (s : State) (x : Told) → IsSound s → AllCommanded s → Lawful s x → AllCommanded (after s x)
+pub step_commanded : (s : State) (x : Told) → IsSound s → AllCommanded s → Lawful s x → AllCommanded (after s x)
 step_commanded s (told.Opened rows counts tells) sound h e = absurd (let first = e.first in let opened = sound.opened in cc)
 step_commanded s (told.Plan phase moment) sound h e = record { holds = λ lane build is. absurd (let own = (h.holds lane build is).command in let none = none_left s lane e.finished in cc) }
 step_commanded s (told.Commit row tick) sound h e = committed_commanded s row.tag row.moment row.deed (Committed row tick ∷ s.ends) sound h e.may.made
@@ -118,7 +118,7 @@ commanded_from s [] sound h e = h
 commanded_from s (x ∷ story) sound h e = commanded_from (after s x) story (sound_step s x sound e.0) (step_commanded s x sound h e.0) e.1
 
 -- before a base is opened nothing builds
-none_begun : (x : Told) → Lawful start x → AllCommanded (after start x)
+pub none_begun : (x : Told) → Lawful start x → AllCommanded (after start x)
 none_begun x e = record { holds = λ lane build is. absurd (let none : build_of (after start x).active lane ≡ None = ap (λ active. build_of active lane) (none_active x e) in cc) }
 
 pub build_commanded : (story : List Told) (lane : ℕ) (build : Build) → Legal story → build_of (state_of story).active lane ≡ Some build → IsOfCommand (state_of story) lane build

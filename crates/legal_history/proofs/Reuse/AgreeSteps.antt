@@ -1,5 +1,4 @@
--- A lawful step leaves every active build agreeing with the build from nothing, where the base is sound or no build reuses an
--- object.
+-- A lawful step leaves every active build agreeing with the build from nothing, where the base is sound.
 use Rattle.std.proofs.Common.{◌≡◌, refl, ap, sym, subst, ◌∙◌, inl, ℕ, true, Some, None, Ok, List, ◌∷◌}
 use Rattle.cc_names.specs.Formed.{Plain}
 use Rattle.cc_names.specs.declared.refusals.UnitFault.TheVariants as unit_faults
@@ -20,6 +19,7 @@ use Rattle.legal_history.specs.Stories.Committing.{MakesRow}
 use Rattle.legal_history.specs.Commands.Decisions.{Begins}
 use Rattle.legal_history.specs.Base.Fits.{is_base}
 use Rattle.legal_history.specs.Builds.Freshness.{AgreesSoFar}
+use Rattle.legal_history.specs.Base.Values as values
 use Rattle.legal_history.specs.Stories.States.{State, decided, build_by}
 use Rattle.legal_history.specs.Stories.Steps.{after, after_step, active_after, begun, came_by_starting, noted}
 use Rattle.legal_history.specs.Stories.Lawful.{Lawful, LawfulStep}
@@ -38,8 +38,7 @@ use Rattle.legal_history.proofs.Stories.Goes.{of_lane}
 use Rattle.legal_history.proofs.Stories.SoundStories.{IsSound}
 use Rattle.legal_history.proofs.Reuse.GivenCommits.{AllHeld}
 use Rattle.legal_history.proofs.Reuse.SoundBases.{gives_live}
-use Rattle.legal_history.proofs.Reuse.TakenObjects.{may_take_due}
-use Rattle.legal_history.proofs.Reuse.TrustedBases.{IsTrusted, kept_so, winked_so}
+use Rattle.legal_history.proofs.Reuse.TakenObjects.{kept_agrees, may_take_due, winked_agrees}
 
 -- each active build agrees
 abbrev pub BuildsAgree : State → Type 0
@@ -52,21 +51,21 @@ early_agrees s tag n end h e plain =
     each_waited (AgreesSoFar s.base) s tag n e.build (λ b. Some n) (Ended end) h there refl
     (came_so s.base e.build n e.unit (Ended end) agrees (early_may s.base e.build n e.unit end agrees e.waits.is_unit e.waits.waits (ready_by e.build e.unit e.ready) e.ends plain))
 
-settled_agrees : (s : State) (tag : Tag) (n : ℕ) (end : UnitEnd) → IsTrusted s.base → is_base s.base ≡ true → AllHeld s → BuildsAgree s → ComesTo s tag n end → Each (λ lane. AgreesSoFar s.base) (noted s.active tag.lane (λ b. Some n) (Ended end))
-settled_agrees s tag n (ends.Kept id) trusted base held h e =
+settled_agrees : (s : State) (tag : Tag) (n : ℕ) (end : UnitEnd) → values.IsSound s.base → is_base s.base ≡ true → AllHeld s → BuildsAgree s → ComesTo s tag n end → Each (λ lane. AgreesSoFar s.base) (noted s.active tag.lane (λ b. Some n) (Ended end))
+settled_agrees s tag n (ends.Kept id) whole base held h e =
     let there = of_lane s tag e.build e.open_unit.waits.active in
     each_waited (AgreesSoFar s.base) s tag n e.build (λ b. Some n) (Ended (ends.Kept id)) h there refl
-    (kept_so s.base e.build n e.unit id trusted base (gives_live s.base e.build (held.given.holds tag.lane e.build there)) (h.holds tag.lane e.build there) e.open_unit.waits.is_unit
+    (kept_agrees s.base e.build n e.unit id base whole (gives_live s.base e.build (held.given.holds tag.lane e.build there)) (h.holds tag.lane e.build there) e.open_unit.waits.is_unit
     (may_take_due s tag n e.build e.unit (inl e.open_unit)) e.chosen)
-settled_agrees s tag n (ends.Failed (unit_faults.Script fault)) trusted base held h e =
+settled_agrees s tag n (ends.Failed (unit_faults.Script fault)) whole base held h e =
     let there = of_lane s tag e.build e.running.waits.active in
     let agrees = h.holds tag.lane e.build there in
     each_waited (AgreesSoFar s.base) s tag n e.build (λ b. Some n) (Ended (ends.Failed (unit_faults.Script fault))) h there refl
     (came_so s.base e.build n e.unit (Ended (ends.Failed (unit_faults.Script fault))) agrees
     (fails_may s.base e.build n e.unit fault agrees e.running.waits.is_unit e.running.waits.waits e.running.started e.fails))
-settled_agrees s tag n (ends.Failed fault) trusted base held h e = early_agrees s tag n (ends.Failed fault) h e refl
-settled_agrees s tag n (ends.Blocked path) trusted base held h e = early_agrees s tag n (ends.Blocked path) h e refl
-settled_agrees s tag n ends.Bare trusted base held h e = early_agrees s tag n ends.Bare h e refl
+settled_agrees s tag n (ends.Failed fault) whole base held h e = early_agrees s tag n (ends.Failed fault) h e refl
+settled_agrees s tag n (ends.Blocked path) whole base held h e = early_agrees s tag n (ends.Blocked path) h e refl
+settled_agrees s tag n ends.Bare whole base held h e = early_agrees s tag n ends.Bare h e refl
 
 started_agrees : (s : State) (tag : Tag) (n : ℕ) → BuildsAgree s → Starts s tag n → Each (λ lane. AgreesSoFar s.base) (noted s.active tag.lane (λ b. Some n) (came_by_starting (build_of s.active tag.lane) n))
 started_agrees s tag n h e =
@@ -85,24 +84,24 @@ begun_agrees s tag us base h build is =
     let made : Some (begun_by s tag us says.view says.own_only says.rebuild) ≡ Some build = sym (begun_is s tag us h) ∙ is in
     subst (AgreesSoFar s.base) (some_same made) (begins_so s.base (begun_by s tag us says.view says.own_only says.rebuild) (begun_begins s tag us base h))
 
-told_agrees : (s : State) (step : Step) → IsTrusted s.base → is_base s.base ≡ true → AllHeld s → BuildsAgree s → LawfulStep s step → Each (λ lane. AgreesSoFar (after_step s step).base) (after_step s step).active
-told_agrees s (steps.Refused tag refusal) trusted base held h e = h
-told_agrees s (steps.Answer tag text) trusted base held h e = h
-told_agrees s (steps.Begin tag rows count) trusted base held h e = each_begun (λ lane. AgreesSoFar s.base) s.active tag.lane (begun s tag) h (begun_agrees s tag e.units base e.chosen)
-told_agrees s (steps.Start tag n) trusted base held h e = started_agrees s tag n h e
-told_agrees s (steps.Settled tag n end) trusted base held h e = settled_agrees s tag n end trusted base held h e
-told_agrees s (steps.End tag) trusted base held h e = each_without (λ lane. AgreesSoFar s.base) (λ lane. AgreesSoFar s.base) s.active tag.lane h (λ lane build apart agrees. agrees)
-told_agrees s (steps.Fault tag left before faults tick) trusted base held h e =
+told_agrees : (s : State) (step : Step) → values.IsSound s.base → is_base s.base ≡ true → AllHeld s → BuildsAgree s → LawfulStep s step → Each (λ lane. AgreesSoFar (after_step s step).base) (after_step s step).active
+told_agrees s (steps.Refused tag refusal) whole base held h e = h
+told_agrees s (steps.Answer tag text) whole base held h e = h
+told_agrees s (steps.Begin tag rows count) whole base held h e = each_begun (λ lane. AgreesSoFar s.base) s.active tag.lane (begun s tag) h (begun_agrees s tag e.units base e.chosen)
+told_agrees s (steps.Start tag n) whole base held h e = started_agrees s tag n h e
+told_agrees s (steps.Settled tag n end) whole base held h e = settled_agrees s tag n end whole base held h e
+told_agrees s (steps.End tag) whole base held h e = each_without (λ lane. AgreesSoFar s.base) (λ lane. AgreesSoFar s.base) s.active tag.lane h (λ lane build apart agrees. agrees)
+told_agrees s (steps.Fault tag left before faults tick) whole base held h e =
     each_faulted (λ lane. AgreesSoFar s.base) s.active tag.lane (build_by s tag) h (λ build is. faulted_agrees s.base build (h.holds tag.lane build (of_lane s tag build is)))
-told_agrees s step trusted base held h e = absurd e
+told_agrees s step whole base held h e = absurd e
 
 -- a row of whatever deed
 agrees_on : (s : State) (row : Plain) → BuildsAgree s → Each (λ lane. AgreesSoFar (row ∷ s.base)) s.active
 agrees_on s row h = each_as (λ lane. AgreesSoFar s.base) (λ lane. AgreesSoFar (row ∷ s.base)) s.active h (λ lane build is agrees. row_added row s.base build agrees)
 
-committed_agrees : (s : State) (tag : Tag) (moment : ℕ) (deed : Deed) → IsTrusted s.base → is_base s.base ≡ true → AllHeld s → BuildsAgree s → MakesRow s (record { tag = tag; moment = moment; deed = deed }) deed →
+committed_agrees : (s : State) (tag : Tag) (moment : ℕ) (deed : Deed) → values.IsSound s.base → is_base s.base ≡ true → AllHeld s → BuildsAgree s → MakesRow s (record { tag = tag; moment = moment; deed = deed }) deed →
     Each (λ lane. AgreesSoFar (record { tag = tag; moment = moment; deed = deed } ∷ s.base)) (active_after s.base s.active tag.lane deed)
-committed_agrees s tag moment (deeds.Publish view targets script entries outputs) trusted base held h e =
+committed_agrees s tag moment (deeds.Publish view targets script entries outputs) whole base held h e =
     let row : Plain = record { tag = tag; moment = moment; deed = deeds.Publish view targets script entries outputs } in
     let there = of_lane s tag e.build e.running.waits.active in
     let agrees = h.holds tag.lane e.build there in
@@ -110,17 +109,17 @@ committed_agrees s tag moment (deeds.Publish view targets script entries outputs
     (came_so (row ∷ s.base) e.build e.n e.unit (Given (size s.base)) (row_added row s.base e.build agrees)
     (given_may row s.base e.build e.n e.unit agrees e.running.waits.is_unit e.running.waits.waits e.running.started
     (is_publish s.base e.build e.n e.unit (deeds.Publish view targets script entries outputs) e.made)))
-committed_agrees s tag moment (deeds.Wink view id) trusted base held h e =
+committed_agrees s tag moment (deeds.Wink view id) whole base held h e =
     let row : Plain = record { tag = tag; moment = moment; deed = deeds.Wink view id } in
     let w = takes_for s tag e.n e.build e.unit e.may in
     each_waited (AgreesSoFar (row ∷ s.base)) s tag e.n e.build (λ build. unit_with_first build (targets_of s.base id)) (Given id) (agrees_on s row h) w.there e.place
-    (winked_so row s.base e.build e.n e.unit id trusted base (gives_live s.base e.build (held.given.holds tag.lane e.build w.there)) (h.holds tag.lane e.build w.there) w.is_unit
+    (winked_agrees row s.base e.build e.n e.unit id base whole (gives_live s.base e.build (held.given.holds tag.lane e.build w.there)) (h.holds tag.lane e.build w.there) w.is_unit
     (may_take_due s tag e.n e.build e.unit e.may) e.chosen (ap (λ v. deeds.Wink v id) (sym e.of_view)))
-committed_agrees s tag moment deed trusted base held h e = agrees_on s (record { tag = tag; moment = moment; deed = deed }) h
+committed_agrees s tag moment deed whole base held h e = agrees_on s (record { tag = tag; moment = moment; deed = deed }) h
 
 -- Each lawful step leaves each active build agreeing.
-pub agree_step : (s : State) (x : Told) → IsSound s → IsTrusted s.base → AllHeld s → BuildsAgree s → Lawful s x → BuildsAgree (after s x)
-agree_step s (told.Opened rows counts tells) sound trusted held h e = absurd (let first = e.first in let opened = sound.opened in cc)
-agree_step s (told.Plan phase moment) sound trusted held h e = h
-agree_step s (told.Commit row tick) sound trusted held h e = committed_agrees s row.tag row.moment row.deed trusted sound.base held h e.may.made
-agree_step s (told.Other step) sound trusted held h e = told_agrees s step trusted sound.base held h e
+pub agree_step : (s : State) (x : Told) → IsSound s → values.IsSound s.base → AllHeld s → BuildsAgree s → Lawful s x → BuildsAgree (after s x)
+agree_step s (told.Opened rows counts tells) sound whole held h e = absurd (let first = e.first in let opened = sound.opened in cc)
+agree_step s (told.Plan phase moment) sound whole held h e = h
+agree_step s (told.Commit row tick) sound whole held h e = committed_agrees s row.tag row.moment row.deed whole sound.base held h e.may.made
+agree_step s (told.Other step) sound whole held h e = told_agrees s step whole sound.base held h e

@@ -1,10 +1,8 @@
--- Along a legal story each active build agrees with the build from nothing, where the base was sound as it was opened or no
--- build reuses an object.
-use Rattle.std.proofs.Common.{◌≡◌, ap, sym, subst, ◌∙◌, ℕ, false, Some, None, List, [], ◌∷◌}
+-- Along a legal story each active build agrees with the build from nothing, where the base was sound as it was opened.
+use Rattle.std.proofs.Common.{◌≡◌, ap, sym, subst, ◌∙◌, ℕ, Some, None, List, [], ◌∷◌}
 use Rattle.cc_names.specs.declared.steps.Told.{Told}
 use Rattle.legal_history.specs.Builds.Active.{Build, build_of}
 use Rattle.legal_history.specs.Builds.Freshness.{AgreesSoFar}
-use Rattle.legal_history.specs.Builds.Reuse.{reuses}
 use Rattle.legal_history.specs.Stories.States.{State, Opening, start}
 use Rattle.legal_history.specs.Stories.Steps.{after, state_from, state_of}
 use Rattle.legal_history.specs.Stories.Lawful.{Lawful, Legal, LegalFrom}
@@ -14,32 +12,23 @@ use Rattle.legal_history.proofs.Reuse.AgreeSteps.{BuildsAgree, agree_step}
 use Rattle.legal_history.proofs.Reuse.GivenCommits.{AllHeld}
 use Rattle.legal_history.proofs.Reuse.GivenSteps.{held_step}
 use Rattle.legal_history.proofs.Reuse.SoundBases.{base_step, held_first, opened_from, opened_is_base}
-use Rattle.legal_history.proofs.Reuse.TrustedBases.{IsTrusted, ReusesNothing, OverSound}
 
-trusted_step : (s : State) (x : Told) → IsSound s → AllHeld s → IsTrusted s.base → Lawful s x → IsTrusted (after s x).base
-trusted_step s x sound held (ReusesNothing off) e = ReusesNothing off
-trusted_step s x sound held (OverSound whole) e = OverSound (base_step s x sound held whole e)
-
-agree_from : (s : State) (story : List Told) → IsSound s → IsTrusted s.base → AllHeld s → BuildsAgree s → LegalFrom s story → BuildsAgree (state_from s story)
-agree_from s [] sound trusted held h e = h
-agree_from s (x ∷ story) sound trusted held h e =
-    agree_from (after s x) story (sound_step s x sound e.0) (trusted_step s x sound held trusted e.0) (held_step s x sound held e.0) (agree_step s x sound trusted held h e.0) e.1
+agree_from : (s : State) (story : List Told) → IsSound s → values.IsSound s.base → AllHeld s → BuildsAgree s → LegalFrom s story → BuildsAgree (state_from s story)
+agree_from s [] sound whole held h e = h
+agree_from s (x ∷ story) sound whole held h e =
+    agree_from (after s x) story (sound_step s x sound e.0) (base_step s x sound held whole e.0) (held_step s x sound held e.0) (agree_step s x sound whole held h e.0) e.1
 
 -- before a base is opened nothing builds
 none_agree : (x : Told) → Lawful start x → BuildsAgree (after start x)
 none_agree x e = record { holds = λ lane build is. absurd (let none : build_of (after start x).active lane ≡ None = ap (λ active. build_of active lane) (none_active x e) in cc) }
 
-story_agrees : (x : Told) (story : List Told) → Legal (x ∷ story) → IsTrusted (after start x).base → BuildsAgree (state_of (x ∷ story))
-story_agrees x story legal trusted = agree_from (after start x) story (sound_first x legal.0) trusted (held_first x legal.0) (none_agree x legal.0) legal.1
+story_agrees : (x : Told) (story : List Told) → Legal (x ∷ story) → values.IsSound (after start x).base → BuildsAgree (state_of (x ∷ story))
+story_agrees x story legal whole = agree_from (after start x) story (sound_first x legal.0) whole (held_first x legal.0) (none_agree x legal.0) legal.1
 
--- The law, over a base that was sound and without reuse.
-pub agrees_over_sound : (story : List Told) (opening : Opening) (lane : ℕ) (build : Build) → Legal story → (state_of story).opened ≡ Some opening → values.IsSound opening.base → build_of (state_of story).active lane ≡ Some build →
+-- The law.
+pub story_agrees_so_far : (story : List Told) (opening : Opening) (lane : ℕ) (build : Build) → Legal story → (state_of story).opened ≡ Some opening → values.IsSound opening.base → build_of (state_of story).active lane ≡ Some build →
     AgreesSoFar (state_of story).base build
-agrees_over_sound [] opening lane build legal opened whole is = absurd (cc)
-agrees_over_sound (x ∷ story) opening lane build legal opened whole is =
+story_agrees_so_far [] opening lane build legal opened whole is = absurd (cc)
+story_agrees_so_far (x ∷ story) opening lane build legal opened whole is =
     let first : (after start x).opened ≡ Some opening = sym (opened_from (after start x) story (sound_first x legal.0) legal.1) ∙ opened in
-    (story_agrees x story legal (OverSound (subst values.IsSound (opened_is_base x opening legal.0 first) whole))).holds lane build is
-
-pub agrees_without_reuse : (story : List Told) (lane : ℕ) (build : Build) → reuses ≡ false → Legal story → build_of (state_of story).active lane ≡ Some build → AgreesSoFar (state_of story).base build
-agrees_without_reuse [] lane build off legal is = absurd (cc)
-agrees_without_reuse (x ∷ story) lane build off legal is = (story_agrees x story legal (ReusesNothing off)).holds lane build is
+    (story_agrees x story legal (subst values.IsSound (opened_is_base x opening legal.0 first) whole)).holds lane build is

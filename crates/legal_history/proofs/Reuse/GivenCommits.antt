@@ -14,7 +14,7 @@ use Rattle.legal_history.specs.Base.Closures.{is_among}
 use Rattle.legal_history.specs.Commands.Decisions.{Makes}
 use Rattle.legal_history.specs.Base.Changes.{targets_of}
 use Rattle.legal_history.specs.Base.Fits.{deed_fits, is_base}
-use Rattle.legal_history.specs.Builds.Reuse.{choice}
+use Rattle.legal_history.specs.Builds.Reuse.{reusable}
 use Rattle.legal_history.specs.Builds.Serials.{makes}
 use Rattle.legal_history.specs.Stories.States.{State, scene, decided}
 use Rattle.legal_history.specs.Stories.Steps.{noted, active_after, with_came}
@@ -29,7 +29,7 @@ use Rattle.legal_history.proofs.Stories.SoundStories.{IsSound}
 use Rattle.legal_history.specs.Laws.Given.{IsHeld, HoldsGiven}
 use Rattle.legal_history.proofs.Decisions.DecidedIdle.{decided_idle}
 use Rattle.legal_history.proofs.Reuse.GivenRows.{IsOfCommand, given_stays, given_by_command, came_given, object_is_outcome, publish_held, wink_held}
-use Rattle.legal_history.proofs.Reuse.KeptObjects.{chosen_is_reusable, chosen_object}
+use Rattle.legal_history.proofs.Reuse.KeptObjects.{chosen_object}
 use Rattle.legal_history.proofs.Reuse.Reusables.{reusable_matches}
 use Rattle.legal_history.proofs.Reuse.ViewsApart.{ViewsApart, apart_noted}
 
@@ -122,7 +122,7 @@ published_given s tag moment view targets script entries outputs sound h fit e =
         (before.holds tag.lane e.build there)))
 
 -- a wink is of its build's view and its unit's targets
-pub wink_is : (b : Base) (build : Build) (n : ℕ) (unit : Unit) (view : List ℕ) (id : ℕ) → is_base b ≡ true → build.view ≡ view → choice b build n unit ≡ Some id → PublishIs build unit view (targets_of b id)
+pub wink_is : (b : Base) (build : Build) (n : ℕ) (unit : Unit) (view : List ℕ) (id : ℕ) → is_base b ≡ true → build.view ≡ view → reusable b build n unit ≡ Some id → PublishIs build unit view (targets_of b id)
 wink_is b build n unit view id base of_view chosen =
     record { same_view = of_view; same_targets = sym (chosen_object b build n unit id base chosen).targets }
 
@@ -158,7 +158,7 @@ winked_given s tag moment view id sound h fit e = each_noted (λ lane. HoldsGive
         (λ other object. let number : id ≡ other = some_same object in
         subst (IsHeld (row ∷ s.base) e.build e.n) number
         (wink_held tag moment view id s.base e.build e.n e.unit p.same_view p.same_targets
-        (reusable_matches s.base e.build e.n e.unit id sound.base (chosen_is_reusable s.base e.build e.n e.unit id e.chosen)).lives w.is_unit e.place))
+        (reusable_matches s.base e.build e.n e.unit id sound.base e.chosen).lives w.is_unit e.place))
         (before.holds tag.lane e.build w.there)))
 
 commanded_given : (s : State) (tag : Tag) (moment : ℕ) (deed : Deed) → AllHeld s → deed_fits s.base deed ≡ true → IsOfCommand deed → decided s tag ≡ Some (Ok (Makes deed)) →

@@ -11,7 +11,7 @@ use Rattle.legal_history.specs.Base.Changes.{held}
 use Rattle.legal_history.specs.Base.Closures.{is_among}
 use Rattle.legal_history.specs.Base.Fits.{is_base}
 use Rattle.legal_history.specs.Builds.Consistency.{IsObjectOf}
-use Rattle.legal_history.specs.Builds.Reuse.{choice, held_at_all, held_at_each, held_at_others, reusable, reuses}
+use Rattle.legal_history.specs.Builds.Reuse.{held_at_all, held_at_each, held_at_others, reusable}
 use Rattle.legal_history.proofs.Builds.FreshSeen.{or_first, bytes_itself}
 use Rattle.legal_history.proofs.Bases.Owned.{and_first, and_second}
 use Rattle.legal_history.specs.Laws.Given.{IsHeld}
@@ -20,18 +20,10 @@ use Rattle.legal_history.proofs.Reuse.Reusables.{held_lives, only_one, reusable_
 use Rattle.legal_history.proofs.Reuse.SeenTexts.{number_is}
 use Rattle.legal_history.proofs.Reuse.SoundRows.{live_below}
 
--- the object of which the steps of a build speak is a reusable one, whether or not builds reuse objects
-pub chosen_is_reusable : (b : Base) (build : Build) (n : ℕ) (unit : Unit) (id : ℕ) → choice b build n unit ≡ Some id → reusable b build n unit ≡ Some id
-chosen_is_reusable b build n unit id h = by reuses h
-  where
-    by : (t : Bool) → elim t as (λ x. Option ℕ) [ true ↦ reusable b build n unit | false ↦ None ] ≡ Some id → reusable b build n unit ≡ Some id
-    by true h = h
-    by false h = absurd (cc)
-
--- so it is one of the unit
-pub chosen_object : (b : Base) (build : Build) (n : ℕ) (unit : Unit) (id : ℕ) → is_base b ≡ true → choice b build n unit ≡ Some id → IsObjectOf b unit id
+-- an object that a unit may reuse is one of the unit
+pub chosen_object : (b : Base) (build : Build) (n : ℕ) (unit : Unit) (id : ℕ) → is_base b ≡ true → reusable b build n unit ≡ Some id → IsObjectOf b unit id
 chosen_object b build n unit id base h =
-    let m = reusable_matches b build n unit id base (chosen_is_reusable b build n unit id h) in
+    let m = reusable_matches b build n unit id base h in
     record { below = live_below b id m.lives; targets = match_targets b build n unit id m.matches_unit }
 
 -- at the first of some paths, or at each of the others

@@ -33,12 +33,12 @@ use Rattle.legal_history.proofs.Reuse.GivenCommits.{AllHeld, PublishIs, publish_
 use Rattle.legal_history.proofs.Reuse.SoundBases.{story_all_held}
 
 -- a unit of a lane's build without an outcome after a step, at one of its targets
-record Unfinished (s : State) (active : Active) (lane : ℕ) (old new : Build) (n : ℕ) (unit : Unit) (path : List ℕ) : Type 0 where
-  was : build_of s.active lane ≡ Some old
-  is : build_of active lane ≡ Some new
-  is_unit : unit_at old n ≡ Some unit
-  waits : is_outcome (came_to new n) ≡ false
-  made : makes path unit ≡ true
+pub record Unfinished (s : State) (active : Active) (lane : ℕ) (old new : Build) (n : ℕ) (unit : Unit) (path : List ℕ) : Type 0 where
+  pub was : build_of s.active lane ≡ Some old
+  pub is : build_of active lane ≡ Some new
+  pub is_unit : unit_at old n ≡ Some unit
+  pub waits : is_outcome (came_to new n) ≡ false
+  pub made : makes path unit ≡ true
 
 -- the lane's build after one of its units came to something
 noted_is : (active : Active) (lane : ℕ) (build : Build) (unit : Build → Option ℕ) (n : ℕ) (came : Came) → build_of active lane ≡ Some build → unit build ≡ Some n → build_of (noted active lane unit came) lane ≡ Some (with_came build (Some n) came)
@@ -96,7 +96,7 @@ committed_leaves s tag moment (deeds.Wink view id) lane old new n unit path soun
     (wink_is s.base e.build e.n e.unit view id sound.base e.of_view e.chosen) u
 committed_leaves s tag moment deed lane old new n unit path sound h e u = commanded_leaves s tag deed lane old path tt e u.was
 
-place_step : (s : State) (x : Told) (lane : ℕ) (old new : Build) (n : ℕ) (unit : Unit) (path : List ℕ) → IsSound s → AllHeld s → Lawful s x → Unfinished s (after s x).active lane old new n unit path →
+pub place_step : (s : State) (x : Told) (lane : ℕ) (old new : Build) (n : ℕ) (unit : Unit) (path : List ℕ) → IsSound s → AllHeld s → Lawful s x → Unfinished s (after s x).active lane old new n unit path →
     held_at (held (after s x).base) old.view path ≡ held_at (held s.base) old.view path
 place_step s (told.Opened rows counts tells) lane old new n unit path sound h e u = absurd (let first = e.first in let opened = sound.opened in cc)
 place_step s (told.Plan phase moment) lane old new n unit path sound h e u = refl

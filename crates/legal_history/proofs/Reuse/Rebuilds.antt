@@ -15,7 +15,7 @@ use Rattle.legal_history.specs.Laws.FromNothing.{IsAsFromNothing, MayTake}
 use Rattle.legal_history.specs.Laws.Objects.{IsTheRun}
 use Rattle.legal_history.proofs.Builds.FineBuilds.{takes_for}
 use Rattle.legal_history.proofs.Stories.SoundStories.{base_fits}
-use Rattle.legal_history.proofs.Reuse.AgreedStories.{agrees_over_sound}
+use Rattle.legal_history.proofs.Reuse.AgreedStories.{story_agrees_so_far}
 use Rattle.legal_history.proofs.Reuse.Matched.{match_is_run}
 use Rattle.legal_history.proofs.Reuse.Reusables.{first_are_base, reusable_matches}
 use Rattle.legal_history.proofs.Reuse.SoundBases.{gives_live, story_holds, story_stays_sound}
@@ -43,7 +43,7 @@ pub story_reuse_from_nothing : (story : List Told) (opening : Opening) (tag : Ta
 story_reuse_from_nothing story opening tag n build unit id legal opened sound may chosen =
     let b = (state_of story).base in
     let takes = takes_for (state_of story) tag n build unit may in
-    let agrees = agrees_over_sound story opening tag.lane build legal opened sound takes.there in
+    let agrees = story_agrees_so_far story opening tag.lane build legal opened sound takes.there in
     let gives = gives_live b build (story_holds story tag.lane build legal takes.there) in
     as_from_nothing b build n unit id (base_fits story legal) (story_stays_sound story opening legal opened sound) gives agrees
     (due b build n unit agrees takes.is_unit (may_take_due (state_of story) tag n build unit may)) chosen

@@ -1,7 +1,7 @@
 -- A lawful step leaves each active build as it is, lets it go on, or ends it.
 use Rattle.std.proofs.Common.{◌≡◌, refl, ap, subst, ◌∙◌, inl, inr, ℕ, Bool, true, false, cond, not, ◌==◌, Option, Some, None, arith}
 use Rattle.std.proofs.lemmas.Bool.Decides.{nat_tests}
-use Rattle.std.specs.Prelude.{Result, is_none, option_map, option_and_then, ◌&&◌}
+use Rattle.std.specs.Prelude.{Result, is_none, is_some, option_map, option_and_then, ◌&&◌}
 use Rattle.std.specs.Ordering.{nat_cmp}
 use Rattle.std.specs.FinMap.Entries.{put}
 use Rattle.cc_names.specs.Formed.{Plain}
@@ -28,10 +28,10 @@ use Rattle.legal_history.specs.Stories.Steps.{after, after_step, noted, with_cam
 use Rattle.legal_history.specs.Stories.Committing.{MakesRow}
 use Rattle.legal_history.specs.Stories.Lawful.{Lawful, LawfulStep}
 use Rattle.legal_history.specs.Builds.UnitTurns.{ComesTo, Waits}
-use Rattle.legal_history.proofs.Stories.Tables.{find_put_same, find_put_other, find_without}
+use Rattle.legal_history.proofs.Stories.Tables.{find_after_put, find_put_same, find_put_other, find_without}
 
 pub continues_itself : (b : Build) → Continues b b
-continues_itself b = record { tag = refl; view = refl; rows = refl; own_only = refl; rebuild = refl; units = refl; outcomes = λ n h. refl }
+continues_itself b = record { tag = refl; view = refl; rows = refl; own_only = refl; rebuild = refl; units = refl; outcomes = λ n h. refl; begun = λ n h. h }
 
 pub same_number : (m n : ℕ) → (m == n) ≡ true → m ≡ n
 same_number m n e = grind (arith, nat_tests)
@@ -43,6 +43,14 @@ apart_from b n m waits has = elim (m == n) as (λ (x : Bool). (m == n) ≡ x →
   | false ↦ λ e. refl
 ] refl
 
+-- a unit that has come to anything has so still
+begun_still : (b : Build) (n m : ℕ) (came : Came) → is_some (came_to b m) ≡ true → is_some (came_to (with_came b (Some n) came) m) ≡ true
+begun_still b n m came h = ap is_some (find_after_put m n came b.comes) ∙ by (m == n)
+  where
+    by : (t : Bool) → is_some (cond t (Some came) (came_to b m)) ≡ true
+    by true = refl
+    by false = h
+
 -- a unit that waited comes to something
 pub comes_to : (b : Build) (n : ℕ) (came : Came) → is_outcome (came_to b n) ≡ false → Continues b (with_came b (Some n) came)
 comes_to b n came waits = record {
@@ -53,6 +61,7 @@ comes_to b n came waits = record {
   rebuild = refl;
   units = refl;
   outcomes = λ m h. find_put_other m n came b.comes (apart_from b n m waits h);
+  begun = λ m h. begun_still b n m came h;
 }
 
 -- a build of one lane, after another build was put in for some lane
@@ -138,6 +147,7 @@ faulted_goes active lane other build (Some b) is of_other = put_in active lane o
       rebuild = refl;
       units = refl;
       outcomes = λ n h. refl;
+      begun = λ n h. h;
     })
       where
         same_build : lane ≡ other → b ≡ build

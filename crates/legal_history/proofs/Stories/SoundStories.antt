@@ -35,7 +35,6 @@ use Rattle.legal_history.proofs.Builds.FineBuilds.{IsFine, takes_for}
 use Rattle.legal_history.proofs.Builds.EntriesFit.{entries_fit}
 use Rattle.legal_history.proofs.Builds.Published.{IsPublish, is_publish}
 use Rattle.legal_history.proofs.Builds.RoomSteps.{HasRoom, step_room, room_for}
-use Rattle.legal_history.proofs.Reuse.KeptObjects.{chosen_is_reusable}
 use Rattle.legal_history.proofs.Reuse.Reusables.{reusable_matches}
 
 -- A state is sound where a base was opened, its rows are a base, each active build is consistent in a view that exists, and
@@ -65,7 +64,7 @@ committed_fits s tag moment (deeds.Wink view id) h e room =
     let there : exists s.base view ≡ true = subst (λ v. exists s.base v ≡ true) e.of_view (h.fine.holds tag.lane e.build w.there).there in
     ap (λ t. t && (exists s.base view && is_some (live s.base id))) (room_for s.base (record { tag = tag; moment = moment; deed = deeds.Wink view id }) _ room)
     ∙ ap (λ t. t && is_some (live s.base id)) there
-    ∙ (reusable_matches s.base e.build e.n e.unit id h.base (chosen_is_reusable s.base e.build e.n e.unit id e.chosen)).lives
+    ∙ (reusable_matches s.base e.build e.n e.unit id h.base e.chosen).lives
 committed_fits s tag moment deed h e room = let d = decided_of s tag (Makes deed) e in decided_fits (scene s) d.command h.base deed d.is
 
 step_base : (s : State) (x : Told) → IsSound s → Lawful s x → HasRoom (after s x).base (after s x).active → is_base (after s x).base ≡ true

@@ -1,5 +1,5 @@
--- A whole story: two views that build, the second one by its own run.
-use Rattle.std.proofs.Common.{◌≡◌, refl, true, Some, List, [], ◌∷◌, ◌++◌}
+-- A whole story: two views that build. The second one winks in what the first one made, and the first one then keeps that.
+use Rattle.std.proofs.Common.{◌≡◌, refl, inl, true, Some, List, [], ◌∷◌, ◌++◌}
 use Rattle.std.specs.Prelude.{codes}
 use native.Mathlib.Bridge.{le_by_compare, IsLe}
 use Rattle.cc_names.specs.declared.commands.Command.TheVariants as commands
@@ -8,20 +8,20 @@ use Rattle.cc_names.specs.declared.rows.Kind.TheVariants.{File}
 use Rattle.cc_names.specs.declared.steps.Step.TheVariants as steps
 use Rattle.cc_names.specs.declared.steps.Told.{Told}
 use Rattle.cc_names.specs.declared.steps.Told.TheVariants as told
-use Rattle.legal_history.specs.Builds.Active.{Given}
+use Rattle.cc_names.specs.declared.steps.UnitEnd.TheVariants as ends
+use Rattle.legal_history.specs.Builds.Active.{Ended, Given}
 use Rattle.legal_history.specs.Stories.States.{all_done}
 use Rattle.legal_history.specs.Stories.Steps.{state_of}
 use Rattle.legal_history.specs.Stories.Lawful.{Legal}
-use Rattle.legal_history.specs.Worked.{tag, row, base_of}
-use Rattle.legal_history.proofs.Worked.ReuseRows.{publish_in}
+use Rattle.legal_history.specs.Worked.{tag, row}
 use Rattle.legal_history.proofs.Worked.StoryParts.{comes_after, one_lane, opened}
-use Rattle.legal_history.proofs.Worked.TwoViews.{v, w, hi, makefile, first_commands, first_deeds, clearmake, publish}
+use Rattle.legal_history.proofs.Worked.TwoViews.{v, w, hi, makefile, first_commands, clearmake, publish, two_views}
 
 -- each row takes four calls of the disk, and the three before them open it
 abbrev both_build : List Told
 both_build =
     opened
-    ∷ told.Plan (one_lane (first_commands ++ (clearmake v ∷ commands.Mkview w ∷ clearmake w ∷ []))) 1700000000
+    ∷ told.Plan (one_lane (first_commands ++ (clearmake v ∷ commands.Mkview w ∷ clearmake w ∷ clearmake v ∷ []))) 1700000000
     ∷ told.Commit (row 1 (deeds.Mkview v)) 7
     ∷ told.Commit (row 2 (deeds.Checkout v 0 0 true)) 11
     ∷ told.Commit (row 3 (deeds.Mkelem v 0 (codes "Makefile") File true)) 15
@@ -37,9 +37,11 @@ both_build =
     ∷ told.Other (steps.End (tag 1 1 10))
     ∷ told.Commit (row 11 (deeds.Mkview w)) 47
     ∷ told.Other (steps.Begin (tag 1 1 12) 12 1)
-    ∷ told.Other (steps.Start (tag 1 1 12) 0)
-    ∷ told.Commit (row 12 (publish_in w)) 51
+    ∷ told.Commit (row 12 (deeds.Wink w 10)) 51
     ∷ told.Other (steps.End (tag 1 1 12))
+    ∷ told.Other (steps.Begin (tag 1 1 13) 13 1)
+    ∷ told.Other (steps.Settled (tag 1 1 13) 0 (ends.Kept 10))
+    ∷ told.Other (steps.End (tag 1 1 13))
     ∷ []
 
 both_build_is_legal : Legal both_build
@@ -79,10 +81,16 @@ both_build_is_legal = (
                                 (
                                   record { units = _; chosen = refl; at_rows = refl; of_units = refl },
                                   (
-                                    record { build = _; unit = _; open_unit = record { waits = record { active = refl; is_unit = refl; waits = refl }; sound = refl; ready = refl; runs = refl }; nothing = refl },
+                                    record { may = record { moment = refl; made = record { n = 0; build = _; unit = _; place = refl; may = inl (record { waits = record { active = refl; is_unit = refl; waits = refl }; sound = refl; ready = refl; runs = refl }); of_view = refl; chosen = refl; lacks = refl } }; ticked = refl },
                                     (
-                                      record { may = record { moment = refl; made = record { n = 0; build = _; unit = _; place = refl; running = record { waits = record { active = refl; is_unit = refl; waits = refl }; sound = refl; started = refl }; nothing = refl; made = refl } }; ticked = refl },
-                                      (record { build = _; active = refl; over = refl }, tt),
+                                      record { build = _; active = refl; over = refl },
+                                      (
+                                        record { units = _; chosen = refl; at_rows = refl; of_units = refl },
+                                        (
+                                          record { build = _; unit = _; open_unit = record { waits = record { active = refl; is_unit = refl; waits = refl }; sound = refl; ready = refl; runs = refl }; chosen = refl; holds = refl },
+                                          (record { build = _; active = refl; over = refl }, tt),
+                                        ),
+                                      ),
                                     ),
                                   ),
                                 ),
@@ -109,8 +117,11 @@ both_are_finished = refl
 the_first_has_its_own_object : comes_after 14 10 both_build ≡ Some ((0, Given 10) ∷ [])
 the_first_has_its_own_object = refl
 
-the_second_has_its_own_object : comes_after 19 12 both_build ≡ Some ((0, Given 12) ∷ [])
-the_second_has_its_own_object = refl
+the_second_winks_it_in : comes_after 18 12 both_build ≡ Some ((0, Given 10) ∷ [])
+the_second_winks_it_in = refl
 
-both_have_their_objects : (state_of both_build).base ≡ base_of (first_deeds ++ (publish ∷ deeds.Mkview w ∷ publish_in w ∷ []))
-both_have_their_objects = refl
+the_first_keeps_it : comes_after 21 13 both_build ≡ Some ((0, Ended (ends.Kept 10)) ∷ [])
+the_first_keeps_it = refl
+
+one_object_serves_both : (state_of both_build).base ≡ two_views
+one_object_serves_both = refl

@@ -78,11 +78,3 @@ by_options false false own newest = option_or own newest
 abbrev pub reusable : Base → Build → ℕ → Unit → Option ℕ
 reusable b build n unit =
     by_options build.own_only build.rebuild (if_matches b build n unit (held_at_all b build.view unit.targets)) (newest_match b build n unit b)
-
--- whether builds reuse objects at all: the records and the pool of objects are not built yet
-abbrev pub reuses : Bool
-reuses = false
-
--- the object of which the steps of a build speak
-abbrev pub choice : Base → Build → ℕ → Unit → Option ℕ
-choice b build n unit = elim reuses [ true ↦ reusable b build n unit | false ↦ None ]

@@ -11,7 +11,7 @@ use Rattle.cc_names.specs.declared.units.Unit.{Unit}
 use Rattle.legal_history.specs.Builds.Active.{Build, Started, came_to, is_outcome, unit_at, unit_with_first}
 use Rattle.legal_history.specs.Base.Changes.{targets_of}
 use Rattle.legal_history.specs.Builds.Choices.{here, publish_of}
-use Rattle.legal_history.specs.Builds.Reuse.{choice, held_at_all}
+use Rattle.legal_history.specs.Builds.Reuse.{held_at_all, reusable}
 use Rattle.legal_history.specs.Stories.States.{State, build_by}
 use Rattle.legal_history.specs.Builds.Turns.{early, is_ready}
 
@@ -40,14 +40,14 @@ pub record Starts (s : State) (tag : Tag) (n : ℕ) : Type 0 where
   pub build : Build
   pub unit : Unit
   pub open_unit : IsOpen s tag n build unit
-  pub nothing : choice s.base build n unit ≡ None
+  pub nothing : reusable s.base build n unit ≡ None
 
 -- a unit keeps the object that the view holds at every target, where that is the one that it may reuse
 pub record Keeps (s : State) (tag : Tag) (n id : ℕ) : Type 0 where
   pub build : Build
   pub unit : Unit
   pub open_unit : IsOpen s tag n build unit
-  pub chosen : choice s.base build n unit ≡ Some id
+  pub chosen : reusable s.base build n unit ≡ Some id
   pub holds : held_at_all s.base build.view unit.targets ≡ Some id
 
 -- a unit fails with the fault of its script's run
@@ -80,7 +80,7 @@ pub record Winks (s : State) (row : Plain) (view : List ℕ) (id : ℕ) : Type 0
   pub place : unit_with_first build (targets_of s.base id) ≡ Some n
   pub may : IsOpen s row.tag n build unit ⊎ IsRunning s row.tag n build unit
   pub of_view : build.view ≡ view
-  pub chosen : choice s.base build n unit ≡ Some id
+  pub chosen : reusable s.base build n unit ≡ Some id
   pub lacks : is_number id (held_at_all s.base build.view unit.targets) ≡ false
 
 -- a unit that runs, and may reuse no object, publishes what its run gives
@@ -90,5 +90,5 @@ pub record Publishes (s : State) (row : Plain) (targets : List (List ℕ)) : Typ
   pub unit : Unit
   pub place : unit_with_first build targets ≡ Some n
   pub running : IsRunning s row.tag n build unit
-  pub nothing : choice s.base build n unit ≡ None
+  pub nothing : reusable s.base build n unit ≡ None
   pub made : publish_of s.base build n unit ≡ Some row.deed

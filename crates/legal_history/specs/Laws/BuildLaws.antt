@@ -17,7 +17,6 @@ use Rattle.legal_history.specs.Laws.FromNothing.{EndsAsFromNothing}
 use Rattle.legal_history.specs.Laws.Given.{HoldsGiven}
 use Rattle.legal_history.specs.Builds.Replied.{reply_of, reply_from_nothing}
 use Rattle.legal_history.specs.Builds.Serials.{makes}
-use Rattle.legal_history.specs.Builds.Reuse.{reuses}
 use Rattle.legal_history.specs.Stories.States.{State, Opening, done_of, next_command}
 use Rattle.legal_history.specs.Stories.Steps.{after, state_of}
 use Rattle.legal_history.specs.Stories.Lawful.{Lawful, Legal}
@@ -110,48 +109,28 @@ BuildIsConsistent = (story : List Told) (lane : ℕ) (build : Build) → Legal s
     → build_of (state_of story).active lane ≡ Some build → IsConsistent (state_of story).base build
 
 -- What each unit of an active build has come to so far agrees with the build from nothing at the build's reference rows,
--- whatever rows were committed since and whatever objects it reused. This holds where the base was sound as it was opened;
--- while builds reuse nothing, as so far, it holds over any base.
-abbrev pub BuildAgreesOverSound : Type 0
-BuildAgreesOverSound = (story : List Told) (opening : Opening) (lane : ℕ) (build : Build)
+-- whatever rows were committed since and whatever objects it reused, where the base was sound as it was opened.
+abbrev pub BuildAgrees : Type 0
+BuildAgrees = (story : List Told) (opening : Opening) (lane : ℕ) (build : Build)
     → Legal story → (state_of story).opened ≡ Some opening → IsSound opening.base
     → build_of (state_of story).active lane ≡ Some build → AgreesSoFar (state_of story).base build
 
--- The same law, its part *without_reuse*.
-abbrev pub BuildAgreesWithoutReuse : Type 0
-BuildAgreesWithoutReuse = (story : List Told) (lane : ℕ) (build : Build) → reuses ≡ false
-    → Legal story → build_of (state_of story).active lane ≡ Some build
-    → AgreesSoFar (state_of story).base build
-
 -- A build that ends without a fault of the disk has, unit by unit, the outcome of the build from nothing at its reference
 -- rows: an object with exactly the outputs of the run, or the same end without one. This holds where the base was sound as
--- it was opened; while builds reuse nothing, over any base.
-abbrev pub EndedBuildHasItsOutcomesFromNothingOverSound : Type 0
-EndedBuildHasItsOutcomesFromNothingOverSound = (story : List Told) (opening : Opening) (x : Told) (lane : ℕ) (build : Build) (n : ℕ) (unit : Unit)
+-- it was opened.
+abbrev pub EndedBuildHasItsOutcomesFromNothing : Type 0
+EndedBuildHasItsOutcomesFromNothing = (story : List Told) (opening : Opening) (x : Told) (lane : ℕ) (build : Build) (n : ℕ) (unit : Unit)
     → Legal story → (state_of story).opened ≡ Some opening → IsSound opening.base
     → build_of (state_of story).active lane ≡ Some build → IsLeft (state_of story) x lane build
     → build.faulted ≡ false → unit_at build n ≡ Some unit
     → EndsAsFromNothing (state_of story).base build n unit
 
--- The same law, its part *without_reuse*.
-abbrev pub EndedBuildHasItsOutcomesFromNothingWithoutReuse : Type 0
-EndedBuildHasItsOutcomesFromNothingWithoutReuse = (story : List Told) (x : Told) (lane : ℕ) (build : Build) (n : ℕ) (unit : Unit)
-    → reuses ≡ false → Legal story → build_of (state_of story).active lane ≡ Some build
-    → IsLeft (state_of story) x lane build → build.faulted ≡ false → unit_at build n ≡ Some unit
-    → EndsAsFromNothing (state_of story).base build n unit
-
 -- A build whose units all have their outcomes is replied as the build from nothing at its reference rows: unit by unit the
 -- same success, fault or block, and the same length and digest. Where the disk failed under a build this holds as well,
 -- but the build is replied a fault of the disk in place of these lines. This holds where the base was sound as it was
--- opened; while builds reuse nothing, over any base.
-abbrev pub BuildIsAsFromNothingOverSound : Type 0
-BuildIsAsFromNothingOverSound = (story : List Told) (opening : Opening) (lane : ℕ) (build : Build)
+-- opened.
+abbrev pub BuildIsAsFromNothing : Type 0
+BuildIsAsFromNothing = (story : List Told) (opening : Opening) (lane : ℕ) (build : Build)
     → Legal story → (state_of story).opened ≡ Some opening → IsSound opening.base
     → build_of (state_of story).active lane ≡ Some build → is_complete build ≡ true
-    → reply_of (state_of story).base build ≡ reply_from_nothing (state_of story).base build
-
--- The same law, its part *without_reuse*.
-abbrev pub BuildIsAsFromNothingWithoutReuse : Type 0
-BuildIsAsFromNothingWithoutReuse = (story : List Told) (lane : ℕ) (build : Build) → reuses ≡ false
-    → Legal story → build_of (state_of story).active lane ≡ Some build → is_complete build ≡ true
     → reply_of (state_of story).base build ≡ reply_from_nothing (state_of story).base build

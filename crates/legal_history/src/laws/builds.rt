@@ -1,6 +1,6 @@
 // The laws of builds in legal stories. Each is the contract of a function with an empty body.
 
-ghost use Rattle.legal_history.specs.Laws.BuildLaws.{BuildGoesOn, BuildIsLeftByItsEnd, BuildIsFinishedByItsRefusalOrItsEndRefusal, BuildIsFinishedByItsRefusalOrItsEndEnd, BuildIsOfItsCommand, StartedUnitSeesTheSameRun, StartedUnitSeesTheSameSeen, WhatAUnitSeesStaysSeen, WhatAUnitSeesStaysRun, PlaceOfAUnitStays, GivenObjectIsHeld, BuildIsConsistent, BuildAgreesOverSound, BuildAgreesWithoutReuse, EndedBuildHasItsOutcomesFromNothingOverSound, EndedBuildHasItsOutcomesFromNothingWithoutReuse, BuildIsAsFromNothingOverSound, BuildIsAsFromNothingWithoutReuse};
+ghost use Rattle.legal_history.specs.Laws.BuildLaws.{BuildGoesOn, BuildIsLeftByItsEnd, BuildIsFinishedByItsRefusalOrItsEndRefusal, BuildIsFinishedByItsRefusalOrItsEndEnd, BuildIsOfItsCommand, StartedUnitSeesTheSameRun, StartedUnitSeesTheSameSeen, WhatAUnitSeesStaysSeen, WhatAUnitSeesStaysRun, PlaceOfAUnitStays, GivenObjectIsHeld, BuildIsConsistent, BuildAgrees, EndedBuildHasItsOutcomesFromNothing, BuildIsAsFromNothing};
 
 /// Promises `BuildGoesOn`.
 pub fn a_build_goes_on()
@@ -50,20 +50,17 @@ pub fn a_build_is_consistent()
     ensures { BuildIsConsistent }
 {}
 
-/// Promises `BuildAgreesOverSound` and `BuildAgreesWithoutReuse`.
+/// Promises `BuildAgrees`.
 pub fn a_build_agrees()
-    ensures over_sound { BuildAgreesOverSound }
-    ensures without_reuse { BuildAgreesWithoutReuse }
+    ensures { BuildAgrees }
 {}
 
-/// Promises `EndedBuildHasItsOutcomesFromNothingOverSound` and `EndedBuildHasItsOutcomesFromNothingWithoutReuse`.
+/// Promises `EndedBuildHasItsOutcomesFromNothing`.
 pub fn an_ended_build_has_its_outcomes_from_nothing()
-    ensures over_sound { EndedBuildHasItsOutcomesFromNothingOverSound }
-    ensures without_reuse { EndedBuildHasItsOutcomesFromNothingWithoutReuse }
+    ensures { EndedBuildHasItsOutcomesFromNothing }
 {}
 
-/// Promises `BuildIsAsFromNothingOverSound` and `BuildIsAsFromNothingWithoutReuse`.
+/// Promises `BuildIsAsFromNothing`.
 pub fn a_build_is_as_from_nothing()
-    ensures over_sound { BuildIsAsFromNothingOverSound }
-    ensures without_reuse { BuildIsAsFromNothingWithoutReuse }
+    ensures { BuildIsAsFromNothing }
 {}

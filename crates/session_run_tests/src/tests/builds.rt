@@ -1,6 +1,6 @@
 // Sessions that build.
 
-use super::{BUILT, failing_disk, outcome_on};
+use super::{BUILT, KEPT, failing_disk, outcome_on};
 use session_run::Status;
 use std::alloc::{AllocError, Global};
 use std::process::Abort;
@@ -33,7 +33,7 @@ const SAVED: &str = "2 save ok\n3 save ok\n";
 fn a_first_build_is_built(rt: HostRuntime) -> Result<(), Fail> {
     let alloc = rt.alloc();
     let once = format!(in alloc; "4 clearmake ok\n{BUILT}")?;
-    let twice = format!(in alloc; "{once}5 clearmake ok\n{BUILT}")?;
+    let twice = format!(in alloc; "{once}5 clearmake ok\n{KEPT}")?;
     let derived = format!(in alloc; "{once}5 save refused C19 IsDerived out\n")?;
     for (command, reply, status) in [
         ("clearmake v out", once.as_str(), Status::Good),

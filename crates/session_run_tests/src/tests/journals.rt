@@ -1,6 +1,6 @@
 // Journals that are found: whole, cut short, damaged, and written by a run before.
 
-use super::{BUILT, FIRST, assert_outcome, disk_with, journal_of, outcome_on};
+use super::{BUILT, FIRST, KEPT, assert_outcome, disk_with, journal_of, outcome_on};
 use std::alloc::Global;
 use std::process::Abort;
 use std::random::RandomSource;
@@ -16,9 +16,33 @@ fn a_base_is_found_again(rt: HostRuntime) -> Result<(), Fail> {
     let session = "phase\nlane a\nmkview v\nclearmake v out\n";
     let again = outcome_on(&rt, alloc, session, disk)?;
     let written = format!(in alloc;
-        "phase 1\nlane a\n1 mkview refused C2 ViewExists\n2 clearmake ok\n{BUILT}"
+        "phase 1\nlane a\n1 mkview refused C2 ViewExists\n2 clearmake ok\n{KEPT}"
     )?;
-    assert_outcome(&rt, &again, 1, written.as_str(), 5);
+    assert_outcome(&rt, &again, 1, written.as_str(), 4);
+    Ok(())
+}
+
+// The journal of a first build, the first byte of whose object is `j` in place of `h`.
+fn with_another_object(rt: &(impl Abort + RandomSource), alloc: Global) -> Result<Vec<u8>, Fail> {
+    let mut journal = journal_of(rt, alloc, FIRST)?;
+    assert_eq!(rt; journal.len(), 237);
+    assert_eq!(rt; journal[233], b'h');
+    journal[233] = b'j';
+    Ok(journal)
+}
+
+// Only a build that reuses nothing makes the object anew.
+#[test]
+fn a_wrong_byte_of_an_object_is_kept_with_it(rt: HostRuntime) -> Result<(), Fail> {
+    let alloc = rt.alloc();
+    let journal = with_another_object(&rt, alloc)?;
+    let session = "phase\nlane a\nclearmake v\nclearmake v -u\n";
+    let again = outcome_on(&rt, alloc, session, disk_with(alloc, &journal)?)?;
+    let kept = "  out kept 3 e99d83f44130a5342980775b1f2f82d5ea5e96ce65938faf6dcfdf743bbedbbc\n";
+    let written = format!(in alloc;
+        "phase 1\nlane a\n1 clearmake ok\n{kept}2 clearmake ok\n{BUILT}"
+    )?;
+    assert_outcome(&rt, &again, 0, written.as_str(), 5);
     Ok(())
 }
 

@@ -10,7 +10,7 @@ use std::random::RandomSource;
 use std::test::Fail;
 
 // What a stop at this call leaves of the journal.
-fn stopped_at(
+pub(super) fn stopped_at(
     rt: &impl Abort,
     alloc: Global,
     disk: &MemoryDisk,

@@ -1,5 +1,5 @@
 -- the rows of the builds, lane by lane
-use Rattle.std.proofs.Common.{length, arith, ap, ◌∙◌}
+use Rattle.std.proofs.Common.{arith, ◌∙◌}
 use Rattle.base_core.specs.Keeping.Lanes.{builds_in}
 use Rattle.base_core.proofs.Keeping.LaneSets.{builds_count}
 use Rattle.base_core.proofs.Keeping.SlotLists.{reserved_rows, rows_none}

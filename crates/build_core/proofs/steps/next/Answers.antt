@@ -14,8 +14,8 @@ returns-in-Some-2 c =
       ends = sym c.in_ok-end.ensures ∙ c.in-Some-2.is;
     }
 
-pub start-requires : goal.start-requires
-start-requires c =
+pub reuse_or_start-requires-clause-open_unit : goal.reuse_or_start-requires-clause-open_unit
+reuse_or_start-requires-clause-open_unit c =
     let none : first_awaited c.args.build.now c.args.unit.now.prerequisites ≡ None =
     ap (first_awaited c.args.build.now) (sym c.as_slice.ensures) ∙ sym c.in_default.ensures.first
     in

@@ -1,4 +1,4 @@
-use Rattle.std.proofs.Common.{ap, arith, length}
+use Rattle.std.proofs.Common.{arith}
 use Rattle.base_core.proofs.Story.Counts.{keeps_further}
 use Rattle.session_run.proofs.PhaseSteps.{lanes_go_on, lanes_end}
 use Rattle.session_run.proofs.lanes.run_lanes.Goals as goal

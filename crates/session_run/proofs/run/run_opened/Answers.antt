@@ -1,4 +1,4 @@
-use Rattle.std.proofs.Common.{refl, ap, ◌∙◌}
+use Rattle.std.proofs.Common.{ap, ◌∙◌}
 use Rattle.cc_names.specs.Counts.{rises}
 use Rattle.session_run.specs.Runs.{run_status}
 use Rattle.session_run.proofs.Promises.{runs_opened}
@@ -7,8 +7,7 @@ use Rattle.session_run.proofs.run.run_opened.Goals as goal
 pub returns : goal.returns
 returns g c =
     let core = c.settle.new.core in
-    runs_opened (record { complete = λ story lane build. c.a_build_is_as_from_nothing.ensures.without_reuse story lane build refl; commanded = c.a_build_is_of_its_command.ensures })
-    c.run_phases-run.result c.args.phases.items c.status_of-status.result _ c.args.core c.run_phases-run.new.core core.story _ c.args.before core.sight _ _ _
+    runs_opened c.run_phases-run.result c.args.phases.items c.status_of-status.result _ c.args.core c.run_phases-run.new.core core.story _ c.args.before core.sight _ _ _
     c.requires.opened c.run_phases-run.ensures.counted c.settle.ensures.settles
     c.settle.ensures.same c.into_parts-disk.ensures.history c.into_parts-disk.ensures.disk
     (c.status_of-status.ensures ∙ ap (run_status c.run_phases-run.result) (c.has_risen.ensures ∙ ap (rises c.args.before) c.counts.ensures.faults))

@@ -4,6 +4,7 @@ use Rattle.build_core.specs.Publishing.{IsPublishOf}
 use Rattle.legal_history.specs.Builds.Active.{came_to, unit_at}
 use Rattle.legal_history.specs.Builds.Choices.{publish_of}
 use Rattle.legal_history.specs.Builds.Consistency.{IsConsistent}
+use Rattle.legal_history.specs.Builds.Reuse.{reusable}
 use Rattle.legal_history.specs.Stories.Steps.{state_of}
 use Rattle.base_core.specs.Calls.BuildCalls.{IsObjectRow}
 use Rattle.base_core.proofs.Building.FoundBuilds.{if_ok}
@@ -17,17 +18,18 @@ publish_row-requires-clause-formed g c =
 
 pub returns : goal.returns
 returns g c =
-    let is : c.requires.build ≡ c.build_at.result.now = some_same c.requires.build c.build_at.result.now (sym c.requires.active ∙ c.build_at.ensures.active) in
-    let is_unit : unit_at c.build_at.result.now c.args.unit ≡ Some c.requires.unit = ap (λ b. unit_at b c.args.unit) (sym is) ∙ c.requires.is_unit in
-    if_ok c.publish_row.result (IsPublishOf c.rows.result c.build_at.result.now c.args.unit c.requires.unit c.self.inside.moment) (IsObjectRow (state_of c.args.self.now.story) c.args.lane c.args.unit)
+    let is : c.requires.run.build ≡ c.build_at.result.now = some_same c.requires.run.build c.build_at.result.now (sym c.requires.run.active ∙ c.build_at.ensures.active) in
+    let is_unit : unit_at c.build_at.result.now c.args.unit ≡ Some c.requires.run.unit = ap (λ b. unit_at b c.args.unit) (sym is) ∙ c.requires.run.is_unit in
+    if_ok c.publish_row.result (IsPublishOf c.rows.result c.build_at.result.now c.args.unit c.requires.run.unit c.self.inside.moment) (IsObjectRow (state_of c.args.self.now.story) c.args.lane c.args.unit)
     (λ row p. record {
       build = c.build_at.result.now;
       active = c.build_at.ensures.active;
-      unit = c.requires.unit;
+      unit = c.requires.run.unit;
       is_unit = is_unit;
-      started = ap (λ b. came_to b c.args.unit) (sym is) ∙ c.requires.started;
+      started = ap (λ b. came_to b c.args.unit) (sym is) ∙ c.requires.run.started;
       of_tag = p.tag ∙ c.build_at.ensures.kept.tag;
       at_moment = p.made ∙ sym (ap (λ v. (state_of v.story).moment) (sym c.self.view_is) ∙ c.self.invariant.phase.moment);
-      made = ap (λ b. publish_of b c.build_at.result.now c.args.unit c.requires.unit) (sym c.rows.ensures) ∙ p.deed;
+      nothing = ap (λ b. reusable (state_of c.args.self.now.story).base b c.args.unit c.requires.run.unit) (sym is) ∙ c.requires.nothing;
+      made = ap (λ b. publish_of b c.build_at.result.now c.args.unit c.requires.run.unit) (sym c.rows.ensures) ∙ p.deed;
     })
-    (c.publish_row.ensures.row c.requires.unit is_unit)
+    (c.publish_row.ensures.row c.requires.run.unit is_unit)

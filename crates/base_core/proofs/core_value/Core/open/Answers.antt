@@ -1,5 +1,5 @@
 -- a base is opened
-use Rattle.std.proofs.Common.{[], sym, subst}
+use Rattle.std.proofs.Common.{sym, subst}
 use Rattle.base_core.specs.Keeping.Kept.{IsCoreKept}
 use Rattle.base_core.proofs.Bases.Freshly.{kept_opened, opens_so}
 use Rattle.base_core.proofs.core_value.Core.open.Goals as goal

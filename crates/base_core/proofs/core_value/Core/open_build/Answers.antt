@@ -1,5 +1,5 @@
 -- a build begins
-use Rattle.std.proofs.Common.{length, ap, sym, subst, ◌∙◌, arith}
+use Rattle.std.proofs.Common.{length, ap, sym, subst}
 use Rattle.cc_names.specs.declared.steps.Step.TheVariants as steps
 use Rattle.legal_history.specs.Stories.Steps.{state_of}
 use Rattle.base_core.specs.Calls.BuildCalls.{IsBuilding}

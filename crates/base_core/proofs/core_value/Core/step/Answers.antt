@@ -1,5 +1,5 @@
 -- what comes next for a unit of a lane's build
-use Rattle.std.proofs.Common.{◌≡◌, ◌<◌, length, ap, sym, subst, ◌∙◌, arith}
+use Rattle.std.proofs.Common.{◌≡◌, ◌<◌, length, sym, subst, ◌∙◌, arith}
 use Rattle.build_core.specs.UnitSteps.{IsStep}
 use Rattle.legal_history.specs.Stories.Steps.{state_of}
 use Rattle.base_core.specs.Calls.BuildCalls.{StepsTo}

@@ -2,7 +2,7 @@
 use Rattle.std.proofs.Common.{subst}
 use Rattle.legal_history.specs.Stories.Steps.{state_of}
 use Rattle.base_core.specs.Calls.BuildCalls.{StepsTo}
-use Rattle.base_core.proofs.Building.FoundBuilds.{started_has}
+use Rattle.base_core.proofs.Building.FoundBuilds.{carried_tries, started_has}
 use Rattle.base_core.proofs.core_value.Core.try_unit.Goals as goal
 
 pub returns-in_ok-start-in-Start-clause-ok : goal.returns-in_ok-start-in-Start-clause-ok
@@ -10,3 +10,6 @@ returns-in_ok-start-in-Start-clause-ok g c =
     started_has c.args.self.now.story c.start.new.self.story c.args.lane c.args.unit c.in-Start.script c.in-Start.targets
     (subst (StepsTo (state_of c.args.self.now.story) c.args.lane c.args.unit) c.in-Start.is c.in_ok-step.ensures).1
     c.in_ok-start-in-Start.ensures.ok
+
+pub returns-in-Wink-clause-ok : goal.returns-in-Wink-clause-ok
+returns-in-Wink-clause-ok g c = carried_tries c.args.self.now.story c.wink.new.self.story c.args.lane c.args.unit c.wink.result c.wink.ensures.ok

@@ -1,0 +1,9 @@
+use Rattle.std.proofs.Common.{◌≡◌, ◌++◌, drop, map}
+use Rattle.std.specs.List.{concat}
+use Rattle.cleartool.specs.Descriptions.{label_line}
+use Rattle.cleartool.proofs.descriptions.push_labels.Given as goal
+
+-- what is written, and then the lines of the labels that are left
+abbrev pub invariant-loop-label : goal.invariant-loop-label
+invariant-loop-label l =
+    l.text.items ++ concat (map label_line (drop l.label-index l.labels)) ≡ l.initial.text.items ++ concat (map label_line l.labels)

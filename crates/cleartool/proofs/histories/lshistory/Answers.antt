@@ -1,0 +1,11 @@
+-- What is told of the element that was found is told of the path.
+use Rattle.std.proofs.Common.{arith}
+use Rattle.std.proofs.lemmas.Grind.{common_steps}
+use Rattle.legal_history.specs.Queries.HistoryTexts.{lshistory_text}
+use Rattle.legal_history.specs.Queries.QueryLines.{answers_of}
+use Rattle.cleartool.proofs.Refused.{refused}
+use Rattle.cleartool.proofs.histories.lshistory.Goals as goal
+
+pub returns-in_err-element : goal.returns-in_err-element
+returns-in_err-element c = λ scene base.
+    grind (arith, common_steps, refused c.in_err-element.field-0.0 (answers_of scene c.args.view.now c.args.path.now) (λ e picked. lshistory_text scene.base e) (c.in_err-element.ensures scene base))

@@ -1,0 +1,130 @@
+// The query for what is selected of an element.
+
+ghost use Rattle.std.specs.Prelude.{◌≡◌, ◌++◌, IfOk, OnOk, map};
+ghost use Rattle.std.specs.List.{concat};
+ghost use Rattle.legal_history.specs.Base.Views.{out};
+ghost use Rattle.legal_history.specs.Commands.Decisions.{Scene};
+ghost use Rattle.legal_history.specs.Queries.ElementTexts.{describe_text, kind_word, selected_lines};
+ghost use Rattle.legal_history.specs.Queries.ListingTexts.{origin_name};
+ghost use Rattle.legal_history.specs.Queries.QueryLines.{describe};
+ghost use Rattle.legal_history.specs.Queries.VersionNames.{line};
+ghost use Rattle.cleartool.specs.Answering.{AnswersAs};
+ghost use Rattle.cleartool.specs.Descriptions.{label_line};
+
+use crate::found::find_selected;
+use crate::version_names::version_name;
+use cc_names::memory::{NoMemory, Or};
+use cc_names::names::Name;
+use cc_names::numbers::push_number;
+use cc_names::paths::Path;
+use cc_names::refusals::Refusal;
+use cc_names::selection::Picked;
+use cc_names::texts::Text;
+use std::alloc::Global;
+use view_lookup::{FirstRows, checked_out, is_directory_element, labels_on};
+
+/// Adds a line of words and a name.
+fn push_line(text: &mut Vec<u8>, words: &[u8], name: &[u8]) -> Result<(), NoMemory>
+    ensures { OnOk result (text.new.items ≡ text.old.items ++ line (words.now ++ name.now)) }
+{
+    text.extend_from_slice(words)?;
+    text.extend_from_slice(name)?;
+    text.push(b'\n')?;
+    Ok(())
+}
+
+/// The word for the kind of an element.
+fn kind_word(is_directory: bool) -> &'static [u8]
+    ensures { result.now ≡ kind_word is_directory }
+{
+    if is_directory { b"directory" } else { b"file" }
+}
+
+/// The name of the version from which the view's checkout was made; empty where there is none.
+fn origin_name(
+    alloc: Global,
+    rows: &FirstRows<'_>,
+    view: &Name,
+    element: u64,
+) -> Result<Text, NoMemory>
+    ensures { IfOk result
+        (λ text. text ≡ origin_name rows.now (out rows.now view.now element)) }
+{
+    match checked_out(rows, view, element) {
+        None => Ok(Text::of(Vec::new(alloc))),
+        Some(checkout) => version_name(alloc, rows, checkout.origin),
+    }
+}
+
+/// Adds a line for each of these labels.
+fn push_labels(text: &mut Vec<u8>, labels: &[Text]) -> Result<(), NoMemory>
+    ensures { OnOk result
+        (text.new.items ≡ text.old.items ++ concat (map label_line labels.now)) }
+{
+    for label in labels {
+        push_line(text, b"label ", label.as_bytes())?;
+    }
+    Ok(())
+}
+
+/// Adds the selected version with its labels, or the view's checkout.
+fn push_selected(
+    alloc: Global,
+    text: &mut Vec<u8>,
+    rows: &FirstRows<'_>,
+    view: &Name,
+    element: u64,
+    picked: Picked,
+) -> Result<(), NoMemory>
+    ensures { OnOk result
+        (text.new.items
+        ≡ text.old.items ++ selected_lines rows.now view.now element picked picked.out) }
+{
+    if picked.out {
+        let name = origin_name(alloc, rows, view, element)?;
+        push_line(text, b"checkedout from ", name.as_bytes())
+    } else {
+        let name = version_name(alloc, rows, picked.row)?;
+        let labels = labels_on(alloc, rows, element, picked.row)?;
+        push_line(text, b"version ", name.as_bytes())?;
+        push_labels(text, &labels)
+    }
+}
+
+/// An element, its kind, and what is selected of it.
+fn describe_text(
+    alloc: Global,
+    rows: &FirstRows<'_>,
+    view: &Name,
+    element: u64,
+    picked: Picked,
+) -> Result<Text, NoMemory>
+    ensures { IfOk result (λ text. text ≡ describe_text rows.now view.now element picked) }
+{
+    let mut number = Vec::new(alloc);
+    push_number(alloc, &mut number, element)?;
+    let mut text = Vec::new(alloc);
+    push_line(&mut text, b"element ", &number)?;
+    push_line(
+        &mut text,
+        b"kind ",
+        kind_word(is_directory_element(rows, element)),
+    )?;
+    push_selected(alloc, &mut text, rows, view, element, picked)?;
+    Ok(Text::of(text))
+}
+
+/// The text of `describe V P`, the element there, its kind and what is selected of it with its labels, or its first refusal. Takes
+/// time linear in the path and in the text, and the time of `labels_on`.
+pub fn describe(
+    alloc: Global,
+    rows: &FirstRows<'_>,
+    view: &Name,
+    path: &Path,
+) -> Result<Text, Or<Refusal>>
+    ensures { (scene : Scene) → scene.base ≡ rows.now
+        → AnswersAs result (describe scene view.now path.now) }
+{
+    let (element, picked) = find_selected(alloc, rows, view, path)?;
+    Ok(describe_text(alloc, rows, view, element, picked)?)
+}

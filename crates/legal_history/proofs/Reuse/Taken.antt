@@ -1,0 +1,109 @@
+-- Along a legal story each object that is taken has a record of just what its unit sees, and none that would do is passed over.
+use Rattle.std.proofs.Common.{◌≡◌, ap, sym, subst, ◌∙◌, inl, inr, ℕ, true, false, Some, None, List, ◌∷◌, ◌++◌}
+use Rattle.std.specs.Prelude.{is_some}
+use Rattle.cc_names.specs.Formed.{Plain}
+use Rattle.cc_names.specs.declared.rows.Deed.TheVariants as deeds
+use Rattle.cc_names.specs.declared.rows.ReadOf.{ReadOf}
+use Rattle.cc_names.specs.declared.rows.Tag.{Tag}
+use Rattle.cc_names.specs.declared.steps.Step.TheVariants as steps
+use Rattle.cc_names.specs.declared.steps.Told.{Told}
+use Rattle.cc_names.specs.declared.steps.Told.TheVariants as told
+use Rattle.cc_names.specs.declared.steps.UnitEnd.TheVariants as ends
+use Rattle.cc_names.specs.declared.units.Unit.{Unit}
+use Rattle.legal_history.specs.Base.Changes.{live}
+use Rattle.legal_history.specs.Base.Fits.{is_base}
+use Rattle.legal_history.specs.Base.Rows.{deed_at}
+use Rattle.legal_history.specs.Builds.Active.{Build, unit_at}
+use Rattle.legal_history.specs.Builds.Choices.{entries, here, visible}
+use Rattle.legal_history.specs.Builds.Fresh.{script_text}
+use Rattle.legal_history.specs.Builds.Reuse.{matches, reusable}
+use Rattle.legal_history.specs.Builds.UnitTurns.{Publishes, Winks}
+use Rattle.legal_history.specs.Laws.FromNothing.{MayTake}
+use Rattle.legal_history.specs.Laws.Given.{HoldsGiven}
+use Rattle.legal_history.specs.Laws.Objects.{GivesLive}
+use Rattle.legal_history.specs.Laws.TakenLaws.{ReusesAny, TakesWhatItSees, ViewTakesWhatItSees}
+use Rattle.legal_history.specs.Stories.Committing.{MakesRow}
+use Rattle.legal_history.specs.Stories.Lawful.{Legal}
+use Rattle.legal_history.specs.Stories.States.{State, build_by, start}
+use Rattle.legal_history.specs.Stories.Steps.{state_of}
+use Rattle.legal_history.proofs.Builds.FineBuilds.{some_same}
+use Rattle.legal_history.proofs.Builds.Published.{is_publish}
+use Rattle.legal_history.proofs.Stories.Fronts.{front_is_legal, rest_is_legal}
+use Rattle.legal_history.proofs.Stories.Goes.{of_lane}
+use Rattle.legal_history.proofs.Stories.SoundStories.{base_fits}
+use Rattle.legal_history.proofs.Reuse.Matched.{match_script, match_targets}
+use Rattle.legal_history.proofs.Reuse.MatchedEntries.{absent_is_unseen, entry_is_seen}
+use Rattle.legal_history.proofs.Reuse.OwnRecords.{no_second_record}
+use Rattle.legal_history.proofs.Reuse.PassedOver.{nothing_passed_over}
+use Rattle.legal_history.proofs.Reuse.Reusables.{reusable_matches}
+use Rattle.legal_history.proofs.Reuse.SoundBases.{gives_live, story_holds}
+
+-- the object that a unit may reuse is live, and of the unit's targets and script and of what the unit sees
+takes_seen : (s : State) (tag : Tag) (n id : ℕ) (build : Build) (unit : Unit) → is_base s.base ≡ true → build_by s tag ≡ Some build → unit_at build n ≡ Some unit → reusable s.base build n unit ≡ Some id → TakesWhatItSees s tag n id
+takes_seen s tag n id build unit base active is_unit chosen =
+    let reused = reusable_matches s.base build n unit id base chosen in
+    let match = reused.matches_unit in
+    record {
+      build = build;
+      unit = unit;
+      active = active;
+      is_unit = is_unit;
+      lives = reused.lives;
+      targets = match_targets s.base build n unit id match;
+      script = match_script s.base build n unit id match;
+      seen = λ path r is. entry_is_seen s.base build n unit id path r match is;
+      absent = λ path is. absent_is_unseen s.base build n unit id path match is;
+    }
+
+view_takes_seen : (s : State) (tag : Tag) (n id : ℕ) (view : List ℕ) (build : Build) (unit : Unit) → is_base s.base ≡ true → (build_by s tag ≡ Some build) × (unit_at build n ≡ Some unit) → build.view ≡ view → reusable s.base build n unit ≡ Some id →
+    ViewTakesWhatItSees s tag view id
+unfolding takes_seen
+view_takes_seen s tag n id view build unit base own of_view chosen = record { n = n; takes = takes_seen s tag n id build unit base own.0 own.1 chosen; of_view = of_view }
+
+pub story_kept : (front rest : List Told) (tag : Tag) (n id : ℕ) → Legal (front ++ told.Other (steps.Settled tag n (ends.Kept id)) ∷ rest) → TakesWhatItSees (state_of front) tag n id
+story_kept front rest tag n id legal =
+    let keeps = (rest_is_legal start front (told.Other (steps.Settled tag n (ends.Kept id)) ∷ rest) legal).0 in
+    let waits = keeps.open_unit.waits in
+    takes_seen (state_of front) tag n id keeps.build keeps.unit (base_fits front (front_is_legal start front _ legal)) waits.active waits.is_unit keeps.chosen
+
+-- a unit that may take an object in place of a run is one of the command's active build
+active_of : (s : State) (tag : Tag) (n : ℕ) (build : Build) (unit : Unit) → MayTake s tag n build unit → (build_by s tag ≡ Some build) × (unit_at build n ≡ Some unit)
+active_of s tag n build unit (inl o) = (o.waits.active, o.waits.is_unit)
+active_of s tag n build unit (inr r) = (r.waits.active, r.waits.is_unit)
+
+pub story_winked : (front rest : List Told) (row : Plain) (tick : ℕ) (view : List ℕ) (id : ℕ) → Legal (front ++ told.Commit row tick ∷ rest) → row.deed ≡ deeds.Wink view id → ViewTakesWhatItSees (state_of front) row.tag view id
+story_winked front rest row tick view id legal is =
+    let commits = (rest_is_legal start front (told.Commit row tick ∷ rest) legal).0 in
+    let winks : Winks (state_of front) row view id = subst (MakesRow (state_of front) row) is commits.may.made in
+    let own = active_of (state_of front) row.tag winks.n winks.build winks.unit winks.may in
+    view_takes_seen (state_of front) row.tag winks.n id view winks.build winks.unit (base_fits front (front_is_legal start front _ legal)) own winks.of_view winks.chosen
+
+pub story_starts : (front rest : List Told) (tag : Tag) (n : ℕ) (build : Build) (unit : Unit) (id : ℕ) → Legal (front ++ told.Other (steps.Start tag n) ∷ rest) → ReusesAny (state_of front) tag build → unit_at build n ≡ Some unit →
+    is_some (live (state_of front).base id) ≡ true → matches (state_of front).base build n unit id ≡ false
+story_starts front rest tag n build unit id legal any is_unit lives =
+    let b = (state_of front).base in
+    let starts = (rest_is_legal start front (told.Other (steps.Start tag n) ∷ rest) legal).0 in
+    let same_build : starts.build ≡ build = some_same (sym starts.open_unit.waits.active ∙ any.active) in
+    let same_unit : starts.unit ≡ unit = some_same (sym starts.open_unit.waits.is_unit ∙ ap (λ (x : Build). unit_at x n) same_build ∙ is_unit) in
+    nothing_passed_over b build n unit id any.of_any any.reuses (subst (λ x. reusable b build n x ≡ None) same_unit (subst (λ x. reusable b x n starts.unit ≡ None) same_build starts.nothing)) lives
+
+-- a row of a unit that may reuse nothing has a record that no live object has
+publishes_new : (s : State) (row : Plain) (build : Build) (id : ℕ) (view other : List ℕ) (targets : List (List ℕ)) (script : List ℕ) (reads : List ReadOf) (outputs stored : List (List ℕ)) → is_base s.base ≡ true → Publishes s row targets →
+    row.deed ≡ deeds.Publish view targets script reads outputs → HoldsGiven s.base build → ReusesAny s row.tag build → deed_at s.base id ≡ Some (deeds.Publish other targets script reads stored) → is_some (live s.base id) ≡ false
+publishes_new s row build id view other targets script reads outputs stored base e is held any object =
+    let b = s.base in
+    let made = is_publish b e.build e.n e.unit row.deed e.made in
+    let same : e.build ≡ build = some_same (sym e.running.waits.active ∙ any.active) in
+    let whole : deeds.Publish view targets script reads outputs ≡ deeds.Publish e.build.view e.unit.targets (script_text e.unit.script) (entries (visible b e.build e.n e.unit) (here b e.build e.n e.unit).reads) made.outputs = sym is ∙ made.is in
+    let own : deed_at b id ≡ Some (deeds.Publish other e.unit.targets (script_text e.unit.script) (entries (visible b e.build e.n e.unit) (here b e.build e.n e.unit).reads) stored) = cc in
+    no_second_record b e.build e.n e.unit id other stored base (subst (GivesLive b) (sym same) (gives_live b build held)) (ap (λ (x : Build). x.own_only) same ∙ any.of_any) (ap (λ (x : Build). x.rebuild) same ∙ any.reuses)
+    e.nothing own
+
+pub story_publishes : (front rest : List Told) (row : Plain) (tick : ℕ) (build : Build) (id : ℕ) (view other : List ℕ) (targets : List (List ℕ)) (script : List ℕ) (reads : List ReadOf) (outputs stored : List (List ℕ)) →
+    Legal (front ++ told.Commit row tick ∷ rest) → row.deed ≡ deeds.Publish view targets script reads outputs → ReusesAny (state_of front) row.tag build →
+    deed_at (state_of front).base id ≡ Some (deeds.Publish other targets script reads stored) → is_some (live (state_of front).base id) ≡ false
+story_publishes front rest row tick build id view other targets script reads outputs stored legal is any object =
+    let commits = (rest_is_legal start front (told.Commit row tick ∷ rest) legal).0 in
+    let before = front_is_legal start front _ legal in
+    publishes_new (state_of front) row build id view other targets script reads outputs stored (base_fits front before) (subst (MakesRow (state_of front) row) is commits.may.made) is
+    (story_holds front row.tag.lane build before (of_lane (state_of front) row.tag build any.active)) any object

@@ -1,0 +1,89 @@
+-- What the steps of legal stories say of records: which objects units take in place of runs, and that none that would do is
+-- passed over. Each is promised by a function of `laws::taken`.
+use Rattle.std.specs.Prelude.{◌≡◌, ℕ, suc, true, false, Some, None, is_some, List, ◌∷◌, ◌++◌}
+use Rattle.cc_names.specs.Formed.{Plain}
+use Rattle.cc_names.specs.Versions.{is_number}
+use Rattle.cc_names.specs.declared.rows.Deed.TheVariants as deeds
+use Rattle.cc_names.specs.declared.rows.ReadOf.{ReadOf}
+use Rattle.cc_names.specs.declared.rows.Tag.{Tag}
+use Rattle.cc_names.specs.declared.steps.Step.TheVariants as steps
+use Rattle.cc_names.specs.declared.steps.Told.{Told}
+use Rattle.cc_names.specs.declared.steps.Told.TheVariants as told
+use Rattle.cc_names.specs.declared.steps.UnitEnd.TheVariants as ends
+use Rattle.cc_names.specs.declared.units.Unit.{Unit}
+use Rattle.legal_history.specs.Base.Rows.{deed_at}
+use Rattle.legal_history.specs.Builds.Active.{Build, unit_at}
+use Rattle.legal_history.specs.Base.Changes.{live, targets_of}
+use Rattle.legal_history.specs.Builds.Choices.{visible}
+use Rattle.legal_history.specs.Builds.Fresh.{script_text}
+use Rattle.legal_history.specs.Laws.Given.{SeenBy}
+use Rattle.legal_history.specs.Queries.RecordTexts.{record_of, row_in, script_of}
+use Rattle.legal_history.specs.Builds.Reuse.{held_at_all, matches, reusable}
+use Rattle.legal_history.specs.Builds.UnitTurns.{IsRunning}
+use Rattle.legal_history.specs.Stories.States.{State, build_by}
+use Rattle.legal_history.specs.Stories.Steps.{state_of}
+use Rattle.legal_history.specs.Stories.Lawful.{Legal}
+
+-- Unit n of the command's active build takes the object. It is live, it was published for the unit's targets by the unit's
+-- script, and its record is of just what the unit sees: each entry names, at its path, an object that this build gave to an
+-- earlier unit that makes the path and that this one needs, or the file of the view at the build's reference rows; and where
+-- it says that nothing was there, the unit sees nothing.
+pub record TakesWhatItSees (s : State) (tag : Tag) (n id : ℕ) : Type 0 where
+  pub build : Build
+  pub unit : Unit
+  pub active : build_by s tag ≡ Some build
+  pub is_unit : unit_at build n ≡ Some unit
+  pub lives : is_some (live s.base id) ≡ true
+  pub targets : targets_of s.base id ≡ unit.targets
+  pub script : script_of s.base id ≡ script_text unit.script
+  pub seen : (path : List ℕ) (r : ℕ) → row_in (record_of s.base id) path ≡ Some (suc r) → SeenBy s.base build n unit path (suc r)
+  pub absent : (path : List ℕ) → row_in (record_of s.base id) path ≡ Some 0 → visible s.base build n unit path ≡ None
+
+-- a unit of the command's active build takes the object, and this build is of the view
+pub record ViewTakesWhatItSees (s : State) (tag : Tag) (view : List ℕ) (id : ℕ) : Type 0 where
+  pub n : ℕ
+  pub takes : TakesWhatItSees s tag n id
+  pub of_view : takes.build.view ≡ view
+
+-- the command's active build, which may reuse any object: it has neither `-V` nor `-u`
+pub record ReusesAny (s : State) (tag : Tag) (build : Build) : Type 0 where
+  pub active : build_by s tag ≡ Some build
+  pub of_any : build.own_only ≡ false
+  pub reuses : build.rebuild ≡ false
+
+-- Each object that a unit keeps in a legal story is live, of the unit's targets and script, and of just what the unit sees.
+abbrev pub TakenRecordIsSeenKept : Type 0
+TakenRecordIsSeenKept = (front rest : List Told) (tag : Tag) (n id : ℕ)
+    → Legal (front ++ told.Other (steps.Settled tag n (ends.Kept id)) ∷ rest)
+    → TakesWhatItSees (state_of front) tag n id
+
+-- The same law, its part *winked*: so is each object that a view winks in, for a unit of a build of this view.
+abbrev pub TakenRecordIsSeenWinked : Type 0
+TakenRecordIsSeenWinked = (front rest : List Told) (row : Plain) (tick : ℕ) (view : List ℕ) (id : ℕ)
+    → Legal (front ++ told.Commit row tick ∷ rest) → row.deed ≡ deeds.Wink view id
+    → ViewTakesWhatItSees (state_of front) row.tag view id
+
+-- A build without `-V` and `-u` starts no script in a legal story where the record of a live object matches its unit.
+abbrev pub NothingIsPassedOverStart : Type 0
+NothingIsPassedOverStart = (front rest : List Told) (tag : Tag) (n : ℕ) (build : Build) (unit : Unit) (id : ℕ)
+    → Legal (front ++ told.Other (steps.Start tag n) ∷ rest) → ReusesAny (state_of front) tag build
+    → unit_at build n ≡ Some unit → is_some (live (state_of front).base id) ≡ true
+    → matches (state_of front).base build n unit id ≡ false
+
+-- The same law, its part *publish*: it publishes no record that a live object has, whoever published that.
+abbrev pub NothingIsPassedOverPublish : Type 0
+NothingIsPassedOverPublish = (front rest : List Told) (row : Plain) (tick : ℕ) (build : Build) (id : ℕ)
+    (view other : List ℕ) (targets : List (List ℕ)) (script : List ℕ) (entries : List ReadOf) (outputs stored : List (List ℕ))
+    → Legal (front ++ told.Commit row tick ∷ rest)
+    → row.deed ≡ deeds.Publish view targets script entries outputs
+    → ReusesAny (state_of front) row.tag build
+    → deed_at (state_of front).base id ≡ Some (deeds.Publish other targets script entries stored)
+    → is_some (live (state_of front).base id) ≡ false
+
+-- An object that a unit may reuse after its run was started is not the one that its build's view holds at every target: that
+-- one was looked at before the start, did not match, and no other lane has changed it since.
+abbrev pub FoundAfterTheStartIsNotHeld : Type 0
+FoundAfterTheStartIsNotHeld = (story : List Told) (tag : Tag) (n : ℕ) (build : Build) (unit : Unit) (id : ℕ)
+    → Legal story → IsRunning (state_of story) tag n build unit
+    → reusable (state_of story).base build n unit ≡ Some id
+    → is_number id (held_at_all (state_of story).base build.view unit.targets) ≡ false

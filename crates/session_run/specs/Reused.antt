@@ -1,0 +1,69 @@
+-- What the headline says of builds that reuse objects: when their units come to what they come to from nothing, which objects
+-- they take, and that none that would do is passed over.
+use Rattle.std.specs.Prelude.{◌≡◌, ℕ, true, false, Some, is_some, List, [], ◌∷◌, ◌++◌}
+use Rattle.cc_names.specs.Formed.{Plain}
+use Rattle.cc_names.specs.declared.rows.Deed.TheVariants as deeds
+use Rattle.cc_names.specs.declared.rows.ReadOf.{ReadOf}
+use Rattle.cc_names.specs.declared.rows.Tag.{Tag}
+use Rattle.cc_names.specs.declared.steps.Step.TheVariants as steps
+use Rattle.cc_names.specs.declared.steps.Told.{Told}
+use Rattle.cc_names.specs.declared.steps.Told.TheVariants as told
+use Rattle.cc_names.specs.declared.steps.UnitEnd.TheVariants as ends
+use Rattle.cc_names.specs.declared.units.Unit.{Unit}
+use Rattle.legal_history.specs.Base.Changes.{live}
+use Rattle.legal_history.specs.Base.Rows.{deed_at}
+use Rattle.legal_history.specs.Base.Values.{IsSound}
+use Rattle.legal_history.specs.Builds.Active.{Build, unit_at}
+use Rattle.legal_history.specs.Builds.Reuse.{matches}
+use Rattle.legal_history.specs.Laws.FromNothing.{EndsAsFromNothing}
+use Rattle.legal_history.specs.Laws.TakenLaws.{ReusesAny, TakesWhatItSees, ViewTakesWhatItSees}
+use Rattle.legal_history.specs.Stories.Lawful.{Legal}
+use Rattle.legal_history.specs.Stories.States.{Opening, build_by}
+use Rattle.legal_history.specs.Stories.Steps.{state_of}
+
+-- Where a base was opened, it is sound: each live object of it has stored just what its record gives when it is run again.
+pub record WasSound (story : List Told) : Type 0 where
+  pub base : (opening : Opening) → (state_of story).opened ≡ Some opening → IsSound opening.base
+
+-- *Outcomes*: each build of the history that ends, and under which no disk failed, has unit by unit the outcome of building from
+-- nothing at its reference rows: an object with exactly the outputs of the run, or the same end without one.
+pub record HaveTheirOutcomes (story : List Told) : Type 0 where
+  pub each : (front rest : List Told) (tag : Tag) (build : Build) (n : ℕ) (unit : Unit)
+      → story ≡ front ++ told.Other (steps.End tag) ∷ rest
+      → build_by (state_of front) tag ≡ Some build → build.faulted ≡ false
+      → unit_at build n ≡ Some unit → EndsAsFromNothing (state_of front).base build n unit
+
+-- *Reused*: each object that a unit keeps, and each that its view winks in for one, is live, was published for the unit's targets
+-- by the unit's script, and has a record of just what the unit sees.
+pub record TakeWhatTheySee (story : List Told) : Type 0 where
+  pub kept : (front rest : List Told) (tag : Tag) (n id : ℕ)
+      → story ≡ front ++ told.Other (steps.Settled tag n (ends.Kept id)) ∷ rest
+      → TakesWhatItSees (state_of front) tag n id
+  pub winked : (front rest : List Told) (row : Plain) (tick : ℕ) (view : List ℕ) (id : ℕ)
+      → story ≡ front ++ told.Commit row tick ∷ rest → row.deed ≡ deeds.Wink view id
+      → ViewTakesWhatItSees (state_of front) row.tag view id
+
+-- *Sought*: a build without `-V` and `-u` starts no script where the record of a live object matches its unit, and publishes no
+-- record that a live object has.
+pub record PassNothingOver (story : List Told) : Type 0 where
+  pub started : (front rest : List Told) (tag : Tag) (n : ℕ) (build : Build) (unit : Unit) (id : ℕ)
+      → story ≡ front ++ told.Other (steps.Start tag n) ∷ rest → ReusesAny (state_of front) tag build
+      → unit_at build n ≡ Some unit → is_some (live (state_of front).base id) ≡ true
+      → matches (state_of front).base build n unit id ≡ false
+  pub published : (front rest : List Told) (row : Plain) (tick : ℕ) (build : Build) (id : ℕ)
+      (view other : List ℕ) (targets : List (List ℕ)) (script : List ℕ)
+      (entries : List ReadOf) (outputs stored : List (List ℕ))
+      → story ≡ front ++ told.Commit row tick ∷ rest
+      → row.deed ≡ deeds.Publish view targets script entries outputs
+      → ReusesAny (state_of front) row.tag build
+      → deed_at (state_of front).base id ≡ Some (deeds.Publish other targets script entries stored)
+      → is_some (live (state_of front).base id) ≡ false
+
+-- something holds of each legal history
+abbrev pub OfEachLegal : (List Told → Type 0) → Type 0
+OfEachLegal P = (story : List Told) → Legal story → P story
+
+-- A base that was opened without rows was sound.
+abbrev pub NewBaseWasSound : Type 0
+NewBaseWasSound = (story : List Told) (opening : Opening)
+    → (state_of story).opened ≡ Some opening → opening.base ≡ [] → WasSound story

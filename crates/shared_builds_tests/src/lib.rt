@@ -1,0 +1,40 @@
+// Tests of builds that reuse objects: what a view keeps, what it winks in from others, and what runs all the same.
+//
+// What it is for: the words `kept`, `winked` and `built` of each unit to the byte, and how many rows a build makes, as sources,
+// selections, makefiles and options change. Every number and text is worked out by hand from the rules of docs/MODEL.md and
+// docs/FORMATS.md; none is taken from what the program writes.
+//
+// What it promises: nothing; it is only run.
+//
+// What it stands on: `session_run` for sessions, `disk_model` and `cc_outside` for what is outside of them, and `cc_names` for
+// words.
+#![tactic(auto)]
+
+#[cfg(test)]
+mod absences;
+#[cfg(test)]
+mod failures;
+#[cfg(test)]
+mod fronts;
+#[cfg(test)]
+mod groups;
+#[cfg(test)]
+mod lanes;
+#[cfg(test)]
+mod opened_again;
+#[cfg(test)]
+mod options;
+#[cfg(test)]
+mod private_files;
+#[cfg(test)]
+mod records;
+#[cfg(test)]
+mod scripts;
+#[cfg(test)]
+mod selections;
+#[cfg(test)]
+mod sessions;
+#[cfg(test)]
+mod sources;
+#[cfg(test)]
+mod worked;

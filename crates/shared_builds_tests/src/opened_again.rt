@@ -1,0 +1,124 @@
+// A base that is opened again: what was built and winked in before is reused as within one run.
+
+use crate::fronts::ONE_FILE;
+use crate::sessions::{Front, IN_A_LANE, outcome_on, parts_of};
+use cc_names::memory::NoMemory;
+use std::alloc::Global;
+use std::hash::RandomState;
+use std::process::Abort;
+use std::random::RandomSource;
+use std::test::Fail;
+
+// What commands in one lane come to behind a session that was run before.
+fn told_again(
+    alloc: Global,
+    hashing: RandomState,
+    front: Front,
+    sessions: (&str, &str),
+) -> Result<String, NoMemory> {
+    let first = outcome_on(alloc, hashing, &[], front, sessions.0)?;
+    let journal = first.journal.as_slice();
+    Ok(outcome_on(alloc, hashing, journal, IN_A_LANE, sessions.1)?.told)
+}
+
+// Each case has two sessions, the second on the base that the first leaves, and what the second comes to.
+fn assert_again(
+    rt: &(impl Abort + RandomSource),
+    alloc: Global,
+    front: Front,
+    cases: &str,
+) -> Result<(), Fail> {
+    for case in cases.split("====\n") {
+        let (first, rest) = parts_of(case);
+        let (second, wanted) = parts_of(rest);
+        let told = told_again(alloc, RandomState::new(rt)?, front, (first, second))?;
+        let told = told.as_str().strip_prefix(IN_A_LANE.told);
+        assert_eq!(rt; told, Some(wanted), "of {second:?}");
+    }
+    Ok(())
+}
+
+const ONE_FILE_AGAIN: &str = "\
+clearmake v
+----
+clearmake v
+clearmake w
+clearmake w -u
+clearmake v
+----
+1 clearmake ok
+  out kept 3 98ea6e4f216f2fb4b69fff9b3a44842c38686ca685f3f55dc48c5d3fb1107be4
+2 clearmake ok
+  out winked 3 98ea6e4f216f2fb4b69fff9b3a44842c38686ca685f3f55dc48c5d3fb1107be4
+3 clearmake ok
+  out built 3 98ea6e4f216f2fb4b69fff9b3a44842c38686ca685f3f55dc48c5d3fb1107be4
+4 clearmake ok
+  out kept 3 98ea6e4f216f2fb4b69fff9b3a44842c38686ca685f3f55dc48c5d3fb1107be4
+status 0, 13 rows
+====
+# the object of a view that ended
+clearmake v
+clearmake w
+rmview v
+----
+clearmake w
+mkview v
+clearmake v
+----
+1 clearmake ok
+  out kept 3 98ea6e4f216f2fb4b69fff9b3a44842c38686ca685f3f55dc48c5d3fb1107be4
+2 mkview ok
+3 clearmake ok
+  out winked 3 98ea6e4f216f2fb4b69fff9b3a44842c38686ca685f3f55dc48c5d3fb1107be4
+status 0, 15 rows
+====
+# a source that is out, and given up in the second session
+clearmake v
+checkout v in
+clearmake v
+----
+clearmake v
+clearmake w
+uncheckout v in
+clearmake v
+----
+1 clearmake ok
+  out kept 3 98ea6e4f216f2fb4b69fff9b3a44842c38686ca685f3f55dc48c5d3fb1107be4
+2 clearmake ok
+  out winked 3 98ea6e4f216f2fb4b69fff9b3a44842c38686ca685f3f55dc48c5d3fb1107be4
+3 uncheckout ok
+4 clearmake ok
+  out winked 3 98ea6e4f216f2fb4b69fff9b3a44842c38686ca685f3f55dc48c5d3fb1107be4
+status 0, 16 rows
+";
+
+#[test]
+fn a_build_goes_on_where_the_base_was(rt: HostRuntime) -> Result<(), Fail> {
+    assert_again(&rt, rt.alloc(), ONE_FILE, ONE_FILE_AGAIN)
+}
+
+// Both builds are command 3 of lane 1 in phase 1, so the object has the tag of the build that winks it in.
+const SAME_TAG: &str = "\
+mkview v
+save v Makefile
+|out:
+|\techo hi > out
+clearmake v
+----
+mkview w
+save w Makefile
+|out:
+|\techo hi > out
+clearmake w
+----
+1 mkview ok
+2 save ok
+3 clearmake ok
+  out winked 3 98ea6e4f216f2fb4b69fff9b3a44842c38686ca685f3f55dc48c5d3fb1107be4
+status 0, 6 rows
+";
+
+#[test]
+fn an_object_of_an_earlier_run_is_winked_in(rt: HostRuntime) -> Result<(), Fail> {
+    assert_again(&rt, rt.alloc(), IN_A_LANE, SAME_TAG)
+}

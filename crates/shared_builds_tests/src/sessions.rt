@@ -1,0 +1,153 @@
+// Sessions on a base in memory, in tables that are texts.
+//
+// A table has its cases one behind the other, parted by lines `====`. A case is a session, the line `----`, what the session
+// writes, and a last line of its status and the rows of its base. A line that begins with `#` in a session is a note.
+
+ghost use Rattle.std.specs.Prelude.{IfOk};
+ghost use Rattle.disk_model.specs.MemoryDisks.{sight_of};
+ghost use Rattle.session_run.specs.Stopped.{IsHandedIn};
+
+use cc_names::memory::NoMemory;
+use cc_names::texts::Text;
+use cc_outside::{ListClock, MemorySink, MemorySource};
+use disk_model::MemoryDisk;
+use session_run::{Ended, run_words};
+use std::alloc::Global;
+use std::hash::RandomState;
+use std::process::Abort;
+use std::random::RandomSource;
+use std::test::Fail;
+
+/// What stands before each session of a table, and before what each writes.
+#[derive(Clone, Copy)]
+pub(crate) struct Front {
+    pub(crate) asked: &'static str,
+    pub(crate) told: &'static str,
+}
+
+/// Nothing.
+pub(crate) const ALONE: Front = Front {
+    asked: "",
+    told: "",
+};
+
+/// One phase with one lane.
+pub(crate) const IN_A_LANE: Front = Front {
+    asked: "phase\nlane a\n",
+    told: "phase 1\nlane a\n",
+};
+
+/// What is outside of a session.
+#[derive(Drop)]
+struct Outside {
+    source: MemorySource,
+    sink: MemorySink,
+    clock: ListClock,
+}
+
+fn outside_of(alloc: Global, session: &str) -> Result<Outside, NoMemory> {
+    let source = MemorySource::new(alloc, session.as_bytes(), &[])?;
+    let sink = MemorySink::new(alloc, &[])?;
+    let clock = ListClock::new(alloc, &[1_700_000_000])?;
+    Ok(Outside {
+        source,
+        sink,
+        clock,
+    })
+}
+
+// A disk with this journal and no objects.
+fn disk_with(alloc: Global, journal: &[u8]) -> Result<MemoryDisk, NoMemory>
+    ensures { IfOk result (λ disk. IsHandedIn (sight_of disk)) }
+{
+    MemoryDisk::new(alloc, journal, &[], &[])
+}
+
+fn words_of_run(alloc: Global) -> Result<Vec<Text>, NoMemory> {
+    let mut words = Vec::new(alloc);
+    for word in ["f", "run"] {
+        words.push(Text::from_bytes(alloc, word.as_bytes())?)?;
+    }
+    Ok(words)
+}
+
+fn run_in(
+    alloc: Global,
+    hashing: RandomState,
+    journal: &[u8],
+    outside: &mut Outside,
+) -> Result<Ended<MemoryDisk>, NoMemory> {
+    let words = words_of_run(alloc)?;
+    let disk = disk_with(alloc, journal)?;
+    Ok(run_words(
+        alloc,
+        hashing,
+        words.as_slice(),
+        &mut outside.source,
+        &mut outside.sink,
+        disk,
+        &mut outside.clock,
+    ))
+}
+
+// What was written, and then the line of the status and the rows.
+fn told_of(alloc: Global, written: &[u8], ended: &Ended<MemoryDisk>) -> Result<String, NoMemory> {
+    let (status, rows) = (ended.status.code(), ended.history.rows().len());
+    let written = Text::from_bytes(alloc, written)?;
+    Ok(format!(in alloc; "{written}status {status}, {rows} rows\n")?)
+}
+
+/// What a session comes to: what it writes with the line of its status and its rows, and the journal that it leaves.
+#[derive(Drop)]
+pub(crate) struct Outcome {
+    pub(crate) told: String,
+    pub(crate) journal: Vec<u8>,
+}
+
+fn outcome_of(
+    alloc: Global,
+    written: &[u8],
+    ended: &Ended<MemoryDisk>,
+) -> Result<Outcome, NoMemory> {
+    let told = told_of(alloc, written, ended)?;
+    let journal = ended.disk.bytes(0).to_vec(alloc)?;
+    Ok(Outcome { told, journal })
+}
+
+/// What a session behind a front comes to on a base with this journal.
+pub(crate) fn outcome_on(
+    alloc: Global,
+    hashing: RandomState,
+    journal: &[u8],
+    front: Front,
+    session: &str,
+) -> Result<Outcome, NoMemory> {
+    let session = format!(in alloc; "{}{session}", front.asked)?;
+    let mut outside = outside_of(alloc, session.as_str())?;
+    let ended = run_in(alloc, hashing, journal, &mut outside)?;
+    outcome_of(alloc, outside.sink.bytes(), &ended)
+}
+
+/// The parts of a case: a session, and what it comes to.
+pub(crate) fn parts_of(case: &str) -> (&str, &str) {
+    match case.split_once("----\n") {
+        Some(parts) => parts,
+        None => (case, ""),
+    }
+}
+
+/// The sessions of a table come to what it says, each on an empty base.
+pub(crate) fn assert_sessions(
+    rt: &(impl Abort + RandomSource),
+    alloc: Global,
+    front: Front,
+    cases: &str,
+) -> Result<(), Fail> {
+    for case in cases.split("====\n") {
+        let (session, wanted) = parts_of(case);
+        let outcome = outcome_on(alloc, RandomState::new(rt)?, &[], front, session)?;
+        let told = outcome.told.as_str().strip_prefix(front.told);
+        assert_eq!(rt; told, Some(wanted), "of {session:?}");
+    }
+    Ok(())
+}
