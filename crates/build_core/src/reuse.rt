@@ -145,7 +145,8 @@ fn other_match(unit: &Compared<'_>) -> Chosen
         if_matches b build unit.now.number unit.now.unit.now
         (held_at_all b build.view unit.now.unit.now.targets)
         ≡ None }
-    ensures { IsChosen unit.now.rows.now unit.now.build.now unit.now.number unit.now.unit.now result }
+    ensures { let b = unit.now.rows.now in
+        IsChosen b unit.now.build.now unit.now.number unit.now.unit.now result }
 {
     match newest_match(unit) {
         Some(id) => Chosen::Other(id),
@@ -156,7 +157,8 @@ fn other_match(unit: &Compared<'_>) -> Chosen
 /// The object of the view, else the newest unless the view's own alone may be reused.
 fn own_or_newest(unit: &Compared<'_>) -> Chosen
     requires { unit.now.build.now.rebuild ≡ false }
-    ensures { IsChosen unit.now.rows.now unit.now.build.now unit.now.number unit.now.unit.now result }
+    ensures { let b = unit.now.rows.now in
+        IsChosen b unit.now.build.now unit.now.number unit.now.unit.now result }
 {
     match own_match(unit) {
         Some(id) => Chosen::Held(id),
