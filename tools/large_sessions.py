@@ -8,11 +8,12 @@
 
 NAME says what is large, SIZE how large: the size of the table below where none is given. What costs a look-up the same however large a
 base is takes twice the time at twice the size. No command of a session is refused, so the status is 0; each session wants a
-base of its own, but for `again`, which goes on with the base of one that builds. The same NAME, SIZE and SEED (0 where none is
-given) give the same session; only `commands` draws.
+base of its own, but for `again`, which goes on with the base of one that builds, and `changes`. The same NAME, SIZE and SEED (0
+where none is given) give the same session; only `commands` and `changes` draw.
 
     NAME      SIZE      the session
     commands  100000    so many commands: files in directories of 10, and then files drawn to be changed and labelled
+    changes   100000    so many commands more, which change and label files drawn among the first 1,000, on the base of `commands`
     names     10000     a directory with so many names, each added in a version of its own
     depth     40        a path of so many directories, and 1,000 versions of the file at its end
     versions  100000    a file with so many versions, and a view that selects one in the middle
@@ -64,16 +65,29 @@ def files(size):
     return commands + ["checkin v ."], paths
 
 
+def a_change(path, number):
+    """The commands that give a file a version with a text by this number, and move the label to it."""
+    return new_version("v", path, f"at command {number}") + [f"mklabel v -replace REL {path}"]
+
+
 def of_commands(size, seed):
-    """Files and directories, and then changes and labels of files that are drawn, up to so many commands."""
+    """Files and directories, and then changes and labels of files that are drawn: so many commands, or up to three more."""
     commands, paths = files(max(size // 10, 1))
     commands.append("mklbtype REL")
     numbers = draws(seed)
     while len(commands) < size:
-        path = paths[next(numbers) % len(paths)]
-        commands += new_version("v", path, f"at command {len(commands)}") + [f"mklabel v -replace REL {path}"]
-    # The last change may be cut short: then a file stays out.
-    return commands[:size]
+        commands += a_change(paths[next(numbers) % len(paths)], len(commands))
+    return commands
+
+
+def of_changes(size, seed):
+    """Changes and labels of files that are drawn, on the base that `commands` left."""
+    numbers = draws(seed)
+    commands = []
+    while len(commands) < size:
+        number = next(numbers) % 1000
+        commands += a_change(f"{folder_of(number)}/f{number}", len(commands))
+    return commands
 
 
 def of_names(size, _seed):
@@ -96,22 +110,22 @@ def targets(count):
 
 
 def of_views(size, _seed):
-    """Seven views: the first builds a target from each of so many files, and the others wink these in."""
+    """Seven views: the first builds a target from each of so many files, and then the others, whose lanes take turns, wink these in."""
     commands, paths = files(size)
     rules = [line for name, path in zip(targets(size), paths) for line in (f"{name}: {path}", f"\tcat {path} > {name}")]
     commands += a_makefile(["all: " + " ".join(targets(size))] + rules)
-    commands += [f"mkview v{number}" for number in range(1, 7)] + ["phase", "lane b", "clearmake v"]
+    commands += [f"mkview v{number}" for number in range(1, 7)] + ["phase", "lane b", "clearmake v", "phase"]
     for number in range(1, 7):
         commands += [f"lane b{number}", f"clearmake v{number}"]
     return commands
 
 
 def of_entries(size, _seed):
-    """Units that read the same hundred files, built by one view and winked in by another."""
+    """Units that read the same hundred files, built by one view and then winked in by another."""
     commands, paths = files(100)
     rules = [line for name in targets(size) for line in (f"{name}:", f"\tcat $(ALL) > {name}")]
     commands += a_makefile(["ALL = " + " ".join(paths), "all: " + " ".join(targets(size))] + rules)
-    return commands + ["mkview w", "phase", "lane b", "clearmake v", "lane c", "clearmake w"]
+    return commands + ["mkview w", "phase", "lane b", "clearmake v", "phase", "lane c", "clearmake w"]
 
 
 def of_records(size, _seed):
@@ -169,6 +183,7 @@ def of_labels(size, _seed):
 # What is large: its full size, its least size, its greatest one, and its commands.
 SESSIONS = {
     "commands": (100_000, 10, None, of_commands),
+    "changes": (100_000, 1, None, of_changes),
     "names": (10_000, 1, None, of_names),
     "depth": (40, 1, 511, of_depth),
     "versions": (100_000, 2, None, of_versions),

@@ -61,9 +61,9 @@ impl<D: Disk> Core<D> {
     ghost use Rattle.disk_model.specs.Told.{IfTold, Both};
     ghost use Rattle.vob_journal.specs.Added.{WritesOn};
 
-    /// Opens the base that a disk stands for. Reads its journal once, in time linear in its bytes and, for each entry of an object,
-    /// in the targets of the object that it names, and writes nothing. Names are found by hashing them so. A disk whose base cannot be opened comes back with
-    /// the cause.
+    /// Opens the base that a disk stands for. Reads its journal once, in time linear in its bytes and for each row that of
+    /// `fits`, and writes nothing. Names are found by hashing them so. A disk whose base cannot be opened comes back with the
+    /// cause.
     pub fn open(alloc: Global, hashing: RandomState, disk: D) -> Result<Core<D>, OpenFault<D>>
         requires { IfTold (D.sight disk).told (λ d. file_of 0 d ≡ stable (bytes_of 0 d)) }
         ensures ok { IfOk result (λ core. OpensCore (D.sight disk) core.story core.sight) }

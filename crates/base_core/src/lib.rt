@@ -5,9 +5,10 @@
 // for a row before it appends it to the journal, and the row joins the base once the journal has acknowledged it.
 //
 // What it promises: the story of a `Core` is legal at every moment. `act` adds the one step by which a lane's next command
-// is finished; `build` finishes a lane's clearmake by the steps of its build, whose units keep objects, take them in or run.
-// After want of memory the story is what it was, or has gone on by steps of that build alone. `begin_phase`, `act` and
-// `build` make device calls for commits and faults alone, each of which has the disk's counts as it ended. `replies` gives
+// is finished; `begin`, `try_unit`, `run`, `finish_unit` and `end` carry out a lane's clearmake, whose units keep objects, take them in or
+// run. Calls for other lanes may come between these: what a call asks of the story stays true in each longer one of the build.
+// After want of memory the story is what it was. `begin_phase`, `act` and the calls of a build make device calls for commits and
+// faults alone, each of which has the disk's counts as it ended. `replies` gives
 // the replies of the story. A stop at any call of the disk since the base was opened finds the rows committed before it, and
 // besides at most the row that was under way or that a fault left; `finish` leaves the rows and no more, and makes no device
 // call unless the newest commit or fault is a fault. The file of objects stays as it was.
@@ -30,3 +31,4 @@ mod turns;
 pub use core_value::Core;
 pub use history::History;
 pub use opening::{OpenCause, OpenFault};
+pub use turns::{Carried, UnitTurn};

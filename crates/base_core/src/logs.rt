@@ -9,6 +9,8 @@ ghost use Rattle.std.specs.Option.{option_to_list};
 use crate::history::History;
 use cc_names::copies::Copied;
 use cc_names::memory::NoMemory;
+use cc_names::names::Name;
+use cc_names::paths::Path;
 use cc_names::rows::Row;
 use cc_names::steps::{Counts, Step};
 use disk_model::{Disk, DiskFault};
@@ -273,6 +275,13 @@ impl<D: Disk> Log<D> {
         ensures { result ≡ self.now.base }
     {
         self.rows.all()
+    }
+
+    /// Has at hand what a view sees in the first rows where a unit of these targets is likely to ask, as `Rows::remember` does.
+    pub(crate) fn remember(&mut self, view: &Name, count: u64, targets: &[Path])
+        ensures { self.new ≡ self.old }
+    {
+        self.rows.remember(view, count, targets);
     }
 
     /// The phases that began.

@@ -159,7 +159,7 @@ fn read_rows<D: Disk>(
 }
 
 /// Opens the log of the base that a disk stands for. Reads the journal once, and writes nothing. Takes time linear in the
-/// journal's bytes.
+/// journal's bytes, and for each row that of `fits`.
 pub(crate) fn open_log<D: Disk>(
     alloc: Global,
     hashing: RandomState,

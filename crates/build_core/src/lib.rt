@@ -3,7 +3,7 @@
 // What it is for: `plan_build` decides a clearmake: `graph` says which units its build has, over the files of its view,
 // or why it is refused. An `ActiveBuild` keeps what its units have come to; `step` says what comes next for a unit,
 // `run_unit` runs its script over what the unit sees, `reusable` says which object it may reuse in place of a run,
-// `publish_row` makes the row of what the run gave, `wink_row` that by which the view takes an object in, and `reply_of` says
+// `publish_row` makes the row of what the run gave, `wink_row` that by which the view winks an object in, and `reply_of` says
 // what a build that has ended is replied.
 //
 // What it promises: a clearmake is decided as the model decides it, and what it begins is formed. The units, or the refusal
@@ -14,8 +14,8 @@
 //
 // What it stands on: `make_text` for makefiles and the definition of units, `make_graph` for the units of a makefile that
 // was read, `view_lookup` for what a view sees, `build_script` for scripts, `session_text` for the form of
-// commands, `reply_text` and `sha2` for digests, `legal_history` for the model of builds and of their replies, `cc_names` for
-// paths, units and refusals.
+// commands, `carried_out` for the deeds of its rows, `reply_text` and `sha2` for digests, `legal_history` for the model of builds
+// and of their replies, `cc_names` for paths, units and refusals.
 #![tactic(auto)]
 
 mod active;

@@ -177,9 +177,9 @@ fn lines_of_units(
     Ok(lines)
 }
 
-/// The reply of a build in a base without elements: unit by unit in order, a line for each target of those that have an
-/// object, a line for the first target of those that ended without one. Fails where memory runs out. Takes time linear in the targets and in the outputs, and for a unit with
-/// several targets in the square of their number.
+/// The reply of a build: unit by unit in order, a line for each target of those that have an object, a line for the first target
+/// of those that ended without one. Fails where memory runs out. Takes time linear in the targets and in the outputs, and for a
+/// unit with several targets in the square of their number.
 pub fn reply_of(alloc: Global, rows: &FirstRows<'_>, build: &ActiveBuild) -> Result<Reply, NoMemory>
     requires few { length build.now.units < 2 ^ 32 }
     ensures { IfOk result (λ reply. reply ≡ reply_of rows.now build.now) }

@@ -44,8 +44,8 @@ fn file_in(rows: &FirstRows<'_>, build: &ActiveBuild, path: &Path) -> Option<u64
 /// unit that it needs, directly or through others, else the file of the view as the build began. The closure is that of the
 /// unit.
 ///
-/// Takes one look-up by the path among the units, and where no unit that it needs has an object there, one among the files of
-/// the view, however many units and prerequisites there are.
+/// Takes one look-up by the path among the units, and where no unit that it needs has an object there, one resolution of the path
+/// in the view (`at`), however many units and prerequisites there are.
 pub(crate) fn visible(
     rows: &FirstRows<'_>,
     build: &ActiveBuild,

@@ -157,7 +157,7 @@ fn next(
 }
 
 /// What comes next for a unit of an active build: nothing where it has its outcome; else the wait for another unit, the end
-/// without a run, the object that it keeps or that its view takes in, or its start with its script. Fails only where memory
+/// without a run, the object that it keeps or that its view winks in, or its start with its script. Fails only where memory
 /// runs out.
 ///
 /// Takes look-ups by the paths of the unit's prerequisites and targets; what `reusable` takes; and where it may reuse no object

@@ -1,4 +1,4 @@
-// The row by which the view of a build takes in an object.
+// The row by which the view of a build winks in an object.
 
 ghost use Rattle.std.specs.Prelude.{◌≡◌, ◌≤◌, true, IfOk};
 ghost use Rattle.cc_names.specs.declared.rows.Deed.TheVariants as deeds;
@@ -10,7 +10,7 @@ use cc_names::memory::NoMemory;
 use cc_names::rows::{Deed, Row};
 use std::alloc::Global;
 
-/// The row by which the view of an active build takes in an object at this moment. Fails only where memory runs out. Takes
+/// The row by which the view of an active build winks in an object at this moment. Fails only where memory runs out. Takes
 /// time linear in the view's name.
 pub fn wink_row(
     alloc: Global,

@@ -8,7 +8,7 @@
 // the files for, once, in the order of first asking. A run depends on the files at those paths alone.
 //
 // What it stands on: `cc_names` for paths, texts and faults, and for newlines and blanks; `indexmap` for reads in the
-// order of first asking.
+// order of first asking, `sha2` and `hex` for digests, `memchr` for bytes that are looked for.
 #![tactic(auto)]
 
 pub mod files;

@@ -12,6 +12,8 @@ mod includes;
 #[cfg(test)]
 mod lines;
 #[cfg(test)]
+mod long_outputs;
+#[cfg(test)]
 mod running;
 #[cfg(test)]
 mod runs;

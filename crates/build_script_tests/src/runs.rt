@@ -118,34 +118,3 @@ pub(crate) fn repeated(alloc: Global, line: &str, count: usize) -> Result<String
     }
     Ok(text)
 }
-
-// Sixty-four letters.
-const LETTERS: &str = "aaaaaaaaaaaaaaaaaaaaaaaaaaaaaaaaaaaaaaaaaaaaaaaaaaaaaaaaaaaaaaaa";
-
-// What the file `in` has behind 524,288 letters, a script, and what it comes to: an output has 1,048,576 bytes at most, which is
-// tested before the next path is asked for.
-const LONG_OUTPUTS: [(&str, &str, &str); 5] = [
-    ("", "sub a bb in > out", "NotWritten log < in"),
-    ("a", "sub a bb in > out", "TooBig out < in"),
-    ("", "cat in in none > out", "Absent none < in none"),
-    ("a", "cat in in none > out", "TooBig out < in"),
-    (
-        "a",
-        "cat in > log\ncat in >> log\ncat none > out",
-        "TooBig log < in",
-    ),
-];
-
-#[test]
-fn an_output_ends_at_its_limit(rt: HostRuntime) -> Result<(), Fail> {
-    let hashing = RandomState::new(&rt)?;
-    let letters = repeated(rt.alloc(), LETTERS, 8_192)?;
-    for (more, script, want) in LONG_OUTPUTS {
-        assert!(rt; script.len() < 1000);
-        let text = format!(in rt.alloc(); "{letters}{more}")?;
-        let mut files = files_of(rt.alloc(), &[("in", text.as_str())])?;
-        let said = run_text(rt.alloc(), hashing, script, &mut files)?;
-        assert_eq!(rt; said.as_str(), want, "of {script:?} and {more:?} more");
-    }
-    Ok(())
-}

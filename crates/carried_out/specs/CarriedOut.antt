@@ -28,11 +28,19 @@ is_carried_out (commands.Mklbtype name) = true
 is_carried_out (commands.Mkbrtype name) = true
 is_carried_out (commands.Mklabel view replace label path) = true
 is_carried_out (commands.Rmlabel view label path) = true
+is_carried_out (commands.Rmdo view path) = true
+is_carried_out (commands.Scrub age) = true
 is_carried_out (commands.Clearmake view file own_only rebuild jobs macros goals) = true
 is_carried_out (commands.Catcs view) = true
+is_carried_out (commands.Lsdo view) = true
+is_carried_out (commands.Ls view path) = true
 is_carried_out (commands.Cat view path version) = true
 is_carried_out (commands.Describe view path) = true
+is_carried_out (commands.Lsvtree view path) = true
 is_carried_out (commands.Lshistory view path) = true
+is_carried_out (commands.Catcr view path) = true
+is_carried_out (commands.Diffcr view path other second) = true
+is_carried_out (commands.Covers seer view path) = true
 is_carried_out command = false
 
 -- whether a command that is carried out, or a unit of a build, may make a row of this deed
@@ -55,6 +63,8 @@ is_made (deeds.Label label element version) = true
 is_made (deeds.Unlabel label element) = true
 is_made (deeds.Publish view targets script entries outputs) = true
 is_made (deeds.Wink view object) = true
+is_made (deeds.Drop view path) = true
+is_made (deeds.Scrub objects) = true
 is_made deed = false
 
 -- All commands of a lane are carried out.

@@ -38,11 +38,19 @@ pub fn is_carried_out(command: &Command) -> bool
             | Command::Mkbrtype { .. }
             | Command::Mklabel { .. }
             | Command::Rmlabel { .. }
+            | Command::Rmdo { .. }
+            | Command::Scrub { .. }
             | Command::Clearmake { .. }
             | Command::Catcs { .. }
+            | Command::Lsdo { .. }
+            | Command::Ls { .. }
             | Command::Cat { .. }
             | Command::Describe { .. }
+            | Command::Lsvtree { .. }
             | Command::Lshistory { .. }
+            | Command::Catcr { .. }
+            | Command::Diffcr { .. }
+            | Command::Covers { .. }
     )
 }
 
@@ -70,5 +78,7 @@ pub fn is_made(deed: &Deed) -> bool
             | Deed::Unlabel { .. }
             | Deed::Publish { .. }
             | Deed::Wink { .. }
+            | Deed::Drop { .. }
+            | Deed::Scrub { .. }
     )
 }

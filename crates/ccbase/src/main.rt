@@ -1,4 +1,6 @@
-// The program: `ccbase FILE run` reads a session from standard input, runs it on the base that the files FILE and FILE.objects
+// The program.
+//
+// What it is for: `ccbase FILE run` reads a session from standard input, runs it on the base that the files FILE and FILE.objects
 // keep, and writes its replies to standard output.
 //
 // What it promises: it adds nothing to `session_run::run_words` but the streams of the process, its clock, its two files, the

@@ -1,5 +1,5 @@
 -- The first refusal of some tests and of more behind them.
-use Rattle.std.proofs.Common.{◌≡◌, Option, Some, None, List, [], ◌∷◌, ◌++◌, refl, arith}
+use Rattle.std.proofs.Common.{◌≡◌, Option, Some, None, List, [], ◌∷◌, ◌++◌, refl}
 use Rattle.cc_names.specs.declared.memory.Or.{Or}
 use Rattle.cc_names.specs.declared.memory.Or.TheVariants.{NoMemory, Is}
 use Rattle.cc_names.specs.declared.refusals.Refusal.{Refusal}

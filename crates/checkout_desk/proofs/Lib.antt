@@ -1,2 +1,3 @@
+pub mod DueRows
 pub mod FirstRefusals
 pub mod RuleBranches

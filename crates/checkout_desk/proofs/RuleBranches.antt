@@ -13,7 +13,7 @@ use Rattle.cc_names.specs.declared.refusals.SpecCause.TheVariants.{BadType}
 use Rattle.cc_names.specs.declared.refusals.SpecError.{SpecError}
 use Rattle.cc_names.specs.declared.selection.Picked.{Picked}
 use Rattle.cc_names.specs.declared.selection.Rule.{Rule}
-use Rattle.spec_text.specs.Lines.{◌>>=◌, Options, line_of, line_of_words, element_line, object_line, time_line, end_line, with_options, rule_of, options_from, no_options, before_of, moment_of_word, is_comment}
+use Rattle.spec_text.specs.Lines.{◌>>=◌, Options, line_of_words, element_line, object_line, time_line, end_line, with_options, rule_of, options_from, no_options, before_of, moment_of_word, is_comment}
 use Rattle.spec_text.specs.Patterns.{pattern_of}
 use Rattle.spec_text.specs.Selectors.{branch_type_of, selector_of}
 use Rattle.spec_text.specs.Specs.{rules_from, rules_of, with_line, before_rules}

@@ -1,5 +1,5 @@
 -- What commands name.
-use Rattle.std.specs.Prelude.{ℕ, Bool, true, false, List, []}
+use Rattle.std.specs.Prelude.{ℕ, Bool, true, false, Option, Some, None, List, []}
 use Rattle.cc_names.specs.declared.commands.Command.{Command}
 use Rattle.cc_names.specs.declared.commands.Command.TheVariants as commands
 
@@ -7,6 +7,11 @@ use Rattle.cc_names.specs.declared.commands.Command.TheVariants as commands
 abbrev pub builds : Command → Bool
 builds (commands.Clearmake view file own_only rebuild jobs macros goals) = true
 builds command = false
+
+-- the age that a scrub asks for; no other command asks for one
+abbrev pub scrub_age : Command → Option ℕ
+scrub_age (commands.Scrub age) = Some age
+scrub_age command = None
 
 -- the view in which a command is given; no bytes where it names none
 abbrev pub view_of : Command → List ℕ

@@ -1,5 +1,5 @@
 -- What a call answers that decides a command, or a part of one.
-use Rattle.std.specs.Prelude.{◌≡◌, ℕ, ◌+◌, Option, Some, None, Result, Ok, Err, List}
+use Rattle.std.specs.Prelude.{◌≡◌, ℕ, ◌+◌, Option, Some, None, Result, Ok, Err, List, []}
 use Rattle.cc_names.specs.Formed.{Plain}
 use Rattle.cc_names.specs.declared.memory.Or.{Or}
 use Rattle.cc_names.specs.declared.memory.Or.TheVariants.{NoMemory, Is}
@@ -8,7 +8,7 @@ use Rattle.cc_names.specs.declared.rows.Tag.{Tag}
 use Rattle.cc_names.specs.declared.selection.Picked.{Picked}
 use Rattle.legal_history.specs.Base.Rows.{Base, size}
 use Rattle.legal_history.specs.Builds.Active.{building, reserved}
-use Rattle.legal_history.specs.Commands.Decisions.{Decision, Makes, Scene}
+use Rattle.legal_history.specs.Commands.Decisions.{Answers, Decision, Makes, Scene}
 use Rattle.checkout_desk.specs.declared.found.Selected.{Selected}
 
 -- unless memory ran out, the refusal is the one that was decided
@@ -20,6 +20,23 @@ RefusalIs (Is refusal) decision = decision ≡ Err refusal
 abbrev pub Decides : Tag → ℕ → Result Plain (Or Refusal) → Result Decision Refusal → Type 0
 Decides tag moment (Ok row) decision = (decision ≡ Ok (Makes row.deed)) × (row.tag ≡ tag) × (row.moment ≡ moment)
 Decides tag moment (Err refusal) decision = RefusalIs refusal decision
+
+-- The row that was decided, with this tag and moment; where there is none, that the command is answered without a text; or the
+-- refusal that was decided.
+abbrev pub DecidesIfAny : Tag → ℕ → Result (Option Plain) (Or Refusal) → Result Decision Refusal → Type 0
+DecidesIfAny tag moment (Ok None) decision = decision ≡ Ok (Answers [])
+DecidesIfAny tag moment (Ok (Some row)) decision = Decides tag moment (Ok row) decision
+DecidesIfAny tag moment (Err refusal) decision = RefusalIs refusal decision
+
+-- what holds of the row that was decided, where there is one
+abbrev pub IfRow : Result (Option Plain) (Or Refusal) → (Plain → Type 0) → Type 0
+IfRow (Ok (Some row)) so = so row
+IfRow result so = Unit {0}
+
+-- what holds where there is no row, and no refusal
+abbrev pub IfNone : Result (Option Plain) (Or Refusal) → Type 0 → Type 0
+IfNone (Ok None) so = so
+IfNone result so = Unit {0}
 
 -- unless memory ran out, the refusal is that of a test
 abbrev pub IsOfTest : Or Refusal → Option Refusal → Type 0

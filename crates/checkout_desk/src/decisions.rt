@@ -1,6 +1,6 @@
 // The decision on a command.
 
-ghost use Rattle.std.specs.Prelude.{◌≡◌, ℕ, ◌<◌, ◌≤◌, ◌^◌, length, true, false, IfOk, OnOk};
+ghost use Rattle.std.specs.Prelude.{◌≡◌, ℕ, ◌<◌, ◌≤◌, ◌^◌, length, true, false, None, is_some, IfOk, OnOk};
 ghost use Rattle.legal_history.specs.Stories.Lawful.{last_moment};
 ghost use Rattle.session_text.specs.Formed.{IsCommand};
 ghost use Rattle.legal_history.specs.Base.Fits.{row_limit};
@@ -8,8 +8,8 @@ ghost use Rattle.legal_history.specs.Commands.Decisions.{Scene};
 ghost use Rattle.legal_history.specs.Commands.Lines.{decision};
 ghost use Rattle.carried_out.specs.CarriedOut.{is_carried_out, is_made};
 ghost use Rattle.legal_history.specs.Queries.QueryLines.{is_query};
-ghost use Rattle.checkout_desk.specs.Commands.{builds, view_of};
-ghost use Rattle.checkout_desk.specs.Deciding.{Sees, Decides};
+ghost use Rattle.checkout_desk.specs.Commands.{builds, scrub_age, view_of};
+ghost use Rattle.checkout_desk.specs.Deciding.{Decides, DecidesIfAny, IfNone, IfRow, Sees};
 
 use crate::branches::mkbranch;
 use crate::checkins::{checkin, uncheckout};
@@ -18,8 +18,10 @@ use crate::config_specs::setcs;
 use crate::elements::mkelem;
 use crate::labels::{mklabel, rmlabel};
 use crate::names::{mv, rmname};
+use crate::objects::rmdo;
 use crate::removals::rm;
 use crate::saves::save;
+use crate::scrubs::scrub;
 use crate::types::mktype;
 use crate::views::{mkview, rmview};
 use cc_names::commands::Command;
@@ -30,8 +32,8 @@ use cc_names::rows::{Kind, Row, TypeKind};
 use std::alloc::Global;
 use view_lookup::FirstRows;
 
-/// A command's row, or its first refusal in the order of the tests of its line. Takes the time of its command.
-pub fn decide(
+/// The row of a command that always makes one, or its first refusal in the order of the tests of its line.
+fn decide_row(
     alloc: Global,
     rows: &FirstRows<'_>,
     command: &Command,
@@ -40,6 +42,7 @@ pub fn decide(
     requires carried_out { is_carried_out command.now ≡ true }
     requires no_build { builds command.now ≡ false }
     requires no_query { is_query command.now ≡ false }
+    requires no_scrub { scrub_age command.now ≡ None }
     requires formed { IsCommand 16777216 command.now }
     requires in_time { occasion.moment ≤ last_moment }
 
@@ -91,6 +94,37 @@ pub fn decide(
         Command::Rmlabel { view, label, path } => {
             rmlabel(alloc, rows, view, label, path, occasion)
         }
+        Command::Rmdo { view, path } => rmdo(alloc, rows, view, path, occasion),
         _ => unreachable!(),
+    }
+}
+
+/// A command's row, or its first refusal in the order of the tests of its line. A scrub for which nothing is due has no row.
+/// Takes the time of its command.
+pub fn decide(
+    alloc: Global,
+    rows: &FirstRows<'_>,
+    command: &Command,
+    occasion: Occasion,
+) -> Result<Option<Row>, Or<Refusal>>
+    requires carried_out { is_carried_out command.now ≡ true }
+    requires no_build { builds command.now ≡ false }
+    requires no_query { is_query command.now ≡ false }
+    requires formed { IsCommand 16777216 command.now }
+    requires in_time { occasion.moment ≤ last_moment }
+
+    ensures decided { (scene : Scene)
+        → Sees scene rows.now occasion.moment (view_of command.now) occasion.busy occasion.taken
+        → DecidesIfAny occasion.tag occasion.moment result (decision scene command.now) }
+    ensures nothing { IfNone result (is_some (scrub_age command.now) ≡ true) }
+    ensures made { IfRow result (λ row. is_made row.deed ≡ true) }
+    ensures room { IfRow result (λ row. occasion.taken < row_limit) }
+{
+    match command {
+        Command::Scrub { age } => scrub(alloc, rows, *age, occasion),
+        _ => match decide_row(alloc, rows, command, occasion) {
+            Ok(row) => Ok(Some(row)),
+            Err(refusal) => Err(refusal),
+        },
     }
 }

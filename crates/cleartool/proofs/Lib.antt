@@ -3,3 +3,13 @@ pub mod NextNames
 pub mod NamesBack
 pub mod HistoryRows
 pub mod Refused
+pub mod NumberedVersions
+pub mod TreeParts
+pub mod ByKeys
+pub mod HeldListed
+pub mod NamesGiven
+pub mod ListedNames
+pub mod Behind
+pub mod LesserPaths
+pub mod LeastSources
+pub mod DifferingPaths

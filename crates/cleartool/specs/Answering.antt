@@ -18,3 +18,10 @@ abbrev pub FindsSelected : Result (ℕ × Picked) (Or Refusal) → ((ℕ → Pic
 FindsSelected (Ok found) decided = (text : ℕ → Picked → List ℕ) → decided text ≡ Ok (Answers (text found.0 found.1))
 FindsSelected (Err (Is refusal)) decided = (text : ℕ → Picked → List ℕ) → decided text ≡ Err refusal
 FindsSelected (Err NoMemory) decided = Unit {0}
+
+-- the object that was found is the one of which the rest is decided, whatever the rest is; where there is none the refusal was
+-- decided
+abbrev pub FindsObject : Result ℕ (Or Refusal) → ((ℕ → Result Decision Refusal) → Result Decision Refusal) → Type 0
+FindsObject (Ok id) decided = (more : ℕ → Result Decision Refusal) → decided more ≡ more id
+FindsObject (Err (Is refusal)) decided = (more : ℕ → Result Decision Refusal) → decided more ≡ Err refusal
+FindsObject (Err NoMemory) decided = Unit {0}

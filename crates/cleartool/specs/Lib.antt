@@ -2,3 +2,9 @@ pub mod Answering
 pub mod Naming
 pub mod Histories
 pub mod Descriptions
+pub mod VersionTrees
+pub mod HeldObjects
+pub mod Listed
+pub mod Recorded
+pub mod Covering
+pub mod Differences

@@ -8,10 +8,16 @@ ghost use Rattle.legal_history.specs.Commands.Lines.{decision};
 ghost use Rattle.cleartool.specs.Answering.{AnswersAs};
 
 use crate::config_specs::catcs;
+use crate::covered_records::covers;
 use crate::descriptions::describe;
 use crate::file_texts::cat;
+use crate::held_objects::lsdo;
 use crate::histories::lshistory;
+use crate::listings::ls;
+use crate::record_differences::diffcr;
+use crate::record_texts::catcr;
 use crate::version_texts::cat_version;
+use crate::version_trees::lsvtree;
 use cc_names::commands::Command;
 use cc_names::memory::Or;
 use cc_names::refusals::Refusal;
@@ -38,8 +44,19 @@ pub fn answer(alloc: Global, rows: &FirstRows<'_>, command: &Command) -> Result<
             path,
             version: Some(name),
         } => cat_version(alloc, rows, view, path, name),
+        Command::Lsdo { view } => lsdo(alloc, rows, view),
+        Command::Ls { view, path } => ls(alloc, rows, view, path),
         Command::Describe { view, path } => describe(alloc, rows, view, path),
         Command::Lshistory { view, path } => lshistory(alloc, rows, view, path),
+        Command::Lsvtree { view, path } => lsvtree(alloc, rows, view, path),
+        Command::Catcr { view, path } => catcr(alloc, rows, view, path),
+        Command::Diffcr {
+            view,
+            path,
+            other,
+            second,
+        } => diffcr(alloc, rows, view, path, other, second),
+        Command::Covers { seer, view, path } => covers(alloc, rows, seer, view, path),
         _ => unreachable!(),
     }
 }

@@ -7,11 +7,11 @@ ghost use Rattle.legal_history.specs.Commands.Decisions.{Scene};
 ghost use Rattle.legal_history.specs.Queries.ElementTexts.{describe_text, kind_word, selected_lines};
 ghost use Rattle.legal_history.specs.Queries.ListingTexts.{origin_name};
 ghost use Rattle.legal_history.specs.Queries.QueryLines.{describe};
-ghost use Rattle.legal_history.specs.Queries.VersionNames.{line};
 ghost use Rattle.cleartool.specs.Answering.{AnswersAs};
 ghost use Rattle.cleartool.specs.Descriptions.{label_line};
 
 use crate::found::find_selected;
+use crate::lines::push_line;
 use crate::version_names::version_name;
 use cc_names::memory::{NoMemory, Or};
 use cc_names::names::Name;
@@ -21,17 +21,7 @@ use cc_names::refusals::Refusal;
 use cc_names::selection::Picked;
 use cc_names::texts::Text;
 use std::alloc::Global;
-use view_lookup::{FirstRows, checked_out, is_directory_element, labels_on};
-
-/// Adds a line of words and a name.
-fn push_line(text: &mut Vec<u8>, words: &[u8], name: &[u8]) -> Result<(), NoMemory>
-    ensures { OnOk result (text.new.items ≡ text.old.items ++ line (words.now ++ name.now)) }
-{
-    text.extend_from_slice(words)?;
-    text.extend_from_slice(name)?;
-    text.push(b'\n')?;
-    Ok(())
-}
+use view_lookup::{FirstRows, checked_out, is_directory_element, labels_of, labels_on};
 
 /// The word for the kind of an element.
 fn kind_word(is_directory: bool) -> &'static [u8]
@@ -41,7 +31,7 @@ fn kind_word(is_directory: bool) -> &'static [u8]
 }
 
 /// The name of the version from which the view's checkout was made; empty where there is none.
-fn origin_name(
+pub(crate) fn origin_name(
     alloc: Global,
     rows: &FirstRows<'_>,
     view: &Name,
@@ -57,9 +47,10 @@ fn origin_name(
 }
 
 /// Adds a line for each of these labels.
-fn push_labels(text: &mut Vec<u8>, labels: &[Text]) -> Result<(), NoMemory>
+fn push_labels(text: &mut Vec<u8>, labels: &[&Text]) -> Result<(), NoMemory>
     ensures { OnOk result
-        (text.new.items ≡ text.old.items ++ concat (map label_line labels.now)) }
+        (text.new.items
+        ≡ text.old.items ++ concat (map (λ label. label_line label.now) labels.now)) }
 {
     for label in labels {
         push_line(text, b"label ", label.as_bytes())?;
@@ -85,9 +76,11 @@ fn push_selected(
         push_line(text, b"checkedout from ", name.as_bytes())
     } else {
         let name = version_name(alloc, rows, picked.row)?;
-        let labels = labels_on(alloc, rows, element, picked.row)?;
+        let labels = labels_of(alloc, rows, element)?;
+        let own = labels_on(alloc, &labels, picked.row)?;
         push_line(text, b"version ", name.as_bytes())?;
-        push_labels(text, &labels)
+        push_labels(text, &own)?;
+        Ok(())
     }
 }
 
@@ -114,8 +107,8 @@ fn describe_text(
     Ok(Text::of(text))
 }
 
-/// The text of `describe V P`, the element there, its kind and what is selected of it with its labels, or its first refusal. Takes
-/// time linear in the path and in the text, and the time of `labels_on`.
+/// The text of `describe V P`, the element there, its kind and what is selected of it with its labels, or its first refusal.
+/// Takes the time of `at` and of `labels_of`, and time linear in the text.
 pub fn describe(
     alloc: Global,
     rows: &FirstRows<'_>,

@@ -79,7 +79,7 @@ pub(crate) fn text_at<'a>(rows: &FirstRows<'a>, path: &Path, row: Option<u64>) -
 }
 
 /// The text of `cat V P`, that of the file which the view sees there or of the object that it holds, or its first refusal.
-/// Takes the time of `at` three times, and time linear in the text and in the targets of an object.
+/// Takes the time of `at`, three times at most, and of `text_of`, and time linear in the text.
 pub fn cat(
     alloc: Global,
     rows: &FirstRows<'_>,

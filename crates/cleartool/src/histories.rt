@@ -175,7 +175,7 @@ fn history_text(alloc: Global, rows: &FirstRows<'_>, element: u64) -> Result<Tex
 }
 
 /// The text of `lshistory V P`, what made the element, its branches and versions and moved its labels, or its first refusal.
-/// Takes time linear in the path and in the rows of which it tells, and for each that of its version's name.
+/// Takes the time of `at` and of `history_of`, and for each row of which it tells that of its version's name.
 pub fn lshistory(
     alloc: Global,
     rows: &FirstRows<'_>,

@@ -6,18 +6,29 @@
 // What it promises: the answer is the model's decision on the query, and a name is the model's. A query makes no row.
 //
 // What it stands on: `carried_out` for which queries are carried out, `view_lookup` for what a view sees, `legal_history` for
-// the definitions, and `cc_names` for plain data.
+// the definitions, `date_text` for dates, and `cc_names` for plain data.
 #![tactic(auto)]
 
 mod answers;
+mod bracketed;
 mod config_specs;
+mod covered_records;
 mod descriptions;
 mod file_texts;
 mod found;
+mod held_objects;
 mod histories;
+mod lines;
+mod listed_names;
+mod listings;
 mod queries;
+mod record_differences;
+mod record_texts;
+mod records;
+mod row_names;
 mod version_names;
 mod version_texts;
+mod version_trees;
 
 pub use answers::answer;
 pub use queries::is_query;

@@ -52,7 +52,7 @@ fn needs_no_directory(
 }
 
 /// The text of `cat V P@@VERSION`, that of a version of the element at the path, whichever the view selects, or its first
-/// refusal. Takes time linear in the path, in the name of the version and in the text, however many rows there are.
+/// refusal. Takes the time of `at`, of `version_named` and of `text_of`, and time linear in the text.
 pub fn cat_version(
     alloc: Global,
     rows: &FirstRows<'_>,

@@ -6,7 +6,8 @@
 // trees, the labels and the records of objects as they were in the first rows of a base, whatever came later. They take no
 // memory. `laws` has what holds whatever there is to pick from.
 //
-// What it stands on: the rules as `spec_text` reads them, and the indexes of versions and of labels.
+// What it stands on: the rules as `spec_text` reads them, `version_tree` and `label_book` for versions and labels, and `cc_names`
+// for names and paths.
 #![tactic(auto)]
 
 mod branches;

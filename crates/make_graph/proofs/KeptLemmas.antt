@@ -1,7 +1,8 @@
 -- The closures that are kept, one after the other.
-use Rattle.std.proofs.Common.{◌≡◌, ◌⊎◌, inl, inr, refl, sym, ap, ◌∙◌, ℕ, zero, suc, ◌<◌, ◌==◌, nat_lt, Bool, true, false, ◌||◌, ◌&&◌, Option, Some, None, List, [], ◌∷◌, ◌++◌, length, map, get_or}
+use Rattle.std.proofs.Common.{◌≡◌, ◌⊎◌, inl, inr, refl, sym, ap, ◌∙◌, ℕ, zero, suc, ◌<◌, ◌==◌, nat_lt, Bool, true, false, ◌||◌, ◌&&◌, Option, Some, None, List, [], ◌∷◌, ◌++◌, length, map, take, get_or, arith}
 use Rattle.std.proofs.lemmas.Bool.{ltb-true, lt-ltb}
 use Rattle.std.proofs.lemmas.Option.{slice_get_within, slice_get-get_or, slice_get_read, slice_get-map}
+use Rattle.std.proofs.lemmas.List.{length-take}
 use Rattle.std.specs.List.{list_any}
 use Rattle.std.specs.Option.{option_map}
 use Rattle.std.specs.Prelude.{slice_get}
@@ -100,3 +101,9 @@ put_none n maker old sets is = sym (ap (λ (o : Option (List Bool)). is_marked o
     or_false : (x : Bool) → (x || false) ≡ x
     or_false true = refl
     or_false false = refl
+
+-- a place in the first of a list
+pub kept_within : (most k : ℕ) (lists : List (List ℕ)) → k < length (take most lists) → (k < most) × (k < length lists)
+kept_within most k lists l =
+    let count = length-take most lists in
+    (grind (arith, count), grind (arith, count))

@@ -1,6 +1,7 @@
 mod WalkedLemmas
 mod FrameLemmas
 mod ServingLemmas
+mod SuffixLemmas
 pub mod NeedLemmas
 mod MakerLemmas
 mod MarkLemmas
@@ -9,3 +10,4 @@ mod Worked
 mod NumberSetLemmas
 mod ClosureSteps
 mod KeptLemmas
+mod DependantLemmas

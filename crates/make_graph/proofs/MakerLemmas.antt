@@ -1,6 +1,7 @@
 -- The units that make a unit's prerequisites, by their numbers.
-use Rattle.std.proofs.Common.{◌≡◌, refl, ap, ℕ, Bool, ◌||◌, ◌&&◌, Option, Some, None, List, [], ◌∷◌, ◌==◌}
-use Rattle.std.specs.List.{list_all, cons_option}
+use Rattle.std.proofs.Common.{◌≡◌, refl, ap, ℕ, Bool, ◌||◌, ◌&&◌, Option, Some, None, List, [], ◌∷◌, ◌==◌, map}
+use Rattle.std.proofs.Math.Path.{fun_ext}
+use Rattle.std.specs.List.{list_all, cons_option, filter_map}
 use Rattle.cc_names.specs.declared.units.Unit.{Unit}
 use Rattle.make_graph.specs.Waits.{unit_of, is_unit, makes_one, makers_of, is_in, is_done, are_done}
 
@@ -22,3 +23,8 @@ makers_done units done (path ∷ paths) = by (unit_of units path) (makers_done u
         list_all (λ (n : ℕ). is_done done (Some n)) (cons_option o (makers_of units paths)) ≡ (is_done done o && are_done units paths done)
     by None rest = rest
     by (Some m) rest = ap (λ t. is_done done (Some m) && t) rest
+
+-- the makers that are found by a function are those of the definition, where it finds the units that make paths
+pub found_makers : (units : List Unit) (found : List ℕ → Option ℕ) → ((path : List ℕ) → found path ≡ unit_of units path) →
+    map (λ (unit : Unit). filter_map found unit.prerequisites) units ≡ map (λ (unit : Unit). makers_of units unit.prerequisites) units
+found_makers units found is = ap (λ (f : List ℕ → Option ℕ). map (λ (unit : Unit). filter_map f unit.prerequisites) units) (fun_ext is)

@@ -6,3 +6,5 @@ pub mod Frames
 pub mod UnitNumbers
 pub mod Items
 pub mod NumberSets
+pub mod Dependants
+pub mod Suffixes

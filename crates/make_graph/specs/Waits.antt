@@ -1,6 +1,6 @@
 -- What the units of a build wait for.
-use Rattle.std.specs.Prelude.{ℕ, zero, suc, ◌==◌, Bool, true, false, List, [], ◌∷◌, ◌++◌, slice_get, Option, Some, None, unwrap_or}
-use Rattle.std.specs.List.{list_any, list_all, filter_map}
+use Rattle.std.specs.Prelude.{ℕ, zero, suc, ◌==◌, Bool, true, false, List, [], ◌∷◌, ◌++◌, length, slice_get, filter, Option, Some, None, unwrap_or}
+use Rattle.std.specs.List.{list_any, list_all, filter_map, range_with_len}
 use Rattle.cc_names.specs.declared.units.Unit.{Unit}
 use Rattle.make_text.specs.Numbers.{number_from}
 use Rattle.make_text.specs.UnitLaws.{made_by_unit}
@@ -30,6 +30,10 @@ prerequisites_of (Some unit) = unit.prerequisites
 -- the prerequisites of the unit of this number
 abbrev pub prerequisites_at : List Unit → ℕ → List (List ℕ)
 prerequisites_at units n = prerequisites_of (slice_get units n)
+
+-- the units one of whose prerequisites the unit of this number makes, by their numbers, from 0 on
+abbrev pub dependants_of : List Unit → ℕ → List ℕ
+dependants_of units m = filter (λ n. makes_one units (prerequisites_at units n) m) (range_with_len 0 (length units))
 
 -- The units below a number that make what is wanted, and what those are made of in turn: down the units, the last one first,
 -- since a unit stands behind its prerequisites.

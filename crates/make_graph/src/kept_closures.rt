@@ -1,4 +1,4 @@
-// The closures of all units of a build, each made of those of the units before it.
+// The closures of the first units of a build, each made of those of the units before it.
 
 ghost use Rattle.std.specs.Prelude.{◌≡◌, ◌||◌, ℕ, length, map, IfOk};
 ghost use Rattle.std.specs.List.{list_any};
@@ -12,8 +12,9 @@ use cc_names::memory::NoMemory;
 use cc_names::units::Unit;
 use std::alloc::Global;
 
-/// The most units whose closures are kept. They take 16 MiB at most, and for more they would take memory that grows with the
-/// square of the units, while suffix rules may serve as many units as a view has files.
+/// The most units whose closures are kept: of a build that has more, those of the first units. They take 16 MiB at most; those
+/// of all would take memory that grows with the square of the units, while suffix rules may serve as many units as a view has
+/// files.
 const KEPT_LIMIT: usize = 16_384;
 
 /// Puts a unit that has a set, and what that has, into another set.
@@ -45,8 +46,8 @@ fn next_set(alloc: Global, makers: &[u32], sets: &[NumberSet]) -> Result<NumberS
     Ok(set)
 }
 
-/// The closures of these units, or none where there are too many. Takes time linear in the makers of all units times the words
-/// of a set.
+/// The closures of these units, or of the first of them where there are too many. Takes time linear in the makers of the units
+/// whose closures are kept times the words of a set.
 pub(crate) fn kept_closures(
     alloc: Global,
     _units: &[Unit],
@@ -57,10 +58,7 @@ pub(crate) fn kept_closures(
     ensures { IfOk result (λ sets. AreClosures _units.now sets.items) }
 {
     let mut sets = Vec::new(alloc);
-    if makers.len() > KEPT_LIMIT {
-        return Ok(sets);
-    }
-    for made_by in makers {
+    for made_by in &makers[..makers.len().min(KEPT_LIMIT)] {
         let set = next_set(alloc, made_by.as_slice(), sets.as_slice())?;
         sets.push(set)?;
     }

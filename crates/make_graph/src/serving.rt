@@ -1,13 +1,15 @@
 // All that may serve a build: rules, and what suffix rules make.
 
-ghost use Rattle.std.specs.Prelude.{◌≡◌, [], ◌∷◌, IfOk, OnOk, not, map, filter, fold, option_copied};
+ghost use Rattle.std.specs.Prelude.{◌≡◌, [], ◌∷◌, ◌++◌, IfOk, OnOk, not, map, filter, fold, option_copied};
+ghost use Rattle.std.specs.List.{filter_map};
 ghost use Rattle.make_text.specs.WordPaths.{with_path};
-ghost use Rattle.make_text.specs.Serving.{stem_of, source_at, inference_at, inference, may_be_served, with_first, by_suffix, by_itself, helped, inference_for, serving_of, bare_rule, serving_alone, without_rule, servings};
+ghost use Rattle.make_text.specs.Serving.{stem_of, source_at, inference_at, first_inference, inference, may_be_served, with_first, by_suffix, by_itself, helped, inference_for, serving_of, bare_rule, serving_alone, without_rule, servings};
 ghost use Rattle.make_text.specs.Units.{is_target};
 ghost use Rattle.make_graph.specs.Numbered.{KnowsRules};
 
 use crate::goals::Exists;
 use crate::numbers::{Numbers, number};
+use crate::suffix_tables::SuffixTable;
 use cc_names::copies::Copied;
 use cc_names::lists::List;
 use cc_names::memory::{NoMemory, Or};
@@ -202,27 +204,49 @@ fn may_be_served<E: Exists>(make: &Makefile, files: &E, path: &Path) -> bool
     !path.is_root() && !(files.exists(path) || make.is_phony(path))
 }
 
-/// How the first suffix rule that serves a path without a script does.
-fn infer<E: Exists>(
+/// How the first suffix rule that serves a path does.
+fn infer_first<E: Exists>(
     alloc: Global,
     make: &Makefile,
     rules: &Numbers,
+    suffixes: &SuffixTable<'_>,
     files: &E,
     path: &Path,
 ) -> Result<Option<Inference>, NoMemory>
     requires { KnowsRules rules.now make.now }
+    ensures { IfOk result
+        (λ found.
+        found
+        ≡ first_inference make.now (E.is_file files.now) path.now suffixes.now.rules.now) }
+{
+    let mut place = suffixes.first(alloc, path.as_bytes())?;
+    while place < suffixes.len() {
+        let found = infer_by(alloc, make, rules, files, suffixes.rule(place), path)?;
+        if found.is_some() {
+            return Ok(found);
+        }
+        place = suffixes.next(place);
+    }
+    Ok(None)
+}
+
+/// How the first suffix rule that serves a path without a script does. Takes time linear in the rules for its suffix.
+fn infer<E: Exists>(
+    alloc: Global,
+    make: &Makefile,
+    rules: &Numbers,
+    suffixes: &SuffixTable<'_>,
+    files: &E,
+    path: &Path,
+) -> Result<Option<Inference>, NoMemory>
+    requires rules { KnowsRules rules.now make.now }
+    requires suffixes { suffixes.now.rules.now ≡ make.now.suffix_rules }
     ensures { IfOk result (λ found. found ≡ inference make.now (E.is_file files.now) path.now) }
 {
     if !may_be_served(make, files, path) {
         return Ok(None);
     }
-    for rule in make.suffix_rules() {
-        let found = infer_by(alloc, make, rules, files, rule, path)?;
-        if found.is_some() {
-            return Ok(found);
-        }
-    }
-    Ok(None)
+    infer_first(alloc, make, rules, suffixes, files, path)
 }
 
 /// The paths with this one at the front.
@@ -254,10 +278,12 @@ fn infer_for<E: Exists>(
     alloc: Global,
     make: &Makefile,
     rules: &Numbers,
+    suffixes: &SuffixTable<'_>,
     files: &E,
     rule: &MakeRule,
 ) -> Result<Option<Inference>, NoMemory>
-    requires { KnowsRules rules.now make.now }
+    requires rules { KnowsRules rules.now make.now }
+    requires suffixes { suffixes.now.rules.now ≡ make.now.suffix_rules }
     ensures { IfOk result
         (λ found.
         found ≡ inference_for make.now (E.is_file files.now) rule.now.targets rule.now.script) }
@@ -266,7 +292,7 @@ fn infer_for<E: Exists>(
         return Ok(None);
     }
     match rule.targets().first() {
-        Some(target) => infer(alloc, make, rules, files, target),
+        Some(target) => infer(alloc, make, rules, suffixes, files, target),
         None => Ok(None),
     }
 }
@@ -276,15 +302,17 @@ fn own_servings<E: Exists>(
     alloc: Global,
     make: &Makefile,
     rules: &Numbers,
+    suffixes: &SuffixTable<'_>,
     files: &E,
 ) -> Result<Vec<Serving>, NoMemory>
-    requires { KnowsRules rules.now make.now }
+    requires rules { KnowsRules rules.now make.now }
+    requires suffixes { suffixes.now.rules.now ≡ make.now.suffix_rules }
     ensures { IfOk result
         (λ units. units.items ≡ map (serving_of make.now (E.is_file files.now)) make.now.rules) }
 {
     let mut units = Vec::new(alloc);
     for rule in make.rules() {
-        let found = infer_for(alloc, make, rules, files, rule)?;
+        let found = infer_for(alloc, make, rules, suffixes, files, rule)?;
         units.push(helped(alloc, rule, found)?)?;
     }
     Ok(units)
@@ -362,9 +390,34 @@ fn one_path(alloc: Global, path: &Path) -> Result<List<Path>, NoMemory>
     Ok(List::of(paths))
 }
 
+/// Puts what suffix rules make of paths without a rule behind what serves.
+fn put_alone<E: Exists>(
+    alloc: Global,
+    make: &Makefile,
+    rules: &Numbers,
+    suffixes: &SuffixTable<'_>,
+    files: &E,
+    units: &mut Vec<Serving>,
+    paths: &[Path],
+) -> Result<(), NoMemory>
+    requires rules { KnowsRules rules.now make.now }
+    requires suffixes { suffixes.now.rules.now ≡ make.now.suffix_rules }
+    ensures { OnOk result
+        (units.new.items
+        ≡ units.old.items
+        ++ filter_map (serving_alone make.now (E.is_file files.now)) paths.now) }
+{
+    for path in paths {
+        if let Some(found) = infer(alloc, make, rules, suffixes, files, path)? {
+            units.push(alone(alloc, path, found)?)?;
+        }
+    }
+    Ok(())
+}
+
 /// All that may serve a build of these goals: the rules, and the paths without a rule that a suffix rule serves. Takes time
 /// linear in the rules with the lines that are joined to them, and in the goals and the prerequisites, each once, for each
-/// suffix rule.
+/// suffix rule of its suffix.
 pub(crate) fn servings<E: Exists>(
     alloc: Global,
     hashing: RandomState,
@@ -377,12 +430,17 @@ pub(crate) fn servings<E: Exists>(
     ensures { IfOk result
         (λ units. units.items ≡ servings make.now (E.is_file files.now) goals.now) }
 {
-    let mut units = own_servings(alloc, make, rules, files)?;
+    let suffixes = SuffixTable::of(alloc, hashing, make.suffix_rules())?;
+    let mut units = own_servings(alloc, make, rules, &suffixes, files)?;
     let paths = without_rule(alloc, hashing, make, rules, goals)?;
-    for path in &paths {
-        if let Some(found) = infer(alloc, make, rules, files, path)? {
-            units.push(alone(alloc, path, found)?)?;
-        }
-    }
+    put_alone(
+        alloc,
+        make,
+        rules,
+        &suffixes,
+        files,
+        &mut units,
+        paths.as_slice(),
+    )?;
     Ok(units)
 }

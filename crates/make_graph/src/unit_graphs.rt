@@ -6,9 +6,10 @@ ghost use Rattle.cc_names.specs.Answers.{Gives};
 ghost use Rattle.make_text.specs.Graphs.{graph_of};
 ghost use Rattle.make_text.specs.Numbers.{number_from};
 ghost use Rattle.make_text.specs.UnitLaws.{made_by_unit};
-ghost use Rattle.make_graph.specs.Waits.{closure_of, is_done, is_in, is_marked, is_ready, makers_of, prerequisites_at};
+ghost use Rattle.make_graph.specs.Waits.{closure_of, dependants_of, is_done, is_in, is_marked, is_ready, makers_of, prerequisites_at};
 
 use crate::closures::{Closure, of_unit};
+use crate::dependants::{Dependants, all_dependants};
 use crate::goals::Exists;
 use crate::kept_closures::kept_closures;
 use crate::makers::all_makers;
@@ -31,7 +32,8 @@ pub struct Graph {
     units: Vec<Unit>,
     numbers: Numbers,
     makers: Vec<List<u32>>,
-    /// The closures of the units, or none where there are too many.
+    dependants: Vec<Dependants>,
+    /// The closures of the units, or of the first of them where there are too many.
     closures: Vec<NumberSet>,
 }
 
@@ -44,7 +46,7 @@ impl Model for Graph {
 
     ghost view = { λ graph. graph.units.items };
 
-    ghost invariant = { λ graph. KnowsAll graph.numbers graph.units.items graph.makers.items graph.closures.items };
+    ghost invariant = { λ graph. KnowsAll graph.numbers graph.units.items graph.makers.items graph.dependants.items graph.closures.items };
 }
 
 /// The most units of a graph.
@@ -59,11 +61,13 @@ fn with_numbers(alloc: Global, hashing: RandomState, units: Vec<Unit>) -> Result
     }
     let numbers = number_all(alloc, hashing, units.as_slice())?;
     let makers = all_makers(alloc, &numbers, units.as_slice())?;
+    let dependants = all_dependants(alloc, units.as_slice(), makers.as_slice())?;
     let closures = kept_closures(alloc, units.as_slice(), makers.as_slice())?;
     Ok(Graph {
         units,
         numbers,
         makers,
+        dependants,
         closures,
     })
 }
@@ -93,8 +97,9 @@ impl Graph {
     /// goals is met again (G2); then the first target of a unit with a script that is a file (G3). Fails also where memory
     /// runs out.
     ///
-    /// Takes time linear in the rules, the goals and the bytes of the units, for each suffix rule; asks `files` about each
-    /// goal, each target of a unit with a script, and each source that a suffix rule may have.
+    /// Takes time linear in the rules, the goals and the bytes of the units, and in the suffix rules for the suffix of each path
+    /// without a script; asks `files` about each goal, each target of a unit with a script, and each source that a suffix rule
+    /// may have.
     pub fn of<E: Exists>(
         alloc: Global,
         hashing: RandomState,
@@ -140,11 +145,19 @@ impl Graph {
         self.makers[unit as usize].as_slice()
     }
 
+    /// The units one of whose prerequisites a unit makes, by their numbers, in order and each once, in constant time.
+    pub fn dependants(&self, unit: u32) -> &[u32]
+        requires { unit < length self.now }
+        ensures { result.now ≡ dependants_of self.now unit }
+    {
+        self.dependants[unit as usize].as_slice()
+    }
+
     /// The units that a unit stands on: those that make its prerequisites, and those that these stand on. Fails only where
     /// memory runs out.
     ///
-    /// Takes memory and time linear in the units before it, 64 of them at once. Where there are more than 16,384 units it takes
-    /// time linear in the prerequisites of the units that it stands on too.
+    /// Takes memory and time linear in the units before it, 64 of them at once. Of a unit behind the first 16,384 it takes time
+    /// linear in the prerequisites of the units that it stands on too.
     pub fn closure(&self, alloc: Global, unit: u32) -> Result<Closure, NoMemory>
         requires { unit < length self.now }
         ensures { IfOk result
@@ -160,6 +173,7 @@ impl Graph {
     /// the prerequisites that units make.
     pub fn ready(&self, unit: u32, done: &[bool]) -> bool
         requires unit { unit < length self.now }
+        requires done { length done.now ≡ length self.now }
         ensures { result ≡ is_ready self.now unit done.now }
     {
         are_done(self.makers(unit), done)

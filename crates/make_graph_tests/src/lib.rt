@@ -8,4 +8,8 @@
 #![tactic(auto)]
 
 #[cfg(test)]
-mod tests;
+mod builds;
+#[cfg(test)]
+mod makefiles;
+#[cfg(test)]
+mod standing;

@@ -15,12 +15,13 @@ use Rattle.cc_names.specs.declared.refusals.MakeCause.TheVariants.{LineTooLong, 
 use Rattle.make_text.specs.Expanding.{refer, goes_on, left_of, still, Admits}
 use Rattle.make_text.specs.Macros.{Reference, Expansion, plain, followed, is_too_long, no_automatic}
 use Rattle.make_text.specs.MacroChecks.{AtEndUnless, Finds, definition_at, macro_fault_of}
-use Rattle.make_text.specs.Runs.{Runs, HasNamesApart, macro_at, state_at, len_in, result_in, EndsIn}
+use Rattle.make_text.specs.Runs.{Runs, HasNamesApart, macro_at, len_in, result_in, EndsIn}
+use Rattle.make_text.specs.States.{state_at}
 use Rattle.make_text.specs.Statements.{Definition, macros_of, expansion_fault, fault_at}
 use Rattle.make_text.specs.Steps.{opened_of, IsRunning, IsAtEnd, Referred}
 use Rattle.make_text.specs.declared.expansions.Expanding.{Expanding}
-use Rattle.make_text.specs.declared.expansions.State.{State}
-use Rattle.make_text.specs.declared.expansions.State.TheVariants.{Untouched, Begun, Expanded}
+use Rattle.make_text.specs.declared.states.State.{State}
+use Rattle.make_text.specs.declared.states.State.TheVariants.{Untouched, Begun, Expanded}
 use Rattle.make_text.specs.declared.expansions.Step.{Step}
 use Rattle.make_text.specs.declared.expansions.Step.TheVariants.{Goes, Ends, Loops}
 use Rattle.make_text.proofs.ExpansionLemmas.{followed_nothing}
@@ -43,7 +44,7 @@ module _ (macros : List Macro) (automatic : ℕ → List ℕ) where
   pub begins : (e : Expanding) (name : List ℕ) → IsAtEnd macros automatic e → IsRunning macros automatic (total_of e.written.items name) (Reference name ∷ []) e
   begins e name h =
       let r = runs_same macros automatic (plain e.written.items) [] h.rest refl (ap (opened_of macros) h.opened) refl h.running.runs in
-      let next : Runs macros automatic (total_of e.written.items name) (Reference name ∷ []) [] e.written.items [] e.states.items = record {
+      let next : Runs macros automatic (total_of e.written.items name) (Reference name ∷ []) [] e.written.items [] e.states = record {
         memo = r.memo;
         size = r.size;
         whole = refl;
@@ -63,7 +64,7 @@ module _ (macros : List Macro) (automatic : ℕ → List ℕ) where
       }
 
   -- nothing was done
-  pub at_start : (count : ℕ) (e : Expanding) → count ≡ length macros → e.rest.now ≡ [] → e.opened.items ≡ [] → e.states.items ≡ replicate count Untouched → e.written.items ≡ [] → IsAtEnd macros automatic e
+  pub at_start : (count : ℕ) (e : Expanding) → count ≡ length macros → e.rest.now ≡ [] → e.opened.items ≡ [] → e.states ≡ replicate count Untouched → e.written.items ≡ [] → IsAtEnd macros automatic e
   at_start count e all rest opened states written = record {
     rest = rest;
     opened = opened;
@@ -71,11 +72,11 @@ module _ (macros : List Macro) (automatic : ℕ → List ℕ) where
   }
 
 -- a macro whose result is known gives so many bytes, and no loop
-pub known_result : (macros : List Macro) (automatic : ℕ → List ℕ) (e : Expanding) (i len : ℕ) → IsAtEnd macros automatic e → i < length macros → Some len ≡ len_in (state_at e.states.items i) →
+pub known_result : (macros : List Macro) (automatic : ℕ → List ℕ) (e : Expanding) (i len : ℕ) → IsAtEnd macros automatic e → i < length macros → Some len ≡ len_in (state_at e.states i) →
     (length (refer macros automatic (length macros) [] (macro_at macros i).name).bytes ≡ len) × ((refer macros automatic (length macros) [] (macro_at macros i).name).loops ≡ false)
-known_result macros automatic e i len h within is = by (state_at e.states.items i) refl is
+known_result macros automatic e i len h within is = by (state_at e.states i) refl is
   where
-    by : (state : State) → state_at e.states.items i ≡ state → Some len ≡ len_in state →
+    by : (state : State) → state_at e.states i ≡ state → Some len ≡ len_in state →
         (length (refer macros automatic (length macros) [] (macro_at macros i).name).bytes ≡ len) × ((refer macros automatic (length macros) [] (macro_at macros i).name).loops ≡ false)
     by Untouched at is = absurd (cc)
     by Begun at is = absurd (cc)

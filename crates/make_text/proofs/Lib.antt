@@ -2,6 +2,7 @@ pub mod RuleLemmas
 pub mod LineLemmas
 pub mod PieceLemmas
 pub mod ExpansionLemmas
+pub mod StateLemmas
 pub mod RunLemmas
 pub mod MacroLemmas
 pub mod StepLemmas

@@ -9,9 +9,10 @@ use Rattle.std.proofs.lemmas.Slice.Eq.{bytes_eq-Decides}
 use Rattle.cc_names.specs.declared.commands.Macro.{Macro}
 use Rattle.make_text.specs.Macros.{Piece, Byte, Reference, Automatic, Bad, Expansion, plain, followed, pieces_of, expansion_of, value_in, is_among}
 use Rattle.make_text.specs.Expanding.{Opened, names_of, refer, goes_on, left_of, still, Admits}
-use Rattle.make_text.specs.Runs.{macro_at, HasNamesApart, result_in, EndsIn, is_begun, untouched, state_at, Runs}
-use Rattle.make_text.specs.declared.expansions.State.{State}
-use Rattle.make_text.specs.declared.expansions.State.TheVariants.{Untouched, Begun, Expanded}
+use Rattle.make_text.specs.Runs.{macro_at, HasNamesApart, result_in, EndsIn, is_begun, untouched, Runs}
+use Rattle.make_text.specs.States.{state_at}
+use Rattle.make_text.specs.declared.states.State.{State}
+use Rattle.make_text.specs.declared.states.State.TheVariants.{Untouched, Begun, Expanded}
 use Rattle.make_text.proofs.ExpansionLemmas.{neither, other_bytes, with_result, one_of, not_with, none_or_some, none_or_defined, known_expansion, undefined_expansion, loop_expansion, bytes_expansion, all_cut, all_step, all_begun, all_finished, still_cut, still_begun, followed_assoc}
 
 -- ---- states

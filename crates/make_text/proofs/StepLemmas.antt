@@ -7,13 +7,14 @@ use Rattle.std.proofs.lemmas.Bool.{cases_eq, lt-ltb}
 use Rattle.cc_names.specs.declared.commands.Macro.{Macro}
 use Rattle.make_text.specs.Macros.{Piece, Reference, Expansion, expansion_of, is_too_long, plain, pieces_of, value_in}
 use Rattle.make_text.specs.Expanding.{Opened}
-use Rattle.make_text.specs.Runs.{macro_at, HasNamesApart, untouched, state_at, Runs, work}
+use Rattle.make_text.specs.Runs.{macro_at, HasNamesApart, untouched, Runs, work}
+use Rattle.make_text.specs.States.{state_at}
 use Rattle.make_text.specs.Scanning.{pieces_in}
 use Rattle.make_text.specs.Steps.{opened_in, opened_of, IsRunning, work_of, EndsSafely, Ended, RefersSafely, Referred, Undefined, Known, Begins, Meets, Took, Went, FallsBelow}
 use Rattle.make_text.specs.declared.expansions.Expanding.{Expanding}
 use Rattle.make_text.specs.declared.expansions.Opened as lent
-use Rattle.make_text.specs.declared.expansions.State.{State}
-use Rattle.make_text.specs.declared.expansions.State.TheVariants.{Untouched, Begun, Expanded}
+use Rattle.make_text.specs.declared.states.State.{State}
+use Rattle.make_text.specs.declared.states.State.TheVariants.{Untouched, Begun, Expanded}
 use Rattle.make_text.specs.declared.expansions.Step.{Step}
 use Rattle.make_text.specs.declared.expansions.Step.TheVariants.{Goes, Ends, Loops}
 use Rattle.make_text.specs.declared.pieces.Part as parts
@@ -84,7 +85,7 @@ module _ (macros : List Macro) (automatic : ℕ → List ℕ) where
   pub ends_safely : (total : Expansion) (e : Expanding) → IsRunning macros automatic total [] e → EndsSafely e
   ends_safely total e h front o items =
       let within : o.index < length macros = last_within (length macros) front o (subst (Within (length macros)) items h.within) in
-      let states : length e.states.items ≡ length macros = h.runs.known in
+      let states : length e.states ≡ length macros = h.runs.known in
       let r = runs_same total [] refl refl (ap (opened_of macros) items ∙ last_opened macros front o) refl h.runs in
       (omega arith, r.gives.1)
 
@@ -98,11 +99,11 @@ module _ (macros : List Macro) (automatic : ℕ → List ℕ) where
       let r = runs_same total [] end refl (ap (opened_of macros) items ∙ last_opened macros new.opened.items o) refl h.runs in
       record {
         runs = runs_same total [] (sym rest) (sym written) refl (sym states)
-            (runs_end macros automatic total old.written.items o.outer.now o.index o.start (opened_of macros new.opened.items) old.states.items distinct r (last_within (length macros) new.opened.items o all));
+            (runs_end macros automatic total old.written.items o.outer.now o.index o.start (opened_of macros new.opened.items) old.states distinct r (last_within (length macros) new.opened.items o all));
         within = front_within (length macros) new.opened.items o all;
       }
   ended_went total old new Ends distinct h end (items, none, rest, states, written) =
-      let done = runs_done macros automatic total old.written.items old.states.items (runs_same total [] end refl (ap (opened_of macros) items) refl h.runs) ∙ ap plain (sym written) in
+      let done = runs_done macros automatic total old.written.items old.states (runs_same total [] end refl (ap (opened_of macros) items) refl h.runs) ∙ ap plain (sym written) in
       let here : IsRunning macros automatic total [] new = record {
         runs = runs_same total [] (sym rest) (sym written) (ap (opened_of macros) (items ∙ sym none)) (sym states) h.runs;
         within = subst (Within (length macros)) (items ∙ sym none) h.within;
@@ -113,17 +114,17 @@ module _ (macros : List Macro) (automatic : ℕ → List ℕ) where
   -- a reference is a step
   pub referred_went : (total : Expansion) (name : List ℕ) (old new : Expanding) (step : Step) → HasNamesApart macros → IsRunning macros automatic total (Reference name ∷ []) old → Referred macros name old new step → Went macros automatic total step new
   referred_went total name old new step distinct h (Undefined none rest opened states written) = record {
-    runs = runs_same total [] (sym rest) (sym written) (ap (opened_of macros) (sym opened)) (sym states) (runs_undefined macros automatic total old.rest.now old.written.items name (opened_of macros old.opened.items) old.states.items h.runs none);
+    runs = runs_same total [] (sym rest) (sym written) (ap (opened_of macros) (sym opened)) (sym states) (runs_undefined macros automatic total old.rest.now old.written.items name (opened_of macros old.opened.items) old.states h.runs none);
     within = subst (Within (length macros)) (sym opened) h.within;
   }
   referred_went total name old new step distinct h (Known i start len found state rest opened states written) =
-      let named = subst (λ n. Runs macros automatic total (Reference n ∷ []) old.rest.now old.written.items (opened_of macros old.opened.items) old.states.items) (sym found.1) h.runs in
+      let named = subst (λ n. Runs macros automatic total (Reference n ∷ []) old.rest.now old.written.items (opened_of macros old.opened.items) old.states) (sym found.1) h.runs in
       record {
-        runs = runs_same total [] (sym rest) (sym written) (ap (opened_of macros) (sym opened)) (sym states) (runs_known macros automatic total old.rest.now old.written.items i start len (opened_of macros old.opened.items) old.states.items named found.0 state);
+        runs = runs_same total [] (sym rest) (sym written) (ap (opened_of macros) (sym opened)) (sym states) (runs_known macros automatic total old.rest.now old.written.items i start len (opened_of macros old.opened.items) old.states named found.0 state);
         within = subst (Within (length macros)) (sym opened) h.within;
       }
   referred_went total name old new step distinct h (Begins i o found state index outer start rest opened states written) =
-      let named = subst (λ n. Runs macros automatic total (Reference n ∷ []) old.rest.now old.written.items (opened_of macros old.opened.items) old.states.items) (sym found.1) h.runs in
+      let named = subst (λ n. Runs macros automatic total (Reference n ∷ []) old.rest.now old.written.items (opened_of macros old.opened.items) old.states) (sym found.1) h.runs in
       let has : value_in macros (macro_at macros i).name ≡ Some (macro_at macros i).value = ap (value_in macros) found.1 ∙ found.2 in
       let top : opened_in macros o ≡ record { name = (macro_at macros i).name; outer = old.rest.now; start = length old.written.items } =
       ap (λ n. record { name = (macro_at macros n).name; outer = o.outer.now; start = o.start }) index
@@ -132,13 +133,13 @@ module _ (macros : List Macro) (automatic : ℕ → List ℕ) where
       let all : opened_of macros new.opened.items ≡ record { name = (macro_at macros i).name; outer = old.rest.now; start = length old.written.items } ∷ opened_of macros old.opened.items =
       ap (opened_of macros) opened ∙ last_opened macros old.opened.items o ∙ ap (λ v. v ∷ opened_of macros old.opened.items) top in
       record {
-        runs = runs_same total [] (sym rest) (sym written) (sym all) (sym states) (runs_begin macros automatic total old.rest.now old.written.items i (opened_of macros old.opened.items) old.states.items distinct named found.0 has state);
+        runs = runs_same total [] (sym rest) (sym written) (sym all) (sym states) (runs_begin macros automatic total old.rest.now old.written.items i (opened_of macros old.opened.items) old.states distinct named found.0 has state);
         within = subst (Within (length macros)) (sym opened) (within_push (length macros) old.opened.items o h.within (subst (λ n. n < length macros) (sym index) found.0));
       }
   referred_went total name old new step distinct h (Meets i found state written) =
-      let named = subst (λ n. Runs macros automatic total (Reference n ∷ []) old.rest.now old.written.items (opened_of macros old.opened.items) old.states.items) (sym found.1) h.runs in
+      let named = subst (λ n. Runs macros automatic total (Reference n ∷ []) old.rest.now old.written.items (opened_of macros old.opened.items) old.states) (sym found.1) h.runs in
       let has : value_in macros (macro_at macros i).name ≡ Some (macro_at macros i).value = ap (value_in macros) found.1 ∙ found.2 in
-      runs_loop macros automatic total old.rest.now old.written.items i (opened_of macros old.opened.items) old.states.items named found.0 has state
+      runs_loop macros automatic total old.rest.now old.written.items i (opened_of macros old.opened.items) old.states named found.0 has state
       ∙ ap (λ v. record { bytes = v; loops = true }) (sym written)
 
   -- so is each part
@@ -146,19 +147,19 @@ module _ (macros : List Macro) (automatic : ℕ → List ℕ) where
   part_went total (variants.Reference name) old new step distinct h took = referred_went total name.now old new step distinct h took
   part_went total (variants.Bytes bytes) old new step distinct h (goes, same, written) =
       let next : IsRunning macros automatic total [] (record old { written = new.written }) = record {
-        runs = runs_same total [] refl (sym written) refl refl (runs_bytes macros automatic total old.rest.now old.written.items bytes.now (opened_of macros old.opened.items) old.states.items h.runs);
+        runs = runs_same total [] refl (sym written) refl refl (runs_bytes macros automatic total old.rest.now old.written.items bytes.now (opened_of macros old.opened.items) old.states h.runs);
         within = h.within;
       } in
       subst (λ v. Went macros automatic total v new) (sym goes) (subst (IsRunning macros automatic total []) (sym same) next)
   part_went total (variants.Automatic b) old new step distinct h (goes, same, written) =
       let next : IsRunning macros automatic total [] (record old { written = new.written }) = record {
-        runs = runs_same total [] refl (sym written) refl refl (runs_automatic macros automatic total old.rest.now old.written.items b (opened_of macros old.opened.items) old.states.items h.runs);
+        runs = runs_same total [] refl (sym written) refl refl (runs_automatic macros automatic total old.rest.now old.written.items b (opened_of macros old.opened.items) old.states h.runs);
         within = h.within;
       } in
       subst (λ v. Went macros automatic total v new) (sym goes) (subst (IsRunning macros automatic total []) (sym same) next)
   part_went total variants.Bad old new step distinct h (goes, same) =
       let next : IsRunning macros automatic total [] old = record {
-        runs = runs_bad macros automatic total old.rest.now old.written.items (opened_of macros old.opened.items) old.states.items h.runs;
+        runs = runs_bad macros automatic total old.rest.now old.written.items (opened_of macros old.opened.items) old.states h.runs;
         within = h.within;
       } in
       subst (λ v. Went macros automatic total v new) (sym goes) (subst (IsRunning macros automatic total []) (sym same) next)
@@ -167,7 +168,7 @@ module _ (macros : List Macro) (automatic : ℕ → List ℕ) where
   is_cut : (total : Expansion) (part : parts.Part) (old cut : Expanding) → IsRunning macros automatic total [] old → pieces_of old.rest.now ≡ pieces_in part ++ pieces_of cut.rest.now → cut ≡ record old { rest = cut.rest } → IsRunning macros automatic total (pieces_in part) cut
   is_cut total part old cut h pieces same =
       let next : IsRunning macros automatic total (pieces_in part) (record old { rest = cut.rest }) = record {
-        runs = runs_cut macros automatic total old.rest.now cut.rest.now old.written.items (pieces_in part) (opened_of macros old.opened.items) old.states.items h.runs pieces;
+        runs = runs_cut macros automatic total old.rest.now cut.rest.now old.written.items (pieces_in part) (opened_of macros old.opened.items) old.states h.runs pieces;
         within = h.within;
       } in
       subst (IsRunning macros automatic total (pieces_in part)) (sym same) next
@@ -181,46 +182,46 @@ module _ (macros : List Macro) (automatic : ℕ → List ℕ) where
   ended_falls total old new Goes h end (o, items, rest, states, written) =
       let all = subst (Within (length macros)) items h.within in
       let index : o.index < length macros = last_within (length macros) new.opened.items o all in
-      let known : length old.states.items ≡ length macros = h.runs.known in
-      let fewer : sum_by untouched (set old.states.items o.index (Expanded o.start (length old.written.items - o.start))) + untouched (state_at old.states.items o.index) ≡ sum_by untouched old.states.items + 0 =
-      sum_by-set untouched old.states.items o.index (Expanded o.start (length old.written.items - o.start)) Untouched (omega arith) in
-      let touched : sum_by untouched new.states.items ≡ sum_by untouched (set old.states.items o.index (Expanded o.start (length old.written.items - o.start))) = ap (sum_by untouched) states in
+      let known : length old.states ≡ length macros = h.runs.known in
+      let fewer : sum_by untouched (set old.states o.index (Expanded o.start (length old.written.items - o.start))) + untouched (state_at old.states o.index) ≡ sum_by untouched old.states + 0 =
+      sum_by-set untouched old.states o.index (Expanded o.start (length old.written.items - o.start)) Untouched (omega arith) in
+      let touched : sum_by untouched new.states ≡ sum_by untouched (set old.states o.index (Expanded o.start (length old.written.items - o.start))) = ap (sum_by untouched) states in
       let inner : sum_by outside (opened_of macros old.opened.items) ≡ (length o.outer.now + 1) + sum_by outside (opened_of macros new.opened.items) =
       ap (sum_by outside) (ap (opened_of macros) items ∙ last_opened macros new.opened.items o) ∙ sum_by-cons outside (opened_in macros o) (opened_of macros new.opened.items) in
       let now : length new.rest.now ≡ length o.outer.now = ap length rest in
       let none : length old.rest.now ≡ 0 = ap length end in
-      let less : sum_by untouched new.states.items * steps_in macros ≤ sum_by untouched old.states.items * steps_in macros =
-      times_le (sum_by untouched new.states.items) (sum_by untouched old.states.items) (steps_in macros) (omega arith) in
+      let less : sum_by untouched new.states * steps_in macros ≤ sum_by untouched old.states * steps_in macros =
+      times_le (sum_by untouched new.states) (sum_by untouched old.states) (steps_in macros) (omega arith) in
       omega arith
   ended_falls total old new Ends h end e = tt
   ended_falls total old new Loops h end e = tt
 
-  same_work : (old new : Expanding) → new.rest.now ≡ old.rest.now → new.opened.items ≡ old.opened.items → new.states.items ≡ old.states.items → work_of macros new ≡ work_of macros old
+  same_work : (old new : Expanding) → new.rest.now ≡ old.rest.now → new.opened.items ≡ old.opened.items → new.states ≡ old.states → work_of macros new ≡ work_of macros old
   same_work old new rest opened states =
-      ap (λ v. work macros v (opened_of macros new.opened.items) new.states.items) rest
-      ∙ ap (λ v. work macros old.rest.now (opened_of macros v) new.states.items) opened
+      ap (λ v. work macros v (opened_of macros new.opened.items) new.states) rest
+      ∙ ap (λ v. work macros old.rest.now (opened_of macros v) new.states) opened
       ∙ ap (λ v. work macros old.rest.now (opened_of macros old.opened.items) v) states
 
-  referred_falls : (name : List ℕ) (old new : Expanding) (step : Step) (before : ℕ) → length old.states.items ≡ length macros → Referred macros name old new step → work_of macros old < before → FallsBelow before step (work_of macros new)
+  referred_falls : (name : List ℕ) (old new : Expanding) (step : Step) (before : ℕ) → length old.states ≡ length macros → Referred macros name old new step → work_of macros old < before → FallsBelow before step (work_of macros new)
   referred_falls name old new step before known (Undefined none rest opened states written) l = rw (same_work old new rest opened states) l
   referred_falls name old new step before known (Known i start len found state rest opened states written) l = rw (same_work old new rest opened states) l
   referred_falls name old new step before known (Begins i o found state index outer start rest opened states written) l =
-      let within : i < length old.states.items = omega (arith, found.0) in
-      let fewer : sum_by untouched (set old.states.items i Begun) + untouched (state_at old.states.items i) ≡ sum_by untouched old.states.items + 0 =
-      sum_by-set untouched old.states.items i Begun Untouched within in
-      let one : untouched (state_at old.states.items i) ≡ 1 = ap untouched state in
-      let touched : sum_by untouched new.states.items ≡ sum_by untouched (set old.states.items i Begun) = ap (sum_by untouched) states in
+      let within : i < length old.states = omega (arith, found.0) in
+      let fewer : sum_by untouched (set old.states i Begun) + untouched (state_at old.states i) ≡ sum_by untouched old.states + 0 =
+      sum_by-set untouched old.states i Begun Untouched within in
+      let one : untouched (state_at old.states i) ≡ 1 = ap untouched state in
+      let touched : sum_by untouched new.states ≡ sum_by untouched (set old.states i Begun) = ap (sum_by untouched) states in
       let inner : sum_by outside (opened_of macros new.opened.items) ≡ (length o.outer.now + 1) + sum_by outside (opened_of macros old.opened.items) =
       ap (sum_by outside) (ap (opened_of macros) opened ∙ last_opened macros old.opened.items o) ∙ sum_by-cons outside (opened_in macros o) (opened_of macros old.opened.items) in
       let now : length new.rest.now ≡ length (macro_at macros i).value = ap length rest in
       let out : length o.outer.now ≡ length old.rest.now = ap length outer in
       let value : length (macro_at macros i).value ≤ sum_by length_of macros = value_le macros i found.0 in
-      let less : (sum_by untouched new.states.items + 1) * steps_in macros ≤ sum_by untouched old.states.items * steps_in macros =
-      times_le (sum_by untouched new.states.items + 1) (sum_by untouched old.states.items) (steps_in macros) (omega arith) in
+      let less : (sum_by untouched new.states + 1) * steps_in macros ≤ sum_by untouched old.states * steps_in macros =
+      times_le (sum_by untouched new.states + 1) (sum_by untouched old.states) (steps_in macros) (omega arith) in
       omega arith
   referred_falls name old new step before known (Meets i found state written) l = tt
 
-  pub took_falls : (part : parts.Part) (old new : Expanding) (step : Step) (before : ℕ) → length old.states.items ≡ length macros → Took macros automatic part old new step → work_of macros old < before → FallsBelow before step (work_of macros new)
+  pub took_falls : (part : parts.Part) (old new : Expanding) (step : Step) (before : ℕ) → length old.states ≡ length macros → Took macros automatic part old new step → work_of macros old < before → FallsBelow before step (work_of macros new)
   took_falls (variants.Reference name) old new step before known took l = referred_falls name.now old new step before known took l
   took_falls (variants.Bytes bytes) old new step before known (goes, same, written) l =
       let equal : work_of macros new ≡ work_of macros old = ap (work_of macros) same in
@@ -244,7 +245,7 @@ pub too_long : (total : Expansion) (n : ℕ) → 65536 < n → n ≤ length tota
 too_long total n h l = let m : 65536 < length total.bytes = omega arith in lt-ltb 65536 (length total.bytes) m
 
 -- an expansion of which nothing was done
-pub is_started : (macros : List Macro) (automatic : ℕ → List ℕ) (text : List ℕ) (count : ℕ) (e : Expanding) → count ≡ length macros → e.rest.now ≡ text → e.opened.items ≡ [] → e.states.items ≡ replicate count Untouched → e.written.items ≡ [] → IsRunning macros automatic (expansion_of macros automatic text) [] e
+pub is_started : (macros : List Macro) (automatic : ℕ → List ℕ) (text : List ℕ) (count : ℕ) (e : Expanding) → count ≡ length macros → e.rest.now ≡ text → e.opened.items ≡ [] → e.states ≡ replicate count Untouched → e.written.items ≡ [] → IsRunning macros automatic (expansion_of macros automatic text) [] e
 is_started macros automatic text count e all rest opened states written = record {
   runs = runs_same macros automatic (expansion_of macros automatic text) [] (sym rest) (sym written) (sym (ap (opened_of macros) opened)) (sym (states ∙ ap (λ n. replicate n Untouched) all)) (runs_start macros automatic text);
   within = subst (Within (length macros)) (sym opened) (λ k d l. absurd (omega arith));

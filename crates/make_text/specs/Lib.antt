@@ -7,6 +7,7 @@ pub mod SeenKinds
 pub mod Macros
 pub mod Scanning
 pub mod Expanding
+pub mod States
 pub mod Runs
 pub mod Steps
 pub mod MacroChecks

@@ -4,8 +4,9 @@ use Rattle.std.specs.Prelude.{◌≡◌, ℕ, ◌+◌, ◌*◌, ◌≤◌, ◌<�
 use Rattle.cc_names.specs.declared.commands.Macro.{Macro}
 use Rattle.make_text.specs.Macros.{Piece, Expansion, plain, followed, value_in, is_among}
 use Rattle.make_text.specs.Expanding.{Memo, Opened, names_of, goes_on, left_of, still, Settled, AllGive}
-use Rattle.make_text.specs.declared.expansions.State.{State}
-use Rattle.make_text.specs.declared.expansions.State.TheVariants.{Untouched, Begun, Expanded}
+use Rattle.make_text.specs.States.{state_at}
+use Rattle.make_text.specs.declared.states.State.{State}
+use Rattle.make_text.specs.declared.states.State.TheVariants.{Untouched, Begun, Expanded}
 
 -- the macro at an index
 abbrev pub macro_at : List Macro → ℕ → Macro
@@ -50,10 +51,6 @@ abbrev pub untouched : State → ℕ
 untouched Untouched = 1
 untouched Begun = 0
 untouched (Expanded start len) = 0
-
--- the state of the macro at an index
-abbrev pub state_at : List State → ℕ → State
-state_at states i = slice_index_or states i Untouched
 
 -- how much is left to do: it falls with each step
 abbrev pub work : List Macro → List ℕ → List Opened → List State → ℕ

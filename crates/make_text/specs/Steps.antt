@@ -3,7 +3,8 @@ use Rattle.std.specs.Prelude.{◌≡◌, ℕ, ◌-◌, ◌<◌, ◌≤◌, true,
 use Rattle.cc_names.specs.declared.commands.Macro.{Macro}
 use Rattle.make_text.specs.Macros.{Piece, Expansion, plain, in_script, is_too_long, value_in}
 use Rattle.make_text.specs.Expanding.{Opened}
-use Rattle.make_text.specs.Runs.{Runs, work, macro_at, IsFound, EndsIn, state_at}
+use Rattle.make_text.specs.Runs.{Runs, work, macro_at, IsFound, EndsIn}
+use Rattle.make_text.specs.States.{state_at}
 use Rattle.make_text.specs.declared.expansions.Automatic as automatics
 use Rattle.make_text.specs.declared.expansions.Expanding as expandings
 use Rattle.make_text.specs.declared.expansions.Opened as lent
@@ -11,7 +12,7 @@ use Rattle.make_text.specs.declared.expansions.Outcome as outcomes
 use Rattle.make_text.specs.declared.expansions.Outcome.TheVariants.{TooLong, Loop, Bytes}
 use Rattle.make_text.specs.declared.pieces.Part as parts
 use Rattle.make_text.specs.declared.pieces.Part.TheVariants as variants
-use Rattle.make_text.specs.declared.expansions.State.TheVariants.{Untouched, Begun, Expanded}
+use Rattle.make_text.specs.declared.states.State.TheVariants.{Untouched, Begun, Expanded}
 use Rattle.make_text.specs.declared.expansions.Step.{Step}
 use Rattle.make_text.specs.declared.expansions.Step.TheVariants.{Goes, Ends, Loops}
 
@@ -29,11 +30,11 @@ opened_of macros items = map (opened_in macros) (reverse items)
 
 -- an expansion of the code that gives a total in the end, behind some pieces
 pub record IsRunning (macros : List Macro) (automatic : ℕ → List ℕ) (total : Expansion) (pieces : List Piece) (e : expandings.Expanding) : Type 0 where
-  pub runs : Runs macros automatic total pieces e.rest.now e.written.items (opened_of macros e.opened.items) e.states.items
+  pub runs : Runs macros automatic total pieces e.rest.now e.written.items (opened_of macros e.opened.items) e.states
   pub within : All (λ o. o.index < length macros) e.opened.items
 
 abbrev pub work_of : List Macro → expandings.Expanding → ℕ
-work_of macros e = work macros e.rest.now (opened_of macros e.opened.items) e.states.items
+work_of macros e = work macros e.rest.now (opened_of macros e.opened.items) e.states
 
 -- ---- the end of the innermost macro
 
@@ -41,17 +42,17 @@ work_of macros e = work macros e.rest.now (opened_of macros e.opened.items) e.st
 abbrev pub EndsSafely : expandings.Expanding → Type 0
 EndsSafely e =
     (front : List lent.Opened) (o : lent.Opened) → e.opened.items ≡ front ++ (o ∷ [])
-    → (o.index < length e.states.items) × (o.start ≤ length e.written.items)
+    → (o.index < length e.states) × (o.start ≤ length e.written.items)
 
 -- the innermost macro came to its end, and its result is known; or there was none
 abbrev pub Ended : expandings.Expanding → Step → expandings.Expanding → Type 0
 Ended old Goes new =
     (o : lent.Opened) × (old.opened.items ≡ new.opened.items ++ (o ∷ [])) × (new.rest.now ≡ o.outer.now)
-    × (new.states.items ≡ slice_set old.states.items o.index (Expanded o.start (length old.written.items - o.start)))
+    × (new.states ≡ slice_set old.states o.index (Expanded o.start (length old.written.items - o.start)))
     × (new.written.items ≡ old.written.items)
 Ended old Ends new =
     (old.opened.items ≡ []) × (new.opened.items ≡ []) × (new.rest.now ≡ old.rest.now)
-    × (new.states.items ≡ old.states.items) × (new.written.items ≡ old.written.items)
+    × (new.states ≡ old.states) × (new.written.items ≡ old.written.items)
 Ended old Loops new = ⊥
 
 -- ---- a reference
@@ -59,25 +60,25 @@ Ended old Loops new = ⊥
 -- each macro has a state, and its result stands in what was written
 abbrev pub RefersSafely : List Macro → expandings.Expanding → Type 0
 RefersSafely macros e =
-    (length e.states.items ≡ length macros) × ((i : ℕ) → i < length macros → EndsIn e.written.items (state_at e.states.items i))
+    (length e.states ≡ length macros) × ((i : ℕ) → i < length macros → EndsIn e.written.items (state_at e.states i))
 
 -- what a reference to a macro of this name did
 pub data Referred (macros : List Macro) (name : List ℕ) (old new : expandings.Expanding) : Step → Type 0 where
   -- it is not defined, and so empty
   Undefined : value_in macros name ≡ None → new.rest.now ≡ old.rest.now → new.opened.items ≡ old.opened.items
-      → new.states.items ≡ old.states.items → new.written.items ≡ old.written.items → Referred macros name old new Goes
+      → new.states ≡ old.states → new.written.items ≡ old.written.items → Referred macros name old new Goes
   -- its result is known
-  Known : (i start len : ℕ) → IsFound macros name (Some i) → state_at old.states.items i ≡ Expanded start len
-      → new.rest.now ≡ old.rest.now → new.opened.items ≡ old.opened.items → new.states.items ≡ old.states.items
+  Known : (i start len : ℕ) → IsFound macros name (Some i) → state_at old.states i ≡ Expanded start len
+      → new.rest.now ≡ old.rest.now → new.opened.items ≡ old.opened.items → new.states ≡ old.states
       → new.written.items ≡ old.written.items ++ take len (drop start old.written.items) → Referred macros name old new Goes
   -- its expansion begins
-  Begins : (i : ℕ) (o : lent.Opened) → IsFound macros name (Some i) → state_at old.states.items i ≡ Untouched
+  Begins : (i : ℕ) (o : lent.Opened) → IsFound macros name (Some i) → state_at old.states i ≡ Untouched
       → o.index ≡ i → o.outer.now ≡ old.rest.now → o.start ≡ length old.written.items
       → new.rest.now ≡ (macro_at macros i).value → new.opened.items ≡ old.opened.items ++ (o ∷ [])
-      → new.states.items ≡ slice_set old.states.items i Begun → new.written.items ≡ old.written.items
+      → new.states ≡ slice_set old.states i Begun → new.written.items ≡ old.written.items
       → Referred macros name old new Goes
   -- it is being expanded
-  Meets : (i : ℕ) → IsFound macros name (Some i) → state_at old.states.items i ≡ Begun
+  Meets : (i : ℕ) → IsFound macros name (Some i) → state_at old.states i ≡ Begun
       → new.written.items ≡ old.written.items → Referred macros name old new Loops
 
 -- what a part of the text did

@@ -2,15 +2,17 @@
 
 ghost use Rattle.std.specs.Prelude.{◌≡◌, ◌<◌, IfOk, [], length, replicate};
 ghost use Rattle.make_text.specs.Macros.{Expansion, plain, expansion_of, is_too_long};
-ghost use Rattle.make_text.specs.Runs.{HasNamesApart, len_in, state_at};
+ghost use Rattle.make_text.specs.Runs.{HasNamesApart, len_in};
+ghost use Rattle.make_text.specs.States.{state_at};
 ghost use Rattle.make_text.specs.Statements.{macros_of};
 ghost use Rattle.make_text.specs.Steps.{automatic_of, IsRunning, work_of, EndsSafely, Ended, RefersSafely, Referred, Took, Went, FallsBelow, IsSomeRun, IsOutcome};
-ghost use Rattle.make_text.specs.declared.expansions.State.TheVariants as states;
+ghost use Rattle.make_text.specs.declared.states.State.TheVariants as variants;
 
 use crate::macros::MacroTable;
 use crate::pieces::{Part, cut_part, first_dollar};
+use crate::states::{State, States};
 use cc_names::memory::NoMemory;
-use std::alloc::{AllocError, Global};
+use std::alloc::Global;
 
 /// The most bytes that a line, a macro or a script expands to.
 pub(crate) const EXPANSION_LIMIT: usize = 65_536;
@@ -32,17 +34,6 @@ pub(crate) enum Outcome {
     Loop(Vec<u8>),
     /// These bytes.
     Bytes(Vec<u8>),
-}
-
-/// What is known of a macro while a text is expanded.
-#[derive(Clone, Copy, Drop)]
-pub(crate) enum State {
-    /// Its expansion was not begun.
-    Untouched,
-    /// It is being expanded.
-    Begun,
-    /// Its expansion begins at this place of what was written, and has so many bytes.
-    Expanded(usize, usize),
 }
 
 /// A macro that is being expanded, what is left of the text outside it, and how many bytes were written before it.
@@ -71,7 +62,7 @@ pub(crate) struct Expanding<'a> {
     /// What is left of the value of the innermost macro, or of the text.
     rest: &'a [u8],
     opened: Vec<Opened<'a>>,
-    states: Vec<State>,
+    states: States,
     pub(crate) written: Vec<u8>,
 }
 
@@ -89,49 +80,46 @@ impl<'a> Automatic<'a> {
 }
 
 impl<'a> Expanding<'a> {
-    /// The expansion of a text, by so many macros, of which nothing was done.
-    pub(crate) fn of(
-        alloc: Global,
-        count: usize,
-        text: &'a [u8],
-    ) -> Result<Expanding<'a>, AllocError>
-        ensures rest { IfOk result (λ e. e.rest.now ≡ text.now) }
-        ensures opened { IfOk result (λ e. e.opened.items ≡ []) }
-        ensures states { IfOk result (λ e. e.states.items ≡ replicate count states.Untouched) }
-        ensures written { IfOk result (λ e. e.written.items ≡ []) }
+    /// The expansion of a text, by so many macros, of which nothing was done. Takes no memory.
+    pub(crate) fn of(alloc: Global, count: usize, text: &'a [u8]) -> Expanding<'a>
+        ensures rest { result.rest.now ≡ text.now }
+        ensures opened { result.opened.items ≡ [] }
+        ensures states { result.states ≡ replicate count variants.Untouched }
+        ensures written { result.written.items ≡ [] }
     {
-        Ok(Expanding {
+        Expanding {
             rest: text,
             opened: Vec::new(alloc),
-            states: vec![in alloc; State::Untouched; count]?,
+            states: States::untouched(alloc, count),
             written: Vec::new(alloc),
-        })
+        }
     }
 
     /// Ends the innermost macro, whose result is known then.
-    fn end(&mut self) -> Step
+    fn end(&mut self) -> Result<Step, NoMemory>
         requires { EndsSafely self.old }
-        ensures { Ended self.old result self.new }
+        ensures { IfOk result (λ step. Ended self.old step self.new) }
     {
         let Some(innermost) = self.opened.pop() else {
-            return Step::Ends;
+            return Ok(Step::Ends);
         };
         let Opened {
             index,
             outer,
             start,
         } = innermost;
-        self.states[index] = State::Expanded(start, self.written.len() - start);
+        let ended = State::Expanded(start, self.written.len() - start);
+        self.states.set(index, ended)?;
         self.rest = outer;
-        Step::Goes
+        Ok(Step::Goes)
     }
 
     /// How many bytes a macro gave whose expansion ended.
     pub(crate) fn known_len(&self, index: usize) -> Option<usize>
-        requires { index < length self.now.states.items }
-        ensures { result ≡ len_in (state_at self.now.states.items index) }
+        requires { index < length self.now.states }
+        ensures { result ≡ len_in (state_at self.now.states index) }
     {
-        match self.states[index] {
+        match self.states.get(index) {
             State::Expanded(_start, len) => Some(len),
             _ => None,
         }
@@ -151,7 +139,7 @@ impl<'a> Expanding<'a> {
         let Some(index) = macros.find(alloc, name)? else {
             return Ok(Step::Goes);
         };
-        match self.states[index] {
+        match self.states.get(index) {
             State::Begun => Ok(Step::Loops),
             State::Expanded(start, len) => {
                 self.written.extend_from_within(start..start + len)?;
@@ -164,7 +152,7 @@ impl<'a> Expanding<'a> {
                     start: self.written.len(),
                 };
                 self.opened.push(opened)?;
-                self.states[index] = State::Begun;
+                self.states.set(index, State::Begun)?;
                 self.rest = macros.value(index);
                 Ok(Step::Goes)
             }
@@ -214,7 +202,7 @@ impl<'a> Expanding<'a> {
             (work_of (macros_of macros.now) self.new)) }
     {
         if self.rest.is_empty() {
-            return Ok(self.end());
+            return self.end();
         }
         let (part, behind) = cut_part(self.rest);
         self.rest = behind;
@@ -247,8 +235,8 @@ fn plain_outcome(alloc: Global, text: &[u8]) -> Result<Outcome, NoMemory>
 }
 
 /// Expands a text. Takes time linear in the text, in the values of the macros that it reaches, each once, and in what it
-/// expands to, up to the most bytes of a line; and memory for as many bytes, and for one state a macro, of which a text
-/// without a `$` needs none.
+/// expands to, up to the most bytes of a line, times a logarithm for each macro; and memory for as many bytes, and for one state
+/// for each macro that it reaches.
 pub(crate) fn expand<'a>(
     alloc: Global,
     macros: &'a MacroTable,
@@ -264,7 +252,7 @@ pub(crate) fn expand<'a>(
         return plain_outcome(alloc, text);
     }
     let count = macros.len();
-    let mut expanding = Expanding::of(alloc, count, text)?;
+    let mut expanding = Expanding::of(alloc, count, text);
     'steps: loop {
         match expanding.step(alloc, macros, automatic)? {
             Step::Goes => {}

@@ -31,6 +31,7 @@ mod readings;
 mod rule_lines;
 pub mod rules;
 mod special_targets;
+mod states;
 mod suffix_rules;
 pub mod walks;
 pub mod word_paths;

@@ -112,27 +112,21 @@ fn renewed<'a>(
     macros: &'a MacroTable,
     automatic: &Automatic<'a>,
     expanding: Expanding<'a>,
-) -> Result<Expanding<'a>, NoMemory>
+) -> Expanding<'a>
     requires { IsAtEnd (macros_of macros.now) (automatic_of automatic.now) expanding }
-    ensures { IfOk result
-        (λ expanding. IsAtEnd (macros_of macros.now) (automatic_of automatic.now) expanding) }
+    ensures { IsAtEnd (macros_of macros.now) (automatic_of automatic.now) result }
 {
     if expanding.written.len() <= RESULTS_LIMIT {
-        return Ok(expanding);
+        return expanding;
     }
-    Ok(begun(alloc, macros, automatic)?)
+    begun(alloc, macros, automatic)
 }
 
 /// An expansion at its end, of which nothing was done.
-fn begun<'a>(
-    alloc: Global,
-    macros: &'a MacroTable,
-    _automatic: &Automatic<'a>,
-) -> Result<Expanding<'a>, NoMemory>
-    ensures { IfOk result
-        (λ expanding. IsAtEnd (macros_of macros.now) (automatic_of _automatic.now) expanding) }
+fn begun<'a>(alloc: Global, macros: &'a MacroTable, _automatic: &Automatic<'a>) -> Expanding<'a>
+    ensures { IsAtEnd (macros_of macros.now) (automatic_of _automatic.now) result }
 {
-    Ok(Expanding::of(alloc, macros.len(), &[])?)
+    Expanding::of(alloc, macros.len(), &[])
 }
 
 /// Tests each macro, in the order of first definition. Takes time linear in their values and in what they expand to.
@@ -144,9 +138,9 @@ pub(crate) fn test_macros(alloc: Global, macros: &MacroTable) -> Result<(), Or<M
         first: None,
         stem: &[],
     };
-    let mut expanding = begun(alloc, macros, &automatic)?;
+    let mut expanding = begun(alloc, macros, &automatic);
     for index in 0..macros.len() {
-        expanding = renewed(alloc, macros, &automatic, expanding)?;
+        expanding = renewed(alloc, macros, &automatic, expanding);
         let (name, file, line) = macros.definition(index);
         if let Some(cause) = expanding.test(alloc, macros, &automatic, index, name)? {
             return Err(fault_at(alloc, file, line, cause));

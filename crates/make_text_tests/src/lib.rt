@@ -1,4 +1,8 @@
-// The tests of `make_text`: tables of makefiles, right and wrong.
+// The tests of `make_text`, in a crate of their own so that it is proved apart from them.
+//
+// What it is for: tables of makefiles, right and wrong, and what is read of them.
+//
+// What it promises: nothing; it is only run.
 //
 // What it stands on: `make_text` and `cc_names`.
 #![tactic(auto)]
@@ -13,3 +17,5 @@ mod files;
 mod limits;
 #[cfg(test)]
 mod makefiles;
+#[cfg(test)]
+mod two_causes;

@@ -2,6 +2,7 @@
 
 use crate::files::{TwoTexts, assert_faults, fault_of};
 use cc_names::memory::NoMemory;
+use cc_names::numbers::push_number;
 use std::alloc::Global;
 use std::hash::RandomState;
 use std::test::Fail;
@@ -147,4 +148,34 @@ include $X b//c
 #[test]
 fn targets_and_files_have_limits(rt: HostRuntime) -> Result<(), Fail> {
     assert_faults(&rt, rt.alloc(), MACROS, COUNTS)
+}
+
+// So many macros, and so many rule lines that expand the last of them.
+fn macros_and_rules(alloc: Global, macros: u64, rules: usize) -> Result<Vec<u8>, NoMemory> {
+    let mut text = Vec::new(alloc);
+    for number in 0..macros {
+        text.push(b'm')?;
+        push_number(alloc, &mut text, number)?;
+        text.extend_from_slice(b" = a\nm = $(m")?;
+        push_number(alloc, &mut text, number)?;
+        text.extend_from_slice(b")\n")?;
+    }
+    for _ in 0..rules {
+        text.extend_from_slice(b"r: $(m)\n")?;
+    }
+    Ok(text)
+}
+
+// A rule line takes time for the macros that it reaches, however many there are: 45,001 of them here, and as many lines and
+// targets as there may be.
+#[test]
+fn many_macros_cost_nothing(rt: HostRuntime) -> Result<(), Fail> {
+    let main = macros_and_rules(rt.alloc(), 45_000, 10_000)?;
+    let texts = TwoTexts {
+        main: main.as_slice(),
+        other: b"",
+    };
+    let said = fault_of(rt.alloc(), RandomState::new(&rt)?, &texts)?;
+    assert_eq!(rt; said.as_str(), "none");
+    Ok(())
 }

@@ -1,6 +1,6 @@
--- What the turns of a lane do to the story.
-use Rattle.std.proofs.Common.{◌≡◌, ℕ, ◌-◌, ◌<◌, Bool, true, false, ◌||◌, Option, Some, None, Result, Ok, Err, List, [], ◌∷◌, refl, ap, ap₂, sym, subst, ◌∙◌, arith}
-use Rattle.std.specs.Prelude.{IfSome, IsSome, option_map, option_and_then}
+-- What a command of a lane that builds nothing does to the story.
+use Rattle.std.proofs.Common.{◌≡◌, ℕ, Bool, true, false, ◌||◌, Option, Some, None, Result, Ok, Err, List, [], ◌∷◌, refl, ap, ap₂, sym, subst, ◌∙◌}
+use Rattle.std.specs.Prelude.{IfSome, option_map, option_and_then}
 use Rattle.cc_names.specs.declared.commands.Command.{Command}
 use Rattle.cc_names.specs.declared.commands.Command.TheVariants as commands
 use Rattle.cc_names.specs.declared.desks.Done.{Done}
@@ -18,21 +18,18 @@ use Rattle.base_core.specs.Calls.Acting.{Acts, IsStepOf}
 use Rattle.checkout_desk.specs.Commands.{builds}
 use Rattle.carried_out.specs.CarriedOut.{is_carried_out, AreCarriedOut}
 use Rattle.legal_history.specs.Queries.QueryLines.{is_query}
-use Rattle.base_core.specs.Calls.Going.{SamePhase, Finishes, GoesOn}
+use Rattle.base_core.specs.Calls.Going.{SamePhase, Finishes}
 use Rattle.base_core.specs.Keeping.Nexts.{next_of, next_by, waiting}
-use Rattle.std.proofs.lemmas.List.{append-nil}
 use Rattle.legal_history.specs.Base.Rows.{only_where}
-use Rattle.legal_history.specs.Builds.Active.{build_of}
 use Rattle.legal_history.specs.Commands.Decisions.{Scene, Decision, Makes, Answers, Begins}
 use Rattle.legal_history.specs.Commands.Lines.{decision}
 use Rattle.legal_history.proofs.Decisions.Handed.{IfDecided}
 use Rattle.legal_history.proofs.Decisions.Queried.{query_is}
-use Rattle.legal_history.specs.Stories.States.{State, start, scene, done_of, with_done, is_next, next_tag, decided, lane_at, build_if, build_by}
+use Rattle.legal_history.specs.Stories.States.{State, start, scene, done_of, with_done, is_next, next_tag, decided, build_if, build_by}
 use Rattle.legal_history.specs.Stories.Steps.{after, done_after, done_by_fault, state_of}
-use Rattle.session_run.specs.Begun.{is_opened}
-use Rattle.session_run.specs.Lanes.{Goes, GoesInLane, TakesTurn, IsWithin, IsFinished, count_of}
-use Rattle.session_run.proofs.MoreSteps.{state_more, goes_on}
-use Rattle.session_run.proofs.Within.{done_same, done_other, waits_below, waiting_carried, finished_where}
+use Rattle.session_run.specs.Lanes.{Goes}
+use Rattle.session_run.proofs.MoreSteps.{state_more}
+use Rattle.session_run.proofs.Within.{done_same, done_other, waiting_carried}
 
 -- what is decided finishes the command: its row, where it makes one, is none of a build
 EndsCommand : Option (Result Decision Refusal) → Type 0
@@ -125,41 +122,9 @@ act_finishes old new lane done carried acts by_act =
       others = λ other differs. ap (λ t. done_of t.done other) state ∙ ap (λ d. done_of d other) step.done ∙ done_other s.done lane other differs;
     }
 
--- a command waits where a lane acts
-waits_where : (found : Option Command) (tag : Tag) → next_by found tag ≡ nexts.Act → IsSome found
-waits_where None tag acts = absurd (cc)
-waits_where (Some command) tag acts = refl
-
-pub act_waits : (story : List Told) (lane : ℕ) → next_of (state_of story) lane ≡ nexts.Act → IsSome (waiting (state_of story) lane)
-act_waits story lane acts = waits_where (waiting (state_of story) lane) (next_tag (state_of story) lane) acts
-
--- what a turn did, by its answer
-pub has_turned : (waits : Bool) (old new : List Told) (lane : ℕ) → waits ≡ true → TakesTurn (Ok waits) old new lane → IsSome (waiting (state_of old) lane) × Finishes old new lane
-has_turned true old new lane e h = h
-has_turned false old new lane e h = absurd (cc)
-
-pub has_rested : (waits : Bool) (old new : List Told) (lane : ℕ) → waits ≡ false → TakesTurn (Ok waits) old new lane → (waiting (state_of old) lane ≡ None) × (new ≡ old)
-has_rested true old new lane e h = absurd (cc)
-has_rested false old new lane e h = h
-
--- a lane in which nothing was done
-pub stays : (old new : List Told) (lane : ℕ) → new ≡ old → GoesOn old new lane
-stays old new lane same = record {
-  steps = [];
-  grows = same ∙ sym (append-nil old);
-  phase = let s = ap state_of same in record { phase = ap (λ t. t.phase) s; number = ap (λ t. t.number) s; moment = ap (λ t. t.moment) s };
-  done = ap (λ t. t.done) (ap state_of same);
-  still = λ build is.
-      let at : build_of (state_of new).active lane ≡ Some build = ap (λ t. build_of t.active lane) (ap state_of same) ∙ is in
-      record { build = build; active = at; units = refl; outcomes = λ n e. e };
-}
-
+-- a story that goes on by nothing, and one that goes on twice
 pub goes_nowhere : (story : List Told) → Goes story story
 goes_nowhere story = record { phases = refl; moments = refl; phase = refl; number = refl; earlier = refl; first = refl; opened = refl }
-
--- a lane that has done nothing yet
-pub lane_starts : (lane : ℕ) (story : List Told) → IsWithin (state_of story) lane → GoesInLane lane story story
-lane_starts lane story within = record { goes = goes_nowhere story; others = λ k differs. refl; within = within }
 
 pub goes_further : (old now new : List Told) → Goes old now → Goes now new → Goes old new
 goes_further old now new one two = record {
@@ -171,40 +136,3 @@ goes_further old now new one two = record {
   first = two.first ∙ one.first;
   opened = two.opened ∙ one.opened;
 }
-
-some_waits : (s : State) (lane : ℕ) (found : Option Command) → found ≡ waiting s lane → IsSome found → done_of s.done lane < count_of (lane_at s.phase lane)
-some_waits s lane None e h = absurd (cc)
-some_waits s lane (Some command) e h = waits_below s lane command (sym e)
-
--- a lane with one more command
-pub lane_goes_on : (lane : ℕ) (old now new : List Told) → GoesInLane lane old now → is_opened now ≡ true → IsSome (waiting (state_of now) lane) → Finishes now new lane → GoesInLane lane old new
-lane_goes_on lane old now new so_far opened waits by_turn = record {
-  goes = goes_further old now new so_far.goes (goes_on now new by_turn.steps by_turn.grows by_turn.phase opened);
-  others = λ k differs. by_turn.others k differs ∙ so_far.others k differs;
-  within =
-      let below = some_waits (state_of now) lane (waiting (state_of now) lane) refl waits in
-      let count : count_of (lane_at (state_of new).phase lane) ≡ count_of (lane_at (state_of now).phase lane) = ap (λ p. count_of (lane_at p lane)) by_turn.phase.phase in
-      omega (arith, by_turn.done, count, below);
-}
-
--- a lane in which memory ran out
-pub lane_leaves : (lane : ℕ) (old now new : List Told) → GoesInLane lane old now → is_opened now ≡ true → GoesOn now new lane → GoesInLane lane old new
-lane_leaves lane old now new so_far opened left = record {
-  goes = goes_further old now new so_far.goes (goes_on now new left.steps left.grows left.phase opened);
-  others = λ k differs. ap (λ d. done_of d k) left.done ∙ so_far.others k differs;
-  within =
-      let here : done_of (state_of new).done lane ≡ done_of (state_of now).done lane = ap (λ d. done_of d lane) left.done in
-      let count : count_of (lane_at (state_of new).phase lane) ≡ count_of (lane_at (state_of now).phase lane) = ap (λ p. count_of (lane_at p lane)) left.phase.phase in
-      omega (arith, here, count, so_far.within);
-}
-
--- a lane that has finished a command has fewer left
-pub lane_shrinks : (lane : ℕ) (now new : List Told) → IsSome (waiting (state_of now) lane) → Finishes now new lane → count_of (lane_at (state_of new).phase lane) - done_of (state_of new).done lane < count_of (lane_at (state_of now).phase lane) - done_of (state_of now).done lane
-lane_shrinks lane now new waits by_turn =
-    let below = some_waits (state_of now) lane (waiting (state_of now) lane) refl waits in
-    let count : count_of (lane_at (state_of new).phase lane) ≡ count_of (lane_at (state_of now).phase lane) = ap (λ p. count_of (lane_at p lane)) by_turn.phase.phase in
-    omega (arith, by_turn.done, count, below)
-
--- a lane without a command that waits is finished
-pub lane_ends : (lane : ℕ) (story : List Told) → IsWithin (state_of story) lane → waiting (state_of story) lane ≡ None → IsFinished (state_of story) lane
-lane_ends lane story within rests = finished_where (state_of story) lane within rests

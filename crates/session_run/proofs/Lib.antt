@@ -1,4 +1,5 @@
 pub mod Blaming
+pub mod BuildTurns
 pub mod CommandWords
 pub mod Exactly
 pub mod FailedLanes
@@ -12,9 +13,12 @@ pub mod PhaseSteps
 pub mod Promises
 pub mod Ready
 pub mod Reused
+pub mod RoundSteps
 pub mod Running
 pub mod Stopping
 pub mod StopStatuses
+pub mod TurnSteps
+pub mod TurnsLeft
 pub mod Within
 mod Worked
 mod WorkedFaults

@@ -1,21 +1,22 @@
--- What the lanes of a phase, one after the other, do to the story.
-use Rattle.std.proofs.Common.{◌≡◌, ◌≢◌, ℕ, ◌+◌, ◌≤◌, ◌⊎◌, inl, inr, true, List, [], ◌∷◌, ◌++◌, length, refl, ap, sym, subst, ◌∙◌, arith}
+-- What the lanes of a phase, which take turns, do to the story.
+use Rattle.std.proofs.Common.{◌≡◌, ◌≢◌, ℕ, ◌⊎◌, inl, inr, true, List, [], ◌∷◌, ◌++◌, refl, ap, sym, subst, ◌∙◌, arith}
 use Rattle.std.specs.Prelude.{Result, Ok, Err, OnOk, OnErr}
 use Rattle.std.proofs.lemmas.List.{append-nil}
 use Rattle.cc_names.specs.declared.commands.Phase.{Phase}
 use Rattle.cc_names.specs.declared.steps.Told.{Told}
 use Rattle.cc_names.specs.declared.steps.Told.TheVariants as told
+use Rattle.legal_history.specs.Stories.Lanes.{IsWithin, count_of}
 use Rattle.legal_history.specs.Stories.States.{start, done_of, lane_at, all_done}
 use Rattle.legal_history.specs.Stories.Steps.{after, state_of}
 use Rattle.base_core.specs.Story.Replying.{no_replies, replies_after}
 use Rattle.session_run.specs.Begun.{phases_begun, moments_begun, first_step, is_opened}
 use Rattle.session_run.specs.Rendered.{earlier_phases, last_phase, replies_over}
-use Rattle.session_run.specs.Lanes.{Goes, GoesInLane, GoesInLanes, GoesInPhase, RunsPhase, LeavesPhase, IsWithin, IsFinished, count_of}
+use Rattle.session_run.specs.Lanes.{Goes, GoesInLane, GoesInLanes, GoesInPhase, RunsPhase, LeavesPhase}
 use Rattle.session_run.proofs.LaneSteps.{goes_nowhere, goes_further}
 use Rattle.session_run.proofs.MoreSteps.{state_more, phases_more, moments_more, closed_more, first_more}
-use Rattle.session_run.proofs.Within.{one_or_two, all_finished}
+use Rattle.session_run.proofs.Within.{one_or_two}
 
--- before the first lane
+-- before the first turn
 pub lanes_start : (story : List Told) → ((k : ℕ) → IsWithin (state_of story) k) → GoesInLanes 0 story story
 lanes_start story within = record {
   goes = goes_nowhere story;
@@ -31,32 +32,21 @@ within_still lane k now new within by_lane (inr differs) =
     let before = within k in
     omega (arith, here, count, before)
 
-finished_still : (index k : ℕ) (now new : List Told) → ((j : ℕ) → 1 ≤ j → j ≤ index → IsFinished (state_of now) j) → GoesInLane (index + 1) now new → IsFinished (state_of new) (index + 1) → 1 ≤ k → k ≤ index + 1 → (k ≡ index + 1) ⊎ (k ≢ index + 1) → IsFinished (state_of new) k
-finished_still index k now new finished by_lane ended low high (inl e) = subst (IsFinished (state_of new)) (sym e) ended
-finished_still index k now new finished by_lane ended low high (inr differs) =
-    let below : k ≤ index = omega (arith, high, differs) in
-    by_lane.others k differs ∙ finished k low below ∙ ap (λ p. count_of (lane_at p k)) (sym by_lane.goes.phase)
-
--- one lane more
-pub lanes_go_on : (index : ℕ) (old now new : List Told) → GoesInLanes index old now → GoesInLane (index + 1) now new → IsFinished (state_of new) (index + 1) → GoesInLanes (index + 1) old new
-lanes_go_on index old now new so_far by_lane ended = record {
+-- a lane's turn more
+pub lanes_go_on : (lane : ℕ) (old now new : List Told) → GoesInLanes 0 old now → GoesInLane lane now new → GoesInLanes 0 old new
+lanes_go_on lane old now new so_far by_lane = record {
   goes = goes_further old now new so_far.goes by_lane.goes;
-  within = λ k. within_still (index + 1) k now new so_far.within by_lane (one_or_two k (index + 1));
-  finished = λ k low high. finished_still index k now new so_far.finished by_lane ended low high (one_or_two k (index + 1));
-}
-
--- a lane that was left
-pub lanes_leave : (index : ℕ) (old now new : List Told) → GoesInLanes index old now → GoesInLane (index + 1) now new → GoesInLanes 0 old new
-lanes_leave index old now new so_far by_lane = record {
-  goes = goes_further old now new so_far.goes by_lane.goes;
-  within = λ k. within_still (index + 1) k now new so_far.within by_lane (one_or_two k (index + 1));
+  within = λ k. within_still lane k now new so_far.within by_lane (one_or_two k lane);
   finished = λ k low high. absurd (omega arith);
 }
 
-pub lanes_end : (lanes : ℕ) (old new : List Told) → GoesInLanes lanes old new → lanes ≡ length (state_of old).phase.lanes → all_done (state_of new) ≡ true
-lanes_end lanes old new so_far count =
-    let same : length (state_of new).phase.lanes ≡ length (state_of old).phase.lanes = ap (λ p. length p.lanes) so_far.goes.phase in
-    all_finished (state_of new) (λ k low high. so_far.finished k low (omega (arith, high, same, count)))
+-- and a round more
+pub lanes_go_further : (old now new : List Told) → GoesInLanes 0 old now → GoesInLanes 0 now new → GoesInLanes 0 old new
+lanes_go_further old now new so_far by_round = record {
+  goes = goes_further old now new so_far.goes by_round.goes;
+  within = by_round.within;
+  finished = λ k low high. absurd (omega arith);
+}
 
 ends_opened : (story : List Told) (x : Told) → is_opened (story ++ x ∷ []) ≡ true
 ends_opened [] x = refl

@@ -8,7 +8,7 @@ use Rattle.legal_history.specs.Base.Values.{IsSound}
 use Rattle.legal_history.specs.Builds.Active.{Build, build_of}
 use Rattle.legal_history.specs.Laws.BuildLaws.{BuildIsAsFromNothing, BuildIsOfItsCommand, EndedBuildHasItsOutcomesFromNothing}
 use Rattle.legal_history.specs.Laws.ReuseLaws.{BaseStaysSoundStays}
-use Rattle.legal_history.specs.Laws.TakenLaws.{NothingIsPassedOverPublish, NothingIsPassedOverStart, TakenRecordIsSeenKept, TakenRecordIsSeenWinked}
+use Rattle.legal_history.specs.Laws.TakenLaws.{NothingIsPassedOverMatch, NothingIsPassedOverPublish, NothingIsPassedOverStart, PublishedRecordIsWhatWasRead, TakenRecordIsSeenKept, TakenRecordIsSeenWinked}
 use Rattle.legal_history.specs.Stories.Lawful.{EndsBuild, Legal}
 use Rattle.legal_history.specs.Stories.States.{Opening, start}
 use Rattle.legal_history.specs.Stories.Steps.{after, state_of}
@@ -16,7 +16,7 @@ use Rattle.legal_history.proofs.Stories.Fronts.{front_is_legal, rest_is_legal}
 use Rattle.legal_history.proofs.Stories.SoundStories.{sound_first, story_is_sound}
 use Rattle.legal_history.proofs.Reuse.SoundBases.{opened_from}
 use Rattle.session_run.specs.Headline.{AreFromNothing, AreOfTheirCommands}
-use Rattle.session_run.specs.Reused.{HaveTheirOutcomes, NewBaseWasSound, PassNothingOver, TakeWhatTheySee, WasSound}
+use Rattle.session_run.specs.Reused.{HaveTheirOutcomes, NewBaseWasSound, PassNothingOver, RecordWhatTheyRead, TakeWhatTheySee, WasSound}
 use Rattle.session_run.proofs.FromNothing.{Law, are_from_nothing, ends_over, is_active}
 
 -- a front of a history was opened on a sound base
@@ -82,11 +82,18 @@ reused_so kept winked story legal = record {
   winked = λ front rest row tick view id grows is. winked front rest row tick view id (subst Legal grows legal) is;
 }
 
-pub sought_so : NothingIsPassedOverStart → NothingIsPassedOverPublish → (story : List Told) → Legal story → PassNothingOver story
-sought_so starts publishes story legal = record {
+pub recorded_so : PublishedRecordIsWhatWasRead → (story : List Told) → Legal story → RecordWhatTheyRead story
+recorded_so law story legal = record {
+  each = λ front rest row tick view targets script listed outputs grows is. law front rest row tick view targets script listed outputs (subst Legal grows legal) is;
+}
+
+pub sought_so : NothingIsPassedOverStart → NothingIsPassedOverPublish → NothingIsPassedOverMatch → (story : List Told) → Legal story → PassNothingOver story
+sought_so starts publishes matched story legal = record {
   started = λ front rest tag n build unit id grows any of_n lives. starts front rest tag n build unit id (subst Legal grows legal) any of_n lives;
   published = λ front rest row tick build id view other targets script entries outputs stored grows is any object.
       publishes front rest row tick build id view other targets script entries outputs stored (subst Legal grows legal) is any object;
+  matched = λ front rest row tick build n unit id view targets script listed outputs grows is any place is_unit lives.
+      matched front rest row tick build n unit id view targets script listed outputs (subst Legal grows legal) is any place is_unit lives;
 }
 
 none_sound : IsSound []

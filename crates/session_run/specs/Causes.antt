@@ -102,9 +102,9 @@ DiskDamaged disk row = IfTold disk.before.told (λ d. IsDamaged (frames (bytes_o
 abbrev pub DiskUndamaged : Change Sight → Type 0
 DiskUndamaged disk = IfTold disk.before.told (λ d. IsUndamaged (frames (bytes_of 0 d)))
 
--- *The cause of each status*. Memory may run out anywhere, but where no base was opened it hides no fault of the disk. The other causes exclude one another, a failed source and a failed
--- sink aside, so each status but those comes exactly where its cause does, unless the sink fails or memory runs out. Where the
--- disk failed and a base was opened, each command is finished.
+-- *The cause of each status*. Memory may run out anywhere, but where no base was opened it hides no fault of the disk. The other
+-- causes exclude one another, a failed source and a failed sink aside, so each status but those comes exactly where its cause
+-- does, unless the sink fails or memory runs out. Where the disk failed and a base was opened, each command is finished.
 abbrev pub HasCause : Status → Intake → Change ℕ → Change Sight → List Told → Type 0
 HasCause statuses.Good intake sink_faults disk story = IsWhole intake story × (has_failure story ≡ false) × (disk_rose disk ≡ false) × DiskUndamaged disk
 HasCause statuses.SomeFailed intake sink_faults disk story = IsWhole intake story × (has_failure story ≡ true) × (disk_rose disk ≡ false) × DiskUndamaged disk

@@ -1,34 +1,12 @@
 -- What the turns of lanes, and a phase of them, do to the story.
-use Rattle.std.specs.Prelude.{◌≡◌, ◌≢◌, ℕ, ◌+◌, ◌≤◌, Bool, true, false, ◌⊎◌, Option, Some, None, IsSome, Result, Ok, Err, List, [], ◌∷◌, ◌++◌, length}
-use Rattle.cc_names.specs.declared.commands.Lane.{Lane}
+use Rattle.std.specs.Prelude.{◌≡◌, ◌≢◌, ℕ, ◌+◌, ◌≤◌, true, ◌⊎◌, List, [], ◌∷◌, ◌++◌}
 use Rattle.cc_names.specs.declared.commands.Phase.{Phase}
-use Rattle.cc_names.specs.declared.memory.NoMemory.{NoMemory}
 use Rattle.cc_names.specs.declared.steps.Told.{Told}
-use Rattle.base_core.specs.Calls.Going.{Finishes, GoesOn}
-use Rattle.base_core.specs.Keeping.Nexts.{waiting}
-use Rattle.legal_history.specs.Stories.States.{State, all_done, done_of, lane_at}
+use Rattle.legal_history.specs.Stories.Lanes.{IsFinished, IsWithin}
+use Rattle.legal_history.specs.Stories.States.{all_done, done_of}
 use Rattle.legal_history.specs.Stories.Steps.{state_of}
 use Rattle.session_run.specs.Begun.{phases_begun, moments_begun, first_step, is_opened}
 use Rattle.session_run.specs.Rendered.{earlier_phases, ended_phases}
-
--- how many commands a lane has
-abbrev pub count_of : Option Lane → ℕ
-count_of None = 0
-count_of (Some lane) = length lane.commands
-
--- a lane has not finished more commands than it has
-abbrev pub IsWithin : State → ℕ → Type 0
-IsWithin s lane = done_of s.done lane ≤ count_of (lane_at s.phase lane)
-
--- a lane has finished all of its commands
-abbrev pub IsFinished : State → ℕ → Type 0
-IsFinished s lane = done_of s.done lane ≡ count_of (lane_at s.phase lane)
-
--- what one turn of a lane did: its next command is finished; none was left; or memory ran out
-abbrev pub TakesTurn : Result Bool NoMemory → List Told → List Told → ℕ → Type 0
-TakesTurn (Ok true) old new lane = IsSome (waiting (state_of old) lane) × Finishes old new lane
-TakesTurn (Ok false) old new lane = (waiting (state_of old) lane ≡ None) × (new ≡ old)
-TakesTurn (Err error) old new lane = GoesOn old new lane
 
 -- a story that goes on within its last phase
 pub record Goes (old new : List Told) : Type 0 where

@@ -15,3 +15,4 @@ pub mod Runs
 pub mod Statuses
 pub mod Stopped
 pub mod Stops
+pub mod Turns

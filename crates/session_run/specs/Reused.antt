@@ -1,5 +1,5 @@
 -- What the headline says of builds that reuse objects: when their units come to what they come to from nothing, which objects
--- they take, and that none that would do is passed over.
+-- they take, that none that would do is passed over, and what the record of a published object has.
 use Rattle.std.specs.Prelude.{◌≡◌, ℕ, true, false, Some, is_some, List, [], ◌∷◌, ◌++◌}
 use Rattle.cc_names.specs.Formed.{Plain}
 use Rattle.cc_names.specs.declared.rows.Deed.TheVariants as deeds
@@ -13,10 +13,10 @@ use Rattle.cc_names.specs.declared.units.Unit.{Unit}
 use Rattle.legal_history.specs.Base.Changes.{live}
 use Rattle.legal_history.specs.Base.Rows.{deed_at}
 use Rattle.legal_history.specs.Base.Values.{IsSound}
-use Rattle.legal_history.specs.Builds.Active.{Build, unit_at}
+use Rattle.legal_history.specs.Builds.Active.{Build, unit_at, unit_with_first}
 use Rattle.legal_history.specs.Builds.Reuse.{matches}
 use Rattle.legal_history.specs.Laws.FromNothing.{EndsAsFromNothing}
-use Rattle.legal_history.specs.Laws.TakenLaws.{ReusesAny, TakesWhatItSees, ViewTakesWhatItSees}
+use Rattle.legal_history.specs.Laws.TakenLaws.{PublishesWhatItRead, ReusesAny, TakesWhatItSees, ViewTakesWhatItSees}
 use Rattle.legal_history.specs.Stories.Lawful.{Legal}
 use Rattle.legal_history.specs.Stories.States.{Opening, build_by}
 use Rattle.legal_history.specs.Stories.Steps.{state_of}
@@ -43,8 +43,17 @@ pub record TakeWhatTheySee (story : List Told) : Type 0 where
       → story ≡ front ++ told.Commit row tick ∷ rest → row.deed ≡ deeds.Wink view id
       → ViewTakesWhatItSees (state_of front) row.tag view id
 
--- *Sought*: a build without `-V` and `-u` starts no script where the record of a live object matches its unit, and publishes no
--- record that a live object has.
+-- *Recorded*: each object that is published has a record of just what its unit's script read: an entry for each path that the run
+-- asked for, with the row that the unit sees there, or 0 where it sees nothing, and no other.
+pub record RecordWhatTheyRead (story : List Told) : Type 0 where
+  pub each : (front rest : List Told) (row : Plain) (tick : ℕ) (view : List ℕ) (targets : List (List ℕ))
+      (script : List ℕ) (listed : List ReadOf) (outputs : List (List ℕ))
+      → story ≡ front ++ told.Commit row tick ∷ rest
+      → row.deed ≡ deeds.Publish view targets script listed outputs
+      → PublishesWhatItRead (state_of front) row targets script listed outputs
+
+-- *Sought*: a build without `-V` and `-u` starts no script where the record of a live object matches its unit, publishes none for
+-- such a unit, and publishes no record that a live object has.
 pub record PassNothingOver (story : List Told) : Type 0 where
   pub started : (front rest : List Told) (tag : Tag) (n : ℕ) (build : Build) (unit : Unit) (id : ℕ)
       → story ≡ front ++ told.Other (steps.Start tag n) ∷ rest → ReusesAny (state_of front) tag build
@@ -58,6 +67,14 @@ pub record PassNothingOver (story : List Told) : Type 0 where
       → ReusesAny (state_of front) row.tag build
       → deed_at (state_of front).base id ≡ Some (deeds.Publish other targets script entries stored)
       → is_some (live (state_of front).base id) ≡ false
+  pub matched : (front rest : List Told) (row : Plain) (tick : ℕ) (build : Build) (n : ℕ) (unit : Unit) (id : ℕ)
+      (view : List ℕ) (targets : List (List ℕ)) (script : List ℕ) (listed : List ReadOf) (outputs : List (List ℕ))
+      → story ≡ front ++ told.Commit row tick ∷ rest
+      → row.deed ≡ deeds.Publish view targets script listed outputs
+      → ReusesAny (state_of front) row.tag build
+      → unit_with_first build targets ≡ Some n → unit_at build n ≡ Some unit
+      → is_some (live (state_of front).base id) ≡ true
+      → matches (state_of front).base build n unit id ≡ false
 
 -- something holds of each legal history
 abbrev pub OfEachLegal : (List Told → Type 0) → Type 0

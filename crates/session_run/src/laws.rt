@@ -5,7 +5,7 @@ ghost use Rattle.legal_history.specs.Stories.Steps.{state_of};
 ghost use Rattle.session_run.specs.HandedOn.{SoundnessIsHandedOn};
 ghost use Rattle.session_run.specs.Headline.{AreFromNothing, AreOfTheirCommands};
 ghost use Rattle.session_run.specs.Objects.{HeldObjectsAreLive, ScrubsListWhatIsDue};
-ghost use Rattle.session_run.specs.Reused.{HaveTheirOutcomes, NewBaseWasSound, OfEachLegal, PassNothingOver, TakeWhatTheySee, WasSound};
+ghost use Rattle.session_run.specs.Reused.{HaveTheirOutcomes, NewBaseWasSound, OfEachLegal, PassNothingOver, RecordWhatTheyRead, TakeWhatTheySee, WasSound};
 
 use base_core::laws::a_found_base_is_sound;
 use legal_history::laws::builds::{
@@ -16,7 +16,9 @@ use legal_history::laws::reuse::a_base_stays_sound;
 use legal_history::laws::stories::{
     a_held_object_is_live_at_each_step, a_scrub_of_a_story_lists_what_is_due,
 };
-use legal_history::laws::taken::{a_taken_record_is_seen, nothing_is_passed_over};
+use legal_history::laws::taken::{
+    a_published_record_is_what_was_read, a_taken_record_is_seen, nothing_is_passed_over,
+};
 
 /// Promises `SoundnessIsHandedOn`: a call that opens what a stop of an earlier call left begins on a sound base, where the
 /// earlier one did.
@@ -43,14 +45,17 @@ pub fn builds_are_as_from_nothing()
     an_ended_build_has_its_outcomes_from_nothing();
 }
 
-/// Promises that each legal history reuses what its units see, that it passes no object over, and that its base stays sound.
+/// Promises that each legal history reuses what its units see, that it passes no object over and records what is read, and that
+/// its base stays sound.
 pub fn objects_are_reused_well()
     ensures reused { OfEachLegal TakeWhatTheySee }
     ensures sought { OfEachLegal PassNothingOver }
+    ensures recorded { OfEachLegal RecordWhatTheyRead }
     ensures sound { OfEachLegal (λ story. WasSound story → IsSound (state_of story).base) }
 {
     a_taken_record_is_seen();
     nothing_is_passed_over();
+    a_published_record_is_what_was_read();
     a_base_stays_sound();
 }
 

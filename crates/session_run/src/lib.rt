@@ -1,6 +1,7 @@
 // The top call: from the bytes of a session to the bytes of its replies.
 //
-// What it is for: `run_words` reads a session, opens a base, runs the session's phases and writes their transcripts.
+// What it is for: `run_words` reads a session, opens a base, runs the session's phases and writes their transcripts. The lanes of
+// a phase take turns on one thread, one call of the base each, so other lanes' rows come between the steps of a build.
 //
 // What it promises: the headline of the product, in `specs/Headline.antt`, and when each status comes, in
 // `specs/Causes.antt`. The printed replies are those of one legal history, which holds each command once in its lane's
@@ -11,20 +12,23 @@
 // sound base (`laws`). A disk fault is told where a call on the disk failed, and nowhere else, unless the sink failed too or
 // memory ran out.
 //
-// What it stands on: `base_core` for the history, `disk_model` and `vob_journal` for the disk and what a stop finds there,
-// `legal_history` for what a history means, `carried_out` for the commands, `session_text` and `reply_text` for the texts,
-// `cc_outside` for the source, the sink and the clock, `arrayvec` and `itoa` for a line without memory, and `cc_names` for plain data.
+// What it stands on: `base_core` for the history, `checkout_desk` for which commands build, `disk_model` and `vob_journal` for
+// the disk and what a stop finds there, `legal_history` for what a history means, `carried_out` for the commands, `session_text`
+// and `reply_text` for the texts, `cc_outside` for the source, the sink and the clock, `arrayvec` and `itoa` for a line without
+// memory, and `cc_names` for plain data.
 #![tactic(auto)]
 
 mod failures;
 mod lanes;
 pub mod laws;
 mod lines;
+mod moves;
 mod phases;
 mod run;
 mod sessions;
 mod statuses;
 mod transcripts;
+mod turns;
 mod words;
 
 pub use run::{Ended, run_words};

@@ -14,7 +14,7 @@ ghost use Rattle.session_run.specs.Begun.{first_step, is_opened};
 ghost use Rattle.session_run.specs.Headline.{clock_readings, IsSession, IsOneHistory, AreOfTheirCommands, AreFromNothing, ArePrinted};
 ghost use Rattle.session_run.specs.Objects.{HeldObjectsAreLive, ScrubsListWhatIsDue};
 ghost use Rattle.session_run.specs.Outcomes.{RunsOpened, RunsSession};
-ghost use Rattle.session_run.specs.Reused.{HaveTheirOutcomes, PassNothingOver, TakeWhatTheySee, WasSound};
+ghost use Rattle.session_run.specs.Reused.{HaveTheirOutcomes, PassNothingOver, RecordWhatTheyRead, TakeWhatTheySee, WasSound};
 ghost use Rattle.session_run.specs.Runs.{IsJustOpened, IsRunnable, outside_of, run_status};
 ghost use Rattle.session_run.specs.Stopped.{IsHandedIn, IsMended, IsStopped};
 ghost use Rattle.session_run.specs.Stops.{open_stop};
@@ -147,8 +147,7 @@ fn run_session<K: Sink, D: Disk, C: Clock>(
 /// phases in order, writes the transcript of each when its lanes have ended, and settles the journal. The disk comes back in
 /// every case, and unless a session was read no call was made on it. Names in the base are found by hashing them so: with random
 /// keys nobody can choose names that make a look-up there slow, and the answers are the same with any. Takes time linear in the
-/// journal and in the session, for each entry of an object there in the targets of the object that it names, and what the scripts
-/// of its builds take.
+/// session and in the replies, the time of `Core::open`, and for each command that of `act` or `build`.
 pub fn run_words<S: Source, K: Sink, D: Disk, C: Clock>(
     alloc: Global,
     hashing: RandomState,
@@ -169,6 +168,7 @@ pub fn run_words<S: Source, K: Sink, D: Disk, C: Clock>(
     ensures outcomes { WasSound result.history → HaveTheirOutcomes result.history }
     ensures reused { TakeWhatTheySee result.history }
     ensures sought { PassNothingOver result.history }
+    ensures recorded { RecordWhatTheyRead result.history }
     ensures sound { WasSound result.history → IsSound (state_of result.history).base }
     ensures scrubs { ScrubsListWhatIsDue result.history }
     ensures held { HeldObjectsAreLive result.history }

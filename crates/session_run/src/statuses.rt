@@ -15,7 +15,7 @@ pub enum Status {
     /// The source's bytes spell no session.
     BadSession,
     /// The frame of this number, counted from 1, is the first of the disk's journal that spells no row, or whose row does
-    /// not fit those before it.
+    /// not fit those before it or is of a deed that is not made yet.
     Damaged(u64),
     /// The source failed.
     ReadFault,
@@ -23,7 +23,7 @@ pub enum Status {
     WriteFault,
     /// The disk failed.
     DiskFault,
-    /// Memory ran out.
+    /// Memory ran out, or the system gave no random numbers.
     NoMemory,
     /// The source gave too many bytes.
     TooLong,

@@ -97,8 +97,9 @@ impl PhasesLeft {
     }
 }
 
-/// Reads a text as a session, or answers its first line that stands wrong or, where none does, the first that is not carried out. The macros of a command line are found by hashing
-/// their names so. Takes time linear in the text, and beside the text memory for one command at a time.
+/// Reads a text as a session, or answers its first line that stands wrong or, where none does, the first that is not carried
+/// out. The macros of a command line are found by hashing their names so. Takes time linear in the text, and beside the text
+/// memory for one command at a time.
 pub fn read(
     alloc: Global,
     hashing: RandomState,

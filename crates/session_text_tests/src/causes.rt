@@ -85,12 +85,24 @@ fn each_cause_comes_at_its_line(rt: HostRuntime) -> Result<(), Fail> {
         ("phase\nlane a\nmkview\nfrob\n", 3, BadWord),
         ("phase\nlane a\nsave v .\n|x\n", 3, BadWord),
         // a command that is not carried out makes no line wrong
-        ("phase\nlane a\nmkview v\nlsdo v\nscrub 0\n", 4, NotBuilt),
-        ("phase\nlane a\nmkview v\nlsdo v\nfrob\n", 5, UnknownCommand),
-        ("phase\nlane a\nlsdo v\n|x\n", 4, NoBody),
-        ("phase\nlane a\nlsdo v\nlane a\n", 4, TwoLanes),
-        ("phase\nlane a\nlsdo v\nphase x\n", 4, BadWord),
-        ("phase\nlane a\nlsdo v\nphase\nmkview v\n", 5, NoLane),
+        (
+            "phase\nlane a\nmkview v\nmkarrow v a /main/1\nfindmerge v a -fversion .../fix/LATEST\n",
+            4,
+            NotBuilt,
+        ),
+        (
+            "phase\nlane a\nmkview v\nmkarrow v a /main/1\nfrob\n",
+            5,
+            UnknownCommand,
+        ),
+        ("phase\nlane a\nmkarrow v a /main/1\n|x\n", 4, NoBody),
+        ("phase\nlane a\nmkarrow v a /main/1\nlane a\n", 4, TwoLanes),
+        ("phase\nlane a\nmkarrow v a /main/1\nphase x\n", 4, BadWord),
+        (
+            "phase\nlane a\nmkarrow v a /main/1\nphase\nmkview v\n",
+            5,
+            NoLane,
+        ),
     ] {
         assert_wrong(&rt, rt.alloc(), hashing, text.as_bytes(), line, cause);
     }

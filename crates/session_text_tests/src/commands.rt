@@ -30,16 +30,6 @@ fn right_lines(rt: HostRuntime) -> Result<(), Fail> {
     for line in [
         "mklabel v -config out REL",
         "mklabel v -replace -config . REL",
-        "rmdo v a",
-        "scrub 0",
-        "scrub 9223372036854775807",
-        "lsdo v",
-        "ls v",
-        "ls v .",
-        "lsvtree v a",
-        "catcr v a",
-        "diffcr v a w b",
-        "covers w v .",
         "mkarrow v a /main/fix/1",
         "findmerge v . -fversion .../fix/LATEST",
         "findmerge v a -fversion .../main/LATEST",
@@ -207,7 +197,31 @@ fn words_of(alloc: Global, command: &Command) -> Result<String, AllocError> {
             format!(in alloc; "cat {view} {path} {branches} {number}")
         }
         Command::Describe { view, path } => format!(in alloc; "describe {view} {path}"),
+        Command::Lsdo { view } => format!(in alloc; "lsdo {view}"),
+        Command::Ls { view, path: None } => format!(in alloc; "ls {view}"),
+        Command::Ls {
+            view,
+            path: Some(path),
+        } => format!(in alloc; "ls {view} {path}"),
+        Command::Lsvtree { view, path } => format!(in alloc; "lsvtree {view} {path}"),
         Command::Lshistory { view, path } => format!(in alloc; "lshistory {view} {path}"),
+        command => words_of_objects(alloc, command),
+    }
+}
+
+// The same of a command on objects and their records.
+fn words_of_objects(alloc: Global, command: &Command) -> Result<String, AllocError> {
+    match command {
+        Command::Rmdo { view, path } => format!(in alloc; "rmdo {view} {path}"),
+        Command::Scrub { age } => format!(in alloc; "scrub {age}"),
+        Command::Catcr { view, path } => format!(in alloc; "catcr {view} {path}"),
+        Command::Diffcr {
+            view,
+            path,
+            other,
+            second,
+        } => format!(in alloc; "diffcr {view} {path} {other} {second}"),
+        Command::Covers { seer, view, path } => format!(in alloc; "covers {seer} {view} {path}"),
         command => words_of_elements(alloc, command),
     }
 }
@@ -322,8 +336,9 @@ fn a_view_is_removed_by_force_or_not(rt: HostRuntime) -> Result<(), Fail> {
 
 #[test]
 fn commands_of_one_line_are_read(rt: HostRuntime) -> Result<(), Fail> {
-    let text = b"phase\nlane a\nrm v a/b\nmklbtype REL\nmkbrtype fix\ncatcs v\ncat v a/b\ncat v .\n\
-        cat v a@@/main/0\ncat v .@@/main/fix/more/18446744073709551615\ndescribe v a\nlshistory v .\n";
+    let text =
+        b"phase\nlane a\nrm v a/b\nmklbtype REL\nmkbrtype fix\ncatcs v\nlsdo v\nls v\nls v .\ncat v a/b\ncat v .\n\
+        cat v a@@/main/0\ncat v .@@/main/fix/more/18446744073709551615\ndescribe v a\nlsvtree v a\nlshistory v .\n";
     assert_lane(
         &rt,
         rt.alloc(),
@@ -334,12 +349,36 @@ fn commands_of_one_line_are_read(rt: HostRuntime) -> Result<(), Fail> {
             "mklbtype REL",
             "mkbrtype fix",
             "catcs v",
+            "lsdo v",
+            "ls v",
+            "ls v .",
             "cat v a/b",
             "cat v .",
             "cat v a 0 0",
             "cat v . 2 18446744073709551615",
             "describe v a",
+            "lsvtree v a",
             "lshistory v .",
+        ],
+    )
+}
+
+#[test]
+fn commands_on_objects_are_read(rt: HostRuntime) -> Result<(), Fail> {
+    let text =
+        b"phase\nlane a\nrmdo v a/b\nscrub 0\nscrub 9223372036854775807\ncatcr v a\ndiffcr v a w b\ncovers w v .\n";
+    assert_lane(
+        &rt,
+        rt.alloc(),
+        RandomState::new(&rt)?,
+        text,
+        &[
+            "rmdo v a/b",
+            "scrub 0",
+            "scrub 9223372036854775807",
+            "catcr v a",
+            "diffcr v a w b",
+            "covers w v .",
         ],
     )
 }

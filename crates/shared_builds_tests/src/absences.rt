@@ -4,7 +4,7 @@ use crate::sessions::{Front, IN_A_LANE, assert_sessions};
 use std::test::Fail;
 
 // Two views of `a.c`, of row 8, which includes `h`; that is looked for as `h`, `one/h` and `two/h`. The last is there, of row 13.
-const INCLUDED: Front = Front {
+pub(crate) const INCLUDED: Front = Front {
     asked: "\
 phase
 lane a

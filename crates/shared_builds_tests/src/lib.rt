@@ -27,9 +27,13 @@ mod options;
 #[cfg(test)]
 mod private_files;
 #[cfg(test)]
+mod record_queries;
+#[cfg(test)]
 mod records;
 #[cfg(test)]
 mod scripts;
+#[cfg(test)]
+mod scrubs;
 #[cfg(test)]
 mod selections;
 #[cfg(test)]

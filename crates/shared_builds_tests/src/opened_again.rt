@@ -1,7 +1,7 @@
 // A base that is opened again: what was built and winked in before is reused as within one run.
 
 use crate::fronts::ONE_FILE;
-use crate::sessions::{Front, IN_A_LANE, outcome_on, parts_of};
+use crate::sessions::{Front, IN_A_LANE, Outcome, outcome_on, parts_of};
 use cc_names::memory::NoMemory;
 use std::alloc::Global;
 use std::hash::RandomState;
@@ -121,4 +121,106 @@ status 0, 6 rows
 #[test]
 fn an_object_of_an_earlier_run_is_winked_in(rt: HostRuntime) -> Result<(), Fail> {
     assert_again(&rt, rt.alloc(), IN_A_LANE, SAME_TAG)
+}
+
+// What a command in one lane comes to on a base, and the journal that it leaves.
+fn step_on(
+    alloc: Global,
+    hashing: RandomState,
+    journal: &[u8],
+    command: &str,
+) -> Result<Outcome, NoMemory> {
+    outcome_on(alloc, hashing, journal, IN_A_LANE, command)
+}
+
+// Each case but the first is a session on the base that the one before it leaves, and what it comes to; the first is the session
+// that the first base is of.
+fn assert_steps(
+    rt: &(impl Abort + RandomSource),
+    alloc: Global,
+    front: Front,
+    cases: &str,
+) -> Result<(), Fail> {
+    let (first, steps) = match cases.split_once("====\n") {
+        Some(parts) => parts,
+        None => (cases, ""),
+    };
+    let mut journal = outcome_on(alloc, RandomState::new(rt)?, &[], front, first)?.journal;
+    for step in steps.split("====\n") {
+        let (command, wanted) = parts_of(step);
+        let outcome = step_on(alloc, RandomState::new(rt)?, journal.as_slice(), command)?;
+        let told = outcome.told.as_str().strip_prefix(IN_A_LANE.told);
+        assert_eq!(rt; told, Some(wanted), "of {command:?}");
+        journal = outcome.journal.as_slice().to_vec(alloc)?;
+    }
+    Ok(())
+}
+
+// The object of the first session is row 11.
+const SCRUBBED_STEP_BY_STEP: &str = "\
+clearmake v
+clearmake w
+====
+rmdo w out
+----
+1 rmdo ok
+status 0, 13 rows
+====
+scrub 0
+----
+1 scrub ok 0
+status 0, 13 rows
+====
+catcr v out
+----
+1 catcr ok
+|target out
+|script cat in > out
+|read in@@/main/1
+status 0, 13 rows
+====
+rmdo v out
+----
+1 rmdo ok
+status 0, 14 rows
+====
+scrub 0
+----
+1 scrub ok 1
+status 0, 15 rows
+====
+scrub 0
+----
+1 scrub ok 0
+status 0, 15 rows
+====
+clearmake w
+----
+1 clearmake ok
+  out built 3 98ea6e4f216f2fb4b69fff9b3a44842c38686ca685f3f55dc48c5d3fb1107be4
+status 0, 16 rows
+====
+covers v w out
+diffcr w out v out
+lsdo v
+lsdo w
+----
+1 covers ok
+|covered
+2 diffcr refused C20 NoObject out
+3 lsdo ok
+4 lsdo ok
+|out@@16 references 1
+status 1, 16 rows
+====
+clearmake v
+----
+1 clearmake ok
+  out winked 3 98ea6e4f216f2fb4b69fff9b3a44842c38686ca685f3f55dc48c5d3fb1107be4
+status 0, 17 rows
+";
+
+#[test]
+fn a_scrub_is_of_the_base_that_was_left(rt: HostRuntime) -> Result<(), Fail> {
+    assert_steps(&rt, rt.alloc(), ONE_FILE, SCRUBBED_STEP_BY_STEP)
 }

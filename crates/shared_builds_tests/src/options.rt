@@ -108,3 +108,41 @@ status 0, 33 rows
 fn what_was_made_from_another_object_is_made_again(rt: HostRuntime) -> Result<(), Fail> {
     assert_sessions(&rt, rt.alloc(), PROGRAM, THREE_UNITS)
 }
+
+// View `v` builds rows 17 to 19, and `w` builds `one` anew in row 20. View `x` winks in the newer `one`, and `two`, by rows 22
+// and 23: `prog` of row 19 was made from the older one, so it is built again, in row 24. View `w` keeps its own `one`, and winks in
+// `two` and what `x` made.
+const ANOTHER_OBJECT: &str = "\
+clearmake v
+clearmake w -u one
+mkview x
+clearmake x
+clearmake v
+clearmake w
+----
+17 clearmake ok
+  one built 4 71ea7f7651811a43e68a94720390354d861ed8964a26acee473aca3325e38634
+  two built 2 0263829989b6fd954f72baaf2fc64bc2e2f01d692d4de72986ea808f6e99813f
+  prog built 6 786967f10f15acf642956bb9fc7619dc9525660b60af053b7c513ee1806c0162
+18 clearmake ok
+  one built 4 71ea7f7651811a43e68a94720390354d861ed8964a26acee473aca3325e38634
+19 mkview ok
+20 clearmake ok
+  one winked 4 71ea7f7651811a43e68a94720390354d861ed8964a26acee473aca3325e38634
+  two winked 2 0263829989b6fd954f72baaf2fc64bc2e2f01d692d4de72986ea808f6e99813f
+  prog built 6 786967f10f15acf642956bb9fc7619dc9525660b60af053b7c513ee1806c0162
+21 clearmake ok
+  one kept 4 71ea7f7651811a43e68a94720390354d861ed8964a26acee473aca3325e38634
+  two kept 2 0263829989b6fd954f72baaf2fc64bc2e2f01d692d4de72986ea808f6e99813f
+  prog kept 6 786967f10f15acf642956bb9fc7619dc9525660b60af053b7c513ee1806c0162
+22 clearmake ok
+  one kept 4 71ea7f7651811a43e68a94720390354d861ed8964a26acee473aca3325e38634
+  two winked 2 0263829989b6fd954f72baaf2fc64bc2e2f01d692d4de72986ea808f6e99813f
+  prog winked 6 786967f10f15acf642956bb9fc7619dc9525660b60af053b7c513ee1806c0162
+status 0, 26 rows
+";
+
+#[test]
+fn what_stands_on_a_winked_object_may_be_built(rt: HostRuntime) -> Result<(), Fail> {
+    assert_sessions(&rt, rt.alloc(), PROGRAM, ANOTHER_OBJECT)
+}

@@ -1,7 +1,7 @@
 // What is reused as sources change: versions that are brought in, checkouts, and a build in another view behind them.
 
 use crate::fronts::PROGRAM;
-use crate::sessions::assert_sessions;
+use crate::sessions::{IN_A_LANE, assert_sessions};
 use std::test::Fail;
 
 // The first build of view `v` makes rows 17 to 19.
@@ -132,4 +132,99 @@ status 0, 24 rows
 #[test]
 fn what_read_a_changed_source_is_built_again(rt: HostRuntime) -> Result<(), Fail> {
     assert_sessions(&rt, rt.alloc(), PROGRAM, CHANGES)
+}
+
+// In the first case version 0 of `in` is row 6, as is the checkout; in the second its version 0 on the branch is row 11.
+const NEW_VERSIONS: &str = "\
+# a checkout of a new element is its version 0 too: what is built from it is winked in where that is selected, until it is saved,
+# and again once it is given up
+mkview v
+checkout v .
+mkelem v Makefile
+save v Makefile
+|out: in
+|\tcat in > out
+checkin v Makefile
+mkelem v in
+checkin v .
+clearmake v
+mkview w
+clearmake w
+save v in
+|hi
+clearmake v
+clearmake w
+uncheckout v in
+clearmake v
+----
+1 mkview ok
+2 checkout ok /main/0
+3 mkelem ok
+4 save ok
+5 checkin ok /main/1
+6 mkelem ok
+7 checkin ok /main/1
+8 clearmake ok
+  out built 0 e3b0c44298fc1c149afbf4c8996fb92427ae41e4649b934ca495991b7852b855
+9 mkview ok
+10 clearmake ok
+  out winked 0 e3b0c44298fc1c149afbf4c8996fb92427ae41e4649b934ca495991b7852b855
+11 save ok
+12 clearmake ok
+  out built 3 98ea6e4f216f2fb4b69fff9b3a44842c38686ca685f3f55dc48c5d3fb1107be4
+13 clearmake ok
+  out kept 0 e3b0c44298fc1c149afbf4c8996fb92427ae41e4649b934ca495991b7852b855
+14 uncheckout ok
+15 clearmake ok
+  out winked 0 e3b0c44298fc1c149afbf4c8996fb92427ae41e4649b934ca495991b7852b855
+status 0, 14 rows
+====
+# so is that of a new branch
+mkview v
+checkout v .
+mkelem v Makefile
+save v Makefile
+|out: in
+|\tcat in > out
+checkin v Makefile
+mkelem v in
+save v in
+|hi
+checkin v in
+checkin v .
+mkbrtype fix
+mkbranch v fix in
+clearmake v
+mkview w
+clearmake w
+setcs w
+|element * .../fix/LATEST
+|element * /main/LATEST
+clearmake w
+----
+1 mkview ok
+2 checkout ok /main/0
+3 mkelem ok
+4 save ok
+5 checkin ok /main/1
+6 mkelem ok
+7 save ok
+8 checkin ok /main/1
+9 checkin ok /main/1
+10 mkbrtype ok
+11 mkbranch ok /main/fix/0
+12 clearmake ok
+  out built 3 98ea6e4f216f2fb4b69fff9b3a44842c38686ca685f3f55dc48c5d3fb1107be4
+13 mkview ok
+14 clearmake ok
+  out built 3 98ea6e4f216f2fb4b69fff9b3a44842c38686ca685f3f55dc48c5d3fb1107be4
+15 setcs ok
+16 clearmake ok
+  out winked 3 98ea6e4f216f2fb4b69fff9b3a44842c38686ca685f3f55dc48c5d3fb1107be4
+status 0, 16 rows
+";
+
+#[test]
+fn what_is_built_from_a_new_version_is_winked_in(rt: HostRuntime) -> Result<(), Fail> {
+    assert_sessions(&rt, rt.alloc(), IN_A_LANE, NEW_VERSIONS)
 }

@@ -42,7 +42,7 @@ clearmake v
   out kept 3 98ea6e4f216f2fb4b69fff9b3a44842c38686ca685f3f55dc48c5d3fb1107be4
 status 0, 14 rows
 ====
-# two lanes that build the same: the first builds, the second winks in
+# two lanes that build the same at once: both run, the first publishes, and the second, which looks once more, winks that in
 phase
 lane a
 clearmake v

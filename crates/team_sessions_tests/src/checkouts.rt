@@ -204,3 +204,45 @@ status 1, 14 rows
 fn a_view_with_checkouts_ends_by_force(rt: HostRuntime) -> Result<(), Fail> {
     assert_sessions(&rt, rt.alloc(), BESIDE_A_FILE, ENDED_VIEWS)
 }
+
+const NOT_SELECTED: &str = "\
+# the view has the element out, and its config spec selects no checkout: the version is seen, with its labels
+mklbtype REL
+mklabel v REL in
+checkout v in
+setcs v
+|element * /main/LATEST
+describe v in
+save v in
+|foo
+cat v in
+ls v
+checkout v in
+checkin v in
+cat v in
+----
+8 mklbtype ok
+9 mklabel ok
+10 checkout ok /main/1
+11 setcs ok
+12 describe ok
+|element 3
+|kind file
+|version /main/1
+|label REL
+13 save ok
+14 cat ok
+|hi
+15 ls ok
+|in@@/main/1 rule 1
+16 checkout refused C8 AlreadyOut 10
+17 checkin ok /main/2
+18 cat ok
+|foo
+status 1, 13 rows
+";
+
+#[test]
+fn a_checkout_that_is_not_selected_is_not_seen(rt: HostRuntime) -> Result<(), Fail> {
+    assert_sessions(&rt, rt.alloc(), BESIDE_A_FILE, NOT_SELECTED)
+}

@@ -27,6 +27,8 @@ mod label_refusals;
 #[cfg(test)]
 mod labels;
 #[cfg(test)]
+mod listings;
+#[cfg(test)]
 mod long_paths;
 #[cfg(test)]
 mod moments;

@@ -1,4 +1,4 @@
-// Sessions of queries on elements: the text of a version, what is selected of an element, and what was done to it.
+// Sessions of queries on elements: the text of a version, what is selected of an element, its versions, and what was done to it.
 
 use crate::sessions::{BESIDE_A_FILE, assert_sessions};
 use std::test::Fail;
@@ -173,4 +173,84 @@ status 1, 16 rows
 #[test]
 fn what_is_selected_of_an_element_is_told(rt: HostRuntime) -> Result<(), Fail> {
     assert_sessions(&rt, rt.alloc(), BESIDE_A_FILE, DESCRIPTIONS)
+}
+
+const TREES: &str = "\
+# versions branch by branch with their labels; the branches that leave a version stand behind it, the oldest first
+mklbtype REL
+mklbtype BETA
+mkbrtype fix
+mkbrtype dev
+mkbrtype more
+mkbranch v -nco fix in
+mkbranch v -nco dev in
+lsvtree w in
+setcs v
+|element * CHECKEDOUT
+|element * .../fix/LATEST
+|element * /main/LATEST
+checkout v in
+save v in
+|foo
+checkin v in
+mkbranch v -nco more in
+mklabel v REL in
+mklabel v BETA in
+checkout w in
+lsvtree v in
+lsvtree v .
+lsvtree v no
+save v own
+|x
+lsvtree v own
+lsvtree x in
+----
+8 mklbtype ok
+9 mklbtype ok
+10 mkbrtype ok
+11 mkbrtype ok
+12 mkbrtype ok
+13 mkbranch ok /main/fix/0
+14 mkbranch ok /main/dev/0
+15 lsvtree ok
+|in@@/main
+|in@@/main/0
+|in@@/main/1
+|in@@/main/fix
+|in@@/main/fix/0
+|in@@/main/dev
+|in@@/main/dev/0
+16 setcs ok
+17 checkout ok /main/fix/0
+18 save ok
+19 checkin ok /main/fix/1
+20 mkbranch ok /main/fix/more/0
+21 mklabel ok
+22 mklabel ok
+23 checkout ok /main/1
+24 lsvtree ok
+|in@@/main
+|in@@/main/0
+|in@@/main/1
+|in@@/main/fix
+|in@@/main/fix/0
+|in@@/main/fix/1 (BETA, REL)
+|in@@/main/fix/more
+|in@@/main/fix/more/0
+|in@@/main/dev
+|in@@/main/dev/0
+25 lsvtree ok
+|.@@/main
+|.@@/main/0
+|.@@/main/1
+26 lsvtree refused C3 NoPath no
+27 save ok
+28 lsvtree refused C6 NotElement own
+29 lsvtree refused C1 NoView
+status 1, 23 rows
+";
+
+#[test]
+fn the_versions_of_an_element_are_told(rt: HostRuntime) -> Result<(), Fail> {
+    assert_sessions(&rt, rt.alloc(), BESIDE_A_FILE, TREES)
 }

@@ -1,11 +1,11 @@
 -- The rows along the links of one key.
-use Rattle.std.proofs.Common.{◌≡◌, ℕ, ◌+◌, ◌<◌, ◌==◌, Bool, true, false, cond, List, [], ◌∷◌, ◌++◌, length, get_or, take, reverse, Option, Some, None, IfSome, refl, sym, ap, subst, arith}
+use Rattle.std.proofs.Common.{◌≡◌, ℕ, ◌+◌, ◌<◌, ◌==◌, Bool, true, false, cond, List, [], ◌∷◌, ◌++◌, length, get_or, take, reverse, Option, Some, None, IfSome, refl, sym, ap, ap₂, subst, ◌∙◌, arith}
 use Rattle.std.proofs.lemmas.Bool.Decides.{nat_tests}
 use Rattle.std.proofs.lemmas.List.{reverse-reverse, reverse-append, length-reverse, length-append, take-append-le}
 use Rattle.std.proofs.Math.ListN.{get_or-append}
 use Rattle.std.proofs.Math.Seq.{get_or-append_seam, take-append_seam}
 use Rattle.cc_names.specs.Versions.{put_if}
-use Rattle.view_lookup.specs.Marked.{is_place, rows_from, AreLinked, IsChained, rows_by}
+use Rattle.view_lookup.specs.Marked.{is_place, rows_from, AreLinked, IsChained, IsLinked, rows_by}
 use Rattle.view_lookup.specs.declared.marks.Link.{Link}
 
 -- nothing is led to from nowhere
@@ -36,7 +36,7 @@ link_in (link ∷ older) p d within =
           let place : p ≡ length older = grind (arith, nat_tests) in
           rw there (record {
             rows = rw (rows_from, e, front) refl;
-            older = λ linked. subst (λ n. IfSome link.older (λ q. q < n)) (sym place) linked.0;
+            older = λ linked. subst (λ n. IfSome link.older (λ q. q < n)) (sym place) linked.0.next;
             linked = λ linked. rw front linked.1;
           })
       | false ↦ λ e.
@@ -73,29 +73,27 @@ more_within None n within = tt
 more_within (Some p) n within = omega arith
 
 -- what is marked for the key is one link more
-module _ (links : List Link) (heads heads' : ℕ → Option ℕ) (row key : ℕ) (chained : IsChained links heads) (updates : (q : ℕ) → heads' q ≡ cond (key == q) (Some (length links)) (heads q)) where
-  grown : reverse (links ++ record { row = row; older = heads key } ∷ []) ≡ record { row = row; older = heads key } ∷ reverse links
-  grown = reverse-append links (record { row = row; older = heads key } ∷ [])
+module _ (links : List Link) (heads heads' : ℕ → Option ℕ) (row key : ℕ) (link : Link) (chained : IsChained links heads) (updates : (q : ℕ) → heads' q ≡ cond (key == q) (Some (length links)) (heads q))
+    (own : link.row ≡ row) (next : link.older ≡ heads key) (linked : IsLinked link (reverse links)) where
+  grown : reverse (links ++ link ∷ []) ≡ link ∷ reverse links
+  grown = reverse-append links (link ∷ [])
 
-  older_within : IfSome (heads key) (λ place. place < length (reverse links))
-  older_within = subst (λ n. IfSome (heads key) (λ place. place < n)) (sym (length-reverse links)) (chained.within key)
-
-  pub mark_chained : IsChained (links ++ record { row = row; older = heads key } ∷ []) heads'
+  pub mark_chained : IsChained (links ++ link ∷ []) heads'
   mark_chained = record {
-    linked = rw grown (older_within, chained.linked);
-    within = λ q. rw (length-append links (record { row = row; older = heads key } ∷ []), updates q) (by_key (key == q) q);
+    linked = rw grown (linked, chained.linked);
+    within = λ q. rw (length-append links (link ∷ []), updates q) (by_key (key == q) q);
   }
     where
       by_key : (is : Bool) (q : ℕ) → IfSome (cond is (Some (length links)) (heads q)) (λ place. place < length links + 1)
       by_key true q = omega arith
       by_key false q = more_within (heads q) (length links) (chained.within q)
 
-  pub mark_rows : (q : ℕ) → rows_by (links ++ record { row = row; older = heads key } ∷ []) heads' q ≡ put_if (key == q) row (rows_by links heads q)
-  mark_rows q = rw (grown, updates q) (elim (key == q) as (λ is. (key == q) ≡ is → rows_from (record { row = row; older = heads key } ∷ reverse links) (cond is (Some (length links)) (heads q)) ≡ put_if is row (rows_by links heads q)) [
+  pub mark_rows : (q : ℕ) → rows_by (links ++ link ∷ []) heads' q ≡ put_if (key == q) row (rows_by links heads q)
+  mark_rows q = rw (grown, updates q) (elim (key == q) as (λ is. (key == q) ≡ is → rows_from (link ∷ reverse links) (cond is (Some (length links)) (heads q)) ≡ put_if is row (rows_by links heads q)) [
     | true ↦ λ e.
         let here : is_place (Some (length links)) (length (reverse links)) ≡ true = grind (arith, nat_tests, length-reverse links) in
         let same : key ≡ q = grind (arith, nat_tests) in
-        rw (rows_from, here) (ap (λ k. row ∷ rows_from (reverse links) (heads k)) same)
+        rw (rows_from, here) (ap₂ (λ n place. n ∷ rows_from (reverse links) place) own (next ∙ ap heads same))
     | false ↦ λ e.
         let other : is_place (heads q) (length (reverse links)) ≡ false =
         not_last (heads q) (length (reverse links)) (subst (λ n. IfSome (heads q) (λ place. place < n)) (sym (length-reverse links)) (chained.within q)) in

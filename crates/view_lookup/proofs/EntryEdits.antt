@@ -2,14 +2,14 @@
 use Rattle.std.proofs.Common.{◌≡◌, ℕ, Bool, true, false, not, cond, ◌||◌, Option, Some, None, List, refl, ap, sym, subst, ◌∙◌, bytes_eq}
 use Rattle.std.specs.Prelude.{is_some}
 use Rattle.std.specs.Cmp.Lexicographic.{slice_cmp}
-use Rattle.std.specs.FinMap.Entries.{find, find-put, find-where_key}
+use Rattle.std.specs.FinMap.Entries.{find-put, find-where_key}
 use Rattle.std.specs.Ordering.{nat_cmp, is_eq}
 use Rattle.std.specs.declared.cmp.Ordering.TheVariants.{Equal}
 use Rattle.std.proofs.lemmas.Cmp.{nat_list_cmp_total}
 use Rattle.std.proofs.lemmas.Map.Text.{is_eq-slice_cmp}
 use Rattle.std.proofs.lemmas.Slice.Eq.{bytes_eq-Decides}
 use Rattle.legal_history.specs.Base.Catalogs.{Catalog, Edit, Same, BeginsEmpty, BeginsAs, Adds, Removes, Renames, named, with_name, without_name, with_new_name, edited}
-use Rattle.view_lookup.specs.Entries.{begins, changes}
+use Rattle.view_lookup.specs.Changed.{begins, changes}
 
 flipped_true : (a b : List ℕ) → bytes_eq a b ≡ true → bytes_eq b a ≡ true
 flipped_true a b is = subst (λ c. bytes_eq b c ≡ true) (sym ((bytes_eq-Decides a b).0 is)) ((bytes_eq-Decides b b).1 refl)

@@ -1,13 +1,12 @@
 -- A row that gives an element another name fits the rows below it: the element has its first name there.
-use Rattle.std.proofs.Common.{◌≡◌, ℕ, suc, ◌<◌, ◌≤◌, ◌==◌, Bool, true, false, not, ◌&&◌, Option, Some, None, List, [], ◌∷◌, length, bytes_eq, nat_lt, refl, ap, ap₂, sym, subst, ◌∙◌, arith}
+use Rattle.std.proofs.Common.{◌≡◌, ℕ, suc, ◌<◌, ◌≤◌, ◌==◌, Bool, true, false, not, ◌&&◌, Some, List, [], ◌∷◌, length, bytes_eq, nat_lt, refl, ap, ap₂, sym, subst, ◌∙◌, arith}
 use Rattle.std.specs.Prelude.{is_some}
-use Rattle.std.proofs.lemmas.Bool.Decides.{nat_tests, Decides-eqb}
+use Rattle.std.proofs.lemmas.Bool.Decides.{Decides-eqb}
 use Rattle.std.proofs.lemmas.Slice.Eq.{bytes_eq-Decides}
-use Rattle.cc_names.specs.Formed.{Plain}
 use Rattle.cc_names.specs.declared.rows.Deed.{Deed}
 use Rattle.cc_names.specs.declared.rows.Deed.TheVariants as deeds
-use Rattle.legal_history.specs.Base.Catalogs.{Edit, BeginsEmpty, BeginsAs, Adds, Removes, Renames, edit_where, first_edit, is_out, named, edit_of, own_of}
-use Rattle.legal_history.specs.Base.Conditions.{has_out, has_name, has_out_by_name}
+use Rattle.legal_history.specs.Base.Catalogs.{BeginsEmpty, BeginsAs, Adds, Removes, Renames, edit_where, first_edit, is_out, named, edit_of, own_of}
+use Rattle.legal_history.specs.Base.Conditions.{has_out, has_name}
 use Rattle.legal_history.specs.Base.Fits.{deed_fits, is_base}
 use Rattle.legal_history.specs.Base.Rows.{Base, size, first_rows, row_at, deed_of, deed_at}
 use Rattle.legal_history.proofs.Bases.Deeds.{deed_below}

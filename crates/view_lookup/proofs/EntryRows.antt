@@ -1,9 +1,8 @@
 -- A name in a catalog, by the row that made the catalog of a version, and by the newest row that bears on it in that of a checkout.
-use Rattle.std.proofs.Common.{◌≡◌, ℕ, suc, ◌<◌, ◌≤◌, ◌==◌, Bool, true, false, ◌||◌, Option, Some, None, IfSome, List, [], ◌∷◌, bytes_eq, refl, ap, ap₂, sym, subst, ◌∙◌, arith}
-use Rattle.std.specs.Prelude.{is_some}
+use Rattle.std.proofs.Common.{◌≡◌, ℕ, suc, ◌<◌, ◌≤◌, ◌==◌, Bool, true, false, ◌||◌, Option, Some, None, IfSome, List, [], ◌∷◌, refl, ap, sym, subst, ◌∙◌, arith}
 use Rattle.std.proofs.lemmas.Bool.Decides.{nat_tests, Decides-eqb}
 use Rattle.cc_names.specs.Formed.{Plain}
-use Rattle.cc_names.specs.Last.{Effect, Keeps, Ends, Sets, only_if, left}
+use Rattle.cc_names.specs.Last.{Sets, only_if, left}
 use Rattle.cc_names.specs.declared.rows.Deed.{Deed}
 use Rattle.cc_names.specs.declared.rows.Deed.TheVariants as deeds
 use Rattle.cc_names.specs.declared.rows.Out.{Out}
@@ -11,7 +10,8 @@ use Rattle.legal_history.specs.Base.Catalogs.{Catalog, CatalogSource, Empty, OfV
 use Rattle.legal_history.specs.Base.Rows.{Base, size, first_rows, row_at, deed_of, deed_at}
 use Rattle.legal_history.proofs.Bases.Deeds.{deed_below}
 use Rattle.legal_history.proofs.Bases.Stay.{all_rows, first_rows_stay}
-use Rattle.view_lookup.specs.Entries.{begins, changes, entry_effect}
+use Rattle.view_lookup.specs.Changed.{begins, changes}
+use Rattle.view_lookup.specs.Entries.{entry_effect}
 use Rattle.view_lookup.specs.Ended.{or_else}
 use Rattle.view_lookup.specs.LookUps.{last_of}
 use Rattle.view_lookup.proofs.EntryEdits.{left_alone}

@@ -1,7 +1,6 @@
 -- An object is held by some view where the view that made it, or one that winked it in, holds it at one of its targets.
 use Rattle.std.proofs.Common.{◌≡◌, ℕ, ◌<◌, Bool, true, false, ◌&&◌, ◌||◌, ◌==◌, cond, Option, Some, None, List, [], ◌∷◌, length, refl, ap, sym, ◌∙◌, arith, bytes_eq}
 use Rattle.std.specs.Prelude.{T, is_some}
-use Rattle.std.specs.List.{list_any}
 use Rattle.std.specs.Cmp.{tied_itself}
 use Rattle.std.specs.declared.cmp.Ordering.{Ordering}
 use Rattle.std.specs.declared.cmp.Ordering.TheVariants.{Less, Equal, Greater}
@@ -89,7 +88,7 @@ module _ (b : Base) (id : ℕ) where
   number_is m same = grind (arith, nat_tests)
 
   -- a view that holds the object at a target holds it at one of them
-  holds_target : (v path w : List ℕ) (targets : List (List ℕ)) → held_at (held b) v path ≡ Some id → bytes_eq w v ≡ true → is_target path targets ≡ true → holds_one b w id targets ≡ true
+  pub holds_target : (v path w : List ℕ) (targets : List (List ℕ)) → held_at (held b) v path ≡ Some id → bytes_eq w v ≡ true → is_target path targets ≡ true → holds_one b w id targets ≡ true
   holds_target v path w [] is same among = absurd (cc)
   holds_target v path w (target ∷ targets) is same among = by (bytes_eq target path) refl (holds_target v path w targets is same) among
     where
@@ -103,7 +102,7 @@ module _ (b : Base) (id : ℕ) where
       by false other rest one = or_second (is_number id (held_at (held b) w target)) (holds_one b w id targets) (rest one)
 
   -- an object that a view holds at one of some paths is held
-  number_of : (found : Option ℕ) → is_number id found ≡ true → found ≡ Some id
+  pub number_of : (found : Option ℕ) → is_number id found ≡ true → found ≡ Some id
   number_of None h = absurd (cc)
   number_of (Some m) h = let same : m ≡ id = grind (arith, nat_tests) in ap Some same
 

@@ -21,7 +21,7 @@ use Rattle.view_lookup.specs.Made.{is_target}
 use Rattle.view_lookup.specs.LookUps.{Deeds, last_of}
 use Rattle.view_lookup.proofs.Fronts.{both}
 
-places_total : IsTotalOrder place_cmp
+pub places_total : IsTotalOrder place_cmp
 places_total = then_total (on_total (λ (place : Place). place.0) nat_list_cmp_total) (on_total (λ (place : Place). place.1) nat_list_cmp_total)
 
 -- both of two orders tie
@@ -31,7 +31,7 @@ ties Equal two = refl
 ties Greater two = refl
 
 -- two places are one where their views and their paths are
-same_place : (v path w target : List ℕ) → eq_by_cmp place_cmp (v, path) (w, target) ≡ (bytes_eq w v && bytes_eq target path)
+pub same_place : (v path w target : List ℕ) → eq_by_cmp place_cmp (v, path) (w, target) ≡ (bytes_eq w v && bytes_eq target path)
 same_place v path w target =
     ties (slice_cmp nat_cmp v w) (slice_cmp nat_cmp path target)
     ∙ ap₂ ◌&&◌ (is_eq-slice_cmp v w ∙ nat_list_eq_equiv.symm v w) (is_eq-slice_cmp path target ∙ nat_list_eq_equiv.symm path target)

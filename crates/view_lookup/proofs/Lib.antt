@@ -1,13 +1,19 @@
 pub mod Arrows
 pub mod AtIndex
+pub mod ChangedNames
+pub mod ChangingRows
 pub mod Chains
+pub mod FilesSeen
 pub mod FirstTrees
 pub mod Fronts
+pub mod FurtherBack
 pub mod Growths
 pub mod HeldSomewhere
 pub mod Holdings
+pub mod KeysAdded
 pub mod Labellings
 pub mod Newest
+pub mod MarksSink
 pub mod Endings
 pub mod EntryEdits
 pub mod EntryRows
@@ -30,3 +36,7 @@ pub mod ReservedOnce
 mod WorkedPools
 pub mod Walked
 pub mod LabelsFound
+pub mod LeavingTold
+pub mod PathSets
+pub mod GivenRows
+pub mod HoldersFound

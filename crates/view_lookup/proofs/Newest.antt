@@ -1,5 +1,5 @@
 -- The first marked row that does something to a thing is the newest row of the base that does.
-use Rattle.std.proofs.Common.{◌≡◌, ℕ, suc, ◌<◌, ◌≤◌, ◌==◌, Bool, true, false, ◌&&◌, ◌||◌, List, [], ◌∷◌, length, Option, Some, None, IfSome, map, nat_lt, refl, ap, ap₂, sym, ◌∙◌, arith, bytes_eq}
+use Rattle.std.proofs.Common.{◌≡◌, ℕ, suc, ◌<◌, ◌≤◌, ◌==◌, Bool, true, false, ◌&&◌, ◌||◌, List, [], ◌∷◌, ◌++◌, length, Option, Some, None, IfSome, map, nat_lt, refl, ap, ap₂, sym, ◌∙◌, arith, bytes_eq}
 use Rattle.std.specs.List.{list_any}
 use Rattle.std.specs.Option.{option_or}
 use Rattle.std.proofs.lemmas.Bool.Decides.{nat_tests, Decides-eqb}
@@ -7,11 +7,12 @@ use Rattle.std.proofs.lemmas.Slice.Eq.{bytes_eq-Decides}
 use Rattle.cc_names.specs.Last.{Effect, Keeps, Ends, Sets, left}
 use Rattle.cc_names.specs.Formed.{Plain}
 use Rattle.cc_names.specs.Versions.{put_if}
+use Rattle.cc_names.specs.declared.rows.Deed.{Deed}
 use Rattle.legal_history.specs.Base.Rows.{Base, size, first_rows, row_at, deed_of, deed_at}
 use Rattle.legal_history.specs.Builds.Reuse.{are_same_paths}
 use Rattle.legal_history.proofs.Bases.Stay.{all_rows}
 use Rattle.view_lookup.specs.LookUps.{Deeds, Told, told, newest, told_by, told_at, first_told, left_by, last_of, IsCovered}
-use Rattle.view_lookup.specs.Subjects.{Subject, Life, Spec, Desk, File, Object, Out, Saved, Entry, Reserved, Named, Living, Winked, Merge, History, is_same, key, borne, bears, keys_of, Pool}
+use Rattle.view_lookup.specs.Subjects.{Subject, Life, Spec, Desk, File, Object, Out, Saved, Entry, Reserved, Named, Living, Winked, Merge, History, Changing, Altered, Leaving, Owned, Given, is_same, key, bears, catalog_subjects, keys_of, plain_subjects, Pool}
 use Rattle.view_lookup.specs.Marked.{with_marks, marked}
 use Rattle.std.specs.declared.random_state.RandomState.{RandomState}
 
@@ -107,14 +108,50 @@ same_key hashing (Merge e tail head) (Merge f one two) is =
     ap (λ into. key hashing (Merge f one into)) (same_number two head parts.1)
     ∙ ap₂ (λ element from. key hashing (Merge element from head)) (same_number f e ends.0) (same_number one tail ends.1)
 same_key hashing (History e) (History f) is = ap (λ element. key hashing (History element)) (same_number f e is)
+same_key hashing (Leaving version) (Leaving other) is = ap (λ origin. key hashing (Leaving origin)) (same_number other version is)
+same_key hashing (Owned v) (Owned w) is = ap (λ name. key hashing (Owned name)) (same_text w v is)
+same_key hashing (Given d) (Given f) is = ap (λ directory. key hashing (Given directory)) (same_number f d is)
+same_key hashing (Changing began) (Changing other) is = ap (λ it. key hashing (Changing it)) (sym (same_number began other is))
+same_key hashing (Altered branch name) (Altered other one) is =
+    let parts = both (other == branch) (bytes_eq one name) is in
+    ap₂ (λ on text. key hashing (Altered on text)) (same_number other branch parts.0) (same_text one name parts.1)
 same_key hashing one two is = absurd (cc)
 
 -- a deed is marked for the key of each subject on which it bears
-pub has_key : (hashing : RandomState) (subject : Subject) (all : List Subject) → list_any (is_same subject) all ≡ true → list_any (λ k. k == key hashing subject) (map (key hashing) all) ≡ true
+has_key : (hashing : RandomState) (subject : Subject) (all : List Subject) → list_any (is_same subject) all ≡ true → list_any (λ k. k == key hashing subject) (map (key hashing) all) ≡ true
 has_key hashing subject [] is = absurd (cc)
 has_key hashing subject (first ∷ rest) is = or_cases (is_same subject first) (list_any (is_same subject) rest) _ is
     (λ here. or_first (key hashing first == key hashing subject) (list_any (λ k. k == key hashing subject) (map (key hashing) rest)) ((Decides-eqb (key hashing first) (key hashing subject)).1 (same_key hashing subject first here)))
     (λ later. or_last (key hashing first == key hashing subject) (list_any (λ k. k == key hashing subject) (map (key hashing) rest)) (has_key hashing subject rest later))
+
+any_front : (test : ℕ → Bool) (xs ys : List ℕ) → list_any test xs ≡ true → list_any test (xs ++ ys) ≡ true
+any_front test [] ys h = absurd (cc)
+any_front test (x ∷ xs) ys h = or_cases (test x) (list_any test xs) _ h (λ here. or_first (test x) (list_any test (xs ++ ys)) here) (λ later. or_last (test x) (list_any test (xs ++ ys)) (any_front test xs ys later))
+
+any_back : (test : ℕ → Bool) (xs ys : List ℕ) → list_any test ys ≡ true → list_any test (xs ++ ys) ≡ true
+any_back test [] ys h = h
+any_back test (x ∷ xs) ys h = or_last (test x) (list_any test (xs ++ ys)) (any_back test xs ys h)
+
+map_both : (hashing : RandomState) (xs ys : List Subject) → map (key hashing) (xs ++ ys) ≡ map (key hashing) xs ++ map (key hashing) ys
+map_both hashing [] ys = refl
+map_both hashing (x ∷ xs) ys = ap (λ rest. key hashing x ∷ rest) (map_both hashing xs ys)
+
+-- the next row is marked for the key of each subject on which it bears
+module _ (hashing : RandomState) (subject : Subject) (older : Base) (deed : Deed) where
+  of_catalogs : list_any (is_same subject) (catalog_subjects older deed) ≡ true → list_any (λ k. k == key hashing subject) (keys_of hashing older deed) ≡ true
+  of_catalogs is =
+      ap (list_any (λ k. k == key hashing subject)) (map_both hashing (catalog_subjects older deed) (plain_subjects older deed))
+      ∙ any_front (λ k. k == key hashing subject) (map (key hashing) (catalog_subjects older deed)) (map (key hashing) (plain_subjects older deed)) (has_key hashing subject (catalog_subjects older deed) is)
+
+  of_others : list_any (is_same subject) (plain_subjects older deed) ≡ true → list_any (λ k. k == key hashing subject) (keys_of hashing older deed) ≡ true
+  of_others is =
+      ap (list_any (λ k. k == key hashing subject)) (map_both hashing (catalog_subjects older deed) (plain_subjects older deed))
+      ∙ any_back (λ k. k == key hashing subject) (map (key hashing) (catalog_subjects older deed)) (map (key hashing) (plain_subjects older deed)) (has_key hashing subject (plain_subjects older deed) is)
+
+pub borne_key : (hashing : RandomState) (subject : Subject) (older : Base) (deed : Deed) → bears subject older deed ≡ true → list_any (λ k. k == key hashing subject) (keys_of hashing older deed) ≡ true
+borne_key hashing (Changing began) older deed is = of_catalogs hashing (Changing began) older deed is
+borne_key hashing (Altered branch name) older deed is = of_catalogs hashing (Altered branch name) older deed is
+borne_key hashing subject older deed is = of_others hashing subject older deed is
 
 not_below_itself : (n : ℕ) → nat_lt n n ≡ false
 not_below_itself n = grind (arith, nat_tests)
@@ -147,7 +184,7 @@ marks_tell hashing subject effect covered at (row ∷ older) agree =
     let before : first_told at rest ≡ newest effect older =
     marks_tell hashing subject effect covered at older (λ m within. agree m (omega arith) ∙ older_at effect row older m within) in
     elim (bears subject older row.deed) as (λ is. bears subject older row.deed ≡ is → first_told at (with_marks n (key hashing subject) keys rest) ≡ option_or (told n (effect older row.deed)) (newest effect older)) [
-      | true ↦ λ e. counted at n (key hashing subject) keys rest (has_key hashing subject (borne older row.deed) e) ∙ ap₂ option_or here before
+      | true ↦ λ e. counted at n (key hashing subject) keys rest (borne_key hashing subject older row.deed e) ∙ ap₂ option_or here before
       | false ↦ λ e.
           let nothing : told n (effect older row.deed) ≡ None = ap (told n) (covered older row.deed e) in
           passed at n (key hashing subject) keys rest (here ∙ nothing) ∙ before ∙ sym (ap (λ first. option_or first (newest effect older)) nothing)

@@ -7,8 +7,8 @@ use Rattle.cc_names.specs.Versions.{put_if}
 use Rattle.legal_history.specs.Base.Rows.{Base, size, first_rows, deed_of}
 use Rattle.view_lookup.specs.LookUps.{Deeds, told, told_by, left_by, oldest, set_at, last_set, IsCovered}
 use Rattle.view_lookup.specs.Marked.{with_marks, marked}
-use Rattle.view_lookup.specs.Subjects.{Subject, key, borne, bears, keys_of}
-use Rattle.view_lookup.proofs.Newest.{first_shorter, has_key, newest_at, no_later, older_at}
+use Rattle.view_lookup.specs.Subjects.{Subject, key, bears, keys_of}
+use Rattle.view_lookup.proofs.Newest.{borne_key, first_shorter, newest_at, no_later, older_at}
 
 -- the same once more is the same
 or_again : {A : Type 0} (x y : Option A) → option_or (option_or x y) y ≡ option_or x y
@@ -57,7 +57,7 @@ marks_tell_oldest hashing subject effect covered at (row ∷ older) agree =
     let before : last_set at rest ≡ oldest effect older =
     marks_tell_oldest hashing subject effect covered at older (λ m within. agree m (omega arith) ∙ ap left_by (older_at effect row older m within)) in
     elim (bears subject older row.deed) as (λ is. bears subject older row.deed ≡ is → last_set at (with_marks n (key hashing subject) keys rest) ≡ option_or (oldest effect older) (left_by (told n (effect older row.deed)))) [
-      | true ↦ λ e. counted_last at n (key hashing subject) keys rest (has_key hashing subject (borne older row.deed) e) ∙ ap₂ option_or before here
+      | true ↦ λ e. counted_last at n (key hashing subject) keys rest (borne_key hashing subject older row.deed e) ∙ ap₂ option_or before here
       | false ↦ λ e.
           let nothing : left_by (told n (effect older row.deed)) ≡ None = ap (λ does. left_by (told n does)) (covered older row.deed e) in
           passed_last at n (key hashing subject) keys rest (here ∙ nothing) ∙ before ∙ sym (ap (option_or (oldest effect older)) nothing ∙ or_none (oldest effect older))

@@ -10,9 +10,9 @@ use Rattle.cc_names.specs.declared.rows.Deed.{Deed}
 use Rattle.legal_history.specs.Base.Rows.{Base, size, first_rows}
 use Rattle.view_lookup.specs.LookUps.{Deeds, Told, told, told_at, IsCovered}
 use Rattle.view_lookup.specs.Marked.{with_marks, marked}
-use Rattle.view_lookup.specs.Subjects.{Subject, key, borne, bears, keys_of}
+use Rattle.view_lookup.specs.Subjects.{Subject, key, bears, keys_of}
 use Rattle.view_lookup.specs.Walks.{all_told, told_below}
-use Rattle.view_lookup.proofs.Newest.{first_shorter, has_key, newest_at, older_at}
+use Rattle.view_lookup.proofs.Newest.{borne_key, first_shorter, newest_at, older_at}
 
 at_most_itself : (n : ℕ) → n ≤ n
 at_most_itself n = omega arith
@@ -71,7 +71,7 @@ not_borne hashing subject older deed none = by (bears subject older deed) refl
   where
     by : (is : Bool) → bears subject older deed ≡ is → is ≡ false
     by true e =
-        let has = has_key hashing subject (borne older deed) e in
+        let has = borne_key hashing subject older deed e in
         absurd (cc)
     by false e = refl
 

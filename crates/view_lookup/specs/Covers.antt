@@ -9,12 +9,13 @@ use Rattle.cc_names.specs.declared.rows.Placed.{Placed}
 use Rattle.cc_names.specs.Versions.{is_number}
 use Rattle.legal_history.specs.Base.Changes.{targets_of, live}
 use Rattle.legal_history.specs.Base.Rows.{Base, size}
-use Rattle.view_lookup.specs.Effects.{life_effect, end_effect, gone_effect, file_effect, object_effect, living_effect, named_effect, merge_effect, set_effect, map_effect, kept_checkout, desk_effect, saved_effect, reserving_effect, stands, standing_effect, holds_one, winked_effect, pool_effect}
+use Rattle.view_lookup.specs.Effects.{life_effect, end_effect, gone_effect, file_effect, object_effect, living_effect, named_effect, merge_effect, set_effect, map_effect, kept_checkout, desk_effect, saved_effect, reserving_effect, stands, standing_effect, holds_one, winked_effect, pool_effect, leaving_effect}
 use Rattle.legal_history.specs.Builds.Reuse.{are_same_paths}
+use Rattle.view_lookup.specs.Giving.{naming_effect, own_effect}
 use Rattle.view_lookup.specs.Histories.{history_effect, is_placed_on}
 use Rattle.view_lookup.specs.LookUps.{IsCovered}
 use Rattle.view_lookup.specs.Made.{is_target}
-use Rattle.view_lookup.specs.Subjects.{Life, Spec, Desk, File, Object, Out, Saved, Reserved, Named, Living, Winked, Merge, History, history_at, is_same, reserved_branch, reserved_subjects, Pool}
+use Rattle.view_lookup.specs.Subjects.{Life, Spec, Desk, File, Object, Out, Saved, Reserved, Named, Living, Winked, Merge, History, Leaving, Owned, Given, history_at, is_same, reserved_branch, reserved_subjects, Pool}
 use Rattle.view_lookup.specs.Pool.{Test}
 
 -- an effect where a test holds is none where neither it nor another holds
@@ -185,3 +186,20 @@ history_covered e older (deeds.Unlabel label f) h = unless (f == e) false (Sets 
 history_covered e older (deeds.Labels label placed) h =
     unless_by (list_any (is_placed_on e) placed) (list_any (is_same (History e)) (map history_at placed)) (Sets (size older)) (among_placed e placed) h
 history_covered e older deed h = refl
+
+pub leaving_covered : (version : ℕ) → IsCovered (Leaving version) (leaving_effect version)
+leaving_covered version older (deeds.Branch v e origin name out) h =
+    unless (origin == version) (list_any (is_same (Leaving version)) (reserved_subjects (reserved_branch older (deeds.Branch v e origin name out)))) (Sets (size older)) h
+leaving_covered version older deed h = refl
+
+pub own_covered : (v : List ℕ) → IsCovered (Owned v) (own_effect v)
+own_covered v older (deeds.Put w path text) h = unless (bytes_eq w v) false (Sets (size older)) h
+own_covered v older (deeds.Publish w targets script entries outputs) h = unless (bytes_eq w v) (list_any (is_same (Owned v)) (map (Object w) targets)) (Sets (size older)) h
+own_covered v older (deeds.Wink w id) h = unless (bytes_eq w v) (list_any (is_same (Owned v)) (map (Object w) (targets_of older id))) (Sets (size older)) h
+own_covered v older deed h = refl
+
+pub naming_covered : (d : ℕ) → IsCovered (Given d) (naming_effect d)
+naming_covered d older (deeds.Mkelem v f name kind out) h =
+    unless (f == d) (list_any (is_same (Given d)) (reserved_subjects (reserved_branch older (deeds.Mkelem v f name kind out)))) (Sets (size older)) h
+naming_covered d older (deeds.Mv v f from_name to_name) h = unless (f == d) false (Sets (size older)) h
+naming_covered d older deed h = refl

@@ -142,3 +142,8 @@ standing_effect b v older deed = standing_of b v (model.made_out (size older) de
 -- a branch is reserved
 abbrev pub reserving_effect : ℕ → Deeds ℕ
 reserving_effect branch older deed = only_if (is_number branch (reserved_branch older deed)) (Sets (size older))
+
+-- a branch is made that leaves a version
+abbrev pub leaving_effect : ℕ → Deeds ℕ
+leaving_effect version older (deeds.Branch v e origin name out) = only_if (origin == version) (Sets (size older))
+leaving_effect version older deed = Keeps

@@ -1,8 +1,9 @@
 -- A name in a catalog, told by the newest row that bears on it: what rows do to the catalog of a view's checkout of a directory.
-use Rattle.std.specs.Prelude.{◌≡◌, ℕ, ◌<◌, Bool, true, false, ◌||◌, Option, List, length, bytes_eq}
+use Rattle.std.specs.Prelude.{◌≡◌, ℕ, ◌<◌, Option, List, length}
 use Rattle.cc_names.specs.Last.{Sets, only_if}
 use Rattle.legal_history.specs.Base.Catalogs.{Catalog, Edit, Same, BeginsEmpty, BeginsAs, Adds, Removes, Renames, named, catalog_of, own_of, edit_of}
 use Rattle.legal_history.specs.Base.Rows.{Base, size, first_rows}
+use Rattle.view_lookup.specs.Changed.{begins, changes}
 use Rattle.view_lookup.specs.LookUps.{Deeds}
 use Rattle.view_lookup.specs.Ended.{or_else}
 use Rattle.view_lookup.specs.declared.edits.Edit as code
@@ -11,19 +12,6 @@ use Rattle.view_lookup.specs.declared.catalogs.Catalog as places
 use Rattle.view_lookup.specs.declared.catalogs.Catalog.TheVariants.{OfVersion, OfCheckout}
 use Rattle.view_lookup.specs.declared.catalogs.Entry.{Entry}
 use Rattle.view_lookup.specs.declared.catalogs.Entry.TheVariants.{Is, As}
-
--- whether an edit begins the catalog of a checkout
-abbrev pub begins : Edit → Bool
-begins BeginsEmpty = true
-begins (BeginsAs origin) = true
-begins edit = false
-
--- whether an edit gives a name, takes it away or changes it
-abbrev pub changes : List ℕ → Edit → Bool
-changes name (Adds other e) = bytes_eq other name
-changes name (Removes other) = bytes_eq other name
-changes name (Renames from_name to_name) = bytes_eq from_name name || bytes_eq to_name name
-changes name edit = false
 
 -- a checkout of a directory is begun
 abbrev pub begun_effect : List ℕ → ℕ → Deeds ℕ

@@ -6,7 +6,8 @@ use Rattle.cc_names.specs.Last.{Keeps, Sets, only_if}
 use Rattle.cc_names.specs.declared.rows.Deed.TheVariants as deeds
 use Rattle.legal_history.specs.Base.Catalogs.{BeginsEmpty, BeginsAs, Adds, Removes, Renames, edit_where, first_edit, is_out}
 use Rattle.legal_history.specs.Base.Rows.{size}
-use Rattle.view_lookup.specs.Entries.{begins, changes, begun_effect, changed_effect}
+use Rattle.view_lookup.specs.Changed.{begins, changes}
+use Rattle.view_lookup.specs.Entries.{begun_effect, changed_effect}
 use Rattle.view_lookup.specs.LookUps.{IsCovered}
 use Rattle.view_lookup.specs.Subjects.{Out as Outs, Entry, is_same, reserved_branch, reserved_subjects}
 

@@ -7,6 +7,7 @@ use Rattle.view_lookup.specs.Known.{IsKnown}
 use Rattle.view_lookup.specs.Labelling.{AreLabels}
 use Rattle.view_lookup.specs.Listings.{AreListings, versions_of}
 use Rattle.view_lookup.specs.Marked.{IsMarked}
+use Rattle.view_lookup.specs.SeenFiles.{AreSeenByViews}
 use Rattle.view_lookup.specs.SetSpecs.{specs_set}
 use Rattle.view_lookup.specs.Shown.{Shown}
 use Rattle.view_lookup.specs.declared.bases.Rows.TheInside.{Inside}
@@ -23,10 +24,13 @@ shown_of inside = record {
   spec_room = vec_capacity inside.specs - vec_len inside.specs;
   listing = versions_of inside.listing;
   listing_room = spare inside.listings;
+  hashing = inside.hashing;
+  keys = inside.keys.items;
 }
 
 -- The rows are a base that is carried out so far, the links with the newest row of each key are its marks, the changes of the
--- trees and of the labels are those of its rows, and so are the config specs and what the records of its objects list.
+-- trees and of the labels are those of its rows, and so are the config specs and what the records of its objects list. The files
+-- that are kept of views are those that they see.
 pub record IsIndexed (inside : Inside) : Type 0 where
   pub known : IsKnown (reverse inside.rows.items)
   pub marks : IsMarked inside.hashing inside.links.items (get nat_eq inside.newest) (reverse inside.rows.items)
@@ -34,3 +38,4 @@ pub record IsIndexed (inside : Inside) : Type 0 where
   pub labelled : AreLabels inside.labels.changes (labels (reverse inside.rows.items))
   pub specs : reverse inside.specs.items ≡ specs_set (reverse inside.rows.items)
   pub listed : AreListings (λ id. versions_of (get nat_eq inside.listings id)) (reverse inside.rows.items)
+  pub seen : AreSeenByViews (reverse inside.rows.items) inside.seen

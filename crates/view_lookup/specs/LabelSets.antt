@@ -1,7 +1,8 @@
--- The labels on a version of an element, found along the element's history.
-use Rattle.std.specs.Prelude.{ℕ, Bool, true, false, Option, Some, None, List, [], ◌∷◌, option_and_then}
-use Rattle.std.specs.BTreeSet.{insert_key}
+-- The labels on the versions of an element, found along the element's history.
+use Rattle.std.specs.Prelude.{ℕ, Bool, true, false, Option, Some, None, List, [], ◌∷◌, nat_eq, option_and_then}
+use Rattle.std.specs.BTreeSet.{BTreeSet, insert_key}
 use Rattle.std.specs.Cmp.Lexicographic.{slice_cmp}
+use Rattle.std.specs.HashMap.{HashMap, get}
 use Rattle.std.specs.Ordering.{nat_cmp}
 use Rattle.cc_names.specs.Labels.{holder}
 use Rattle.cc_names.specs.Versions.{is_number}
@@ -38,3 +39,12 @@ with_label b e version (Some label) names = with_name_if (stands_on b e version 
 abbrev pub labels_among : Base → ℕ → ℕ → List ℕ → List (List ℕ) → List (List ℕ)
 labels_among b e version [] names = names
 labels_among b e version (n ∷ ns) names = labels_among b e version ns (with_label b e version (label_at b n) names)
+
+-- the names of a set, where there is one
+abbrev pub names_of_set : Option (BTreeSet (List ℕ)) → List (List ℕ)
+names_of_set None = []
+names_of_set (Some set) = set.keys
+
+-- the labels that a table has for a version
+abbrev pub labels_at : {S : Type 0} → HashMap ℕ (BTreeSet (List ℕ)) S → ℕ → List (List ℕ)
+labels_at labels version = names_of_set (get nat_eq labels version)

@@ -1,3 +1,5 @@
+pub mod ChangeCovers
+pub mod Changed
 pub mod Covers
 pub mod Effects
 pub mod Ended
@@ -16,10 +18,14 @@ pub mod Marked
 pub mod NumberKeys
 pub mod Picking
 pub mod Reservations
+pub mod SeenFiles
 pub mod Pool
 pub mod SetSpecs
 pub mod Shown
 pub mod Subjects
+pub mod ToldOn
 pub mod Walks
 pub mod Histories
 pub mod LabelSets
+pub mod Owned
+pub mod Giving

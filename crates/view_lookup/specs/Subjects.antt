@@ -1,6 +1,6 @@
 -- What rows bear on. Each deed says once which subjects it bears on; the rows that bear on a subject say what has become of it.
 -- Marks, and all that is looked up by them, rest on this alone.
-use Rattle.std.specs.Prelude.{ℕ, Bool, true, false, ◌&&◌, ◌==◌, Option, Some, None, List, [], ◌∷◌, map, bytes_eq}
+use Rattle.std.specs.Prelude.{ℕ, Bool, true, false, ◌&&◌, ◌==◌, Option, Some, None, List, [], ◌∷◌, ◌++◌, map, bytes_eq}
 use Rattle.std.specs.List.{list_any}
 use Rattle.std.specs.declared.random_state.RandomState.{RandomState}
 use Rattle.cc_names.specs.Branches.{branch_of_version}
@@ -12,6 +12,7 @@ use Rattle.cc_names.specs.declared.rows.Placed.{Placed}
 use Rattle.legal_history.specs.Base.Changes.{targets_of, tree}
 use Rattle.legal_history.specs.Base.Rows.{Base, size}
 use Rattle.legal_history.specs.Builds.Reuse.{are_same_paths}
+use Rattle.view_lookup.specs.Changed.{changing, checked_in_on, checked_in_rows, names_by}
 use Rattle.view_lookup.specs.NumberKeys.{key_by, key_by_paths, key_with}
 use Rattle.view_lookup.specs.declared.subjects.Subject as code
 use Rattle.view_lookup.specs.declared.subjects.Subject.TheVariants as codes
@@ -19,7 +20,9 @@ use Rattle.view_lookup.specs.declared.subjects.Subject.TheVariants as codes
 -- A view's life, its config spec, and all that it takes out; a view's private file at a path, and the object that it holds
 -- there; a view's checkout of an element, and the texts that it saves there; a name in a directory; the reserved checkouts on a
 -- branch; the type of a name; an object, its winks, and the objects of a list of targets; a merge of two versions of an element;
--- and what is done to an element and to its labels.
+-- what is done to an element and to its labels; the branches that leave a version; what a view puts or comes to hold, at whatever
+-- paths; the names that are given in a directory; the names that are changed in the checkout that a row began; and the versions
+-- of a branch that are made from a checkout in which a name was changed.
 pub data Subject : Type 0 where
   Life : List ℕ → Subject
   Spec : List ℕ → Subject
@@ -36,6 +39,11 @@ pub data Subject : Type 0 where
   Pool : List (List ℕ) → Subject
   Merge : ℕ → ℕ → ℕ → Subject
   History : ℕ → Subject
+  Leaving : ℕ → Subject
+  Owned : List ℕ → Subject
+  Given : ℕ → Subject
+  Changing : ℕ → Subject
+  Altered : ℕ → List ℕ → Subject
 
 -- the branch that a checkout reserves, where it reserves one
 abbrev pub reserved_subjects : Option ℕ → List Subject
@@ -45,21 +53,21 @@ reserved_subjects (Some branch) = Reserved branch ∷ []
 -- what a deed that makes row n takes out, changes or gives back, where its checkout reserves this branch
 abbrev pub desk_subjects : ℕ → Option ℕ → Deed → List Subject
 desk_subjects n branch (deeds.Mkelem v directory name kind out) =
-    Out v n ∷ Desk v ∷ Entry directory name ∷ History n ∷ reserved_subjects branch
+    Out v n ∷ Desk v ∷ Entry directory name ∷ History n ∷ Given directory ∷ reserved_subjects branch
 desk_subjects n branch (deeds.Checkout v e origin reserved) = Out v e ∷ Desk v ∷ reserved_subjects branch
-desk_subjects n branch (deeds.Branch v e origin name out) = Out v e ∷ Desk v ∷ History e ∷ reserved_subjects branch
+desk_subjects n branch (deeds.Branch v e origin name out) = Out v e ∷ Desk v ∷ History e ∷ Leaving origin ∷ reserved_subjects branch
 desk_subjects n branch (deeds.Save v e text) = Saved v e ∷ []
 desk_subjects n branch (deeds.Checkin v e) = Out v e ∷ History e ∷ []
 desk_subjects n branch (deeds.Uncheckout v e) = Out v e ∷ []
 desk_subjects n branch (deeds.Rmname v directory name) = Entry directory name ∷ []
-desk_subjects n branch (deeds.Mv v directory from_name to_name) = Entry directory from_name ∷ Entry directory to_name ∷ []
+desk_subjects n branch (deeds.Mv v directory from_name to_name) = Entry directory from_name ∷ Entry directory to_name ∷ Given directory ∷ []
 desk_subjects n branch deed = []
 
 -- what becomes of objects by a deed that makes row n, where the object that it names has these targets and its checkout reserves
 -- this branch
 abbrev pub object_subjects : ℕ → List (List ℕ) → Option ℕ → Deed → List Subject
-object_subjects n targets branch (deeds.Publish v own script entries outputs) = Living n ∷ Pool own ∷ map (Object v) own
-object_subjects n targets branch (deeds.Wink v id) = Winked id ∷ map (Object v) targets
+object_subjects n targets branch (deeds.Publish v own script entries outputs) = Living n ∷ Pool own ∷ Owned v ∷ map (Object v) own
+object_subjects n targets branch (deeds.Wink v id) = Winked id ∷ Owned v ∷ map (Object v) targets
 object_subjects n targets branch (deeds.Drop v path) = Object v path ∷ []
 object_subjects n targets branch (deeds.Scrub objects) = map Living objects
 object_subjects n targets branch deed = desk_subjects n branch deed
@@ -74,7 +82,7 @@ abbrev pub subjects : ℕ → List (List ℕ) → Option ℕ → Deed → List S
 subjects n targets branch (deeds.Mkview v) = Life v ∷ []
 subjects n targets branch (deeds.Rmview v) = Life v ∷ []
 subjects n targets branch (deeds.Setcs v text) = Spec v ∷ []
-subjects n targets branch (deeds.Put v path text) = File v path ∷ []
+subjects n targets branch (deeds.Put v path text) = File v path ∷ Owned v ∷ []
 subjects n targets branch (deeds.Rm v path) = File v path ∷ []
 subjects n targets branch (deeds.Mktype kind name) = Named name ∷ []
 subjects n targets branch (deeds.Arrow e tail head) = Merge e tail head ∷ []
@@ -95,9 +103,28 @@ reserved_branch older (deeds.Checkout v e origin true) = branch_of_version (tree
 reserved_branch older (deeds.Branch v e origin name outs.Reserved) = Some (size older)
 reserved_branch older deed = None
 
+-- the checkout in which names are changed, which a row began
+abbrev pub changing_subjects : Option ℕ → List Subject
+changing_subjects None = []
+changing_subjects (Some began) = Changing began ∷ []
+
+-- the names that a version of a branch alters, where there is one
+abbrev pub altered_subjects : Option ℕ → List (List ℕ) → List Subject
+altered_subjects None names = []
+altered_subjects (Some branch) names = map (Altered branch) names
+
+-- what the next row changes of catalogs
+abbrev pub catalog_subjects : Base → Deed → List Subject
+catalog_subjects older deed =
+    changing_subjects (changing older deed) ++ altered_subjects (checked_in_on older deed) (names_by older (checked_in_rows older deed))
+
+-- what it bears on else
+abbrev pub plain_subjects : Base → Deed → List Subject
+plain_subjects older deed = subjects (size older) (named_targets older deed) (reserved_branch older deed) deed
+
 -- the subjects on which the next row bears
 abbrev pub borne : Base → Deed → List Subject
-borne older deed = subjects (size older) (named_targets older deed) (reserved_branch older deed) deed
+borne older deed = catalog_subjects older deed ++ plain_subjects older deed
 
 -- whether two subjects are one
 abbrev pub is_same : Subject → Subject → Bool
@@ -116,6 +143,11 @@ is_same (Winked id) (Winked other) = other == id
 is_same (Pool targets) (Pool others) = are_same_paths others targets
 is_same (Merge e tail head) (Merge f one two) = (f == e) && (one == tail) && (two == head)
 is_same (History e) (History f) = f == e
+is_same (Leaving version) (Leaving other) = other == version
+is_same (Owned v) (Owned w) = bytes_eq w v
+is_same (Given directory) (Given other) = other == directory
+is_same (Changing began) (Changing other) = began == other
+is_same (Altered branch name) (Altered other one) = (other == branch) && bytes_eq one name
 is_same one two = false
 
 -- The key by which the marks of a subject are found. Subjects that share one are told apart by the rows.
@@ -135,10 +167,17 @@ key hashing (Reserved branch) = key_by hashing 11 (branch ∷ [])
 key hashing (Pool targets) = key_by_paths hashing 12 targets
 key hashing (Winked id) = key_by hashing 13 (id ∷ [])
 key hashing (History e) = key_by hashing 14 (e ∷ [])
+key hashing (Leaving version) = key_by hashing 16 (version ∷ [])
+key hashing (Owned v) = key_of hashing 17 v
+key hashing (Given directory) = key_by hashing 18 (directory ∷ [])
+key hashing (Changing began) = key_by hashing 20 (began ∷ [])
+key hashing (Altered branch name) = key_with hashing 21 branch name
 
 -- whether the next row bears on a subject
 abbrev pub bears : Subject → Base → Deed → Bool
-bears subject older deed = list_any (is_same subject) (borne older deed)
+bears (Changing began) older deed = list_any (is_same (Changing began)) (catalog_subjects older deed)
+bears (Altered branch name) older deed = list_any (is_same (Altered branch name)) (catalog_subjects older deed)
+bears subject older deed = list_any (is_same subject) (plain_subjects older deed)
 
 -- the keys of the subjects on which the next row bears
 abbrev pub keys_of : RandomState → Base → Deed → List ℕ
@@ -161,3 +200,8 @@ plain (codes.Winked id) = Winked id
 plain (codes.Pool targets) = Pool targets.now
 plain (codes.Merge e tail head) = Merge e tail head
 plain (codes.History e) = History e
+plain (codes.Leaving version) = Leaving version
+plain (codes.Owned v) = Owned v.now
+plain (codes.Given directory) = Given directory
+plain (codes.Changing began) = Changing began
+plain (codes.Altered branch name) = Altered branch name.now

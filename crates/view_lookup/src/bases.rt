@@ -1,7 +1,7 @@
 // The rows of a base, with the marks by which those that bear on a subject are found, with the trees of versions, with the
 // labels, with the config specs and with what the records of objects list.
 
-ghost use Rattle.std.specs.Prelude.{◌≡◌, ◌≤◌, ◌∷◌, [], ℕ, List, length, reverse, true, IfOk, OnOk};
+ghost use Rattle.std.specs.Prelude.{◌≡◌, ◌≤◌, ◌∷◌, [], ℕ, List, length, map, reverse, true, IfOk, IfSome, OnOk};
 ghost use Rattle.std.specs.Option.{option_and_then, option_copied};
 ghost use Rattle.carried_out.specs.CarriedOut.{is_made};
 ghost use Rattle.cc_names.specs.Labels.{holder, labels_of_first_rows};
@@ -9,27 +9,32 @@ ghost use Rattle.cc_names.specs.Versions.{of_first_rows, place};
 ghost use Rattle.legal_history.specs.Base.Changes.{labels, tree};
 ghost use Rattle.legal_history.specs.Base.Closures.{listing};
 ghost use Rattle.legal_history.specs.Base.Rows.{deed_at, first_rows, row_at, size};
+ghost use Rattle.legal_history.specs.Base.Seen.{file_at};
 ghost use Rattle.legal_history.specs.Base.Fits.{fits, is_base, row_limit};
 ghost use Rattle.view_lookup.specs.Labelling.{HasLabelRoom};
 ghost use Rattle.view_lookup.specs.Listings.{HasListing, listing_made, versions_of};
 ghost use Rattle.view_lookup.specs.LookUps.{last_of, newest, oldest};
 ghost use Rattle.view_lookup.specs.SetSpecs.{rules_set, rules_set_if_short};
 ghost use Rattle.view_lookup.specs.Shown.{HasRoom, HasTreeRoom};
-ghost use Rattle.view_lookup.specs.Subjects.{borne};
+ghost use Rattle.view_lookup.specs.Subjects.{borne, catalog_subjects, key};
 ghost use Rattle.view_lookup.specs.Walks.{all_told};
 
+use crate::catalog_keys::catalog_keys;
 use crate::growth::{grow, growth_of, reserve_growth};
 use crate::labels::{relabel, reserve_labels};
 use crate::listings::{Versions, keep_listing, listing_made};
 use crate::look_ups::{LookUp, left_by, set_at, told_at};
-use crate::marks::{Link, mark_all};
+use crate::marks::{Link, mark_all, mark_keys, sum_of};
 use crate::numbered::row_of;
+use crate::seen_files::{Views, put_seen, see_ahead, take_seen};
+use crate::skips::first_below;
 use crate::subjects::{count_subjects, named_targets, reserved_branch};
 use crate::view_specs::{Parsed, keep_spec, read_given, spec_of};
 use crate::walks::add_told;
 use cc_names::changes::Place;
 use cc_names::memory::NoMemory;
 use cc_names::names::Name;
+use cc_names::paths::Path;
 use cc_names::rows::{Deed, Row};
 use label_book::Book;
 use spec_text::Spec;
@@ -59,6 +64,10 @@ pub struct Rows {
     listings: HashMap<u64, Versions>,
     // What the record of an object lists, before its row is added.
     listing: Option<Versions>,
+    // The keys of what a row changes of catalogs, before it is added.
+    keys: Vec<u64>,
+    // Files that views were seen to have in some first rows.
+    seen: Views,
 }
 
 impl Model for Rows {
@@ -93,45 +102,31 @@ impl Rows {
             spec: None,
             listings: HashMap::new(alloc),
             listing: None,
+            keys: Vec::new(alloc),
+            seen: HashMap::with_hasher(alloc, hashing),
         })
     }
 
     /// Makes room for one more row of this deed. Takes time linear in what the deed names, for each label that it changes on an
     /// element the time to find the label there and, where it is new there, to copy its name, for a config spec the time to read
-    /// it, for each entry of a record time linear in what it stands for, times logarithmic in what the record lists, and time
-    /// logarithmic in the branches; a list that is full is doubled, in time linear in it.
+    /// it, for each entry of a record time linear in what it stands for, times logarithmic in what the record lists, for each row
+    /// that changed names in a checkout that ends the time of some look-ups, and time logarithmic in the branches; a list that is
+    /// full is doubled, in time linear in it.
     pub fn reserve(&mut self, deed: &Deed) -> Result<(), NoMemory>
         ensures same { self.new.base ≡ self.old.base }
         ensures room { OnOk result (HasRoom self.new deed.now) }
     {
-        self.reserve_marks(deed)?;
         self.reserve_trees(deed)?;
         self.reserve_labels(deed)?;
         self.reserve_spec(deed)?;
         self.reserve_listing(deed)?;
-        Ok(())
-    }
-
-    // Makes room for the row and for its marks.
-    fn reserve_marks(&mut self, deed: &Deed) -> Result<(), NoMemory>
-        ensures same { self.new.base ≡ self.old.base }
-        ensures row { OnOk result (1 ≤ self.new.room) }
-        ensures marks { OnOk result (length (borne self.new.base deed.now) ≤ self.new.room) }
-    {
-        let number = self.rows.len() as u64 + 1;
-        let branch = reserved_branch(&self.all(), deed);
-        let targets = named_targets(self.rows.as_slice(), deed);
-        let count = count_subjects(number, targets, branch, deed).max(1);
-        self.rows.reserve(count)?;
-        self.links.reserve(count)?;
-        self.newest.reserve(count)?;
+        self.reserve_marks(deed)?;
         Ok(())
     }
 
     // Makes room for what the row adds to the trees.
     fn reserve_trees(&mut self, deed: &Deed) -> Result<(), NoMemory>
         ensures same { self.new.base ≡ self.old.base }
-        ensures marks { self.new.room ≡ self.old.room }
         ensures trees { OnOk result (HasTreeRoom self.new deed.now) }
     {
         let growth = growth_of(&self.all(), deed);
@@ -142,7 +137,6 @@ impl Rows {
     // Makes room for what the row changes of labels.
     fn reserve_labels(&mut self, deed: &Deed) -> Result<(), NoMemory>
         ensures same { self.new.base ≡ self.old.base }
-        ensures marks { self.new.room ≡ self.old.room }
         ensures trees { self.new.trees ≡ self.old.trees }
         ensures name { self.new.name ≡ self.old.name }
         ensures labels { OnOk result (HasLabelRoom self.new.labels deed.now) }
@@ -153,7 +147,6 @@ impl Rows {
     // Reads the config spec that the row gives to its view, and makes room for it.
     fn reserve_spec(&mut self, deed: &Deed) -> Result<(), NoMemory>
         ensures same { self.new.base ≡ self.old.base }
-        ensures marks { self.new.room ≡ self.old.room }
         ensures trees { self.new.trees ≡ self.old.trees }
         ensures name { self.new.name ≡ self.old.name }
         ensures labels { self.new.labels ≡ self.old.labels }
@@ -168,7 +161,6 @@ impl Rows {
     // Makes what the record of the row lists, and room for it.
     fn reserve_listing(&mut self, deed: &Deed) -> Result<(), NoMemory>
         ensures same { self.new.base ≡ self.old.base }
-        ensures marks { self.new.room ≡ self.old.room }
         ensures trees { self.new.trees ≡ self.old.trees }
         ensures name { self.new.name ≡ self.old.name }
         ensures labels { self.new.labels ≡ self.old.labels }
@@ -180,6 +172,35 @@ impl Rows {
     {
         self.listings.reserve(1)?;
         self.listing = listing_made(self.alloc, &self.all(), deed)?;
+        Ok(())
+    }
+
+    // Makes room for the row and for its marks.
+    fn reserve_marks(&mut self, deed: &Deed) -> Result<(), NoMemory>
+        ensures same { self.new.base ≡ self.old.base }
+        ensures trees { self.new.trees ≡ self.old.trees }
+        ensures name { self.new.name ≡ self.old.name }
+        ensures labels { self.new.labels ≡ self.old.labels }
+        ensures spec { self.new.spec ≡ self.old.spec }
+        ensures spec_room { self.new.spec_room ≡ self.old.spec_room }
+        ensures listing { self.new.listing ≡ self.old.listing }
+        ensures listing_room { self.new.listing_room ≡ self.old.listing_room }
+        ensures row { OnOk result (1 ≤ self.new.room) }
+        ensures marks { OnOk result (length (borne self.new.base deed.now) ≤ self.new.room) }
+        ensures keys { OnOk result
+            (self.new.keys
+            ≡ map (key self.new.hashing) (catalog_subjects self.new.base deed.now)) }
+    {
+        let keys = catalog_keys(self.alloc, self.hashing, &self.all(), deed)?;
+        let number = self.rows.len() as u64 + 1;
+        let branch = reserved_branch(&self.all(), deed);
+        let targets = named_targets(self.rows.as_slice(), deed);
+        let plain = count_subjects(number, targets, branch, deed);
+        let count = sum_of(keys.len(), plain)?.max(1);
+        self.rows.reserve(count)?;
+        self.links.reserve(count)?;
+        self.newest.reserve(count)?;
+        self.keys = keys;
         Ok(())
     }
 
@@ -202,6 +223,12 @@ impl Rows {
             self.name.take(),
         );
         let targets = named_targets(self.rows.as_slice(), row.deed());
+        mark_keys(
+            &mut self.links,
+            &mut self.newest,
+            number,
+            self.keys.as_slice(),
+        );
         mark_all(
             self.hashing,
             &mut self.links,
@@ -215,6 +242,26 @@ impl Rows {
         keep_spec(&mut self.specs, number, self.spec.take());
         keep_listing(&mut self.listings, number, self.listing.take());
         self.rows.push(row).unwrap();
+    }
+
+    /// Has at hand the files of a view in the first rows, `count` of them with row 0, for which a build is likely to ask as it tries
+    /// a unit of these targets: those at the paths of the record of the newest live object with the targets, else of the newest row. No
+    /// answer changes; where memory runs out, fewer are at hand. Takes the time of `newest_object`, for each of the paths time
+    /// linear in it, and that of `file_at` where it is not at hand yet.
+    pub fn remember(&mut self, view: &Name, count: u64, targets: &[Path])
+        ensures { self.new ≡ self.old }
+    {
+        let kept = take_seen(&mut self.seen, view);
+        let seen = see_ahead(
+            self.alloc,
+            self.hashing,
+            &self.all(),
+            &first_rows(&self.all(), count),
+            view,
+            targets,
+            kept,
+        );
+        put_seen(&mut self.seen, seen);
     }
 
     /// How many rows there are behind row 0.
@@ -251,6 +298,8 @@ impl Rows {
             spec: _,
             listings: _,
             listing: _,
+            keys: _,
+            seen: _,
         } = self;
         rows
     }
@@ -357,6 +406,19 @@ impl<'a> FirstRows<'a> {
         base.listings.get(&object)
     }
 
+    /// The row of the file that a view was seen to have at a path in these very rows, or that there is none; nothing where that is
+    /// not at hand. Takes time linear in the view's name and in the path.
+    pub(crate) fn seen_file(&self, view: &Name, path: &Path) -> Option<Option<u64>>
+        ensures { IfSome result (λ row. row ≡ file_at self.now view.now path.now) }
+    {
+        let count = self.size();
+        let base = self.base;
+        match base.seen.get(view) {
+            None => None,
+            Some(seen) => seen.row_at(count, path),
+        }
+    }
+
     /// That they are a base. Does nothing.
     pub(crate) fn are_base(&self)
         ensures { is_base self.now ≡ true }
@@ -373,14 +435,15 @@ impl<'a> FirstRows<'a> {
     }
 
     /// The newest of them that does something to a thing, and what it leaves. Takes time linear in the names of its subject and
-    /// in the rows with its key that come behind the one that is found, of which there are none where these are all rows, but
-    /// for subjects that share a key.
+    /// logarithmic in the rows with its key, and passes the newest of them where they do nothing to the thing, as those of
+    /// another subject that shares the key.
     pub(crate) fn newest<L: LookUp>(&self, look: &L) -> Option<(u64, Option<L::Item>)>
         ensures { result ≡ newest (L.effect look.now) self.now }
     {
         let base = self.base;
         let mut links = base.links.as_slice();
-        let mut next = base.newest.get(&look.subject().key(base.hashing)).copied();
+        let start = base.newest.get(&look.subject().key(base.hashing)).copied();
+        let mut next = first_below(links, start, self.size());
         while let Some(place) = next {
             let link = &links[place];
             if let Some(told) = told_at(self, link.row, look) {

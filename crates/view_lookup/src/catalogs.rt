@@ -1,13 +1,17 @@
 // Which element a name stands for in a catalog: in that of a version of a directory, or in that of a view's checkout of one.
 
-ghost use Rattle.std.specs.Prelude.{◌≡◌, Some};
+ghost use Rattle.std.specs.Prelude.{◌≡◌, Some, suc};
 ghost use Rattle.legal_history.specs.Base.Catalogs.{catalog_of, named, own_of};
+ghost use Rattle.legal_history.specs.Base.Rows.{first_rows};
 ghost use Rattle.view_lookup.specs.Entries.{IsEntryOf, catalog_in, entry_effect};
 ghost use Rattle.view_lookup.specs.LookUps.{last_of};
+ghost use Rattle.view_lookup.specs.ToldOn.{altered_by, at_least};
 
 use crate::bases::{FirstRows, first_rows, row_at};
+use crate::changed::AlteredOn;
 use crate::edits::{BegunOf, ChangedOf, Edit, edit_of, is_name};
 use crate::look_ups::{later, left_by};
+use crate::trees::branch_of_version;
 use cc_names::names::Name;
 use cc_names::rows::Deed;
 
@@ -27,7 +31,7 @@ enum Entry<'a> {
 }
 
 /// A name in the catalog of a version, by the row that made the version.
-fn entry_of_version<'a>(rows: &FirstRows<'a>, version: u64, name: &'a [u8]) -> Entry<'a>
+fn entry_made<'a>(rows: &FirstRows<'a>, version: u64, name: &'a [u8]) -> Entry<'a>
     ensures { IsEntryOf rows.now name.now (catalog_of rows.now version) result }
 {
     match row_at(rows, version) {
@@ -39,6 +43,31 @@ fn entry_of_version<'a>(rows: &FirstRows<'a>, version: u64, name: &'a [u8]) -> E
             }
             _ => Entry::Is(None),
         },
+    }
+}
+
+/// The row that tells of a name in the catalog of a version: the newest version of its branch up to it that was made from a
+/// checkout in which the name was changed, else the row that made the branch.
+fn told_on(rows: &FirstRows<'_>, version: u64, branch: u64, name: &[u8]) -> u64
+    ensures { result
+        ≡ at_least branch
+        (altered_by branch name.now (first_rows (suc version) rows.now)) }
+{
+    let rows = first_rows(rows, version.min(rows.size()) + 1);
+    match rows.last(&AlteredOn { branch, name }) {
+        None => branch,
+        Some(row) => branch.max(row),
+    }
+}
+
+/// A name in the catalog of a version, by the row of its branch that tells of it.
+fn entry_of_version<'a>(rows: &FirstRows<'a>, version: u64, name: &'a [u8]) -> Entry<'a>
+    ensures { IsEntryOf rows.now name.now (catalog_of rows.now version) result }
+{
+    rows.are_base();
+    match branch_of_version(rows, version) {
+        None => entry_made(rows, version, name),
+        Some(branch) => entry_made(rows, told_on(rows, version, branch, name), name),
     }
 }
 
@@ -107,8 +136,8 @@ fn entry_of<'a>(rows: &FirstRows<'a>, catalog: Catalog<'a>, name: &'a [u8]) -> E
     }
 }
 
-/// The element that a name stands for in a catalog. Goes from version to version, back to the one by which the name was changed
-/// last.
+/// The element that a name stands for in a catalog. Goes from the version to the one on its branch by which the name was changed
+/// last, into the checkout from which that was made, and from there on wherever the name comes from.
 pub(crate) fn named_in<'a>(
     rows: &FirstRows<'a>,
     catalog: Catalog<'a>,
@@ -131,8 +160,8 @@ pub(crate) fn named_in<'a>(
     }
 }
 
-/// The element that a name stands for in the catalog of a version of a directory, where it is there. Takes time linear in the
-/// names, and for each version since the name was changed last time linear in the versions behind it: the square of these versions.
+/// The element that a name stands for in the catalog of a version of a directory, where it is there. Takes the time of `newest` a
+/// few times for each branch on the way to the version and for each name that the element had since it was added.
 pub fn named_by_version(rows: &FirstRows<'_>, version: u64, name: &Name) -> Option<u64>
     ensures { result ≡ named name.now (catalog_of rows.now version) }
 {

@@ -8,9 +8,9 @@ ghost use Rattle.view_lookup.specs.Effects.{kept_checkout, map_effect, map_told,
 ghost use Rattle.view_lookup.specs.LookUps.{effect_of};
 
 use crate::bases::FirstRows;
-use crate::look_ups::{Does, LookUp, later, only_if, within};
+use crate::look_ups::{Does, LookUp, later, only_if};
 use crate::subjects::Subject;
-use crate::views::{last_end, same_name};
+use crate::views::{in_life, same_name};
 use cc_names::names::Name;
 use cc_names::rows::{Deed, Out};
 
@@ -209,15 +209,11 @@ impl LookUp for SavedOf<'_> {
     ghost covered = { λ it. saved_covered it.view.now it.element };
 }
 
-/// The view's checkout of the element. Takes time linear in the view's name, and in the rows with its keys that come behind those
-/// that are found.
+/// The view's checkout of the element. Takes the time of `newest`, twice.
 pub fn checked_out(rows: &FirstRows<'_>, view: &Name, element: u64) -> Option<Checkout>
     ensures { option_map plain_checkout result ≡ out rows.now view.now element }
 {
-    within(
-        last_end(rows, view),
-        rows.newest(&TakenOf { view, element }),
-    )
+    in_life(rows, view, rows.newest(&TakenOf { view, element }))
 }
 
 /// Whether the view has the element out. Takes the time of `checked_out`.
@@ -239,11 +235,11 @@ fn with_row(told: Option<(u64, Option<Checkout>)>) -> Option<(u64, Option<u64>)>
 }
 
 /// The row that made the text of the view's checkout of the element: the last save since, else the row that made the checkout.
-/// Takes time linear in the view's name, and in the rows with its keys that come behind those that are found.
+/// Takes the time of `newest`, three times.
 pub fn making(rows: &FirstRows<'_>, view: &Name, element: u64) -> Option<u64>
     ensures { result ≡ making rows.now view.now element }
 {
     let taken = with_row(rows.newest(&TakenOf { view, element }));
     let saved = rows.newest(&SavedOf { view, element });
-    within(last_end(rows, view), later(taken, saved))
+    in_life(rows, view, later(taken, saved))
 }

@@ -3,7 +3,8 @@
 ghost use Rattle.std.specs.Prelude.{◌≡◌, ◌==◌, ◌&&◌, ◌||◌, bytes_eq};
 ghost use Rattle.legal_history.specs.Base.Catalogs as model;
 ghost use Rattle.legal_history.specs.Base.Rows.{size};
-ghost use Rattle.view_lookup.specs.Entries.{begins, changes, plain_edit};
+ghost use Rattle.view_lookup.specs.Changed.{begins, changes};
+ghost use Rattle.view_lookup.specs.Entries.{plain_edit};
 
 use crate::bases::FirstRows;
 use crate::desks::same_desk;

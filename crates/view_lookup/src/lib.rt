@@ -9,20 +9,26 @@
 // over which every look-up answers as of then.
 //
 // What it stands on: `cc_names` for rows, `carried_out` for the deeds that are made so far, `legal_history` for the
-// definitions, `version_tree` and `label_book` for the trees and the labels, and `config_spec` for how rules select.
+// definitions, `version_tree` and `label_book` for the trees and the labels, `spec_text` for the rules of config specs, and
+// `config_spec` for how they select.
 #![tactic(auto)]
 
 mod bases;
+mod catalog_keys;
 mod catalogs;
+mod changed;
 mod checkins;
 mod desks;
 mod directories;
 mod edits;
 mod fitting;
 mod fitting_elements;
+mod given_names;
 mod growth;
 mod history;
+mod holders;
 mod labels;
+mod leaving;
 mod listings;
 mod look_ups;
 mod marks;
@@ -30,11 +36,14 @@ mod merges;
 mod number_keys;
 mod numbered;
 mod objects;
+mod owned;
 mod picks;
 mod pool;
 mod reservations;
 mod scrubs;
 mod seen;
+mod seen_files;
+mod skips;
 mod standings;
 mod subjects;
 mod texts;
@@ -54,10 +63,14 @@ pub use checkins::{
 pub use desks::{Checkout, checked_out, has_out, making};
 pub use directories::{has_name, has_out_by_name, is_directory_element, is_file_element};
 pub use fitting::{ROW_LIMIT, fits};
+pub use given_names::names_given;
 pub use history::history_of;
+pub use holders::count_holders;
 pub use labels::{has_label, holder};
+pub use leaving::branches_leaving;
 pub use merges::arrow_row;
 pub use objects::{held, held_at_all, live};
+pub use owned::paths_owned;
 pub use picks::pick;
 pub use pool::{RecordTest, newest_object, publishes};
 pub use reservations::{other_reserver, reserver};
@@ -70,7 +83,7 @@ pub use trees::{
     latest_version, name_of_branch, origin_of, place_of, version_numbered,
 };
 pub use types::{is_branch_type, is_label_type, is_type_taken, kind_of_type};
-pub use version_labels::labels_on;
+pub use version_labels::{VersionLabels, labels_of, labels_on};
 pub use version_names::version_named;
 pub use view_specs::{rules, spec_text};
 pub use views::{private, view_row};

@@ -48,8 +48,8 @@ impl LookUp for MergeOf {
     ghost covered = { λ it. merge_covered it.element it.tail it.head };
 }
 
-/// The row that says that the version `tail` of an element was merged into its version `head`, where there is one. Takes
-/// constant time, and time linear in the rows with its key that come behind the one that is found.
+/// The row that says that the version `tail` of an element was merged into its version `head`, where there is one. Takes the time
+/// of `newest`.
 pub fn arrow_row(rows: &FirstRows<'_>, element: u64, tail: u64, head: u64) -> Option<u64>
     ensures { result ≡ arrow_row rows.now element tail head }
 {

@@ -152,8 +152,8 @@ fn last_gone(rows: &FirstRows<'_>, view: &Name) -> Option<u64>
     Some(number)
 }
 
-/// The object that the view holds at the path. Takes time linear in the two names, in the targets of the objects that are looked
-/// at, and in the rows with their key that come behind the one that is found.
+/// The object that the view holds at the path. Takes the time of `newest`, twice, and time linear in the targets of the objects
+/// that are looked at.
 pub fn held(rows: &FirstRows<'_>, view: &Name, path: &Path) -> Option<u64>
     ensures { result ≡ held_at (held rows.now) view.now path.now }
 {
@@ -186,8 +186,8 @@ pub fn held_at_all(rows: &FirstRows<'_>, view: &Name, paths: &[Path]) -> Option<
     }
 }
 
-/// The object's row, where it is live: from its publish until a scrub takes it. Takes time linear in the objects of the scrub, and
-/// in the rows with its key that come behind the one that is found.
+/// The object's row, where it is live: from its publish until a scrub takes it. Takes the time of `newest`, and time linear in
+/// the objects of the scrub.
 pub fn live(rows: &FirstRows<'_>, object: u64) -> Option<u64>
     ensures { result ≡ live rows.now object }
 {

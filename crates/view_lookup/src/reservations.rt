@@ -68,8 +68,8 @@ fn reserving<'a>(rows: &FirstRows<'a>, branch: u64) -> Option<Taken<'a>>
     }
 }
 
-/// The view that has a reserved checkout on a branch. Takes the time of `checked_out` and, in first rows, time linear in the
-/// reserved checkouts that were made on the branch behind them.
+/// The view that has a reserved checkout on a branch. Takes the time of `newest` for the newest such checkout, and that of
+/// `checked_out`.
 pub fn reserver<'a>(rows: &FirstRows<'a>, branch: u64) -> Option<&'a Name>
     ensures { option_copied result ≡ reserver rows.now branch }
 {

@@ -18,7 +18,7 @@ use cc_names::paths::Path;
 use cc_names::rows::Deed;
 
 /// Whether a view holds an object at one of these paths.
-fn holds_one(rows: &FirstRows<'_>, view: &Name, object: u64, targets: &[Path]) -> bool
+pub(crate) fn holds_one(rows: &FirstRows<'_>, view: &Name, object: u64, targets: &[Path]) -> bool
     ensures { result ≡ holds_one rows.now view.now object targets.now }
 {
     targets
@@ -28,9 +28,9 @@ fn holds_one(rows: &FirstRows<'_>, view: &Name, object: u64, targets: &[Path]) -
 
 /// The winks of an object by views that hold it still in these rows.
 #[derive(Clone, Copy)]
-struct WinkedOf<'a> {
-    rows: &'a FirstRows<'a>,
-    object: u64,
+pub(crate) struct WinkedOf<'a> {
+    pub(crate) rows: &'a FirstRows<'a>,
+    pub(crate) object: u64,
 }
 
 impl LookUp for WinkedOf<'_> {

@@ -154,8 +154,19 @@ pub fn at(rows: &FirstRows<'_>, view: &Name, path: &Path) -> Seen
 }
 
 /// The row that made the text of the file that a view sees at a path, where there is one: of a private file, or of the version
-/// of an element that is selected. Takes the time of `at`.
+/// of an element that is selected. Takes time linear in the view's name and in the path where the file is at hand (`remember`), else
+/// the time of `at`.
 pub fn file_at(rows: &FirstRows<'_>, view: &Name, path: &Path) -> Option<u64>
+    ensures { result ≡ file_at rows.now view.now path.now }
+{
+    match rows.seen_file(view, path) {
+        Some(row) => row,
+        None => find_file(rows, view, path),
+    }
+}
+
+/// The same, looked for. Takes the time of `at`.
+pub(crate) fn find_file(rows: &FirstRows<'_>, view: &Name, path: &Path) -> Option<u64>
     ensures { result ≡ file_at rows.now view.now path.now }
 {
     match at(rows, view, path) {

@@ -47,6 +47,16 @@ pub(crate) enum Subject<'a> {
     Merge(u64, u64, u64),
     /// What is done to an element and to its labels.
     History(u64),
+    /// The branches that leave a version.
+    Leaving(u64),
+    /// What a view puts or comes to hold, at whatever paths.
+    Owned(&'a Name),
+    /// The names that are given in a directory.
+    Given(u64),
+    /// The names that are changed in the checkout that a row began.
+    Changing(u64),
+    /// The versions of a branch that are made from a checkout in which a name was changed.
+    Altered(u64, &'a [u8]),
 }
 
 fn one<'a>(first: Subject<'a>, index: usize) -> Option<Subject<'a>>
@@ -65,6 +75,26 @@ fn two<'a>(first: Subject<'a>, second: Subject<'a>, index: usize) -> Option<Subj
     match index {
         0 => Some(first),
         1 => Some(second),
+        _ => None,
+    }
+}
+
+fn three<'a>(
+    first: Subject<'a>,
+    second: Subject<'a>,
+    third: Subject<'a>,
+    index: usize,
+) -> Option<Subject<'a>>
+    ensures subject { option_map model.plain result
+        ≡ slice_get
+        (model.plain first.entry ∷ model.plain second.entry ∷ model.plain third.entry ∷ [])
+        index }
+    ensures within { IfSome result (λ _. index < 2 ^ 32) }
+{
+    match index {
+        0 => Some(first),
+        1 => Some(second),
+        2 => Some(third),
         _ => None,
     }
 }
@@ -105,37 +135,40 @@ fn taken_at<'a>(
 fn element_at<'a>(
     view: &'a Name,
     number: u64,
-    entry: Subject<'a>,
+    directory: u64,
+    name: &'a Name,
     branch: Option<u64>,
     index: usize,
 ) -> Option<Subject<'a>>
     ensures subject { option_map model.plain result
         ≡ slice_get
-        (model.Out view.now number ∷ model.Desk view.now ∷ model.plain entry.entry
-        ∷ model.History number ∷ model.reserved_subjects branch)
+        (model.Out view.now number ∷ model.Desk view.now ∷ model.Entry directory name.now
+        ∷ model.History number ∷ model.Given directory ∷ model.reserved_subjects branch)
         index }
     ensures within { IfSome result (λ _. index ≤ 2 ^ 33) }
 {
     match index {
         0 => Some(Subject::Out(view, number)),
         1 => Some(Subject::Desk(view)),
-        2 => Some(entry),
+        2 => Some(Subject::Entry(directory, name.as_bytes())),
         3 => Some(Subject::History(number)),
-        _ => reserved_at(branch, index - 4),
+        4 => Some(Subject::Given(directory)),
+        _ => reserved_at(branch, index - 5),
     }
 }
 
-/// What the making of a branch of an element by a view bears on.
+/// What the making of a branch of an element by a view bears on, where it leaves a version.
 fn branch_at<'a>(
     view: &'a Name,
     element: u64,
+    origin: u64,
     branch: Option<u64>,
     index: usize,
 ) -> Option<Subject<'a>>
     ensures subject { option_map model.plain result
         ≡ slice_get
         (model.Out view.now element ∷ model.Desk view.now ∷ model.History element
-        ∷ model.reserved_subjects branch)
+        ∷ model.Leaving origin ∷ model.reserved_subjects branch)
         index }
     ensures within { IfSome result (λ _. index ≤ 2 ^ 33) }
 {
@@ -143,7 +176,8 @@ fn branch_at<'a>(
         0 => Some(Subject::Out(view, element)),
         1 => Some(Subject::Desk(view)),
         2 => Some(Subject::History(element)),
-        _ => reserved_at(branch, index - 3),
+        3 => Some(Subject::Leaving(origin)),
+        _ => reserved_at(branch, index - 4),
     }
 }
 
@@ -167,7 +201,7 @@ fn object_at<'a>(view: &'a Name, targets: &'a [Path], index: usize) -> Option<Su
     Some(Subject::Object(view, target))
 }
 
-/// The object that a row makes, the objects with its targets, and what the view holds there from then on.
+/// The object that a row makes, the objects with its targets, and what the view holds there from then on, all and each.
 fn made_at<'a>(
     number: u64,
     view: &'a Name,
@@ -176,18 +210,20 @@ fn made_at<'a>(
 ) -> Option<Subject<'a>>
     ensures subject { option_map model.plain result
         ≡ slice_get
-        (model.Living number ∷ model.Pool targets.now ∷ map (model.Object view.now) targets.now)
+        (model.Living number ∷ model.Pool targets.now ∷ model.Owned view.now
+        ∷ map (model.Object view.now) targets.now)
         index }
-    ensures within { IfSome result (λ _. index ≤ 2 ^ 63 + 1) }
+    ensures within { IfSome result (λ _. index ≤ 2 ^ 63 + 2) }
 {
     match index {
         0 => Some(Subject::Living(number)),
         1 => Some(Subject::Pool(targets)),
-        _ => object_at(view, targets, index - 2),
+        2 => Some(Subject::Owned(view)),
+        _ => object_at(view, targets, index - 3),
     }
 }
 
-/// The winks of an object, and what the view holds at its targets from one of them on.
+/// The winks of an object, and what the view holds at its targets from one of them on, all and each.
 fn winked_at<'a>(
     object: u64,
     view: &'a Name,
@@ -195,12 +231,15 @@ fn winked_at<'a>(
     index: usize,
 ) -> Option<Subject<'a>>
     ensures subject { option_map model.plain result
-        ≡ slice_get (model.Winked object ∷ map (model.Object view.now) targets.now) index }
-    ensures within { IfSome result (λ _. index ≤ 2 ^ 63) }
+        ≡ slice_get
+        (model.Winked object ∷ model.Owned view.now ∷ map (model.Object view.now) targets.now)
+        index }
+    ensures within { IfSome result (λ _. index ≤ 2 ^ 63 + 1) }
 {
-    match index.checked_sub(1) {
-        None => Some(Subject::Winked(object)),
-        Some(behind) => object_at(view, targets, behind),
+    match index {
+        0 => Some(Subject::Winked(object)),
+        1 => Some(Subject::Owned(view)),
+        _ => object_at(view, targets, index - 2),
     }
 }
 
@@ -262,15 +301,14 @@ fn desk_subject_at<'a>(
             directory,
             name,
             ..
-        } => element_at(
-            view,
-            number,
-            Subject::Entry(*directory, name.as_bytes()),
-            branch,
-            index,
-        ),
+        } => element_at(view, number, *directory, name, branch, index),
         Deed::Checkout { view, element, .. } => taken_at(view, *element, branch, index),
-        Deed::Branch { view, element, .. } => branch_at(view, *element, branch, index),
+        Deed::Branch {
+            view,
+            element,
+            origin,
+            ..
+        } => branch_at(view, *element, *origin, branch, index),
         Deed::Save { view, element, .. } => one(Subject::Saved(view, *element), index),
         Deed::Checkin { view, element } => two(
             Subject::Out(view, *element),
@@ -288,9 +326,10 @@ fn desk_subject_at<'a>(
             from_name,
             to_name,
             ..
-        } => two(
+        } => three(
             Subject::Entry(*directory, from_name.as_bytes()),
             Subject::Entry(*directory, to_name.as_bytes()),
+            Subject::Given(*directory),
             index,
         ),
         _ => None,
@@ -308,7 +347,7 @@ fn object_subject_at<'a>(
 ) -> Option<Subject<'a>>
     ensures subject { option_map model.plain result
         ≡ slice_get (model.object_subjects number targets.now branch deed.now) index }
-    ensures within { IfSome result (λ _. index ≤ 2 ^ 63 + 1) }
+    ensures within { IfSome result (λ _. index ≤ 2 ^ 63 + 2) }
 {
     match deed {
         Deed::Publish {
@@ -334,13 +373,17 @@ pub(crate) fn subject_at<'a>(
 ) -> Option<Subject<'a>>
     ensures subject { option_map model.plain result
         ≡ slice_get (model.subjects number targets.now branch deed.now) index }
-    ensures within { IfSome result (λ _. index ≤ 2 ^ 63 + 1) }
+    ensures within { IfSome result (λ _. index ≤ 2 ^ 63 + 2) }
 {
     match deed {
         Deed::Mkview { view } => one(Subject::Life(view), index),
         Deed::Rmview { view } => one(Subject::Life(view), index),
         Deed::Setcs { view, .. } => one(Subject::Spec(view), index),
-        Deed::Put { view, path, .. } => one(Subject::File(view, path.as_bytes()), index),
+        Deed::Put { view, path, .. } => two(
+            Subject::File(view, path.as_bytes()),
+            Subject::Owned(view),
+            index,
+        ),
         Deed::Rm { view, path } => one(Subject::File(view, path.as_bytes()), index),
         Deed::Mktype { name, .. } => one(Subject::Named(name), index),
         Deed::Arrow {
@@ -393,6 +436,11 @@ impl Subject<'_> {
             Subject::Winked(object) => key_by_one(hashing, 13, object),
             Subject::Merge(element, tail, head) => key_by_three(hashing, 9, element, tail, head),
             Subject::History(element) => key_by_one(hashing, 14, element),
+            Subject::Leaving(version) => key_by_one(hashing, 16, version),
+            Subject::Owned(view) => key_of(hashing, 17, view),
+            Subject::Given(directory) => key_by_one(hashing, 18, directory),
+            Subject::Changing(began) => key_by_one(hashing, 20, began),
+            Subject::Altered(branch, name) => key_with(hashing, 21, branch, name),
             Subject::Entry(directory, name) => key_with(hashing, 10, directory, name),
             Subject::Reserved(branch) => key_by_one(hashing, 11, branch),
             Subject::Pool(targets) => key_by_paths(hashing, 12, targets),

@@ -42,8 +42,7 @@ impl LookUp for NamedOf<'_> {
     ghost covered = { λ it. named_covered it.name.now };
 }
 
-/// What the type of this name is a type of, where there is one. Takes time linear in the name, and in the rows with its key that
-/// come behind the one that is found.
+/// What the type of this name is a type of, where there is one. Takes the time of `newest`.
 pub fn kind_of_type(rows: &FirstRows<'_>, name: &Name) -> Option<TypeKind>
     ensures { result ≡ kind_of_type rows.now name.now }
 {

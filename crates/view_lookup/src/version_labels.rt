@@ -1,20 +1,19 @@
-// The labels that stand on a version.
+// The labels that stand on the versions of an element.
 
-ghost use Rattle.std.specs.Prelude.{◌≡◌, [], IfOk, OnOk};
+ghost use Rattle.std.specs.Prelude.{◌≡◌, ◌==◌, ℕ, [], IfOk, OnOk, map};
 ghost use Rattle.std.specs.Option.{option_copied};
 ghost use Rattle.legal_history.specs.Queries.ElementTexts.{labels_on};
-ghost use Rattle.view_lookup.specs.LabelSets.{label_at, label_put, labels_among, with_label};
+ghost use Rattle.view_lookup.specs.LabelSets.{label_at, label_put, labels_among, labels_at, with_label, with_name_if};
 
 use crate::bases::{FirstRows, row_at};
 use crate::history::history_of;
 use crate::labels::holder;
-use crate::trees::is_number;
 use cc_names::memory::NoMemory;
 use cc_names::names::Name;
 use cc_names::rows::Deed;
 use cc_names::texts::Text;
 use std::alloc::Global;
-use std::collections::BTreeSet;
+use std::collections::{BTreeSet, HashMap};
 
 /// The label that a row of this deed puts on versions.
 fn label_put(deed: &Deed) -> Option<&Name>
@@ -35,65 +34,98 @@ fn label_at<'a>(rows: &FirstRows<'a>, number: u64) -> Option<&'a Name>
     label_put(row.deed())
 }
 
-/// Adds the label that the row of a number puts, where it stands on the version.
+/// The labels of an element by the versions on which they stand, in byte order on each.
+pub type VersionLabels = HashMap<u64, BTreeSet<Text>>;
+
+/// Adds a label to those of a version.
+fn add_to(
+    alloc: Global,
+    labels: &mut VersionLabels,
+    version: u64,
+    label: &Name,
+) -> Result<(), NoMemory>
+    ensures { OnOk result
+        ((other : ℕ)
+        → labels_at labels.new other
+        ≡ with_name_if (other == version) label.now (labels_at labels.old other)) }
+{
+    let mut own = match labels.remove(&version) {
+        Some(own) => own,
+        None => BTreeSet::new(alloc),
+    };
+    own.insert(Text::from_bytes(alloc, label.as_bytes())?)?;
+    labels.insert(version, own)?;
+    Ok(())
+}
+
+/// Adds the label that the row of a number puts to those of the version on which it stands.
 fn add_label(
     alloc: Global,
-    found: &mut BTreeSet<Text>,
+    labels: &mut VersionLabels,
     rows: &FirstRows<'_>,
     element: u64,
-    version: u64,
     number: u64,
 ) -> Result<(), NoMemory>
     ensures { OnOk result
-        (found.new.keys
-        ≡ with_label rows.now element version (label_at rows.now number) found.old.keys) }
+        ((version : ℕ)
+        → labels_at labels.new version
+        ≡ with_label rows.now element version (label_at rows.now number)
+        (labels_at labels.old version)) }
 {
     let Some(label) = label_at(rows, number) else {
         return Ok(());
     };
-    if is_number(version, holder(rows, label, element)) {
-        found.insert(Text::from_bytes(alloc, label.as_bytes())?)?;
+    match holder(rows, label, element) {
+        None => Ok(()),
+        Some(version) => add_to(alloc, labels, version, label),
     }
-    Ok(())
 }
 
-/// The labels that the rows of these numbers put and that stand on the version.
+/// The labels that the rows of these numbers put, by the versions on which they stand.
 fn labels_among(
     alloc: Global,
     rows: &FirstRows<'_>,
     element: u64,
-    version: u64,
     numbers: &[u64],
-) -> Result<BTreeSet<Text>, NoMemory>
+) -> Result<VersionLabels, NoMemory>
     ensures { IfOk result
-        (λ found. found.keys ≡ labels_among rows.now element version numbers.now []) }
+        (λ labels. (version : ℕ)
+        → labels_at labels version ≡ labels_among rows.now element version numbers.now []) }
 {
-    let mut found = BTreeSet::new(alloc);
+    let mut labels = HashMap::new(alloc);
     for number in numbers {
-        add_label(alloc, &mut found, rows, element, version, *number)?;
+        add_label(alloc, &mut labels, rows, element, *number)?;
     }
-    Ok(found)
+    Ok(labels)
 }
 
-/// Names in byte order.
-fn listed(alloc: Global, found: BTreeSet<Text>) -> Result<Vec<Text>, NoMemory>
-    ensures { IfOk result (λ labels. labels.items ≡ found.keys) }
-{
-    Ok(found.into_iter().collect(alloc)?)
-}
-
-/// The labels that stand on a version of the element, in byte order. Takes time linear in the rows of the element's history, and for
-/// each that puts a label the time of `holder`.
-pub fn labels_on(
+/// The labels that stand on versions of the element. Takes time linear in the rows of the element's history, and for each that
+/// puts a label the time of `holder`.
+pub fn labels_of(
     alloc: Global,
     rows: &FirstRows<'_>,
     element: u64,
-    version: u64,
-) -> Result<Vec<Text>, NoMemory>
-    ensures { IfOk result (λ labels. labels.items ≡ labels_on rows.now element version) }
+) -> Result<VersionLabels, NoMemory>
+    ensures { IfOk result
+        (λ labels. (version : ℕ)
+        → labels_at labels version ≡ labels_on rows.now element version) }
 {
     rows.are_base();
     let numbers = history_of(alloc, rows, element)?;
-    let found = labels_among(alloc, rows, element, version, &numbers)?;
-    Ok(listed(alloc, found)?)
+    Ok(labels_among(alloc, rows, element, &numbers)?)
+}
+
+/// The labels on one of these versions, in byte order. Takes time linear in them.
+pub fn labels_on<'a>(
+    alloc: Global,
+    labels: &'a VersionLabels,
+    version: u64,
+) -> Result<Vec<&'a Text>, NoMemory>
+    ensures { IfOk result
+        (λ found. map (λ label. label.now) found.items ≡ labels_at labels.now version) }
+{
+    match labels.get(&version) {
+        None => Ok(Vec::new(alloc)),
+        Some(own) => Ok(own.iter().collect(alloc)?),
+    }
 }

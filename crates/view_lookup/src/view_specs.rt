@@ -75,8 +75,7 @@ fn spec_made(deed: &Deed) -> Option<&[u8]>
     }
 }
 
-/// The text of the view's config spec as it was set, where the view exists. Takes time linear in the view's name, and in the rows
-/// with its keys that come behind those that are found.
+/// The text of the view's config spec as it was set, where the view exists. Takes the time of `newest`, twice.
 pub fn spec_text<'a>(rows: &FirstRows<'a>, view: &Name) -> Option<&'a [u8]>
     ensures { option_copied result ≡ spec_text rows.now view.now }
 {

@@ -3,7 +3,7 @@
 ghost use Rattle.std.specs.Prelude.{◌≡◌, bytes_eq, ◌&&◌, option_map};
 ghost use Rattle.legal_history.specs.Base.Views.{view_row, private};
 ghost use Rattle.view_lookup.specs.Effects.{end_effect};
-ghost use Rattle.view_lookup.specs.Ended.{number_of};
+ghost use Rattle.view_lookup.specs.Ended.{number_of, within};
 ghost use Rattle.view_lookup.specs.LookUps.{newest};
 
 use crate::bases::FirstRows;
@@ -133,8 +133,7 @@ impl LookUp for FileOf<'_> {
     ghost covered = { λ it. file_covered it.view.now it.path.now };
 }
 
-/// The mkview row with which the view's life began, where the view exists. Takes time linear in the view's name, and in the
-/// rows with its key that come behind the one that is found.
+/// The mkview row with which the view's life began, where the view exists. Takes the time of `newest`.
 pub fn view_row(rows: &FirstRows<'_>, view: &Name) -> Option<u64>
     ensures { result ≡ view_row rows.now view.now }
 {
@@ -142,15 +141,29 @@ pub fn view_row(rows: &FirstRows<'_>, view: &Name) -> Option<u64>
 }
 
 /// The last row with which the view's life began or ended.
-pub(crate) fn last_end(rows: &FirstRows<'_>, view: &Name) -> Option<u64>
+fn last_end(rows: &FirstRows<'_>, view: &Name) -> Option<u64>
     ensures { result ≡ option_map number_of (newest (end_effect view.now) rows.now) }
 {
     let (number, _) = rows.newest(&EndOf { view })?;
     Some(number)
 }
 
-/// The row that put the view's private file at the path. Takes time linear in the two names, and in the rows with their key
-/// that come behind the one that is found.
+/// What is told of a thing of the view, unless the view's life began or ended behind it. Takes the time of `newest` where
+/// anything is told, else none.
+pub(crate) fn in_life<T: Copy>(
+    rows: &FirstRows<'_>,
+    view: &Name,
+    told: Option<(u64, Option<T>)>,
+) -> Option<T>
+    ensures { result ≡ within (option_map number_of (newest (end_effect view.now) rows.now)) told }
+{
+    match told {
+        None => None,
+        Some(_) => within(last_end(rows, view), told),
+    }
+}
+
+/// The row that put the view's private file at the path. Takes the time of `newest`, twice where there was one.
 pub fn private(rows: &FirstRows<'_>, view: &Name, path: &Path) -> Option<u64>
     ensures { result ≡ private rows.now view.now path.now }
 {
@@ -161,5 +174,5 @@ pub fn private(rows: &FirstRows<'_>, view: &Name, path: &Path) -> Option<u64>
 pub(crate) fn private_at(rows: &FirstRows<'_>, view: &Name, path: &[u8]) -> Option<u64>
     ensures { result ≡ private rows.now view.now path.now }
 {
-    within(last_end(rows, view), rows.newest(&FileOf { view, path }))
+    in_life(rows, view, rows.newest(&FileOf { view, path }))
 }

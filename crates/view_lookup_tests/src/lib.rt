@@ -5,9 +5,12 @@
 //
 // What it promises: nothing; it is only run.
 //
-// What it stands on: `view_lookup`, `carried_out`, `row_form` for rows from their spelling, and `cc_names` for names.
+// What it stands on: `view_lookup`, `carried_out`, `legal_history` for what a base is, `row_form` for rows from their spelling,
+// and `cc_names` for names.
 #![tactic(auto)]
 
+#[cfg(test)]
+mod catalogs;
 #[cfg(test)]
 mod elements;
 #[cfg(test)]

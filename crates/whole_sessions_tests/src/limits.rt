@@ -119,6 +119,86 @@ clearmake v
 status 1, 2 rows
 ";
 
+// Below the macros 984 files are included, and then `m1` to `m16` inside each other, in all 1,000. A further one is looked
+// for, and how deep it stands is tested, before it is one too many.
+const FILES: &str = "\
+|V = e e e e e e e e e e
+|W = $V $V $V $V $V $V $V $V $V $V
+|include $W $W $W $W $W $W $W $W $W $V $V $V $V $V $V $V $V e e e e m1
+save v e
+save v m1
+|include m2
+save v m2
+|include m3
+save v m3
+|include m4
+save v m4
+|include m5
+save v m5
+|include m6
+save v m6
+|include m7
+save v m7
+|include m8
+save v m8
+|include m9
+save v m9
+|include m10
+save v m10
+|include m11
+save v m11
+|include m12
+save v m12
+|include m13
+save v m13
+|include m14
+save v m14
+|include m15
+save v m15
+|include m16
+save v m16
+|include none
+clearmake v
+save v m16
+|include e
+clearmake v
+save v m15
+|include e m16
+clearmake v
+save v m15
+|include m16
+save v m16
+|# none
+clearmake v
+----
+3 save ok
+4 save ok
+5 save ok
+6 save ok
+7 save ok
+8 save ok
+9 save ok
+10 save ok
+11 save ok
+12 save ok
+13 save ok
+14 save ok
+15 save ok
+16 save ok
+17 save ok
+18 save ok
+19 save ok
+20 clearmake refused M1 MakeError m16 1 IncludeAbsent
+21 save ok
+22 clearmake refused M1 MakeError m16 1 IncludeDepth
+23 save ok
+24 clearmake refused M1 MakeError m15 1 TooMany
+25 save ok
+26 save ok
+27 clearmake refused G1 NoGoal .
+status 1, 23 rows
+";
+
 #[test]
 fn a_makefile_is_not_too_large(rt: HostRuntime) -> Result<(), Fail> {
     assert_sessions(&rt, rt.alloc(), BELOW_MACROS, MAKEFILES)
@@ -127,4 +207,9 @@ fn a_makefile_is_not_too_large(rt: HostRuntime) -> Result<(), Fail> {
 #[test]
 fn a_script_is_not_too_long(rt: HostRuntime) -> Result<(), Fail> {
     assert_sessions(&rt, rt.alloc(), BELOW_MACROS, SCRIPTS)
+}
+
+#[test]
+fn files_are_included_up_to_a_limit(rt: HostRuntime) -> Result<(), Fail> {
+    assert_sessions(&rt, rt.alloc(), BELOW_MACROS, FILES)
 }

@@ -126,12 +126,33 @@ fn assert_damage(
     Ok(())
 }
 
+// An object, which is row 3.
+const BUILT: &str = "\
+mkview v
+save v Makefile
+|out:
+|\techo hi > out
+clearmake v
+";
+
+// The same, once its view has let go of it.
+const LET_GO: &str = "\
+mkview v
+save v Makefile
+|out:
+|\techo hi > out
+clearmake v
+rmdo v out
+";
+
 #[test]
 fn a_row_that_does_not_fit_is_damage(rt: HostRuntime) -> Result<(), Fail> {
     for (commands, one_more, line) in [
         ("mkview v\nsave v in\n", "rm v in\n", "damaged 4\nstatus 4,"),
         ("mkview v\n", "mklbtype REL\n", "damaged 3\nstatus 4,"),
         ("", "mkbrtype fix\n", "damaged 2\nstatus 4,"),
+        (BUILT, "rmdo v out\n", "damaged 5\nstatus 4,"),
+        (LET_GO, "scrub 0\n", "damaged 6\nstatus 4,"),
     ] {
         let journal = twice(rt.alloc(), RandomState::new(&rt)?, commands, one_more)?;
         assert_damage(&rt, rt.alloc(), journal.as_slice(), line)?;

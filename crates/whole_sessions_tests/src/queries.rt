@@ -159,7 +159,7 @@ lane a
 mkview v
 save v in
 |hi
-lsdo v
+findmerge v in -fversion .../fix/LATEST
 ----
 bad session 6 NotBuilt
 status 3, 0 rows

@@ -63,12 +63,12 @@ kept_refusal log lanes now tag refusal h made low high =
     })
 
 -- what is kept after an answer
-kept_answer : (log : Logged) (lanes : List LaneKept) (now : ℕ) (tag : Tag) (text : List ℕ) → IsCoreKept log lanes now → decided (state_of log.story) tag ≡ Some (Ok (Answers text)) → reply_to_answer (next_command (state_of log.story) tag) text ≡ replies.Answer text → 1 ≤ tag.lane → tag.lane ≤ length lanes
-    → IsCoreKept (with_step log (steps.Answer tag text)) (with_reply lanes tag.lane (replies.Answer text)) now
-kept_answer log lanes now tag text h made reply low high =
+kept_answer : (log : Logged) (lanes : List LaneKept) (now : ℕ) (tag : Tag) (text : List ℕ) (reply : Reply) → IsCoreKept log lanes now → decided (state_of log.story) tag ≡ Some (Ok (Answers text)) → reply_to_answer (next_command (state_of log.story) tag) text ≡ reply → 1 ≤ tag.lane → tag.lane ≤ length lanes
+    → IsCoreKept (with_step log (steps.Answer tag text)) (with_reply lanes tag.lane reply) now
+kept_answer log lanes now tag text reply h made replied low high =
     let s : State = state_of log.story in
     let x : Told = told.Other (steps.Answer tag text) in
-    kept_finished log lanes now x log.base log.sight tag (replies.Answer text) h low high
+    kept_finished log lanes now x log.base log.sight tag reply h low high
     (record { lawful = made; names = tt; leads = h.story.base })
     (record {
       free = decided_is_free s tag (Ok (Answers text)) made;
@@ -76,7 +76,7 @@ kept_answer log lanes now tag text h made reply low high =
       rows = same_rows s (after s x) refl;
       active = refl;
       done = refl;
-      said = λ l. ap (λ r. replies_of log.story l ++ in_lane l tag (Some r)) reply;
+      said = λ l. ap (λ r. replies_of log.story l ++ in_lane l tag (Some r)) replied;
     })
 
 -- what is kept after the row of a lane's next command
@@ -97,8 +97,8 @@ kept_next_refusal log lanes now story tag refusal same h next =
     kept_refusal log lanes now tag refusal h here.made here.of_next.from (omega (arith, here.of_next.upto, h.replies.count))
 
 -- what is kept after the answer to a lane's next command
-pub kept_next_answer : (log : Logged) (lanes : List LaneKept) (now : ℕ) (story : List Told) (tag : Tag) (text : List ℕ) → log.story ≡ story → IsCoreKept log lanes now → IsNextAnswer (state_of story) tag text
-    → IsCoreKept (with_step log (steps.Answer tag text)) (with_reply lanes tag.lane (replies.Answer text)) now
-kept_next_answer log lanes now story tag text same h next =
-    let here : IsNextAnswer (state_of log.story) tag text = subst (λ t. IsNextAnswer (state_of t) tag text) (sym same) next in
-    kept_answer log lanes now tag text h here.made here.reply here.of_next.from (omega (arith, here.of_next.upto, h.replies.count))
+pub kept_next_answer : (log : Logged) (lanes : List LaneKept) (now : ℕ) (story : List Told) (tag : Tag) (text : List ℕ) (reply : Reply) → log.story ≡ story → IsCoreKept log lanes now → IsNextAnswer (state_of story) tag text reply
+    → IsCoreKept (with_step log (steps.Answer tag text)) (with_reply lanes tag.lane reply) now
+kept_next_answer log lanes now story tag text reply same h next =
+    let here : IsNextAnswer (state_of log.story) tag text reply = subst (λ t. IsNextAnswer (state_of t) tag text reply) (sym same) next in
+    kept_answer log lanes now tag text reply h here.made here.reply here.of_next.from (omega (arith, here.of_next.upto, h.replies.count))

@@ -25,6 +25,7 @@ use Rattle.legal_history.specs.Commands.FileLines.{last_name, save_deed}
 use Rattle.legal_history.specs.Commands.Found.{for_element, for_selected}
 use Rattle.legal_history.specs.Commands.LabelLines.{mklabel_of, mklabel_tests, rmlabel_of, rmlabel_tests}
 use Rattle.legal_history.specs.Commands.Lines.{decision}
+use Rattle.legal_history.specs.Commands.ObjectLines.{due, scrub_of}
 use Rattle.legal_history.specs.Commands.Tests.{needs_free_path, needs_idle, needs_view}
 use Rattle.legal_history.specs.Base.Views.{out}
 use Rattle.legal_history.proofs.Decisions.Handed.{IfDecided, change_is, element_is, past_is, row_is, selected_is}
@@ -80,6 +81,12 @@ finishes_label label e version = record { reply = λ b. refl; done = λ done lan
 finishes_unlabel : (label : List ℕ) (e : ℕ) → FinishesCommand (deeds.Unlabel label e)
 finishes_unlabel label e = record { reply = λ b. refl; done = λ done lane. refl; active = λ b active lane. refl; made = λ s row made. made }
 
+finishes_drop : (v path : List ℕ) → FinishesCommand (deeds.Drop v path)
+finishes_drop v path = record { reply = λ b. refl; done = λ done lane. refl; active = λ b active lane. refl; made = λ s row made. made }
+
+finishes_scrub : (objects : List ℕ) → FinishesCommand (deeds.Scrub objects)
+finishes_scrub objects = record { reply = λ b. refl; done = λ done lane. refl; active = λ b active lane. refl; made = λ s row made. made }
+
 -- a save of a private file, or of the view's checkout of an element
 finishes_save : (v path text : List ℕ) (seen : Seen) → FinishesCommand (save_deed v path text seen)
 finishes_save v path text Nothing = finishes_put v path text
@@ -131,6 +138,11 @@ mklabel_finishes s v replace label e picked = row_is Finishes s (mklabel_tests s
 rmlabel_finishes : (s : Scene) (label path : List ℕ) (e : ℕ) → IfDecided Finishes (rmlabel_of s label path e)
 rmlabel_finishes s label path e = row_is Finishes s (rmlabel_tests s label path e) (deeds.Unlabel label e) (λ made. finishes_unlabel label e)
 
+-- a scrub, where anything is due
+scrub_finishes : (s : Scene) (ids : List ℕ) (deed : Deed) → scrub_of s ids ≡ Ok (Makes deed) → FinishesCommand deed
+scrub_finishes s [] deed e = absurd (cc)
+scrub_finishes s (id ∷ ids) deed e = subst FinishesCommand (same_deed _ (deeds.Scrub (id ∷ ids)) deed e) (finishes_scrub (id ∷ ids))
+
 -- so do the rows of what is selected at a path, and of the element that stands there, past some tests
 for_selected_finishes : (tests : List (Option Refusal)) (path : List ℕ) (seen : Seen) (more : ℕ → Picked → Result Decision Refusal) → ((e : ℕ) (picked : Picked) → IfDecided Finishes (more e picked)) →
     IfDecided Finishes (past tests (for_selected path seen more))
@@ -164,5 +176,7 @@ command_finishes s (commands.Mklabel v replace label path) deed carried idle e =
     for_selected_finishes (needs_view s.base v ∷ []) path (at s.base v path) (mklabel_of s v replace label) (mklabel_finishes s v replace label) (Makes deed) e
 command_finishes s (commands.Rmlabel v label path) deed carried idle e =
     for_element_finishes (needs_view s.base v ∷ []) path (at s.base v path) (rmlabel_of s label path) (rmlabel_finishes s label path) (Makes deed) e
+command_finishes s (commands.Rmdo v path) deed carried idle e = subst FinishesCommand (same_deed _ (deeds.Drop v path) deed e) (finishes_drop v path)
+command_finishes s (commands.Scrub age) deed carried idle e = scrub_finishes s (due s.base s.moment age) deed e
 command_finishes s (commands.Clearmake v file own_only rebuild jobs macros goals) deed carried idle e = absurd (cc)
 command_finishes s command deed carried idle e = absurd (cc)

@@ -30,7 +30,7 @@ use Rattle.legal_history.specs.Stories.Committing.{MakesRow, MayCommit}
 use Rattle.legal_history.specs.Stories.States.{State, Committed, build_by, next_tag}
 use Rattle.legal_history.specs.Stories.Steps.{active_after, after, done_after, noted_in, with_came}
 use Rattle.legal_history.proofs.Reuse.KeptObjects.{chosen_object}
-use Rattle.base_core.specs.Calls.BuildCalls.{GivesObject, Published, TakenIn, IsObjectRow, IsWinkRow}
+use Rattle.base_core.specs.Calls.BuildCalls.{GivesObject, Published, WinkedIn, IsObjectRow, IsWinkRow}
 use Rattle.base_core.specs.Calls.Building.{IsBuildKept}
 use Rattle.base_core.specs.Story.Replying.{reply_to_row}
 use Rattle.base_core.proofs.Building.Closing.{build_is_by}
@@ -136,7 +136,7 @@ published_gives s lane n row h kept consistent = record {
 taker_waits : (s : State) (tag : Tag) (n : ℕ) (build : Build) (unit : Unit) → MayTake s tag n build unit → Waits s tag n build unit
 taker_waits s tag n build unit may = elim may [ inl o ↦ o.waits | inr r ↦ r.waits ]
 
--- the row by which a build's view takes an object in
+-- the row by which a build's view winks an object in
 taken_gives : (s : State) (lane n object : ℕ) (row : Plain) (h : IsWinkRow s lane n object row) → is_base s.base ≡ true → IsConsistent s.base h.may.build → Gives s lane n row object
 taken_gives s lane n object row h base consistent = record {
   build = h.may.build;
@@ -173,4 +173,4 @@ taken_gives s lane n object row h base consistent = record {
 pub gives_so : (s : State) (lane n : ℕ) (row : Plain) (object : ℕ) → is_base s.base ≡ true → ((build : Build) → build_of s.active lane ≡ Some build → IsBuildKept s lane build) → ((build : Build) → build_of s.active lane ≡ Some build → IsConsistent s.base build) → GivesObject s lane n row object → Gives s lane n row object
 gives_so s lane n row object base kept consistent (Published h newest) =
     subst (Gives s lane n row) (sym newest) (published_gives s lane n row h (kept h.build h.active) (consistent h.build h.active))
-gives_so s lane n row object base kept consistent (TakenIn h) = taken_gives s lane n object row h base (consistent h.may.build h.may.active)
+gives_so s lane n row object base kept consistent (WinkedIn h) = taken_gives s lane n object row h base (consistent h.may.build h.may.active)

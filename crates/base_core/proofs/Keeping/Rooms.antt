@@ -2,6 +2,7 @@
 use Rattle.std.proofs.Common.{◌≡◌, ℕ, Some, Ok, Err, List, ap, sym, subst, ◌∙◌}
 use Rattle.cc_names.specs.Formed.{Plain}
 use Rattle.cc_names.specs.declared.refusals.Refusal.{Refusal}
+use Rattle.cc_names.specs.declared.replies.Reply.{Reply}
 use Rattle.cc_names.specs.declared.rows.Tag.{Tag}
 use Rattle.cc_names.specs.declared.steps.Told.{Told}
 use Rattle.legal_history.specs.Builds.Active.{Build, build_of}
@@ -29,9 +30,9 @@ refusal_has_room log lanes now story tag refusal same h next =
     has_room log lanes now tag.lane h (decided_waits (state_of log.story) tag (Err refusal) here.made)
 
 -- of an answer
-pub answer_has_room : (log : Logged) (lanes : List LaneKept) (now : ℕ) (story : List Told) (tag : Tag) (text : List ℕ) → log.story ≡ story → IsCoreKept log lanes now → IsNextAnswer (state_of story) tag text → HasRoom lanes tag.lane
-answer_has_room log lanes now story tag text same h next =
-    let here : IsNextAnswer (state_of log.story) tag text = subst (λ t. IsNextAnswer (state_of t) tag text) (sym same) next in
+pub answer_has_room : (log : Logged) (lanes : List LaneKept) (now : ℕ) (story : List Told) (tag : Tag) (text : List ℕ) (reply : Reply) → log.story ≡ story → IsCoreKept log lanes now → IsNextAnswer (state_of story) tag text reply → HasRoom lanes tag.lane
+answer_has_room log lanes now story tag text reply same h next =
+    let here : IsNextAnswer (state_of log.story) tag text reply = subst (λ t. IsNextAnswer (state_of t) tag text reply) (sym same) next in
     has_room log lanes now tag.lane h (decided_waits (state_of log.story) tag (Ok (Answers text)) here.made)
 
 -- of a lane that builds

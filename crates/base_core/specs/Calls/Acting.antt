@@ -1,5 +1,5 @@
 -- What a lane's next command comes to.
-use Rattle.std.specs.Prelude.{◌≡◌, ℕ, ◌<◌, ◌≤◌, true, Some, Result, Ok, Err, List, [], ◌∷◌, ◌++◌, length}
+use Rattle.std.specs.Prelude.{◌≡◌, ℕ, ◌<◌, ◌≤◌, true, Option, Some, None, Result, Ok, Err, List, [], ◌∷◌, ◌++◌, length}
 use Rattle.carried_out.specs.CarriedOut.{is_made}
 use Rattle.cc_names.specs.Formed.{Plain}
 use Rattle.cc_names.specs.declared.desks.Done.{Done}
@@ -7,6 +7,7 @@ use Rattle.cc_names.specs.declared.desks.Done.TheVariants.{Committed, Refused, A
 use Rattle.cc_names.specs.declared.memory.Or.{Or}
 use Rattle.cc_names.specs.declared.memory.Or.TheVariants.{NoMemory, Is}
 use Rattle.cc_names.specs.declared.refusals.Refusal.{Refusal}
+use Rattle.cc_names.specs.declared.replies.Reply.{Reply}
 use Rattle.cc_names.specs.declared.replies.Reply.TheVariants as replies
 use Rattle.cc_names.specs.declared.rows.Deed.{Deed}
 use Rattle.cc_names.specs.declared.rows.Tag.{Tag}
@@ -21,7 +22,7 @@ use Rattle.legal_history.specs.Base.Fits.{fits}
 use Rattle.legal_history.specs.Stories.States.{State, decided, next_command, next_tag, with_done}
 use Rattle.legal_history.specs.Stories.Steps.{state_of, active_after, done_after}
 use Rattle.cleartool.specs.Naming.{name_told}
-use Rattle.base_core.specs.Story.Replying.{reply_to_row, reply_to_answer, row_reply}
+use Rattle.base_core.specs.Story.Replying.{count_told, reply_to_row, reply_to_answer, row_reply}
 
 -- A step by which a command of this tag is finished, by its kind: the row that was decided, committed at the moment of the
 -- phase; the refusal or the answer that was decided; or the fault of the disk under the row that was decided.
@@ -46,7 +47,7 @@ pub record IsNextTag (s : State) (tag : Tag) : Type 0 where
 
 -- A row of this deed is of no build: its command makes it and is finished by it, with a reply.
 pub record FinishesCommand (deed : Deed) : Type 0 where
-  pub reply : (b : Base) → reply_to_row b deed ≡ Some (row_reply (name_told b deed))
+  pub reply : (b : Base) → reply_to_row b deed ≡ Some (row_reply (name_told b deed) (count_told deed))
   pub done : (done : List (ℕ × ℕ)) (lane : ℕ) → done_after done lane deed ≡ with_done done lane
   pub active : (b : Base) (active : Active) (lane : ℕ) → active_after b active lane deed ≡ active
   pub made : (s : State) (row : Plain) → decided s row.tag ≡ Some (Ok (Makes row.deed)) → MakesRow s row deed
@@ -66,23 +67,24 @@ pub record IsNextRefusal (s : State) (tag : Tag) (refusal : Refusal) : Type 0 wh
   pub of_next : IsNextTag s tag
   pub made : decided s tag ≡ Some (Err refusal)
 
--- the answer that was decided for the next command of its lane, which is replied as it stands
-pub record IsNextAnswer (s : State) (tag : Tag) (text : List ℕ) : Type 0 where
+-- the answer that was decided for the next command of its lane, and what the command is replied
+pub record IsNextAnswer (s : State) (tag : Tag) (text : List ℕ) (replied : Reply) : Type 0 where
   pub of_next : IsNextTag s tag
   pub made : decided s tag ≡ Some (Ok (Answers text))
-  pub reply : reply_to_answer (next_command s tag) text ≡ replies.Answer text
+  pub reply : reply_to_answer (next_command s tag) text ≡ replied
 
 -- unless memory ran out, the refusal was decided
 abbrev pub RefusalWas : State → Tag → Or Refusal → Type 0
 RefusalWas s tag NoMemory = Unit {0}
 RefusalWas s tag (Is refusal) = IsNextRefusal s tag refusal
 
--- what was decided for the next command of a lane, which makes a row
-abbrev pub DecidesNext : State → Tag → Result Plain (Or Refusal) → Type 0
-DecidesNext s tag (Ok row) = IsRowToCommit s row × (row.tag ≡ tag)
+-- what was decided for the next command of a lane, which makes a row, or finds nothing for one and counts nothing
+abbrev pub DecidesNext : State → Tag → Result (Option Plain) (Or Refusal) → Type 0
+DecidesNext s tag (Ok None) = IsNextAnswer s tag [] (replies.Count 0)
+DecidesNext s tag (Ok (Some row)) = IsRowToCommit s row × (row.tag ≡ tag)
 DecidesNext s tag (Err refusal) = RefusalWas s tag refusal
 
 -- what was decided for the next command of a lane, which is a query
 abbrev pub AnswersNext : State → Tag → Result (List ℕ) (Or Refusal) → Type 0
-AnswersNext s tag (Ok text) = IsNextAnswer s tag text
+AnswersNext s tag (Ok text) = IsNextAnswer s tag text (replies.Answer text)
 AnswersNext s tag (Err refusal) = RefusalWas s tag refusal

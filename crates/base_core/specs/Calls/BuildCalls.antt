@@ -1,5 +1,5 @@
 -- What the calls of a core on a lane's build ask and leave.
-use Rattle.std.specs.Prelude.{◌≡◌, ℕ, ◌<◌, ◌^◌, true, false, Option, Some, None, Ok, List, [], length}
+use Rattle.std.specs.Prelude.{◌≡◌, ℕ, ◌<◌, ◌^◌, true, false, Option, Some, None, is_some, Ok, List, [], length}
 use Rattle.std.specs.Ordering.{nat_cmp}
 use Rattle.std.specs.FinMap.Entries.{put}
 use Rattle.cc_names.specs.Formed.{Plain}
@@ -36,6 +36,8 @@ use Rattle.base_core.specs.Calls.Going.{GoesOn, HasOutcome, Finishes}
 use Rattle.base_core.specs.Story.Faults.{is_fault}
 use Rattle.base_core.specs.Story.Replying.{replies_by}
 use Rattle.base_core.specs.Story.Telling.{stands_alone}
+use Rattle.base_core.specs.declared.turns.Carried.{Carried}
+use Rattle.base_core.specs.declared.turns.Carried.TheVariants as carried
 use Rattle.base_core.specs.declared.turns.UnitTurn.{UnitTurn}
 use Rattle.base_core.specs.declared.turns.UnitTurn.TheVariants as turns
 
@@ -50,14 +52,6 @@ pub record IsBuilding (s : State) (lane count : ℕ) : Type 0 where
 abbrev pub Begins : List Told → List Told → ℕ → Begun → Type 0
 Begins old new lane (begins.Units count) = GoesOn old new lane × IsBuilding (state_of new) lane count
 Begins old new lane begins.Refused = Finishes old new lane
-
--- unit n of a lane's build, all units before which have their outcomes
-pub record IsTurn (s : State) (lane n : ℕ) : Type 0 where
-  pub build : Build
-  pub active : build_of s.active lane ≡ Some build
-  pub few : length build.units < 2 ^ 32
-  pub within : n < length build.units
-  pub earlier : (m : ℕ) → m < n → is_outcome (came_to build m) ≡ true
 
 -- By this step, which names no row, unit n of a lane's build comes to something, and no command is replied.
 pub record Notes (s : State) (lane n : ℕ) (step : Step) (came : Came) : Type 0 where
@@ -98,7 +92,7 @@ pub record MayStart (s : State) (lane n : ℕ) (fault : Option ScriptFault) : Ty
   pub nothing : reusable s.base build n unit ≡ None
   pub fault_is : fault ≡ unreadable unit
 
--- the view of a lane's build may take in this object for unit n, which may reuse it; the view does not hold it at every target
+-- the view of a lane's build may wink in this object for unit n, which may reuse it; the view does not hold it at every target
 pub record MayWink (s : State) (lane n id : ℕ) : Type 0 where
   pub build : Build
   pub active : build_of s.active lane ≡ Some build
@@ -149,25 +143,34 @@ pub record IsObjectRow (s : State) (lane n : ℕ) (row : Plain) : Type 0 where
   pub nothing : reusable s.base build n unit ≡ None
   pub made : publish_of s.base build n unit ≡ Some row.deed
 
--- the row by which the view of a lane's build takes in this object for unit n
+-- the row by which the view of a lane's build winks in this object for unit n
 pub record IsWinkRow (s : State) (lane n id : ℕ) (row : Plain) : Type 0 where
   pub may : MayWink s lane n id
   pub of_tag : row.tag ≡ next_tag s lane
   pub at_moment : row.moment ≡ s.moment
   pub winks : row.deed ≡ deeds.Wink may.build.view id
 
--- a row that gives unit n of a lane's build this object: what its run gave is the next row, and an object taken in is its own
+-- a row that gives unit n of a lane's build this object: what its run gave is the next row, and an object winked in is its own
 pub data GivesObject (s : State) (lane n : ℕ) (row : Plain) (object : ℕ) : Type 0 where
   Published : IsObjectRow s lane n row → object ≡ size s.base → GivesObject s lane n row object
-  TakenIn : IsWinkRow s lane n object row → GivesObject s lane n row object
+  WinkedIn : IsWinkRow s lane n object row → GivesObject s lane n row object
 
--- unit n of a lane's build was started, with this script and these targets
+-- unit n of a lane's build was started, with this script and these targets; by now it may have its outcome
 pub record IsStarted (s : State) (lane n : ℕ) (script : List Line) (targets : List (List ℕ)) : Type 0 where
   pub has : HasScript s lane n script targets
-  pub started : came_to has.build n ≡ Some Started
+  pub started : is_some (came_to has.build n) ≡ true
 
--- unit n of a lane's build was started, and this is the run of its script on what it sees
+-- unit n of a lane's build was started, and this is the run of its script on what it sees; by now it may have its outcome
 pub record IsRunOfUnit (s : State) (lane n : ℕ) (ran : Ran) : Type 0 where
+  pub build : Build
+  pub active : build_of s.active lane ≡ Some build
+  pub unit : Unit
+  pub is_unit : unit_at build n ≡ Some unit
+  pub started : is_some (came_to build n) ≡ true
+  pub run : ran ≡ here s.base build n unit
+
+-- and it has no outcome yet
+pub record HasRun (s : State) (lane n : ℕ) (ran : Ran) : Type 0 where
   pub build : Build
   pub active : build_of s.active lane ≡ Some build
   pub unit : Unit
@@ -178,7 +181,7 @@ pub record IsRunOfUnit (s : State) (lane n : ℕ) (ran : Ran) : Type 0 where
 
 -- the run of unit n of a lane's build gave these outputs and asked for these paths, and the unit may reuse no object
 pub record MayPublish (s : State) (lane n : ℕ) (outputs reads : List (List ℕ)) : Type 0 where
-  pub run : IsRunOfUnit s lane n (record { result = Ok outputs; reads = reads })
+  pub run : HasRun s lane n (record { result = Ok outputs; reads = reads })
   pub nothing : reusable s.base run.build n run.unit ≡ None
 
 -- the units of a lane's build all have their outcomes
@@ -198,9 +201,12 @@ Tries old new lane n (turns.NotReady m) = (new ≡ old) × WaitsFor (state_of ol
 Tries old new lane n (turns.Run script targets) = GoesOn old new lane × IsStarted (state_of new) lane n script targets
 Tries old new lane n turns.Faulted = Finishes old new lane
 
--- what became of a unit that was carried out: it has its outcome, or the disk failed and its lane's command is finished
-abbrev pub IsCarried : List Told → List Told → ℕ → ℕ → UnitTurn → Type 0
-IsCarried old new lane n turns.Settled = Settled old new lane n
-IsCarried old new lane n (turns.NotReady m) = ⊥
-IsCarried old new lane n (turns.Run script targets) = ⊥
-IsCarried old new lane n turns.Faulted = Finishes old new lane
+-- what became of a unit that was given its outcome: it has it, or the disk failed and its lane's command is finished
+abbrev pub IsCarried : List Told → List Told → ℕ → ℕ → Carried → Type 0
+IsCarried old new lane n carried.Settled = Settled old new lane n
+IsCarried old new lane n carried.Faulted = Finishes old new lane
+
+-- the turn of a unit whose outcome was at hand
+abbrev pub turn_of : Carried → UnitTurn
+turn_of carried.Settled = turns.Settled
+turn_of carried.Faulted = turns.Faulted

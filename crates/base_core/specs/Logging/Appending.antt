@@ -72,7 +72,7 @@ abbrev pub Appends : Logged → Logged → Plain → Option Step → Appended �
 Appends old new row ending appends.Committed = IsCommitted old new row
 Appends old new row ending appends.Faulted = IsFaulted old new row ending
 
--- what the command of a row that was to be committed is replied, where its version has this name
-abbrev pub append_reply : Appended → Option (List ℕ) → Reply
-append_reply appends.Committed name = row_reply name
-append_reply appends.Faulted name = replies.DiskFault
+-- what the command of a row that was to be committed is replied, where its version has this name, or it counts so many things
+abbrev pub append_reply : Appended → Option (List ℕ) → Option ℕ → Reply
+append_reply appends.Committed name count = row_reply name count
+append_reply appends.Faulted name count = replies.DiskFault

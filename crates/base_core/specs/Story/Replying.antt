@@ -29,10 +29,17 @@ reply_to_row b (deeds.Publish v targets script entries outputs) = None
 reply_to_row b (deeds.Wink v object) = None
 reply_to_row b deed = Some replies.Good
 
--- the reply to a row that takes out or makes a version of this name, or none
-abbrev pub row_reply : Option (List ℕ) → Reply
-row_reply (Some name) = replies.Version name
-row_reply None = replies.Good
+-- how many things a row named, where its command is replied their number
+abbrev pub count_told : Deed → Option ℕ
+count_told (deeds.Scrub objects) = Some (length objects)
+count_told (deeds.Labels label placed) = Some (length placed)
+count_told deed = None
+
+-- the reply to a row that takes out or makes a version of this name, or counts so many things, or does neither
+abbrev pub row_reply : Option (List ℕ) → Option ℕ → Reply
+row_reply (Some name) count = replies.Version name
+row_reply None (Some count) = replies.Count count
+row_reply None None = replies.Good
 
 -- the reply to a command that was answered: a scrub or the labels of a record that found nothing count nothing
 abbrev pub reply_to_answer : Option Command → List ℕ → Reply

@@ -2,7 +2,7 @@
 
 ghost use Rattle.std.specs.Prelude.{◌≡◌};
 ghost use Rattle.base_core.specs.Logging.Appending.{append_reply};
-ghost use Rattle.base_core.specs.Story.Replying.{row_reply};
+ghost use Rattle.base_core.specs.Story.Replying.{count_told, row_reply};
 
 use super::Core;
 use crate::logs::Appended;
@@ -11,7 +11,7 @@ use cc_names::desks::Done;
 use cc_names::memory::{NoMemory, Or};
 use cc_names::refusals::Refusal;
 use cc_names::replies::Reply;
-use cc_names::rows::{Row, Tag};
+use cc_names::rows::{Deed, Row, Tag};
 use cc_names::steps::Step;
 use cc_names::texts::Text;
 use checkout_desk::{decide, view_of};
@@ -19,32 +19,47 @@ use cleartool::{answer, is_query, name_told};
 use disk_model::Disk;
 use std::alloc::Global;
 
-/// The reply to the command of a row that was committed: the version of this name, where it takes out or makes one, else that all
-/// is well.
-fn row_reply(name: Option<Text>) -> Reply
-    ensures { result ≡ row_reply name }
+/// How many things a row of this deed names, where its command is replied their number.
+fn count_told(deed: &Deed) -> Option<u64>
+    ensures { result ≡ count_told deed.now }
 {
-    match name {
-        Some(name) => Reply::Version(name),
-        None => Reply::Good,
+    match deed {
+        Deed::Scrub { objects } => Some(objects.len() as u64),
+        Deed::Labels { placed, .. } => Some(placed.len() as u64),
+        _ => None,
     }
 }
 
-/// The reply to the command of a row that was to be committed, where its version has this name.
-fn append_reply(appended: Appended, name: Option<Text>) -> Reply
-    ensures { result ≡ append_reply appended name }
+/// The reply to the command of a row that was committed: the version of this name, where it takes out or makes one, the number of
+/// things that it names, where that is replied, else that all is well.
+fn row_reply(name: Option<Text>, count: Option<u64>) -> Reply
+    ensures { result ≡ row_reply name count }
+{
+    match name {
+        Some(name) => Reply::Version(name),
+        None => match count {
+            Some(count) => Reply::Count(count),
+            None => Reply::Good,
+        },
+    }
+}
+
+/// The reply to the command of a row that was to be committed, where its version has this name, or it counts so many things.
+fn append_reply(appended: Appended, name: Option<Text>, count: Option<u64>) -> Reply
+    ensures { result ≡ append_reply appended name count }
 {
     match appended {
-        Appended::Committed => row_reply(name),
+        Appended::Committed => row_reply(name, count),
         Appended::Faulted => Reply::DiskFault,
     }
 }
 
 impl<D: Disk> Core<D> {
-    ghost use Rattle.std.specs.Prelude.{◌≡◌, true, false, OnOk, OnErr, IfOk, IfSome};
+    ghost use Rattle.std.specs.Prelude.{◌≡◌, true, false, [], OnOk, OnErr, IfOk, IfSome};
     ghost use Rattle.legal_history.specs.Queries.QueryLines.{is_query};
     ghost use Rattle.cc_names.specs.declared.desks.Done.TheVariants as dones;
     ghost use Rattle.cc_names.specs.declared.desks.Next.TheVariants as nexts;
+    ghost use Rattle.cc_names.specs.declared.replies.Reply.TheVariants as replies;
     ghost use Rattle.legal_history.specs.Stories.States.{next_tag};
     ghost use Rattle.legal_history.specs.Stories.Steps.{state_of};
     ghost use Rattle.base_core.specs.Calls.Acting.{
@@ -69,8 +84,9 @@ impl<D: Disk> Core<D> {
         Ok(is_query(&command))
     }
 
-    /// What is decided of a lane's next command, which makes a row: the row, or its first refusal.
-    fn decide(&self, alloc: Global, lane: u32) -> Result<Row, Or<Refusal>>
+    /// What is decided of a lane's next command, which makes a row: the row, none where it finds nothing for one, or its first
+    /// refusal.
+    fn decide(&self, alloc: Global, lane: u32) -> Result<Option<Row>, Or<Refusal>>
         requires act { next_of (state_of self.now.story) lane ≡ nexts.Act }
         requires no_query { IfSome (waiting (state_of self.now.story) lane)
             (λ command. is_query command ≡ false) }
@@ -103,8 +119,9 @@ impl<D: Disk> Core<D> {
     {
         let lane = row.tag().lane;
         let name = name_told(alloc, &self.log.rows(), row.deed())?;
+        let count = count_told(row.deed());
         let appended = self.log.append(alloc, row, None)?;
-        let reply = append_reply(appended, name);
+        let reply = append_reply(appended, name, count);
         match appended {
             Appended::Committed => {
                 self.lanes.reply(lane, reply);
@@ -137,7 +154,7 @@ impl<D: Disk> Core<D> {
 
     /// Answers its lane's next command. An `Err` changes nothing.
     fn tell_answer(&mut self, alloc: Global, tag: Tag, text: Text) -> Result<(), NoMemory>
-        requires { IsNextAnswer (state_of self.old.story) tag text }
+        requires { IsNextAnswer (state_of self.old.story) tag text (replies.Answer text) }
         ensures ok { OnOk result (Acts self.old.story self.new.story tag.lane dones.Answered) }
         ensures err { OnErr result (self.new ≡ self.old) }
         ensures counted { KeepsCount self.old self.new }
@@ -148,8 +165,21 @@ impl<D: Disk> Core<D> {
         Ok(())
     }
 
-    /// Carries out a lane's next command, which makes a row: the row is committed, the command is refused, or the disk fails
-    /// under it. An `Err` changes nothing.
+    /// Answers its lane's next command, which found nothing for its row: it counts nothing. An `Err` changes nothing.
+    fn tell_nothing(&mut self, alloc: Global, tag: Tag) -> Result<(), NoMemory>
+        requires { IsNextAnswer (state_of self.old.story) tag [] (replies.Count 0) }
+        ensures ok { OnOk result (Acts self.old.story self.new.story tag.lane dones.Answered) }
+        ensures err { OnErr result (self.new ≡ self.old) }
+        ensures counted { KeepsCount self.old self.new }
+    {
+        let text = Text::of(Vec::new(alloc));
+        self.log.tell(Step::Answer { tag, text })?;
+        self.lanes.reply(tag.lane, Reply::Count(0));
+        Ok(())
+    }
+
+    /// Carries out a lane's next command, which makes a row: the row is committed, there is nothing for one, the command is
+    /// refused, or the disk fails under it. An `Err` changes nothing.
     fn make_row(&mut self, alloc: Global, lane: u32) -> Result<Done, NoMemory>
         requires act { next_of (state_of self.old.story) lane ≡ nexts.Act }
         requires no_query { IfSome (waiting (state_of self.old.story) lane)
@@ -160,7 +190,11 @@ impl<D: Disk> Core<D> {
     {
         let tag = self.tag(lane);
         match self.decide(alloc, lane) {
-            Ok(row) => self.commit(alloc, row),
+            Ok(Some(row)) => self.commit(alloc, row),
+            Ok(None) => {
+                self.tell_nothing(alloc, tag)?;
+                Ok(Done::Answered)
+            }
             Err(Or::Is(refusal)) => {
                 self.refuse(alloc, tag, refusal)?;
                 Ok(Done::Refused)

@@ -1,7 +1,6 @@
-// How a core carries out a command that builds.
+// How a build of a core's lane begins and ends.
 
 use super::Core;
-use crate::turns::UnitTurn;
 use build_core::{ActiveBuild, plan_build, reply_of};
 use cc_names::desks::Begun;
 use cc_names::memory::{NoMemory, Or};
@@ -18,10 +17,10 @@ impl<D: Disk> Core<D> {
     ghost use Rattle.legal_history.specs.Builds.Active.{build_of};
     ghost use Rattle.legal_history.specs.Stories.States.{next_tag};
     ghost use Rattle.legal_history.specs.Stories.Steps.{state_of};
-    ghost use Rattle.base_core.specs.Calls.BuildCalls.{Begins, IsBuilding, IsOver};
+    ghost use Rattle.base_core.specs.Calls.BuildCalls.{Begins, IsOver};
     ghost use Rattle.base_core.specs.Calls.Building.{IsNextBuild, PlansNext};
     ghost use Rattle.base_core.specs.Story.Counted.{KeepsCount};
-    ghost use Rattle.base_core.specs.Calls.Going.{GoesOn, Finishes};
+    ghost use Rattle.base_core.specs.Calls.Going.{Finishes};
     ghost use Rattle.base_core.specs.Keeping.Nexts.{next_of};
 
     /// What is decided of a lane's next command, which builds: the build to begin, or the first refusal.
@@ -56,9 +55,9 @@ impl<D: Disk> Core<D> {
         Ok(())
     }
 
-    /// Begins the build of a lane's next command, or refuses the command. A build that is active goes on. An `Err` changes
-    /// nothing. Takes time linear in the makefile.
-    fn begin(&mut self, alloc: Global, lane: u32) -> Result<Begun, NoMemory>
+    /// Begins the build of a lane's next command and answers how many units it has, or refuses the command. A build that is
+    /// active goes on. An `Err` changes nothing. Makes no device call. Takes time linear in the makefile.
+    pub fn begin(&mut self, alloc: Global, lane: u32) -> Result<Begun, NoMemory>
         requires { next_of (state_of self.old.story) lane
             ≡ nexts.Build (next_tag (state_of self.old.story) lane) }
         ensures ok { IfOk result (λ begun. Begins self.old.story self.new.story lane begun) }
@@ -83,24 +82,9 @@ impl<D: Disk> Core<D> {
         }
     }
 
-    /// Carries out the units of a lane's build, one after the other, up to the first under which the disk fails, and ends the
-    /// build. After an `Err` the story may have gone on.
-    fn carry_out_all(&mut self, alloc: Global, lane: u32, count: u32) -> Result<(), NoMemory>
-        requires { IsBuilding (state_of self.old.story) lane count }
-        ensures ok { OnOk result (Finishes self.old.story self.new.story lane) }
-        ensures err { OnErr result (GoesOn self.old.story self.new.story lane) }
-        ensures counted { KeepsCount self.old self.new }
-    {
-        for unit in 0..count {
-            if let UnitTurn::Faulted = self.carry_out(alloc, lane, unit)? {
-                return Ok(());
-            }
-        }
-        self.end(alloc, lane)
-    }
-
-    /// Ends a lane's build, whose units all have their outcomes. An `Err` changes nothing.
-    fn end(&mut self, alloc: Global, lane: u32) -> Result<(), NoMemory>
+    /// Ends a lane's build, whose units all have their outcomes; its command is finished. An `Err` changes nothing. Makes no
+    /// device call. Takes what `reply_of` takes.
+    pub fn end(&mut self, alloc: Global, lane: u32) -> Result<(), NoMemory>
         requires { IsOver (state_of self.old.story) lane }
         ensures ok { OnOk result (Finishes self.old.story self.new.story lane) }
         ensures err { OnErr result (self.new ≡ self.old) }
@@ -111,24 +95,5 @@ impl<D: Disk> Core<D> {
         self.log.tell(Step::End { tag })?;
         self.lanes.close(lane, reply);
         Ok(())
-    }
-
-    /// Carries out a lane's next command, which builds: it is refused, or its units are carried out one after the other and
-    /// the build ends. After an `Err` the story may have gone on by steps of this build, which is then active. Each commit
-    /// and fault among the steps has the disk's counts as `act` says, of its own turn; beside them no device call is made,
-    /// whatever is answered. Takes time linear in the makefile, in what the scripts read and write, and in the steps since the
-    /// last commit or fault; for each read one look-up of its path; and for each unit what `reusable` takes, once more after a
-    /// run.
-    pub fn build(&mut self, alloc: Global, lane: u32) -> Result<(), NoMemory>
-        requires { next_of (state_of self.old.story) lane
-            ≡ nexts.Build (next_tag (state_of self.old.story) lane) }
-        ensures ok { OnOk result (Finishes self.old.story self.new.story lane) }
-        ensures err { OnErr result (GoesOn self.old.story self.new.story lane) }
-        ensures counted { KeepsCount self.old self.new }
-    {
-        match self.begin(alloc, lane)? {
-            Begun::Refused => Ok(()),
-            Begun::Units(count) => self.carry_out_all(alloc, lane, count),
-        }
     }
 }

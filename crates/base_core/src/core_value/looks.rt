@@ -24,6 +24,13 @@ impl<D: Disk> Core<D> {
     ghost use Rattle.base_core.specs.Keeping.Kept.{command_limit};
     ghost use Rattle.base_core.specs.Keeping.Nexts.{next_of, waiting};
 
+    /// The story is legal, at every moment.
+    pub fn legal(&self)
+        ensures { Legal self.now.story }
+    {
+        let _log = &self.log;
+    }
+
     /// The base, all its rows.
     pub(super) fn rows(&self) -> FirstRows<'_>
         ensures { result ≡ (state_of self.now.story).base }

@@ -1,9 +1,9 @@
-// The rows by which a unit of a lane's build gets an object: of what its run gave, or by which the build's view takes in one
+// The rows by which a unit of a lane's build gets an object: of what its run gave, or by which the build's view winks in one
 // that the unit may reuse.
 
 use super::Core;
 use crate::logs::Appended;
-use crate::turns::UnitTurn;
+use crate::turns::Carried;
 use build_core::{Came, a_unit_may_publish, publish_row, reusable, wink_row};
 use cc_names::lists::List;
 use cc_names::memory::NoMemory;
@@ -22,9 +22,9 @@ impl<D: Disk> Core<D> {
     ghost use Rattle.legal_history.specs.Stories.Steps.{state_of};
     ghost use Rattle.base_core.specs.Calls.BuildCalls.{
       GivesObject,
+      HasRun,
       IsCarried,
       IsObjectRow,
-      IsRunOfUnit,
       IsWinkRow,
       MayPublish,
       MayWink,
@@ -56,7 +56,7 @@ impl<D: Disk> Core<D> {
         )
     }
 
-    /// The row by which the view of a lane's build takes in an object for a unit.
+    /// The row by which the view of a lane's build winks in an object for a unit.
     fn wink_row(&self, alloc: Global, lane: u32, unit: u32, object: u64) -> Result<Row, NoMemory>
         requires { MayWink (state_of self.now.story) lane unit object }
         ensures { IfOk result (λ row. IsWinkRow (state_of self.now.story) lane unit object row) }
@@ -73,9 +73,10 @@ impl<D: Disk> Core<D> {
         unit: u32,
         row: Row,
         object: u64,
-    ) -> Result<UnitTurn, NoMemory>
+    ) -> Result<Carried, NoMemory>
         requires { GivesObject (state_of self.old.story) lane unit row object }
-        ensures ok { IfOk result (λ turn. IsCarried self.old.story self.new.story lane unit turn) }
+        ensures ok { IfOk result
+            (λ carried. IsCarried self.old.story self.new.story lane unit carried) }
         ensures err { OnErr result (self.new ≡ self.old) }
         ensures counted { KeepsCount self.old self.new }
     {
@@ -84,11 +85,11 @@ impl<D: Disk> Core<D> {
         match self.log.append(alloc, row, Some(Step::End { tag }))? {
             Appended::Committed => {
                 self.lanes.note(lane, unit, Came::Given(object));
-                Ok(UnitTurn::Settled)
+                Ok(Carried::Settled)
             }
             Appended::Faulted => {
                 self.lanes.close(lane, Reply::DiskFault);
-                Ok(UnitTurn::Faulted)
+                Ok(Carried::Faulted)
             }
         }
     }
@@ -101,9 +102,10 @@ impl<D: Disk> Core<D> {
         lane: u32,
         unit: u32,
         object: u64,
-    ) -> Result<UnitTurn, NoMemory>
+    ) -> Result<Carried, NoMemory>
         requires { MayWink (state_of self.old.story) lane unit object }
-        ensures ok { IfOk result (λ turn. IsCarried self.old.story self.new.story lane unit turn) }
+        ensures ok { IfOk result
+            (λ carried. IsCarried self.old.story self.new.story lane unit carried) }
         ensures err { OnErr result (self.new ≡ self.old) }
         ensures counted { KeepsCount self.old self.new }
     {
@@ -120,9 +122,10 @@ impl<D: Disk> Core<D> {
         unit: u32,
         outputs: List<Text>,
         reads: &[Path],
-    ) -> Result<UnitTurn, NoMemory>
+    ) -> Result<Carried, NoMemory>
         requires { MayPublish (state_of self.old.story) lane unit outputs reads.now }
-        ensures ok { IfOk result (λ turn. IsCarried self.old.story self.new.story lane unit turn) }
+        ensures ok { IfOk result
+            (λ carried. IsCarried self.old.story self.new.story lane unit carried) }
         ensures err { OnErr result (self.new ≡ self.old) }
         ensures counted { KeepsCount self.old self.new }
     {
@@ -132,7 +135,7 @@ impl<D: Disk> Core<D> {
     }
 
     /// Gives a unit of a lane's build whose run gave these outputs its object. Another lane may have published one meanwhile
-    /// that the unit may reuse: that one is taken in. Else what the run gave is published. Where the disk fails the build
+    /// that the unit may reuse: that one is winked in. Else what the run gave is published. Where the disk fails the build
     /// ends. An `Err` changes nothing.
     pub(super) fn give_object(
         &mut self,
@@ -141,10 +144,11 @@ impl<D: Disk> Core<D> {
         unit: u32,
         outputs: List<Text>,
         reads: &[Path],
-    ) -> Result<UnitTurn, NoMemory>
-        requires { IsRunOfUnit (state_of self.old.story) lane unit
+    ) -> Result<Carried, NoMemory>
+        requires { HasRun (state_of self.old.story) lane unit
             (record { result = Ok outputs; reads = reads.now }) }
-        ensures ok { IfOk result (λ turn. IsCarried self.old.story self.new.story lane unit turn) }
+        ensures ok { IfOk result
+            (λ carried. IsCarried self.old.story self.new.story lane unit carried) }
         ensures err { OnErr result (self.new ≡ self.old) }
         ensures counted { KeepsCount self.old self.new }
     {

@@ -3,9 +3,10 @@
 ghost use Rattle.std.specs.Prelude.{◌≡◌};
 ghost use Rattle.build_core.specs.Comes.{came_of};
 ghost use Rattle.legal_history.specs.Builds.Turns.{came_by_start};
+ghost use Rattle.base_core.specs.Calls.BuildCalls.{turn_of};
 
 use super::Core;
-use crate::turns::UnitTurn;
+use crate::turns::{Carried, UnitTurn};
 use build_core::{Came, UnitStep, run_unit, step};
 use build_script::outcomes::{Ended, Outcome};
 use build_script::scripts::Script;
@@ -17,6 +18,16 @@ use cc_names::steps::{Step, UnitEnd};
 use disk_model::Disk;
 use legal_history::laws::builds::a_build_is_consistent;
 use std::alloc::Global;
+
+/// What became of a unit's turn in which its outcome was at hand.
+fn turn_of(carried: Carried) -> UnitTurn
+    ensures { result ≡ turn_of carried }
+{
+    match carried {
+        Carried::Settled => UnitTurn::Settled,
+        Carried::Faulted => UnitTurn::Faulted,
+    }
+}
 
 /// What a unit comes to by its start: where its script cannot be read, with this fault, that is its outcome.
 fn came_by_start(fault: Option<ScriptFault>) -> Came
@@ -35,11 +46,11 @@ impl<D: Disk> Core<D> {
     ghost use Rattle.legal_history.specs.Builds.Turns.{came_by_start};
     ghost use Rattle.legal_history.specs.Stories.Steps.{state_of};
     ghost use Rattle.base_core.specs.Calls.BuildCalls.{
+      HasRun,
       IsRunOfUnit,
       IsBuilding,
       IsCarried,
       IsStarted,
-      IsTurn,
       MaySettle,
       MayStart,
       Noted,
@@ -49,7 +60,7 @@ impl<D: Disk> Core<D> {
       Tries,
     };
     ghost use Rattle.base_core.specs.Story.Counted.{KeepsCount};
-    ghost use Rattle.base_core.specs.Calls.Going.{GoesOn};
+    ghost use Rattle.base_core.specs.Calls.Going.{HasOutcome};
 
     /// Tells a step by which a unit of a lane's build comes to something without a row. An `Err` changes nothing.
     fn note_step(&mut self, lane: u32, unit: u32, step: Step, came: Came) -> Result<(), NoMemory>
@@ -95,6 +106,18 @@ impl<D: Disk> Core<D> {
         Ok(())
     }
 
+    /// Has at hand what a unit of a lane's build is likely to ask for. Changes no answer.
+    fn look_ahead(&mut self, lane: u32, unit: u32)
+        ensures { self.new ≡ self.old }
+    {
+        if let Some(build) = self.lanes.build(lane)
+            && let Some(unit) = build.units().get(unit as usize)
+        {
+            self.log
+                .remember(build.view(), build.rows(), unit.targets.as_slice());
+        }
+    }
+
     /// What comes next for a unit of a lane's build.
     fn step(&self, alloc: Global, lane: u32, unit: u32) -> Result<UnitStep, NoMemory>
         requires { (count : ℕ) × IsBuilding (state_of self.now.story) lane count × (unit < count) }
@@ -104,10 +127,8 @@ impl<D: Disk> Core<D> {
         step(alloc, &self.rows(), self.build_at(lane), unit)
     }
 
-    /// Tries a unit of a lane's build: it has its outcome already, it waits for another, it ends without a run, it keeps an
-    /// object or the build's view takes one in for it, or its script is started. Where the disk fails the build ends. An `Err`
-    /// changes nothing.
-    fn try_unit(&mut self, alloc: Global, lane: u32, unit: u32) -> Result<UnitTurn, NoMemory>
+    /// Takes the step that comes next for a unit of a lane's build. Where the disk fails the build ends. An `Err` changes nothing.
+    fn take_step(&mut self, alloc: Global, lane: u32, unit: u32) -> Result<UnitTurn, NoMemory>
         requires { (count : ℕ) × IsBuilding (state_of self.old.story) lane count × (unit < count) }
         ensures ok { IfOk result (λ turn. Tries self.old.story self.new.story lane unit turn) }
         ensures err { OnErr result (self.new ≡ self.old) }
@@ -124,7 +145,7 @@ impl<D: Disk> Core<D> {
                 self.settle(alloc, lane, unit, UnitEnd::Kept(object))?;
                 Ok(UnitTurn::Settled)
             }
-            UnitStep::Wink(object) => self.wink(alloc, lane, unit, object),
+            UnitStep::Wink(object) => Ok(turn_of(self.wink(alloc, lane, unit, object)?)),
             UnitStep::Start(script, targets) => {
                 self.start(lane, unit, None)?;
                 Ok(UnitTurn::Run(script, targets))
@@ -136,8 +157,26 @@ impl<D: Disk> Core<D> {
         }
     }
 
-    /// Runs the script of a unit of a lane's build that was started, on what the unit sees.
-    fn run(
+    /// Tries a unit of a lane's build: it has its outcome already, it waits for another, it ends without a run, it keeps an
+    /// object or the build's view winks one in for it, or its script is started. Where the disk fails the build ends. An `Err`
+    /// changes nothing. A commit and a fault have the disk's counts as `act` says; beside them no device call is made.
+    ///
+    /// Takes look-ups by the paths of the unit's prerequisites and targets, what `reusable` takes, and time linear in the script.
+    pub fn try_unit(&mut self, alloc: Global, lane: u32, unit: u32) -> Result<UnitTurn, NoMemory>
+        requires { (count : ℕ) × IsBuilding (state_of self.old.story) lane count × (unit < count) }
+        ensures ok { IfOk result (λ turn. Tries self.old.story self.new.story lane unit turn) }
+        ensures err { OnErr result (self.new ≡ self.old) }
+        ensures counted { KeepsCount self.old self.new }
+    {
+        self.look_ahead(lane, unit);
+        self.take_step(alloc, lane, unit)
+    }
+
+    /// Runs the script of a unit of a lane's build that was started, on what the unit sees, which is the same at every moment
+    /// since its start. The story does not go on. Fails only where memory runs out.
+    ///
+    /// Takes time linear in what the script reads and writes, and for each read one look-up of its path.
+    pub fn run(
         &self,
         alloc: Global,
         lane: u32,
@@ -160,17 +199,18 @@ impl<D: Disk> Core<D> {
         )
     }
 
-    /// Finishes a unit of a lane's build whose script was run: it gets an object, or it fails with the script's fault. Where
-    /// the disk fails the build ends. An `Err` changes nothing.
-    fn finish_unit(
+    /// Gives a unit of a lane's build whose script was run its outcome: an object, or the script's fault. Where the disk fails
+    /// the build ends. An `Err` changes nothing.
+    fn finish_run(
         &mut self,
         alloc: Global,
         lane: u32,
         unit: u32,
         ended: Ended,
-    ) -> Result<UnitTurn, NoMemory>
-        requires { IsRunOfUnit (state_of self.old.story) lane unit (ran_of ended) }
-        ensures ok { IfOk result (λ turn. IsCarried self.old.story self.new.story lane unit turn) }
+    ) -> Result<Carried, NoMemory>
+        requires { HasRun (state_of self.old.story) lane unit (ran_of ended) }
+        ensures ok { IfOk result
+            (λ carried. IsCarried self.old.story self.new.story lane unit carried) }
         ensures err { OnErr result (self.new ≡ self.old) }
         ensures counted { KeepsCount self.old self.new }
     {
@@ -182,30 +222,34 @@ impl<D: Disk> Core<D> {
             }
             Err(fault) => {
                 self.settle(alloc, lane, unit, UnitEnd::Failed(UnitFault::Script(fault)))?;
-                Ok(UnitTurn::Settled)
+                Ok(Carried::Settled)
             }
         }
     }
 
-    /// Carries out a unit of a lane's build whose turn it is, to its outcome or to the end of the build. After an `Err` the
-    /// story may have gone on.
-    pub(super) fn carry_out(
+    /// Finishes a unit of a lane's build whose script was run on what the unit sees, which is the same at every moment since its
+    /// start: it gets an object, or it fails with the script's fault. What it may reuse by now is looked up once more, and
+    /// winked in where there is any. Where the unit has its outcome already nothing changes. Where the disk fails the build ends.
+    /// An `Err` changes nothing.
+    ///
+    /// Takes what `reusable` takes, and time linear in the outputs and the reads.
+    pub fn finish_unit(
         &mut self,
         alloc: Global,
         lane: u32,
         unit: u32,
-    ) -> Result<UnitTurn, NoMemory>
-        requires { IsTurn (state_of self.old.story) lane unit }
-        ensures ok { IfOk result (λ turn. IsCarried self.old.story self.new.story lane unit turn) }
-        ensures err { OnErr result (GoesOn self.old.story self.new.story lane) }
+        ended: Ended,
+    ) -> Result<Carried, NoMemory>
+        requires { IsRunOfUnit (state_of self.old.story) lane unit (ran_of ended) }
+        ensures ok { IfOk result
+            (λ carried. IsCarried self.old.story self.new.story lane unit carried) }
+        ensures err { OnErr result (self.new ≡ self.old) }
+        ensures settled { HasOutcome (state_of self.old.story) lane unit → self.new ≡ self.old }
         ensures counted { KeepsCount self.old self.new }
     {
-        match self.try_unit(alloc, lane, unit)? {
-            UnitTurn::Run(script, targets) => {
-                let ended = self.run(alloc, lane, unit, &script, targets.as_slice())?;
-                self.finish_unit(alloc, lane, unit, ended)
-            }
-            turn => Ok(turn),
+        if self.build_at(lane).has_outcome(unit) {
+            return Ok(Carried::Settled);
         }
+        self.finish_run(alloc, lane, unit, ended)
     }
 }

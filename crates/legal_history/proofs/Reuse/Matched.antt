@@ -17,7 +17,7 @@ use Rattle.legal_history.specs.Base.Changes.{targets_of, targets_of_deed}
 use Rattle.legal_history.specs.Builds.Choices.{text_of_row, visible}
 use Rattle.legal_history.specs.Base.Fits.{is_base}
 use Rattle.legal_history.specs.Builds.Fresh.{script_text}
-use Rattle.legal_history.specs.Queries.RecordTexts.{row_in, script_of, script_of_deed}
+use Rattle.legal_history.specs.Queries.RecordTexts.{row_in, recorded_script, script_of_deed}
 use Rattle.legal_history.specs.Builds.Reuse.{agrees, are_same_paths, entry_agrees, record_matches, matches}
 use Rattle.legal_history.specs.Base.Values.{outputs_of_run, outputs_of_result, has_entries, reads_of_run, text_of_entry, texts_of_entries, rerun, is_true, IsSound}
 use Rattle.legal_history.proofs.Bases.Owned.{and_first, and_second}
@@ -119,7 +119,7 @@ match_targets b build n unit id match = by (deed_at b id) match
     by (Some deed) h = by_deed deed h
 
 -- and its script
-pub match_script : (b : Base) (build : Build) (n : ℕ) (unit : Unit) (id : ℕ) → matches b build n unit id ≡ true → script_of b id ≡ script_text unit.script
+pub match_script : (b : Base) (build : Build) (n : ℕ) (unit : Unit) (id : ℕ) → matches b build n unit id ≡ true → recorded_script b id ≡ script_text unit.script
 match_script b build n unit id match = by (deed_at b id) match
   where
     by_deed : (deed : Deed) → record_matches unit.targets (script_text unit.script) (visible b build n unit) (Some deed) ≡ true → script_of_deed (Some deed) ≡ script_text unit.script

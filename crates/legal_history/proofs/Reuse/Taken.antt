@@ -13,7 +13,7 @@ use Rattle.cc_names.specs.declared.units.Unit.{Unit}
 use Rattle.legal_history.specs.Base.Changes.{live}
 use Rattle.legal_history.specs.Base.Fits.{is_base}
 use Rattle.legal_history.specs.Base.Rows.{deed_at}
-use Rattle.legal_history.specs.Builds.Active.{Build, unit_at}
+use Rattle.legal_history.specs.Builds.Active.{Build, unit_at, unit_with_first}
 use Rattle.legal_history.specs.Builds.Choices.{entries, here, visible}
 use Rattle.legal_history.specs.Builds.Fresh.{script_text}
 use Rattle.legal_history.specs.Builds.Reuse.{matches, reusable}
@@ -21,7 +21,7 @@ use Rattle.legal_history.specs.Builds.UnitTurns.{Publishes, Winks}
 use Rattle.legal_history.specs.Laws.FromNothing.{MayTake}
 use Rattle.legal_history.specs.Laws.Given.{HoldsGiven}
 use Rattle.legal_history.specs.Laws.Objects.{GivesLive}
-use Rattle.legal_history.specs.Laws.TakenLaws.{ReusesAny, TakesWhatItSees, ViewTakesWhatItSees}
+use Rattle.legal_history.specs.Laws.TakenLaws.{PublishesWhatItRead, ReusesAny, TakesWhatItSees, ViewTakesWhatItSees}
 use Rattle.legal_history.specs.Stories.Committing.{MakesRow}
 use Rattle.legal_history.specs.Stories.Lawful.{Legal}
 use Rattle.legal_history.specs.Stories.States.{State, build_by, start}
@@ -107,3 +107,48 @@ story_publishes front rest row tick build id view other targets script reads out
     let before = front_is_legal start front _ legal in
     publishes_new (state_of front) row build id view other targets script reads outputs stored (base_fits front before) (subst (MakesRow (state_of front) row) is commits.may.made) is
     (story_holds front row.tag.lane build before (of_lane (state_of front) row.tag build any.active)) any object
+
+-- the row of a publish is that of its unit's run
+publishes_read : (s : State) (row : Plain) (view : List ℕ) (targets : List (List ℕ)) (script : List ℕ) (reads : List ReadOf) (outputs : List (List ℕ)) → Publishes s row targets → row.deed ≡ deeds.Publish view targets script reads outputs →
+    PublishesWhatItRead s row targets script reads outputs
+publishes_read s row view targets script reads outputs e is =
+    let b = s.base in
+    let made = is_publish b e.build e.n e.unit row.deed e.made in
+    let whole : deeds.Publish view targets script reads outputs ≡ deeds.Publish e.build.view e.unit.targets (script_text e.unit.script) (entries (visible b e.build e.n e.unit) (here b e.build e.n e.unit).reads) made.outputs = sym is ∙ made.is in
+    record {
+      n = e.n;
+      build = e.build;
+      unit = e.unit;
+      active = e.running.waits.active;
+      is_unit = e.running.waits.is_unit;
+      started = e.running.started;
+      targets_are = cc;
+      script_is = cc;
+      entries_are = cc;
+      outputs_are = cc;
+    }
+
+pub story_records : (front rest : List Told) (row : Plain) (tick : ℕ) (view : List ℕ) (targets : List (List ℕ)) (script : List ℕ) (reads : List ReadOf) (outputs : List (List ℕ)) →
+    Legal (front ++ told.Commit row tick ∷ rest) → row.deed ≡ deeds.Publish view targets script reads outputs → PublishesWhatItRead (state_of front) row targets script reads outputs
+story_records front rest row tick view targets script reads outputs legal is =
+    let commits = (rest_is_legal start front (told.Commit row tick ∷ rest) legal).0 in
+    publishes_read (state_of front) row view targets script reads outputs (subst (MakesRow (state_of front) row) is commits.may.made) is
+
+-- a unit for which a row is published is matched by no live object
+publishes_unmatched : (s : State) (row : Plain) (build : Build) (n : ℕ) (unit : Unit) (id : ℕ) (targets : List (List ℕ)) → Publishes s row targets → ReusesAny s row.tag build → unit_with_first build targets ≡ Some n → unit_at build n ≡ Some unit →
+    is_some (live s.base id) ≡ true → matches s.base build n unit id ≡ false
+publishes_unmatched s row build n unit id targets e any place is_unit lives =
+    let b = s.base in
+    let same_build : e.build ≡ build = some_same (sym e.running.waits.active ∙ any.active) in
+    let same_place : e.n ≡ n = some_same (sym e.place ∙ ap (λ (x : Build). unit_with_first x targets) same_build ∙ place) in
+    let own : unit_at build n ≡ Some e.unit = subst (λ k. unit_at build k ≡ Some e.unit) same_place (subst (λ (x : Build). unit_at x e.n ≡ Some e.unit) same_build e.running.waits.is_unit) in
+    let same_unit : e.unit ≡ unit = some_same (sym own ∙ is_unit) in
+    let nothing : reusable b build n unit ≡ None = subst (λ x. reusable b build n x ≡ None) same_unit (subst (λ k. reusable b build k e.unit ≡ None) same_place (subst (λ x. reusable b x e.n e.unit ≡ None) same_build e.nothing)) in
+    nothing_passed_over b build n unit id any.of_any any.reuses nothing lives
+
+pub story_matches : (front rest : List Told) (row : Plain) (tick : ℕ) (build : Build) (n : ℕ) (unit : Unit) (id : ℕ) (view : List ℕ) (targets : List (List ℕ)) (script : List ℕ) (reads : List ReadOf) (outputs : List (List ℕ)) →
+    Legal (front ++ told.Commit row tick ∷ rest) → row.deed ≡ deeds.Publish view targets script reads outputs → ReusesAny (state_of front) row.tag build → unit_with_first build targets ≡ Some n → unit_at build n ≡ Some unit →
+    is_some (live (state_of front).base id) ≡ true → matches (state_of front).base build n unit id ≡ false
+story_matches front rest row tick build n unit id view targets script reads outputs legal is any place is_unit lives =
+    let commits = (rest_is_legal start front (told.Commit row tick ∷ rest) legal).0 in
+    publishes_unmatched (state_of front) row build n unit id targets (subst (MakesRow (state_of front) row) is commits.may.made) any place is_unit lives

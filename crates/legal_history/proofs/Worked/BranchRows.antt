@@ -1,4 +1,4 @@
--- A branch is made by a rule of the config spec, and another rule lets nothing be checked out.
+-- A branch is made by a rule of the config spec, another rule lets nothing be checked out, and branches lie on branches.
 use Rattle.std.proofs.Common.{◌≡◌, refl, ℕ, true, false, Some, Ok, Err, List, [], ◌∷◌, ◌++◌, map}
 use Rattle.std.specs.Prelude.{codes}
 use Rattle.std.specs.Fmt.{digits}
@@ -8,7 +8,7 @@ use Rattle.cc_names.specs.declared.rows.Deed.TheVariants as deeds
 use Rattle.cc_names.specs.declared.rows.Out.TheVariants as outs
 use Rattle.cc_names.specs.declared.rows.TypeKind.TheVariants as type_kinds
 use Rattle.legal_history.specs.Base.Rows.{Base}
-use Rattle.legal_history.specs.Commands.Decisions.{Makes}
+use Rattle.legal_history.specs.Commands.Decisions.{Answers, Makes}
 use Rattle.legal_history.specs.Base.Fits.{is_base}
 use Rattle.legal_history.specs.Base.Seen.{file_at}
 use Rattle.legal_history.specs.Queries.VersionNames.{line, version_name}
@@ -60,3 +60,22 @@ versions_on_the_branch_have_names = refl
 
 each_view_sees_its_own : map (λ view. file_at branched view a_file) (v ∷ w ∷ []) ≡ Some 8 ∷ Some 18 ∷ []
 each_view_sees_its_own = refl
+
+-- a branch on the branch, and another one on the version where the first leaves
+abbrev branched_twice : Base
+branched_twice = base_of (all_deeds ++ (deeds.Mktype type_kinds.Branch (codes "fix") ∷ deeds.Setcs w spec
+    ∷ deeds.Branch w 6 8 (codes "fix") outs.Reserved ∷ deeds.Save w 6 (line (codes "foo")) ∷ deeds.Checkin w 6
+    ∷ deeds.Mktype type_kinds.Branch (codes "sub") ∷ deeds.Branch w 6 17 (codes "sub") outs.No
+    ∷ deeds.Mktype type_kinds.Branch (codes "two") ∷ deeds.Branch w 6 8 (codes "two") outs.No ∷ []))
+
+both_branches_fit : is_base branched_twice ≡ true
+both_branches_fit = refl
+
+branches_are_told_behind_their_versions :
+    decisions branched_twice (commands.Lsvtree v a_file ∷ [])
+    ≡ Ok (Answers (line (codes "in@@/main") ++ line (codes "in@@/main/0") ++ line (codes "in@@/main/1")
+    ++ line (codes "in@@/main/fix") ++ line (codes "in@@/main/fix/0") ++ line (codes "in@@/main/fix/1")
+    ++ line (codes "in@@/main/fix/sub") ++ line (codes "in@@/main/fix/sub/0")
+    ++ line (codes "in@@/main/two") ++ line (codes "in@@/main/two/0"))) ∷ []
+unfolding digits
+branches_are_told_behind_their_versions = refl

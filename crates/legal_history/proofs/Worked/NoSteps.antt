@@ -88,7 +88,7 @@ pub no_keep : {s : State} {tag : Tag} {n id : ℕ} {build : Build} {unit : Unit}
 no_keep active is_unit lacks h =
     let a = h.open_unit.waits.active in let u = h.open_unit.waits.is_unit in let k = h.holds in cc
 
--- a view does not take in what it holds
+-- a view does not wink in what it holds
 pub no_wink_by : {s : State} {r : Plain} {view : List ℕ} {id n : ℕ} {build : Build} {unit : Unit} →
     build_by s r.tag ≡ Some build → unit_with_first build (targets_of s.base id) ≡ Some n → unit_at build n ≡ Some unit →
     is_number id (held_at_all s.base build.view unit.targets) ≡ true → (h : Winks s r view id) → Waits s r.tag h.n h.build h.unit → ⊥

@@ -84,7 +84,7 @@ begun_again = state_of (before_fault ++ (told.Commit (published 4) 19 ∷ told.O
 a_wink_of_what_is_held : Lawful begun_again (told.Commit (row 5 (deeds.Wink v 4)) 23) → ⊥
 a_wink_of_what_is_held h = no_wink refl refl refl refl h.may.made
 
--- a build has begun in a view that holds nothing, and could take in the object of another view
+-- a build has begun in a view that holds nothing, and could wink in the object of another view
 abbrev begun_in_w : State
 begun_in_w = state_of (
     told.Opened (reverse (base_of (first_deeds ++ (publish ∷ deeds.Mkview w ∷ [])))) (record { ticks = 0; faults = 0 }) true

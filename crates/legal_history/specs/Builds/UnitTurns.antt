@@ -1,4 +1,4 @@
--- The turns of the units of a build: when one is open, runs, settles, takes an object in or publishes one.
+-- The turns of the units of a build: when one is open, runs, settles, winks an object in or publishes one.
 use Rattle.std.specs.Prelude.{◌≡◌, ℕ, true, false, ◌⊎◌, Some, None, Err, List}
 use Rattle.cc_names.specs.Formed.{Plain}
 use Rattle.cc_names.specs.Versions.{is_number}

@@ -1,6 +1,6 @@
--- What the steps of legal stories say of records: which objects units take in place of runs, and that none that would do is
--- passed over. Each is promised by a function of `laws::taken`.
-use Rattle.std.specs.Prelude.{◌≡◌, ℕ, suc, true, false, Some, None, is_some, List, ◌∷◌, ◌++◌}
+-- What the steps of legal stories say of records: which objects units take in place of runs, that none that would do is passed
+-- over, and what the record of a published object has. Each is promised by a function of `laws::taken`.
+use Rattle.std.specs.Prelude.{◌≡◌, ℕ, suc, true, false, Some, None, Ok, is_some, List, ◌∷◌, ◌++◌}
 use Rattle.cc_names.specs.Formed.{Plain}
 use Rattle.cc_names.specs.Versions.{is_number}
 use Rattle.cc_names.specs.declared.rows.Deed.TheVariants as deeds
@@ -12,12 +12,12 @@ use Rattle.cc_names.specs.declared.steps.Told.TheVariants as told
 use Rattle.cc_names.specs.declared.steps.UnitEnd.TheVariants as ends
 use Rattle.cc_names.specs.declared.units.Unit.{Unit}
 use Rattle.legal_history.specs.Base.Rows.{deed_at}
-use Rattle.legal_history.specs.Builds.Active.{Build, unit_at}
+use Rattle.legal_history.specs.Builds.Active.{Build, Started, came_to, unit_at, unit_with_first}
 use Rattle.legal_history.specs.Base.Changes.{live, targets_of}
-use Rattle.legal_history.specs.Builds.Choices.{visible}
+use Rattle.legal_history.specs.Builds.Choices.{entries, here, visible}
 use Rattle.legal_history.specs.Builds.Fresh.{script_text}
 use Rattle.legal_history.specs.Laws.Given.{SeenBy}
-use Rattle.legal_history.specs.Queries.RecordTexts.{record_of, row_in, script_of}
+use Rattle.legal_history.specs.Queries.RecordTexts.{record_of, row_in, recorded_script}
 use Rattle.legal_history.specs.Builds.Reuse.{held_at_all, matches, reusable}
 use Rattle.legal_history.specs.Builds.UnitTurns.{IsRunning}
 use Rattle.legal_history.specs.Stories.States.{State, build_by}
@@ -35,7 +35,7 @@ pub record TakesWhatItSees (s : State) (tag : Tag) (n id : ℕ) : Type 0 where
   pub is_unit : unit_at build n ≡ Some unit
   pub lives : is_some (live s.base id) ≡ true
   pub targets : targets_of s.base id ≡ unit.targets
-  pub script : script_of s.base id ≡ script_text unit.script
+  pub script : recorded_script s.base id ≡ script_text unit.script
   pub seen : (path : List ℕ) (r : ℕ) → row_in (record_of s.base id) path ≡ Some (suc r) → SeenBy s.base build n unit path (suc r)
   pub absent : (path : List ℕ) → row_in (record_of s.base id) path ≡ Some 0 → visible s.base build n unit path ≡ None
 
@@ -50,6 +50,21 @@ pub record ReusesAny (s : State) (tag : Tag) (build : Build) : Type 0 where
   pub active : build_by s tag ≡ Some build
   pub of_any : build.own_only ≡ false
   pub reuses : build.rebuild ≡ false
+
+-- Unit n of the command's active build, whose script was started, publishes what its script's run on what it sees gives. The
+-- record has an entry for each path that the run asked for, with the row that the unit sees there, or 0 where it sees nothing,
+-- and no other.
+pub record PublishesWhatItRead (s : State) (row : Plain) (targets : List (List ℕ)) (script : List ℕ) (listed : List ReadOf) (outputs : List (List ℕ)) : Type 0 where
+  pub n : ℕ
+  pub build : Build
+  pub unit : Unit
+  pub active : build_by s row.tag ≡ Some build
+  pub is_unit : unit_at build n ≡ Some unit
+  pub started : came_to build n ≡ Some Started
+  pub targets_are : targets ≡ unit.targets
+  pub script_is : script ≡ script_text unit.script
+  pub entries_are : listed ≡ entries (visible s.base build n unit) (here s.base build n unit).reads
+  pub outputs_are : (here s.base build n unit).result ≡ Ok outputs
 
 -- Each object that a unit keeps in a legal story is live, of the unit's targets and script, and of just what the unit sees.
 abbrev pub TakenRecordIsSeenKept : Type 0
@@ -79,6 +94,25 @@ NothingIsPassedOverPublish = (front rest : List Told) (row : Plain) (tick : ℕ)
     → ReusesAny (state_of front) row.tag build
     → deed_at (state_of front).base id ≡ Some (deeds.Publish other targets script entries stored)
     → is_some (live (state_of front).base id) ≡ false
+
+-- The same law, its part *match*: it publishes no object for a unit that the record of a live object matches.
+abbrev pub NothingIsPassedOverMatch : Type 0
+NothingIsPassedOverMatch = (front rest : List Told) (row : Plain) (tick : ℕ) (build : Build) (n : ℕ) (unit : Unit) (id : ℕ)
+    (view : List ℕ) (targets : List (List ℕ)) (script : List ℕ) (listed : List ReadOf) (outputs : List (List ℕ))
+    → Legal (front ++ told.Commit row tick ∷ rest)
+    → row.deed ≡ deeds.Publish view targets script listed outputs
+    → ReusesAny (state_of front) row.tag build
+    → unit_with_first build targets ≡ Some n → unit_at build n ≡ Some unit
+    → is_some (live (state_of front).base id) ≡ true
+    → matches (state_of front).base build n unit id ≡ false
+
+-- Each object that is published in a legal story has a record of just what the run of its unit's script read.
+abbrev pub PublishedRecordIsWhatWasRead : Type 0
+PublishedRecordIsWhatWasRead = (front rest : List Told) (row : Plain) (tick : ℕ)
+    (view : List ℕ) (targets : List (List ℕ)) (script : List ℕ) (listed : List ReadOf) (outputs : List (List ℕ))
+    → Legal (front ++ told.Commit row tick ∷ rest)
+    → row.deed ≡ deeds.Publish view targets script listed outputs
+    → PublishesWhatItRead (state_of front) row targets script listed outputs
 
 -- An object that a unit may reuse after its run was started is not the one that its build's view holds at every target: that
 -- one was looked at before the start, did not match, and no other lane has changed it since.

@@ -27,8 +27,8 @@ script_of_deed (Some (deeds.Publish v targets script entries outputs)) = script
 script_of_deed _ = []
 
 -- the script of an object's record
-abbrev pub script_of : Base → ℕ → List ℕ
-script_of b id = script_of_deed (deed_at b id)
+abbrev pub recorded_script : Base → ℕ → List ℕ
+recorded_script b id = script_of_deed (deed_at b id)
 
 -- one read of a record; row 0 says that nothing was there
 abbrev pub read_line : Base → List ℕ → ℕ → List ℕ
@@ -39,7 +39,7 @@ read_line b path (suc row) = line (codes "read " ++ row_name b path (suc row))
 abbrev pub catcr_text : Base → ℕ → List ℕ
 catcr_text b id =
     concat (map (λ target. line (codes "target " ++ target)) (targets_of b id))
-    ++ concat (map (λ text. line (codes "script " ++ text)) (lines_of (script_of b id)))
+    ++ concat (map (λ text. line (codes "script " ++ text)) (lines_of (recorded_script b id)))
     ++ concat (map (λ entry. read_line b entry.path entry.row) (record_of b id))
 
 -- the row of a path in a record
@@ -86,7 +86,7 @@ path_lines b one two path =
 abbrev pub diffcr_text : Base → ℕ → ℕ → List ℕ
 diffcr_text b one two =
     unless_same (are_same_paths (targets_of b one) (targets_of b two)) (line (codes "targets differ"))
-    ++ unless_same (bytes_eq (script_of b one) (script_of b two)) (line (codes "script differs"))
+    ++ unless_same (bytes_eq (recorded_script b one) (recorded_script b two)) (line (codes "script differs"))
     ++ concat (map (λ path. path_lines b (record_of b one) (record_of b two) path.0) (paths_of (record_of b one) (paths_of (record_of b two) [])))
 
 -- the first path among sources that the view sees with another row; row 0 stands for none

@@ -83,3 +83,46 @@ fn the_next_command_goes_on(rt: HostRuntime) -> Result<(), Fail> {
     }
     Ok(())
 }
+
+// Row N of phase 1 is that of its command N. In phase 2 both lanes publish in the fourth round, lane a first, and lane a saves in the
+// fifth.
+const TWO_LANES: &str =
+    "phase\nlane a\nmkview v\nsave v Makefile\n|out:\n|\techo hi > out\nmkview w\nsave w Makefile\n|out:\n|\techo hi > out\nphase\nlane a\nclearmake v\nsave v note\nlane b\nclearmake w\n";
+
+const OF_LANE_A: &str =
+    "phase 1\nlane a\n1 mkview ok\n2 save ok\n3 mkview ok\n4 save ok\nphase 2\nlane a\n1 clearmake disk fault\n2 save ok\nlane b\n";
+
+/// The call 23 is the last one under lane a's publish, and 24 the first under lane b's, which settles the journal.
+#[test]
+fn a_fault_under_one_lanes_build_leaves_the_other_lanes(rt: HostRuntime) -> Result<(), Fail> {
+    let built = format!(in rt.alloc(); "{OF_LANE_A}1 clearmake ok\n{BUILT}")?;
+    let unbuilt = format!(in rt.alloc(); "{OF_LANE_A}1 clearmake disk fault\n")?;
+    let cases: [(&[u64], &str, &str, u64, usize); 2] = [
+        (
+            &[23],
+            built.as_str(),
+            "LWSWSWSWSWSWSWSWSWSWSW!WSWSWSWSWS",
+            33,
+            6,
+        ),
+        (
+            &[23, 24],
+            unbuilt.as_str(),
+            "LWSWSWSWSWSWSWSWSWSWSW!TWSWSWS",
+            30,
+            5,
+        ),
+    ];
+    for (fail, written, calls, ticks, rows) in cases {
+        let wanted = Fault {
+            session: TWO_LANES,
+            fail,
+            written,
+            calls,
+            ticks,
+            rows,
+        };
+        assert_fault(&rt, rt.alloc(), wanted)?;
+    }
+    Ok(())
+}

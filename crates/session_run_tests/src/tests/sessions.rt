@@ -52,7 +52,7 @@ fn each_session_is_answered(rt: HostRuntime) -> Result<(), Fail> {
         ),
         (
             "f run",
-            "phase\nlane a\nlsdo v\n",
+            "phase\nlane a\nmkarrow v a /main/1\n",
             3,
             "bad session 3 NotBuilt\n",
             0,

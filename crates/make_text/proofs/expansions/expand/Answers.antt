@@ -9,9 +9,9 @@ use Rattle.make_text.proofs.expansions.expand.Goals as goal
 
 pub steps-init : goal.steps-init
 steps-init c =
-    let e = c.in_ok-expanding.ensures in (
+    let e = c.of-expanding.ensures in (
       c.len-count.ensures.apart,
-      is_started (macros_of c.args.macros.now) (automatic_of c.args.automatic.now) c.args.text.now c.len-count.result c.in_ok-expanding.expanding c.len-count.ensures.count e.rest e.opened e.states e.written,
+      is_started (macros_of c.args.macros.now) (automatic_of c.args.automatic.now) c.args.text.now c.len-count.result c.of-expanding.result c.len-count.ensures.count e.rest e.opened e.states e.written,
     )
 
 pub returns-in-Ends : goal.returns-in-Ends
@@ -33,7 +33,7 @@ returns-then-len-gt-EXPANSION_LIMIT c =
     let total = expansion_of macros automatic c.args.text.now in
     let went = rw c.in-Goes.is at (c.in_ok-step.ensures.went total c.steps.invariant.1) in
     let new = c.step.new.self in
-    let longer = runs_longer macros automatic total new.rest.now new.written.items (opened_of macros new.opened.items) new.states.items went.runs in
+    let longer = runs_longer macros automatic total new.rest.now new.written.items (opened_of macros new.opened.items) new.states went.runs in
     let len = c.len.ensures ∙ new.written.ok.0 in
     let long : 65536 < length new.written.items = omega (arith, len, c.if-len-gt-EXPANSION_LIMIT.true) in
     too_long total (length new.written.items) long longer

@@ -1,40 +1,21 @@
--- The row that made a version says where its catalog comes from.
-use Rattle.std.proofs.Common.{◌≡◌, Some, None, List, sym, ap, ◌∙◌}
-use Rattle.std.specs.Option.{option_copied}
-use Rattle.legal_history.specs.Base.Catalogs.{catalog_source, named}
-use Rattle.legal_history.specs.Base.Rows.{deed_of, deed_at, first_rows}
-use Rattle.view_lookup.proofs.EntryMoves.{fewer_below}
-use Rattle.view_lookup.proofs.EntryRows.{catalog_by_row, catalog_made, from_source, no_source}
+-- The name is there as in the catalog of the row that tells of it.
+use Rattle.std.proofs.Common.{◌≡◌, List, ℕ, sym, ap, ◌∙◌}
+use Rattle.legal_history.specs.Base.Catalogs.{Catalog, catalog_of, named}
+use Rattle.legal_history.specs.Base.Rows.{Base}
+use Rattle.view_lookup.specs.Entries.{IsEntryOf}
+use Rattle.view_lookup.specs.declared.catalogs.Entry.{Entry}
+use Rattle.view_lookup.specs.declared.catalogs.Entry.TheVariants.{Is, As}
+use Rattle.view_lookup.proofs.ChangedNames.{version_told}
 use Rattle.view_lookup.proofs.catalogs.entry_of_version.Goals as goal
 
-pub returns-in-None : goal.returns-in-None
-returns-in-None c =
-    let b = c.args.rows.now in
-    let r = c.args.version in
-    ap (named c.args.name.now) (catalog_by_row b r ∙ ap (catalog_made (first_rows r b)) (ap deed_of (sym c.row_at.ensures ∙ ap option_copied c.in-None.is)))
+entry_same : (b : Base) (name : List ℕ) (one two : Catalog) (entry : Entry) → named name one ≡ named name two → IsEntryOf b name two entry → IsEntryOf b name one entry
+entry_same b name one two (Is found) same is = same ∙ is
+entry_same b name one two (As count place other) same is = (is.0, same ∙ is.1)
 
-pub returns-in-Branch : goal.returns-in-Branch
-returns-in-Branch c =
+pub returns-in-Some : goal.returns-in-Some
+returns-in-Some c =
     let b = c.args.rows.now in
-    let r = c.args.version in
-    let found : deed_at b r ≡ Some c.deed.result.now = ap deed_of (sym c.row_at.ensures ∙ ap option_copied c.in-Some.is) ∙ ap Some (sym c.deed.ensures.deed) in (
-      fewer_below b r c.deed.result.now found,
-      ap (named c.args.name.now) (catalog_by_row b r ∙ ap (catalog_made (first_rows r b)) found ∙ ap (from_source (first_rows r b)) (ap catalog_source c.in-Branch.is)),
-    )
-
-pub returns-in-Checkin : goal.returns-in-Checkin
-returns-in-Checkin c =
-    let b = c.args.rows.now in
-    let r = c.args.version in
-    let found : deed_at b r ≡ Some c.deed.result.now = ap deed_of (sym c.row_at.ensures ∙ ap option_copied c.in-Some.is) ∙ ap Some (sym c.deed.ensures.deed) in (
-      fewer_below b r c.deed.result.now found,
-      ap (named c.args.name.now) (catalog_by_row b r ∙ ap (catalog_made (first_rows r b)) found ∙ ap (from_source (first_rows r b)) (ap catalog_source c.in-Checkin.is)),
-    )
-
-pub returns-in_default : goal.returns-in_default
-returns-in_default c =
-    let b = c.args.rows.now in
-    let r = c.args.version in
-    let found : deed_at b r ≡ Some c.deed.result.now = ap deed_of (sym c.row_at.ensures ∙ ap option_copied c.in-Some.is) ∙ ap Some (sym c.deed.ensures.deed) in
-    ap (named c.args.name.now) (catalog_by_row b r ∙ ap (catalog_made (first_rows r b)) found
-    ∙ ap (from_source (first_rows r b)) (no_source c.deed.result.now (λ v e origin name out is. c.in_default.not-Branch v e origin name out is) (λ v e is. c.in_default.not-Checkin v e is)))
+    let name = c.args.name.now in
+    entry_same b name (catalog_of b c.args.version) (catalog_of b c.told_on.result) c.entry_made-in-Some.result
+    (version_told b c.are_base.ensures name c.args.version c.in-Some.branch (sym c.branch_of_version.ensures ∙ c.in-Some.is) ∙ ap (λ n. named name (catalog_of b n)) (sym c.told_on.ensures))
+    c.entry_made-in-Some.ensures

@@ -1,5 +1,5 @@
 -- A name stands for another one in a catalog of fewer rows, until a row tells its element.
-use Rattle.std.proofs.Common.{◌≡◌, ℕ, ◌<◌, ◌≤◌, length, sym, ap, subst, ◌∙◌, arith}
+use Rattle.std.proofs.Common.{ℕ, ◌<◌, ◌≤◌, length, sym, ap, subst, ◌∙◌, arith}
 use Rattle.legal_history.specs.Base.Catalogs.{named}
 use Rattle.legal_history.specs.Base.Rows.{Base, first_rows, size}
 use Rattle.legal_history.proofs.Bases.Stay.{all_rows}

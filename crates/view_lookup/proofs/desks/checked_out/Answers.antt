@@ -1,5 +1,5 @@
 -- The newest row of the checkout, unless the view's life began or ended behind it.
-use Rattle.std.proofs.Common.{sym, ap, ap₂, ◌∙◌}
+use Rattle.std.proofs.Common.{sym, ap, ◌∙◌}
 use Rattle.std.specs.Prelude.{option_map}
 use Rattle.legal_history.specs.Base.Rows.{size}
 use Rattle.legal_history.specs.Base.Views.{out_effect}
@@ -17,6 +17,6 @@ returns c =
     let b = c.args.rows.now in
     let ended = ended_by (newest (end_effect v) b) in
     let row = newest (taken_effect v e) b in
-    ap (option_map plain_checkout) (c.within.ensures ∙ ap₂ within c.last_end.ensures (c.newest.ensures ∙ newest_mapped kept_checkout (taken_effect v e) b) ∙ within_mapped kept_checkout ended row)
+    ap (option_map plain_checkout) (c.in_life.ensures ∙ ap (λ told. within ended told) (c.newest.ensures ∙ newest_mapped kept_checkout (taken_effect v e) b) ∙ within_mapped kept_checkout ended row)
     ∙ plain_again (within ended row)
     ∙ sym (last_within (λ older deed. out_effect v e (size older) deed) (end_effect v) (taken_effect v e) (out_parts v e) b)

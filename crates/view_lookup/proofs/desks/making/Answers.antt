@@ -6,7 +6,7 @@ use Rattle.legal_history.specs.Base.Views.{making_effect}
 use Rattle.view_lookup.specs.Effects.{end_effect, desk_effect, saved_effect, map_effect, map_told, row_of_kept}
 use Rattle.view_lookup.specs.Ended.{within, later}
 use Rattle.view_lookup.specs.LookUps.{newest}
-use Rattle.view_lookup.proofs.Endings.{last_within, newest_mapped, newest_of_two}
+use Rattle.view_lookup.proofs.Endings.{ended_by, last_within, newest_mapped, newest_of_two}
 use Rattle.view_lookup.proofs.Parts.{making_parts, text_effect}
 use Rattle.view_lookup.proofs.desks.making.Goals as goal
 
@@ -17,7 +17,7 @@ returns c =
     let b = c.args.rows.now in
     let rows : c.with_row-taken.result ≡ newest (λ older deed. map_effect row_of_kept (desk_effect v e older deed)) b =
     c.with_row-taken.ensures ∙ ap (option_map (map_told row_of_kept)) c.newest.ensures ∙ sym (newest_mapped row_of_kept (desk_effect v e) b) in
-    c.within.ensures
-    ∙ ap₂ within c.last_end.ensures (c.later.ensures ∙ ap₂ later rows c.newest-saved.ensures
+    c.in_life.ensures
+    ∙ ap (λ told. within (ended_by (newest (end_effect v) b)) told) (c.later.ensures ∙ ap₂ later rows c.newest-saved.ensures
     ∙ sym (newest_of_two (text_effect v e) (λ older deed. map_effect row_of_kept (desk_effect v e older deed)) (saved_effect v e) (λ older deed. refl) b))
     ∙ sym (last_within (λ older deed. making_effect v e (size older) deed) (end_effect v) (text_effect v e) (making_parts v e) b)

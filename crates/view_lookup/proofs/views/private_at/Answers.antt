@@ -1,10 +1,11 @@
 -- The newest row of the file, unless the view's life began or ended behind it.
-use Rattle.std.proofs.Common.{sym, ap₂, ◌∙◌}
+use Rattle.std.proofs.Common.{sym, ap, ◌∙◌}
 use Rattle.legal_history.specs.Base.Rows.{size}
 use Rattle.legal_history.specs.Base.Views.{private_effect}
 use Rattle.view_lookup.specs.Effects.{end_effect, file_effect}
 use Rattle.view_lookup.specs.Ended.{within}
-use Rattle.view_lookup.proofs.Endings.{last_within}
+use Rattle.view_lookup.specs.LookUps.{newest}
+use Rattle.view_lookup.proofs.Endings.{ended_by, last_within}
 use Rattle.view_lookup.proofs.Parts.{private_parts}
 use Rattle.view_lookup.proofs.views.private_at.Goals as goal
 
@@ -12,6 +13,6 @@ pub returns : goal.returns
 returns c =
     let v = c.args.view.now in
     let path = c.args.path.now in
-    c.within.ensures
-    ∙ ap₂ within c.last_end.ensures c.newest.ensures
+    c.in_life.ensures
+    ∙ ap (λ told. within (ended_by (newest (end_effect v) c.args.rows.now)) told) c.newest.ensures
     ∙ sym (last_within (λ older deed. private_effect v path (size older) deed) (end_effect v) (file_effect v path) (private_parts v path) c.args.rows.now)

@@ -11,7 +11,7 @@ use Rattle.base_core.specs.Logging.Appending.{IsCommitted, IsFaulted, Appends, a
 use Rattle.base_core.specs.declared.logs.Appended.{Appended}
 use Rattle.base_core.specs.Keeping.Kept.{IsCoreKept}
 use Rattle.base_core.specs.Logging.Logs.{with_row, with_step_on}
-use Rattle.base_core.specs.Story.Replying.{row_reply}
+use Rattle.base_core.specs.Story.Replying.{count_told, row_reply}
 use Rattle.base_core.proofs.Acting.Faulting.{kept_next_fault, next_faults}
 use Rattle.base_core.proofs.Acting.Finishing.{kept_next_row}
 use Rattle.base_core.proofs.Keeping.Rooms.{row_has_room}
@@ -32,16 +32,18 @@ invariant_of-self-in-Committed g c =
     let name = c.in_ok-name.name in
     let told : name_told (c.args.row ∷ c.self.inside.log.base) c.args.row.deed ≡ name =
     ap₂ (λ b deed. name_told (c.args.row ∷ b) deed) (sym c.rows.ensures) (sym c.deed.ensures.deed) ∙ sym (c.in_ok-name.ensures c.args.row (sym c.deed.ensures.deed)) in
-    let replied : c.append_reply-reply.result ≡ row_reply name = c.append_reply-reply.ensures ∙ ap (λ (appended : Appended). append_reply appended name) c.in-Committed.is in
+    let count = c.count_told-count.result in
+    let counted : count_told c.args.row.deed ≡ count = ap count_told (sym c.deed-2.ensures.deed) ∙ sym c.count_told-count.ensures in
+    let replied : c.append_reply-reply.result ≡ row_reply name count = c.append_reply-reply.ensures ∙ ap (λ (appended : Appended). append_reply appended name count) c.in-Committed.is in
     let done : IsCommitted c.self.inside.log c.append.new.self c.args.row = subst (Appends c.self.inside.log c.append.new.self c.args.row None) c.in-Committed.is c.in_ok-appended.ensures.ok in
     subst (λ log. IsCoreKept log c.reply.new.self c.self.inside.moment) (sym done.grows)
     (subst (λ lanes. IsCoreKept (with_row c.self.inside.log c.args.row done.tick done.sight) lanes c.self.inside.moment) (sym c.reply.ensures)
     (kept_next_row c.self.inside.log c.self.inside.lanes c.self.inside.moment c.args.self.now.story c.args.row c.tag-lane.result.lane done.tick done.sight done.ticked (ap (λ v. v.story) c.self.view_is) (ap (λ t. t.lane) c.tag-lane.ensures) c.self.invariant c.requires done.formed c.append_reply-reply.result
-    (c.requires.finishes.reply (c.args.row ∷ c.self.inside.log.base) ∙ ap Some (ap row_reply told ∙ sym replied))))
+    (c.requires.finishes.reply (c.args.row ∷ c.self.inside.log.base) ∙ ap Some (ap₂ row_reply told counted ∙ sym replied))))
 
 pub invariant_of-self-in-Faulted : goal.invariant_of-self-in-Faulted
 invariant_of-self-in-Faulted g c =
-    let replied : c.append_reply-reply.result ≡ replies.DiskFault = c.append_reply-reply.ensures ∙ ap (λ (appended : Appended). append_reply appended c.in_ok-name.name) c.in-Faulted.is in
+    let replied : c.append_reply-reply.result ≡ replies.DiskFault = c.append_reply-reply.ensures ∙ ap (λ (appended : Appended). append_reply appended c.in_ok-name.name c.count_told-count.result) c.in-Faulted.is in
     let done : IsFaulted c.self.inside.log c.append.new.self c.args.row None = subst (Appends c.self.inside.log c.append.new.self c.args.row None) c.in-Faulted.is c.in_ok-appended.ensures.ok in
     subst (λ log. IsCoreKept log c.reply-in-Faulted.new.self c.self.inside.moment) (sym done.grows)
     (subst (λ lanes. IsCoreKept (with_step_on c.self.inside.log (steps.Fault c.args.row.tag done.left done.before done.faults done.tick) done.sight) lanes c.self.inside.moment)

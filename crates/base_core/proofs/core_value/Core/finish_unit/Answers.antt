@@ -1,9 +1,9 @@
--- a unit whose script was run is finished
-use Rattle.std.proofs.Common.{ap}
-use Rattle.build_script.specs.Ended.{ran_of, outputs_in}
+-- a unit whose script was run is finished, unless it has its outcome already
+use Rattle.std.proofs.Common.{sym, ◌∙◌}
+use Rattle.build_script.specs.Ended.{ran_of}
 use Rattle.legal_history.specs.Stories.Steps.{state_of}
-use Rattle.base_core.proofs.Building.FoundBuilds.{fails_so}
+use Rattle.base_core.proofs.Building.FoundBuilds.{has_run}
 use Rattle.base_core.proofs.core_value.Core.finish_unit.Goals as goal
 
-pub settle-requires : goal.settle-requires
-settle-requires g c = fails_so (state_of c.args.self.now.story) c.args.lane c.args.unit (ran_of c.args.ended) c.in-Err.fault c.requires (ap outputs_in c.in-Err.is)
+pub finish_run-requires : goal.finish_run-requires
+finish_run-requires g c = has_run (state_of c.args.self.now.story) c.args.lane c.args.unit (ran_of c.args.ended) c.build_at.result.now c.requires c.build_at.ensures.active c.build_at.ensures.kept (sym c.has_outcome.ensures ∙ c.if-has_outcome.false)

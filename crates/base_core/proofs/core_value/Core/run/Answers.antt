@@ -1,5 +1,6 @@
 -- the run of a unit that was started is the one on what it sees
 use Rattle.std.proofs.Common.{◌≡◌, Some, ap, sym, ◌∙◌}
+use Rattle.std.specs.Prelude.{is_some}
 use Rattle.build_script.specs.Ended.{ran_of}
 use Rattle.legal_history.specs.Builds.Active.{came_to, unit_at}
 use Rattle.legal_history.specs.Builds.Choices.{here}
@@ -22,8 +23,7 @@ returns g c =
       active = c.build_at.ensures.active;
       unit = c.requires.has.unit;
       is_unit = is_unit;
-      started = ap (λ b. came_to b c.args.unit) (sym is) ∙ c.requires.started;
-      kept = c.build_at.ensures.kept;
+      started = ap (λ b. is_some (came_to b c.args.unit)) (sym is) ∙ c.requires.started;
       run = ran ∙ ap (λ b. here b c.build_at.result.now c.args.unit c.requires.has.unit) c.rows.ensures;
     })
     (c.run_unit.ensures c.requires.has.unit is_unit)

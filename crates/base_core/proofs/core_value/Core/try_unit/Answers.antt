@@ -1,15 +1,19 @@
--- a unit is tried
-use Rattle.std.proofs.Common.{subst}
+-- a unit is tried by the core as it was
+use Rattle.std.proofs.Common.{◌<◌, ℕ, sym, subst}
+use Rattle.std.specs.Prelude.{IfOk}
 use Rattle.legal_history.specs.Stories.Steps.{state_of}
-use Rattle.base_core.specs.Calls.BuildCalls.{StepsTo}
-use Rattle.base_core.proofs.Building.FoundBuilds.{carried_tries, started_has}
+use Rattle.base_core.specs.Calls.BuildCalls.{IsBuilding, Tries}
+use Rattle.base_core.specs.Story.Counted.{KeepsCount}
+use Rattle.base_core.specs.Story.Shown.{Shown}
 use Rattle.base_core.proofs.core_value.Core.try_unit.Goals as goal
 
-pub returns-in_ok-start-in-Start-clause-ok : goal.returns-in_ok-start-in-Start-clause-ok
-returns-in_ok-start-in-Start-clause-ok g c =
-    started_has c.args.self.now.story c.start.new.self.story c.args.lane c.args.unit c.in-Start.script c.in-Start.targets
-    (subst (StepsTo (state_of c.args.self.now.story) c.args.lane c.args.unit) c.in-Start.is c.in_ok-step.ensures).1
-    c.in_ok-start-in-Start.ensures.ok
+pub take_step-requires : goal.take_step-requires
+take_step-requires g c =
+    subst (λ (shown : Shown). (count : ℕ) × IsBuilding (state_of shown.story) c.args.lane count × (c.args.unit < count)) (sym c.look_ahead.ensures) c.requires
 
-pub returns-in-Wink-clause-ok : goal.returns-in-Wink-clause-ok
-returns-in-Wink-clause-ok g c = carried_tries c.args.self.now.story c.wink.new.self.story c.args.lane c.args.unit c.wink.result c.wink.ensures.ok
+pub returns-clause-ok : goal.returns-clause-ok
+returns-clause-ok g c =
+    subst (λ (shown : Shown). IfOk c.take_step.result (λ turn. Tries shown.story c.take_step.new.self.story c.args.lane c.args.unit turn)) c.look_ahead.ensures c.take_step.ensures.ok
+
+pub returns-clause-counted : goal.returns-clause-counted
+returns-clause-counted g c = subst (λ (shown : Shown). KeepsCount shown c.take_step.new.self) c.look_ahead.ensures c.take_step.ensures.counted

@@ -1,4 +1,4 @@
--- the row by which a build's view takes in an object
+-- the row by which a build's view winks in an object
 use Rattle.std.proofs.Common.{◌≡◌, ap, sym, ◌∙◌}
 use Rattle.cc_names.specs.Formed.{Plain}
 use Rattle.cc_names.specs.declared.rows.Deed.TheVariants as deeds

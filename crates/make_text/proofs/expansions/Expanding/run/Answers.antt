@@ -32,7 +32,7 @@ returns-then-written_behind-gt-EXPANSION_LIMIT c total h written part len is =
     let automatic = automatic_of c.args.automatic.now in
     let went = rw c.in-Goes.is at (c.in_ok-step.ensures.went total (c.steps.invariant.goes total h)) in
     let new = c.step.new.self in
-    let longer = runs_longer macros automatic total new.rest.now new.written.items (opened_of macros new.opened.items) new.states.items went.runs in
+    let longer = runs_longer macros automatic total new.rest.now new.written.items (opened_of macros new.opened.items) new.states went.runs in
     let long : 65536 < length new.written.items - length written = omega (arith, c.written_behind-in-steps.ensures, len, c.if-written_behind-gt-EXPANSION_LIMIT.true) in
     (part_too_long written new.written.items total part is longer long, tt)
 

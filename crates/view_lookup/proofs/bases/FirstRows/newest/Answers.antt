@@ -1,42 +1,72 @@
 -- The links of the key lead from one of its rows to the next older one.
-use Rattle.std.proofs.Common.{◌≡◌, ℕ, suc, ◌<◌, nat_eq, List, length, get_or, take, reverse, Option, Some, None, IfSome, sym, ap, subst, ◌∙◌, arith, rules}
+use Rattle.std.proofs.Common.{◌≡◌, ℕ, suc, ◌<◌, ◌≤◌, nat_eq, List, length, get_or, take, reverse, Option, Some, None, IfSome, sym, ap, subst, ◌∙◌, arith, rules}
 use Rattle.std.specs.HashMap.{get}
 use Rattle.std.specs.Option.{option_or}
 use Rattle.std.proofs.lemmas.List.{length-take-le}
 use Rattle.legal_history.specs.Base.Rows.{Base, first_rows}
 use Rattle.view_lookup.specs.LookUps.{told_at, first_told, newest}
-use Rattle.view_lookup.specs.Marked.{rows_from, marked}
+use Rattle.view_lookup.specs.Indexed.{IsIndexed}
+use Rattle.view_lookup.specs.Marked.{AreLinked, Sink, rows_from, marked}
 use Rattle.view_lookup.specs.Shown.{Shown}
-use Rattle.view_lookup.specs.Subjects.{key}
+use Rattle.view_lookup.specs.Subjects.{Subject, key}
+use Rattle.view_lookup.specs.declared.bases.Rows.TheInside.{Inside}
 use Rattle.view_lookup.specs.declared.marks.Link.{Link}
 use Rattle.view_lookup.proofs.Chains.{link_at, none_from}
+use Rattle.view_lookup.proofs.MarksSink.{marked_sinks, no_told, told_below}
 use Rattle.view_lookup.proofs.Newest.{marks_of_first}
 use Rattle.view_lookup.proofs.bases.FirstRows.newest.Goals as goal
 
--- the search begins at the newest row of the key
+-- the walk begins among the marks of the key, which stand newest first
+record IsStart (inside : Inside) (links : List Link) (head : Option ℕ) (subject : Subject) : Type 0 where
+  linked : AreLinked (reverse links)
+  within : IfSome head (λ place. place < length links)
+  rows : rows_from (reverse links) head ≡ marked inside.hashing (key inside.hashing subject) (reverse inside.rows.items)
+  sinks : Sink (rows_from (reverse links) head)
+
+starts : (inside : Inside) (links : List Link) (head : Option ℕ) (subject : Subject) (k : ℕ) → IsIndexed inside → links ≡ inside.links.items → head ≡ get nat_eq inside.newest k → k ≡ key inside.hashing subject
+    → IsStart inside links head subject
+starts inside links head subject k indexed same found at_key =
+    let all : Base = reverse inside.rows.items in
+    let heads : ℕ → Option ℕ = get nat_eq inside.newest in
+    let next : head ≡ heads (key inside.hashing subject) = found ∙ ap heads at_key in
+    let rows : rows_from (reverse links) head ≡ marked inside.hashing (key inside.hashing subject) all =
+    ap (λ (ls : List Link). rows_from (reverse ls) head) same ∙ ap (rows_from (reverse inside.links.items)) next ∙ indexed.marks.rows (key inside.hashing subject) in
+    record {
+      linked = rw same indexed.marks.chained.linked;
+      within = rw (next, same) (indexed.marks.chained.within (key inside.hashing subject));
+      rows = rows;
+      sinks = subst Sink (sym rows) (marked_sinks inside.hashing (key inside.hashing subject) all);
+    }
+
+pub first_below-next-requires : goal.first_below-next-requires
+first_below-next-requires g c =
+    let start = starts c.base.inside c.as_slice-links.result.now c.copied-start.result (g.L.LookUp.about c.args.look.now) c.key.result c.base.invariant c.as_slice-links.ensures.value (search rules)
+    (c.key.ensures ∙ ap (key c.base.inside.hashing) c.subject.ensures) in
+    record { linked = start.linked; there = start.within; sinks = start.sinks }
+
+-- and at the first one that is among the rows
 pub loop-next-init : goal.loop-next-init
 loop-next-init g c =
     let effect = g.L.LookUp.effect c.args.look.now in
     let subject = g.L.LookUp.about c.args.look.now in
     let count = c.self.inside.count in
     let all : Base = reverse c.base.inside.rows.items in
-    let links = c.base.inside.links.items in
-    let heads : ℕ → Option ℕ = get nat_eq c.base.inside.newest in
-    let found : c.copied-next.result ≡ heads c.key.result = search rules in
-    let at_key : c.key.result ≡ key c.base.inside.hashing subject = c.key.ensures ∙ ap (key c.base.inside.hashing) c.subject.ensures in
-    let next : c.copied-next.result ≡ heads (key c.base.inside.hashing subject) = found ∙ ap heads at_key in
-    let same : c.as_slice-links.result.now ≡ links = c.as_slice-links.ensures.value in
-    let first : first_rows (suc count) all ≡ c.args.self.now = ap (λ (shown : Shown). first_rows (suc count) shown.base) c.base.view_is ∙ c.self.view_is in
-    let told : first_told (told_at effect c.args.self.now) (marked c.base.inside.hashing (key c.base.inside.hashing subject) all) ≡ newest effect c.args.self.now =
-    subst (λ (b : Base). first_told (told_at effect b) (marked c.base.inside.hashing (key c.base.inside.hashing subject) all) ≡ newest effect b) first
+    let links = c.as_slice-links.result.now in
+    let b = c.args.self.now in
+    let start = starts c.base.inside links c.copied-start.result subject c.key.result c.base.invariant c.as_slice-links.ensures.value (search rules)
+    (c.key.ensures ∙ ap (key c.base.inside.hashing) c.subject.ensures) in
+    let first : first_rows (suc count) all ≡ b = ap (λ (shown : Shown). first_rows (suc count) shown.base) c.base.view_is ∙ c.self.view_is in
+    let told : first_told (told_at effect b) (marked c.base.inside.hashing (key c.base.inside.hashing subject) all) ≡ newest effect b =
+    subst (λ (rows : Base). first_told (told_at effect rows) (marked c.base.inside.hashing (key c.base.inside.hashing subject) all) ≡ newest effect rows) first
     (marks_of_first c.base.inside.hashing subject effect (g.met.L.LookUp.covered c.args.look.now) (suc count) all) in
-    let from : rows_from (reverse c.as_slice-links.result.now) c.copied-next.result ≡ marked c.base.inside.hashing (key c.base.inside.hashing subject) all =
-    ap (λ (ls : List Link). rows_from (reverse ls) c.copied-next.result) same ∙ ap (rows_from (reverse links)) next ∙ c.base.invariant.marks.rows (key c.base.inside.hashing subject) in
+    let none : (n : ℕ) → c.size.result ≤ n → told_at effect b n ≡ None = λ n behind. no_told effect b n (subst (λ bound. bound ≤ n) c.size.ensures.size behind) in
     record {
-      within = rw (next, same) (c.base.invariant.marks.chained.within (key c.base.inside.hashing subject));
+      within = c.first_below-next.ensures.there;
       shorter = omega arith;
-      linked = rw same c.base.invariant.marks.chained.linked;
-      left = ap (first_told (told_at effect c.args.self.now)) from ∙ told;
+      linked = start.linked;
+      left = told_below (told_at effect b) c.size.result none (rows_from (reverse links) c.first_below-next.result) (rows_from (reverse links) c.copied-start.result) c.first_below-next.ensures.below
+          ∙ ap (first_told (told_at effect b)) start.rows
+          ∙ told;
     }
 
 pub offset_bounds-links-place : goal.offset_bounds-links-place
@@ -52,8 +82,8 @@ returns-in-Some-told_at g c =
     let links = c.loop-next.links.now in
     let place = c.in-Some.place in
     let within : place < length links = subst (λ n. IfSome n (λ p. p < length links)) c.in-Some.is c.loop-next.invariant.within in
-    let link : Link = get_or links place (record { row = 0; older = None }) in
-    let along = link_at links place (record { row = 0; older = None }) within in
+    let link : Link = get_or links place (record { row = 0; older = None; skip = None; depth = 0 }) in
+    let along = link_at links place (record { row = 0; older = None; skip = None; depth = 0 }) within in
     let rest = rows_from (reverse (take place links)) link.older in
     let here : at link.row ≡ Some c.in-Some-told_at.told = sym c.told_at.ensures ∙ c.in-Some-told_at.is in
     sym (ap (λ found. option_or found (first_told at rest)) here)
@@ -67,8 +97,8 @@ loop-next-preserved g c =
     let links = c.loop-next.links.now in
     let place = c.in-Some.place in
     let within : place < length links = subst (λ n. IfSome n (λ p. p < length links)) c.in-Some.is c.loop-next.invariant.within in
-    let link : Link = get_or links place (record { row = 0; older = None }) in
-    let along = link_at links place (record { row = 0; older = None }) within in
+    let link : Link = get_or links place (record { row = 0; older = None; skip = None; depth = 0 }) in
+    let along = link_at links place (record { row = 0; older = None; skip = None; depth = 0 }) within in
     let rest = rows_from (reverse (take place links)) link.older in
     let none : c.told_at.result ≡ None = search rules in
     let here : at link.row ≡ None = sym c.told_at.ensures ∙ none in

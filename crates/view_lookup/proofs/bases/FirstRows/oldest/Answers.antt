@@ -52,8 +52,8 @@ loop-next-preserved g c =
     let links = c.loop-next.links.now in
     let place = c.in-Some.place in
     let within : place < length links = subst (λ n. IfSome n (λ p. p < length links)) c.in-Some.is c.loop-next.invariant.within in
-    let link : Link = get_or links place (record { row = 0; older = None }) in
-    let along = link_at links place (record { row = 0; older = None }) within in
+    let link : Link = get_or links place (record { row = 0; older = None; skip = None; depth = 0 }) in
+    let along = link_at links place (record { row = 0; older = None; skip = None; depth = 0 }) within in
     let rest = rows_from (reverse (take place links)) link.older in
     let fewer : length (take place links) ≡ place = length-take-le place links (omega arith) in
     record {

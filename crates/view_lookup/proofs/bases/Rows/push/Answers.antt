@@ -1,12 +1,12 @@
 -- The row's marks, its changes of the trees and of the labels, its config spec and what its record lists are those of the row.
-use Rattle.std.proofs.Common.{◌≡◌, ℕ, ◌+◌, ◌≤◌, ◌&&◌, true, Option, List, [], ◌∷◌, ◌++◌, length, map, reverse, nat_eq, nat_lt, sym, ap, ap₂, subst, ◌∙◌, arith, rules}
+use Rattle.std.proofs.Common.{◌≡◌, ℕ, ◌+◌, ◌≤◌, ◌==◌, ◌&&◌, true, refl, Option, List, [], ◌∷◌, ◌++◌, length, map, reverse, nat_eq, nat_lt, sym, ap, ap₂, subst, ◌∙◌, arith, rules}
 use Rattle.std.proofs.lemmas.Grind.{common_steps}
 use Rattle.std.proofs.lemmas.List.{length-reverse, reverse-append}
 use Rattle.std.specs.HashMap.{get}
 use Rattle.std.specs.declared.random_state.RandomState.{RandomState}
 use Rattle.cc_names.specs.Falling.{IsAbove}
 use Rattle.cc_names.specs.Formed.{IsDeedFormed, Plain}
-use Rattle.cc_names.specs.Versions.{row_of_change}
+use Rattle.cc_names.specs.Versions.{put_if, row_of_change}
 use Rattle.cc_names.specs.declared.changes.LabelChange.{LabelChange}
 use Rattle.cc_names.specs.declared.changes.TreeChange.{TreeChange}
 use Rattle.cc_names.specs.declared.rows.Deed.{Deed}
@@ -18,27 +18,47 @@ use Rattle.view_lookup.specs.Growing.{HasPlace, change_of, tree_change, with_cha
 use Rattle.view_lookup.specs.Known.{IsKnown}
 use Rattle.view_lookup.specs.Labelling.{AreLabels, HasLabelRoom}
 use Rattle.view_lookup.specs.Listings.{AreListings, HasListing, Versions, listing_made, version_in, versions_of, with_listing}
-use Rattle.view_lookup.specs.Marked.{IsMarked, marked, with_marks}
+use Rattle.view_lookup.specs.Marked.{IsMarked, marked, rows_by, with_marks}
+use Rattle.view_lookup.specs.SeenFiles.{AreSeenByViews}
 use Rattle.view_lookup.specs.SetSpecs.{rules_set, specs_set, with_spec}
 use Rattle.view_lookup.specs.Shown.{Shown}
-use Rattle.view_lookup.specs.Subjects.{key, named_targets, reserved_branch, subjects}
+use Rattle.view_lookup.specs.Subjects.{Subject, catalog_subjects, key, named_targets, plain_subjects, reserved_branch, subjects}
 use Rattle.legal_history.proofs.Bases.Owned.{and_second}
+use Rattle.view_lookup.proofs.FilesSeen.{seen_more}
 use Rattle.view_lookup.proofs.Growths.{above_tree, tree_by_change}
 use Rattle.view_lookup.proofs.Labellings.{above_labels, after_same, same_twice}
 use Rattle.view_lookup.proofs.ListingsStay.{listings_more}
 use Rattle.view_lookup.proofs.SpecsSet.{set_short}
 use Rattle.view_lookup.proofs.bases.Rows.push.Goals as goal
 
+-- marks for some keys and then for others are marks for all
+marks_then : (n q : ℕ) (keys others rows : List ℕ) → with_marks n q (keys ++ others) rows ≡ with_marks n q others (with_marks n q keys rows)
+marks_then n q [] others rows = refl
+marks_then n q (k ∷ keys) others rows = marks_then n q keys others (put_if (k == q) n rows)
+
+map_both : (hashing : RandomState) (one two : List Subject) → map (key hashing) (one ++ two) ≡ map (key hashing) one ++ map (key hashing) two
+map_both hashing [] two = refl
+map_both hashing (subject ∷ one) two = ap (λ rest. key hashing subject ∷ rest) (map_both hashing one two)
+
+-- what a row bears on beside catalogs, as code tells it
+same_subjects : (n : ℕ) (targets : List (List ℕ)) (branch : Option ℕ) (deed : Deed) (row : Plain) (older : Base) → n ≡ size older → targets ≡ named_targets older row.deed → branch ≡ reserved_branch older row.deed → deed ≡ row.deed
+    → subjects n targets branch deed ≡ plain_subjects older row.deed
+same_subjects n targets branch deed row older number named reserved same =
+    ap (λ m. subjects m targets branch deed) number
+    ∙ ap (λ ts. subjects (size older) ts branch deed) named
+    ∙ ap (λ own. subjects (size older) (named_targets older row.deed) own deed) reserved
+    ∙ ap (λ d. subjects (size older) (named_targets older row.deed) (reserved_branch older row.deed) d) same
+
 -- the marks of one row more
-marked_more : (hashing : RandomState) (n : ℕ) (targets : List (List ℕ)) (branch : Option ℕ) (deed : Deed) (row : Plain) (older : Base) (q : ℕ) (rows : List ℕ)
-    → n ≡ size older → targets ≡ named_targets older row.deed → branch ≡ reserved_branch older row.deed → deed ≡ row.deed → rows ≡ marked hashing q older
-    → with_marks n q (map (key hashing) (subjects n targets branch deed)) rows ≡ marked hashing q (row ∷ older)
-marked_more hashing n targets branch deed row older q rows number named reserved same before =
-    ap (λ m. with_marks m q (map (key hashing) (subjects m targets branch deed)) rows) number
-    ∙ ap (λ ts. with_marks (size older) q (map (key hashing) (subjects (size older) ts branch deed)) rows) named
-    ∙ ap (λ own. with_marks (size older) q (map (key hashing) (subjects (size older) (named_targets older row.deed) own deed)) rows) reserved
-    ∙ ap (λ d. with_marks (size older) q (map (key hashing) (subjects (size older) (named_targets older row.deed) (reserved_branch older row.deed) d)) rows) same
-    ∙ ap (with_marks (size older) q (map (key hashing) (subjects (size older) (named_targets older row.deed) (reserved_branch older row.deed) row.deed))) before
+marked_more : (hashing : RandomState) (n : ℕ) (plain : List Subject) (row : Plain) (older : Base) (q : ℕ) (rows : List ℕ) → n ≡ size older → plain ≡ plain_subjects older row.deed
+    → rows ≡ with_marks (size older) q (map (key hashing) (catalog_subjects older row.deed)) (marked hashing q older)
+    → with_marks n q (map (key hashing) plain) rows ≡ marked hashing q (row ∷ older)
+marked_more hashing n plain row older q rows number same before =
+    ap (λ m. with_marks m q (map (key hashing) plain) rows) number
+    ∙ ap (λ all. with_marks (size older) q (map (key hashing) all) rows) same
+    ∙ ap (with_marks (size older) q (map (key hashing) (plain_subjects older row.deed))) before
+    ∙ sym (ap (λ keys. with_marks (size older) q keys (marked hashing q older)) (map_both hashing (catalog_subjects older row.deed) (plain_subjects older row.deed))
+    ∙ marks_then (size older) q (map (key hashing) (catalog_subjects older row.deed)) (map (key hashing) (plain_subjects older row.deed)) (marked hashing q older))
 
 pub grow-requires-clause-above : goal.grow-requires-clause-above
 grow-requires-clause-above c =
@@ -118,11 +138,19 @@ invariant_of-self c =
     ∙ c.growth_of-growth.ensures.change moment
     ∙ ap₂ (λ (b : Base) deed. tree_change b moment deed) (c.all.ensures ∙ sym base_is) c.deed.ensures.deed
     ∙ ap (λ at. tree_change older at row.deed) c.moment.ensures in
+    let chained = c.mark_keys.ensures.marks.chained c.self.invariant.marks.chained in
+    let keys : c.as_slice-2.result.now ≡ map (key hashing) (catalog_subjects older row.deed) =
+    c.as_slice-2.ensures.value ∙ subst (λ (shown : Shown). shown.keys ≡ map (key shown.hashing) (catalog_subjects shown.base row.deed)) (sym c.self.view_is) c.requires.room.keys in
+    let before : (q : ℕ) → rows_by c.mark_keys.new.links.items (get nat_eq c.mark_keys.new.newest) q ≡ with_marks (size older) q (map (key hashing) (catalog_subjects older row.deed)) (marked hashing q older) = λ q.
+    c.mark_keys.ensures.marks.rows c.self.invariant.marks.chained q
+    ∙ ap₂ (λ n ks. with_marks n q ks (rows_by c.self.inside.links.items (get nat_eq c.self.inside.newest) q)) number keys
+    ∙ ap (with_marks (size older) q (map (key hashing) (catalog_subjects older row.deed))) (c.self.invariant.marks.rows q) in
     let marks : IsMarked hashing c.mark_all.new.links.items (get nat_eq c.mark_all.new.newest) (row ∷ older) = record {
-      chained = c.mark_all.ensures.chained c.self.invariant.marks.chained;
+      chained = c.mark_all.ensures.chained chained;
       rows = λ q.
-          c.mark_all.ensures.rows c.self.invariant.marks.chained q
-          ∙ marked_more hashing (c.len.result + 1) c.named_targets-targets.result.now c.reserved_branch-branch.result c.deed-4.result.now row older q _ number named reserved c.deed-4.ensures.deed (c.self.invariant.marks.rows q);
+          c.mark_all.ensures.rows chained q
+          ∙ marked_more hashing (c.len.result + 1) (subjects (c.len.result + 1) c.named_targets-targets.result.now c.reserved_branch-branch.result c.deed-4.result.now) row older q _ number
+          (same_subjects (c.len.result + 1) c.named_targets-targets.result.now c.reserved_branch-branch.result c.deed-4.result.now row older number named reserved c.deed-4.ensures.deed) (before q);
     } in
     let kept = c.self.inside.labels.changes in
     let at_number : labels_after (c.len.result + 1) c.deed-5.result.now (labels older) ≡ labels (row ∷ older) =
@@ -153,4 +181,5 @@ invariant_of-self c =
       listed = subst (AreListings (λ id. versions_of (get nat_eq c.keep_listing.new.listings id))) (sym back)
           (λ id e. ap (version_in e) (c.keep_listing.ensures id ∙ ap (λ n. with_listing n made listings id) number)
           ∙ listings_more listings made row older c.self.invariant.known.fitting (and_second (nat_lt (size older) row_limit) (deed_fits older row.deed) fitting) c.self.invariant.listed own id e);
+      seen = subst (λ (b : Base). AreSeenByViews b c.self.inside.seen) (sym back) (seen_more row older c.self.inside.seen c.self.invariant.seen);
     }

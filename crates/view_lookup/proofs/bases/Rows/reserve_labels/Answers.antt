@@ -10,4 +10,5 @@ invariant_of-self c = record {
   labelled = same_twice _ _ _ (record { pairs = c.reserve_labels.ensures.kept.pairs }) c.self.invariant.labelled;
   specs = c.self.invariant.specs;
   listed = c.self.invariant.listed;
+  seen = c.self.invariant.seen;
 }

@@ -1,0 +1,57 @@
+-- What came of a run outside the lock.
+use Rattle.std.proofs.Common.{◌≡◌, refl, ap, sym, ◌∙◌, ℕ, ◌<◌, inl, inr, Option, Some, None, Result, Ok, Err, List, arith}
+use Rattle.std.specs.Prelude.{IfErr, IfOk, option_and_then, option_map}
+use Rattle.cc_names.specs.declared.memory.Or.{Or}
+use Rattle.cc_names.specs.declared.memory.Or.TheVariants.{NoMemory, Is}
+use Rattle.cc_names.specs.declared.rows.Tag.{Tag}
+use Rattle.cc_names.specs.declared.steps.Told.{Told}
+use Rattle.build_script.specs.Ended.{IsGivenUp, ran_of}
+use Rattle.build_script.specs.Run.{Ran, carried_out, run_of, run_of_lines}
+use Rattle.build_script.specs.Standings.{Standing, text_of, texts}
+use Rattle.build_script.specs.declared.files.Stop.{Stop}
+use Rattle.build_script.specs.declared.files.Stop.TheVariants.{Broken}
+use Rattle.build_script.specs.declared.lines.Line.{Line}
+use Rattle.build_script.specs.declared.outcomes.Ended.{Ended}
+use Rattle.legal_history.specs.Base.Rows.{Base}
+use Rattle.legal_history.specs.Base.Texts.{text}
+use Rattle.legal_history.specs.Builds.Choices.{text_of_row, visible}
+use Rattle.legal_history.specs.Stories.States.{State}
+use Rattle.legal_history.specs.Stories.Steps.{state_of}
+use Rattle.clearmake.specs.Calls.{IsRunOfUnit, IsStarted, WasStarted}
+use Rattle.clearmake.specs.Outside.{RanSo}
+use Rattle.clearmake.specs.Passes.{IsPast}
+use Rattle.clearmake.specs.Sights.{sees, standing_of}
+use Rattle.clearmake.proofs.Later.{stands_so}
+
+pub was_started : (s : State) (lane n : ℕ) (script : List Line) (targets : List (List ℕ)) → IsStarted s lane n script targets → WasStarted s lane n
+was_started s lane n script targets h = record { build = h.has.build; active = h.has.active; unit = h.has.unit; is_unit = h.has.is_unit; started = h.started }
+
+with_row : (row : ℕ) (found : Option (List ℕ)) → option_map text_of (option_map (λ bytes. let standing : Standing = record { row = row; text = bytes } in standing) found) ≡ found
+with_row row None = refl
+with_row row (Some bytes) = refl
+
+of_row : (b : Base) (path : List ℕ) (row : Option ℕ) → option_map text_of (option_and_then (standing_of b path) row) ≡ text_of_row b path row
+of_row b path None = refl
+of_row b path (Some row) = with_row row (text b row path)
+
+-- a run on what a started unit sees is the unit's run
+pub run_is : (s : State) (lane n : ℕ) (script : List Line) (targets : List (List ℕ)) (ran : Ran) → IsStarted s lane n script targets →
+    ran ≡ carried_out (texts (sees s lane n)) (run_of_lines targets script) → IsRunOfUnit s lane n ran
+run_is s lane n script targets ran h e = record {
+  build = h.has.build;
+  active = h.has.active;
+  unit = h.has.unit;
+  is_unit = h.has.is_unit;
+  started = h.started;
+  run = e ∙ (λ i. carried_out (λ path. seen path i) (run_of (h.has.targets_are i) (sym h.has.script_is i)));
+}
+  where
+    seen : (path : List ℕ) → texts (sees s lane n) path ≡ text_of_row s.base path (visible s.base h.has.build n h.has.unit path)
+    seen path = ap (option_map text_of) (stands_so s lane n h.has.build h.has.unit path h.has.active h.has.is_unit) ∙ of_row s.base path (visible s.base h.has.build n h.has.unit path)
+
+pub ran_so : (result : Result Ended (Or Stop)) (s : State) (tag : Tag) (n broken : ℕ) (script : List Line) (targets : List (List ℕ)) (story : List Told) → IsStarted s tag.lane n script targets →
+    IfOk result (λ ended. ran_of ended ≡ carried_out (texts (sees s tag.lane n)) (run_of_lines targets script)) → IfErr result (λ stop. IsGivenUp stop 0 broken) →
+    (0 < broken → IsPast (state_of story) tag) → RanSo result s tag n story
+ran_so (Ok ended) s tag n broken script targets story h ran given past = run_is s tag.lane n script targets (ran_of ended) h ran
+ran_so (Err NoMemory) s tag n broken script targets story h ran given past = tt
+ran_so (Err (Is Broken)) s tag n broken script targets story h ran given past = elim given [ inl some ↦ past some | inr all ↦ past (omega arith) ]

@@ -1,0 +1,7 @@
+use Rattle.clearmake.proofs.Joins.{joined_later}
+use Rattle.clearmake.proofs.builders.+build_shares+fn-build_shares-join+arg2+fn-build_shares-join+arg3.Goals as goal
+
+pub returns : goal.returns
+returns g t c =
+    joined_later c.args.pass c.split-one.result.0 c.split-one.result.1 c.join-one.result.0 c.join-one.result.1 c.join.result
+    c.split-one.ensures.own.0 c.split-one.ensures.weight c.split-one.ensures.seen c.join-one.ensures.first c.join-one.ensures.second c.join.ensures.own c.join.ensures.weight c.join.ensures.seen

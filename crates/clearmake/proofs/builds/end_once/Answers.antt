@@ -1,0 +1,9 @@
+use Rattle.std.proofs.Common.{subst, sym}
+use Rattle.cc_names.specs.declared.steps.Told.{Told}
+use Rattle.turn_lock.specs.Sight.{Sight}
+use Rattle.clearmake.specs.Passes.{AreDone}
+use Rattle.clearmake.proofs.builds.end_once.Goals as goal
+
+pub end_at-ended-requires-clause-done : goal.end_at-ended-requires-clause-done
+end_at-ended-requires-clause-done g c =
+    subst (λ (p : Sight Told). AreDone p.seen c.args.site.now.tag c.args.site.now.count c.args.site.now.count) (sym c.of-seen.ensures) c.requires.done

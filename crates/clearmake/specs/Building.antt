@@ -1,0 +1,31 @@
+-- What becomes of the units of a build, and of the build.
+use Rattle.std.specs.Prelude.{ℕ, Result, Ok, Err, List}
+use Rattle.cc_names.specs.declared.desks.Begun.{Begun}
+use Rattle.cc_names.specs.declared.desks.Begun.TheVariants as begins
+use Rattle.cc_names.specs.declared.memory.NoMemory.{NoMemory}
+use Rattle.cc_names.specs.declared.rows.Tag.{Tag}
+use Rattle.cc_names.specs.declared.steps.Told.{Told}
+use Rattle.legal_history.specs.Stories.Steps.{state_of}
+use Rattle.clearmake.specs.Passes.{AreDone, Builds, IsPast}
+use Rattle.clearmake.specs.declared.builds.Opened.{Opened}
+use Rattle.clearmake.specs.declared.builds.Opened.TheVariants as opened
+use Rattle.clearmake.specs.declared.sweeps.Swept.{Swept}
+use Rattle.clearmake.specs.declared.sweeps.Swept.TheVariants as swept
+
+-- the units of a build were driven: in this story the command is past, or they all have their outcomes, or memory ran out
+abbrev pub IsSwept : Swept → List Told → Tag → ℕ → Type 0
+IsSwept swept.Over story tag count = IsPast (state_of story) tag
+IsSwept swept.Complete story tag count = AreDone story tag count count
+IsSwept swept.Short story tag count = Unit {0}
+
+-- what a desk's answer says of a build that was to begin
+abbrev pub opened_of : Result Begun NoMemory → Opened
+opened_of (Ok (begins.Units count)) = opened.Units count
+opened_of (Ok begins.Refused) = opened.Over
+opened_of (Err error) = opened.Short
+
+-- a build was to begin: in this story the command is past, or it builds so many units, or memory ran out
+abbrev pub IsOpened : Opened → List Told → Tag → Type 0
+IsOpened opened.Over story tag = IsPast (state_of story) tag
+IsOpened (opened.Units count) story tag = Builds story tag count
+IsOpened opened.Short story tag = Unit {0}

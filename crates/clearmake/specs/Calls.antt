@@ -1,0 +1,108 @@
+-- What the calls of a desk on a lane's build ask and leave.
+use Rattle.std.specs.Prelude.{◌≡◌, ℕ, ◌<◌, ◌^◌, ◌&&◌, ◌==◌, Bool, true, false, not, Some, Ok, is_some, List, [], length, unwrap_or, option_map, filter}
+use Rattle.std.specs.List.{list_any, range_with_len}
+use Rattle.cc_names.specs.declared.desks.Begun.{Begun}
+use Rattle.cc_names.specs.declared.desks.Begun.TheVariants as begins
+use Rattle.cc_names.specs.declared.steps.Told.{Told}
+use Rattle.cc_names.specs.declared.units.Unit.{Unit}
+use Rattle.build_script.specs.Lines.{script_of}
+use Rattle.build_script.specs.Run.{Ran}
+use Rattle.build_script.specs.declared.lines.Line.{Line}
+use Rattle.legal_history.specs.Builds.Active.{Build, build_of, came_to, is_outcome, unit_at, unit_with}
+use Rattle.legal_history.specs.Builds.Choices.{here}
+use Rattle.legal_history.specs.Builds.Fresh.{script_text}
+use Rattle.legal_history.specs.Builds.Turns.{is_complete, is_ready}
+use Rattle.legal_history.specs.Stories.States.{State}
+use Rattle.legal_history.specs.Stories.Steps.{state_of}
+use Rattle.clearmake.specs.Going.{GoesOn, HasOutcome, Finishes}
+use Rattle.clearmake.specs.declared.turns.Carried.{Carried}
+use Rattle.clearmake.specs.declared.turns.Carried.TheVariants as carried
+use Rattle.clearmake.specs.declared.turns.UnitTurn.{UnitTurn}
+use Rattle.clearmake.specs.declared.turns.UnitTurn.TheVariants as turns
+
+-- a lane builds so many units
+pub record IsBuilding (s : State) (lane count : ℕ) : Type 0 where
+  pub build : Build
+  pub active : build_of s.active lane ≡ Some build
+  pub of_units : length build.units ≡ count
+  pub few : count < 2 ^ 32
+
+-- a build of so many units began, or goes on; or its command was refused
+abbrev pub Begins : List Told → List Told → ℕ → Begun → Type 0
+Begins old new lane (begins.Units count) = GoesOn old new lane × IsBuilding (state_of new) lane count
+Begins old new lane begins.Refused = Finishes old new lane
+
+-- unit n of a lane's build has this script and these targets
+pub record HasScript (s : State) (lane n : ℕ) (script : List Line) (targets : List (List ℕ)) : Type 0 where
+  pub build : Build
+  pub active : build_of s.active lane ≡ Some build
+  pub unit : Unit
+  pub is_unit : unit_at build n ≡ Some unit
+  pub script_is : script_of (script_text unit.script) ≡ Ok script
+  pub targets_are : targets ≡ unit.targets
+
+-- unit n of a lane's build was started; by now it may have its outcome
+pub record WasStarted (s : State) (lane n : ℕ) : Type 0 where
+  pub build : Build
+  pub active : build_of s.active lane ≡ Some build
+  pub unit : Unit
+  pub is_unit : unit_at build n ≡ Some unit
+  pub started : is_some (came_to build n) ≡ true
+
+-- the same, with its script and its targets
+pub record IsStarted (s : State) (lane n : ℕ) (script : List Line) (targets : List (List ℕ)) : Type 0 where
+  pub has : HasScript s lane n script targets
+  pub started : is_some (came_to has.build n) ≡ true
+
+-- unit n of a lane's build was started, and this is the run of its script on what it sees; by now it may have its outcome
+pub record IsRunOfUnit (s : State) (lane n : ℕ) (ran : Ran) : Type 0 where
+  pub build : Build
+  pub active : build_of s.active lane ≡ Some build
+  pub unit : Unit
+  pub is_unit : unit_at build n ≡ Some unit
+  pub started : is_some (came_to build n) ≡ true
+  pub run : ran ≡ here s.base build n unit
+
+-- unit n of a lane's build waits for this earlier unit, which has no outcome
+pub record WaitsFor (s : State) (lane n m : ℕ) : Type 0 where
+  pub build : Build
+  pub active : build_of s.active lane ≡ Some build
+  pub waits : is_outcome (came_to build m) ≡ false
+  pub earlier : m < n
+
+-- the units of a lane's build all have their outcomes
+pub record IsOver (s : State) (lane : ℕ) : Type 0 where
+  pub build : Build
+  pub active : build_of s.active lane ≡ Some build
+  pub complete : is_complete build ≡ true
+
+-- a unit of a lane's build has its outcome, and the story went on
+abbrev pub Settled : List Told → List Told → ℕ → ℕ → Type 0
+Settled old new lane n = GoesOn old new lane × HasOutcome (state_of new) lane n
+
+-- what became of a unit that was tried: it has its outcome, it waits for another and nothing changed, or its script was started;
+-- or the disk failed and its lane's command is finished
+abbrev pub Tries : List Told → List Told → ℕ → ℕ → UnitTurn → Type 0
+Tries old new lane n turns.Settled = Settled old new lane n
+Tries old new lane n (turns.NotReady m) = (new ≡ old) × WaitsFor (state_of old) lane n m
+Tries old new lane n (turns.Run script targets) = GoesOn old new lane × IsStarted (state_of new) lane n script targets
+Tries old new lane n turns.Faulted = Finishes old new lane
+
+-- what became of a unit that was given its outcome: it has it, or the disk failed and its lane's command is finished
+abbrev pub IsCarried : List Told → List Told → ℕ → ℕ → Carried → Type 0
+IsCarried old new lane n carried.Settled = Settled old new lane n
+IsCarried old new lane n carried.Faulted = Finishes old new lane
+
+-- whether a unit of the build makes a prerequisite of another
+abbrev pub needs : Build → ℕ → Unit → Bool
+needs build n unit = list_any (λ path. unwrap_or (option_map (λ m. m == n) (unit_with build path)) false) unit.prerequisites
+
+-- whether a unit waits for unit n no more, and for no other: it has no outcome, and each unit that it needs has one
+abbrev pub is_released : Build → ℕ → ℕ → Bool
+is_released build n m =
+    not (is_outcome (came_to build m)) && unwrap_or (option_map (λ unit. needs build n unit && is_ready build unit) (unit_at build m)) false
+
+-- the units that unit n of a lane's build has released, in their order
+abbrev pub released : State → ℕ → ℕ → List ℕ
+released s lane n =
+    unwrap_or (option_map (λ build. filter (is_released build n) (range_with_len 0 (length build.units))) (build_of s.active lane)) []

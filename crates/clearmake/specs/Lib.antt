@@ -1,0 +1,10 @@
+pub mod Building
+pub mod Calls
+pub mod Driving
+pub mod Going
+pub mod Laning
+pub mod Nexts
+pub mod Outside
+pub mod Passes
+pub mod ReadingLaws
+pub mod Sights

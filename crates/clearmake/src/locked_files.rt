@@ -1,0 +1,112 @@
+// The files of a run, read through the lock.
+
+ghost use Rattle.std.specs.Prelude.{◌≡◌};
+ghost use mathlib.Core.List.{IsPrefix};
+ghost use Rattle.legal_history.specs.Stories.Lawful.{Legal};
+ghost use Rattle.legal_history.specs.Stories.Steps.{state_of};
+ghost use Rattle.clearmake.specs.Calls.{WasStarted};
+ghost use Rattle.clearmake.specs.Outside.{IsRead};
+ghost use Rattle.clearmake.specs.Passes.{Builds, Knows};
+ghost use Rattle.clearmake.specs.Sights.{sees};
+
+use crate::desks::BuildDesk;
+use crate::sites::Site;
+use build_script::files::{Files, Got};
+use cc_names::paths::Path;
+use cc_outside::Gate;
+use std::marker::Model;
+use std::snapshot::Snapshot;
+use std::sync::Wait;
+use turn_lock::Pass;
+
+/// The files that a unit's script sees, each read in a turn of its own at the desk. Other threads take turns between the
+/// reads; what the unit sees is the same at each.
+pub(crate) struct LockedFiles<'s, 'a, R: Wait, T: BuildDesk, G: Gate> {
+    pub(crate) site: &'s Site<'a, R, T, G>,
+    pub(crate) start: &'s Snapshot<Pass<T>>,
+    pub(crate) unit: u32,
+    pub(crate) target: &'s Path,
+    pub(crate) pass: Option<Pass<T>>,
+    pub(crate) broken: u64,
+}
+
+impl<'s, 'a, R: Wait, T: BuildDesk, G: Gate> Model for LockedFiles<'s, 'a, R, T, G> {
+    ghost use Rattle.clearmake.specs.Outside.{IsReading, Reading, sight_or};
+
+    ghost Value = { Reading };
+
+    ghost view = { λ f.
+        record {
+          pass = sight_or f.site.now.lock.now.id f.pass;
+          start = f.start.now.value.seen;
+          tag = f.site.now.tag;
+          count = f.site.now.count;
+          unit = f.unit;
+          broken = f.broken;
+        } };
+
+    ghost invariant = { λ f.
+        IsReading f.site.now.lock.now.id f.site.now.begun.now.value.seen f.pass
+        (record {
+          pass = sight_or f.site.now.lock.now.id f.pass;
+          start = f.start.now.value.seen;
+          tag = f.site.now.tag;
+          count = f.site.now.count;
+          unit = f.unit;
+          broken = f.broken;
+        }) };
+}
+
+/// What a unit that was started finds at a path, in a turn at the desk. Broken where the build is over.
+#[tactic(auto, using(crate::proofs::Rereads::reads_same, crate::proofs::Rereads::started_now, crate::proofs::Rereads::knows_on))]
+fn read_at<R: Wait, T: BuildDesk, G: Gate>(
+    site: &Site<'_, R, T, G>,
+    desk: &T,
+    start: &Snapshot<Pass<T>>,
+    unit: u32,
+    path: &Path,
+) -> Got
+    requires knows { Knows site.now.begun.now.value.seen start.now.value.seen site.now.tag
+        site.now.count }
+    requires begins { IsPrefix start.now.value.seen (T.story desk.now) }
+    requires builds { Builds start.now.value.seen site.now.tag site.now.count }
+    requires started { WasStarted (state_of start.now.value.seen) site.now.tag.lane unit }
+    ensures legal { Legal (T.story desk.now) }
+    ensures read { IsRead result
+        (sees (state_of start.now.value.seen) site.now.tag.lane unit path.now) (T.story desk.now)
+        site.now.tag }
+{
+    if !site.goes_on(desk) {
+        return Got::Broken;
+    }
+    desk.fetch(site.alloc, site.tag.lane, unit, path)
+}
+
+impl<R: Wait, T: BuildDesk, G: Gate> Files for LockedFiles<'_, '_, R, T, G> {
+    ghost use Rattle.clearmake.specs.Outside.{Follows};
+    ghost use Rattle.clearmake.specs.ReadingLaws.{follows_itself, follows_on};
+
+    ghost stands = { λ f. sees (state_of f.start) f.tag.lane f.unit };
+
+    ghost broken = { λ f. f.broken };
+
+    ghost follows = { λ paths before after. Follows before after };
+
+    fn read(&mut self, path: &Path) -> Got {
+        self.site.gate.read(self.site.tag.lane, self.target, path);
+        let Some(pass) = self.pass.take() else {
+            unreachable!()
+        };
+        let (held, desk) = self.site.lock.take(self.site.rt, pass);
+        let got = read_at(self.site, &desk, self.start, self.unit, path);
+        self.pass = Some(self.site.lock.give(held, desk));
+        if let Got::Broken = got {
+            self.broken = self.broken.saturating_add(1);
+        }
+        got
+    }
+
+    ghost reflexive = { λ paths files. follows_itself files };
+
+    ghost transitive = { λ paths one two three first second. follows_on one two three first second };
+}

@@ -1,0 +1,71 @@
+// The run of a unit's script, outside the lock.
+
+ghost use Rattle.std.specs.Prelude.{◌≡◌};
+ghost use mathlib.Core.List.{IsPrefix};
+ghost use Rattle.legal_history.specs.Stories.Steps.{state_of};
+ghost use Rattle.clearmake.specs.Calls.{IsStarted};
+ghost use Rattle.clearmake.specs.Outside.{RanSo};
+ghost use Rattle.clearmake.specs.Passes.{Builds, IsLater, Knows};
+
+use crate::desks::BuildDesk;
+use crate::locked_files::LockedFiles;
+use crate::sites::Site;
+use build_script::files::Stop;
+use build_script::outcomes::Ended;
+use build_script::run::run;
+use build_script::scripts::Script;
+use cc_names::memory::Or;
+use cc_names::paths::Path;
+use cc_outside::Gate;
+use std::snapshot::Snapshot;
+use std::sync::Wait;
+use turn_lock::Pass;
+
+/// Runs the script of a unit that was started, on what the unit sees. Each read is a turn of its own at the desk, and
+/// between the reads the lock is free. The gate is told of the run, with the unit's first target, and of each read.
+///
+/// Given up where memory runs out, and where a read finds the build over.
+pub(crate) fn run_outside<'s, R: Wait, T: BuildDesk, G: Gate>(
+    site: &'s Site<'_, R, T, G>,
+    pass: Pass<T>,
+    start: &'s Snapshot<Pass<T>>,
+    unit: u32,
+    script: &Script,
+    targets: &'s [Path],
+) -> (Pass<T>, Result<Ended, Or<Stop>>)
+    requires own { pass.lock ≡ site.now.lock.now.id }
+    requires knows { Knows site.now.begun.now.value.seen start.now.value.seen site.now.tag
+        site.now.count }
+    requires begins { IsPrefix start.now.value.seen pass.seen }
+    requires builds { Builds start.now.value.seen site.now.tag site.now.count }
+    requires started { IsStarted (state_of start.now.value.seen) site.now.tag.lane unit script.now
+        targets.now }
+    ensures pass { IsLater pass result.0 }
+    ensures ran { RanSo result.1 (state_of start.now.value.seen) site.now.tag unit result.0.seen }
+{
+    let root = Path::root();
+    let target = targets.first().unwrap_or(&root);
+    let mut files = LockedFiles {
+        site,
+        start,
+        unit,
+        target,
+        pass: Some(pass),
+        broken: 0,
+    };
+    site.gate.enter(site.tag.lane, target);
+    let ran = run(site.alloc, site.hashing, script, targets, &mut files);
+    site.gate.leave(site.tag.lane, target);
+    let LockedFiles {
+        site: _,
+        start: _,
+        unit: _,
+        target: _,
+        pass,
+        broken: _,
+    } = files;
+    match pass {
+        Some(pass) => (pass, ran),
+        None => unreachable!(),
+    }
+}

@@ -1,0 +1,11 @@
+-- The lines of the objects that a view holds.
+use Rattle.std.specs.Prelude.{ℕ, true, List, []}
+use Rattle.std.specs.Option.{option_map_or}
+use Rattle.cc_names.specs.References.{held_at}
+use Rattle.legal_history.specs.Base.Changes.{held}
+use Rattle.legal_history.specs.Base.Rows.{Base}
+use Rattle.legal_history.specs.Queries.ListingTexts.{held_line}
+
+-- the line of the object that a view holds at a path; nothing where it holds none
+abbrev pub line_at : Base → List ℕ → List ℕ → List ℕ
+line_at b v path = option_map_or (λ id. held_line (held b) v true path id) (held_at (held b) v path) []

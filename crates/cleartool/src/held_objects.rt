@@ -1,0 +1,67 @@
+// The query for the objects that a view holds.
+
+ghost use Rattle.std.specs.Prelude.{◌≡◌, ◌++◌, IfOk, OnOk};
+ghost use Rattle.legal_history.specs.Commands.Decisions.{Scene};
+ghost use Rattle.legal_history.specs.Queries.ListingTexts.{lsdo_text};
+ghost use Rattle.legal_history.specs.Queries.QueryLines.{lsdo};
+ghost use Rattle.cleartool.specs.Answering.{AnswersAs};
+ghost use Rattle.cleartool.specs.HeldObjects.{line_at};
+
+use crate::lines::push_object;
+use cc_names::memory::{NoMemory, Or};
+use cc_names::names::Name;
+use cc_names::numbers::push_number;
+use cc_names::paths::Path;
+use cc_names::refusals::Refusal;
+use cc_names::texts::Text;
+use std::alloc::Global;
+use view_lookup::{FirstRows, count_holders, held, paths_owned, view_row};
+
+/// Adds the line of the object that the view holds at a path, with the number of views that hold it; nothing where it holds none.
+fn push_held(
+    alloc: Global,
+    text: &mut Vec<u8>,
+    rows: &FirstRows<'_>,
+    view: &Name,
+    path: &Path,
+) -> Result<(), NoMemory>
+    ensures { OnOk result
+        (text.new.items ≡ text.old.items ++ line_at rows.now view.now path.now) }
+{
+    match held(rows, view, path) {
+        None => Ok(()),
+        Some(object) => {
+            let holders = count_holders(alloc, rows, object)?;
+            push_object(alloc, text, path.as_bytes(), object)?;
+            text.extend_from_slice(b" references ")?;
+            push_number(alloc, text, holders as u64)?;
+            text.push(b'\n')?;
+            Ok(())
+        }
+    }
+}
+
+/// The objects that a view holds, by their paths.
+fn lsdo_text(alloc: Global, rows: &FirstRows<'_>, view: &Name) -> Result<Text, NoMemory>
+    ensures { IfOk result (λ text. text ≡ lsdo_text rows.now view.now) }
+{
+    let paths = paths_owned(alloc, rows, view)?;
+    let mut text = Vec::new(alloc);
+    for path in &paths {
+        push_held(alloc, &mut text, rows, view, path)?;
+    }
+    Ok(Text::of(text))
+}
+
+/// The text of `lsdo V`, the objects that the view holds, each with the number of views that hold it, or its first refusal. Takes
+/// time linear in the rows by which the view ever came to have something at a path, times logarithmic in the paths, and for each
+/// object that it holds the time of `count_holders`.
+pub fn lsdo(alloc: Global, rows: &FirstRows<'_>, view: &Name) -> Result<Text, Or<Refusal>>
+    ensures { (scene : Scene) → scene.base ≡ rows.now
+        → AnswersAs result (lsdo scene view.now) }
+{
+    if view_row(rows, view).is_none() {
+        return Err(Or::Is(Refusal::NoView));
+    }
+    Ok(lsdo_text(alloc, rows, view)?)
+}

@@ -1,0 +1,186 @@
+// What a lane does in its turn: one call of the core.
+
+ghost use Rattle.std.specs.Prelude.{◌≡◌, ◌<◌, IfOk, OnErr};
+ghost use Rattle.build_script.specs.Ended.{ran_of};
+ghost use Rattle.carried_out.specs.CarriedOut.{AreCarriedOut};
+ghost use Rattle.cc_names.specs.declared.desks.Next.TheVariants as nexts;
+ghost use Rattle.base_core.specs.Calls.BuildCalls.{IsRunOfUnit, IsStarted};
+ghost use Rattle.base_core.specs.Keeping.Nexts.{next_of};
+ghost use Rattle.base_core.specs.Story.Counted.{KeepsCount};
+ghost use Rattle.legal_history.specs.Stories.States.{next_tag};
+ghost use Rattle.legal_history.specs.Stories.Steps.{state_of};
+ghost use Rattle.session_run.specs.Turns.{HasBuilt, HasUnitLeft, Moves, MovesTo, StandsAt};
+ghost use Rattle.session_run.specs.declared.turns.LaneTurn.TheVariants as lane_turns;
+
+use crate::turns::LaneTurn;
+use base_core::{Carried, Core, UnitTurn};
+use build_script::outcomes::Ended;
+use build_script::scripts::Script;
+use cc_names::desks::{Begun, Next};
+use cc_names::memory::NoMemory;
+use cc_names::paths::Path;
+use disk_model::Disk;
+use std::alloc::Global;
+
+/// Begins the build of a lane's next command; one that is active goes on at its first unit.
+fn begin<D: Disk>(alloc: Global, core: &mut Core<D>, lane: u32) -> Result<LaneTurn, NoMemory>
+    requires { next_of (state_of core.old.story) lane
+        ≡ nexts.Build (next_tag (state_of core.old.story) lane) }
+    ensures ok { IfOk result
+        (λ next. Moves core.old.story core.new.story lane lane_turns.Command next) }
+    ensures err { OnErr result (core.new ≡ core.old) }
+    ensures counted { KeepsCount core.old core.new }
+{
+    match core.begin(alloc, lane)? {
+        Begun::Units(count) => Ok(LaneTurn::Unit { unit: 0, count }),
+        Begun::Refused => Ok(LaneTurn::Command),
+    }
+}
+
+/// Takes up a lane's next command: one that builds is begun, any other carried out. Nothing where none is left.
+fn take_up<D: Disk>(
+    alloc: Global,
+    core: &mut Core<D>,
+    lane: u32,
+) -> Result<Option<LaneTurn>, NoMemory>
+    requires { AreCarriedOut (state_of core.old.story).phase }
+    ensures ok { IfOk result
+        (λ next. MovesTo core.old.story core.new.story lane lane_turns.Command next) }
+    ensures err { OnErr result (core.new ≡ core.old) }
+    ensures counted { KeepsCount core.old core.new }
+{
+    match core.next(lane) {
+        Next::Act => {
+            core.act(alloc, lane)?;
+            Ok(Some(LaneTurn::Command))
+        }
+        Next::Build(_) => Ok(Some(begin(alloc, core, lane)?)),
+        Next::Done => Ok(None),
+    }
+}
+
+/// Tries the next unit of a lane's build, where those before it have their outcomes.
+fn try_unit<D: Disk>(
+    alloc: Global,
+    core: &mut Core<D>,
+    lane: u32,
+    unit: u32,
+    count: u32,
+) -> Result<LaneTurn, NoMemory>
+    requires { HasUnitLeft (state_of core.old.story) lane unit count }
+    ensures ok { IfOk result
+        (λ next. Moves core.old.story core.new.story lane (lane_turns.Unit unit count) next) }
+    ensures err { OnErr result (core.new ≡ core.old) }
+    ensures counted { KeepsCount core.old core.new }
+{
+    match core.try_unit(alloc, lane, unit)? {
+        UnitTurn::Settled => Ok(LaneTurn::Unit {
+            unit: unit + 1,
+            count,
+        }),
+        UnitTurn::Run(script, targets) => Ok(LaneTurn::Started {
+            unit,
+            count,
+            script,
+            targets,
+        }),
+        UnitTurn::Faulted => Ok(LaneTurn::Command),
+        UnitTurn::NotReady(_) => unreachable!(),
+    }
+}
+
+/// Runs the script of a unit of a lane's build that was started.
+fn run<D: Disk>(
+    alloc: Global,
+    core: &Core<D>,
+    lane: u32,
+    unit: u32,
+    count: u32,
+    script: &Script,
+    targets: &[Path],
+) -> Result<LaneTurn, NoMemory>
+    requires stands { HasUnitLeft (state_of core.now.story) lane unit count }
+    requires started { IsStarted (state_of core.now.story) lane unit script.now targets.now }
+    ensures { IfOk result
+        (λ next.
+        Moves core.now.story core.now.story lane
+        (lane_turns.Started unit count script.now targets.now) next) }
+{
+    let ended = core.run(alloc, lane, unit, script, targets)?;
+    Ok(LaneTurn::Ran { unit, count, ended })
+}
+
+/// Finishes a unit of a lane's build whose script was run.
+fn finish<D: Disk>(
+    alloc: Global,
+    core: &mut Core<D>,
+    lane: u32,
+    unit: u32,
+    count: u32,
+    ended: Ended,
+) -> Result<LaneTurn, NoMemory>
+    requires stands { HasUnitLeft (state_of core.old.story) lane unit count }
+    requires ran { IsRunOfUnit (state_of core.old.story) lane unit (ran_of ended) }
+    ensures ok { IfOk result
+        (λ next. Moves core.old.story core.new.story lane (lane_turns.Ran unit count ended) next) }
+    ensures err { OnErr result (core.new ≡ core.old) }
+    ensures counted { KeepsCount core.old core.new }
+{
+    match core.finish_unit(alloc, lane, unit, ended)? {
+        Carried::Settled => Ok(LaneTurn::Unit {
+            unit: unit + 1,
+            count,
+        }),
+        Carried::Faulted => Ok(LaneTurn::Command),
+    }
+}
+
+/// Goes on in a lane's build at a unit that was not started, or ends it behind the last one.
+fn go_on<D: Disk>(
+    alloc: Global,
+    core: &mut Core<D>,
+    lane: u32,
+    unit: u32,
+    count: u32,
+) -> Result<LaneTurn, NoMemory>
+    requires { HasBuilt (state_of core.old.story) lane unit count }
+    ensures ok { IfOk result
+        (λ next. Moves core.old.story core.new.story lane (lane_turns.Unit unit count) next) }
+    ensures err { OnErr result (core.new ≡ core.old) }
+    ensures counted { KeepsCount core.old core.new }
+{
+    if unit < count {
+        return try_unit(alloc, core, lane, unit, count);
+    }
+    core.end(alloc, lane)?;
+    Ok(LaneTurn::Command)
+}
+
+/// Carries out what a lane's turn is, by one call of the core, and answers where the lane stands then; nowhere if no command
+/// of it is left. An `Err` changes nothing in the core.
+pub(crate) fn move_on<D: Disk>(
+    alloc: Global,
+    core: &mut Core<D>,
+    lane: u32,
+    turn: LaneTurn,
+) -> Result<Option<LaneTurn>, NoMemory>
+    requires carried_out { AreCarriedOut (state_of core.old.story).phase }
+    requires stands { StandsAt (state_of core.old.story) lane turn }
+    ensures ok { IfOk result (λ next. MovesTo core.old.story core.new.story lane turn next) }
+    ensures err { OnErr result (core.new ≡ core.old) }
+    ensures counted { KeepsCount core.old core.new }
+{
+    match turn {
+        LaneTurn::Command => take_up(alloc, core, lane),
+        LaneTurn::Unit { unit, count } => Ok(Some(go_on(alloc, core, lane, unit, count)?)),
+        LaneTurn::Started {
+            unit,
+            count,
+            script,
+            targets,
+        } => Ok(Some(run(alloc, core, lane, unit, count, &script, targets.as_slice())?)),
+        LaneTurn::Ran { unit, count, ended } => {
+            Ok(Some(finish(alloc, core, lane, unit, count, ended)?))
+        }
+    }
+}

@@ -1,0 +1,11 @@
+-- The keys of names on a branch, some after others.
+use Rattle.std.proofs.Common.{◌≡◌, ℕ, List, [], ◌∷◌, ◌++◌, map, refl, ap}
+use Rattle.std.specs.declared.random_state.RandomState.{RandomState}
+use Rattle.view_lookup.specs.Subjects.{Altered, key}
+
+abbrev pub keys_of_names : RandomState → ℕ → List (List ℕ) → List ℕ
+keys_of_names hashing branch names = map (key hashing) (map (Altered branch) names)
+
+pub names_parted : (hashing : RandomState) (branch : ℕ) (one two : List (List ℕ)) → keys_of_names hashing branch (one ++ two) ≡ keys_of_names hashing branch one ++ keys_of_names hashing branch two
+names_parted hashing branch [] two = refl
+names_parted hashing branch (name ∷ one) two = ap (λ rest. key hashing (Altered branch name) ∷ rest) (names_parted hashing branch one two)
