@@ -2,12 +2,14 @@
 """Runs each session under examples/ with the built program, each on a base of its own, and compares what it writes with the
 transcript beside it.
 
-    tools/check_examples.py CCBASE [NAME ..]
+    tools/check_examples.py [--refuse-threads] CCBASE [NAME ..]
 
 CCBASE is the built program; NAME an example without its ending, all of them where none is given. Says of each whether it is
-as told, shows the lines that differ, and ends with 1 where one does. It stands outside the gate."""
+as told, shows the lines that differ, and ends with 1 where one does. With --refuse-threads the system makes no thread for the
+program, which then runs lanes and builders one after the other, and writes the same. It stands outside the gate."""
 import difflib
 import pathlib
+import resource
 import subprocess
 import sys
 import tempfile
@@ -15,20 +17,26 @@ import tempfile
 EXAMPLES = pathlib.Path(__file__).resolve().parent.parent / "examples"
 
 
-def written(program, session):
-    """What the program writes for a session on a new base."""
+def refuse_threads():
+    """Asks for stacks of 2^47 bytes, for which no address space is left, so that no thread is made."""
+    _, most = resource.getrlimit(resource.RLIMIT_STACK)
+    resource.setrlimit(resource.RLIMIT_STACK, (2**47, most))
+
+
+def written(program, session, prepare):
+    """What the program writes for a session on a new base, where the process is prepared so."""
     with tempfile.TemporaryDirectory() as folder:
         run = subprocess.run(
             [program, str(pathlib.Path(folder) / "base"), "run"],
-            input=session.read_bytes(), stdout=subprocess.PIPE, check=False,
+            input=session.read_bytes(), stdout=subprocess.PIPE, check=False, preexec_fn=prepare,
         )
     return run.stdout.decode(errors="replace")
 
 
-def is_as_told(program, session):
+def is_as_told(program, session, prepare):
     """Whether an example gives its transcript; what differs is shown."""
     told = session.with_suffix(".transcript").read_text()
-    came = written(program, session)
+    came = written(program, session, prepare)
     if came == told:
         print(f"{session.stem}: as told")
         return True
@@ -39,13 +47,17 @@ def is_as_told(program, session):
 
 
 def main():
-    if len(sys.argv) < 2:
+    words = sys.argv[1:]
+    prepare = refuse_threads if words[:1] == ["--refuse-threads"] else None
+    if prepare:
+        words = words[1:]
+    if not words:
         sys.exit(__doc__)
-    program, names = str(pathlib.Path(sys.argv[1]).resolve()), sys.argv[2:]
+    program, names = str(pathlib.Path(words[0]).resolve()), words[1:]
     sessions = [s for s in sorted(EXAMPLES.glob("*.txt")) if not names or s.stem in names]
     if not sessions:
         sys.exit("no example of that name")
-    differing = [s.stem for s in sessions if not is_as_told(program, s)]
+    differing = [s.stem for s in sessions if not is_as_told(program, s, prepare)]
     print(f"{len(sessions) - len(differing)} of {len(sessions)} as told")
     sys.exit(1 if differing else 0)
 

@@ -3,10 +3,10 @@
 
 Usage: gate_times.py [RT'S WORDS], at the top of the repository. Without words it runs `rt ci --anew`.
 
-It looks once a second at the provers that run below it, and adds up their processor time: the proof of each crate, the proof of
-its tests, and its must-fail edits, which are the runs that are not in the crate's own folder. A prover that lives for less than
-a second may be missed, so the sums are a little low. The gate's own output goes to gate_times.log; the last line of it, the wall
-time and the table go to standard output, as rows of a table in Markdown.
+It looks once a second at the provers that run below it, and adds up their processor time: the proof of each crate, a program's
+builds counted in; the proof of its tests; and its must-fail edits with the proof of the crate over which they are tried. A prover
+that lives for less than a second may be missed, so the sums are a little low. The gate's own output goes to gate_times.log; the
+last line of it, the wall time and the table go to standard output, the table in Markdown.
 """
 import collections
 import os
@@ -20,7 +20,7 @@ KINDS = ["proof", "tests", "edits"]
 
 
 def children_of():
-    """The processes by their parent."""
+    """The processes by their parent: each by its number and when it began, since numbers come again, with its processor time."""
     found = collections.defaultdict(list)
     for entry in os.scandir("/proc"):
         if entry.name.isdigit():
@@ -29,7 +29,8 @@ def children_of():
             except OSError:
                 continue
             fields = stat.rpartition(")")[2].split()
-            found[int(fields[1])].append((int(entry.name), (int(fields[11]) + int(fields[12])) / TICK))
+            process = int(entry.name), int(fields[19])
+            found[int(fields[1])].append((process, (int(fields[11]) + int(fields[12])) / TICK))
     return found
 
 
@@ -37,9 +38,9 @@ def below(root):
     """Each process below one, with its processor time."""
     found, left = children_of(), [root]
     while left:
-        for pid, seconds in found.get(left.pop(), []):
-            left.append(pid)
-            yield pid, seconds
+        for process, seconds in found.get(left.pop(), []):
+            left.append(process[0])
+            yield process, seconds
 
 
 def told_of(pid):
@@ -52,7 +53,7 @@ def told_of(pid):
     if "--crate-name" not in words or not words[0].endswith("/rattle"):
         return None
     crate = words[words.index("--crate-name") + 1]
-    if "edit" in folder or "must-fail" in folder:
+    if os.path.basename(folder).startswith("rt-edit"):
         return crate, "edits"
     return crate, "tests" if "--test" in words else "proof"
 
@@ -64,28 +65,36 @@ def measured(command):
     with open("gate_times.log", "w", encoding="utf-8") as log:
         gate = subprocess.Popen(command, stdout=log, stderr=subprocess.STDOUT)
         while gate.poll() is None:
-            for pid, seconds in below(gate.pid):
-                if pid not in names:
-                    names[pid] = told_of(pid)
-                if names[pid]:
-                    seen[pid] = seconds
+            for process, seconds in below(gate.pid):
+                # A prover has the words of the program that begins it at first, so what is none yet is asked again.
+                if not names.get(process):
+                    names[process] = told_of(process[0])
+                if names[process]:
+                    seen[process] = seconds
             time.sleep(1)
     wall = time.time() - start
     sums = collections.defaultdict(lambda: dict.fromkeys(KINDS, 0.0))
-    for pid, seconds in seen.items():
-        crate, kind = names[pid]
+    for process, seconds in seen.items():
+        crate, kind = names[process]
         sums[crate][kind] += seconds
     last = pathlib.Path("gate_times.log").read_text(encoding="utf-8", errors="replace").strip().splitlines()[-1:]
     return (last or [""])[0], gate.returncode, wall, sums
 
 
+def line(name, row):
+    """A row of the table."""
+    return f"| {name} | " + " | ".join(f"{row[kind]:.0f}" for kind in KINDS) + " |"
+
+
 def main():
     last, status, wall, sums = measured(["rt"] + (sys.argv[1:] or ["ci", "--anew"]))
+    whole = {kind: sum(row[kind] for row in sums.values()) for kind in KINDS}
     print(last)
-    print(f"{wall / 60:.0f} minutes, {sum(sum(row.values()) for row in sums.values()) / 60:.0f} processor minutes of provers\n")
+    print(f"{wall:.0f} s, {sum(whole.values()) / 60:.0f} processor minutes of provers, {os.cpu_count()} processors\n")
     print("| crate | proof | tests | edits |\n|---|---|---|---|")
     for crate, row in sorted(sums.items(), key=lambda item: -sum(item[1].values())):
-        print(f"| {crate} | " + " | ".join(f"{row[kind]:.0f}" for kind in KINDS) + " |")
+        print(line(crate, row))
+    print(line("all", whole))
     sys.exit(status)
 
 

@@ -24,8 +24,9 @@ where none is given) give the same session; only `commands` and `changes` draw.
     records   100000    so many live objects of one target, each of another script, and ten builds that wink in the oldest ones
     again     1         so many builds of the view `v` with nothing to do, on the base that `views` or `entries` left
 
-So `commands` has ten files for each hundred commands, 10,000 in 1,000 directories at its full size. What a build with nothing
-to do costs is the time of `again 2` less that of `again 1`; the rest of `again 1` is the opening of the base."""
+So `commands` has ten files for each hundred commands, 10,000 in 1,000 directories at its full size. A further build
+with nothing to do costs the time of `again 2` less that of `again 1`; `again 1` less that is the opening of the base, and what
+the first build of a run looks up besides."""
 import sys
 
 
@@ -110,7 +111,7 @@ def targets(count):
 
 
 def of_views(size, _seed):
-    """Seven views: the first builds a target from each of so many files, and then the others, whose lanes take turns, wink these in."""
+    """Seven views: the first builds a target from each of so many files, and then the others, whose lanes run at once, wink these in."""
     commands, paths = files(size)
     rules = [line for name, path in zip(targets(size), paths) for line in (f"{name}: {path}", f"\tcat {path} > {name}")]
     commands += a_makefile(["all: " + " ".join(targets(size))] + rules)

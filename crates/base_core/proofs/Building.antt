@@ -1,6 +1,7 @@
 -- Builds: what comes next for a unit, and what is kept after each step.
 pub mod BrokenBuilds
 pub mod BuildBegins
+pub mod BuilderCalls
 pub mod Closing
 pub mod EndSteps
 pub mod FoundBuilds

@@ -2,4 +2,3 @@
 pub mod Acting
 pub mod BuildCalls
 pub mod Building
-pub mod Going

@@ -1,4 +1,3 @@
 -- What a core keeps at every moment.
 pub mod Kept
 pub mod Lanes
-pub mod Nexts

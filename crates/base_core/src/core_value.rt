@@ -1,6 +1,7 @@
 // A base with its story, kept on a disk: what a core is, and how it opens, begins phases and is taken apart.
 
 mod acting;
+mod builders;
 mod building;
 mod looks;
 mod unit_rows;

@@ -3,6 +3,7 @@ mod ChosenObjects
 mod Early
 mod Members
 mod NeededUnits
+mod ReleasedUnits
 mod ReusedObjects
 pub mod RunsEach
 pub mod RunsEnded

@@ -13,8 +13,7 @@ use Rattle.legal_history.specs.Builds.Active.{Build, unit_at}
 use Rattle.legal_history.specs.Builds.Choices.{here, text_of_row, visible}
 use Rattle.legal_history.specs.Builds.Fresh.{script_text}
 use Rattle.build_core.specs.SightLaws.{texts_seen}
-use Rattle.build_core.specs.Sights.{stands}
-use Rattle.build_core.specs.UnitSights.{standing_at}
+use Rattle.clearmake.specs.Sights.{stands, standing_at}
 
 each_holds : (P : List ℕ → Type 0) → ((path : List ℕ) → P path) → (paths : List (List ℕ)) → AllByRecursion P paths
 each_holds P holds [] = tt

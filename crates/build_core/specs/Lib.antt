@@ -2,12 +2,12 @@ pub mod BuildForms
 pub mod Comes
 pub mod Plans
 pub mod Publishing
+pub mod Releasing
 pub mod Reusing
 pub mod RunLaws
 pub mod SightLaws
 pub mod Sights
 pub mod SlotLaws
 pub mod Slots
-pub mod UnitSights
 pub mod UnitSteps
 pub mod Kept

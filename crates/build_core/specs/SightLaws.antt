@@ -6,7 +6,7 @@ use Rattle.legal_history.specs.Base.Rows.{Base}
 use Rattle.legal_history.specs.Builds.Active.{Build}
 use Rattle.legal_history.specs.Builds.Choices.{visible, text_of_row}
 use Rattle.legal_history.specs.Base.Texts.{text}
-use Rattle.build_core.specs.Sights.{standing_of, stands}
+use Rattle.clearmake.specs.Sights.{standing_of, stands}
 
 with_row : (row : ℕ) (found : Option (List ℕ)) → option_map text_of (option_map (λ bytes. let standing : Standing = record { row = row; text = bytes } in standing) found) ≡ found
 with_row row None = refl

@@ -1,31 +1,11 @@
--- What the script of a unit finds at a path.
-use Rattle.std.specs.Prelude.{◌≡◌, ℕ, Bool, Option, Some, None, option_map, option_and_then, List}
-use Rattle.cc_names.specs.declared.units.Unit as units
-use Rattle.build_script.specs.Standings.{Standing}
-use Rattle.build_script.specs.declared.files.Got.{Got}
-use Rattle.build_script.specs.declared.files.Got.TheVariants as gots
+-- The objects that the script of a unit sees.
+use Rattle.std.specs.Prelude.{◌≡◌, ℕ, Bool, Option, option_and_then, List}
 use Rattle.make_graph.specs.Waits.{closure_of, is_in, is_marked}
-use Rattle.legal_history.specs.Base.Rows.{Base, only_where}
+use Rattle.legal_history.specs.Base.Rows.{only_where}
 use Rattle.legal_history.specs.Builds.Active.{Build, came_to, object_of, unit_with}
-use Rattle.legal_history.specs.Builds.Choices.{members_before, object_among, unit_of_member, visible}
+use Rattle.legal_history.specs.Builds.Choices.{members_before, object_among, unit_of_member}
 use Rattle.legal_history.specs.Builds.Consistency.{InOrder}
 use Rattle.legal_history.specs.Builds.Serials.{needed}
-use Rattle.legal_history.specs.Base.Texts.{text}
-
--- a row with its text, where it has one at the path
-abbrev pub standing_of : Base → List ℕ → ℕ → Option Standing
-standing_of b path row = option_map (λ bytes. record { row = row; text = bytes }) (text b row path)
-
--- the row that unit n of a build sees at a path, with its text
-abbrev pub stands : Base → Build → ℕ → units.Unit → List ℕ → Option Standing
-stands b build n unit path = option_and_then (standing_of b path) (visible b build n unit path)
-
--- an answer is what stands there, or memory ran out
-abbrev pub IsFetched : Got → Option Standing → Type 0
-IsFetched (gots.Found row text) standing = standing ≡ Some (record { row = row; text = text })
-IsFetched gots.Absent standing = standing ≡ None
-IsFetched gots.Broken standing = ⊥
-IsFetched gots.NoMemory standing = Unit {0}
 
 -- the object at a path of the units below a number that make one of these paths, and of those that these need in turn
 abbrev pub object_before : Build → List (List ℕ) → ℕ → List ℕ → Option ℕ

@@ -5,6 +5,7 @@ ghost use Rattle.legal_history.specs.Builds.Active.{came_to, is_outcome, object_
 ghost use Rattle.legal_history.specs.Stories.Steps.{with_came};
 ghost use Rattle.legal_history.specs.Builds.Consistency.{InOrder};
 ghost use Rattle.build_core.specs.Comes.{came_of, comes_of};
+ghost use Rattle.make_graph.specs.Waits.{dependants_of};
 ghost use Rattle.build_core.specs.Sights.{AreNeeds};
 
 use cc_names::memory::NoMemory;
@@ -171,6 +172,14 @@ impl ActiveBuild {
         ensures { IfOk result (λ closure. AreNeeds self.now unit closure) }
     {
         self.graph.closure(alloc, unit)
+    }
+
+    /// The units one of whose prerequisites a unit makes, by their numbers, in order and each once, in constant time.
+    pub(crate) fn dependants(&self, unit: u32) -> &[u32]
+        requires { unit < length self.now.units }
+        ensures { result.now ≡ dependants_of self.now.units unit }
+    {
+        self.graph.dependants(unit)
     }
 
     /// What the unit at an index has come to.

@@ -38,7 +38,7 @@ struct UnitFiles<'a> {
 }
 
 impl Files for UnitFiles<'_> {
-    ghost use Rattle.build_core.specs.UnitSights.{standing_at};
+    ghost use Rattle.clearmake.specs.Sights.{standing_at};
 
     ghost stands = { λ files. standing_at files.rows.now files.build.now files.unit };
 

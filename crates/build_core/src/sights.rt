@@ -1,13 +1,14 @@
 // What the script of a unit sees.
 
-ghost use Rattle.std.specs.Prelude.{◌≡◌, Some, option_and_then, option_copied, IsSome};
+ghost use Rattle.std.specs.Prelude.{◌≡◌, ◌<◌, Some, length, option_and_then, option_copied, IsSome};
 ghost use Rattle.cc_names.specs.declared.units.Unit as units;
 ghost use Rattle.legal_history.specs.Base.Rows.{first_rows};
 ghost use Rattle.legal_history.specs.Base.Seen.{file_at};
 ghost use Rattle.legal_history.specs.Builds.Active.{unit_at};
 ghost use Rattle.legal_history.specs.Builds.Choices.{visible};
 ghost use Rattle.legal_history.specs.Base.Views.{view_row};
-ghost use Rattle.build_core.specs.Sights.{object_marked, standing_of, stands, AreNeeds, IsFetched};
+ghost use Rattle.clearmake.specs.Sights.{IsFetched, standing_at, standing_of, stands};
+ghost use Rattle.build_core.specs.Sights.{object_marked, AreNeeds};
 
 use crate::active::ActiveBuild;
 use build_script::files::Got;
@@ -98,5 +99,23 @@ pub(crate) fn fetch(
     match visible(rows, build, unit, closure, path) {
         Some(row) => found(alloc, rows, row, path),
         None => Got::Absent,
+    }
+}
+
+/// What a unit finds at a path, as `fetch` answers it, or want of memory. Takes what `needs` takes, and the time of `fetch`.
+pub fn fetch_for_unit(
+    alloc: Global,
+    rows: &FirstRows<'_>,
+    build: &ActiveBuild,
+    unit: u32,
+    path: &Path,
+) -> Got
+    requires unit { unit < length build.now.units }
+    requires view { IsSome (view_row (first_rows build.now.rows rows.now) build.now.view) }
+    ensures { IsFetched result (standing_at rows.now build.now unit path.now) }
+{
+    match build.needs(alloc, unit) {
+        Ok(closure) => fetch(alloc, rows, build, unit, &closure, path),
+        Err(NoMemory) => Got::NoMemory,
     }
 }

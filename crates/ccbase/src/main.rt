@@ -3,9 +3,9 @@
 // What it is for: `ccbase FILE run` reads a session from standard input, runs it on the base that the files FILE and FILE.objects
 // keep, and writes its replies to standard output.
 //
-// What it promises: it adds nothing to `session_run::run_words` but the streams of the process, its clock, its two files, the
-// two words `--help` and `--version`, and lines on standard error: what of FILE is no base, and why a session was not carried
-// out.
+// What it promises: it adds nothing to `session_run::run_words` but the streams of the process, its clock, its threads, its two
+// files, the two words `--help` and `--version`, and lines on standard error: what of FILE is no base, and why a session was not
+// carried out. The gate round scripts is open.
 //
 // What it stands on: `session_run`, `disk_model` and `vob_journal` for the files, `cc_outside` for the streams and the clock, and
 // `cc_names` for words.
@@ -16,12 +16,14 @@ mod looking;
 use crate::looking::LookingDisk;
 use cc_names::memory::NoMemory;
 use cc_names::texts::Text;
-use cc_outside::{StdSink, StdSource, SystemClock, write_whole};
+use cc_outside::{OpenGate, StdSink, StdSource, SystemClock, write_whole};
 use disk_model::FileDisk;
 use session_run::{Status, run_words};
 use std::alloc::Global;
 use std::hash::RandomState;
 use std::process::ExitCode;
+use std::sync::Wait;
+use std::thread::Threads;
 use std::{env, io};
 
 const VERSION: &str = "ccbase 0.1.0\n";
@@ -107,11 +109,16 @@ fn tell_cause(
     }
 }
 
-/// Runs what the words ask for, and answers the status. Words of no form name no FILE, and then nothing is opened.
-fn run(rt: HostRuntime, words: &[String]) -> Result<Status, NoMemory> {
+/// Runs what the words ask for, with threads by this handle, and answers the status. Words of no form name no FILE, and then
+/// nothing is opened.
+fn run<R: Threads + Wait + Sync>(
+    threads: &R,
+    rt: &HostRuntime,
+    words: &[String],
+) -> Result<Status, NoMemory> {
     let alloc = rt.alloc();
     let texts = texts_of(alloc, words)?;
-    let Ok(hashing) = RandomState::new(&rt) else {
+    let Ok(hashing) = RandomState::new(rt) else {
         let _ = eprintln!(rt; "ccbase: the system gives no random numbers");
         return Ok(Status::NoMemory);
     };
@@ -120,18 +127,20 @@ fn run(rt: HostRuntime, words: &[String]) -> Result<Status, NoMemory> {
         return Err(NoMemory);
     };
     let mut source = StdSource::new(rt.reader());
-    let mut sink = StdSink::new(io::writer(&rt));
+    let mut sink = StdSink::new(io::writer(rt));
     let mut clock = SystemClock::new(rt.clone()?);
     let ended = run_words(
+        threads,
         alloc,
         hashing,
+        &OpenGate,
         texts.as_slice(),
         &mut source,
         &mut sink,
         disk,
         &mut clock,
     );
-    let _ = tell_cause(&rt, ended.status, file, &ended.disk.disk);
+    let _ = tell_cause(rt, ended.status, file, &ended.disk.disk);
     Ok(ended.status)
 }
 
@@ -143,7 +152,7 @@ fn main(rt: HostRuntime) -> io::Result<ExitCode> {
     };
     let status = match answer_to(words.as_slice()) {
         Some(answer) => write_answer(&rt, answer),
-        None => run(rt, words.as_slice()).unwrap_or(Status::NoMemory),
+        None => run(&rt, &rt, words.as_slice()).unwrap_or(Status::NoMemory),
     };
     Ok(ExitCode::from(status.code()))
 }

@@ -26,7 +26,8 @@ pub next_stays : (old new : State) (lane : ℕ) → new.number ≡ old.number �
 next_stays old new lane number phase done =
     λ i. let tag : Tag = record { phase = number i; lane = lane; command = done i + 1 } in next_by (option_and_then (command_behind (done i)) (lane_at (phase i) lane)) tag
 
-none_by : (o : Option Command) (tag : Tag) → next_by o tag ≡ nexts.Done → o ≡ None
+-- a lane that has nothing left to do has no command left
+pub none_by : (o : Option Command) (tag : Tag) → next_by o tag ≡ nexts.Done → o ≡ None
 none_by None tag e = refl
 none_by (Some command) tag e = by_command command e
   where

@@ -16,16 +16,16 @@ use Rattle.clearmake.specs.declared.sweeps.Swept.TheVariants as swept
 abbrev pub IsSwept : Swept → List Told → Tag → ℕ → Type 0
 IsSwept swept.Over story tag count = IsPast (state_of story) tag
 IsSwept swept.Complete story tag count = AreDone story tag count count
-IsSwept swept.Short story tag count = Unit {0}
+IsSwept swept.OutOfMemory story tag count = Unit {0}
 
 -- what a desk's answer says of a build that was to begin
 abbrev pub opened_of : Result Begun NoMemory → Opened
 opened_of (Ok (begins.Units count)) = opened.Units count
 opened_of (Ok begins.Refused) = opened.Over
-opened_of (Err error) = opened.Short
+opened_of (Err error) = opened.OutOfMemory
 
 -- a build was to begin: in this story the command is past, or it builds so many units, or memory ran out
 abbrev pub IsOpened : Opened → List Told → Tag → Type 0
 IsOpened opened.Over story tag = IsPast (state_of story) tag
 IsOpened (opened.Units count) story tag = Builds story tag count
-IsOpened opened.Short story tag = Unit {0}
+IsOpened opened.OutOfMemory story tag = Unit {0}

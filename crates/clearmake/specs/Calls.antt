@@ -100,9 +100,11 @@ needs build n unit = list_any (λ path. unwrap_or (option_map (λ m. m == n) (un
 -- whether a unit waits for unit n no more, and for no other: it has no outcome, and each unit that it needs has one
 abbrev pub is_released : Build → ℕ → ℕ → Bool
 is_released build n m =
-    not (is_outcome (came_to build m)) && unwrap_or (option_map (λ unit. needs build n unit && is_ready build unit) (unit_at build m)) false
+    not (is_outcome (came_to build m))
+    && unwrap_or (option_map (λ unit. needs build n unit && is_ready build unit) (unit_at build m)) false
 
 -- the units that unit n of a lane's build has released, in their order
 abbrev pub released : State → ℕ → ℕ → List ℕ
 released s lane n =
-    unwrap_or (option_map (λ build. filter (is_released build n) (range_with_len 0 (length build.units))) (build_of s.active lane)) []
+    unwrap_or
+    (option_map (λ build. filter (is_released build n) (range_with_len 0 (length build.units))) (build_of s.active lane)) []

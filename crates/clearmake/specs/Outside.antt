@@ -17,8 +17,8 @@ use Rattle.turn_lock.specs.Sight.{LockId, Sight}
 use Rattle.clearmake.specs.Calls.{IsRunOfUnit, WasStarted}
 use Rattle.clearmake.specs.Passes.{Builds, IsLater, IsPast, Knows}
 
--- files that are read through a lock: the pass, the story that it had seen as the run began, the build's command and its number of
--- units, the unit that is run, and how many reads found the build over
+-- files that are read through a lock: the pass, the story that it had seen as the run began, the build's command and its number
+-- of units, the unit that is run, and how many reads found the build over
 pub record Reading : Type 0 where
   pub pass : Sight Told
   pub start : List Told
@@ -58,8 +58,8 @@ IsRead gots.Absent standing story tag = standing ≡ None
 IsRead gots.Broken standing story tag = IsPast (state_of story) tag
 IsRead gots.NoMemory standing story tag = Unit {0}
 
--- What came of a run outside the lock: it is the run of the unit in the state as it began; or it was given up, for want of memory or
--- since the build's command is past in this story.
+-- What came of a run outside the lock: it is the run of the unit in the state as it began; or it was given up, for want of memory
+-- or since the build's command is past in this story.
 abbrev pub RanSo : Result Ended (Or Stop) → State → Tag → ℕ → List Told → Type 0
 RanSo (Ok ended) start tag n story = IsRunOfUnit start tag.lane n (ran_of ended)
 RanSo (Err NoMemory) start tag n story = Unit {0}

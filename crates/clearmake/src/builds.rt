@@ -1,7 +1,7 @@
 // A build, from its begin to its end.
 
 ghost use Rattle.std.specs.Prelude.{◌≡◌, ◌≤◌};
-ghost use Rattle.std.specs.Bool.{OnTrue, OnFalse};
+ghost use Rattle.std.specs.Bool.{OnTrue};
 ghost use mathlib.Core.List.{IsPrefix};
 ghost use Rattle.cc_names.specs.declared.desks.Next.TheVariants as nexts;
 ghost use Rattle.legal_history.specs.Stories.Steps.{state_of};
@@ -10,8 +10,8 @@ ghost use Rattle.clearmake.specs.Nexts.{next_of};
 ghost use Rattle.clearmake.specs.Passes.{AreDone, IsLater, IsPast, Knows};
 
 use crate::builders::build_units;
+use crate::contexts::{BuildContext, is_next};
 use crate::desks::BuildDesk;
-use crate::sites::{Site, is_next};
 use crate::sweeps::{Swept, sweep};
 use cc_names::desks::Begun;
 use cc_names::memory::NoMemory;
@@ -24,11 +24,11 @@ use std::sync::Wait;
 use std::thread::Threads;
 use turn_lock::{Pass, Storied, TurnLock};
 
-/// What a build came to: a later pass of the lock, and whether memory ran out.
+/// What a build came to: a later pass of the lock, and whether its command is finished. Else memory ran out.
 #[derive(Drop)]
 pub struct Built<T: Storied> {
     pub pass: Pass<T>,
-    pub short: bool,
+    pub done: bool,
 }
 
 /// What became of the begin of a build.
@@ -38,7 +38,7 @@ pub(crate) enum Opened {
     /// The build is active and has this many units.
     Units(u32),
     /// Memory ran out.
-    Short,
+    OutOfMemory,
 }
 
 /// What a desk's answer says of a build that was to begin.
@@ -48,7 +48,7 @@ fn opened_of(begun: Result<Begun, NoMemory>) -> Opened
     match begun {
         Ok(Begun::Units(count)) => Opened::Units(count),
         Ok(Begun::Refused) => Opened::Over,
-        Err(NoMemory) => Opened::Short,
+        Err(NoMemory) => Opened::OutOfMemory,
     }
 }
 
@@ -87,72 +87,69 @@ fn begin_once<R: Wait, T: BuildDesk>(
 
 /// Ends a build whose units all had their outcomes, in a turn at the desk. False where memory ran out.
 fn end_at<R, T: BuildDesk, G>(
-    site: &Site<'_, R, T, G>,
+    context: &BuildContext<'_, R, T, G>,
     desk: &mut T,
     seen: &Snapshot<Pass<T>>,
 ) -> bool
-    requires knows { Knows site.now.begun.now.value.seen (T.story desk.old) site.now.tag
-        site.now.count }
+    requires knows { Knows context.now.begun.now.value.seen (T.story desk.old) context.now.tag
+        context.now.count }
     requires begins { IsPrefix seen.now.value.seen (T.story desk.old) }
-    requires done { AreDone seen.now.value.seen site.now.tag site.now.count site.now.count }
+    requires done { AreDone seen.now.value.seen context.now.tag context.now.count context.now.count }
     ensures begins { IsPrefix (T.story desk.old) (T.story desk.new) }
-    ensures ended { OnTrue result (IsPast (state_of (T.story desk.new)) site.now.tag) }
+    ensures ended { OnTrue result (IsPast (state_of (T.story desk.new)) context.now.tag) }
 {
-    if !site.goes_on(desk) {
+    if !context.goes_on(desk) {
         return true;
     }
-    desk.end(site.alloc, site.tag.lane).is_ok()
+    desk.end(context.alloc, context.tag.lane).is_ok()
 }
 
 /// Takes a turn to end a build whose units all have their outcomes. False where memory ran out.
 #[tactic(auto, using(crate::proofs::Steps::taken_grown))]
 fn end_once<R: Wait, T: BuildDesk, G: Gate>(
-    site: &Site<'_, R, T, G>,
+    context: &BuildContext<'_, R, T, G>,
     pass: Pass<T>,
 ) -> (Pass<T>, bool)
-    requires own { pass.lock ≡ site.now.lock.now.id }
-    requires knows { Knows site.now.begun.now.value.seen pass.seen site.now.tag site.now.count }
-    requires done { AreDone pass.seen site.now.tag site.now.count site.now.count }
+    requires own { pass.lock ≡ context.now.lock.now.id }
+    requires knows { Knows context.now.begun.now.value.seen pass.seen context.now.tag context.now.count }
+    requires done { AreDone pass.seen context.now.tag context.now.count context.now.count }
     ensures pass { IsLater pass result.0 }
-    ensures ended { OnTrue result.1 (IsPast (state_of result.0.seen) site.now.tag) }
+    ensures ended { OnTrue result.1 (IsPast (state_of result.0.seen) context.now.tag) }
 {
     let seen = Snapshot::of(&pass);
-    let (held, mut desk) = site.lock.take(site.rt, pass);
-    let ended = end_at(site, &mut desk, &seen);
-    (site.lock.give(held, desk), ended)
+    let (held, mut desk) = context.lock.take(context.rt, pass);
+    let ended = end_at(context, &mut desk, &seen);
+    (context.lock.give(held, desk), ended)
 }
 
 /// Carries out a build that is active: by builders, and what they leave one unit after the other.
 fn build_begun<R: Threads + Wait + Sync, T: BuildDesk + Send, G: Gate + Sync>(
-    site: &Site<'_, R, T, G>,
+    context: &BuildContext<'_, R, T, G>,
     pass: Pass<T>,
     jobs: u32,
 ) -> Built<T>
-    requires own { pass.lock ≡ site.now.lock.now.id }
-    requires knows { Knows site.now.begun.now.value.seen pass.seen site.now.tag site.now.count }
+    requires own { pass.lock ≡ context.now.lock.now.id }
+    requires knows { Knows context.now.begun.now.value.seen pass.seen context.now.tag context.now.count }
     requires jobs { jobs ≤ pass.weight }
     ensures pass { IsLater pass result.pass }
-    ensures built { OnFalse result.short (IsPast (state_of result.pass.seen) site.now.tag) }
+    ensures built { OnTrue result.done (IsPast (state_of result.pass.seen) context.now.tag) }
 {
-    let pass = build_units(site, pass, jobs);
-    let (pass, swept) = sweep(site, pass);
+    let pass = build_units(context, pass, jobs);
+    let (pass, swept) = sweep(context, pass);
     match swept {
-        Swept::Over => Built { pass, short: false },
-        Swept::Short => Built { pass, short: true },
+        Swept::Over => Built { pass, done: true },
+        Swept::OutOfMemory => Built { pass, done: false },
         Swept::Complete => {
-            let (pass, ended) = end_once(site, pass);
-            Built {
-                pass,
-                short: !ended,
-            }
+            let (pass, ended) = end_once(context, pass);
+            Built { pass, done: ended }
         }
     }
 }
 
-/// Carries out a command that builds: its units are run by so many builders at once, each in a thread of its own, and each
-/// step of theirs is a turn at the desk of the lock. The pass that comes back has seen a story that begins with what the
+/// Carries out a command that builds: its units are run by so many builders at once, in threads of their own, and each step of
+/// theirs is a turn at the desk of the lock. The pass that comes back has seen a story that begins with what the
 /// given pass had seen; unless memory ran out, the command is finished in it: the build was refused, it ended, or the disk
-/// failed under it. A build that memory ran out on is active still, and this call goes on with it.
+/// failed under it. Where memory runs out, a build that had begun stays active, and a later call goes on with it.
 ///
 /// The gate is asked outside the lock, before and after each run of a script and before each of its reads. Names are found
 /// by the hashing.
@@ -170,15 +167,15 @@ pub fn build<R: Threads + Wait + Sync, T: BuildDesk + Send, G: Gate + Sync>(
     requires next { next_of (state_of pass.seen) tag.lane ≡ nexts.Build tag }
     requires jobs { (1 ≤ jobs) × (jobs ≤ pass.weight) }
     ensures pass { IsLater pass result.pass }
-    ensures built { OnFalse result.short (IsPast (state_of result.pass.seen) tag) }
+    ensures built { OnTrue result.done (IsPast (state_of result.pass.seen) tag) }
 {
     let (pass, opened) = begin_once(rt, alloc, lock, pass, tag);
     match opened {
-        Opened::Over => Built { pass, short: false },
-        Opened::Short => Built { pass, short: true },
+        Opened::Over => Built { pass, done: true },
+        Opened::OutOfMemory => Built { pass, done: false },
         Opened::Units(count) => {
             let begun = Snapshot::of(&pass);
-            let site = Site {
+            let context = BuildContext {
                 rt,
                 alloc,
                 hashing,
@@ -188,7 +185,7 @@ pub fn build<R: Threads + Wait + Sync, T: BuildDesk + Send, G: Gate + Sync>(
                 tag,
                 count,
             };
-            build_begun(&site, pass, jobs)
+            build_begun(&context, pass, jobs)
         }
     }
 }

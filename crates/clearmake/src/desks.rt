@@ -106,10 +106,3 @@ pub trait PhaseDesk: BuildDesk {
     fn in_phase(&self)
         ensures { (state_of (Self.story self.now)).number ≡ number };
 }
-
-/// A type that fixes the number of a phase. Where it is a parameter, a call may pick it.
-pub trait Numbered {
-    ghost use Rattle.std.specs.Prelude.{ℕ};
-
-    ghost at: { ℕ };
-}

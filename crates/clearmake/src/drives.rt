@@ -8,9 +8,9 @@ ghost use Rattle.clearmake.specs.Calls.{IsRunOfUnit, IsStarted};
 ghost use Rattle.clearmake.specs.Driving.{IsDriven, IsTried, driven_of, tried_of};
 ghost use Rattle.clearmake.specs.Passes.{Builds, IsLater, Knows};
 
+use crate::contexts::BuildContext;
 use crate::desks::BuildDesk;
 use crate::runs::run_outside;
-use crate::sites::Site;
 use crate::turns::{Carried, UnitTurn};
 use build_script::files::Stop;
 use build_script::outcomes::Ended;
@@ -35,7 +35,7 @@ pub(crate) enum Tried {
     /// Its script was started: the script, and the targets that a run is to write.
     Run(Script, List<Path>),
     /// Memory ran out.
-    Short,
+    OutOfMemory,
 }
 
 /// What became of a unit that was driven.
@@ -48,7 +48,7 @@ pub(crate) enum Driven {
     /// It waits for this earlier unit.
     NotReady(u32),
     /// Memory ran out.
-    Short,
+    OutOfMemory,
 }
 
 /// What a desk's answer says of a unit that was tried.
@@ -60,7 +60,7 @@ fn tried_of(turn: Result<UnitTurn, NoMemory>) -> Tried
         Ok(UnitTurn::NotReady(earlier)) => Tried::NotReady(earlier),
         Ok(UnitTurn::Run(script, targets)) => Tried::Run(script, targets),
         Ok(UnitTurn::Faulted) => Tried::Over,
-        Err(NoMemory) => Tried::Short,
+        Err(NoMemory) => Tried::OutOfMemory,
     }
 }
 
@@ -71,136 +71,146 @@ fn driven_of(carried: Result<Carried, NoMemory>) -> Driven
     match carried {
         Ok(Carried::Settled) => Driven::Settled,
         Ok(Carried::Faulted) => Driven::Over,
-        Err(NoMemory) => Driven::Short,
+        Err(NoMemory) => Driven::OutOfMemory,
     }
 }
 
 /// Tries a unit, in a turn at the desk.
-fn try_at<R, T: BuildDesk, G>(site: &Site<'_, R, T, G>, desk: &mut T, unit: u32) -> Tried
-    requires knows { Knows site.now.begun.now.value.seen (T.story desk.old) site.now.tag
-        site.now.count }
-    requires unit { unit < site.now.count }
+pub(crate) fn try_at<R, T: BuildDesk, G>(
+    context: &BuildContext<'_, R, T, G>,
+    desk: &mut T,
+    unit: u32,
+) -> Tried
+    requires knows { Knows context.now.begun.now.value.seen (T.story desk.old) context.now.tag
+        context.now.count }
+    requires unit { unit < context.now.count }
     ensures begins { IsPrefix (T.story desk.old) (T.story desk.new) }
-    ensures tried { IsTried result (T.story desk.new) site.now.tag site.now.count unit }
+    ensures tried { IsTried result (T.story desk.new) context.now.tag context.now.count unit }
 {
-    if !site.goes_on(desk) {
+    if !context.goes_on(desk) {
         return Tried::Over;
     }
-    let tried = tried_of(desk.try_unit(site.alloc, site.tag.lane, unit));
+    let tried = tried_of(desk.try_unit(context.alloc, context.tag.lane, unit));
     desk.legal();
     tried
 }
 
 /// Finishes a unit whose script was run, in a turn at the desk.
 fn finish_at<R, T: BuildDesk, G>(
-    site: &Site<'_, R, T, G>,
+    context: &BuildContext<'_, R, T, G>,
     desk: &mut T,
     start: &Snapshot<Pass<T>>,
     unit: u32,
     ended: Ended,
 ) -> Driven
-    requires knows { Knows site.now.begun.now.value.seen start.now.value.seen site.now.tag
-        site.now.count }
+    requires knows { Knows context.now.begun.now.value.seen start.now.value.seen context.now.tag
+        context.now.count }
     requires begins { IsPrefix start.now.value.seen (T.story desk.old) }
-    requires builds { Builds start.now.value.seen site.now.tag site.now.count }
-    requires ran { IsRunOfUnit (state_of start.now.value.seen) site.now.tag.lane unit
+    requires builds { Builds start.now.value.seen context.now.tag context.now.count }
+    requires ran { IsRunOfUnit (state_of start.now.value.seen) context.now.tag.lane unit
         (ran_of ended) }
     ensures begins { IsPrefix (T.story desk.old) (T.story desk.new) }
-    ensures driven { IsDriven result (T.story desk.new) site.now.tag site.now.count unit }
+    ensures driven { IsDriven result (T.story desk.new) context.now.tag context.now.count unit }
 {
-    if !site.goes_on(desk) {
+    if !context.goes_on(desk) {
         return Driven::Over;
     }
-    let driven = driven_of(desk.finish_unit(site.alloc, site.tag.lane, unit, ended));
+    let driven = driven_of(desk.finish_unit(context.alloc, context.tag.lane, unit, ended));
     desk.legal();
     driven
 }
 
 /// Takes a turn to try a unit.
 #[tactic(auto, using(crate::proofs::Steps::taken_grown))]
-pub(crate) fn try_once<R: Wait, T: BuildDesk, G: Gate>(
-    site: &Site<'_, R, T, G>,
+fn try_once<R: Wait, T: BuildDesk, G: Gate>(
+    context: &BuildContext<'_, R, T, G>,
     pass: Pass<T>,
     unit: u32,
 ) -> (Pass<T>, Tried)
-    requires own { pass.lock ≡ site.now.lock.now.id }
-    requires knows { Knows site.now.begun.now.value.seen pass.seen site.now.tag site.now.count }
-    requires unit { unit < site.now.count }
+    requires own { pass.lock ≡ context.now.lock.now.id }
+    requires knows { Knows context.now.begun.now.value.seen pass.seen context.now.tag context.now.count }
+    requires unit { unit < context.now.count }
     ensures pass { IsLater pass result.0 }
-    ensures tried { IsTried result.1 result.0.seen site.now.tag site.now.count unit }
+    ensures tried { IsTried result.1 result.0.seen context.now.tag context.now.count unit }
 {
-    let (held, mut desk) = site.lock.take(site.rt, pass);
-    let tried = try_at(site, &mut desk, unit);
-    (site.lock.give(held, desk), tried)
+    let (held, mut desk) = context.lock.take(context.rt, pass);
+    let tried = try_at(context, &mut desk, unit);
+    (context.lock.give(held, desk), tried)
 }
 
 /// Takes a turn to finish a unit.
 #[tactic(auto, using(crate::proofs::Steps::taken_grown))]
 fn finish_once<R: Wait, T: BuildDesk, G: Gate>(
-    site: &Site<'_, R, T, G>,
+    context: &BuildContext<'_, R, T, G>,
     pass: Pass<T>,
     start: &Snapshot<Pass<T>>,
     unit: u32,
     ended: Ended,
 ) -> (Pass<T>, Driven)
-    requires own { pass.lock ≡ site.now.lock.now.id }
-    requires knows { Knows site.now.begun.now.value.seen start.now.value.seen site.now.tag
-        site.now.count }
+    requires own { pass.lock ≡ context.now.lock.now.id }
+    requires knows { Knows context.now.begun.now.value.seen start.now.value.seen context.now.tag
+        context.now.count }
     requires begins { IsPrefix start.now.value.seen pass.seen }
-    requires builds { Builds start.now.value.seen site.now.tag site.now.count }
-    requires ran { IsRunOfUnit (state_of start.now.value.seen) site.now.tag.lane unit
+    requires builds { Builds start.now.value.seen context.now.tag context.now.count }
+    requires ran { IsRunOfUnit (state_of start.now.value.seen) context.now.tag.lane unit
         (ran_of ended) }
     ensures pass { IsLater pass result.0 }
-    ensures driven { IsDriven result.1 result.0.seen site.now.tag site.now.count unit }
+    ensures driven { IsDriven result.1 result.0.seen context.now.tag context.now.count unit }
 {
-    let (held, mut desk) = site.lock.take(site.rt, pass);
-    let driven = finish_at(site, &mut desk, start, unit, ended);
-    (site.lock.give(held, desk), driven)
+    let (held, mut desk) = context.lock.take(context.rt, pass);
+    let driven = finish_at(context, &mut desk, start, unit, ended);
+    (context.lock.give(held, desk), driven)
 }
 
 /// Runs the script of a unit that was started, outside the lock, and finishes the unit.
 pub(crate) fn run_started<R: Wait, T: BuildDesk, G: Gate>(
-    site: &Site<'_, R, T, G>,
+    context: &BuildContext<'_, R, T, G>,
     pass: Pass<T>,
     unit: u32,
     script: &Script,
     targets: &[Path],
 ) -> (Pass<T>, Driven)
-    requires own { pass.lock ≡ site.now.lock.now.id }
-    requires knows { Knows site.now.begun.now.value.seen pass.seen site.now.tag site.now.count }
-    requires builds { Builds pass.seen site.now.tag site.now.count }
-    requires started { IsStarted (state_of pass.seen) site.now.tag.lane unit script.now
+    requires own { pass.lock ≡ context.now.lock.now.id }
+    requires knows { Knows context.now.begun.now.value.seen pass.seen context.now.tag context.now.count }
+    requires builds { Builds pass.seen context.now.tag context.now.count }
+    requires started { IsStarted (state_of pass.seen) context.now.tag.lane unit script.now
         targets.now }
     ensures pass { IsLater pass result.0 }
-    ensures driven { IsDriven result.1 result.0.seen site.now.tag site.now.count unit }
+    ensures driven { IsDriven result.1 result.0.seen context.now.tag context.now.count unit }
 {
     let start = Snapshot::of(&pass);
-    let (pass, ran) = run_outside(&*site, pass, &start, unit, script, &*targets);
+    let (pass, ran) = run_outside(&*context, pass, &start, unit, script, &*targets);
     match ran {
-        Ok(ended) => finish_once(site, pass, &start, unit, ended),
+        Ok(ended) => finish_once(context, pass, &start, unit, ended),
         Err(Or::Is(Stop::Broken)) => (pass, Driven::Over),
-        Err(Or::NoMemory) => (pass, Driven::Short),
+        Err(Or::NoMemory) => (pass, Driven::OutOfMemory),
     }
 }
 
 /// Drives a unit as far as it goes by itself.
 pub(crate) fn drive<R: Wait, T: BuildDesk, G: Gate>(
-    site: &Site<'_, R, T, G>,
+    context: &BuildContext<'_, R, T, G>,
     pass: Pass<T>,
     unit: u32,
 ) -> (Pass<T>, Driven)
-    requires own { pass.lock ≡ site.now.lock.now.id }
-    requires knows { Knows site.now.begun.now.value.seen pass.seen site.now.tag site.now.count }
-    requires unit { unit < site.now.count }
+    requires own { pass.lock ≡ context.now.lock.now.id }
+    requires knows { Knows context.now.begun.now.value.seen pass.seen context.now.tag context.now.count }
+    requires unit { unit < context.now.count }
     ensures pass { IsLater pass result.0 }
-    ensures driven { IsDriven result.1 result.0.seen site.now.tag site.now.count unit }
+    ensures driven { IsDriven result.1 result.0.seen context.now.tag context.now.count unit }
 {
-    let (pass, tried) = try_once(site, pass, unit);
+    let (pass, tried) = try_once(context, pass, unit);
     match tried {
-        Tried::Run(script, targets) => run_started(site, pass, unit, &script, targets.as_slice()),
+        Tried::Run(script, targets) => run_started(
+            context,
+            pass,
+            unit,
+            &script,
+            targets.as_slice(),
+        ),
         Tried::Over => (pass, Driven::Over),
         Tried::Settled => (pass, Driven::Settled),
         Tried::NotReady(earlier) => (pass, Driven::NotReady(earlier)),
-        Tried::Short => (pass, Driven::Short),
+        Tried::OutOfMemory => (pass, Driven::OutOfMemory),
     }
 }

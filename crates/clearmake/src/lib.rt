@@ -13,22 +13,21 @@
 // `cc_outside` for the gate, `cc_names` for plain data, and `crossbeam_deque`.
 #![tactic(auto)]
 
-mod boards;
 mod builders;
 mod builds;
+mod contexts;
 mod desks;
 mod drives;
-mod floors;
 mod lanes;
 mod locked_files;
 mod phases;
 mod runs;
-mod sites;
 mod sweeps;
+mod task_queues;
 mod tasks;
 mod turns;
 
 pub use builds::{Built, build};
-pub use desks::{BuildDesk, Numbered, PhaseDesk};
+pub use desks::{BuildDesk, PhaseDesk};
 pub use phases::run_phase;
 pub use turns::{Carried, UnitTurn};

@@ -9,8 +9,8 @@ ghost use Rattle.clearmake.specs.Outside.{IsRead};
 ghost use Rattle.clearmake.specs.Passes.{Builds, Knows};
 ghost use Rattle.clearmake.specs.Sights.{sees};
 
+use crate::contexts::BuildContext;
 use crate::desks::BuildDesk;
-use crate::sites::Site;
 use build_script::files::{Files, Got};
 use cc_names::paths::Path;
 use cc_outside::Gate;
@@ -22,7 +22,7 @@ use turn_lock::Pass;
 /// The files that a unit's script sees, each read in a turn of its own at the desk. Other threads take turns between the
 /// reads; what the unit sees is the same at each.
 pub(crate) struct LockedFiles<'s, 'a, R: Wait, T: BuildDesk, G: Gate> {
-    pub(crate) site: &'s Site<'a, R, T, G>,
+    pub(crate) context: &'s BuildContext<'a, R, T, G>,
     pub(crate) start: &'s Snapshot<Pass<T>>,
     pub(crate) unit: u32,
     pub(crate) target: &'s Path,
@@ -37,21 +37,21 @@ impl<'s, 'a, R: Wait, T: BuildDesk, G: Gate> Model for LockedFiles<'s, 'a, R, T,
 
     ghost view = { λ f.
         record {
-          pass = sight_or f.site.now.lock.now.id f.pass;
+          pass = sight_or f.context.now.lock.now.id f.pass;
           start = f.start.now.value.seen;
-          tag = f.site.now.tag;
-          count = f.site.now.count;
+          tag = f.context.now.tag;
+          count = f.context.now.count;
           unit = f.unit;
           broken = f.broken;
         } };
 
     ghost invariant = { λ f.
-        IsReading f.site.now.lock.now.id f.site.now.begun.now.value.seen f.pass
+        IsReading f.context.now.lock.now.id f.context.now.begun.now.value.seen f.pass
         (record {
-          pass = sight_or f.site.now.lock.now.id f.pass;
+          pass = sight_or f.context.now.lock.now.id f.pass;
           start = f.start.now.value.seen;
-          tag = f.site.now.tag;
-          count = f.site.now.count;
+          tag = f.context.now.tag;
+          count = f.context.now.count;
           unit = f.unit;
           broken = f.broken;
         }) };
@@ -60,26 +60,26 @@ impl<'s, 'a, R: Wait, T: BuildDesk, G: Gate> Model for LockedFiles<'s, 'a, R, T,
 /// What a unit that was started finds at a path, in a turn at the desk. Broken where the build is over.
 #[tactic(auto, using(crate::proofs::Rereads::reads_same, crate::proofs::Rereads::started_now, crate::proofs::Rereads::knows_on))]
 fn read_at<R: Wait, T: BuildDesk, G: Gate>(
-    site: &Site<'_, R, T, G>,
+    context: &BuildContext<'_, R, T, G>,
     desk: &T,
     start: &Snapshot<Pass<T>>,
     unit: u32,
     path: &Path,
 ) -> Got
-    requires knows { Knows site.now.begun.now.value.seen start.now.value.seen site.now.tag
-        site.now.count }
+    requires knows { Knows context.now.begun.now.value.seen start.now.value.seen context.now.tag
+        context.now.count }
     requires begins { IsPrefix start.now.value.seen (T.story desk.now) }
-    requires builds { Builds start.now.value.seen site.now.tag site.now.count }
-    requires started { WasStarted (state_of start.now.value.seen) site.now.tag.lane unit }
+    requires builds { Builds start.now.value.seen context.now.tag context.now.count }
+    requires started { WasStarted (state_of start.now.value.seen) context.now.tag.lane unit }
     ensures legal { Legal (T.story desk.now) }
     ensures read { IsRead result
-        (sees (state_of start.now.value.seen) site.now.tag.lane unit path.now) (T.story desk.now)
-        site.now.tag }
+        (sees (state_of start.now.value.seen) context.now.tag.lane unit path.now) (T.story desk.now)
+        context.now.tag }
 {
-    if !site.goes_on(desk) {
+    if !context.goes_on(desk) {
         return Got::Broken;
     }
-    desk.fetch(site.alloc, site.tag.lane, unit, path)
+    desk.fetch(context.alloc, context.tag.lane, unit, path)
 }
 
 impl<R: Wait, T: BuildDesk, G: Gate> Files for LockedFiles<'_, '_, R, T, G> {
@@ -93,13 +93,15 @@ impl<R: Wait, T: BuildDesk, G: Gate> Files for LockedFiles<'_, '_, R, T, G> {
     ghost follows = { λ paths before after. Follows before after };
 
     fn read(&mut self, path: &Path) -> Got {
-        self.site.gate.read(self.site.tag.lane, self.target, path);
+        self.context
+            .gate
+            .read(self.context.tag.lane, self.target, path);
         let Some(pass) = self.pass.take() else {
             unreachable!()
         };
-        let (held, desk) = self.site.lock.take(self.site.rt, pass);
-        let got = read_at(self.site, &desk, self.start, self.unit, path);
-        self.pass = Some(self.site.lock.give(held, desk));
+        let (held, desk) = self.context.lock.take(self.context.rt, pass);
+        let got = read_at(self.context, &desk, self.start, self.unit, path);
+        self.pass = Some(self.context.lock.give(held, desk));
         if let Got::Broken = got {
             self.broken = self.broken.saturating_add(1);
         }

@@ -7,9 +7,9 @@ ghost use Rattle.clearmake.specs.Calls.{IsStarted};
 ghost use Rattle.clearmake.specs.Outside.{RanSo};
 ghost use Rattle.clearmake.specs.Passes.{Builds, IsLater, Knows};
 
+use crate::contexts::BuildContext;
 use crate::desks::BuildDesk;
 use crate::locked_files::LockedFiles;
-use crate::sites::Site;
 use build_script::files::Stop;
 use build_script::outcomes::Ended;
 use build_script::run::run;
@@ -26,38 +26,38 @@ use turn_lock::Pass;
 ///
 /// Given up where memory runs out, and where a read finds the build over.
 pub(crate) fn run_outside<'s, R: Wait, T: BuildDesk, G: Gate>(
-    site: &'s Site<'_, R, T, G>,
+    context: &'s BuildContext<'_, R, T, G>,
     pass: Pass<T>,
     start: &'s Snapshot<Pass<T>>,
     unit: u32,
     script: &Script,
     targets: &'s [Path],
 ) -> (Pass<T>, Result<Ended, Or<Stop>>)
-    requires own { pass.lock ≡ site.now.lock.now.id }
-    requires knows { Knows site.now.begun.now.value.seen start.now.value.seen site.now.tag
-        site.now.count }
+    requires own { pass.lock ≡ context.now.lock.now.id }
+    requires knows { Knows context.now.begun.now.value.seen start.now.value.seen context.now.tag
+        context.now.count }
     requires begins { IsPrefix start.now.value.seen pass.seen }
-    requires builds { Builds start.now.value.seen site.now.tag site.now.count }
-    requires started { IsStarted (state_of start.now.value.seen) site.now.tag.lane unit script.now
+    requires builds { Builds start.now.value.seen context.now.tag context.now.count }
+    requires started { IsStarted (state_of start.now.value.seen) context.now.tag.lane unit script.now
         targets.now }
     ensures pass { IsLater pass result.0 }
-    ensures ran { RanSo result.1 (state_of start.now.value.seen) site.now.tag unit result.0.seen }
+    ensures ran { RanSo result.1 (state_of start.now.value.seen) context.now.tag unit result.0.seen }
 {
     let root = Path::root();
     let target = targets.first().unwrap_or(&root);
     let mut files = LockedFiles {
-        site,
+        context,
         start,
         unit,
         target,
         pass: Some(pass),
         broken: 0,
     };
-    site.gate.enter(site.tag.lane, target);
-    let ran = run(site.alloc, site.hashing, script, targets, &mut files);
-    site.gate.leave(site.tag.lane, target);
+    context.gate.enter(context.tag.lane, target);
+    let ran = run(context.alloc, context.hashing, script, targets, &mut files);
+    context.gate.leave(context.tag.lane, target);
     let LockedFiles {
-        site: _,
+        context: _,
         start: _,
         unit: _,
         target: _,

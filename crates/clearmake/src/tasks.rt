@@ -1,12 +1,14 @@
 // The tasks of a builder: a unit is driven, and those that it releases become tasks.
 
-ghost use Rattle.std.specs.Prelude.{◌≡◌, ◌<◌};
+ghost use Rattle.std.specs.Prelude.{◌≡◌, ◌<◌, IfSome};
+ghost use mathlib.Core.List.{IsPrefix};
+ghost use Rattle.clearmake.specs.Driving.{IsTried};
 ghost use Rattle.clearmake.specs.Passes.{IsLater, Knows};
 
-use crate::boards::Board;
+use crate::contexts::BuildContext;
 use crate::desks::BuildDesk;
-use crate::drives::{Driven, Tried, run_started, try_once};
-use crate::sites::Site;
+use crate::drives::{Driven, Tried, run_started, try_at};
+use crate::task_queues::TaskQueues;
 use cc_outside::Gate;
 use crossbeam_deque::Worker;
 use std::sync::Wait;
@@ -14,111 +16,152 @@ use turn_lock::Pass;
 
 /// The units that a unit has released, in a turn at the desk.
 fn released_at<R, T: BuildDesk, G>(
-    site: &Site<'_, R, T, G>,
+    context: &BuildContext<'_, R, T, G>,
     desk: &T,
     unit: u32,
 ) -> Option<Vec<u32>>
-    requires knows { Knows site.now.begun.now.value.seen (T.story desk.now) site.now.tag
-        site.now.count }
-    requires unit { unit < site.now.count }
+    requires knows { Knows context.now.begun.now.value.seen (T.story desk.now) context.now.tag
+        context.now.count }
+    requires unit { unit < context.now.count }
 {
-    if !site.goes_on(desk) {
+    if !context.goes_on(desk) {
         return None;
     }
-    desk.released(site.alloc, site.tag.lane, unit).ok()
+    desk.released(context.alloc, context.tag.lane, unit).ok()
 }
 
 /// Takes a turn to ask for the units that a unit has released.
 #[tactic(auto, using(crate::proofs::Steps::same_begins))]
 fn released_once<R: Wait, T: BuildDesk, G: Gate>(
-    site: &Site<'_, R, T, G>,
+    context: &BuildContext<'_, R, T, G>,
     pass: Pass<T>,
     unit: u32,
 ) -> (Pass<T>, Option<Vec<u32>>)
-    requires own { pass.lock ≡ site.now.lock.now.id }
-    requires knows { Knows site.now.begun.now.value.seen pass.seen site.now.tag site.now.count }
-    requires unit { unit < site.now.count }
+    requires own { pass.lock ≡ context.now.lock.now.id }
+    requires knows { Knows context.now.begun.now.value.seen pass.seen context.now.tag context.now.count }
+    requires unit { unit < context.now.count }
     ensures { IsLater pass result.0 }
 {
-    let (held, desk) = site.lock.take(site.rt, pass);
-    let released = released_at(site, &desk, unit);
-    (site.lock.give(held, desk), released)
+    let (held, desk) = context.lock.take(context.rt, pass);
+    let released = released_at(context, &desk, unit);
+    (context.lock.give(held, desk), released)
 }
 
 /// Lays tasks into a builder's deque.
-fn push_all(board: &Board, worker: &mut Worker<u32>, units: &[u32]) {
+fn push_all(queues: &TaskQueues, worker: &mut Worker<u32>, units: &[u32]) {
     for unit in units {
-        board.push(worker, *unit);
+        queues.push(worker, *unit);
     }
 }
 
 /// Lays the units that a unit has released into a builder's deque.
 fn push_released<R: Wait, T: BuildDesk, G: Gate>(
-    site: &Site<'_, R, T, G>,
-    board: &Board,
+    context: &BuildContext<'_, R, T, G>,
+    queues: &TaskQueues,
     worker: &mut Worker<u32>,
     pass: Pass<T>,
     unit: u32,
 ) -> Pass<T>
-    requires own { pass.lock ≡ site.now.lock.now.id }
-    requires knows { Knows site.now.begun.now.value.seen pass.seen site.now.tag site.now.count }
-    requires unit { unit < site.now.count }
+    requires own { pass.lock ≡ context.now.lock.now.id }
+    requires knows { Knows context.now.begun.now.value.seen pass.seen context.now.tag context.now.count }
+    requires unit { unit < context.now.count }
     ensures { IsLater pass result }
 {
-    let (pass, released) = released_once(site, pass, unit);
+    let (pass, released) = released_once(context, pass, unit);
     if let Some(units) = released {
-        push_all(board, worker, units.as_slice());
+        push_all(queues, worker, units.as_slice());
     }
     pass
 }
 
-/// Drives a unit, unless another builder runs its script, and says whether the unit has its outcome.
+/// Tries a unit that nobody has claimed, in a turn at the desk. Whoever finds it settled, or starts its script, claims it.
+fn try_unclaimed_at<R, T: BuildDesk, G>(
+    context: &BuildContext<'_, R, T, G>,
+    queues: &TaskQueues,
+    desk: &mut T,
+    unit: u32,
+) -> Option<Tried>
+    requires knows { Knows context.now.begun.now.value.seen (T.story desk.old) context.now.tag
+        context.now.count }
+    requires unit { unit < context.now.count }
+    ensures begins { IsPrefix (T.story desk.old) (T.story desk.new) }
+    ensures tried { IfSome result
+        (λ tried. IsTried tried (T.story desk.new) context.now.tag context.now.count unit) }
+{
+    if queues.is_claimed(unit) {
+        return None;
+    }
+    let tried = try_at(context, desk, unit);
+    if matches!(tried, Tried::Settled | Tried::Run(_, _)) {
+        queues.claim(unit);
+    }
+    Some(tried)
+}
+
+/// Takes a turn to try a unit that nobody has claimed.
+#[tactic(auto, using(crate::proofs::Steps::taken_grown))]
+fn try_unclaimed<R: Wait, T: BuildDesk, G: Gate>(
+    context: &BuildContext<'_, R, T, G>,
+    queues: &TaskQueues,
+    pass: Pass<T>,
+    unit: u32,
+) -> (Pass<T>, Option<Tried>)
+    requires own { pass.lock ≡ context.now.lock.now.id }
+    requires knows { Knows context.now.begun.now.value.seen pass.seen context.now.tag context.now.count }
+    requires unit { unit < context.now.count }
+    ensures pass { IsLater pass result.0 }
+    ensures tried { IfSome result.1
+        (λ tried. IsTried tried result.0.seen context.now.tag context.now.count unit) }
+{
+    let (held, mut desk) = context.lock.take(context.rt, pass);
+    let tried = try_unclaimed_at(context, queues, &mut desk, unit);
+    (context.lock.give(held, desk), tried)
+}
+
+/// Drives a unit that nobody has claimed. True where this builder saw it settled first, and has what it releases done.
 fn take_up<R: Wait, T: BuildDesk, G: Gate>(
-    site: &Site<'_, R, T, G>,
-    board: &Board,
+    context: &BuildContext<'_, R, T, G>,
+    queues: &TaskQueues,
     pass: Pass<T>,
     unit: u32,
 ) -> (Pass<T>, bool)
-    requires own { pass.lock ≡ site.now.lock.now.id }
-    requires knows { Knows site.now.begun.now.value.seen pass.seen site.now.tag site.now.count }
-    requires unit { unit < site.now.count }
+    requires own { pass.lock ≡ context.now.lock.now.id }
+    requires knows { Knows context.now.begun.now.value.seen pass.seen context.now.tag context.now.count }
+    requires unit { unit < context.now.count }
     ensures { IsLater pass result.0 }
 {
-    let (pass, tried) = try_once(site, pass, unit);
+    let (pass, tried) = try_unclaimed(context, queues, pass, unit);
     match tried {
-        Tried::Settled => (pass, true),
-        Tried::Run(script, targets) => {
-            if !board.claim(unit) {
-                return (pass, false);
-            }
-            let (pass, driven) = run_started(site, pass, unit, &script, targets.as_slice());
+        Some(Tried::Settled) => (pass, true),
+        Some(Tried::Run(script, targets)) => {
+            let (pass, driven) = run_started(context, pass, unit, &script, targets.as_slice());
             match driven {
                 Driven::Settled => (pass, true),
-                Driven::Over | Driven::NotReady(_) | Driven::Short => (pass, false),
+                Driven::Over | Driven::NotReady(_) | Driven::OutOfMemory => (pass, false),
             }
         }
-        Tried::Over | Tried::NotReady(_) | Tried::Short => (pass, false),
+        Some(Tried::Over | Tried::NotReady(_) | Tried::OutOfMemory) | None => (pass, false),
     }
 }
 
 /// Does a task: its unit is driven, and those that it releases become tasks.
 pub(crate) fn do_task<R: Wait, T: BuildDesk, G: Gate>(
-    site: &Site<'_, R, T, G>,
-    board: &Board,
+    context: &BuildContext<'_, R, T, G>,
+    queues: &TaskQueues,
     worker: &mut Worker<u32>,
     pass: Pass<T>,
     unit: u32,
 ) -> Pass<T>
-    requires own { pass.lock ≡ site.now.lock.now.id }
-    requires knows { Knows site.now.begun.now.value.seen pass.seen site.now.tag site.now.count }
+    requires own { pass.lock ≡ context.now.lock.now.id }
+    requires knows { Knows context.now.begun.now.value.seen pass.seen context.now.tag context.now.count }
     ensures { IsLater pass result }
 {
-    if unit >= site.count {
+    if unit >= context.count || queues.is_claimed(unit) {
         return pass;
     }
-    let (pass, settled) = take_up(site, board, pass, unit);
+    let (pass, settled) = take_up(context, queues, pass, unit);
     if settled {
-        push_released(site, board, worker, pass, unit)
+        push_released(context, queues, worker, pass, unit)
     } else {
         pass
     }

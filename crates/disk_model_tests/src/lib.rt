@@ -4,7 +4,7 @@
 //
 // What it promises: nothing; it is only run.
 //
-// What it stands on: `disk_model` for disks, and `cc_names` for counts.
+// What it stands on: `disk_model` for disks and their counts.
 #![tactic(auto)]
 
 #[cfg(test)]

@@ -12,20 +12,27 @@
 
 use cc_names::memory::NoMemory;
 use cc_names::texts::Text;
-use cc_outside::{MemorySource, StdSink, SystemClock};
+use cc_outside::{MemorySource, OpenGate, StdSink, SystemClock};
 use disk_model::FileDisk;
 use session_run::{Status, run_words};
 use std::hash::RandomState;
 use std::io;
 use std::process::ExitCode;
+use std::sync::Wait;
+use std::thread::Threads;
 
 const FIRST: &str =
     "phase\nlane a\nmkview v\nsave v Makefile\n|out: in\n|\tcat in > out\nsave v in\n|hi\nclearmake v out\n";
 
 const SECOND: &str = "phase\nlane a\nmkview v\nclearmake v out\n";
 
-/// Runs a session on the files `f` and `f.objects` of the folder that the program runs in, and prints its transcript.
-fn run_session(rt: &HostRuntime, text: &str) -> Result<Status, NoMemory> {
+/// Runs a session, with threads by this handle, on the files `f` and `f.objects` of the folder that the program runs in, and
+/// prints its transcript.
+fn run_session<R: Threads + Wait + Sync>(
+    threads: &R,
+    rt: &HostRuntime,
+    text: &str,
+) -> Result<Status, NoMemory> {
     let alloc = rt.alloc();
     let mut words = Vec::new(alloc);
     words.push(Text::from_bytes(alloc, b"f")?)?;
@@ -40,8 +47,10 @@ fn run_session(rt: &HostRuntime, text: &str) -> Result<Status, NoMemory> {
         return Err(NoMemory);
     };
     let ended = run_words(
+        threads,
         alloc,
         hashing,
+        &OpenGate,
         words.as_slice(),
         &mut source,
         &mut sink,
@@ -53,7 +62,7 @@ fn run_session(rt: &HostRuntime, text: &str) -> Result<Status, NoMemory> {
 
 fn main(rt: HostRuntime) -> ExitCode {
     for text in [FIRST, SECOND] {
-        let status = run_session(&rt, text).unwrap_or(Status::NoMemory);
+        let status = run_session(&rt, &rt, text).unwrap_or(Status::NoMemory);
         if !matches!(status, Status::Good | Status::SomeFailed) {
             return ExitCode::from(status.code());
         }

@@ -5,8 +5,8 @@ use Rattle.cc_names.specs.declared.units.Unit.{Unit}
 use Rattle.build_script.specs.Ended.{ran_of}
 use Rattle.build_script.specs.declared.lines.Line.{Line}
 use Rattle.build_script.specs.declared.outcomes.Ended.{Ended}
-use Rattle.base_core.specs.Calls.BuildCalls.{IsBuilding, IsOver, IsRunOfUnit, IsStarted, Settled, WaitsFor}
-use Rattle.base_core.specs.Calls.Going.{GoesOn, HasOutcome}
+use Rattle.clearmake.specs.Calls.{IsBuilding, IsOver, IsRunOfUnit, IsStarted, Settled, WaitsFor}
+use Rattle.clearmake.specs.Going.{GoesOn, HasOutcome}
 use Rattle.base_core.proofs.Building.Goings.{goes_nowhere as stays}
 use Rattle.base_core.proofs.Keeping.Idle.{some_same}
 use Rattle.legal_history.specs.Builds.Active.{Build, build_of, came_to, is_outcome}
@@ -65,7 +65,7 @@ built_over s lane n count h past =
 pub waits_for_none : (s : State) (lane n count m : ℕ) → HasUnitLeft s lane n count → WaitsFor s lane n m → false ≡ true
 waits_for_none s lane n count m h w =
     let is : h.built.build ≡ w.build = some_same h.built.build w.build (sym h.built.active ∙ w.active) in
-    sym w.awaits.waits ∙ ap (λ b. is_outcome (came_to b m)) (sym is) ∙ h.built.earlier m w.earlier
+    sym w.waits ∙ ap (λ b. is_outcome (came_to b m)) (sym is) ∙ h.built.earlier m w.earlier
 
 -- where a lane stands once its build has begun
 pub begun_moves : (old new : List Told) (lane count : ℕ) → GoesOn old new lane → IsBuilding (state_of new) lane count → Moves old new lane lane_turns.Command (lane_turns.Unit 0 count)

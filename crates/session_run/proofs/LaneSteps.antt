@@ -18,8 +18,8 @@ use Rattle.base_core.specs.Calls.Acting.{Acts, IsStepOf}
 use Rattle.checkout_desk.specs.Commands.{builds}
 use Rattle.carried_out.specs.CarriedOut.{is_carried_out, AreCarriedOut}
 use Rattle.legal_history.specs.Queries.QueryLines.{is_query}
-use Rattle.base_core.specs.Calls.Going.{SamePhase, Finishes}
-use Rattle.base_core.specs.Keeping.Nexts.{next_of, next_by, waiting}
+use Rattle.clearmake.specs.Going.{SamePhase, Finishes}
+use Rattle.clearmake.specs.Nexts.{next_of, next_by, waiting}
 use Rattle.legal_history.specs.Base.Rows.{only_where}
 use Rattle.legal_history.specs.Commands.Decisions.{Scene, Decision, Makes, Answers, Begins}
 use Rattle.legal_history.specs.Commands.Lines.{decision}

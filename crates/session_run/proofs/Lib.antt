@@ -7,6 +7,7 @@ mod Files
 pub mod FromNothing
 pub mod HandedOn
 pub mod LaneSteps
+mod LanesDone
 pub mod MoreSteps
 pub mod Objects
 pub mod PhaseSteps
@@ -15,6 +16,7 @@ pub mod Ready
 pub mod Reused
 pub mod RoundSteps
 pub mod Running
+mod SinceSteps
 pub mod Stopping
 pub mod StopStatuses
 pub mod TurnSteps

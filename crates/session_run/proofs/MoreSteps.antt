@@ -7,7 +7,7 @@ use Rattle.cc_names.specs.declared.steps.Told.{Told}
 use Rattle.cc_names.specs.declared.steps.Told.TheVariants as told
 use Rattle.legal_history.specs.Stories.States.{State, start}
 use Rattle.legal_history.specs.Stories.Steps.{after, after_step, state_from, state_of}
-use Rattle.base_core.specs.Calls.Going.{SamePhase}
+use Rattle.clearmake.specs.Going.{SamePhase}
 use Rattle.base_core.specs.Story.Replying.{no_replies, replies_after}
 use Rattle.session_run.specs.Begun.{phases_begun, moments_begun, first_step, is_opened}
 use Rattle.session_run.specs.Rendered.{Replies, closed_by, closed_over, earlier_phases, replies_over}

@@ -48,6 +48,14 @@ lanes_go_further old now new so_far by_round = record {
   finished = λ k low high. absurd (omega arith);
 }
 
+-- a story that went on within its phase, and then by its lanes
+pub lanes_go_since : (old now new : List Told) → Goes old now → GoesInLanes 0 now new → GoesInLanes 0 old new
+lanes_go_since old now new goes by_lanes = record {
+  goes = goes_further old now new goes by_lanes.goes;
+  within = by_lanes.within;
+  finished = λ k low high. absurd (omega arith);
+}
+
 ends_opened : (story : List Told) (x : Told) → is_opened (story ++ x ∷ []) ≡ true
 ends_opened [] x = refl
 ends_opened (y ∷ story) x = refl

@@ -7,8 +7,8 @@ use Rattle.carried_out.specs.CarriedOut.{AreCarriedOut}
 use Rattle.build_script.specs.Ended.{ran_of}
 use Rattle.build_script.specs.Run.{Ran}
 use Rattle.build_script.specs.declared.lines.Line.{Line}
-use Rattle.base_core.specs.Calls.BuildCalls.{IsRunOfUnit, IsStarted}
-use Rattle.base_core.specs.Calls.Going.{SamePhase}
+use Rattle.clearmake.specs.Calls.{IsRunOfUnit, IsStarted}
+use Rattle.clearmake.specs.Going.{SamePhase}
 use Rattle.legal_history.specs.Builds.Active.{Build, build_of, is_outcome}
 use Rattle.legal_history.specs.Laws.LaterLaws.{LaneIsWithinItsCommands, StartedUnitSeesTheSameLaterRun, StoryGoesLater}
 use Rattle.legal_history.specs.Stories.Growth.{StillBuilds}

@@ -14,7 +14,7 @@ use Rattle.cc_names.specs.declared.commands.Phase.{Phase}
 use Rattle.carried_out.specs.CarriedOut.{is_carried_out, IsLaneCarriedOut, AreCarriedOut}
 use Rattle.legal_history.specs.Stories.Lanes.{IsFinished, IsWithin, count_of}
 use Rattle.legal_history.specs.Stories.States.{State, done_of, with_done, lane_at, command_behind, lanes_done, all_done}
-use Rattle.base_core.specs.Keeping.Nexts.{waiting}
+use Rattle.clearmake.specs.Nexts.{waiting}
 
 pub done_same : (done : List (ℕ × ℕ)) (lane : ℕ) → done_of (with_done done lane) lane ≡ done_of done lane + 1
 done_same done lane =

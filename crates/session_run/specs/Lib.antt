@@ -12,6 +12,7 @@ pub mod Outcomes
 pub mod Rendered
 pub mod Reused
 pub mod Runs
+pub mod Since
 pub mod Statuses
 pub mod Stopped
 pub mod Stops

@@ -4,9 +4,9 @@ use Rattle.carried_out.specs.CarriedOut.{AreCarriedOut}
 use Rattle.cc_names.specs.declared.memory.NoMemory.{NoMemory}
 use Rattle.cc_names.specs.declared.steps.Told.{Told}
 use Rattle.build_script.specs.Ended.{ran_of}
-use Rattle.base_core.specs.Calls.BuildCalls.{IsRunOfUnit, IsStarted}
-use Rattle.base_core.specs.Calls.Going.{Finishes, GoesOn}
-use Rattle.base_core.specs.Keeping.Nexts.{waiting}
+use Rattle.clearmake.specs.Calls.{IsRunOfUnit, IsStarted}
+use Rattle.clearmake.specs.Going.{Finishes, GoesOn}
+use Rattle.clearmake.specs.Nexts.{waiting}
 use Rattle.legal_history.specs.Builds.Active.{Build, build_of, came_to, is_outcome}
 use Rattle.legal_history.specs.Stories.Lanes.{IsFinished, IsWithin, count_of}
 use Rattle.legal_history.specs.Stories.States.{State, done_of, lane_at}

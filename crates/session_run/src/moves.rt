@@ -4,8 +4,8 @@ ghost use Rattle.std.specs.Prelude.{◌≡◌, ◌<◌, IfOk, OnErr};
 ghost use Rattle.build_script.specs.Ended.{ran_of};
 ghost use Rattle.carried_out.specs.CarriedOut.{AreCarriedOut};
 ghost use Rattle.cc_names.specs.declared.desks.Next.TheVariants as nexts;
-ghost use Rattle.base_core.specs.Calls.BuildCalls.{IsRunOfUnit, IsStarted};
-ghost use Rattle.base_core.specs.Keeping.Nexts.{next_of};
+ghost use Rattle.clearmake.specs.Calls.{IsRunOfUnit, IsStarted};
+ghost use Rattle.clearmake.specs.Nexts.{next_of};
 ghost use Rattle.base_core.specs.Story.Counted.{KeepsCount};
 ghost use Rattle.legal_history.specs.Stories.States.{next_tag};
 ghost use Rattle.legal_history.specs.Stories.Steps.{state_of};
@@ -13,12 +13,13 @@ ghost use Rattle.session_run.specs.Turns.{HasBuilt, HasUnitLeft, Moves, MovesTo,
 ghost use Rattle.session_run.specs.declared.turns.LaneTurn.TheVariants as lane_turns;
 
 use crate::turns::LaneTurn;
-use base_core::{Carried, Core, UnitTurn};
+use base_core::Core;
 use build_script::outcomes::Ended;
 use build_script::scripts::Script;
 use cc_names::desks::{Begun, Next};
 use cc_names::memory::NoMemory;
 use cc_names::paths::Path;
+use clearmake::{Carried, UnitTurn};
 use disk_model::Disk;
 use std::alloc::Global;
 

@@ -17,14 +17,17 @@ ghost use Rattle.session_run.specs.Runs.{outside_of, IsJustOpened, IsReadyPhase,
 
 use crate::failures::any_failed;
 use crate::lanes::run_lanes;
+use crate::threads::{Host, run_on_threads};
 use crate::transcripts::transcript;
 use base_core::Core;
 use cc_names::memory::{NoMemory, Or};
 use cc_names::rows::LAST_MOMENT;
-use cc_outside::{Clock, Sink, WriteFault, write_whole};
+use cc_outside::{Clock, Gate, Sink, WriteFault, write_whole};
 use disk_model::Disk;
 use session_text::PhaseText;
 use std::alloc::Global;
+use std::sync::Wait;
+use std::thread::Threads;
 
 /// The moment now, none above the last one of the year 9999.
 fn moment_of<C: Clock>(clock: &mut C) -> u64
@@ -37,25 +40,36 @@ fn moment_of<C: Clock>(clock: &mut C) -> u64
     clock.now().min(LAST_MOMENT)
 }
 
-/// Begins a phase and carries out its commands.
-fn run_commands<D: Disk>(
-    alloc: Global,
-    core: &mut Core<D>,
+/// Begins a phase and carries out its commands: its lanes on threads, and then what want of memory left there, on this one. The
+/// core comes back in every case.
+fn run_commands<R: Threads + Wait + Sync, G: Gate + Sync, D: Disk + Send>(
+    host: &Host<'_, R, G>,
+    core: Core<D>,
     phase: PhaseText,
     moment: u64,
-) -> Result<(), NoMemory>
-    requires finished { all_done (state_of core.old.story) ≡ true }
-    requires opened { is_opened core.old.story ≡ true }
+) -> (Core<D>, Result<(), NoMemory>)
+    requires finished { all_done (state_of core.story) ≡ true }
+    requires opened { is_opened core.story ≡ true }
     requires ready { IsReadyPhase phase }
-    requires few { (state_of core.old.story).number + 1 < 2 ^ 32 }
+    requires few { (state_of core.story).number + 1 < 2 ^ 32 }
     requires in_time { moment ≤ last_moment }
-    ensures ok { OnOk result (RunsPhase phase moment core.old.story core.new.story) }
-    ensures err { OnErr result (LeavesPhase phase moment core.old.story core.new.story) }
-    ensures first { first_step core.new.story ≡ first_step core.old.story }
-    ensures counted { KeepsCount core.old core.new }
+    ensures ok { OnOk result.1 (RunsPhase phase moment core.story result.0.story) }
+    ensures err { OnErr result.1 (LeavesPhase phase moment core.story result.0.story) }
+    ensures first { first_step result.0.story ≡ first_step core.story }
+    ensures counted { KeepsCount core result.0 }
 {
-    core.begin_phase(alloc, phase, moment)?;
-    run_lanes(alloc, core)
+    let mut core = core;
+    match core.begin_phase(host.alloc, phase, moment) {
+        Ok(()) => {
+            let (mut core, done) = run_on_threads(host, core);
+            if done {
+                return (core, Ok(()));
+            }
+            let ran = run_lanes(host.alloc, &mut core);
+            (core, ran)
+        }
+        Err(error) => (core, Err(error)),
+    }
 }
 
 /// Writes the transcript of the last phase, which has this number.
@@ -83,37 +97,52 @@ fn write_transcript<K: Sink, D: Disk>(
     }
 }
 
-/// Runs the phases of a session and writes the transcript of each, and answers whether a command failed.
-pub(crate) fn run_phases<K: Sink, D: Disk, C: Clock>(
-    alloc: Global,
-    core: &mut Core<D>,
+/// Runs the phases of a session and writes the transcript of each, and answers whether a command failed. The core comes back
+/// in every case.
+pub(crate) fn run_phases<
+    R: Threads + Wait + Sync,
+    G: Gate + Sync,
+    K: Sink,
+    D: Disk + Send,
+    C: Clock,
+>(
+    host: &Host<'_, R, G>,
+    core: Core<D>,
     phases: Vec<PhaseText>,
     sink: &mut K,
     clock: &mut C,
-) -> Result<bool, Or<WriteFault>>
-    requires opened { IsJustOpened core.old.story }
+) -> (Core<D>, Result<bool, Or<WriteFault>>)
+    requires opened { IsJustOpened core.story }
     requires runnable { IsRunnable phases.items }
-    ensures ok { IfOk result
-        (HasRunPhases phases.items core.new.story
+    ensures ok { IfOk result.1
+        (HasRunPhases phases.items result.0.story
         (outside_of (K.sight sink.old) (K.sight sink.new) (C.sight clock.old)
         (C.sight clock.new))) }
-    ensures err { IfErr result
+    ensures err { IfErr result.1
         (λ cut.
-        IsRunGivenUp cut phases.items core.new.story
+        IsRunGivenUp cut phases.items result.0.story
         (outside_of (K.sight sink.old) (K.sight sink.new) (C.sight clock.old)
         (C.sight clock.new))) }
-    ensures first { first_step core.new.story ≡ first_step core.old.story }
-    ensures counted { KeepsCount core.old core.new }
-    ensures fault { OnWriteFault result (Rose (K.sight sink.old).faults (K.sight sink.new).faults) }
+    ensures first { first_step result.0.story ≡ first_step core.story }
+    ensures counted { KeepsCount core result.0 }
+    ensures fault { OnWriteFault result.1
+        (Rose (K.sight sink.old).faults (K.sight sink.new).faults) }
 {
+    let mut core = core;
     let mut failed = false;
     let mut number = 0u32;
     for phase in phases {
         number += 1;
         let moment = moment_of(clock);
-        run_commands(alloc, core, phase, moment)?;
-        failed |= any_failed(core);
-        write_transcript(alloc, core, number, sink)?;
+        let (next, ran) = run_commands(host, core, phase, moment);
+        core = next;
+        if let Err(NoMemory) = ran {
+            return (core, Err(Or::NoMemory));
+        }
+        failed |= any_failed(&core);
+        if let Err(error) = write_transcript(host.alloc, &core, number, sink) {
+            return (core, Err(error));
+        }
     }
-    Ok(failed)
+    (core, Ok(failed))
 }

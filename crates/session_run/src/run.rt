@@ -5,7 +5,7 @@ ghost use Rattle.legal_history.specs.Base.Values.{IsSound};
 ghost use Rattle.legal_history.specs.Stories.Steps.{state_of};
 ghost use Rattle.base_core.specs.Stopping.Backed.{may_be_open};
 ghost use Rattle.cc_names.specs.Counts.{rises};
-ghost use Rattle.disk_model.specs.Told.{IfTold};
+ghost use Rattle.disk_model.specs.Told.{IfTold, IsCounted};
 ghost use Rattle.disk_model.specs.Devices.{file_of, bytes_of};
 ghost use Rattle.disk_model.specs.Files.{stable};
 ghost use Rattle.session_run.specs.Accounted.{IsAccountedFor, KeepsFiles, Settles};
@@ -24,15 +24,18 @@ use crate::lines::refuse;
 use crate::phases::run_phases;
 use crate::sessions::{Stop, session_given};
 use crate::statuses::Status;
+use crate::threads::Host;
 use base_core::laws::a_stop_opens_again;
 use base_core::{Core, History, OpenCause, OpenFault};
 use cc_names::memory::Or;
 use cc_names::texts::Text;
-use cc_outside::{Clock, Sink, Source, WriteFault};
+use cc_outside::{Clock, Gate, Sink, Source, WriteFault};
 use disk_model::Disk;
 use session_text::PhaseText;
 use std::alloc::Global;
 use std::hash::RandomState;
+use std::sync::Wait;
+use std::thread::Threads;
 
 /// How a call ended: its status, the disk, and the history of the base that it opened, which is empty where it opened none.
 #[derive(Drop)]
@@ -72,6 +75,11 @@ fn stop_of(cause: OpenCause, rose: bool) -> Stop
     }
 }
 
+/// Each disk's counts fit its calls.
+fn a_disk_is_counted<D: Disk>()
+    ensures { (disk : _) → IsCounted (D.sight disk) }
+{}
+
 /// Settles the journal at the end of a call, where a fault left its tail open. Unless this fails no stop finds more than the
 /// rows of the base.
 fn settle<D: Disk>(core: &mut Core<D>)
@@ -85,8 +93,8 @@ fn settle<D: Disk>(core: &mut Core<D>)
 
 /// Runs the phases on a base that was just opened, settles its journal, and hands the disk back. The disk had this count of
 /// faults before.
-fn run_opened<K: Sink, D: Disk, C: Clock>(
-    alloc: Global,
+fn run_opened<R: Threads + Wait + Sync, G: Gate + Sync, K: Sink, D: Disk + Send, C: Clock>(
+    host: &Host<'_, R, G>,
     core: Core<D>,
     before: u64,
     phases: Vec<PhaseText>,
@@ -100,8 +108,8 @@ fn run_opened<K: Sink, D: Disk, C: Clock>(
         (outside_of (K.sight sink.old) (K.sight sink.new) (C.sight clock.old) (C.sight clock.new))
         (sink_faults (K.sight sink.old) (K.sight sink.new)) }
 {
+    let (core, run) = run_phases(host, core, phases, sink, clock);
     let mut core = core;
-    let run = run_phases(alloc, &mut core, phases, sink, clock);
     a_stop_opens_again();
     settle(&mut core);
     let status = status_of(run, has_risen(before, core.counts().faults));
@@ -114,9 +122,8 @@ fn run_opened<K: Sink, D: Disk, C: Clock>(
 }
 
 /// Opens the base that a disk stands for and runs the phases on it, or writes why it cannot be opened.
-fn run_session<K: Sink, D: Disk, C: Clock>(
-    alloc: Global,
-    hashing: RandomState,
+fn run_session<R: Threads + Wait + Sync, G: Gate + Sync, K: Sink, D: Disk + Send, C: Clock>(
+    host: &Host<'_, R, G>,
     phases: Vec<PhaseText>,
     sink: &mut K,
     disk: D,
@@ -130,14 +137,14 @@ fn run_session<K: Sink, D: Disk, C: Clock>(
         (record { before = D.sight disk; after = D.sight result.disk }) }
 {
     let before = disk.counts().faults;
-    match Core::open(alloc, hashing, disk) {
-        Ok(core) => run_opened(alloc, core, before, phases, sink, clock),
+    match Core::open(host.alloc, host.hashing, disk) {
+        Ok(core) => run_opened(host, core, before, phases, sink, clock),
         Err(OpenFault { cause, disk }) => {
             let stop = stop_of(cause, has_risen(before, disk.counts().faults));
             Ended {
                 status: refuse(stop, sink),
                 disk,
-                history: History::empty(alloc),
+                history: History::empty(host.alloc),
             }
         }
     }
@@ -146,11 +153,25 @@ fn run_session<K: Sink, D: Disk, C: Clock>(
 /// Runs the session that the words ask for: reads it from the source, opens the base that the disk stands for, runs the
 /// phases in order, writes the transcript of each when its lanes have ended, and settles the journal. The disk comes back in
 /// every case, and unless a session was read no call was made on it. Names in the base are found by hashing them so: with random
-/// keys nobody can choose names that make a look-up there slow, and the answers are the same with any. Takes time linear in the
-/// session and in the replies, the time of `Core::open`, and for each command that of `act` or `build`.
-pub fn run_words<S: Source, K: Sink, D: Disk, C: Clock>(
+/// keys nobody can choose names that make a look-up there slow, and the answers are the same with any.
+///
+/// The lanes of a phase run on threads, and so do the units of each build: what is promised holds in whatever order they take
+/// turns, and it is not promised that they get on. Around each script, and before each read of it, the gate is called.
+///
+/// Takes time linear in the session and in the replies, the time of `Core::open`, and for each command that of `act` or of its
+/// build.
+pub fn run_words<
+    R: Threads + Wait + Sync,
+    S: Source,
+    K: Sink,
+    D: Disk + Send,
+    C: Clock,
+    G: Gate + Sync,
+>(
+    rt: &R,
     alloc: Global,
     hashing: RandomState,
+    gate: &G,
     words: &[Text],
     source: &mut S,
     sink: &mut K,
@@ -197,8 +218,17 @@ pub fn run_words<S: Source, K: Sink, D: Disk, C: Clock>(
     builds_are_as_from_nothing();
     objects_are_reused_well();
     objects_are_scrubbed_well();
+    a_disk_is_counted::<D>();
     match session_given(alloc, hashing, words, source) {
-        Ok(phases) => run_session(alloc, hashing, phases, sink, disk, clock),
+        Ok(phases) => {
+            let host = Host {
+                rt,
+                alloc,
+                hashing,
+                gate,
+            };
+            run_session(&host, phases, sink, disk, clock)
+        }
         Err(stop) => Ended {
             status: refuse(stop, sink),
             disk,

@@ -6,14 +6,16 @@ ghost use Rattle.session_run.specs.Stopped.{IsHandedIn};
 
 use cc_names::memory::NoMemory;
 use cc_names::texts::Text;
-use cc_outside::{ListClock, MemorySink, MemorySource};
+use cc_outside::{ListClock, MemorySink, MemorySource, OpenGate};
 use disk_model::{Call, MemoryDisk};
 use session_run::{Ended, Status, run_words};
 use std::alloc::Global;
 use std::hash::RandomState;
 use std::process::Abort;
 use std::random::RandomSource;
+use std::sync::Wait;
 use std::test::Fail;
+use std::thread::Threads;
 
 mod builds;
 mod faults;
@@ -25,6 +27,11 @@ mod reuse_stops;
 mod sessions;
 mod sources;
 mod stops;
+
+// What these tests ask of the runtime: that it stops them, draws keys, and starts threads that wait for each other.
+trait Runtime: Abort + RandomSource + Threads + Wait + Sync {}
+
+impl<R: Abort + RandomSource + Threads + Wait + Sync> Runtime for R {}
 
 // A view with a makefile and its source, and a build of the one target, in four rows.
 const FIRST: &str =
@@ -101,7 +108,7 @@ fn words_of(alloc: Global, words: &str) -> Result<Vec<Text>, Fail> {
 
 // What was asked for, run on a disk by a clock that tells these moments.
 fn ended_by(
-    rt: &impl RandomSource,
+    rt: &impl Runtime,
     alloc: Global,
     asked: Asked<'_>,
     sink: &mut MemorySink,
@@ -116,8 +123,10 @@ fn ended_by(
     let mut clock = ListClock::new(alloc, moments)?;
     let hashing = RandomState::new(rt)?;
     Ok(run_words(
+        rt,
         alloc,
         hashing,
+        &OpenGate,
         words.as_slice(),
         &mut source,
         sink,
@@ -128,7 +137,7 @@ fn ended_by(
 
 // What was asked for, run on a disk.
 fn outcome_by(
-    rt: &impl RandomSource,
+    rt: &impl Runtime,
     alloc: Global,
     asked: Asked<'_>,
     disk: MemoryDisk,
@@ -148,7 +157,7 @@ fn outcome_by(
 
 // The outcome of a session on a disk.
 fn outcome_on(
-    rt: &impl RandomSource,
+    rt: &impl Runtime,
     alloc: Global,
     text: &str,
     disk: MemoryDisk,
@@ -159,13 +168,13 @@ fn outcome_on(
 }
 
 // The journal that a session on an empty disk leaves.
-fn journal_of(rt: &impl RandomSource, alloc: Global, text: &str) -> Result<Vec<u8>, Fail> {
+fn journal_of(rt: &impl Runtime, alloc: Global, text: &str) -> Result<Vec<u8>, Fail> {
     let outcome = outcome_on(rt, alloc, text, failing_disk(alloc, &[])?)?;
     Ok(outcome.disk.bytes(0).to_vec(alloc)?)
 }
 
 // How many rows the base has that such a journal stands for.
-fn rows_in(rt: &(impl Abort + RandomSource), alloc: Global, journal: &[u8]) -> Result<usize, Fail> {
+fn rows_in(rt: &impl Runtime, alloc: Global, journal: &[u8]) -> Result<usize, Fail> {
     let outcome = outcome_on(rt, alloc, "", disk_with(alloc, journal)?)?;
     assert_eq!(rt; outcome.status.code(), 0);
     Ok(outcome.rows)
@@ -199,4 +208,21 @@ fn assert_outcome(rt: &impl Abort, outcome: &Outcome, code: u8, written: &str, r
     assert_eq!(rt; outcome.written.as_bytes(), written.as_bytes());
     assert_eq!(rt; outcome.status.code(), code, "where {written:?} is written");
     assert_eq!(rt; outcome.rows, rows, "where {written:?} is written");
+}
+
+// The same where lanes run at once, so that one of several texts is written.
+fn assert_one_of(rt: &impl Abort, outcome: &Outcome, code: u8, texts: &[&str], rows: usize) {
+    let written = outcome.written.as_bytes();
+    assert!(rt;
+        texts.iter().any(|text| text.as_bytes() == written),
+        "{} is written",
+        outcome.written
+    );
+    assert_eq!(rt;
+        outcome.status.code(),
+        code,
+        "where {} is written",
+        outcome.written
+    );
+    assert_eq!(rt; outcome.rows, rows, "where {} is written", outcome.written);
 }

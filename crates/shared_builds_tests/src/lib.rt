@@ -1,8 +1,9 @@
 // Tests of builds that reuse objects: what a view keeps, what it winks in from others, and what runs all the same.
 //
 // What it is for: the words `kept`, `winked` and `built` of each unit to the byte, and how many rows a build makes, as sources,
-// selections, makefiles and options change. Every number and text is worked out by hand from the rules of docs/MODEL.md and
-// docs/FORMATS.md; none is taken from what the program writes.
+// selections, makefiles and options change; that lanes and builders run at once, and that what they come to is right in any
+// order. Every number and text is worked out by hand from the rules of docs/MODEL.md and docs/FORMATS.md; none is taken from what
+// the program writes.
 //
 // What it promises: nothing; it is only run.
 //
@@ -17,15 +18,21 @@ mod failures;
 #[cfg(test)]
 mod fronts;
 #[cfg(test)]
+mod gates;
+#[cfg(test)]
 mod groups;
 #[cfg(test)]
 mod lanes;
+#[cfg(test)]
+mod on_threads;
 #[cfg(test)]
 mod opened_again;
 #[cfg(test)]
 mod options;
 #[cfg(test)]
 mod private_files;
+#[cfg(test)]
+mod races;
 #[cfg(test)]
 mod record_queries;
 #[cfg(test)]

@@ -1,37 +1,28 @@
 // A base that is opened again: what was built and winked in before is reused as within one run.
 
 use crate::fronts::ONE_FILE;
-use crate::sessions::{Front, IN_A_LANE, Outcome, outcome_on, parts_of};
-use cc_names::memory::NoMemory;
+use crate::sessions::{Front, IN_A_LANE, Outcome, Runtime, outcome_on, parts_of};
 use std::alloc::Global;
-use std::hash::RandomState;
-use std::process::Abort;
-use std::random::RandomSource;
 use std::test::Fail;
 
 // What commands in one lane come to behind a session that was run before.
 fn told_again(
+    rt: &impl Runtime,
     alloc: Global,
-    hashing: RandomState,
     front: Front,
     sessions: (&str, &str),
-) -> Result<String, NoMemory> {
-    let first = outcome_on(alloc, hashing, &[], front, sessions.0)?;
+) -> Result<String, Fail> {
+    let first = outcome_on(rt, alloc, &[], front, sessions.0)?;
     let journal = first.journal.as_slice();
-    Ok(outcome_on(alloc, hashing, journal, IN_A_LANE, sessions.1)?.told)
+    Ok(outcome_on(rt, alloc, journal, IN_A_LANE, sessions.1)?.told)
 }
 
 // Each case has two sessions, the second on the base that the first leaves, and what the second comes to.
-fn assert_again(
-    rt: &(impl Abort + RandomSource),
-    alloc: Global,
-    front: Front,
-    cases: &str,
-) -> Result<(), Fail> {
+fn assert_again(rt: &impl Runtime, alloc: Global, front: Front, cases: &str) -> Result<(), Fail> {
     for case in cases.split("====\n") {
         let (first, rest) = parts_of(case);
         let (second, wanted) = parts_of(rest);
-        let told = told_again(alloc, RandomState::new(rt)?, front, (first, second))?;
+        let told = told_again(rt, alloc, front, (first, second))?;
         let told = told.as_str().strip_prefix(IN_A_LANE.told);
         assert_eq!(rt; told, Some(wanted), "of {second:?}");
     }
@@ -125,30 +116,25 @@ fn an_object_of_an_earlier_run_is_winked_in(rt: HostRuntime) -> Result<(), Fail>
 
 // What a command in one lane comes to on a base, and the journal that it leaves.
 fn step_on(
+    rt: &impl Runtime,
     alloc: Global,
-    hashing: RandomState,
     journal: &[u8],
     command: &str,
-) -> Result<Outcome, NoMemory> {
-    outcome_on(alloc, hashing, journal, IN_A_LANE, command)
+) -> Result<Outcome, Fail> {
+    outcome_on(rt, alloc, journal, IN_A_LANE, command)
 }
 
 // Each case but the first is a session on the base that the one before it leaves, and what it comes to; the first is the session
 // that the first base is of.
-fn assert_steps(
-    rt: &(impl Abort + RandomSource),
-    alloc: Global,
-    front: Front,
-    cases: &str,
-) -> Result<(), Fail> {
+fn assert_steps(rt: &impl Runtime, alloc: Global, front: Front, cases: &str) -> Result<(), Fail> {
     let (first, steps) = match cases.split_once("====\n") {
         Some(parts) => parts,
         None => (cases, ""),
     };
-    let mut journal = outcome_on(alloc, RandomState::new(rt)?, &[], front, first)?.journal;
+    let mut journal = outcome_on(rt, alloc, &[], front, first)?.journal;
     for step in steps.split("====\n") {
         let (command, wanted) = parts_of(step);
-        let outcome = step_on(alloc, RandomState::new(rt)?, journal.as_slice(), command)?;
+        let outcome = step_on(rt, alloc, journal.as_slice(), command)?;
         let told = outcome.told.as_str().strip_prefix(IN_A_LANE.told);
         assert_eq!(rt; told, Some(wanted), "of {command:?}");
         journal = outcome.journal.as_slice().to_vec(alloc)?;

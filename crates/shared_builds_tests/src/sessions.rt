@@ -2,6 +2,10 @@
 //
 // A table has its cases one behind the other, parted by lines `====`. A case is a session, the line `----`, what the session
 // writes, and a last line of its status and the rows of its base. A line that begins with `#` in a session is a note.
+//
+// The lanes of a phase run at once. Where several of them build the same, one of them has it built and the others wink it in,
+// whichever comes first: such a line has the word `shared`, and of the lines with the same text one is written with `built` and
+// the others with `winked`.
 
 ghost use Rattle.std.specs.Prelude.{IfOk};
 ghost use Rattle.disk_model.specs.MemoryDisks.{sight_of};
@@ -9,14 +13,21 @@ ghost use Rattle.session_run.specs.Stopped.{IsHandedIn};
 
 use cc_names::memory::NoMemory;
 use cc_names::texts::Text;
-use cc_outside::{ListClock, MemorySink, MemorySource};
+use cc_outside::{Gate, ListClock, MemorySink, MemorySource, OpenGate};
 use disk_model::MemoryDisk;
 use session_run::{Ended, run_words};
 use std::alloc::Global;
 use std::hash::RandomState;
 use std::process::Abort;
 use std::random::RandomSource;
+use std::sync::Wait;
 use std::test::Fail;
+use std::thread::Threads;
+
+/// What these tests ask of the runtime: that it stops them, draws keys, and starts threads that wait for each other.
+pub(crate) trait Runtime: Abort + RandomSource + Threads + Wait + Sync {}
+
+impl<R: Abort + RandomSource + Threads + Wait + Sync> Runtime for R {}
 
 /// What stands before each session of a table, and before what each writes.
 #[derive(Clone, Copy)]
@@ -39,13 +50,14 @@ pub(crate) const IN_A_LANE: Front = Front {
 
 /// What is outside of a session.
 #[derive(Drop)]
-struct Outside {
+pub(crate) struct Outside {
     source: MemorySource,
-    sink: MemorySink,
+    pub(crate) sink: MemorySink,
     clock: ListClock,
 }
 
-fn outside_of(alloc: Global, session: &str) -> Result<Outside, NoMemory> {
+/// A source with this session, and an empty sink.
+pub(crate) fn outside_of(alloc: Global, session: &str) -> Result<Outside, NoMemory> {
     let source = MemorySource::new(alloc, session.as_bytes(), &[])?;
     let sink = MemorySink::new(alloc, &[])?;
     let clock = ListClock::new(alloc, &[1_700_000_000])?;
@@ -71,17 +83,21 @@ fn words_of_run(alloc: Global) -> Result<Vec<Text>, NoMemory> {
     Ok(words)
 }
 
-fn run_in(
+/// A session is run on a base with this journal, and its runs ask this gate.
+pub(crate) fn run_in<G: Gate + Sync>(
+    rt: &impl Runtime,
     alloc: Global,
-    hashing: RandomState,
+    gate: &G,
     journal: &[u8],
     outside: &mut Outside,
-) -> Result<Ended<MemoryDisk>, NoMemory> {
+) -> Result<Ended<MemoryDisk>, Fail> {
     let words = words_of_run(alloc)?;
     let disk = disk_with(alloc, journal)?;
     Ok(run_words(
+        rt,
         alloc,
-        hashing,
+        RandomState::new(rt)?,
+        gate,
         words.as_slice(),
         &mut outside.source,
         &mut outside.sink,
@@ -90,8 +106,12 @@ fn run_in(
     ))
 }
 
-// What was written, and then the line of the status and the rows.
-fn told_of(alloc: Global, written: &[u8], ended: &Ended<MemoryDisk>) -> Result<String, NoMemory> {
+/// What was written, and then the line of the status and the rows.
+pub(crate) fn told_of(
+    alloc: Global,
+    written: &[u8],
+    ended: &Ended<MemoryDisk>,
+) -> Result<String, NoMemory> {
     let (status, rows) = (ended.status.code(), ended.history.rows().len());
     let written = Text::from_bytes(alloc, written)?;
     Ok(format!(in alloc; "{written}status {status}, {rows} rows\n")?)
@@ -114,18 +134,29 @@ fn outcome_of(
     Ok(Outcome { told, journal })
 }
 
+/// What a session comes to on a base with this journal, whose runs ask this gate.
+pub(crate) fn outcome_at<G: Gate + Sync>(
+    rt: &impl Runtime,
+    alloc: Global,
+    gate: &G,
+    journal: &[u8],
+    session: &str,
+) -> Result<Outcome, Fail> {
+    let mut outside = outside_of(alloc, session)?;
+    let ended = run_in(rt, alloc, gate, journal, &mut outside)?;
+    Ok(outcome_of(alloc, outside.sink.bytes(), &ended)?)
+}
+
 /// What a session behind a front comes to on a base with this journal.
 pub(crate) fn outcome_on(
+    rt: &impl Runtime,
     alloc: Global,
-    hashing: RandomState,
     journal: &[u8],
     front: Front,
     session: &str,
-) -> Result<Outcome, NoMemory> {
+) -> Result<Outcome, Fail> {
     let session = format!(in alloc; "{}{session}", front.asked)?;
-    let mut outside = outside_of(alloc, session.as_str())?;
-    let ended = run_in(alloc, hashing, journal, &mut outside)?;
-    outcome_of(alloc, outside.sink.bytes(), &ended)
+    outcome_at(rt, alloc, &OpenGate, journal, session.as_str())
 }
 
 /// The parts of a case: a session, and what it comes to.
@@ -136,18 +167,54 @@ pub(crate) fn parts_of(case: &str) -> (&str, &str) {
     }
 }
 
+// The word that is written where a wanted line has `shared`, if the rest is as wanted.
+fn shared_word<'a>(written: &'a str, wanted: &str) -> Option<&'a str> {
+    let (unit, rest) = wanted.split_once(" shared ")?;
+    let word = written.strip_prefix(unit)?.strip_suffix(rest)?;
+    Some(word.trim())
+}
+
+fn is_line(written: &str, wanted: &str) -> bool {
+    written == wanted || matches!(shared_word(written, wanted), Some("built" | "winked"))
+}
+
+// How many of the lines for which this one is wanted are written with `built`.
+fn count_built(written: &str, wanted: &str, line: &str) -> usize {
+    let lines = written.lines().zip(wanted.lines());
+    lines
+        .filter(|(_, wanted)| *wanted == line)
+        .filter(|(written, wanted)| shared_word(written, wanted) == Some("built"))
+        .count()
+}
+
+/// Whether what is written is what a table wants.
+pub(crate) fn is_as_wanted(written: &str, wanted: &str) -> bool {
+    written.lines().count() == wanted.lines().count()
+        && written
+            .lines()
+            .zip(wanted.lines())
+            .all(|(written, wanted)| is_line(written, wanted))
+        && wanted
+            .lines()
+            .filter(|line| line.contains(" shared "))
+            .all(|line| count_built(written, wanted, line) == 1)
+}
+
 /// The sessions of a table come to what it says, each on an empty base.
 pub(crate) fn assert_sessions(
-    rt: &(impl Abort + RandomSource),
+    rt: &impl Runtime,
     alloc: Global,
     front: Front,
     cases: &str,
 ) -> Result<(), Fail> {
     for case in cases.split("====\n") {
         let (session, wanted) = parts_of(case);
-        let outcome = outcome_on(alloc, RandomState::new(rt)?, &[], front, session)?;
+        let outcome = outcome_on(rt, alloc, &[], front, session)?;
         let told = outcome.told.as_str().strip_prefix(front.told);
-        assert_eq!(rt; told, Some(wanted), "of {session:?}");
+        assert!(rt;
+            told.is_some_and(|told| is_as_wanted(told, wanted)),
+            "{told:?} of {session:?}"
+        );
     }
     Ok(())
 }

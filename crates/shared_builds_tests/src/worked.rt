@@ -42,7 +42,7 @@ clearmake v
   out kept 3 98ea6e4f216f2fb4b69fff9b3a44842c38686ca685f3f55dc48c5d3fb1107be4
 status 0, 14 rows
 ====
-# two lanes that build the same at once: both run, the first publishes, and the second, which looks once more, winks that in
+# two lanes that build the same at once: one publishes, and the other winks that in, also where both ran their script
 phase
 lane a
 clearmake v
@@ -52,26 +52,10 @@ clearmake w
 phase 2
 lane a
 1 clearmake ok
-  out built 3 98ea6e4f216f2fb4b69fff9b3a44842c38686ca685f3f55dc48c5d3fb1107be4
+  out shared 3 98ea6e4f216f2fb4b69fff9b3a44842c38686ca685f3f55dc48c5d3fb1107be4
 lane b
 1 clearmake ok
-  out winked 3 98ea6e4f216f2fb4b69fff9b3a44842c38686ca685f3f55dc48c5d3fb1107be4
-status 0, 12 rows
-====
-# and in the other order
-phase
-lane a
-clearmake w
-lane b
-clearmake v
-----
-phase 2
-lane a
-1 clearmake ok
-  out built 3 98ea6e4f216f2fb4b69fff9b3a44842c38686ca685f3f55dc48c5d3fb1107be4
-lane b
-1 clearmake ok
-  out winked 3 98ea6e4f216f2fb4b69fff9b3a44842c38686ca685f3f55dc48c5d3fb1107be4
+  out shared 3 98ea6e4f216f2fb4b69fff9b3a44842c38686ca685f3f55dc48c5d3fb1107be4
 status 0, 12 rows
 ";
 
@@ -174,6 +158,7 @@ setcs w
 phase
 lane a
 clearmake w out
+phase
 lane b
 clearmake v pre
 mklabel v -replace REL in
@@ -204,13 +189,14 @@ phase 2
 lane a
 1 clearmake ok
   out built 4 b5bb9d8014a0f9b1d61e21e796d78dccdf1352f23cd32812f4850b878ae4944c
+phase 3
 lane b
 1 clearmake ok
   pre built 3 98ea6e4f216f2fb4b69fff9b3a44842c38686ca685f3f55dc48c5d3fb1107be4
 2 mklabel ok
 3 clearmake ok
   out built 4 7d865e959b2466918c9863afca942d0fb89d7c9ac0c99bafc3749504ded97730
-phase 3
+phase 4
 lane a
 1 clearmake ok
   out winked 4 7d865e959b2466918c9863afca942d0fb89d7c9ac0c99bafc3749504ded97730

@@ -1,14 +1,12 @@
 // Directories that are renamed, so that paths below them grow to the limit of 1,024 bytes and past it.
 
-use crate::sessions::{Front, IN_A_LANE, NEVER_RUN, assert_sessions};
+use crate::sessions::{Front, IN_A_LANE, NEVER_RUN, Runtime, assert_sessions};
 use std::alloc::Global;
-use std::process::Abort;
-use std::random::RandomSource;
 use std::test::Fail;
 
 // The sessions of a table in which `N255` and `N254` stand for names of so many bytes. `N255/N255/N255/N254` has 1,022 bytes.
 fn assert_long_sessions(
-    rt: &(impl Abort + RandomSource),
+    rt: &impl Runtime,
     alloc: Global,
     front: Front,
     cases: &str,

@@ -1,11 +1,8 @@
 // A base that is opened again between any two commands, and rows that do not fit one.
 
-use crate::sessions::{IN_A_LANE, Outcome, outcome_on, parts_of};
+use crate::sessions::{IN_A_LANE, Outcome, Runtime, outcome_on, parts_of};
 use cc_names::memory::NoMemory;
 use std::alloc::Global;
-use std::hash::RandomState;
-use std::process::Abort;
-use std::random::RandomSource;
 use std::test::Fail;
 
 // The sessions of a case are parted by lines `++++`. Each is run in a program of its own, on the base that the one before leaves.
@@ -236,25 +233,21 @@ status 1, 7 rows
 
 // What these commands come to in one lane.
 fn lane_on(
+    rt: &impl Runtime,
     alloc: Global,
-    hashing: RandomState,
     journal: &[u8],
     commands: &str,
-) -> Result<Outcome, NoMemory> {
+) -> Result<Outcome, Fail> {
     let session = format!(in alloc; "{}{commands}", IN_A_LANE.asked)?;
-    outcome_on(alloc, hashing, IN_A_LANE.moments, journal, session.as_str())
+    outcome_on(rt, alloc, IN_A_LANE.moments, journal, session.as_str())
 }
 
 // The sessions of a case come to what it says, each on the base that the one before leaves.
-fn assert_in_turn(
-    rt: &(impl Abort + RandomSource),
-    alloc: Global,
-    sessions: &str,
-) -> Result<(), Fail> {
+fn assert_in_turn(rt: &impl Runtime, alloc: Global, sessions: &str) -> Result<(), Fail> {
     let mut journal = Vec::new(alloc);
     for part in sessions.split("++++\n") {
         let (session, wanted) = parts_of(part);
-        let outcome = lane_on(alloc, RandomState::new(rt)?, journal.as_slice(), session)?;
+        let outcome = lane_on(rt, alloc, journal.as_slice(), session)?;
         let told = outcome.told.as_str().strip_prefix(IN_A_LANE.told);
         assert_eq!(rt; told, Some(wanted), "of {session:?}");
         journal = outcome.journal;
@@ -282,13 +275,13 @@ fn repeated(alloc: Global, shorter: &[u8], longer: &[u8]) -> Result<Vec<u8>, NoM
 
 // The journal of some commands with the frame of one more command twice behind it.
 fn twice(
-    rt: &(impl Abort + RandomSource),
+    rt: &impl Runtime,
     alloc: Global,
     commands: &str,
     one_more: &str,
 ) -> Result<Vec<u8>, Fail> {
-    let shorter = lane_on(alloc, RandomState::new(rt)?, &[], commands)?.journal;
-    let longer = lane_on(alloc, RandomState::new(rt)?, shorter.as_slice(), one_more)?.journal;
+    let shorter = lane_on(rt, alloc, &[], commands)?.journal;
+    let longer = lane_on(rt, alloc, shorter.as_slice(), one_more)?.journal;
     Ok(repeated(alloc, shorter.as_slice(), longer.as_slice())?)
 }
 
@@ -354,18 +347,12 @@ damaged 5
 ";
 
 // A base with such a row twice is damaged, and stays.
-fn assert_damage(rt: &(impl Abort + RandomSource), alloc: Global, case: &str) -> Result<(), Fail> {
+fn assert_damage(rt: &impl Runtime, alloc: Global, case: &str) -> Result<(), Fail> {
     let (commands, rest) = parts_of(case);
     let (one_more, wanted) = parts_of(rest);
     let journal = twice(rt, alloc, commands, one_more)?;
     let moments = IN_A_LANE.moments;
-    let outcome = outcome_on(
-        alloc,
-        RandomState::new(rt)?,
-        moments,
-        journal.as_slice(),
-        "",
-    )?;
+    let outcome = outcome_on(rt, alloc, moments, journal.as_slice(), "")?;
     let wanted = format!(in alloc; "{wanted}status 4, 0 rows\n")?;
     assert_eq!(rt; outcome.told.as_str(), wanted.as_str(), "of {case:?}");
     assert!(rt; outcome.journal == journal, "of {case:?}");

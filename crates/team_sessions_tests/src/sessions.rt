@@ -9,14 +9,21 @@ ghost use Rattle.session_run.specs.Stopped.{IsHandedIn};
 
 use cc_names::memory::NoMemory;
 use cc_names::texts::Text;
-use cc_outside::{ListClock, MemorySink, MemorySource};
+use cc_outside::{ListClock, MemorySink, MemorySource, OpenGate};
 use disk_model::MemoryDisk;
 use session_run::{Ended, run_words};
 use std::alloc::Global;
 use std::hash::RandomState;
 use std::process::Abort;
 use std::random::RandomSource;
+use std::sync::Wait;
 use std::test::Fail;
+use std::thread::Threads;
+
+/// What these tests ask of the runtime: that it stops them, draws keys, and starts threads that wait for each other.
+pub(crate) trait Runtime: Abort + RandomSource + Threads + Wait + Sync {}
+
+impl<R: Abort + RandomSource + Threads + Wait + Sync> Runtime for R {}
 
 /// The moments of the first three phases, in seconds since 1970; all later ones have the last.
 pub(crate) type Moments = [u64; 3];
@@ -116,16 +123,18 @@ fn words_of_run(alloc: Global) -> Result<Vec<Text>, NoMemory> {
 }
 
 fn run_in(
+    rt: &impl Runtime,
     alloc: Global,
-    hashing: RandomState,
     journal: &[u8],
     outside: &mut Outside,
-) -> Result<Ended<MemoryDisk>, NoMemory> {
+) -> Result<Ended<MemoryDisk>, Fail> {
     let words = words_of_run(alloc)?;
     let disk = disk_with(alloc, journal)?;
     Ok(run_words(
+        rt,
         alloc,
-        hashing,
+        RandomState::new(rt)?,
+        &OpenGate,
         words.as_slice(),
         &mut outside.source,
         &mut outside.sink,
@@ -160,26 +169,26 @@ fn outcome_of(
 
 /// What a session comes to on a base with this journal, where the clock tells these moments.
 pub(crate) fn outcome_on(
+    rt: &impl Runtime,
     alloc: Global,
-    hashing: RandomState,
     moments: Moments,
     journal: &[u8],
     session: &str,
-) -> Result<Outcome, NoMemory> {
+) -> Result<Outcome, Fail> {
     let mut outside = outside_of(alloc, moments, session)?;
-    let ended = run_in(alloc, hashing, journal, &mut outside)?;
-    outcome_of(alloc, outside.sink.bytes(), &ended)
+    let ended = run_in(rt, alloc, journal, &mut outside)?;
+    Ok(outcome_of(alloc, outside.sink.bytes(), &ended)?)
 }
 
 /// What a session behind a front comes to on an empty base: what it writes, with the line of its status and its rows.
 pub(crate) fn told_behind(
+    rt: &impl Runtime,
     alloc: Global,
-    hashing: RandomState,
     front: Front,
     session: &str,
-) -> Result<String, NoMemory> {
+) -> Result<String, Fail> {
     let session = format!(in alloc; "{}{session}", front.asked)?;
-    Ok(outcome_on(alloc, hashing, front.moments, &[], session.as_str())?.told)
+    Ok(outcome_on(rt, alloc, front.moments, &[], session.as_str())?.told)
 }
 
 /// The parts of a case: a session, and what it comes to.
@@ -192,14 +201,14 @@ pub(crate) fn parts_of(case: &str) -> (&str, &str) {
 
 /// The sessions of a table come to what it says.
 pub(crate) fn assert_sessions(
-    rt: &(impl Abort + RandomSource),
+    rt: &impl Runtime,
     alloc: Global,
     front: Front,
     cases: &str,
 ) -> Result<(), Fail> {
     for case in cases.split("====\n") {
         let (session, wanted) = parts_of(case);
-        let told = told_behind(alloc, RandomState::new(rt)?, front, session)?;
+        let told = told_behind(rt, alloc, front, session)?;
         let told = told.as_str().strip_prefix(front.told);
         assert_eq!(rt; told, Some(wanted), "of {session:?}");
     }

@@ -6,11 +6,8 @@
 // unchanged. `tools/gnu_make_files.py` runs it over these tables again. The rows of the last line are those of `mkview`, of the
 // saves, and one of each unit that makes files.
 
-use crate::sessions::{IN_A_VIEW, parts_of, told_behind};
+use crate::sessions::{IN_A_VIEW, Runtime, parts_of, told_behind};
 use std::alloc::Global;
-use std::hash::RandomState;
-use std::process::Abort;
-use std::random::RandomSource;
 use std::test::Fail;
 
 mod includes;
@@ -20,10 +17,10 @@ mod scripts;
 mod suffix_rules;
 
 /// The builds of a table make the files that it says, and no others.
-fn assert_makes(rt: &(impl Abort + RandomSource), alloc: Global, cases: &str) -> Result<(), Fail> {
+fn assert_makes(rt: &impl Runtime, alloc: Global, cases: &str) -> Result<(), Fail> {
     for case in cases.split("====\n") {
         let (session, wanted) = parts_of(case);
-        let told = told_behind(alloc, RandomState::new(rt)?, IN_A_VIEW.asked, session)?;
+        let told = told_behind(rt, alloc, IN_A_VIEW.asked, session)?;
         let ends = told.as_str().ends_with(wanted);
         assert!(rt; ends, "{told:?} of {session:?}");
     }

@@ -2,8 +2,10 @@
 
 use crate::sessions::told_behind;
 use large_session::make_session;
-use std::hash::RandomState;
 use std::test::Fail;
+
+// The seven lanes of phase 2 build the same at once, each in a view of its own. One of them has a unit built and the others wink
+// it in, whichever comes first; in these texts all of them have `built`.
 
 // Of the seed 1 and the size 1, with rows 1 to 16 in phase 1 and 17 to 23 in phase 2: `w774` twice, and then `changed` twice.
 const OF_ONE: &str = "\
@@ -32,27 +34,27 @@ lane b1
   all made
 lane b2
 1 clearmake ok
-  o1 winked 10 e8d262f3310e91506694a74f0433649a072733e6d8a8ddcc9ed185333106be3d
+  o1 built 10 e8d262f3310e91506694a74f0433649a072733e6d8a8ddcc9ed185333106be3d
   all made
 lane b3
 1 clearmake ok
-  o1 winked 10 e8d262f3310e91506694a74f0433649a072733e6d8a8ddcc9ed185333106be3d
+  o1 built 10 e8d262f3310e91506694a74f0433649a072733e6d8a8ddcc9ed185333106be3d
   all made
 lane b4
 1 clearmake ok
-  o1 winked 10 e8d262f3310e91506694a74f0433649a072733e6d8a8ddcc9ed185333106be3d
+  o1 built 10 e8d262f3310e91506694a74f0433649a072733e6d8a8ddcc9ed185333106be3d
   all made
 lane b5
 1 clearmake ok
-  o1 winked 10 e8d262f3310e91506694a74f0433649a072733e6d8a8ddcc9ed185333106be3d
+  o1 built 10 e8d262f3310e91506694a74f0433649a072733e6d8a8ddcc9ed185333106be3d
   all made
 lane b6
 1 clearmake ok
-  o1 winked 10 e8d262f3310e91506694a74f0433649a072733e6d8a8ddcc9ed185333106be3d
+  o1 built 10 e8d262f3310e91506694a74f0433649a072733e6d8a8ddcc9ed185333106be3d
   all made
 lane b7
 1 clearmake ok
-  o1 winked 10 e8d262f3310e91506694a74f0433649a072733e6d8a8ddcc9ed185333106be3d
+  o1 built 10 e8d262f3310e91506694a74f0433649a072733e6d8a8ddcc9ed185333106be3d
   all made
 phase 3
 lane a
@@ -97,33 +99,33 @@ lane b1
   all made
 lane b2
 1 clearmake ok
-  o1 winked 10 ad6b896f9006af3e7a4d736e3c2249bf6ab9130744690d51ba88d0dc4cf7768d
-  o2 winked 10 c5b0363078c7b601b8e4ed86c960f1f2379bcf690ea0a18a2cc4ca3077d27c63
+  o1 built 10 ad6b896f9006af3e7a4d736e3c2249bf6ab9130744690d51ba88d0dc4cf7768d
+  o2 built 10 c5b0363078c7b601b8e4ed86c960f1f2379bcf690ea0a18a2cc4ca3077d27c63
   all made
 lane b3
 1 clearmake ok
-  o1 winked 10 ad6b896f9006af3e7a4d736e3c2249bf6ab9130744690d51ba88d0dc4cf7768d
-  o2 winked 10 c5b0363078c7b601b8e4ed86c960f1f2379bcf690ea0a18a2cc4ca3077d27c63
+  o1 built 10 ad6b896f9006af3e7a4d736e3c2249bf6ab9130744690d51ba88d0dc4cf7768d
+  o2 built 10 c5b0363078c7b601b8e4ed86c960f1f2379bcf690ea0a18a2cc4ca3077d27c63
   all made
 lane b4
 1 clearmake ok
-  o1 winked 10 ad6b896f9006af3e7a4d736e3c2249bf6ab9130744690d51ba88d0dc4cf7768d
-  o2 winked 10 c5b0363078c7b601b8e4ed86c960f1f2379bcf690ea0a18a2cc4ca3077d27c63
+  o1 built 10 ad6b896f9006af3e7a4d736e3c2249bf6ab9130744690d51ba88d0dc4cf7768d
+  o2 built 10 c5b0363078c7b601b8e4ed86c960f1f2379bcf690ea0a18a2cc4ca3077d27c63
   all made
 lane b5
 1 clearmake ok
-  o1 winked 10 ad6b896f9006af3e7a4d736e3c2249bf6ab9130744690d51ba88d0dc4cf7768d
-  o2 winked 10 c5b0363078c7b601b8e4ed86c960f1f2379bcf690ea0a18a2cc4ca3077d27c63
+  o1 built 10 ad6b896f9006af3e7a4d736e3c2249bf6ab9130744690d51ba88d0dc4cf7768d
+  o2 built 10 c5b0363078c7b601b8e4ed86c960f1f2379bcf690ea0a18a2cc4ca3077d27c63
   all made
 lane b6
 1 clearmake ok
-  o1 winked 10 ad6b896f9006af3e7a4d736e3c2249bf6ab9130744690d51ba88d0dc4cf7768d
-  o2 winked 10 c5b0363078c7b601b8e4ed86c960f1f2379bcf690ea0a18a2cc4ca3077d27c63
+  o1 built 10 ad6b896f9006af3e7a4d736e3c2249bf6ab9130744690d51ba88d0dc4cf7768d
+  o2 built 10 c5b0363078c7b601b8e4ed86c960f1f2379bcf690ea0a18a2cc4ca3077d27c63
   all made
 lane b7
 1 clearmake ok
-  o1 winked 10 ad6b896f9006af3e7a4d736e3c2249bf6ab9130744690d51ba88d0dc4cf7768d
-  o2 winked 10 c5b0363078c7b601b8e4ed86c960f1f2379bcf690ea0a18a2cc4ca3077d27c63
+  o1 built 10 ad6b896f9006af3e7a4d736e3c2249bf6ab9130744690d51ba88d0dc4cf7768d
+  o2 built 10 c5b0363078c7b601b8e4ed86c960f1f2379bcf690ea0a18a2cc4ca3077d27c63
   all made
 phase 3
 lane a
@@ -137,12 +139,32 @@ lane a
 status 0, 37 rows
 ";
 
+// How many of the lines of a unit have this word.
+fn count_lines(told: &str, unit: &str, word: &str) -> usize {
+    let lines = told.lines().filter_map(|line| line.trim().split_once(' '));
+    lines
+        .filter(|(target, rest)| *target == unit && rest.starts_with(word))
+        .count()
+}
+
 #[test]
 fn large_sessions_are_run(rt: HostRuntime) -> Result<(), Fail> {
-    for (seed, size, wanted) in [(1, 1, OF_ONE), (7, 2, OF_TWO)] {
+    let cases: [(u64, u32, &str, &[&str]); 2] = [
+        (1, 1, OF_ONE, &["o1"]),
+        (7, 2, OF_TWO, &["o1", "o2"]),
+    ];
+    for (seed, size, wanted, units) in cases {
         let text = make_session(rt.alloc(), seed, size)?;
         let session = format!(in rt.alloc(); "{text}")?;
-        let told = told_behind(rt.alloc(), RandomState::new(&rt)?, "", session.as_str())?;
+        let told = told_behind(&rt, rt.alloc(), "", session.as_str())?;
+        for unit in units {
+            assert_eq!(rt;
+                count_lines(told.as_str(), unit, "winked"),
+                6,
+                "of {unit} by the seed {seed}"
+            );
+        }
+        let told = told.as_str().replace(rt.alloc(), " winked ", " built ")?;
         assert_eq!(rt;
             told.as_str(),
             wanted,

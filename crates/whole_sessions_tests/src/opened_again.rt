@@ -1,11 +1,8 @@
 // A base that is opened again, and rows that do not fit one.
 
-use crate::sessions::{IN_A_LANE, Outcome, outcome_on, parts_of};
+use crate::sessions::{IN_A_LANE, Outcome, Runtime, outcome_on, parts_of};
 use cc_names::memory::NoMemory;
 use std::alloc::Global;
-use std::hash::RandomState;
-use std::process::Abort;
-use std::random::RandomSource;
 use std::test::Fail;
 
 // Two sessions, the second on the base that the first leaves, and what the second comes to.
@@ -48,29 +45,24 @@ status 1, 3 rows
 
 // What these commands come to in one lane.
 fn lane_on(
+    rt: &impl Runtime,
     alloc: Global,
-    hashing: RandomState,
     journal: &[u8],
     commands: &str,
-) -> Result<Outcome, NoMemory> {
+) -> Result<Outcome, Fail> {
     let session = format!(in alloc; "{}{commands}", IN_A_LANE.asked)?;
-    outcome_on(alloc, hashing, journal, session.as_str())
+    outcome_on(rt, alloc, journal, session.as_str())
 }
 
 // The journal of these commands on an empty base.
-fn journal_of(alloc: Global, hashing: RandomState, commands: &str) -> Result<Vec<u8>, NoMemory> {
-    Ok(lane_on(alloc, hashing, &[], commands)?.journal)
+fn journal_of(rt: &impl Runtime, alloc: Global, commands: &str) -> Result<Vec<u8>, Fail> {
+    Ok(lane_on(rt, alloc, &[], commands)?.journal)
 }
 
 // What commands come to behind others.
-fn told_again(
-    alloc: Global,
-    hashing: RandomState,
-    first: &str,
-    second: &str,
-) -> Result<String, NoMemory> {
-    let journal = journal_of(alloc, hashing, first)?;
-    Ok(lane_on(alloc, hashing, journal.as_slice(), second)?.told)
+fn told_again(rt: &impl Runtime, alloc: Global, first: &str, second: &str) -> Result<String, Fail> {
+    let journal = journal_of(rt, alloc, first)?;
+    Ok(lane_on(rt, alloc, journal.as_slice(), second)?.told)
 }
 
 #[test]
@@ -78,7 +70,7 @@ fn a_base_goes_on_where_it_was(rt: HostRuntime) -> Result<(), Fail> {
     for case in AGAIN.split("====\n") {
         let (first, rest) = parts_of(case);
         let (second, wanted) = parts_of(rest);
-        let told = told_again(rt.alloc(), RandomState::new(&rt)?, first, second)?;
+        let told = told_again(&rt, rt.alloc(), first, second)?;
         let told = told.as_str().strip_prefix(IN_A_LANE.told);
         assert_eq!(rt; told, Some(wanted), "of {second:?}");
     }
@@ -97,24 +89,19 @@ fn repeated(alloc: Global, shorter: &[u8], longer: &[u8]) -> Result<Vec<u8>, NoM
 
 // The journal of some commands with the frame of one more command twice behind it.
 fn twice(
+    rt: &impl Runtime,
     alloc: Global,
-    hashing: RandomState,
     commands: &str,
     one_more: &str,
-) -> Result<Vec<u8>, NoMemory> {
-    let shorter = journal_of(alloc, hashing, commands)?;
-    let longer = lane_on(alloc, hashing, shorter.as_slice(), one_more)?.journal;
-    repeated(alloc, shorter.as_slice(), longer.as_slice())
+) -> Result<Vec<u8>, Fail> {
+    let shorter = journal_of(rt, alloc, commands)?;
+    let longer = lane_on(rt, alloc, shorter.as_slice(), one_more)?.journal;
+    Ok(repeated(alloc, shorter.as_slice(), longer.as_slice())?)
 }
 
 // Such a journal is damaged, and stays.
-fn assert_damage(
-    rt: &(impl Abort + RandomSource),
-    alloc: Global,
-    journal: &[u8],
-    line: &str,
-) -> Result<(), Fail> {
-    let outcome = outcome_on(alloc, RandomState::new(rt)?, journal, "")?;
+fn assert_damage(rt: &impl Runtime, alloc: Global, journal: &[u8], line: &str) -> Result<(), Fail> {
+    let outcome = outcome_on(rt, alloc, journal, "")?;
     assert!(rt;
         outcome.told.as_str().starts_with(line),
         "where {line:?} is wanted"
@@ -154,7 +141,7 @@ fn a_row_that_does_not_fit_is_damage(rt: HostRuntime) -> Result<(), Fail> {
         (BUILT, "rmdo v out\n", "damaged 5\nstatus 4,"),
         (LET_GO, "scrub 0\n", "damaged 6\nstatus 4,"),
     ] {
-        let journal = twice(rt.alloc(), RandomState::new(&rt)?, commands, one_more)?;
+        let journal = twice(&rt, rt.alloc(), commands, one_more)?;
         assert_damage(&rt, rt.alloc(), journal.as_slice(), line)?;
     }
     Ok(())

@@ -9,14 +9,21 @@ ghost use Rattle.session_run.specs.Stopped.{IsHandedIn};
 
 use cc_names::memory::NoMemory;
 use cc_names::texts::Text;
-use cc_outside::{ListClock, MemorySink, MemorySource};
+use cc_outside::{ListClock, MemorySink, MemorySource, OpenGate};
 use disk_model::MemoryDisk;
 use session_run::{Ended, run_words};
 use std::alloc::Global;
 use std::hash::RandomState;
 use std::process::Abort;
 use std::random::RandomSource;
+use std::sync::Wait;
 use std::test::Fail;
+use std::thread::Threads;
+
+/// What these tests ask of the runtime: that it stops them, draws keys, and starts threads that wait for each other.
+pub(crate) trait Runtime: Abort + RandomSource + Threads + Wait + Sync {}
+
+impl<R: Abort + RandomSource + Threads + Wait + Sync> Runtime for R {}
 
 /// What stands before each session of a table, and before what each writes.
 #[derive(Clone, Copy)]
@@ -84,16 +91,18 @@ fn words_of_run(alloc: Global) -> Result<Vec<Text>, NoMemory> {
 }
 
 fn run_in(
+    rt: &impl Runtime,
     alloc: Global,
-    hashing: RandomState,
     journal: &[u8],
     outside: &mut Outside,
-) -> Result<Ended<MemoryDisk>, NoMemory> {
+) -> Result<Ended<MemoryDisk>, Fail> {
     let words = words_of_run(alloc)?;
     let disk = disk_with(alloc, journal)?;
     Ok(run_words(
+        rt,
         alloc,
-        hashing,
+        RandomState::new(rt)?,
+        &OpenGate,
         words.as_slice(),
         &mut outside.source,
         &mut outside.sink,
@@ -128,25 +137,25 @@ fn outcome_of(
 
 /// What a session comes to on a base with this journal.
 pub(crate) fn outcome_on(
+    rt: &impl Runtime,
     alloc: Global,
-    hashing: RandomState,
     journal: &[u8],
     session: &str,
-) -> Result<Outcome, NoMemory> {
+) -> Result<Outcome, Fail> {
     let mut outside = outside_of(alloc, session)?;
-    let ended = run_in(alloc, hashing, journal, &mut outside)?;
-    outcome_of(alloc, outside.sink.bytes(), &ended)
+    let ended = run_in(rt, alloc, journal, &mut outside)?;
+    Ok(outcome_of(alloc, outside.sink.bytes(), &ended)?)
 }
 
 /// What a session with this front comes to on an empty base: what it writes, with the line of its status and its rows.
 pub(crate) fn told_behind(
+    rt: &impl Runtime,
     alloc: Global,
-    hashing: RandomState,
     front: &str,
     session: &str,
-) -> Result<String, NoMemory> {
+) -> Result<String, Fail> {
     let session = format!(in alloc; "{front}{session}")?;
-    Ok(outcome_on(alloc, hashing, &[], session.as_str())?.told)
+    Ok(outcome_on(rt, alloc, &[], session.as_str())?.told)
 }
 
 /// The parts of a case: a session, and what it comes to.
@@ -159,14 +168,14 @@ pub(crate) fn parts_of(case: &str) -> (&str, &str) {
 
 /// The sessions of a table come to what it says.
 pub(crate) fn assert_sessions(
-    rt: &(impl Abort + RandomSource),
+    rt: &impl Runtime,
     alloc: Global,
     front: Front,
     cases: &str,
 ) -> Result<(), Fail> {
     for case in cases.split("====\n") {
         let (session, wanted) = parts_of(case);
-        let told = told_behind(alloc, RandomState::new(rt)?, front.asked, session)?;
+        let told = told_behind(rt, alloc, front.asked, session)?;
         let told = told.as_str().strip_prefix(front.told);
         assert_eq!(rt; told, Some(wanted), "of {session:?}");
     }

@@ -1,5 +1,5 @@
 -- The command that a lane has next is one of the phase: it has the form of one, and is carried out.
-use Rattle.std.proofs.Common.{◌≡◌, ℕ, zero, suc, true, false, Option, Some, None, refl, ap, sym, ◌∙◌}
+use Rattle.std.proofs.Common.{◌≡◌, ℕ, zero, suc, ◌≤◌, true, false, Option, Some, None, refl, ap, sym, subst, ◌∙◌}
 use Rattle.std.specs.Prelude.{option_and_then, slice_get}
 use Rattle.std.specs.List.{AllByRecursion}
 use Rattle.cc_names.specs.declared.commands.Command.{Command}
@@ -14,8 +14,9 @@ use Rattle.build_core.specs.Plans.{is_clearmake, view_of as build_view}
 use Rattle.checkout_desk.specs.Commands.{builds, view_of}
 use Rattle.carried_out.specs.CarriedOut.{AreCarriedOut, IsLaneCarriedOut, is_carried_out}
 use Rattle.base_core.specs.Keeping.Kept.{command_limit}
-use Rattle.base_core.specs.Keeping.Nexts.{next_by, next_of, waiting}
+use Rattle.clearmake.specs.Nexts.{jobs_of, next_by, next_of, waiting}
 use Rattle.base_core.proofs.Building.UnitRows.{all_at}
+use Rattle.base_core.proofs.Keeping.Idle.{some_same}
 
 -- what holds of all commands of all lanes holds of the one that is next
 in_lane : (Q : Lane → Type 0) (P : Command → Type 0) → ((lane : Lane) → Q lane → AllByRecursion P lane.commands) → (phase : Phase) (lane done : ℕ) (command : Command) → AllByRecursion Q phase.lanes
@@ -52,3 +53,16 @@ builds_next s lane command e build = building command (next_tag s lane) (ap (λ 
 pub same_view : (command : Command) → is_clearmake command ≡ true → view_of command ≡ build_view command
 same_view (commands.Clearmake view file own_only rebuild jobs macros goals) builds_it = refl
 same_view command builds_it = absurd (cc)
+
+-- one that builds asks for some number of units at once
+asks : (command : Command) (tag : Tag) → next_by (Some command) tag ≡ nexts.Build tag → jobs_of (Some command) ≡ None → ⊥
+asks (commands.Clearmake view file own_only rebuild jobs macros goals) tag builds none = absurd (cc)
+asks command tag builds none = absurd (cc)
+
+pub builds_ask : (s : State) (lane : ℕ) (command : Command) → waiting s lane ≡ Some command → next_of s lane ≡ nexts.Build (next_tag s lane) → jobs_of (Some command) ≡ None → ⊥
+builds_ask s lane command e build none = asks command (next_tag s lane) (ap (λ found. next_by found (next_tag s lane)) (sym e) ∙ build) none
+
+-- which is from 1 to 64
+pub jobs_within : (command : Command) (jobs : ℕ) → IsCommand command_limit command → jobs_of (Some command) ≡ Some jobs → (1 ≤ jobs) × (jobs ≤ 64)
+jobs_within (commands.Clearmake view file own_only rebuild jobs macros goals) asked formed e = subst (λ n. (1 ≤ n) × (n ≤ 64)) (some_same jobs asked e) (formed.2, formed.3)
+jobs_within command asked formed e = absurd (cc)

@@ -29,7 +29,7 @@ use Rattle.legal_history.specs.Stories.States.{State, scene, done_of, lane_at, c
 use Rattle.legal_history.specs.Stories.Steps.{state_of}
 use Rattle.legal_history.specs.Stories.Lawful.{Legal}
 use Rattle.base_core.specs.Calls.Acting.{AnswersNext, DecidesNext}
-use Rattle.base_core.specs.Keeping.Nexts.{waiting}
+use Rattle.clearmake.specs.Nexts.{waiting}
 use Rattle.base_core.specs.Story.Replying.{reply_to_answer}
 use Rattle.base_core.proofs.Acting.Fitting.{may_fits}
 use Rattle.base_core.proofs.Acting.PlainRows.{command_finishes}

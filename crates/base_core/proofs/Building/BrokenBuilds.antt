@@ -21,7 +21,7 @@ use Rattle.legal_history.specs.Stories.States.{State, Faulted, start, done_of, w
 use Rattle.legal_history.specs.Stories.Steps.{after, state_of, done_by_fault, faulted_in, without_build}
 use Rattle.base_core.specs.Logging.Appending.{MayLeaveRow}
 use Rattle.base_core.specs.Calls.Building.{IsBuildKept}
-use Rattle.base_core.specs.Calls.Going.{SamePhase, Finishes}
+use Rattle.clearmake.specs.Going.{SamePhase, Finishes}
 use Rattle.base_core.specs.Keeping.Kept.{IsStoryKept, IsPhaseKept, AreReplies, AreBuilds, IsCoreKept}
 use Rattle.base_core.specs.Keeping.Lanes.{LaneKept, lane_kept, commands_at, replies_at, builds_in, with_closed}
 use Rattle.base_core.specs.Logging.Logs.{Logged, with_step, with_step_on}

@@ -11,8 +11,8 @@ use Rattle.legal_history.specs.Builds.Active.{Build, build_of}
 use Rattle.legal_history.specs.Stories.States.{State, start, done_of, with_done, next_tag}
 use Rattle.legal_history.specs.Stories.Steps.{state_of, without_build}
 use Rattle.legal_history.specs.Builds.Turns.{is_complete}
-use Rattle.base_core.specs.Calls.BuildCalls.{IsOver}
-use Rattle.base_core.specs.Calls.Going.{Finishes}
+use Rattle.clearmake.specs.Calls.{IsOver}
+use Rattle.clearmake.specs.Going.{Finishes}
 use Rattle.base_core.specs.Keeping.Kept.{IsCoreKept}
 use Rattle.base_core.specs.Keeping.Lanes.{LaneKept, with_closed}
 use Rattle.base_core.specs.Logging.Logs.{Logged, with_step}

@@ -17,11 +17,12 @@ use Rattle.legal_history.specs.Stories.Lawful.{Legal}
 use Rattle.legal_history.specs.Stories.States.{State, next_tag}
 use Rattle.legal_history.specs.Stories.Steps.{state_of}
 use Rattle.legal_history.specs.Base.Views.{view_row}
-use Rattle.base_core.specs.Calls.BuildCalls.{IsCarried, MaySettle, MayWink, HasRun, HasScript, IsStarted, IsRunOfUnit, Noted, Tries, turn_of}
+use Rattle.clearmake.specs.Calls.{HasScript, IsCarried, IsRunOfUnit, IsStarted, Tries}
+use Rattle.base_core.specs.Calls.BuildCalls.{MaySettle, MayWink, HasRun, Noted, turn_of}
 use Rattle.base_core.specs.Calls.Building.{IsBuildKept}
-use Rattle.base_core.specs.declared.turns.Carried.{Carried}
-use Rattle.base_core.specs.declared.turns.Carried.TheVariants as carried
-use Rattle.base_core.specs.Calls.Going.{StillBuilds, GoesOn}
+use Rattle.clearmake.specs.declared.turns.Carried.{Carried}
+use Rattle.clearmake.specs.declared.turns.Carried.TheVariants as carried
+use Rattle.clearmake.specs.Going.{StillBuilds, GoesOn}
 use Rattle.base_core.specs.Keeping.Kept.{IsCoreKept}
 use Rattle.base_core.specs.Keeping.Lanes.{LaneKept}
 use Rattle.base_core.specs.Logging.Logs.{Logged}

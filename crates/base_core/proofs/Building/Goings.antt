@@ -2,7 +2,7 @@
 use Rattle.std.proofs.Common.{ℕ, List, [], refl, sym}
 use Rattle.std.proofs.lemmas.List.{append-nil}
 use Rattle.cc_names.specs.declared.steps.Told.{Told}
-use Rattle.base_core.specs.Calls.Going.{GoesOn}
+use Rattle.clearmake.specs.Going.{GoesOn}
 
 -- a story that does not go on
 pub goes_nowhere : (story : List Told) (lane : ℕ) → GoesOn story story lane

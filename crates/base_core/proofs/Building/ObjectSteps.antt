@@ -13,7 +13,7 @@ use Rattle.legal_history.specs.Stories.States.{State, start, ticks_of}
 use Rattle.legal_history.specs.Stories.Steps.{after, state_of, with_came}
 use Rattle.legal_history.proofs.Stories.SoundStories.{base_fits}
 use Rattle.base_core.specs.Calls.BuildCalls.{GivesObject}
-use Rattle.base_core.specs.Calls.Going.{GoesOn, HasOutcome, StillBuilds}
+use Rattle.clearmake.specs.Going.{GoesOn, HasOutcome, StillBuilds}
 use Rattle.base_core.specs.Keeping.Kept.{IsCoreKept}
 use Rattle.base_core.specs.Keeping.Lanes.{LaneKept, build_at, put_build}
 use Rattle.base_core.specs.Logging.Logs.{Logged, with_row}

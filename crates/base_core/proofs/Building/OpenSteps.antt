@@ -13,9 +13,9 @@ use Rattle.legal_history.specs.Commands.Decisions.{Begins}
 use Rattle.legal_history.specs.Stories.States.{State, start, done_of, with_done, next_tag}
 use Rattle.legal_history.specs.Stories.Steps.{after, begun, state_of, with_build}
 use Rattle.base_core.specs.Calls.Acting.{Acts, IsStepOf}
-use Rattle.base_core.specs.Calls.BuildCalls.{IsBuilding}
+use Rattle.clearmake.specs.Calls.{IsBuilding}
 use Rattle.base_core.specs.Calls.Building.{IsNextBuild}
-use Rattle.base_core.specs.Calls.Going.{GoesOn, Finishes}
+use Rattle.clearmake.specs.Going.{GoesOn, Finishes}
 use Rattle.base_core.specs.Keeping.Kept.{IsCoreKept}
 use Rattle.base_core.specs.Keeping.Lanes.{LaneKept, put_build}
 use Rattle.base_core.specs.Logging.Logs.{Logged, with_step}

@@ -21,7 +21,7 @@ use Rattle.legal_history.specs.Stories.States.{State, scene, done_of, lane_at, c
 use Rattle.legal_history.specs.Stories.Steps.{begun, new_build, units_begun}
 use Rattle.legal_history.specs.Base.Views.{view_row}
 use Rattle.base_core.specs.Calls.Building.{IsBuildKept, PlansNext}
-use Rattle.base_core.specs.Keeping.Nexts.{next_of, waiting}
+use Rattle.clearmake.specs.Nexts.{next_of, waiting}
 use Rattle.base_core.proofs.Acting.NextCommands.{in_phase, next_is}
 
 -- all rows are the first of as many

@@ -47,7 +47,7 @@ steps_so s b lane n build step kept active within consistent same h = here step 
   where
     here : (step : UnitStep) → IsStep s.base build n step → StepsTo s lane n step
     here next.Settled h = record { build = build; active = active; outcome = h }
-    here (next.NotReady m) h = record { build = build; active = active; unit = h.unit; is_unit = h.is_unit; awaits = h.next; earlier = awaits_earlier s.base build n m h.unit consistent h.is_unit h.next }
+    here (next.NotReady m) h = record { build = build; active = active; waits = h.next.waits; earlier = awaits_earlier s.base build n m h.unit consistent h.is_unit h.next }
     here (next.Settle end) h = record {
       build = build;
       active = active;

@@ -22,7 +22,7 @@ use Rattle.legal_history.specs.Builds.Serials.{Standing, early_end, first_end, n
 use Rattle.legal_history.specs.Stories.States.{State, next_tag}
 use Rattle.legal_history.specs.Builds.UnitTurns.{ComesTo, EndsEarly}
 use Rattle.legal_history.specs.Builds.Turns.{early}
-use Rattle.base_core.specs.Keeping.Nexts.{next_of, next_by, waiting}
+use Rattle.clearmake.specs.Nexts.{next_of, next_by, waiting}
 use Rattle.base_core.proofs.Keeping.Idle.{some_same}
 
 -- a lane that is to build waits with a command

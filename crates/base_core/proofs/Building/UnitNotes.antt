@@ -11,7 +11,7 @@ use Rattle.legal_history.specs.Builds.Active.{Build, Came, build_of, came_to, is
 use Rattle.legal_history.specs.Stories.States.{State, start}
 use Rattle.legal_history.specs.Stories.Steps.{state_of, with_came}
 use Rattle.base_core.specs.Calls.BuildCalls.{Notes, Noted}
-use Rattle.base_core.specs.Calls.Going.{StillBuilds}
+use Rattle.clearmake.specs.Going.{StillBuilds}
 use Rattle.base_core.specs.Keeping.Kept.{IsCoreKept}
 use Rattle.base_core.specs.Keeping.Lanes.{LaneKept, build_at, put_build}
 use Rattle.base_core.specs.Logging.Logs.{Logged, with_step}

@@ -19,7 +19,7 @@ use Rattle.legal_history.specs.Stories.Steps.{state_of}
 use Rattle.base_core.specs.Keeping.Kept.{IsCoreKept}
 use Rattle.base_core.specs.Keeping.Lanes.{LaneKept, builds_in}
 use Rattle.base_core.specs.Logging.Logs.{Logged}
-use Rattle.base_core.specs.Keeping.Nexts.{waiting, next_by, next_of}
+use Rattle.clearmake.specs.Nexts.{waiting, next_by, next_of}
 
 -- nothing is not something
 pub not_both : {A : Type 0} (found : Option A) (a : A) → found ≡ None → found ≡ Some a → ⊥

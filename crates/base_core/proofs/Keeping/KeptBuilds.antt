@@ -8,7 +8,7 @@ use Rattle.legal_history.specs.Base.Rows.{size, first_rows}
 use Rattle.legal_history.specs.Builds.Active.{Build, build_of, reserved}
 use Rattle.legal_history.specs.Stories.States.{State, done_of}
 use Rattle.base_core.specs.Calls.Building.{IsBuildKept}
-use Rattle.base_core.specs.Calls.Going.{SamePhase}
+use Rattle.clearmake.specs.Going.{SamePhase}
 use Rattle.base_core.specs.Keeping.Kept.{AreBuilds}
 use Rattle.base_core.proofs.Keeping.LaneCounts.{one_or_two}
 use Rattle.base_core.proofs.Keeping.Reserving.{found_set, found_other, reserved_set, rows_for}

@@ -19,7 +19,7 @@ use Rattle.legal_history.specs.Stories.Lawful.{Lawful}
 use Rattle.legal_history.specs.Stories.States.{State, start, done_of, with_done}
 use Rattle.legal_history.specs.Stories.Steps.{after, state_of}
 use Rattle.base_core.specs.Calls.Building.{IsBuildKept}
-use Rattle.base_core.specs.Calls.Going.{SamePhase}
+use Rattle.clearmake.specs.Going.{SamePhase}
 use Rattle.base_core.specs.Keeping.Kept.{IsStoryKept, IsPhaseKept, AreBuilds, IsCoreKept}
 use Rattle.base_core.specs.Keeping.Lanes.{LaneKept, lane_kept, commands_at, replies_at, builds_in, with_reply, put_build}
 use Rattle.base_core.specs.Logging.Logs.{Logged}

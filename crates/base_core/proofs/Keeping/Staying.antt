@@ -9,7 +9,7 @@ use Rattle.legal_history.specs.Builds.Active.{Build}
 use Rattle.legal_history.specs.Stories.States.{State, done_of, lane_at, command_behind, next_tag}
 use Rattle.legal_history.specs.Base.Views.{view_row}
 use Rattle.base_core.specs.Calls.Building.{IsBuildKept}
-use Rattle.base_core.specs.Keeping.Nexts.{next_of, next_by}
+use Rattle.clearmake.specs.Nexts.{next_of, next_by}
 
 -- the first rows do not change where a row is added
 pub first_stay : (row : Plain) (b : Base) (t : ℕ) → t ≤ size b → first_rows t (row ∷ b) ≡ first_rows t b

@@ -1,11 +1,9 @@
 -- What the calls of a core on a lane's build ask and leave.
-use Rattle.std.specs.Prelude.{◌≡◌, ℕ, ◌<◌, ◌^◌, true, false, Option, Some, None, is_some, Ok, List, [], length}
+use Rattle.std.specs.Prelude.{◌≡◌, ℕ, ◌<◌, true, false, Option, Some, None, Ok, List, [], length}
 use Rattle.std.specs.Ordering.{nat_cmp}
 use Rattle.std.specs.FinMap.Entries.{put}
 use Rattle.cc_names.specs.Formed.{Plain}
 use Rattle.cc_names.specs.Versions.{is_number}
-use Rattle.cc_names.specs.declared.desks.Begun.{Begun}
-use Rattle.cc_names.specs.declared.desks.Begun.TheVariants as begins
 use Rattle.cc_names.specs.declared.refusals.ScriptFault.{ScriptFault}
 use Rattle.cc_names.specs.declared.rows.Deed.TheVariants as deeds
 use Rattle.cc_names.specs.declared.steps.Step.{Step}
@@ -14,44 +12,29 @@ use Rattle.cc_names.specs.declared.steps.UnitEnd.TheVariants.{Kept}
 use Rattle.cc_names.specs.declared.steps.Told.{Told}
 use Rattle.cc_names.specs.declared.steps.Told.TheVariants as told
 use Rattle.cc_names.specs.declared.units.Unit.{Unit}
-use Rattle.build_core.specs.UnitSteps.{Awaits}
 use Rattle.build_core.specs.declared.steps.UnitStep.{UnitStep}
 use Rattle.build_core.specs.declared.steps.UnitStep.TheVariants as next
-use Rattle.build_script.specs.Lines.{script_of}
 use Rattle.build_script.specs.Run.{Ran}
-use Rattle.build_script.specs.declared.lines.Line.{Line}
 use Rattle.legal_history.specs.Base.Rows.{size}
 use Rattle.legal_history.specs.Builds.Active.{Build, Came, Started, build_of, came_to, is_outcome, unit_at}
 use Rattle.legal_history.specs.Builds.Choices.{here, publish_of}
-use Rattle.legal_history.specs.Builds.Fresh.{script_text}
 use Rattle.legal_history.specs.Builds.Reuse.{held_at_all, reusable}
 use Rattle.legal_history.specs.Laws.FromNothing.{MayTake}
 use Rattle.legal_history.specs.Stories.States.{State, next_tag}
 use Rattle.legal_history.specs.Stories.Steps.{after, state_of, with_came}
 use Rattle.legal_history.specs.Stories.Lawful.{LawfulStep}
 use Rattle.legal_history.specs.Builds.UnitTurns.{IsOpen, ComesTo}
-use Rattle.legal_history.specs.Builds.Turns.{is_complete, unreadable}
+use Rattle.legal_history.specs.Builds.Turns.{unreadable}
+use Rattle.clearmake.specs.Calls.{HasScript, WaitsFor}
+use Rattle.clearmake.specs.Going.{GoesOn, HasOutcome}
+use Rattle.clearmake.specs.declared.turns.Carried.{Carried}
+use Rattle.clearmake.specs.declared.turns.Carried.TheVariants as carried
+use Rattle.clearmake.specs.declared.turns.UnitTurn.{UnitTurn}
+use Rattle.clearmake.specs.declared.turns.UnitTurn.TheVariants as turns
 use Rattle.base_core.specs.Calls.Building.{IsBuildKept}
-use Rattle.base_core.specs.Calls.Going.{GoesOn, HasOutcome, Finishes}
 use Rattle.base_core.specs.Story.Faults.{is_fault}
 use Rattle.base_core.specs.Story.Replying.{replies_by}
 use Rattle.base_core.specs.Story.Telling.{stands_alone}
-use Rattle.base_core.specs.declared.turns.Carried.{Carried}
-use Rattle.base_core.specs.declared.turns.Carried.TheVariants as carried
-use Rattle.base_core.specs.declared.turns.UnitTurn.{UnitTurn}
-use Rattle.base_core.specs.declared.turns.UnitTurn.TheVariants as turns
-
--- a lane builds so many units
-pub record IsBuilding (s : State) (lane count : ℕ) : Type 0 where
-  pub build : Build
-  pub active : build_of s.active lane ≡ Some build
-  pub of_units : length build.units ≡ count
-  pub few : count < 2 ^ 32
-
--- a build of so many units began, or goes on; or its command was refused
-abbrev pub Begins : List Told → List Told → ℕ → Begun → Type 0
-Begins old new lane (begins.Units count) = GoesOn old new lane × IsBuilding (state_of new) lane count
-Begins old new lane begins.Refused = Finishes old new lane
 
 -- By this step, which names no row, unit n of a lane's build comes to something, and no command is replied.
 pub record Notes (s : State) (lane n : ℕ) (step : Step) (came : Came) : Type 0 where
@@ -103,24 +86,6 @@ pub record MayWink (s : State) (lane n id : ℕ) : Type 0 where
   pub chosen : reusable s.base build n unit ≡ Some id
   pub lacks : is_number id (held_at_all s.base build.view unit.targets) ≡ false
 
--- unit n of a lane's build has this script and these targets
-pub record HasScript (s : State) (lane n : ℕ) (script : List Line) (targets : List (List ℕ)) : Type 0 where
-  pub build : Build
-  pub active : build_of s.active lane ≡ Some build
-  pub unit : Unit
-  pub is_unit : unit_at build n ≡ Some unit
-  pub script_is : script_of (script_text unit.script) ≡ Ok script
-  pub targets_are : targets ≡ unit.targets
-
--- unit n of a lane's build waits for this earlier unit, which makes one of its prerequisites and has no outcome
-pub record WaitsFor (s : State) (lane n m : ℕ) : Type 0 where
-  pub build : Build
-  pub active : build_of s.active lane ≡ Some build
-  pub unit : Unit
-  pub is_unit : unit_at build n ≡ Some unit
-  pub awaits : Awaits build unit m
-  pub earlier : m < n
-
 -- what comes next for unit n of a lane's build
 abbrev pub StepsTo : State → ℕ → ℕ → UnitStep → Type 0
 StepsTo s lane n next.Settled = HasOutcome s lane n
@@ -155,20 +120,6 @@ pub data GivesObject (s : State) (lane n : ℕ) (row : Plain) (object : ℕ) : T
   Published : IsObjectRow s lane n row → object ≡ size s.base → GivesObject s lane n row object
   WinkedIn : IsWinkRow s lane n object row → GivesObject s lane n row object
 
--- unit n of a lane's build was started, with this script and these targets; by now it may have its outcome
-pub record IsStarted (s : State) (lane n : ℕ) (script : List Line) (targets : List (List ℕ)) : Type 0 where
-  pub has : HasScript s lane n script targets
-  pub started : is_some (came_to has.build n) ≡ true
-
--- unit n of a lane's build was started, and this is the run of its script on what it sees; by now it may have its outcome
-pub record IsRunOfUnit (s : State) (lane n : ℕ) (ran : Ran) : Type 0 where
-  pub build : Build
-  pub active : build_of s.active lane ≡ Some build
-  pub unit : Unit
-  pub is_unit : unit_at build n ≡ Some unit
-  pub started : is_some (came_to build n) ≡ true
-  pub run : ran ≡ here s.base build n unit
-
 -- and it has no outcome yet
 pub record HasRun (s : State) (lane n : ℕ) (ran : Ran) : Type 0 where
   pub build : Build
@@ -183,28 +134,6 @@ pub record HasRun (s : State) (lane n : ℕ) (ran : Ran) : Type 0 where
 pub record MayPublish (s : State) (lane n : ℕ) (outputs reads : List (List ℕ)) : Type 0 where
   pub run : HasRun s lane n (record { result = Ok outputs; reads = reads })
   pub nothing : reusable s.base run.build n run.unit ≡ None
-
--- the units of a lane's build all have their outcomes
-pub record IsOver (s : State) (lane : ℕ) : Type 0 where
-  pub build : Build
-  pub active : build_of s.active lane ≡ Some build
-  pub complete : is_complete build ≡ true
-
--- a unit of a lane's build has its outcome, and the story went on
-abbrev pub Settled : List Told → List Told → ℕ → ℕ → Type 0
-Settled old new lane n = GoesOn old new lane × HasOutcome (state_of new) lane n
-
--- what became of a unit that was tried: it has its outcome, it waits for another and nothing changed, or its script was started
-abbrev pub Tries : List Told → List Told → ℕ → ℕ → UnitTurn → Type 0
-Tries old new lane n turns.Settled = Settled old new lane n
-Tries old new lane n (turns.NotReady m) = (new ≡ old) × WaitsFor (state_of old) lane n m
-Tries old new lane n (turns.Run script targets) = GoesOn old new lane × IsStarted (state_of new) lane n script targets
-Tries old new lane n turns.Faulted = Finishes old new lane
-
--- what became of a unit that was given its outcome: it has it, or the disk failed and its lane's command is finished
-abbrev pub IsCarried : List Told → List Told → ℕ → ℕ → Carried → Type 0
-IsCarried old new lane n carried.Settled = Settled old new lane n
-IsCarried old new lane n carried.Faulted = Finishes old new lane
 
 -- the turn of a unit whose outcome was at hand
 abbrev pub turn_of : Carried → UnitTurn

@@ -13,7 +13,7 @@ use Rattle.legal_history.specs.Stories.States.{State, decided, next_tag}
 use Rattle.legal_history.specs.Stories.Steps.{begun}
 use Rattle.legal_history.specs.Base.Views.{view_row}
 use Rattle.base_core.specs.Calls.Acting.{IsNextTag, RefusalWas}
-use Rattle.base_core.specs.Keeping.Nexts.{next_of}
+use Rattle.clearmake.specs.Nexts.{next_of}
 
 -- The active build of a lane: it is that of the lane's next command, its view was there at its reference rows, and the disk
 -- has not failed under it.

@@ -71,7 +71,7 @@ impl<D: Disk> Core<D> {
       IsRowToCommit,
     };
     ghost use Rattle.base_core.specs.Story.Counted.{KeepsCount};
-    ghost use Rattle.base_core.specs.Keeping.Nexts.{next_of, waiting};
+    ghost use Rattle.clearmake.specs.Nexts.{next_of, waiting};
 
     /// Whether a lane's next command is a query.
     fn asks(&self, alloc: Global, lane: u32) -> Result<bool, NoMemory>

@@ -17,11 +17,11 @@ impl<D: Disk> Core<D> {
     ghost use Rattle.legal_history.specs.Builds.Active.{build_of};
     ghost use Rattle.legal_history.specs.Stories.States.{next_tag};
     ghost use Rattle.legal_history.specs.Stories.Steps.{state_of};
-    ghost use Rattle.base_core.specs.Calls.BuildCalls.{Begins, IsOver};
+    ghost use Rattle.clearmake.specs.Calls.{Begins, IsOver};
     ghost use Rattle.base_core.specs.Calls.Building.{IsNextBuild, PlansNext};
     ghost use Rattle.base_core.specs.Story.Counted.{KeepsCount};
-    ghost use Rattle.base_core.specs.Calls.Going.{Finishes};
-    ghost use Rattle.base_core.specs.Keeping.Nexts.{next_of};
+    ghost use Rattle.clearmake.specs.Going.{Finishes};
+    ghost use Rattle.clearmake.specs.Nexts.{next_of};
 
     /// What is decided of a lane's next command, which builds: the build to begin, or the first refusal.
     fn plan(&self, alloc: Global, lane: u32) -> Result<ActiveBuild, Or<Refusal>>

@@ -22,7 +22,7 @@ impl<D: Disk> Core<D> {
     ghost use Rattle.legal_history.specs.Stories.Steps.{state_of};
     ghost use Rattle.base_core.specs.Calls.Building.{IsBuildKept};
     ghost use Rattle.base_core.specs.Keeping.Kept.{command_limit};
-    ghost use Rattle.base_core.specs.Keeping.Nexts.{next_of, waiting};
+    ghost use Rattle.clearmake.specs.Nexts.{next_of, waiting};
 
     /// The story is legal, at every moment.
     pub fn legal(&self)

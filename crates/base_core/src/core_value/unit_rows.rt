@@ -3,7 +3,6 @@
 
 use super::Core;
 use crate::logs::Appended;
-use crate::turns::Carried;
 use build_core::{Came, a_unit_may_publish, publish_row, reusable, wink_row};
 use cc_names::lists::List;
 use cc_names::memory::NoMemory;
@@ -12,6 +11,7 @@ use cc_names::replies::Reply;
 use cc_names::rows::Row;
 use cc_names::steps::Step;
 use cc_names::texts::Text;
+use clearmake::Carried;
 use disk_model::Disk;
 use legal_history::laws::builds::a_build_is_consistent;
 use legal_history::laws::taken::what_is_found_after_the_start_is_not_held;
@@ -20,15 +20,8 @@ use std::alloc::Global;
 impl<D: Disk> Core<D> {
     ghost use Rattle.std.specs.Prelude.{◌≡◌, Ok, OnErr, IfOk};
     ghost use Rattle.legal_history.specs.Stories.Steps.{state_of};
-    ghost use Rattle.base_core.specs.Calls.BuildCalls.{
-      GivesObject,
-      HasRun,
-      IsCarried,
-      IsObjectRow,
-      IsWinkRow,
-      MayPublish,
-      MayWink,
-    };
+    ghost use Rattle.clearmake.specs.Calls.{IsCarried};
+    ghost use Rattle.base_core.specs.Calls.BuildCalls.{GivesObject, HasRun, IsObjectRow, IsWinkRow, MayPublish, MayWink};
     ghost use Rattle.base_core.specs.Story.Counted.{KeepsCount};
 
     /// The row of what the run of a unit of a lane's build gave.

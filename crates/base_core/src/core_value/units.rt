@@ -6,7 +6,6 @@ ghost use Rattle.legal_history.specs.Builds.Turns.{came_by_start};
 ghost use Rattle.base_core.specs.Calls.BuildCalls.{turn_of};
 
 use super::Core;
-use crate::turns::{Carried, UnitTurn};
 use build_core::{Came, UnitStep, run_unit, step};
 use build_script::outcomes::{Ended, Outcome};
 use build_script::scripts::Script;
@@ -15,6 +14,7 @@ use cc_names::memory::NoMemory;
 use cc_names::paths::Path;
 use cc_names::refusals::{ScriptFault, UnitFault};
 use cc_names::steps::{Step, UnitEnd};
+use clearmake::{Carried, UnitTurn};
 use disk_model::Disk;
 use legal_history::laws::builds::a_build_is_consistent;
 use std::alloc::Global;
@@ -45,22 +45,10 @@ impl<D: Disk> Core<D> {
     ghost use Rattle.build_script.specs.Ended.{ran_of};
     ghost use Rattle.legal_history.specs.Builds.Turns.{came_by_start};
     ghost use Rattle.legal_history.specs.Stories.Steps.{state_of};
-    ghost use Rattle.base_core.specs.Calls.BuildCalls.{
-      HasRun,
-      IsRunOfUnit,
-      IsBuilding,
-      IsCarried,
-      IsStarted,
-      MaySettle,
-      MayStart,
-      Noted,
-      Notes,
-      Settled,
-      StepsTo,
-      Tries,
-    };
+    ghost use Rattle.clearmake.specs.Calls.{IsBuilding, IsCarried, IsRunOfUnit, IsStarted, Settled, Tries};
+    ghost use Rattle.base_core.specs.Calls.BuildCalls.{HasRun, MaySettle, MayStart, Noted, Notes, StepsTo};
     ghost use Rattle.base_core.specs.Story.Counted.{KeepsCount};
-    ghost use Rattle.base_core.specs.Calls.Going.{HasOutcome};
+    ghost use Rattle.clearmake.specs.Going.{HasOutcome};
 
     /// Tells a step by which a unit of a lane's build comes to something without a row. An `Err` changes nothing.
     fn note_step(&mut self, lane: u32, unit: u32, step: Step, came: Came) -> Result<(), NoMemory>

@@ -1,15 +1,13 @@
 // Sessions that build.
 
-use super::{BUILT, KEPT, failing_disk, outcome_on};
+use super::{BUILT, KEPT, Runtime, failing_disk, outcome_on};
 use session_run::Status;
 use std::alloc::{AllocError, Global};
-use std::process::Abort;
-use std::random::RandomSource;
 use std::test::Fail;
 
 // A session with one view and some saves, and then a build of `out`.
 fn assert_build(
-    rt: &(impl Abort + RandomSource),
+    rt: &impl Runtime,
     alloc: Global,
     saves: &str,
     saved: &str,
@@ -69,7 +67,7 @@ fn a_script_makes_forms_of_a_text(rt: HostRuntime) -> Result<(), Fail> {
 
 // A build with one save before, a makefile, whose reply is that of command 3.
 fn assert_makefile(
-    rt: &(impl Abort + RandomSource),
+    rt: &impl Runtime,
     alloc: Global,
     makefile: &str,
     command: &str,
@@ -135,7 +133,7 @@ fn a_clearmake_without_a_makefile_is_refused(rt: HostRuntime) -> Result<(), Fail
 
 // A build of one target by this makefile, which fails so.
 fn assert_failure(
-    rt: &(impl Abort + RandomSource),
+    rt: &impl Runtime,
     alloc: Global,
     target: &str,
     makefile: &str,

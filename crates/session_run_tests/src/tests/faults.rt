@@ -1,10 +1,8 @@
 // Sessions on disks that fail.
 
-use super::{BUILT, FIRST, assert_outcome, calls_on, failing_disk, outcome_on};
+use super::{BUILT, FIRST, Runtime, assert_one_of, calls_on, failing_disk, outcome_on, rows_in};
 use disk_model::Disk;
-use std::alloc::Global;
-use std::process::Abort;
-use std::random::RandomSource;
+use std::alloc::{AllocError, Global};
 use std::test::Fail;
 
 const SECOND: &str =
@@ -16,25 +14,21 @@ const UNBUILT: &str =
 const UNMADE: &str =
     "phase 1\nlane a\n1 mkview disk fault\n2 save refused C1 NoView\n3 save refused C1 NoView\n4 clearmake refused C1 NoView\n";
 
-// What a session on an empty disk comes to whose calls of these numbers fail: what it writes, the calls and their number, and the
-// rows.
+// What a session on an empty disk comes to whose calls of these numbers fail: what it writes, which is one of these texts, the
+// calls and their number, and the rows.
 #[derive(Clone, Copy)]
 struct Fault<'a> {
     session: &'a str,
     fail: &'a [u64],
-    written: &'a str,
+    texts: &'a [&'a str],
     calls: &'a str,
     ticks: u64,
     rows: usize,
 }
 
-fn assert_fault(
-    rt: &(impl Abort + RandomSource),
-    alloc: Global,
-    wanted: Fault<'_>,
-) -> Result<(), Fail> {
+fn assert_fault(rt: &impl Runtime, alloc: Global, wanted: Fault<'_>) -> Result<(), Fail> {
     let outcome = outcome_on(rt, alloc, wanted.session, failing_disk(alloc, wanted.fail)?)?;
-    assert_outcome(rt, &outcome, 7, wanted.written, wanted.rows);
+    assert_one_of(rt, &outcome, 7, wanted.texts, wanted.rows);
     assert_eq!(rt; calls_on(alloc, &outcome.disk)?.as_str(), wanted.calls);
     assert_eq!(rt; outcome.disk.counts().ticks, wanted.ticks);
     Ok(())
@@ -52,7 +46,7 @@ fn a_disk_that_fails_is_told(rt: HostRuntime) -> Result<(), Fail> {
         let wanted = Fault {
             session: FIRST,
             fail,
-            written,
+            texts: &[written],
             calls,
             ticks,
             rows,
@@ -74,7 +68,7 @@ fn the_next_command_goes_on(rt: HostRuntime) -> Result<(), Fail> {
         let wanted = Fault {
             session: SECOND,
             fail,
-            written,
+            texts: &[written],
             calls,
             ticks,
             rows,
@@ -84,45 +78,90 @@ fn the_next_command_goes_on(rt: HostRuntime) -> Result<(), Fail> {
     Ok(())
 }
 
-// Row N of phase 1 is that of its command N. In phase 2 both lanes publish in the fourth round, lane a first, and lane a saves in the
-// fifth.
+// Row N of phase 1 is that of its command N, by the calls 4 to 19. The first commit of phase 2 is a publish, of either lane, by
+// the calls 20 to 23; behind it come lane a's save and the other publish, in either order.
 const TWO_LANES: &str =
     "phase\nlane a\nmkview v\nsave v Makefile\n|out:\n|\techo hi > out\nmkview w\nsave w Makefile\n|out:\n|\techo hi > out\nphase\nlane a\nclearmake v\nsave v note\nlane b\nclearmake w\n";
 
-const OF_LANE_A: &str =
-    "phase 1\nlane a\n1 mkview ok\n2 save ok\n3 mkview ok\n4 save ok\nphase 2\nlane a\n1 clearmake disk fault\n2 save ok\nlane b\n";
+// What the session writes where its three commands of phase 2 are answered so.
+fn two_lanes_told(
+    alloc: Global,
+    first: &str,
+    second: &str,
+    third: &str,
+) -> Result<String, AllocError> {
+    format!(in alloc;
+        "phase 1\nlane a\n1 mkview ok\n2 save ok\n3 mkview ok\n4 save ok\nphase 2\nlane a\n1 clearmake {first}2 save {second}lane b\n1 clearmake {third}"
+    )
+}
 
-/// The call 23 is the last one under lane a's publish, and 24 the first under lane b's, which settles the journal.
+/// The last call under the first publish fails. The other lane builds, and lane a saves.
 #[test]
 fn a_fault_under_one_lanes_build_leaves_the_other_lanes(rt: HostRuntime) -> Result<(), Fail> {
-    let built = format!(in rt.alloc(); "{OF_LANE_A}1 clearmake ok\n{BUILT}")?;
-    let unbuilt = format!(in rt.alloc(); "{OF_LANE_A}1 clearmake disk fault\n")?;
-    let cases: [(&[u64], &str, &str, u64, usize); 2] = [
-        (
-            &[23],
-            built.as_str(),
-            "LWSWSWSWSWSWSWSWSWSWSW!WSWSWSWSWS",
-            33,
-            6,
-        ),
-        (
-            &[23, 24],
-            unbuilt.as_str(),
-            "LWSWSWSWSWSWSWSWSWSWSW!TWSWSWS",
-            30,
-            5,
-        ),
-    ];
-    for (fail, written, calls, ticks, rows) in cases {
-        let wanted = Fault {
-            session: TWO_LANES,
-            fail,
-            written,
-            calls,
-            ticks,
-            rows,
-        };
-        assert_fault(&rt, rt.alloc(), wanted)?;
+    let alloc = rt.alloc();
+    let built = format!(in alloc; "ok\n{BUILT}")?;
+    let of_a = two_lanes_told(alloc, "disk fault\n", "ok\n", built.as_str())?;
+    let of_b = two_lanes_told(alloc, built.as_str(), "ok\n", "disk fault\n")?;
+    let wanted = Fault {
+        session: TWO_LANES,
+        fail: &[23],
+        texts: &[of_a.as_str(), of_b.as_str()],
+        calls: "LWSWSWSWSWSWSWSWSWSWSW!WSWSWSWSWS",
+        ticks: 33,
+        rows: 6,
+    };
+    assert_fault(&rt, alloc, wanted)
+}
+
+/// The call behind it fails too, with which the next commit settles the journal: that of the other publish, or of lane a's save.
+#[test]
+fn faults_under_two_commands_leave_the_third(rt: HostRuntime) -> Result<(), Fail> {
+    let alloc = rt.alloc();
+    let built = format!(in alloc; "ok\n{BUILT}")?;
+    let of_builds = two_lanes_told(alloc, "disk fault\n", "ok\n", "disk fault\n")?;
+    let of_a = two_lanes_told(alloc, "disk fault\n", "disk fault\n", built.as_str())?;
+    let wanted = Fault {
+        session: TWO_LANES,
+        fail: &[23, 24],
+        texts: &[of_builds.as_str(), of_a.as_str()],
+        calls: "LWSWSWSWSWSWSWSWSWSWSW!TWSWSWS",
+        ticks: 30,
+        rows: 5,
+    };
+    assert_fault(&rt, alloc, wanted)
+}
+
+// Four lanes that save in views of their own. The views are rows 1 to 4, by the calls 4 to 19, and each of the twelve saves has
+// four calls, from 20 on.
+const SAVERS: &str =
+    "phase\nlane a\nmkview v\nmkview w\nmkview x\nmkview y\nphase\nlane a\nsave v k\nsave v m\nsave v n\nlane b\nsave w k\nsave w m\nsave w n\nlane c\nsave x k\nsave x m\nsave x n\nlane d\nsave y k\nsave y m\nsave y n\n";
+
+const SAVED: &str =
+    "phase 1\nlane a\n1 mkview ok\n2 mkview ok\n3 mkview ok\n4 mkview ok\nphase 2\nlane a\n1 save ok\n2 save ok\n3 save ok\nlane b\n1 save ok\n2 save ok\n3 save ok\nlane c\n1 save ok\n2 save ok\n3 save ok\nlane d\n1 save ok\n2 save ok\n3 save ok\n";
+
+// One save is told the fault, all else is as without it, and the base that is opened again has the other rows.
+fn assert_one_fault(rt: &impl Runtime, alloc: Global, call: u64) -> Result<(), Fail> {
+    let outcome = outcome_on(rt, alloc, SAVERS, failing_disk(alloc, &[call])?)?;
+    assert_eq!(rt; outcome.status.code(), 7, "at {call}");
+    assert_eq!(rt; outcome.rows, 15, "at {call}");
+    let written = format!(in alloc; "{}", outcome.written)?;
+    assert_eq!(rt;
+        written.as_str().matches("save disk fault").count(),
+        1,
+        "at {call}"
+    );
+    let mended = written
+        .as_str()
+        .replace(alloc, "save disk fault", "save ok")?;
+    assert_eq!(rt; mended.as_str(), SAVED, "at {call}");
+    assert_eq!(rt; rows_in(rt, alloc, outcome.disk.bytes(0))?, 15, "at {call}");
+    Ok(())
+}
+
+#[test]
+fn a_fault_under_one_of_four_lanes_is_told_to_one(rt: HostRuntime) -> Result<(), Fail> {
+    for call in 20..=67 {
+        assert_one_fault(&rt, rt.alloc(), call)?;
     }
     Ok(())
 }

@@ -1,9 +1,7 @@
 // Journals that are found: whole, cut short, damaged, and written by a run before.
 
-use super::{BUILT, FIRST, KEPT, assert_outcome, disk_with, journal_of, outcome_on};
+use super::{BUILT, FIRST, KEPT, Runtime, assert_outcome, disk_with, journal_of, outcome_on};
 use std::alloc::Global;
-use std::process::Abort;
-use std::random::RandomSource;
 use std::test::Fail;
 
 const VIEWS: &str = "phase\nlane a\nmkview v\nmkview w\n";
@@ -23,7 +21,7 @@ fn a_base_is_found_again(rt: HostRuntime) -> Result<(), Fail> {
 }
 
 // The journal of a first build, the first byte of whose object is `j` in place of `h`.
-fn with_another_object(rt: &(impl Abort + RandomSource), alloc: Global) -> Result<Vec<u8>, Fail> {
+fn with_another_object(rt: &impl Runtime, alloc: Global) -> Result<Vec<u8>, Fail> {
     let mut journal = journal_of(rt, alloc, FIRST)?;
     assert_eq!(rt; journal.len(), 237);
     assert_eq!(rt; journal[233], b'h');
@@ -48,7 +46,7 @@ fn a_wrong_byte_of_an_object_is_kept_with_it(rt: HostRuntime) -> Result<(), Fail
 
 // What an empty session comes to on a disk that holds this journal, which stays as it is.
 fn assert_found(
-    rt: &(impl Abort + RandomSource),
+    rt: &impl Runtime,
     alloc: Global,
     journal: &[u8],
     written: &str,
@@ -70,7 +68,7 @@ fn first_bytes(alloc: Global, bytes: &[u8], count: usize) -> Result<Vec<u8>, Fai
 }
 
 // The journal of two views, whose second gate is neither open nor shut.
-fn with_another_gate(rt: &(impl Abort + RandomSource), alloc: Global) -> Result<Vec<u8>, Fail> {
+fn with_another_gate(rt: &impl Runtime, alloc: Global) -> Result<Vec<u8>, Fail> {
     let mut journal = journal_of(rt, alloc, VIEWS)?;
     assert_eq!(rt; journal.len(), 65);
     journal[32] = 7;
@@ -98,7 +96,7 @@ fn a_journal_is_read_to_its_end(rt: HostRuntime) -> Result<(), Fail> {
 }
 
 // The first two frames of the journal of two views, and the first of them once more.
-fn first_again(rt: &impl RandomSource, alloc: Global) -> Result<Vec<u8>, Fail> {
+fn first_again(rt: &impl Runtime, alloc: Global) -> Result<Vec<u8>, Fail> {
     let journal = journal_of(rt, alloc, VIEWS)?;
     let mut twice = first_bytes(alloc, &journal, 64)?;
     for byte in journal.iter().take(32) {
@@ -108,7 +106,7 @@ fn first_again(rt: &impl RandomSource, alloc: Global) -> Result<Vec<u8>, Fail> {
 }
 
 // The journal of a view and a save without its first frame.
-fn without_first(rt: &(impl Abort + RandomSource), alloc: Global) -> Result<Vec<u8>, Fail> {
+fn without_first(rt: &impl Runtime, alloc: Global) -> Result<Vec<u8>, Fail> {
     let journal = journal_of(rt, alloc, "phase\nlane a\nmkview v\nsave v in\n|hi\n")?;
     assert!(rt; journal.len() > 32);
     Ok(journal[32..].to_vec(alloc)?)

@@ -1,11 +1,10 @@
 // The clock: it is read once for each phase, and the rows of a phase carry its moment.
 
-use super::{ended_by, failing_disk, session};
+use super::{Runtime, ended_by, failing_disk, session};
 use cc_names::memory::NoMemory;
 use cc_names::rows::Row;
 use cc_outside::MemorySink;
 use std::alloc::Global;
-use std::random::RandomSource;
 use std::test::Fail;
 
 const ONE_PHASE: &str = "phase\nlane a\nmkview v\nsave v in\n|hi\nlane b\nmkview w\n";
@@ -25,7 +24,7 @@ fn moments_of(alloc: Global, rows: &[Row]) -> Result<Vec<u64>, NoMemory> {
 }
 
 // The moments of a session's rows, where the clock tells another moment each time it is read.
-fn moments_in(rt: &impl RandomSource, alloc: Global, text: &str) -> Result<Vec<u64>, Fail> {
+fn moments_in(rt: &impl Runtime, alloc: Global, text: &str) -> Result<Vec<u64>, Fail> {
     let mut sink = MemorySink::new(alloc, &[])?;
     let disk = failing_disk(alloc, &[])?;
     let ended = ended_by(

@@ -1,15 +1,14 @@
 // The file of objects, which no session touches so far.
 
-use super::{FIRST, disk_of, journal_of, outcome_on};
+use super::{FIRST, Runtime, disk_of, journal_of, outcome_on};
 use std::alloc::Global;
-use std::random::RandomSource;
 use std::test::Fail;
 
 const KEPT: &[u8] = b"\x01objects\0of\xffa base";
 
 // What stands in the file of objects behind a session on a disk with this journal, one of whose calls fails.
 fn objects_after(
-    rt: &impl RandomSource,
+    rt: &impl Runtime,
     alloc: Global,
     text: &str,
     journal: &[u8],

@@ -2,12 +2,10 @@
 // come to the same.
 
 use super::stops::stopped_at;
-use super::{assert_outcome, calls_on, disk_with, failing_disk, outcome_on};
+use super::{Runtime, assert_outcome, calls_on, disk_with, failing_disk, outcome_on};
 use cc_names::memory::NoMemory;
 use disk_model::MemoryDisk;
 use std::alloc::Global;
-use std::process::Abort;
-use std::random::RandomSource;
 use std::test::Fail;
 
 // View `v` publishes row 3 by the calls 12 to 15, and view `w` winks it in as row 6 by the calls 24 to 27.
@@ -22,7 +20,7 @@ fn lines_with(alloc: Global, word: &str) -> Result<String, NoMemory> {
 }
 
 // The disk behind the session, one of whose calls fails.
-fn shared_disk(rt: &impl RandomSource, alloc: Global, fail: u64) -> Result<MemoryDisk, Fail> {
+fn shared_disk(rt: &impl Runtime, alloc: Global, fail: u64) -> Result<MemoryDisk, Fail> {
     let outcome = outcome_on(rt, alloc, SHARED, failing_disk(alloc, &[fail])?)?;
     Ok(outcome.disk)
 }
@@ -52,7 +50,7 @@ const WINKED: Again = Again {
 };
 
 fn assert_built_with(
-    rt: &(impl Abort + RandomSource),
+    rt: &impl Runtime,
     alloc: Global,
     journal: &[u8],
     again: Again,
@@ -67,7 +65,7 @@ fn assert_built_with(
 
 // What a build comes to behind a stop at a call, by the pick: with which of them the row is found.
 fn assert_stop(
-    rt: &(impl Abort + RandomSource),
+    rt: &impl Runtime,
     alloc: Global,
     disk: &MemoryDisk,
     call: u64,
@@ -141,7 +139,7 @@ fn a_wink_that_a_fault_left_may_be_found(rt: HostRuntime) -> Result<(), Fail> {
 
 // The session with one more build behind it, where a call fails: what is told behind the first two commands.
 fn assert_next(
-    rt: &(impl Abort + RandomSource),
+    rt: &impl Runtime,
     alloc: Global,
     fail: u64,
     told: &str,

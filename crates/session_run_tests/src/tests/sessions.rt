@@ -1,6 +1,6 @@
 // Sessions that save, and those that are none.
 
-use super::{Asked, assert_outcome, failing_disk, outcome_by, outcome_on};
+use super::{Asked, assert_one_of, assert_outcome, failing_disk, outcome_by, outcome_on};
 use std::alloc::Global;
 use std::test::Fail;
 
@@ -59,10 +59,10 @@ fn each_session_is_answered(rt: HostRuntime) -> Result<(), Fail> {
         ),
         (
             "f run",
-            "phase\nlane a\nmkview v\nlane b\nmkview v\nphase\nlane c\nsave v in\n",
+            "phase\nlane a\nmkview v\nlane b\nmkview w\nphase\nlane c\nmkview v\nsave w in\n",
             1,
-            "phase 1\nlane a\n1 mkview ok\nlane b\n1 mkview refused C2 ViewExists\nphase 2\nlane c\n1 save ok\n",
-            2,
+            "phase 1\nlane a\n1 mkview ok\nlane b\n1 mkview ok\nphase 2\nlane c\n1 mkview refused C2 ViewExists\n2 save ok\n",
+            3,
         ),
         (
             "f run",
@@ -107,5 +107,19 @@ fn a_session_of_a_phase_and_65_lanes_is_none(rt: HostRuntime) -> Result<(), Fail
     let disk = failing_disk(rt.alloc(), &[])?;
     let outcome = outcome_on(&rt, rt.alloc(), text.as_str(), disk)?;
     assert_outcome(&rt, &outcome, 3, "bad session 66 TooManyLanes\n", 0);
+    Ok(())
+}
+
+const ONE_NAME: &str = "phase\nlane a\nmkview v\nlane b\nmkview v\n";
+
+/// Of two lanes that make a view of one name the one that comes first makes it, whichever that is.
+#[test]
+fn one_of_two_lanes_makes_a_view(rt: HostRuntime) -> Result<(), Fail> {
+    let outcome = outcome_on(&rt, rt.alloc(), ONE_NAME, failing_disk(rt.alloc(), &[])?)?;
+    let replies = [
+        "phase 1\nlane a\n1 mkview ok\nlane b\n1 mkview refused C2 ViewExists\n",
+        "phase 1\nlane a\n1 mkview refused C2 ViewExists\nlane b\n1 mkview ok\n",
+    ];
+    assert_one_of(&rt, &outcome, 1, &replies, 1);
     Ok(())
 }

@@ -1,16 +1,16 @@
 // Sources and sinks that fail, and texts that are too long.
 
-use super::{Asked, FIRST, Outcome, assert_outcome, failing_disk, outcome_by, outcome_on, rows_in};
+use super::{
+    Asked, FIRST, Outcome, Runtime, assert_outcome, failing_disk, outcome_by, outcome_on, rows_in,
+};
 use disk_model::Disk;
 use std::alloc::{AllocError, Global};
-use std::process::Abort;
-use std::random::RandomSource;
 use std::test::Fail;
 
 const SAVES: &str = "phase\nlane a\nmkview v\nsave v in\n|hi\n";
 
 // A call on an empty disk.
-fn outcome_of(rt: &impl RandomSource, alloc: Global, asked: Asked<'_>) -> Result<Outcome, Fail> {
+fn outcome_of(rt: &impl Runtime, alloc: Global, asked: Asked<'_>) -> Result<Outcome, Fail> {
     outcome_by(rt, alloc, asked, failing_disk(alloc, &[])?)
 }
 
@@ -40,7 +40,7 @@ fn a_source_and_a_sink_that_fail_are_told(rt: HostRuntime) -> Result<(), Fail> {
 
 // How many calls a session makes on its disk, and how many rows its journal has afterwards.
 fn assert_left(
-    rt: &(impl Abort + RandomSource),
+    rt: &impl Runtime,
     alloc: Global,
     outcome: &Outcome,
     ticks: u64,

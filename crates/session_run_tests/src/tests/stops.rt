@@ -2,11 +2,10 @@
 
 ghost use Rattle.std.specs.Prelude.{◌≡◌};
 
-use super::{FIRST, calls_on, failing_disk, outcome_on, rows_in};
+use super::{FIRST, Runtime, calls_on, failing_disk, outcome_on, rows_in};
 use disk_model::{Counts, Disk, MemoryDisk};
 use std::alloc::Global;
 use std::process::Abort;
-use std::random::RandomSource;
 use std::test::Fail;
 
 // What a stop at this call leaves of the journal.
@@ -23,14 +22,14 @@ pub(super) fn stopped_at(
 }
 
 // The disk behind a first build, one of whose calls fails.
-fn built_disk(rt: &impl RandomSource, alloc: Global, fail: u64) -> Result<MemoryDisk, Fail> {
+fn built_disk(rt: &impl Runtime, alloc: Global, fail: u64) -> Result<MemoryDisk, Fail> {
     let outcome = outcome_on(rt, alloc, FIRST, failing_disk(alloc, &[fail])?)?;
     Ok(outcome.disk)
 }
 
 // How many rows a stop at a call leaves, by the pick.
 fn assert_stop(
-    rt: &(impl Abort + RandomSource),
+    rt: &impl Runtime,
     alloc: Global,
     disk: &MemoryDisk,
     call: u64,

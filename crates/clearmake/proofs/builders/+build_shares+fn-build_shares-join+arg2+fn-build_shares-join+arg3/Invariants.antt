@@ -3,10 +3,10 @@ use Rattle.clearmake.proofs.builders.+build_shares+fn-build_shares-join+arg2+fn-
 
 -- a closure weighs one more than the builders that it has
 abbrev pub decreases-join+arg2 : goal.decreases-join+arg2
-decreases-join+arg2 g l = 2 * length l.here.now + 2
+decreases-join+arg2 g l = 2 * length l.there.now + 2
 
 abbrev pub decreases-join+arg3 : goal.decreases-join+arg3
-decreases-join+arg3 g l = 2 * length l.there.now + 2
+decreases-join+arg3 g l = 2 * length l.here.now + 2
 
 abbrev pub decreases-build_shares : goal.decreases-build_shares
 decreases-build_shares g l = 2 * length l.workers.now + 1

@@ -6,4 +6,4 @@ use Rattle.clearmake.proofs.builds.end_once.Goals as goal
 
 pub end_at-ended-requires-clause-done : goal.end_at-ended-requires-clause-done
 end_at-ended-requires-clause-done g c =
-    subst (λ (p : Sight Told). AreDone p.seen c.args.site.now.tag c.args.site.now.count c.args.site.now.count) (sym c.of-seen.ensures) c.requires.done
+    subst (λ (p : Sight Told). AreDone p.seen c.args.context.now.tag c.args.context.now.count c.args.context.now.count) (sym c.of-seen.ensures) c.requires.done

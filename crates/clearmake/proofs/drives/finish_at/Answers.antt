@@ -7,16 +7,16 @@ use Rattle.clearmake.proofs.drives.finish_at.Goals as goal
 
 pub finish_unit-requires : goal.finish_unit-requires
 finish_unit-requires g c =
-    run_now c.args.start.now.value.seen (g.T.Storied.story c.args.desk.now) c.args.site.now.tag c.args.site.now.count c.args.unit (ran_of c.args.ended)
+    run_now c.args.start.now.value.seen (g.T.Storied.story c.args.desk.now) c.args.context.now.tag c.args.context.now.count c.args.unit (ran_of c.args.ended)
     c.requires.builds c.requires.ran c.requires.begins c.goes_on.ensures.legal c.if-not-goes_on.ensures.on
 
 pub returns-clause-begins : goal.returns-clause-begins
 returns-clause-begins g c =
-    (finishes_so (g.T.Storied.story c.args.desk.now) (g.T.Storied.story c.finish_unit.new.self) c.args.site.now.tag c.args.site.now.count c.args.unit c.finish_unit.result
+    (finishes_so (g.T.Storied.story c.args.desk.now) (g.T.Storied.story c.finish_unit.new.self) c.args.context.now.tag c.args.context.now.count c.args.unit c.finish_unit.result
     c.if-not-goes_on.ensures.on c.finish_unit.ensures.ok c.finish_unit.ensures.err c.legal.ensures).0
 
 pub returns-clause-driven : goal.returns-clause-driven
 returns-clause-driven g c =
-    subst (λ (d : Driven). IsDriven d (g.T.Storied.story c.finish_unit.new.self) c.args.site.now.tag c.args.site.now.count c.args.unit) (sym c.driven_of-driven.ensures)
-    (finishes_so (g.T.Storied.story c.args.desk.now) (g.T.Storied.story c.finish_unit.new.self) c.args.site.now.tag c.args.site.now.count c.args.unit c.finish_unit.result
+    subst (λ (d : Driven). IsDriven d (g.T.Storied.story c.finish_unit.new.self) c.args.context.now.tag c.args.context.now.count c.args.unit) (sym c.driven_of-driven.ensures)
+    (finishes_so (g.T.Storied.story c.args.desk.now) (g.T.Storied.story c.finish_unit.new.self) c.args.context.now.tag c.args.context.now.count c.args.unit c.finish_unit.result
     c.if-not-goes_on.ensures.on c.finish_unit.ensures.ok c.finish_unit.ensures.err c.legal.ensures).1

@@ -1,6 +1,6 @@
 -- a build begins, or its command is refused
 use Rattle.std.proofs.Common.{refl, subst}
-use Rattle.base_core.specs.Calls.BuildCalls.{Begins}
+use Rattle.clearmake.specs.Calls.{Begins}
 use Rattle.session_run.specs.Turns.{Past}
 use Rattle.session_run.proofs.BuildTurns.{begun_moves}
 use Rattle.session_run.proofs.moves.begin.Goals as goal

@@ -1,6 +1,6 @@
 -- a unit whose script was run is finished
 use Rattle.std.proofs.Common.{refl, subst}
-use Rattle.base_core.specs.Calls.BuildCalls.{IsCarried}
+use Rattle.clearmake.specs.Calls.{IsCarried}
 use Rattle.session_run.specs.Turns.{Past}
 use Rattle.session_run.proofs.BuildTurns.{finished_moves}
 use Rattle.session_run.proofs.moves.finish.Goals as goal

@@ -1,7 +1,7 @@
 -- the next unit of a build is tried
 use Rattle.std.proofs.Common.{refl, subst}
 use Rattle.legal_history.specs.Stories.Steps.{state_of}
-use Rattle.base_core.specs.Calls.BuildCalls.{Tries}
+use Rattle.clearmake.specs.Calls.{Tries}
 use Rattle.session_run.specs.Turns.{Past}
 use Rattle.session_run.proofs.BuildTurns.{started_moves, tried_moves, waits_for_none}
 use Rattle.session_run.proofs.moves.try_unit.Goals as goal

@@ -9,7 +9,7 @@ use Rattle.session_run.proofs.Promises.{begins_on, just_opened}
 use Rattle.session_run.proofs.run.run_session.Goals as goal
 
 pub run_opened-requires-clause-opened : goal.run_opened-requires-clause-opened
-run_opened-requires-clause-opened g c = just_opened _ _ c.in-Ok.core.story c.in-Ok.ensures.ok
+run_opened-requires-clause-opened g c κs within = just_opened _ _ c.in-Ok.core.story c.in-Ok.ensures.ok
 
 pub returns-in-Ok : goal.returns-in-Ok
 returns-in-Ok g c =

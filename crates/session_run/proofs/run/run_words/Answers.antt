@@ -8,11 +8,11 @@ use Rattle.session_run.proofs.Stopping.{journal_stable}
 use Rattle.session_run.proofs.run.run_words.Goals as goal
 
 pub run_session-requires-clause-stable : goal.run_session-requires-clause-stable
-run_session-requires-clause-stable g c = journal_stable (g.D.Disk.sight c.args.disk) c.requires
+run_session-requires-clause-stable g c κs within = journal_stable (g.D.Disk.sight c.args.disk) c.requires
 
 pub returns-in-Ok : goal.returns-in-Ok
 returns-in-Ok g c =
-    let all = promised_run c.in-Ok.phases.items c.run_session.result.status c.run_session.result.history _ _ _ _ (g.met.D.Disk.counted c.args.disk) (g.met.D.Disk.counted c.run_session.result.disk) c.in-Ok.ensures.gives c.run_session.ensures in
+    let all = promised_run c.in-Ok.phases.items c.run_session.result.status c.run_session.result.history _ _ _ _ (c.a_disk_is_counted.ensures c.args.disk) (c.a_disk_is_counted.ensures c.run_session.result.disk) c.in-Ok.ensures.gives c.run_session.ensures in
     record { session = all.session; history = all.history; commanded = c.builds_are_as_from_nothing.ensures.commanded _ all.history.legal; built = c.builds_are_as_from_nothing.ensures.built _ all.history.legal; outcomes = c.builds_are_as_from_nothing.ensures.outcomes _ all.history.legal; reused = c.objects_are_reused_well.ensures.reused _ all.history.legal; sought = c.objects_are_reused_well.ensures.sought _ all.history.legal; recorded = c.objects_are_reused_well.ensures.recorded _ all.history.legal; sound = c.objects_are_reused_well.ensures.sound _ all.history.legal; scrubs = c.objects_are_scrubbed_well.ensures.scrubs _ all.history.legal; held = c.objects_are_scrubbed_well.ensures.held _ all.history.legal; printed = all.printed; stopped = all.stopped; cause = all.cause; accounted = all.accounted; files = all.files; damaged = finds_damage _ _ _ _ _ all.cause; untouched = record { unless_asked = inl (asked _ c.in-Ok.phases.items c.in-Ok.ensures.gives) }; taken = c.session_given.ensures.taken }
 
 pub returns-in-Err : goal.returns-in-Err
@@ -22,5 +22,5 @@ returns-in-Err g c =
     let faults : Change _ = record { before = (g.K.Sink.sight c.args.sink.now).faults; after = (g.K.Sink.sight c.refuse.new.sink).faults } in
     let disk = g.D.Disk.sight c.args.disk in
     let all = subst (λ story. Promised c.refuse.result story intake outside faults (record { before = disk; after = disk })) (sym c.empty.ensures)
-    (promised_stop c.in-Err.stop c.refuse.result intake outside faults disk refl (g.met.D.Disk.counted c.args.disk) c.requires c.in-Err.ensures.stops c.refuse.ensures) in
+    (promised_stop c.in-Err.stop c.refuse.result intake outside faults disk refl (c.a_disk_is_counted.ensures c.args.disk) c.requires c.in-Err.ensures.stops c.refuse.ensures) in
     record { session = all.session; history = all.history; commanded = c.builds_are_as_from_nothing.ensures.commanded _ all.history.legal; built = c.builds_are_as_from_nothing.ensures.built _ all.history.legal; outcomes = c.builds_are_as_from_nothing.ensures.outcomes _ all.history.legal; reused = c.objects_are_reused_well.ensures.reused _ all.history.legal; sought = c.objects_are_reused_well.ensures.sought _ all.history.legal; recorded = c.objects_are_reused_well.ensures.recorded _ all.history.legal; sound = c.objects_are_reused_well.ensures.sound _ all.history.legal; scrubs = c.objects_are_scrubbed_well.ensures.scrubs _ all.history.legal; held = c.objects_are_scrubbed_well.ensures.held _ all.history.legal; printed = all.printed; stopped = all.stopped; cause = all.cause; accounted = all.accounted; files = all.files; damaged = finds_damage _ _ _ _ _ all.cause; untouched = record { unless_asked = inr (subst (λ (story : List Told). IsUntouched (record { before = disk; after = disk }) story) (sym c.empty.ensures) (untouched disk)) }; taken = c.session_given.ensures.taken }

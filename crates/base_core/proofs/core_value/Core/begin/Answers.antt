@@ -1,6 +1,6 @@
 -- a build begins, goes on, or its command is refused
 use Rattle.std.proofs.Common.{length, ap, sym, subst, arith}
-use Rattle.base_core.specs.Calls.Going.{Finishes}
+use Rattle.clearmake.specs.Going.{Finishes}
 use Rattle.base_core.proofs.Building.Goings.{goes_nowhere}
 use Rattle.base_core.proofs.Building.OpenSteps.{refused_finishes}
 use Rattle.base_core.proofs.core_value.Core.begin.Goals as goal

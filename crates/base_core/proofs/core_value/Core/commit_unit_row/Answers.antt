@@ -5,9 +5,9 @@ use Rattle.cc_names.specs.declared.steps.Step.TheVariants as steps
 use Rattle.legal_history.specs.Stories.States.{next_tag}
 use Rattle.legal_history.specs.Stories.Steps.{state_of}
 use Rattle.base_core.specs.Logging.Appending.{Appends, IsCommitted, IsFaulted}
-use Rattle.base_core.specs.Calls.Going.{GoesOn, HasOutcome, Finishes}
+use Rattle.clearmake.specs.Going.{GoesOn, HasOutcome, Finishes}
 use Rattle.base_core.specs.Keeping.Kept.{IsCoreKept}
-use Rattle.base_core.specs.Keeping.Nexts.{waiting}
+use Rattle.clearmake.specs.Nexts.{waiting}
 use Rattle.base_core.specs.Logging.Logs.{with_step, with_step_on}
 use Rattle.base_core.proofs.Building.BrokenBuilds.{kept_broken_object, broken_object_finishes}
 use Rattle.base_core.proofs.Keeping.Idle.{some_same}

@@ -6,7 +6,7 @@ use Rattle.checkout_desk.specs.Commands.{view_of}
 use Rattle.legal_history.specs.Builds.Active.{build_of, building}
 use Rattle.legal_history.specs.Stories.Lawful.{Legal}
 use Rattle.legal_history.specs.Stories.Steps.{state_of}
-use Rattle.base_core.specs.Keeping.Nexts.{next_of}
+use Rattle.clearmake.specs.Nexts.{next_of}
 use Rattle.base_core.proofs.Acting.Commanded.{acts}
 use Rattle.base_core.proofs.Keeping.Idle.{acting_is_free}
 use Rattle.base_core.proofs.Acting.NextCommands.{decided_so}

@@ -5,7 +5,7 @@ use Rattle.legal_history.specs.Queries.QueryLines.{is_query}
 use Rattle.legal_history.specs.Builds.Active.{build_of}
 use Rattle.legal_history.specs.Stories.States.{scene}
 use Rattle.legal_history.specs.Stories.Steps.{state_of}
-use Rattle.base_core.specs.Keeping.Nexts.{next_of}
+use Rattle.clearmake.specs.Nexts.{next_of}
 use Rattle.base_core.proofs.Keeping.Idle.{acting_is_free}
 use Rattle.base_core.proofs.Acting.NextCommands.{answered_so}
 use Rattle.base_core.proofs.Building.UnitCalls.{acts_waits}

@@ -2,8 +2,8 @@
 use Rattle.std.proofs.Common.{length, ap, sym, subst}
 use Rattle.cc_names.specs.declared.steps.Step.TheVariants as steps
 use Rattle.legal_history.specs.Stories.Steps.{state_of}
-use Rattle.base_core.specs.Calls.BuildCalls.{IsBuilding}
-use Rattle.base_core.specs.Calls.Going.{GoesOn}
+use Rattle.clearmake.specs.Calls.{IsBuilding}
+use Rattle.clearmake.specs.Going.{GoesOn}
 use Rattle.base_core.specs.Keeping.Kept.{IsCoreKept}
 use Rattle.base_core.specs.Logging.Logs.{with_step}
 use Rattle.base_core.proofs.Building.OpenSteps.{kept_opened, opened_so}

@@ -5,7 +5,7 @@ use Rattle.build_script.specs.Ended.{ran_of}
 use Rattle.legal_history.specs.Builds.Active.{came_to, unit_at}
 use Rattle.legal_history.specs.Builds.Choices.{here}
 use Rattle.legal_history.specs.Stories.Steps.{state_of}
-use Rattle.base_core.specs.Calls.BuildCalls.{IsRunOfUnit}
+use Rattle.clearmake.specs.Calls.{IsRunOfUnit}
 use Rattle.base_core.proofs.Building.FoundBuilds.{if_ok, view_there}
 use Rattle.base_core.proofs.Keeping.Idle.{some_same}
 use Rattle.base_core.proofs.core_value.Core.run.Goals as goal

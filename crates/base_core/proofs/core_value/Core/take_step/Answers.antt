@@ -1,7 +1,8 @@
 -- a unit is tried
 use Rattle.std.proofs.Common.{subst, sym}
 use Rattle.legal_history.specs.Stories.Steps.{state_of}
-use Rattle.base_core.specs.Calls.BuildCalls.{StepsTo, Tries}
+use Rattle.clearmake.specs.Calls.{Tries}
+use Rattle.base_core.specs.Calls.BuildCalls.{StepsTo}
 use Rattle.base_core.proofs.Building.FoundBuilds.{carried_tries, started_has}
 use Rattle.base_core.proofs.core_value.Core.take_step.Goals as goal
 

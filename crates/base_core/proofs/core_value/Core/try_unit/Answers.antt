@@ -2,7 +2,7 @@
 use Rattle.std.proofs.Common.{◌<◌, ℕ, sym, subst}
 use Rattle.std.specs.Prelude.{IfOk}
 use Rattle.legal_history.specs.Stories.Steps.{state_of}
-use Rattle.base_core.specs.Calls.BuildCalls.{IsBuilding, Tries}
+use Rattle.clearmake.specs.Calls.{IsBuilding, Tries}
 use Rattle.base_core.specs.Story.Counted.{KeepsCount}
 use Rattle.base_core.specs.Story.Shown.{Shown}
 use Rattle.base_core.proofs.core_value.Core.try_unit.Goals as goal

@@ -1,0 +1,71 @@
+// What a core answers the builders of a lane's build.
+
+ghost use Rattle.std.specs.Prelude.{◌≡◌, Some};
+ghost use Rattle.clearmake.specs.Nexts.{jobs_of};
+
+use super::Core;
+use build_core::{fetch_for_unit, released};
+use build_script::files::Got;
+use cc_names::commands::Command;
+use cc_names::memory::NoMemory;
+use cc_names::paths::Path;
+use disk_model::Disk;
+use std::alloc::Global;
+
+/// How many units at once a command asks to have built, if it builds.
+fn jobs_of(command: &Command) -> Option<u32>
+    ensures { result ≡ jobs_of (Some command.now) }
+{
+    match command {
+        Command::Clearmake { jobs, .. } => Some(*jobs),
+        _ => None,
+    }
+}
+
+impl<D: Disk> Core<D> {
+    ghost use Rattle.std.specs.Prelude.{◌≡◌, ◌<◌, ◌≤◌, ℕ, Some, IfOk};
+    ghost use Rattle.cc_names.specs.declared.desks.Next.TheVariants as nexts;
+    ghost use Rattle.legal_history.specs.Stories.States.{next_tag};
+    ghost use Rattle.legal_history.specs.Stories.Steps.{state_of};
+    ghost use Rattle.clearmake.specs.Calls.{IsBuilding, WasStarted, released};
+    ghost use Rattle.clearmake.specs.Nexts.{jobs_of, next_of, waiting};
+    ghost use Rattle.clearmake.specs.Sights.{IsFetched, sees};
+
+    /// How many units at once a lane's next command, which builds, asks to have built. Takes what reading the command takes.
+    pub fn jobs(&self, alloc: Global, lane: u32) -> Result<u32, NoMemory>
+        requires { next_of (state_of self.now.story) lane
+            ≡ nexts.Build (next_tag (state_of self.now.story) lane) }
+        ensures asked { IfOk result
+            (λ jobs. jobs_of (waiting (state_of self.now.story) lane) ≡ Some jobs) }
+        ensures within { IfOk result (λ jobs. (1 ≤ jobs) × (jobs ≤ 64)) }
+    {
+        let command = self.command(alloc, lane)?;
+        match jobs_of(&command) {
+            Some(jobs) => Ok(jobs),
+            None => unreachable!(),
+        }
+    }
+
+    /// What a unit of a lane's build that was started finds at a path, which is the same at every moment since its start, or
+    /// want of memory. Never broken.
+    ///
+    /// Takes what the closure of the unit takes, one look-up of the path, and a copy of the text.
+    pub fn fetch(&self, alloc: Global, lane: u32, unit: u32, path: &Path) -> Got
+        requires { WasStarted (state_of self.now.story) lane unit }
+        ensures { IsFetched result (sees (state_of self.now.story) lane unit path.now) }
+    {
+        fetch_for_unit(alloc, &self.rows(), self.build_at(lane), unit, path)
+    }
+
+    /// The units that a unit of a lane's build has released, in their order: those without an outcome that need it, and of
+    /// which every unit that they need has its outcome. Fails only where memory runs out.
+    ///
+    /// Takes time linear in the units that need it and in the prerequisites of these.
+    pub fn released(&self, alloc: Global, lane: u32, unit: u32) -> Result<Vec<u32>, NoMemory>
+        requires { (count : ℕ) × IsBuilding (state_of self.now.story) lane count × (unit < count) }
+        ensures { IfOk result
+            (λ units. units.items ≡ released (state_of self.now.story) lane unit) }
+    {
+        released(alloc, self.build_at(lane), unit)
+    }
+}

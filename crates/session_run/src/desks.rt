@@ -1,0 +1,110 @@
+// A core behind a lock, at which the threads of a phase take turns.
+
+use base_core::Core;
+use build_script::files::Got;
+use build_script::outcomes::Ended;
+use cc_names::desks::{Begun, Next};
+use cc_names::memory::NoMemory;
+use cc_names::paths::Path;
+use cc_names::steps::Told;
+use clearmake::{BuildDesk, Carried, PhaseDesk, UnitTurn};
+use disk_model::Disk;
+use std::alloc::Global;
+use std::marker::{Brand, Model, PhantomData};
+use turn_lock::Storied;
+
+/// A type that fixes how a core stood as its phase had begun. Where it is a parameter, a call may pick it.
+pub(crate) trait Beginning {
+    ghost use Rattle.base_core.specs.Story.Shown.{Shown};
+
+    ghost at: { Shown };
+}
+
+impl Beginning for Brand {
+    ghost use Rattle.std.specs.Prelude.{[], None};
+
+    ghost at = { record { story = []; sight = record { told = None; ticks = 0; faults = 0 } } };
+}
+
+/// A core in a phase, of which `P` fixes how it stood as the phase had begun. It has the calls that stay in a phase, and no
+/// other. Contracts see it as the core.
+pub(crate) struct PhaseCore<D: Disk, P: Beginning> {
+    pub(crate) core: Core<D>,
+    pub(crate) of: PhantomData<P>,
+}
+
+impl<D: Disk, P: Beginning> Model for PhaseCore<D, P> {
+    ghost use Rattle.base_core.specs.Story.Shown.{Shown};
+    ghost use Rattle.session_run.specs.Since.{IsSince};
+
+    ghost Value = { Shown };
+
+    ghost view = { λ desk. desk.core };
+
+    ghost invariant = { λ desk. IsSince P.at desk.core };
+}
+
+impl<D: Disk, P: Beginning> Storied for PhaseCore<D, P> {
+    type Told = Told;
+
+    ghost story = { λ desk. desk.story };
+}
+
+impl<D: Disk, P: Beginning> BuildDesk for PhaseCore<D, P> {
+    fn legal(&self) {
+        self.core.legal();
+    }
+
+    fn next(&self, lane: u32) -> Next {
+        self.core.next(lane)
+    }
+
+    fn act(&mut self, alloc: Global, lane: u32) -> Result<(), NoMemory> {
+        self.core.act(alloc, lane)?;
+        Ok(())
+    }
+
+    fn jobs(&self, alloc: Global, lane: u32) -> Result<u32, NoMemory> {
+        self.core.jobs(alloc, lane)
+    }
+
+    fn begin(&mut self, alloc: Global, lane: u32) -> Result<Begun, NoMemory> {
+        self.core.begin(alloc, lane)
+    }
+
+    fn try_unit(&mut self, alloc: Global, lane: u32, unit: u32) -> Result<UnitTurn, NoMemory> {
+        self.core.try_unit(alloc, lane, unit)
+    }
+
+    fn fetch(&self, alloc: Global, lane: u32, unit: u32, path: &Path) -> Got {
+        self.core.fetch(alloc, lane, unit, path)
+    }
+
+    fn finish_unit(
+        &mut self,
+        alloc: Global,
+        lane: u32,
+        unit: u32,
+        ended: Ended,
+    ) -> Result<Carried, NoMemory> {
+        self.core.finish_unit(alloc, lane, unit, ended)
+    }
+
+    fn released(&self, alloc: Global, lane: u32, unit: u32) -> Result<Vec<u32>, NoMemory> {
+        self.core.released(alloc, lane, unit)
+    }
+
+    fn end(&mut self, alloc: Global, lane: u32) -> Result<(), NoMemory> {
+        self.core.end(alloc, lane)
+    }
+}
+
+impl<D: Disk, P: Beginning> PhaseDesk for PhaseCore<D, P> {
+    ghost use Rattle.legal_history.specs.Stories.Steps.{state_of};
+
+    ghost number = { (state_of P.at.story).number };
+
+    fn in_phase(&self) {
+        let _core = &self.core;
+    }
+}

@@ -1,0 +1,89 @@
+// The lanes of a phase on threads.
+
+ghost use Rattle.std.specs.Prelude.{◌≡◌, ◌≤◌, ℕ, true, length};
+ghost use Rattle.std.specs.Bool.{OnTrue};
+ghost use Rattle.carried_out.specs.CarriedOut.{AreCarriedOut};
+ghost use Rattle.legal_history.specs.Stories.Lanes.{IsWithin};
+ghost use Rattle.legal_history.specs.Stories.States.{all_done};
+ghost use Rattle.legal_history.specs.Stories.Steps.{state_of};
+ghost use Rattle.clearmake.specs.Passes.{AreLanesDone};
+ghost use Rattle.session_run.specs.Begun.{is_opened};
+ghost use Rattle.session_run.specs.Since.{IsSince};
+
+use crate::desks::{Beginning, PhaseCore};
+use base_core::Core;
+use cc_outside::Gate;
+use clearmake::run_phase;
+use disk_model::Disk;
+use legal_history::laws::later::a_lane_is_within_its_commands;
+use std::alloc::Global;
+use std::hash::RandomState;
+use std::marker::{Brand, PhantomData};
+use std::sync::Wait;
+use std::thread::Threads;
+
+// How many turns a lane has at most: it has fewer commands, since the text of a session has no more bytes.
+const TURNS: u32 = 16_777_216;
+
+/// What the phases of a session are run by: threads, memory, the keys for hashing, and the gate of the runs of scripts.
+#[derive(Drop)]
+pub(crate) struct Host<'a, R, G> {
+    pub(crate) rt: &'a R,
+    pub(crate) alloc: Global,
+    pub(crate) hashing: RandomState,
+    pub(crate) gate: &'a G,
+}
+
+/// Carries out commands of so many lanes of the last phase on threads, where `P` fixes how the core stood as it had begun.
+fn run_lanes_at<
+    R: Threads + Wait + Sync,
+    G: Gate + Sync,
+    D: Disk + Send,
+    P: Beginning + Send + Sync,
+>(host: &Host<'_, R, G>, core: Core<D>, lanes: u32) -> (Core<D>, bool)
+    requires since { IsSince P.at core }
+    requires lanes { (1 ≤ lanes) × (lanes ≤ 64) }
+    ensures since { IsSince P.at result.0 }
+    ensures finished { OnTrue result.1
+        (AreLanesDone result.0.story 1 lanes (state_of P.at.story).number) }
+{
+    let desk: PhaseCore<D, P> = PhaseCore {
+        core,
+        of: PhantomData,
+    };
+    let (desk, done) = run_phase(
+        host.rt,
+        host.alloc,
+        host.hashing,
+        host.gate,
+        desk,
+        lanes,
+        TURNS,
+    );
+    let PhaseCore { core, of: _ } = desk;
+    (core, done)
+}
+
+/// Carries out commands of the last phase, the lanes in threads of their own, and each build with builders of its own. True where
+/// none is left; else memory ran out.
+pub(crate) fn run_on_threads<R: Threads + Wait + Sync, G: Gate + Sync, D: Disk + Send>(
+    host: &Host<'_, R, G>,
+    core: Core<D>,
+) -> (Core<D>, bool)
+    requires carried_out { AreCarriedOut (state_of core.story).phase }
+    requires few { length (state_of core.story).phase.lanes ≤ 64 }
+    requires opened { is_opened core.story ≡ true }
+    ensures since { IsSince core result.0 }
+    ensures within { (lane : ℕ) → IsWithin (state_of result.0.story) lane }
+    ensures finished { OnTrue result.1 (all_done (state_of result.0.story) ≡ true) }
+{
+    a_lane_is_within_its_commands();
+    let lanes = core.lanes() as u32;
+    if lanes == 0 {
+        core.legal();
+        return (core, false);
+    }
+    let (core, done) = run_lanes_at::<R, G, D, Brand>(host, core, lanes);
+    core.legal();
+    (core, done)
+}
