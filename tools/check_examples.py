@@ -6,7 +6,8 @@ transcript beside it.
 
 CCBASE is the built program; NAME an example without its ending, all of them where none is given. Says of each whether it is
 as told, shows the lines that differ, and ends with 1 where one does. With --refuse-threads the system makes no thread for the
-program, which then runs lanes and builders one after the other, and writes the same. It stands outside the gate."""
+program, which then runs lanes and builders one after the other, the first lane first, and writes the same. That it does shows in
+two lanes that make one view, the first of them late, which are then run ten times too. It stands outside the gate."""
 import difflib
 import pathlib
 import resource
@@ -15,6 +16,12 @@ import sys
 import tempfile
 
 EXAMPLES = pathlib.Path(__file__).resolve().parent.parent / "examples"
+
+# Of two lanes at once the second makes its view while the first looks at another one.
+LOOKS = 200
+ONE_VIEW = "phase\nlane a\nmkview w\n" + "catcs w\n" * LOOKS + "mkview v\nlane b\nmkview v\n"
+FIRST, SECOND = f"\n{LOOKS + 2} mkview ok\n", "lane b\n1 mkview refused C2 ViewExists\n"
+TIMES = 10
 
 
 def refuse_threads():
@@ -28,7 +35,7 @@ def written(program, session, prepare):
     with tempfile.TemporaryDirectory() as folder:
         run = subprocess.run(
             [program, str(pathlib.Path(folder) / "base"), "run"],
-            input=session.read_bytes(), stdout=subprocess.PIPE, check=False, preexec_fn=prepare,
+            input=session.encode(), stdout=subprocess.PIPE, check=False, preexec_fn=prepare,
         )
     return run.stdout.decode(errors="replace")
 
@@ -36,7 +43,7 @@ def written(program, session, prepare):
 def is_as_told(program, session, prepare):
     """Whether an example gives its transcript; what differs is shown."""
     told = session.with_suffix(".transcript").read_text()
-    came = written(program, session, prepare)
+    came = written(program, session.read_text(), prepare)
     if came == told:
         print(f"{session.stem}: as told")
         return True
@@ -44,6 +51,12 @@ def is_as_told(program, session, prepare):
     sys.stdout.writelines(difflib.unified_diff(
         told.splitlines(keepends=True), came.splitlines(keepends=True), "told", "written"))
     return False
+
+
+def is_first_first(program, prepare):
+    """Whether the first of two lanes has the view that both make."""
+    came = written(program, ONE_VIEW, prepare)
+    return FIRST in came and came.endswith(SECOND)
 
 
 def main():
@@ -59,7 +72,10 @@ def main():
         sys.exit("no example of that name")
     differing = [s.stem for s in sessions if not is_as_told(program, s, prepare)]
     print(f"{len(sessions) - len(differing)} of {len(sessions)} as told")
-    sys.exit(1 if differing else 0)
+    in_order = all(is_first_first(program, prepare) for _ in range(TIMES if prepare else 0))
+    if prepare:
+        print("the first lane " + ("first" if in_order else "not always first"))
+    sys.exit(1 if differing or not in_order else 0)
 
 
 if __name__ == "__main__":

@@ -188,8 +188,8 @@ impl<D: Disk> Log<D> {
     }
 
     /// Commits a row: it is appended to the journal and then told, or the fault of the disk is told, and behind it the step
-    /// that it brings with it. Takes all memory first; an `Err` changes nothing. Takes time linear in the row, in the steps since the
-    /// last commit or fault, and in the row that a fault left there.
+    /// that it brings with it. Takes all memory first; an `Err` changes nothing. Takes time linear in the row, in the steps
+    /// since the last commit or fault, and in the row that a fault left there.
     pub(crate) fn append(
         &mut self,
         alloc: Global,

@@ -152,6 +152,8 @@ fn main(rt: HostRuntime) -> io::Result<ExitCode> {
     };
     let status = match answer_to(words.as_slice()) {
         Some(answer) => write_answer(&rt, answer),
+        // Only `main` may lend the handle of the process for threads, to a parameter with their bounds; for streams, files and
+        // the clock it goes by its own type.
         None => run(&rt, &rt, words.as_slice()).unwrap_or(Status::NoMemory),
     };
     Ok(ExitCode::from(status.code()))

@@ -31,8 +31,8 @@ driven_of (Ok carried.Settled) = driven.Settled
 driven_of (Ok carried.Faulted) = driven.Over
 driven_of (Err error) = driven.OutOfMemory
 
--- Unit n of a build was tried: in this legal story the command is past; or the build goes on, and the unit has its outcome, waits,
--- or was started; or memory ran out.
+-- Unit n of a build was tried: in this legal story the command is past; or the build goes on, and the unit has its outcome,
+-- waits, or was started; or memory ran out.
 abbrev pub IsTried : Tried → List Told → Tag → ℕ → ℕ → Type 0
 IsTried tried.Over story tag count n = IsPast (state_of story) tag
 IsTried tried.Settled story tag count n = Legal story × Builds story tag count × HasOutcome (state_of story) tag.lane n

@@ -12,7 +12,7 @@ pub record SamePhase (old new : State) : Type 0 where
   pub moment : new.moment ≡ old.moment
 
 -- the lane still builds these units, and each unit that had its outcome has one
-pub record StillBuilds (new : State) (lane : ℕ) (before : Build) : Type 0 where
+pub record BuildsOn (new : State) (lane : ℕ) (before : Build) : Type 0 where
   pub build : Build
   pub active : build_of new.active lane ≡ Some build
   pub units : build.units ≡ before.units
@@ -24,7 +24,7 @@ pub record GoesOn (old new : List Told) (lane : ℕ) : Type 0 where
   pub grows : new ≡ old ++ steps
   pub phase : SamePhase (state_of old) (state_of new)
   pub done : (state_of new).done ≡ (state_of old).done
-  pub still : (build : Build) → build_of (state_of old).active lane ≡ Some build → StillBuilds (state_of new) lane build
+  pub still : (build : Build) → build_of (state_of old).active lane ≡ Some build → BuildsOn (state_of new) lane build
 
 -- a unit of a lane's build has its outcome
 pub record HasOutcome (s : State) (lane n : ℕ) : Type 0 where

@@ -8,8 +8,8 @@ use Rattle.clearmake.specs.Passes.{IsLaneDone}
 use Rattle.clearmake.specs.declared.lanes.LaneTurn.{LaneTurn}
 use Rattle.clearmake.specs.declared.lanes.LaneTurn.TheVariants as turn
 
--- What became of a lane's turn, in the phase of this number: it has nothing left to do, or its next command is to be built, as many
--- units at once as it asks for.
+-- What became of a lane's turn, in the phase of this number: it has nothing left to do, or its next command is to be built, as
+-- many units at once as it asks for.
 abbrev pub IsLaneTurn : LaneTurn → List Told → ℕ → ℕ → Type 0
 IsLaneTurn turn.Acted story lane number = Unit {0}
 IsLaneTurn (turn.Build tag jobs) story lane number =

@@ -37,14 +37,14 @@ abbrev pub AreDone : List Told → Tag → ℕ → ℕ → Type 0
 AreDone seen tag count n = (m : ℕ) → m < n → Builds seen tag count × HasOutcome (state_of seen) tag.lane m
 
 -- a lane has nothing left to do
-abbrev pub IsFinished : State → ℕ → Type 0
-IsFinished s lane = next_of s lane ≡ nexts.Done
+abbrev pub HasNothingLeft : State → ℕ → Type 0
+HasNothingLeft s lane = next_of s lane ≡ nexts.Done
 
 -- a lane has finished all of its commands of the phase of this number
 pub record IsLaneDone (seen : List Told) (lane number : ℕ) : Type 0 where
   pub legal : Legal seen
   pub of_phase : (state_of seen).number ≡ number
-  pub finished : IsFinished (state_of seen) lane
+  pub finished : HasNothingLeft (state_of seen) lane
 
 -- so have all of some lanes, from the first on
 abbrev pub AreLanesDone : List Told → ℕ → ℕ → ℕ → Type 0

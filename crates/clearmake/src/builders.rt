@@ -22,7 +22,8 @@ fn build_share<R: Wait, T: BuildDesk, G: Gate>(
     pass: Pass<T>,
 ) -> Pass<T>
     requires own { pass.lock ≡ context.now.lock.now.id }
-    requires knows { Knows context.now.begun.now.value.seen pass.seen context.now.tag context.now.count }
+    requires knows { Knows context.now.begun.now.value.seen pass.seen context.now.tag
+        context.now.count }
     ensures { IsLater pass result }
 {
     let mut pass = pass;
@@ -48,7 +49,8 @@ fn build_shares<R: Threads + Wait + Sync, T: BuildDesk + Send, G: Gate + Sync>(
     pass: Pass<T>,
 ) -> Pass<T>
     requires own { pass.lock ≡ context.now.lock.now.id }
-    requires knows { Knows context.now.begun.now.value.seen pass.seen context.now.tag context.now.count }
+    requires knows { Knows context.now.begun.now.value.seen pass.seen context.now.tag
+        context.now.count }
     requires builders { length workers.old ≤ pass.weight }
     ensures { IsLater pass result }
 {
@@ -122,7 +124,8 @@ pub(crate) fn build_units<R: Threads + Wait + Sync, T: BuildDesk + Send, G: Gate
     jobs: u32,
 ) -> Pass<T>
     requires own { pass.lock ≡ context.now.lock.now.id }
-    requires knows { Knows context.now.begun.now.value.seen pass.seen context.now.tag context.now.count }
+    requires knows { Knows context.now.begun.now.value.seen pass.seen context.now.tag
+        context.now.count }
     requires jobs { jobs ≤ pass.weight }
     ensures { IsLater pass result }
 {

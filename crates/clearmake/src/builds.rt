@@ -94,7 +94,8 @@ fn end_at<R, T: BuildDesk, G>(
     requires knows { Knows context.now.begun.now.value.seen (T.story desk.old) context.now.tag
         context.now.count }
     requires begins { IsPrefix seen.now.value.seen (T.story desk.old) }
-    requires done { AreDone seen.now.value.seen context.now.tag context.now.count context.now.count }
+    requires done { AreDone seen.now.value.seen context.now.tag context.now.count
+        context.now.count }
     ensures begins { IsPrefix (T.story desk.old) (T.story desk.new) }
     ensures ended { OnTrue result (IsPast (state_of (T.story desk.new)) context.now.tag) }
 {
@@ -111,7 +112,8 @@ fn end_once<R: Wait, T: BuildDesk, G: Gate>(
     pass: Pass<T>,
 ) -> (Pass<T>, bool)
     requires own { pass.lock ≡ context.now.lock.now.id }
-    requires knows { Knows context.now.begun.now.value.seen pass.seen context.now.tag context.now.count }
+    requires knows { Knows context.now.begun.now.value.seen pass.seen context.now.tag
+        context.now.count }
     requires done { AreDone pass.seen context.now.tag context.now.count context.now.count }
     ensures pass { IsLater pass result.0 }
     ensures ended { OnTrue result.1 (IsPast (state_of result.0.seen) context.now.tag) }
@@ -129,7 +131,8 @@ fn build_begun<R: Threads + Wait + Sync, T: BuildDesk + Send, G: Gate + Sync>(
     jobs: u32,
 ) -> Built<T>
     requires own { pass.lock ≡ context.now.lock.now.id }
-    requires knows { Knows context.now.begun.now.value.seen pass.seen context.now.tag context.now.count }
+    requires knows { Knows context.now.begun.now.value.seen pass.seen context.now.tag
+        context.now.count }
     requires jobs { jobs ≤ pass.weight }
     ensures pass { IsLater pass result.pass }
     ensures built { OnTrue result.done (IsPast (state_of result.pass.seen) context.now.tag) }

@@ -21,8 +21,8 @@ use cc_names::steps::Told;
 use std::alloc::Global;
 use turn_lock::Storied;
 
-/// A base with its story, by whose calls the commands of lanes are carried out. Each call is one turn at the value: what
-/// it asks may have been found out at an earlier turn, and other threads take turns between any two.
+/// A base with its story, by whose calls the commands of lanes are carried out. Each call is made within a turn at the value:
+/// what it asks may have been found out at an earlier turn, and other threads take turns between any two turns of a thread.
 pub trait BuildDesk: Storied<Told = Told> {
     /// The story is legal, at every moment.
     fn legal(&self)

@@ -128,7 +128,8 @@ fn try_once<R: Wait, T: BuildDesk, G: Gate>(
     unit: u32,
 ) -> (Pass<T>, Tried)
     requires own { pass.lock ≡ context.now.lock.now.id }
-    requires knows { Knows context.now.begun.now.value.seen pass.seen context.now.tag context.now.count }
+    requires knows { Knows context.now.begun.now.value.seen pass.seen context.now.tag
+        context.now.count }
     requires unit { unit < context.now.count }
     ensures pass { IsLater pass result.0 }
     ensures tried { IsTried result.1 result.0.seen context.now.tag context.now.count unit }
@@ -171,7 +172,8 @@ pub(crate) fn run_started<R: Wait, T: BuildDesk, G: Gate>(
     targets: &[Path],
 ) -> (Pass<T>, Driven)
     requires own { pass.lock ≡ context.now.lock.now.id }
-    requires knows { Knows context.now.begun.now.value.seen pass.seen context.now.tag context.now.count }
+    requires knows { Knows context.now.begun.now.value.seen pass.seen context.now.tag
+        context.now.count }
     requires builds { Builds pass.seen context.now.tag context.now.count }
     requires started { IsStarted (state_of pass.seen) context.now.tag.lane unit script.now
         targets.now }
@@ -194,7 +196,8 @@ pub(crate) fn drive<R: Wait, T: BuildDesk, G: Gate>(
     unit: u32,
 ) -> (Pass<T>, Driven)
     requires own { pass.lock ≡ context.now.lock.now.id }
-    requires knows { Knows context.now.begun.now.value.seen pass.seen context.now.tag context.now.count }
+    requires knows { Knows context.now.begun.now.value.seen pass.seen context.now.tag
+        context.now.count }
     requires unit { unit < context.now.count }
     ensures pass { IsLater pass result.0 }
     ensures driven { IsDriven result.1 result.0.seen context.now.tag context.now.count unit }

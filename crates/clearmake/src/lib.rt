@@ -4,8 +4,8 @@
 // of a phase, a thread for each lane; `build` carries out one command that builds, by so many builders at once. A script
 // runs outside the lock, and each of its reads is a turn of its own. `BuildDesk` is what the base is asked.
 //
-// What it promises: the story that comes back begins with the one handed in. A build's command is finished in it, and each
-// lane of a phase has nothing left to do, unless the call says that memory ran out. What a run reads is what its unit saw
+// What it promises: the story that comes back begins with the one handed in. A build's command is finished in it, and each lane
+// of a phase has nothing left to do, unless the call says that memory or turns ran out. What a run reads is what its unit saw
 // when it began, whatever other threads did meanwhile, and each unit is finished by the run of its own script. It is not
 // promised that threads get on, nor which of them does what.
 //

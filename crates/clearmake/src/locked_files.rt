@@ -110,5 +110,6 @@ impl<R: Wait, T: BuildDesk, G: Gate> Files for LockedFiles<'_, '_, R, T, G> {
 
     ghost reflexive = { λ paths files. follows_itself files };
 
-    ghost transitive = { λ paths one two three first second. follows_on one two three first second };
+    ghost transitive = { λ paths one two three first second.
+        follows_on one two three first second };
 }

@@ -38,10 +38,11 @@ pub(crate) fn run_outside<'s, R: Wait, T: BuildDesk, G: Gate>(
         context.now.count }
     requires begins { IsPrefix start.now.value.seen pass.seen }
     requires builds { Builds start.now.value.seen context.now.tag context.now.count }
-    requires started { IsStarted (state_of start.now.value.seen) context.now.tag.lane unit script.now
-        targets.now }
+    requires started { IsStarted (state_of start.now.value.seen) context.now.tag.lane unit
+        script.now targets.now }
     ensures pass { IsLater pass result.0 }
-    ensures ran { RanSo result.1 (state_of start.now.value.seen) context.now.tag unit result.0.seen }
+    ensures ran { RanSo result.1 (state_of start.now.value.seen) context.now.tag unit
+        result.0.seen }
 {
     let root = Path::root();
     let target = targets.first().unwrap_or(&root);

@@ -27,7 +27,8 @@ pub(crate) fn sweep<R: Wait, T: BuildDesk, G: Gate>(
     pass: Pass<T>,
 ) -> (Pass<T>, Swept)
     requires own { pass.lock ≡ context.now.lock.now.id }
-    requires knows { Knows context.now.begun.now.value.seen pass.seen context.now.tag context.now.count }
+    requires knows { Knows context.now.begun.now.value.seen pass.seen context.now.tag
+        context.now.count }
     ensures pass { IsLater pass result.0 }
     ensures swept { IsSwept result.1 result.0.seen context.now.tag context.now.count }
 {

@@ -26,6 +26,8 @@ pub(crate) struct TaskQueues {
     pending: AtomicU64,
     // Changes with each task that comes or is done, and wakes the builders that wait for one.
     changes: AtomicU64,
+    // How many builders wait for a task, or are about to.
+    waiting: AtomicU64,
 }
 
 /// A deque for each of some builders. Each takes its own tasks in the order in which they came.
@@ -70,7 +72,7 @@ fn steal_from(stealer: &Stealer<u32>) -> Option<u32> {
 }
 
 impl TaskQueues {
-    /// A queues for a build of so many units and for the builders with these deques.
+    /// Queues for a build of so many units and for the builders with these deques.
     pub(crate) fn new(
         alloc: Global,
         workers: &[Worker<u32>],
@@ -81,6 +83,7 @@ impl TaskQueues {
             claimed: make_claims(alloc, units)?,
             pending: AtomicU64::new(0),
             changes: AtomicU64::new(0),
+            waiting: AtomicU64::new(0),
         })
     }
 
@@ -100,10 +103,13 @@ impl TaskQueues {
         }
     }
 
-    /// Wakes the builders that wait for a task.
+    /// Wakes the builders that wait for a task, where there are any. Who is about to wait finds that `changes` is another number
+    /// by then, and does not.
     fn wake(&self) {
         self.changes.fetch_add(1, Ordering::SeqCst);
-        self.changes.wake_all();
+        if self.waiting.load(Ordering::SeqCst) > 0 {
+            self.changes.wake_all();
+        }
     }
 
     /// Lays a task into a builder's deque, unless there is no memory for it.
@@ -144,14 +150,16 @@ impl TaskQueues {
         }
     }
 
-    /// How far the queues has changed.
+    /// How far the queues have changed.
     pub(crate) fn changes(&self) -> u64 {
         self.changes.load(Ordering::SeqCst)
     }
 
-    /// Sleeps while the queues has changed no further. It may also return for no reason.
+    /// Sleeps while the queues have changed no further. It may also return for no reason.
     pub(crate) fn wait<R: Wait>(&self, rt: &R, changes: u64) {
+        self.waiting.fetch_add(1, Ordering::SeqCst);
         self.changes.park(rt, (changes & 0xffff_ffff) as u32);
+        self.waiting.fetch_sub(1, Ordering::SeqCst);
     }
 }
 

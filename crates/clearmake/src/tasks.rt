@@ -38,7 +38,8 @@ fn released_once<R: Wait, T: BuildDesk, G: Gate>(
     unit: u32,
 ) -> (Pass<T>, Option<Vec<u32>>)
     requires own { pass.lock ≡ context.now.lock.now.id }
-    requires knows { Knows context.now.begun.now.value.seen pass.seen context.now.tag context.now.count }
+    requires knows { Knows context.now.begun.now.value.seen pass.seen context.now.tag
+        context.now.count }
     requires unit { unit < context.now.count }
     ensures { IsLater pass result.0 }
 {
@@ -63,7 +64,8 @@ fn push_released<R: Wait, T: BuildDesk, G: Gate>(
     unit: u32,
 ) -> Pass<T>
     requires own { pass.lock ≡ context.now.lock.now.id }
-    requires knows { Knows context.now.begun.now.value.seen pass.seen context.now.tag context.now.count }
+    requires knows { Knows context.now.begun.now.value.seen pass.seen context.now.tag
+        context.now.count }
     requires unit { unit < context.now.count }
     ensures { IsLater pass result }
 {
@@ -107,7 +109,8 @@ fn try_unclaimed<R: Wait, T: BuildDesk, G: Gate>(
     unit: u32,
 ) -> (Pass<T>, Option<Tried>)
     requires own { pass.lock ≡ context.now.lock.now.id }
-    requires knows { Knows context.now.begun.now.value.seen pass.seen context.now.tag context.now.count }
+    requires knows { Knows context.now.begun.now.value.seen pass.seen context.now.tag
+        context.now.count }
     requires unit { unit < context.now.count }
     ensures pass { IsLater pass result.0 }
     ensures tried { IfSome result.1
@@ -126,7 +129,8 @@ fn take_up<R: Wait, T: BuildDesk, G: Gate>(
     unit: u32,
 ) -> (Pass<T>, bool)
     requires own { pass.lock ≡ context.now.lock.now.id }
-    requires knows { Knows context.now.begun.now.value.seen pass.seen context.now.tag context.now.count }
+    requires knows { Knows context.now.begun.now.value.seen pass.seen context.now.tag
+        context.now.count }
     requires unit { unit < context.now.count }
     ensures { IsLater pass result.0 }
 {
@@ -153,7 +157,8 @@ pub(crate) fn do_task<R: Wait, T: BuildDesk, G: Gate>(
     unit: u32,
 ) -> Pass<T>
     requires own { pass.lock ≡ context.now.lock.now.id }
-    requires knows { Knows context.now.begun.now.value.seen pass.seen context.now.tag context.now.count }
+    requires knows { Knows context.now.begun.now.value.seen pass.seen context.now.tag
+        context.now.count }
     ensures { IsLater pass result }
 {
     if unit >= context.count || queues.is_claimed(unit) {

@@ -62,6 +62,7 @@ fn run_session<R: Threads + Wait + Sync>(
 
 fn main(rt: HostRuntime) -> ExitCode {
     for text in [FIRST, SECOND] {
+        // Only `main` may lend the handle of the process for threads, to a parameter with their bounds.
         let status = run_session(&rt, &rt, text).unwrap_or(Status::NoMemory);
         if !matches!(status, Status::Good | Status::SomeFailed) {
             return ExitCode::from(status.code());

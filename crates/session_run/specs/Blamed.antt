@@ -34,8 +34,8 @@ abbrev pub tick_of : End → ℕ
 tick_of (Committed row tick) = tick
 tick_of (Faulted left faults tick) = tick
 
--- Behind this tick the journal is settled where its tail may be open, by two calls at most, and at most one of them fails. Elsewhere
--- no call is made.
+-- Behind this tick the journal is settled where its tail may be open, by two calls at most, and at most one of them fails.
+-- Elsewhere no call is made.
 abbrev pub SettlesBehind : Bool → ℕ → List Event → Type 0
 SettlesBehind true tick calls = (length calls ≤ tick + 2) × (failures calls ≤ failed_by tick calls + 1)
 SettlesBehind false tick calls = length calls ≡ tick

@@ -13,7 +13,8 @@ use std::alloc::Global;
 use std::marker::{Brand, Model, PhantomData};
 use turn_lock::Storied;
 
-/// A type that fixes how a core stood as its phase had begun. Where it is a parameter, a call may pick it.
+/// How a core stood as its phase had begun, fixed by a type: what a lock keeps of its value beside the story is what the value's
+/// type says. Where this is a parameter, the proof of a call that passes `Brand` picks what it is.
 pub(crate) trait Beginning {
     ghost use Rattle.base_core.specs.Story.Shown.{Shown};
 
@@ -105,6 +106,7 @@ impl<D: Disk, P: Beginning> PhaseDesk for PhaseCore<D, P> {
     ghost number = { (state_of P.at.story).number };
 
     fn in_phase(&self) {
+        // The clause follows from the desk's invariant, which is at hand once a field is looked at.
         let _core = &self.core;
     }
 }

@@ -1,8 +1,8 @@
 // The top call: from the bytes of a session to the bytes of its replies.
 //
-// What it is for: `run_words` reads a session, opens a base, runs the session's phases and writes their transcripts. The lanes of
-// a phase run on threads, and so do the units of each build. They take turns at the base, one call each, so other lanes' rows come
-// between the steps of a build.
+// What it is for: `run_words` reads a session, opens a base, runs the session's phases and writes their transcripts. The lanes
+// of a phase run on threads, and so do the units of each build. They take turns at the base, for one step of a build, or up to
+// 64 other commands, so other lanes' rows come between the steps of a build.
 //
 // What it promises: the headline of the product, in `specs/Headline.antt`, and when each status comes, in
 // `specs/Causes.antt`. The printed replies are those of one legal history, which holds each command once in its lane's
@@ -13,10 +13,10 @@
 // sound base (`laws`). A disk fault is told where a call on the disk failed, and nowhere else, unless the sink failed too or
 // memory ran out. All this holds in whatever order the threads take turns. It is not promised that threads get on.
 //
-// What it stands on: `base_core` for the history, `clearmake` and `turn_lock` for threads, `checkout_desk` for which commands build, `disk_model` and `vob_journal` for
-// the disk and what a stop finds there, `legal_history` for what a history means, `carried_out` for the commands, `session_text`
-// and `reply_text` for the texts, `cc_outside` for the source, the sink and the clock, `arrayvec` and `itoa` for a line without
-// memory, and `cc_names` for plain data.
+// What it stands on: `base_core` for the history, `clearmake` and `turn_lock` for threads, `checkout_desk` for which commands
+// build, `disk_model` and `vob_journal` for the disk and what a stop finds there, `legal_history` for what a history means,
+// `carried_out` for the commands, `session_text` and `reply_text` for the texts, `cc_outside` for the source, the sink and the
+// clock, `arrayvec` and `itoa` for a line without memory, and `cc_names` for plain data.
 #![tactic(auto)]
 
 mod desks;

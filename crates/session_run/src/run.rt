@@ -158,6 +158,11 @@ fn run_session<R: Threads + Wait + Sync, G: Gate + Sync, K: Sink, D: Disk + Send
 /// The lanes of a phase run on threads, and so do the units of each build: what is promised holds in whatever order they take
 /// turns, and it is not promised that they get on. Around each script, and before each read of it, the gate is called.
 ///
+/// A phase starts a thread for each lane but one, and a build that asks for N scripts at once up to N - 1 more, anew each time:
+/// 4,095 at most are there at once beside the caller's. Each has a stack of its own, of the size that `ulimit -s` tells, and
+/// counts against the processes of its user, `ulimit -u`. Where one is refused, the thread that asked does what it was wanted
+/// for.
+///
 /// Takes time linear in the session and in the replies, the time of `Core::open`, and for each command that of `act` or of its
 /// build.
 pub fn run_words<

@@ -22,7 +22,7 @@ use std::marker::{Brand, PhantomData};
 use std::sync::Wait;
 use std::thread::Threads;
 
-// How many turns a lane has at most: it has fewer commands, since the text of a session has no more bytes.
+// How many turns a lane has at most: it has fewer commands, since the text of a session (`sessions.rt`) has no more bytes.
 const TURNS: u32 = 16_777_216;
 
 /// What the phases of a session are run by: threads, memory, the keys for hashing, and the gate of the runs of scripts.
@@ -65,7 +65,7 @@ fn run_lanes_at<
 }
 
 /// Carries out commands of the last phase, the lanes in threads of their own, and each build with builders of its own. True where
-/// none is left; else memory ran out.
+/// none is left. False where memory or a lane's turns ran out, and for a phase without lanes: then the caller goes on.
 pub(crate) fn run_on_threads<R: Threads + Wait + Sync, G: Gate + Sync, D: Disk + Send>(
     host: &Host<'_, R, G>,
     core: Core<D>,

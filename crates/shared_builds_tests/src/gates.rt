@@ -1,4 +1,4 @@
-// Gates that hold runs of scripts until others have come, and gates that count.
+// Gates that hold runs of scripts until others have come or ended, and gates that count.
 
 use cc_names::paths::Path;
 use cc_outside::Gate;
@@ -7,6 +7,9 @@ use std::thread;
 
 // How often a gate looks whether another run has come, before it gives up.
 const LOOKS: u32 = 10_000_000;
+
+// How often a run that is late looks away once another one has ended, while that is finished.
+const LOOKS_AWAY: u32 = 200;
 
 /// What a run is about to do where it asks a gate.
 #[derive(Clone, Copy, Debug, PartialEq, Eq)]
@@ -118,6 +121,48 @@ impl Gate for Holds<'_> {
 
     fn read(&self, lane: u32, unit: &Path, _path: &Path) {
         self.come(lane, unit, About::Read);
+    }
+}
+
+/// A gate at whose reads the runs of one unit wait until a run of another has ended, and a while more.
+#[derive(Drop)]
+pub(crate) struct Late {
+    unit: &'static str,
+    has_ended: AtomicBool,
+}
+
+impl Late {
+    pub(crate) fn new(unit: &'static str) -> Late {
+        Late {
+            unit,
+            has_ended: AtomicBool::new(false),
+        }
+    }
+
+    fn wait(&self) {
+        for _ in 0..LOOKS {
+            if self.has_ended.load(Ordering::SeqCst) {
+                break;
+            }
+            thread::yield_now();
+        }
+    }
+}
+
+impl Gate for Late {
+    fn enter(&self, _lane: u32, _unit: &Path) {}
+
+    fn leave(&self, _lane: u32, _unit: &Path) {
+        self.has_ended.store(true, Ordering::SeqCst);
+    }
+
+    fn read(&self, _lane: u32, unit: &Path, _path: &Path) {
+        if self.unit.as_bytes() == unit.as_bytes() {
+            self.wait();
+            for _ in 0..LOOKS_AWAY {
+                thread::yield_now();
+            }
+        }
     }
 }
 

@@ -1,13 +1,13 @@
-// Builds in several lanes at once. A unit that several of them have from the same rows is built by one, and winked in by the others:
-// also by those whose script was run beside the first, since each looks once more before it publishes.
+// Builds in several lanes at once. A unit that several of them have from the same rows is built by one, and winked in by the
+// others: also by those whose script was run beside the first, since each looks once more before it publishes.
 
 use crate::fronts::PROGRAM;
 use crate::sessions::assert_sessions;
 use std::test::Fail;
 
 // Command N of phase 1 makes row N. In phase 2 the checkout and the save are two rows, and each of the six units one: `two` and
-// `prog` are made from other rows of `b` in the two views. Row 25 of phase 3 brings `b` in, so in phase 4 both views have the same
-// new version of it: `one` is kept, and the others are four rows.
+// `prog` are made from other rows of `b` in the two views. Row 25 of phase 3 brings `b` in, so in phase 4 both views have the
+// same new version of it: `one` is kept, and the others are four rows.
 const PARTS: &str = "\
 phase
 lane a

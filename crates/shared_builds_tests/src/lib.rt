@@ -3,7 +3,7 @@
 // What it is for: the words `kept`, `winked` and `built` of each unit to the byte, and how many rows a build makes, as sources,
 // selections, makefiles and options change; that lanes and builders run at once, and that what they come to is right in any
 // order. Every number and text is worked out by hand from the rules of docs/MODEL.md and docs/FORMATS.md; none is taken from what
-// the program writes.
+// the program writes, but in `races` the rows of the base say who came first.
 //
 // What it promises: nothing; it is only run.
 //
@@ -15,6 +15,8 @@
 mod absences;
 #[cfg(test)]
 mod failures;
+#[cfg(test)]
+mod faults;
 #[cfg(test)]
 mod fronts;
 #[cfg(test)]

@@ -1,5 +1,5 @@
-// Lanes and builders on threads: scripts of several lanes and of one build run at once and outside the lock, and what they come to
-// is what it is in any order.
+// Lanes and builders on threads: scripts of several lanes and of one build run at once and outside the lock, and what they come
+// to is what it is in any order.
 
 use crate::fronts::ONE_FILE;
 use crate::gates::{About, Counting, Hold, Holds, Place, Runs};
@@ -142,20 +142,19 @@ fn scripts_of_one_build_are_inside_at_once(rt: HostRuntime) -> Result<(), Fail> 
     assert_held(&rt, rt.alloc(), &holds, ALONE, PROGRAM_OF_TWO)
 }
 
-// Of two builders one is held in the run of `a`. The other drives `b` and then `c`, which `b` released.
-const RELEASED: &str = "\
+// Of two builders one is dealt `a` and `c`, the other `b`, and none of them stands on another.
+const STOLEN: &str = "\
 phase
 lane a
 mkview v
 save v Makefile
-|all: a c
 |a:
 |\techo hi > a
 |b:
 |\techo foo > b
-|c: b
-|\tcat b > c
-clearmake v -J 2
+|c:
+|\techo bar > c
+clearmake v -J 2 a b c
 ----
 phase 1
 lane a
@@ -164,21 +163,123 @@ lane a
 3 clearmake ok
   a built 3 98ea6e4f216f2fb4b69fff9b3a44842c38686ca685f3f55dc48c5d3fb1107be4
   b built 4 b5bb9d8014a0f9b1d61e21e796d78dccdf1352f23cd32812f4850b878ae4944c
-  c built 4 b5bb9d8014a0f9b1d61e21e796d78dccdf1352f23cd32812f4850b878ae4944c
-  all made
+  c built 4 7d865e959b2466918c9863afca942d0fb89d7c9ac0c99bafc3749504ded97730
 status 0, 5 rows
 ";
 
+/// Whoever runs `a` is held there, so one of the two has what the other was dealt.
 #[test]
-fn a_unit_is_driven_once_it_is_released(rt: HostRuntime) -> Result<(), Fail> {
+fn a_builder_without_tasks_steals_one(rt: HostRuntime) -> Result<(), Fail> {
     let holds = [Hold::new(
         Place::new(1, "a", About::Enter),
         Place::new(1, "c", About::Enter),
     )];
+    assert_held(&rt, rt.alloc(), &holds, ALONE, STOLEN)
+}
+
+// Of two builders one is dealt `a` and `c`, the other `b` and `d`, which need `a`.
+const RELEASED: &str = "\
+phase
+lane a
+mkview v
+save v Makefile
+|a:
+|\techo hi > a
+|b: a
+|\tcat a > b
+|c:
+|\techo foo > c
+|d: a
+|\tcat a > d
+clearmake v -J 2 a b c d
+----
+phase 1
+lane a
+1 mkview ok
+2 save ok
+3 clearmake ok
+  a built 3 98ea6e4f216f2fb4b69fff9b3a44842c38686ca685f3f55dc48c5d3fb1107be4
+  b built 3 98ea6e4f216f2fb4b69fff9b3a44842c38686ca685f3f55dc48c5d3fb1107be4
+  c built 4 b5bb9d8014a0f9b1d61e21e796d78dccdf1352f23cd32812f4850b878ae4944c
+  d built 3 98ea6e4f216f2fb4b69fff9b3a44842c38686ca685f3f55dc48c5d3fb1107be4
+status 0, 6 rows
+";
+
+/// The run of `a` lasts until `c` begins. Whoever was dealt `b` and `d` has tried both in vain by then, since it takes its own
+/// tasks first. So builders come to them only as `a` releases them; what no builder runs is run by one thread, where they never
+/// meet.
+#[test]
+fn a_unit_is_driven_once_it_is_released(rt: HostRuntime) -> Result<(), Fail> {
+    let holds = [
+        Hold::new(
+            Place::new(1, "a", About::Enter),
+            Place::new(1, "c", About::Enter),
+        ),
+        Hold::new(
+            Place::new(1, "b", About::Enter),
+            Place::new(1, "d", About::Enter),
+        ),
+        Hold::new(
+            Place::new(1, "d", About::Enter),
+            Place::new(1, "b", About::Enter),
+        ),
+    ];
     assert_held(&rt, rt.alloc(), &holds, ALONE, RELEASED)
 }
 
-// The versions of `in` are rows 8 and 13, and the label stands on the first. View `w` selects by the label, `v` and `v2` the latest.
+// Of two builders one is dealt `a`, `c` and `e`, the other `b`, `d`, which needs `a`, and `f`.
+const LAID_TWICE: &str = "\
+phase
+lane a
+mkview v
+save v Makefile
+|a:
+|\techo hi > a
+|b:
+|\techo hi > b
+|c:
+|\techo hi > c
+|d: a
+|\tcat a > d
+|e:
+|\techo hi > e
+|f:
+|\techo hi > f
+clearmake v -J 2 a b c d e f
+----
+phase 1
+lane a
+1 mkview ok
+2 save ok
+3 clearmake ok
+  a built 3 98ea6e4f216f2fb4b69fff9b3a44842c38686ca685f3f55dc48c5d3fb1107be4
+  b built 3 98ea6e4f216f2fb4b69fff9b3a44842c38686ca685f3f55dc48c5d3fb1107be4
+  c built 3 98ea6e4f216f2fb4b69fff9b3a44842c38686ca685f3f55dc48c5d3fb1107be4
+  d built 3 98ea6e4f216f2fb4b69fff9b3a44842c38686ca685f3f55dc48c5d3fb1107be4
+  e built 3 98ea6e4f216f2fb4b69fff9b3a44842c38686ca685f3f55dc48c5d3fb1107be4
+  f built 3 98ea6e4f216f2fb4b69fff9b3a44842c38686ca685f3f55dc48c5d3fb1107be4
+status 0, 8 rows
+";
+
+/// The first builder comes to `d` once `a` has released it, while the second one is held in `b`; and `d` is the second one's next
+/// task too, before `f`. The run of `d` lasts until `f` begins, which would never come if the second one ran `d` as well.
+#[test]
+fn a_unit_that_is_laid_twice_is_run_once(rt: HostRuntime) -> Result<(), Fail> {
+    let holds = [
+        Hold::new(
+            Place::new(1, "b", About::Enter),
+            Place::new(1, "d", About::Enter),
+        ),
+        Hold::new(
+            Place::new(1, "d", About::Enter),
+            Place::new(1, "f", About::Enter),
+        ),
+    ];
+    assert_held(&rt, rt.alloc(), &holds, ALONE, LAID_TWICE)
+}
+
+// The versions of `in` are rows 8 and 13, and the label stands on the first. View `w` selects by the label, `v` and `v2` the
+// latest.
 const LABELLED: Front = Front {
     asked: "\
 phase
@@ -248,8 +349,8 @@ fn holds_between_builds() -> [Hold; 2] {
     ]
 }
 
-// The label moves while lane a's build goes on, which sees it where it was. Its next build sees it moved, and winks in what lane b
-// built.
+// The label moves while lane a's build goes on, which sees it where it was. Its next build sees it moved, and winks in what lane
+// b built.
 const LABEL_MOVED: &str = "\
 phase
 lane a

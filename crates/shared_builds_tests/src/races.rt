@@ -1,10 +1,11 @@
-// Eight lanes that race for one label, one branch and one target, again and again. Which of them comes first is open: the rows of the
-// base tell, and what each lane is replied follows from that.
+// Eight lanes that race for one label, one branch and one target, again and again. Which of them comes first is open: the rows
+// of the base tell, and what each lane is replied follows from that. The row from which it follows stands before the lane's next.
 
 use crate::sessions::{IN_A_LANE, Runtime, outcome_on, outside_of, run_in, told_of};
-use cc_names::rows::{Deed, Row};
+use cc_names::rows::{Deed, Row, Tag};
 use cc_outside::OpenGate;
 use std::alloc::{AllocError, Global};
+use std::process::Abort;
 use std::test::Fail;
 
 // How often they race in each test.
@@ -108,6 +109,14 @@ fn version_of(lane: u32) -> u64 {
     if lane % 2 == 1 { 8 } else { 11 }
 }
 
+// What a lane's view has of `out`.
+fn object_of(lane: u32) -> &'static str {
+    match version_of(lane) {
+        8 => OF_FIRST,
+        _ => OF_SECOND,
+    }
+}
+
 fn command(alloc: Global, lane: u32, act: Act) -> Result<String, AllocError> {
     match act {
         Act::Save => format!(in alloc; "save w{lane} note\n"),
@@ -128,23 +137,43 @@ fn session(alloc: Global, start: Start) -> Result<String, AllocError> {
     Ok(session)
 }
 
-// How a race went: the version that was labelled, which lane made the branch and by which row, and which built from either version.
+// Who came first, and the number of the row.
+#[derive(Clone, Copy)]
+struct First {
+    lane: u32,
+    row: usize,
+}
+
+impl First {
+    const NOBODY: First = First { lane: 0, row: 0 };
+
+    // Or else this lane, by this row.
+    fn or(self, lane: u32, row: usize) -> First {
+        if self.row == 0 {
+            First { lane, row }
+        } else {
+            self
+        }
+    }
+}
+
+// How a race went: the version that was labelled, and who first put the label, made the branch and built from either version.
 #[derive(Clone, Copy)]
 struct Race {
     labelled: u64,
-    brancher: u32,
-    branch: u64,
-    of_first: u32,
-    of_second: u32,
+    labeller: First,
+    brancher: First,
+    of_first: First,
+    of_second: First,
 }
 
 impl Race {
     const NOTHING: Race = Race {
         labelled: 0,
-        brancher: 0,
-        branch: 0,
-        of_first: 0,
-        of_second: 0,
+        labeller: First::NOBODY,
+        brancher: First::NOBODY,
+        of_first: First::NOBODY,
+        of_second: First::NOBODY,
     };
 
     // With one row more, of this number.
@@ -153,19 +182,19 @@ impl Race {
         match row.deed() {
             Deed::Label { version, .. } => Race {
                 labelled: *version,
+                labeller: self.labeller.or(lane, number),
                 ..self
             },
             Deed::Branch { .. } => Race {
-                brancher: lane,
-                branch: number as u64,
+                brancher: self.brancher.or(lane, number),
                 ..self
             },
             Deed::Publish { .. } if lane % 2 == 1 => Race {
-                of_first: lane,
+                of_first: self.of_first.or(lane, number),
                 ..self
             },
             Deed::Publish { .. } => Race {
-                of_second: lane,
+                of_second: self.of_second.or(lane, number),
                 ..self
             },
             _ => self,
@@ -181,13 +210,38 @@ impl Race {
         race
     }
 
+    // Who first built what a lane builds.
+    fn builder(&self, lane: u32) -> First {
+        match version_of(lane) {
+            8 => self.of_first,
+            _ => self.of_second,
+        }
+    }
+
+    // The number of the row from which the reply follows, or 0.
+    fn cause(&self, lane: u32, act: Act) -> usize {
+        match act {
+            Act::Label if self.labelled != version_of(lane) => self.labeller.row,
+            Act::Save | Act::Label => 0,
+            Act::Build => self.builder(lane).row,
+            Act::Branch => self.brancher.row,
+        }
+    }
+
+    // Whether a row of a lane stands behind the causes of its command and of those before.
+    fn is_behind_causes(&self, start: Start, number: usize, tag: Tag) -> bool {
+        (1..=tag.command).all(|command| self.cause(tag.lane, start.act(tag.lane, command))
+            <= number)
+    }
+
     // The line of a lane's unit.
     fn unit(&self, alloc: Global, lane: u32) -> Result<String, AllocError> {
-        let (builder, object) = match version_of(lane) {
-            8 => (self.of_first, OF_FIRST),
-            _ => (self.of_second, OF_SECOND),
+        let object = object_of(lane);
+        let word = if self.builder(lane).lane == lane {
+            "built"
+        } else {
+            "winked"
         };
-        let word = if builder == lane { "built" } else { "winked" };
         format!(in alloc; "  out {word} {object}\n")
     }
 
@@ -200,10 +254,12 @@ impl Race {
                 format!(in alloc; "mklabel refused C16 LabelElsewhere {}\n", self.labelled)
             }
             Act::Build => format!(in alloc; "clearmake ok\n{}", self.unit(alloc, lane)?),
-            Act::Branch if self.brancher == lane => {
+            Act::Branch if self.brancher.lane == lane => {
                 format!(in alloc; "mkbranch ok /main/fix/0\n")
             }
-            Act::Branch => format!(in alloc; "mkbranch refused C15 BranchExists {}\n", self.branch),
+            Act::Branch => {
+                format!(in alloc; "mkbranch refused C15 BranchExists {}\n", self.brancher.row)
+            }
         }
     }
 
@@ -236,6 +292,17 @@ fn are_in_order(rows: &[Row], lane: u32) -> bool {
     true
 }
 
+// What a lane is replied follows from rows that stand before its own later ones.
+fn assert_causes_first(rt: &impl Abort, race: Race, rows: &[Row], start: Start) {
+    for (place, row) in rows.iter().enumerate().skip(SET_UP_ROWS) {
+        let number = place.saturating_add(1);
+        assert!(rt;
+            race.is_behind_causes(start, number, row.tag()),
+            "at row {number}"
+        );
+    }
+}
+
 // Each view keeps what it has.
 const AGAIN: &str = "\
 clearmake w1
@@ -251,7 +318,7 @@ clearmake w8
 fn kept_again(alloc: Global) -> Result<String, AllocError> {
     let mut told = String::from_str(alloc, IN_A_LANE.told)?;
     for lane in 1..=LANES {
-        let object = if lane % 2 == 1 { OF_FIRST } else { OF_SECOND };
+        let object = object_of(lane);
         told.push_str(format!(in alloc; "{lane} clearmake ok\n  out kept {object}\n")?.as_str())?;
     }
     told.push_str(format!(in alloc; "status 0, {ROWS} rows\n")?.as_str())?;
@@ -273,8 +340,9 @@ fn run_race(
         assert!(rt; are_in_order(rows, lane), "of lane {lane}");
     }
     let told = told_of(alloc, outside.sink.bytes(), &ended)?;
-    let wanted = Race::of(rows).told(alloc, start)?;
-    assert_eq!(rt; told.as_str(), wanted.as_str());
+    let race = Race::of(rows);
+    assert_eq!(rt; told.as_str(), race.told(alloc, start)?.as_str());
+    assert_causes_first(rt, race, rows, start);
     Ok(ended.disk.bytes(0).to_vec(alloc)?)
 }
 

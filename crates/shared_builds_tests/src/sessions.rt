@@ -83,16 +83,17 @@ fn words_of_run(alloc: Global) -> Result<Vec<Text>, NoMemory> {
     Ok(words)
 }
 
-/// A session is run on a base with this journal, and its runs ask this gate.
-pub(crate) fn run_in<G: Gate + Sync>(
+/// A session is run on a disk, and its runs ask this gate.
+pub(crate) fn run_on<G: Gate + Sync>(
     rt: &impl Runtime,
     alloc: Global,
     gate: &G,
-    journal: &[u8],
+    disk: MemoryDisk,
     outside: &mut Outside,
-) -> Result<Ended<MemoryDisk>, Fail> {
+) -> Result<Ended<MemoryDisk>, Fail>
+    requires { IsHandedIn (sight_of disk) }
+{
     let words = words_of_run(alloc)?;
-    let disk = disk_with(alloc, journal)?;
     Ok(run_words(
         rt,
         alloc,
@@ -104,6 +105,18 @@ pub(crate) fn run_in<G: Gate + Sync>(
         disk,
         &mut outside.clock,
     ))
+}
+
+/// A session is run on a base with this journal, and its runs ask this gate.
+pub(crate) fn run_in<G: Gate + Sync>(
+    rt: &impl Runtime,
+    alloc: Global,
+    gate: &G,
+    journal: &[u8],
+    outside: &mut Outside,
+) -> Result<Ended<MemoryDisk>, Fail> {
+    let disk = disk_with(alloc, journal)?;
+    run_on(rt, alloc, gate, disk, outside)
 }
 
 /// What was written, and then the line of the status and the rows.

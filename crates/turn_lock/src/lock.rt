@@ -14,9 +14,17 @@ use crate::rule::{DRAWN, Opening, SERVED, SharedTable, TurnSeat, TurnTable, VALU
 use crate::story::Storied;
 use atomic_table::{Refused, Table};
 use std::alloc::Global;
+use std::hint;
 use std::marker::Model;
 use std::snapshot::Snapshot;
 use std::sync::Wait;
+use std::sync::atomic::{AtomicU64, Ordering};
+
+// How often a thread looks whether its turn has come before it sleeps: about as long as it takes to sleep and to be woken.
+const LOOKS: u32 = 400;
+
+// It looks so while at most as many turns come before its own.
+const NEAR: u64 = 3;
 
 /// A lock round one value, which its passes take in turns.
 ///
@@ -25,6 +33,8 @@ use std::sync::Wait;
 /// that threads are served in any order, or any time. A thread that keeps the value keeps all others waiting.
 pub struct TurnLock<T: Storied> {
     table: TurnTable<T>,
+    // How many threads sleep, or are about to.
+    sleepers: AtomicU64,
 }
 
 impl<T: Storied> Model for TurnLock<T> {
@@ -111,7 +121,13 @@ impl<T: Storied> TurnLock<T> {
         };
         slots.push_reserved(Some(value));
         match Table::new(alloc, &[0, 0], slots, &opening) {
-            Ok((table, seat)) => Ok((TurnLock { table }, Pass { seat })),
+            Ok((table, seat)) => {
+                let lock = TurnLock {
+                    table,
+                    sleepers: AtomicU64::new(0),
+                };
+                Ok((lock, Pass { seat }))
+            }
             Err(Refused { slots }) => Err(only(slots)),
         }
     }
@@ -152,8 +168,9 @@ impl<T: Storied> TurnLock<T> {
 
     /// Waits for the pass's turn, and takes the value. Its story begins with all that the pass has seen.
     ///
-    /// It sleeps while it waits, and need not return: no turn is promised, nor any order of turns. Uncontended it costs
-    /// two atomic steps. A thread that waits is woken at each turn until its own.
+    /// It need not return: no turn is promised, nor any order of turns. Uncontended it costs two atomic steps. A thread that
+    /// waits looks for its turn, for some microseconds, where few turns come before its own, and then sleeps;
+    /// it is woken at each turn until its own.
     pub fn take<R: Wait>(&self, rt: &R, pass: Pass<T>) -> (Held<T>, T)
         requires own { pass.lock ≡ self.now.id }
         ensures own { result.0.lock ≡ pass.lock }
@@ -164,7 +181,7 @@ impl<T: Storied> TurnLock<T> {
         let Pass { mut seat } = pass;
         let shared = &self.table.shared;
         let ticket = shared.fetch_add::<Draw>(&mut seat, DRAWN, 1);
-        wait_for(rt, shared, &mut seat, ticket);
+        wait_for(rt, shared, &self.sleepers, &mut seat, ticket);
         let value = shared.exchange(&mut seat, VALUE, None).unwrap();
         (Held { seat }, value)
     }
@@ -172,7 +189,8 @@ impl<T: Storied> TurnLock<T> {
     /// Gives the value back, with a story that begins with the one taken, and wakes those who wait. The pass has then
     /// seen the given story whole.
     ///
-    /// It waits for nobody. Uncontended it costs two atomic steps, else it also wakes every thread that waits.
+    /// It waits for nobody. Uncontended it costs two atomic steps and a load, else it also wakes every thread that
+    /// sleeps.
     pub fn give(&self, held: Held<T>, value: T) -> Pass<T>
         requires own { held.lock ≡ self.now.id }
         requires story { IsPrefix held.story (T.story value) }
@@ -184,9 +202,9 @@ impl<T: Storied> TurnLock<T> {
         let shared = &self.table.shared;
         let taken = shared.exchange(&mut seat, VALUE, Some(value));
         let None = taken else { unreachable!() };
-        let served = shared.fetch_add::<Give<T>>(&mut seat, SERVED, 1);
-        // Where no later ticket was drawn nobody sleeps: who draws one now finds the number just served.
-        if shared.peek(DRAWN) != served.wrapping_add(1) {
+        shared.fetch_add::<Give<T>>(&mut seat, SERVED, 1);
+        // Who is about to sleep and was not counted yet finds the number just served, and does not.
+        if self.sleepers.load(Ordering::SeqCst) > 0 {
             shared.wake_all(SERVED);
         }
         Pass { seat }
@@ -199,7 +217,7 @@ impl<T: Storied> TurnLock<T> {
         requires whole { pass.weight ≡ self.whole }
         ensures { T.story result ≡ pass.seen }
     {
-        let TurnLock { table } = self;
+        let TurnLock { table, sleepers: _ } = self;
         let Pass { seat } = pass;
         let mut closed = table.close_with(seat);
         let value = closed.take(VALUE);
@@ -208,11 +226,25 @@ impl<T: Storied> TurnLock<T> {
     }
 }
 
+// Looks for a while whether it is the ticket's turn, where few turns come before it: most turns are shorter than a sleep.
+fn look_ahead<T: Storied>(shared: &SharedTable<T>, ticket: u64)
+    requires { shared.now.table_id.words ≡ 2 }
+{
+    for _ in 0..LOOKS {
+        let served = shared.peek(SERVED);
+        if served == ticket || ticket.wrapping_sub(served) > NEAR {
+            return;
+        }
+        hint::spin_loop();
+    }
+}
+
 // Waits until it is the ticket's turn, and then has the value in hand. A thread sleeps only while the word still reads
 // what it last found there, so a turn that comes between the look and the sleep is not missed.
 fn wait_for<T: Storied, R: Wait>(
     rt: &R,
     shared: &SharedTable<T>,
+    sleepers: &AtomicU64,
     seat: &mut TurnSeat<T>,
     ticket: u64,
 )
@@ -222,12 +254,15 @@ fn wait_for<T: Storied, R: Wait>(
     ensures own { seat.new.table_id ≡ seat.old.table_id }
     ensures taken { HasTaken T.story seat.old.me seat.new.me }
 {
+    look_ahead(shared, ticket);
     for _ in rt.forever() {
         let served = shared.load::<Look<T>>(seat, SERVED);
         if served == ticket {
             return;
         }
+        sleepers.fetch_add(1, Ordering::SeqCst);
         shared.park(rt, SERVED, (served & 0xffff_ffff) as u32);
+        sleepers.fetch_sub(1, Ordering::SeqCst);
     }
     unreachable!()
 }

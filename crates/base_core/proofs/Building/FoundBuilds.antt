@@ -22,7 +22,7 @@ use Rattle.base_core.specs.Calls.BuildCalls.{MaySettle, MayWink, HasRun, Noted, 
 use Rattle.base_core.specs.Calls.Building.{IsBuildKept}
 use Rattle.clearmake.specs.declared.turns.Carried.{Carried}
 use Rattle.clearmake.specs.declared.turns.Carried.TheVariants as carried
-use Rattle.clearmake.specs.Going.{StillBuilds, GoesOn}
+use Rattle.clearmake.specs.Going.{BuildsOn, GoesOn}
 use Rattle.base_core.specs.Keeping.Kept.{IsCoreKept}
 use Rattle.base_core.specs.Keeping.Lanes.{LaneKept}
 use Rattle.base_core.specs.Logging.Logs.{Logged}
@@ -45,7 +45,7 @@ view_there s lane build b kept e = subst (λ b. IsSome (view_row (first_rows bui
 -- a unit whose script was started has it still
 pub started_has : (old new : List Told) (lane n : ℕ) (script : List Line) (targets : List (List ℕ)) → HasScript (state_of old) lane n script targets → Noted old new lane n Started → GoesOn old new lane × IsStarted (state_of new) lane n script targets
 started_has old new lane n script targets has noted =
-    let still : StillBuilds (state_of new) lane has.build = noted.goes.still has.build has.active in
+    let still : BuildsOn (state_of new) lane has.build = noted.goes.still has.build has.active in
     let units : noted.build.units ≡ has.build.units = ap (λ b. b.units) (some_same noted.build still.build (sym noted.active ∙ still.active)) ∙ still.units in (
       noted.goes,
       record {

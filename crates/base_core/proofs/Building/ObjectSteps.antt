@@ -13,7 +13,7 @@ use Rattle.legal_history.specs.Stories.States.{State, start, ticks_of}
 use Rattle.legal_history.specs.Stories.Steps.{after, state_of, with_came}
 use Rattle.legal_history.proofs.Stories.SoundStories.{base_fits}
 use Rattle.base_core.specs.Calls.BuildCalls.{GivesObject}
-use Rattle.clearmake.specs.Going.{GoesOn, HasOutcome, StillBuilds}
+use Rattle.clearmake.specs.Going.{BuildsOn, GoesOn, HasOutcome}
 use Rattle.base_core.specs.Keeping.Kept.{IsCoreKept}
 use Rattle.base_core.specs.Keeping.Lanes.{LaneKept, build_at, put_build}
 use Rattle.base_core.specs.Logging.Logs.{Logged, with_row}
@@ -94,8 +94,8 @@ object_goes story lane n row object tick g = (
     active : build_of (state_of (story ++ x ∷ [])).active lane ≡ Some given
     active = ap (λ t. build_of t.active lane) state ∙ found_put lane given s.active
 
-    still : (build : Build) → g.build ≡ build → StillBuilds (state_of (story ++ x ∷ [])) lane build
-    still build e = subst (λ b. StillBuilds (state_of (story ++ x ∷ [])) lane b) e
+    still : (build : Build) → g.build ≡ build → BuildsOn (state_of (story ++ x ∷ [])) lane build
+    still build e = subst (λ b. BuildsOn (state_of (story ++ x ∷ [])) lane b) e
         (record { build = given; active = active; units = refl; outcomes = λ m over. outcome_noted g.build n m (Given object) g.waits over })
 
 pub object_so : (log : Logged) (story : List Told) (lane n : ℕ) (row : Plain) (object tick : ℕ) (sight : Sight) → log.story ≡ story → Gives (state_of log.story) lane n row object → GoesOn story (with_row log row tick sight).story lane × HasOutcome (state_of (with_row log row tick sight).story) lane n

@@ -11,7 +11,7 @@ use Rattle.legal_history.specs.Builds.Active.{Build, Came, build_of, came_to, is
 use Rattle.legal_history.specs.Stories.States.{State, start}
 use Rattle.legal_history.specs.Stories.Steps.{state_of, with_came}
 use Rattle.base_core.specs.Calls.BuildCalls.{Notes, Noted}
-use Rattle.clearmake.specs.Going.{StillBuilds}
+use Rattle.clearmake.specs.Going.{BuildsOn}
 use Rattle.base_core.specs.Keeping.Kept.{IsCoreKept}
 use Rattle.base_core.specs.Keeping.Lanes.{LaneKept, build_at, put_build}
 use Rattle.base_core.specs.Logging.Logs.{Logged, with_step}
@@ -76,6 +76,6 @@ noted_so log story lane n step came same notes = record {
     active : build_of (state_of (log.story ++ told.Other step ∷ [])).active lane ≡ Some noted
     active = ap (λ t. build_of t.active lane) state ∙ found_put lane noted s.active
 
-    still : (build : Build) → notes.build ≡ build → StillBuilds (state_of (log.story ++ told.Other step ∷ [])) lane build
-    still build e = subst (λ b. StillBuilds (state_of (log.story ++ told.Other step ∷ [])) lane b) e
+    still : (build : Build) → notes.build ≡ build → BuildsOn (state_of (log.story ++ told.Other step ∷ [])) lane build
+    still build e = subst (λ b. BuildsOn (state_of (log.story ++ told.Other step ∷ [])) lane b) e
         (record { build = noted; active = active; units = refl; outcomes = λ m over. outcome_noted notes.build n m came notes.waits over })

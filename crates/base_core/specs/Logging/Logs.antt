@@ -13,7 +13,8 @@ use Rattle.base_core.specs.Stopping.Backed.{IsBacked}
 use Rattle.base_core.specs.Story.Handed.{Handed}
 use Rattle.base_core.specs.Story.Telling.{oldest_first, story_of, AreTold}
 
--- a story, oldest step first, with the base to which it has led and all phases, in their order, and what contracts see of the disk
+-- a story, oldest step first, with the base to which it has led and all phases, in their order, and what contracts see of the
+-- disk
 pub record Logged : Type 0 where
   pub story : List Told
   pub base : Base

@@ -25,8 +25,8 @@ has_row (Committed row tick ∷ earlier) = true
 has_row (Faulted None faults tick ∷ earlier) = has_row earlier
 has_row (Faulted (Some row) faults tick ∷ earlier) = true
 
--- Whether a fault may have left the journal's tail open: the newest of some commits and faults is a fault, and it left a row. Or it
--- left none, and until then the tail may have stood as it was opened.
+-- Whether a fault may have left the journal's tail open: the newest of some commits and faults is a fault, and it left a row.
+-- Or it left none, and until then the tail may have stood as it was opened.
 abbrev pub may_be_open : List End → Bool
 may_be_open [] = false
 may_be_open (Committed row tick ∷ earlier) = false

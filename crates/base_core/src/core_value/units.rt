@@ -115,7 +115,8 @@ impl<D: Disk> Core<D> {
         step(alloc, &self.rows(), self.build_at(lane), unit)
     }
 
-    /// Takes the step that comes next for a unit of a lane's build. Where the disk fails the build ends. An `Err` changes nothing.
+    /// Takes the step that comes next for a unit of a lane's build. Where the disk fails the build ends. An `Err` changes
+    /// nothing.
     fn take_step(&mut self, alloc: Global, lane: u32, unit: u32) -> Result<UnitTurn, NoMemory>
         requires { (count : ℕ) × IsBuilding (state_of self.old.story) lane count × (unit < count) }
         ensures ok { IfOk result (λ turn. Tries self.old.story self.new.story lane unit turn) }
