@@ -1,3 +1,4 @@
 -- How a base is opened: its rows are read and fit one another.
+pub mod Damages
 pub mod Opening
 pub mod Reading

@@ -1,15 +1,8 @@
 // The laws of stops and of journals.
 
-ghost use Rattle.std.specs.Prelude.{◌≡◌, ℕ, IfSome, List, true};
-ghost use Rattle.cc_names.specs.declared.steps.Told.{Told};
-ghost use Rattle.legal_history.specs.Base.Rows.{Base};
-ghost use Rattle.legal_history.specs.Base.Fits.{is_base};
-ghost use Rattle.legal_history.specs.Stories.States.{hanging};
-ghost use Rattle.legal_history.specs.Stories.Steps.{state_of};
+ghost use Rattle.base_core.specs.Bases.Damages.{BaseIsUndamaged, JournalIsDamagedOnce, JournalIsOfOneBase};
 ghost use Rattle.base_core.specs.Stopping.Founds.{FoundBaseIsSound, StopLeavesABase, StopOpensAgain};
-ghost use Rattle.base_core.specs.Bases.Opening.{IsDamaged, IsUndamaged};
-ghost use Rattle.base_core.specs.Story.Readable.{AreReadable, IsReadable, TellsOnly};
-ghost use Rattle.base_core.specs.Stopping.Standing.{payloads};
+ghost use Rattle.base_core.specs.Story.Readable.{FaultLeavesAReadableRow, StoryKeepsItsBaseReadable};
 
 use legal_history::laws::stops;
 
@@ -23,25 +16,23 @@ pub fn a_stop_leaves_a_base()
     stops::a_stop_leaves_a_base_sound();
 }
 
-/// A journal that stands for a base of readable rows is not damaged, and stands for no other such base.
+/// Promises `BaseIsUndamaged` and `JournalIsOfOneBase`: a journal that stands for a base of readable rows is not damaged, and
+/// stands for no other such base.
 pub fn a_base_is_undamaged()
-    ensures undamaged { (b : Base) → is_base b ≡ true → AreReadable b → IsUndamaged (payloads b) }
-    ensures one { (b c : Base) → AreReadable b → AreReadable c → payloads b ≡ payloads c → b ≡ c }
+    ensures undamaged { BaseIsUndamaged }
+    ensures one { JournalIsOfOneBase }
 {}
 
-/// One frame of a journal at most is damaged.
+/// Promises `JournalIsDamagedOnce`: one frame of a journal at most is damaged.
 pub fn a_journal_is_damaged_once()
-    ensures { (list : List (List ℕ)) (m n : ℕ) → IsDamaged list m → IsDamaged list n → m ≡ n }
+    ensures { JournalIsDamagedOnce }
 {}
 
-/// The base of a story that names only readable rows is one of readable rows, and what a fault left behind it is readable.
+/// Promises `StoryKeepsItsBaseReadable` and `FaultLeavesAReadableRow`: the base of a story that names only readable rows is one
+/// of readable rows, and what a fault left behind it is readable.
 pub fn a_story_keeps_its_base_readable()
-    ensures base { (story : List Told)
-        → TellsOnly IsReadable story
-        → AreReadable (state_of story).base }
-    ensures left { (story : List Told)
-        → TellsOnly IsReadable story
-        → IfSome (hanging (state_of story).ends) IsReadable }
+    ensures base { StoryKeepsItsBaseReadable }
+    ensures left { FaultLeavesAReadableRow }
 {}
 
 /// Promises `StopOpensAgain`: whatever a stop may find of a legal story that names only readable rows opens again, without

@@ -1,10 +1,11 @@
 -- What a run that succeeds has made and read: outputs within the limit, one for each target, and few reads, none at the root.
 use Rattle.std.proofs.Common.{◌≡◌, refl, ap, subst, ℕ, suc, ◌+◌, ◌≤◌, Option, Some, None, Result, Ok, Err, List, [], ◌∷◌, length, arith}
 use Rattle.std.specs.List.{AllByRecursion, flat_map}
+use Rattle.cc_names.specs.Files.{Files}
 use Rattle.cc_names.specs.Paths.{root}
 use Rattle.cc_names.specs.declared.refusals.ScriptFault.{ScriptFault}
 use Rattle.build_script.specs.Lines.{script_of}
-use Rattle.build_script.specs.Run.{Files, State, Done, after_lines, output_before, outputs_of, nothing_written, run_of, run, traced}
+use Rattle.build_script.specs.Run.{State, Done, after_lines, output_before, outputs_of, nothing_written, run_of, run, traced}
 use Rattle.build_script.specs.declared.lines.Line.{Line}
 use Rattle.build_core.proofs.RunsGo.{Ends, Leads, leads_done, leads_then, AreReads, reads_wider}
 use Rattle.build_core.proofs.RunsPaths.{line_paths, script_paths}

@@ -3,10 +3,11 @@ use Rattle.std.proofs.Common.{◌≡◌, refl, ap, sym, subst, ℕ, ◌+◌, ◌
 use Rattle.std.proofs.lemmas.Bool.Decides.{nat_tests}
 use Rattle.std.specs.List.{AllByRecursion, list_any}
 use Rattle.std.specs.Str.{bytes_eq}
+use Rattle.cc_names.specs.Files.{Files}
 use Rattle.cc_names.specs.Formed.{IsBelowRoot}
 use Rattle.cc_names.specs.Paths.{IsPath, root, is_root}
 use Rattle.cc_names.specs.declared.refusals.ScriptFault.{ScriptFault}
-use Rattle.build_script.specs.Run.{Files, Asking, Done, Traced, traced, noted, and_then, unless_fault, see, present, text_at}
+use Rattle.build_script.specs.Run.{Asking, Done, Traced, traced, noted, and_then, unless_fault, see, present, text_at}
 use Rattle.build_script.proofs.CarriedLemmas.{traced-and_then}
 use Rattle.build_core.proofs.RunsEach.{each_of_both}
 

@@ -1,11 +1,12 @@
 -- A run over the files of a unit is the unit's run.
 use Rattle.std.proofs.Common.{◌≡◌, ap, sym, ◌∙◌, ℕ, Some, Result, Ok, List, [], ◌∷◌, option_map, option_and_then}
 use Rattle.std.specs.List.{AllByRecursion}
+use Rattle.cc_names.specs.Files.{Files}
 use Rattle.cc_names.specs.declared.refusals.ScriptFault.{ScriptFault}
 use Rattle.cc_names.specs.declared.units.Unit.{Unit}
 use Rattle.build_script.proofs.FrameLemmas.{traced_same}
 use Rattle.build_script.specs.Lines.{script_of}
-use Rattle.build_script.specs.Run.{Files, Asking, Ran, carried_out, run_of, run_of_lines, traced}
+use Rattle.build_script.specs.Run.{Asking, Ran, carried_out, run_of, run_of_lines, traced}
 use Rattle.build_script.specs.Standings.{text_of, texts}
 use Rattle.build_script.specs.declared.lines.Line.{Line}
 use Rattle.legal_history.specs.Base.Rows.{Base}

@@ -3,6 +3,7 @@ use Rattle.std.proofs.Common.{◌≡◌, refl, ap, sym, subst, ◌∙◌, ℕ, z
 use Rattle.std.proofs.lemmas.Bool.{ltb-true, ltb-false}
 use Rattle.std.specs.List.{AllByRecursion, filter_map, cons_option, starts_with, ends_with}
 use Rattle.std.specs.Result.{result_ok}
+use Rattle.cc_names.specs.Files.{Files}
 use Rattle.cc_names.specs.Formed.{IsBelowRoot}
 use Rattle.cc_names.specs.Names.{unless_fault as unless_name_fault}
 use Rattle.cc_names.specs.Paths.{IsPath, root, is_root, path_fault}
@@ -12,7 +13,7 @@ use Rattle.cc_names.specs.declared.refusals.ScriptFault.TheVariants.{Absent, Too
 use Rattle.build_script.specs.Forms.{lines_in}
 use Rattle.build_script.specs.Includes.{without_newline, include_start, quoted, include_of, under, probes_of}
 use Rattle.build_script.specs.Lines.{path_in}
-use Rattle.build_script.specs.Run.{Files, Asking, Done, traced, noted, and_then, see, output_limit, probe_limit, Output, Made, said, Found, found_or, probed, Preprocessing, included, line_expanded, lines_expanded, expanded}
+use Rattle.build_script.specs.Run.{Asking, Done, traced, noted, and_then, see, output_limit, probe_limit, Output, Made, said, Found, found_or, probed, Preprocessing, included, line_expanded, lines_expanded, expanded}
 use Rattle.build_core.proofs.RunsGo.{Ends, Leads, ends_so, leads_done, leads_then, AreReads, reads_wider, noted_more, the_root}
 
 -- a word that is read as a path is one

@@ -6,9 +6,9 @@ use Rattle.std.specs.Prelude.{option_map}
 use Rattle.std.specs.Str.{bytes_eq}
 use Rattle.cc_names.specs.Cuts.{is_newline}
 use Rattle.cc_names.specs.Numbers.{number_of}
-use Rattle.cc_names.specs.Paths.{IsPath}
+use Rattle.cc_names.specs.Paths.{IsPath, path_before}
 use Rattle.cc_names.specs.declared.refusals.ScriptFault.{ScriptFault}
-use Rattle.build_script.specs.Lines.{path_in, path_before, paths_of, cat_of, link_of, directories_of, preprocess_of, preprocess_of_reversed, only_path, substitute_of, head_by, head_of, digest_of, work_of, appends_of, makes, line_of, line_of_reversed, line_before, lines_from, script_of}
+use Rattle.build_script.specs.Lines.{path_in, paths_of, cat_of, link_of, directories_of, preprocess_of, preprocess_of_reversed, only_path, substitute_of, head_by, head_of, digest_of, work_of, appends_of, makes, line_of, line_of_reversed, line_before, lines_from, script_of}
 use Rattle.build_script.specs.Forms.{whole, linked_text}
 use Rattle.build_script.specs.Run.{TextOf, parts_of}
 use Rattle.build_script.specs.Words.{words, without_at}

@@ -2,10 +2,10 @@
 use Rattle.std.proofs.Common.{◌≡◌, ℕ, Option, Ok, List, [], ◌∷◌}
 use Rattle.std.specs.Prelude.{is_some}
 use Rattle.std.specs.List.{AllByRecursion}
+use Rattle.cc_names.specs.Files.{Files}
 use Rattle.cc_names.specs.declared.commands.Macro.{Macro}
 use Rattle.cc_names.specs.declared.units.Unit.{Unit}
 use Rattle.make_text.specs.Graphs.{units}
-use Rattle.make_text.specs.Statements.{Files}
 use Rattle.make_text.specs.UnitLaws.{IsUnit}
 use Rattle.make_text.proofs.UnitLaws as laws
 use Rattle.legal_history.proofs.Builds.OrderedUnits.{of_formed}

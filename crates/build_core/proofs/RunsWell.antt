@@ -3,9 +3,10 @@
 use Rattle.std.proofs.Common.{◌≡◌, refl, subst, ℕ, ◌+◌, ◌≤◌, Bool, true, false, Option, Some, None, Ok, Err, List, [], ◌∷◌, ◌++◌, length, if◌then◌else◌, arith, length-append}
 use Rattle.std.specs.List.{AllByRecursion, flat_map, list_any}
 use Rattle.std.specs.Str.{bytes_eq}
+use Rattle.cc_names.specs.Files.{Files}
 use Rattle.cc_names.specs.Paths.{IsPath, root}
 use Rattle.cc_names.specs.declared.refusals.ScriptFault.TheVariants.{StrayWrite, Failed}
-use Rattle.build_script.specs.Run.{Files, State, Done, Part, Says, TextOf, Preprocessed, Preprocessing, parts_of, Output, Made, said, text_at, expanded, depth_limit, with_part, with_parts, begun, wrote, write_output, after_line, after_lines}
+use Rattle.build_script.specs.Run.{State, Done, Part, Says, TextOf, Preprocessed, Preprocessing, parts_of, Output, Made, said, text_at, expanded, depth_limit, with_part, with_parts, begun, wrote, write_output, after_line, after_lines}
 use Rattle.build_script.specs.declared.lines.Line.{Line}
 use Rattle.build_script.specs.declared.lines.Line.TheVariants.{Empty, Makes, Fail}
 use Rattle.build_script.specs.declared.lines.Work.{Work}

@@ -1,9 +1,8 @@
 -- What is decided of a clearmake.
-use Rattle.std.specs.Prelude.{◌≡◌, ℕ, ◌+◌, ◌<◌, ◌^◌, Bool, true, false, Option, Some, Result, Ok, Err, List, [], length}
+use Rattle.std.specs.Prelude.{◌≡◌, ℕ, ◌+◌, ◌<◌, ◌^◌, Option, Some, Result, Ok, Err, List, length}
 use Rattle.std.specs.List.{AllByRecursion}
 use Rattle.cc_names.specs.Answers.{FaultIs}
 use Rattle.cc_names.specs.declared.commands.Command.{Command}
-use Rattle.cc_names.specs.declared.commands.Command.TheVariants as commands
 use Rattle.cc_names.specs.declared.memory.Or.{Or}
 use Rattle.cc_names.specs.declared.refusals.Refusal.{Refusal}
 use Rattle.cc_names.specs.declared.rows.Tag.{Tag}
@@ -14,16 +13,6 @@ use Rattle.legal_history.specs.Commands.Decisions.{Scene, Decision, Begins}
 use Rattle.legal_history.specs.Commands.Lines.{decision}
 use Rattle.legal_history.specs.Stories.Steps.{new_build}
 use Rattle.build_core.specs.BuildForms.{IsUnitFormed}
-
--- whether a command is one that builds
-abbrev pub is_clearmake : Command → Bool
-is_clearmake (commands.Clearmake v file own_only rebuild jobs macros goals) = true
-is_clearmake command = false
-
--- the view in which a command builds
-abbrev pub view_of : Command → List ℕ
-view_of (commands.Clearmake v file own_only rebuild jobs macros goals) = v
-view_of command = []
 
 -- The scene in which a build of a view is decided: its base, the active build of the view, and how many rows there are and
 -- are reserved.

@@ -3,6 +3,7 @@
 ghost use Rattle.std.specs.Prelude.{◌≡◌, ℕ, ◌+◌, ◌∷◌, [], ◌<◌, ◌≤◌, ◌^◌, length, true, option_copied, IsSome, IfOk, IfNone};
 ghost use Rattle.legal_history.specs.Base.Fits.{row_limit};
 ghost use Rattle.cc_names.specs.Answers.{Gives};
+ghost use Rattle.cc_names.specs.Commands.{builds, view_of};
 ghost use Rattle.session_text.specs.Formed.{IsCommand};
 ghost use Rattle.legal_history.specs.Base.Rows.{size};
 ghost use Rattle.legal_history.specs.Builds.Active.{building, reserved};
@@ -13,7 +14,7 @@ ghost use Rattle.legal_history.specs.Commands.ObjectLines.{clearmake, clearmake_
 ghost use Rattle.legal_history.specs.Base.Views.{view_row};
 ghost use Rattle.make_text.specs.Graphs.{units};
 ghost use Rattle.build_core.specs.BuildForms.{IsBuildFormed};
-ghost use Rattle.build_core.specs.Plans.{is_clearmake, view_of, Meets, AreUnits, Begun, Plans};
+ghost use Rattle.build_core.specs.Plans.{Meets, AreUnits, Begun, Plans};
 
 use crate::active::ActiveBuild;
 use crate::plans::graph;
@@ -143,7 +144,7 @@ pub fn plan_build(
     command: &Command,
     occasion: Occasion,
 ) -> Result<ActiveBuild, Or<Refusal>>
-    requires builds { is_clearmake command.now ≡ true }
+    requires builds { builds command.now ≡ true }
     requires formed { IsCommand 16777216 command.now }
     requires taken { occasion.taken < 2 ^ 63 }
     ensures planned { (scene : Scene)

@@ -2,6 +2,7 @@
 
 ghost use Rattle.std.specs.Prelude.{◌≡◌, ℕ, List, Option, Some, Ok};
 ghost use Rattle.std.specs.List.{AllByRecursion};
+ghost use Rattle.cc_names.specs.Files.{Files};
 ghost use Rattle.cc_names.specs.Names.{IsName};
 ghost use Rattle.cc_names.specs.declared.commands.Macro.{Macro};
 ghost use Rattle.cc_names.specs.declared.units.Unit.{Unit};
@@ -9,7 +10,6 @@ ghost use Rattle.legal_history.specs.Base.Rows.{Base};
 ghost use Rattle.legal_history.specs.Builds.Active.{Build, unit_at};
 ghost use Rattle.legal_history.specs.Builds.Consistency.{IsConsistent};
 ghost use Rattle.make_text.specs.Graphs.{units};
-ghost use Rattle.make_text.specs.Statements.{Files};
 ghost use Rattle.build_core.specs.BuildForms.{IsUnitFormed};
 ghost use Rattle.build_core.specs.Publishing.{CanPublish};
 

@@ -13,7 +13,7 @@ ghost use Rattle.build_core.specs.Sights.{AreNeeds};
 
 use crate::active::ActiveBuild;
 use crate::sights::fetch;
-use build_script::files::{Files, Got, Stop};
+use build_script::files::{Files, GivenUp, Got};
 use build_script::outcomes::Ended;
 use build_script::run::run;
 use build_script::scripts::Script;
@@ -98,6 +98,6 @@ pub fn run_unit(
     match run(alloc, hashing, script, targets, &mut files) {
         Ok(ended) => Ok(ended),
         Err(Or::NoMemory) => Err(NoMemory),
-        Err(Or::Is(Stop::Broken)) => unreachable!(),
+        Err(Or::Is(GivenUp::Broken)) => unreachable!(),
     }
 }

@@ -1,13 +1,14 @@
 -- How parts of a run that were carried out follow each other.
 use Rattle.std.proofs.Common.{◌≡◌, true, ℕ, Option, Some, None, Bool, Result, Ok, Err, List, [], ◌∷◌, refl, ap, sym, ◌∙◌, ◌<◌, ◌≤◌, subst, inl, inr, arith}
 use Rattle.std.specs.List.{AllByRecursion}
+use Rattle.cc_names.specs.Files.{Files}
 use Rattle.cc_names.specs.declared.refusals.ScriptFault.{ScriptFault}
-use Rattle.build_script.specs.Run.{Files, Asking, Done, Asks, Traced, traced, noted, and_then, unless_fault, see}
+use Rattle.build_script.specs.Run.{Asking, Done, Asks, Traced, traced, noted, and_then, unless_fault, see}
 use Rattle.build_script.specs.Parts.{Halted, Went, Carried, Gave, gives}
-use Rattle.build_script.specs.Standings.{Standing, Stays, Rose, AreAmong, IsAmong, texts}
-use Rattle.build_script.specs.declared.files.Stop.TheVariants.{Broken}
+use Rattle.build_script.specs.Standings.{Standing, Stays, HasBroken, AreAmong, IsAmong, texts}
+use Rattle.build_script.specs.declared.files.GivenUp.TheVariants.{Broken}
 use Rattle.build_script.specs.declared.halts.Halt.{Halt}
-use Rattle.build_script.specs.declared.halts.Halt.TheVariants.{Fault, Stop, NoMemory}
+use Rattle.build_script.specs.declared.halts.Halt.TheVariants.{Fault, GivenUp, NoMemory}
 use Rattle.build_script.proofs.FrameLemmas.{before_noted, before_traced}
 
 -- one after the other is traced one after the other
@@ -16,16 +17,16 @@ pub traced-and_then : {A B : Type 0} (files : Files) (reads : List (List ℕ)) (
 traced-and_then files reads (Done a) next = refl
 traced-and_then files reads (Asks path more) next = traced-and_then files (noted reads path) (more (files path)) next
 
--- a count that rose did so from a lower one too
-rose_from : (lower old new : ℕ) → lower ≤ old → Rose old new → Rose lower new
-rose_from lower old new h (inl rose) = inl (omega arith)
-rose_from lower old new h (inr last) = inr last
+-- answers that were `Broken` behind a count were so behind a lower one
+broken_from : (lower old new : ℕ) → lower ≤ old → HasBroken old new → HasBroken lower new
+broken_from lower old new h (inl rose) = inl (omega arith)
+broken_from lower old new h (inr last) = inr last
 
 -- what ended early did so from where it is traced the same, and from a lower count
 halted_along : {A : Type 0} (files : Files) (before middle after : List (List ℕ)) (whole rest : Asking (Result A ScriptFault)) (halt : Halt) (lower old new : ℕ) →
     traced files before whole ≡ traced files middle rest → lower ≤ old → Halted files middle rest halt after old new → Halted files before whole halt after lower new
 halted_along files before middle after whole rest (Fault fault) lower old new e low h = e ∙ h
-halted_along files before middle after whole rest (Stop Broken) lower old new e low h = rose_from lower old new low h
+halted_along files before middle after whole rest (GivenUp Broken) lower old new e low h = broken_from lower old new low h
 halted_along files before middle after whole rest NoMemory lower old new e low h = tt
 
 went_along : {X A : Type 0} (files : Files) (before middle after : List (List ℕ)) (whole rest : Asking (Result A ScriptFault)) (next : X → Asking (Result A ScriptFault)) (result : Result X Halt) (lower old new : ℕ) →
@@ -40,7 +41,7 @@ went_lifted {A = A} files before after first next more (Ok x) old new h =
     ∙ sym (traced-and_then files after (next x) (unless_fault more))
 went_lifted {A = A} files before after first next more (Err (Fault fault)) old new h =
     traced-and_then files before first (unless_fault more) ∙ ap (λ (t : Traced (Result A ScriptFault)). traced files t.reads (unless_fault more t.value)) h
-went_lifted files before after first next more (Err (Stop stop)) old new h = h
+went_lifted files before after first next more (Err (GivenUp cause)) old new h = h
 went_lifted files before after first next more (Err NoMemory) old new h = tt
 
 -- the reads of a first part are among those of the whole
@@ -97,7 +98,7 @@ module _ {F : Type 0} (stands : F → List ℕ → Option Standing) (broken : F 
       by : (result : Result X Halt) → Gave value shown result → Went (texts (stands files)) reads (Done value) (gives shown) result reads (broken files) (broken files)
       by (Ok x) gave = ap (λ (v : Result A ScriptFault). traced (texts (stands files)) reads (Done v)) gave
       by (Err (Fault fault)) gave = ap (λ (v : Result A ScriptFault). traced (texts (stands files)) reads (Done v)) gave
-      by (Err (Stop stop)) gave = absurd gave
+      by (Err (GivenUp cause)) gave = absurd gave
       by (Err NoMemory) gave = tt
 
   -- a part that is given up for want of memory before it asks
@@ -176,13 +177,13 @@ carried_step {stands = stands} {broken = broken} {follows = follows} {before = b
     passes c = record { stays = c.stays; asked = c.asked; went = c.went }
 
 -- one item that ended early, after those before it
-pub carried_stop : {F X Y Z A B : Type 0} {stands : F → List ℕ → Option Standing} {broken : F → ℕ} {follows : List (List ℕ) → F → F → Type 0}
+pub carried_halt : {F X Y Z A B : Type 0} {stands : F → List ℕ → Option Standing} {broken : F → ℕ} {follows : List (List ℕ) → F → F → Type 0}
     {before middle after : List (List ℕ)} {whole : Asking (Result B ScriptFault)} {goes_on : Y → Asking (Result B ScriptFault)} {y : Y} {first : Asking (Result A ScriptFault)} {next : X → Asking (Result A ScriptFault)} {halt : Halt} {old mid new : F}
     (transitive : (paths : List (List ℕ)) (one two three : F) → follows paths one two → follows paths two three → follows paths one three)
     (more : A → Asking (Result B ScriptFault)) (then : Z → Asking (Result B ScriptFault)) →
     Carried stands broken follows before whole goes_on (Ok y) middle old mid → goes_on y ≡ and_then first (unless_fault more) → Carried stands broken follows middle first next (Err halt) after mid new →
     Carried stands broken follows before whole then (Err halt) after old new
-carried_stop {stands = stands} {broken = broken} {follows = follows} {before = before} {middle = middle} {after = after} {whole = whole} {goes_on = goes_on} {y = y} {first = first} {next = next} {halt = halt} {old = old} {mid = mid} {new = new} transitive more then one e two =
+carried_halt {stands = stands} {broken = broken} {follows = follows} {before = before} {middle = middle} {after = after} {whole = whole} {goes_on = goes_on} {y = y} {first = first} {next = next} {halt = halt} {old = old} {mid = mid} {new = new} transitive more then one e two =
     carried_on stands broken follows transitive before middle after whole goes_on y then (Err halt) old mid new one (carried_as (sym e) (carried_failed more then two))
 
 -- a part that ended early in a part that it is the rest of

@@ -3,7 +3,8 @@ use Rattle.std.proofs.Common.{◌≡◌, ℕ, Bool, true, false, List, [], ◌�
 use Rattle.std.specs.List.{AllByRecursion, list_any}
 use Rattle.std.specs.Str.{bytes_eq}
 use Rattle.std.proofs.lemmas.Slice.Eq.{bytes_eq-Decides}
-use Rattle.build_script.specs.Run.{Files, Asking, Done, Asks, traced, noted, run_of}
+use Rattle.cc_names.specs.Files.{Files}
+use Rattle.build_script.specs.Run.{Asking, Done, Asks, traced, noted, run_of}
 use Rattle.build_script.specs.Lines.{script_of}
 use Rattle.build_script.specs.Frame.{IsFramed}
 

@@ -14,7 +14,7 @@ use Rattle.build_script.specs.Parts.{Carried, Gave, Halted}
 use Rattle.build_script.specs.Run.{Asking, Done, Asks, and_then, unless_fault, Made, Output, Preprocessing, expanded, lines_expanded, line_expanded, included, said, depth_limit, traced}
 use Rattle.build_script.specs.Standings.{Standing, texts}
 use Rattle.build_script.specs.declared.halts.Halt.{Halt}
-use Rattle.build_script.specs.declared.halts.Halt.TheVariants.{Fault, Stop, NoMemory}
+use Rattle.build_script.specs.declared.halts.Halt.TheVariants.{Fault, GivenUp, NoMemory}
 use Rattle.build_script.specs.declared.opens.OpenText.{OpenText}
 use Rattle.build_script.proofs.CarriedLemmas.{carried_lifted, and_then-assoc, and_then-done}
 
@@ -126,5 +126,5 @@ carried_unsaid {stands = stands} {broken = broken} {asking = asking} {value = va
   where
     by : (halt : Halt) → Gave value shown (Err halt) → Halted (texts (stands files)) reads asking halt reads (broken files) (broken files)
     by (Fault fault) gave = ap (traced (texts (stands files)) reads) (faults fault gave)
-    by (Stop stop) gave = absurd gave
+    by (GivenUp cause) gave = absurd gave
     by NoMemory gave = tt

@@ -1,9 +1,10 @@
 -- How a script is read word by word and line by line.
-use Rattle.std.proofs.Common.{◌≡◌, ℕ, ◌<◌, min, Bool, true, false, if◌then◌else◌, Option, Some, None, Result, Ok, Err, List, [], ◌∷◌, ◌++◌, length, map, refl, sym, ap, ◌∙◌, append_assoc, arith, Bor}
+use Rattle.std.proofs.Common.{◌≡◌, ℕ, ◌<◌, min, Bool, true, false, if◌then◌else◌, Option, Some, None, Result, Ok, Err, List, [], ◌∷◌, ◌++◌, length, map, refl, append_assoc, arith, Bor}
 use Rattle.std.specs.Prelude.{codes}
 use Rattle.std.specs.Str.{bytes_eq}
+use Rattle.cc_names.specs.Paths.{path_before}
 use Rattle.cc_names.specs.declared.refusals.ScriptFault.{ScriptFault}
-use Rattle.build_script.specs.Lines.{path_before, directory_of, directories_of, line_before}
+use Rattle.build_script.specs.Lines.{directory_of, directories_of, line_before}
 use Rattle.build_script.specs.declared.lines.Line.{Line}
 
 -- paths that were read before those that follow

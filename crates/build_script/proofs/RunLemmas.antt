@@ -10,7 +10,8 @@ use Rattle.std.proofs.lemmas.Slice.Eq.{bytes_eq-Decides}
 use Rattle.build_script.specs.declared.lines.Line.{Line}
 use Rattle.build_script.specs.declared.lines.Line.TheVariants.{Empty, Makes, Fail}
 use Rattle.build_script.specs.Progress.{HoldsEach}
-use Rattle.build_script.specs.Run.{State, Asking, Done, and_then, unless_fault, noted, write_output, after_line, after_lines}
+use Rattle.cc_names.specs.Files.{Files}
+use Rattle.build_script.specs.Run.{Ran, Traced, carried_out, traced, State, Asking, Done, and_then, unless_fault, noted, write_output, after_line, after_lines}
 use Rattle.build_script.specs.Standings.{IsAmong, AreAmong}
 use Rattle.cc_names.specs.declared.refusals.ScriptFault.TheVariants.{StrayWrite}
 
@@ -116,3 +117,10 @@ turned one other = by (bytes_eq one other) refl (bytes_eq other one) refl
 pub any-turned : (path : List ℕ) (paths : List (List ℕ)) → list_any (bytes_eq path) paths ≡ list_any (λ target. bytes_eq target path) paths
 any-turned path [] = refl
 any-turned path (first ∷ paths) = λ i. turned path first i || any-turned path paths i
+
+-- a run comes to what it traces
+pub came_to : (files : Files) (asking : Asking (Result (List (List ℕ)) ScriptFault)) (ran : Ran) → traced files [] asking ≡ record { value = ran.result; reads = ran.reads } → ran ≡ carried_out files asking
+came_to files asking ran e = ap (λ t. the_run t) (sym e)
+  where
+    the_run : Traced (Result (List (List ℕ)) ScriptFault) → Ran
+    the_run t = record { result = t.value; reads = t.reads }

@@ -7,7 +7,7 @@ use Rattle.cc_names.specs.declared.refusals.ScriptFault.TheVariants.{TooBig}
 use Rattle.build_script.specs.Parts.{Gave}
 use Rattle.build_script.specs.Run.{Output, Made, said, output_limit}
 use Rattle.build_script.specs.declared.halts.Halt.{Halt}
-use Rattle.build_script.specs.declared.halts.Halt.TheVariants.{Fault, Stop, NoMemory}
+use Rattle.build_script.specs.declared.halts.Halt.TheVariants.{Fault, GivenUp, NoMemory}
 
 -- more behind what was said, unless that was a fault
 abbrev pub then_said : Output → List ℕ → Result Made ScriptFault → Result Made ScriptFault
@@ -34,7 +34,7 @@ said-append output one two made = by (nat_lt output_limit (output.before + lengt
 pub gave_front : {X Y : Type 0} (output : Output) (one two : List ℕ) (made : Made) (whole : Result Made ScriptFault) (shown : X → Made) (other : Y → Made) (halt : Halt) →
     whole ≡ said output (one ++ two) made → Gave {X = X} (said output one made) shown (Err halt) → Gave {X = Y} whole other (Err halt)
 gave_front output one two made whole shown other (Fault fault) e gave = e ∙ said-append output one two made ∙ ap (then_said output two) gave
-gave_front output one two made whole shown other (Stop stop) e gave = gave
+gave_front output one two made whole shown other (GivenUp cause) e gave = gave
 gave_front output one two made whole shown other NoMemory e gave = tt
 
 -- what is said in a first part leaves the second

@@ -2,11 +2,12 @@
 use Rattle.std.proofs.Common.{◌≡◌, ℕ, if◌then◌else◌, Some, None, Ok, Err, List, [], ◌∷◌, ◌++◌, refl, length, true, false, nat_lt, ◌+◌, ◌*◌}
 use Rattle.std.specs.Prelude.{codes, decimal}
 use Rattle.std.specs.Str.{bytes_eq}
+use Rattle.cc_names.specs.Files.{Files}
 use Rattle.cc_names.specs.declared.refusals.ScriptFault.TheVariants.{Absent, BadLine, TooBig, IncludeDepth, Failed, StrayWrite, NotWritten}
 use Rattle.build_script.specs.Words.{words, without_at}
 use Rattle.build_script.specs.Forms.{lines_in, first_lines, replaced, linked_text}
 use Rattle.build_script.specs.Includes.{include_of, probes_of}
-use Rattle.build_script.specs.Run.{Files, run, Output, Made, said, output_limit}
+use Rattle.build_script.specs.Run.{run, Output, Made, said, output_limit}
 
 -- a line and its newline
 abbrev line : List ℕ → List ℕ

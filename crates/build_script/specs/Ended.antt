@@ -4,8 +4,8 @@ use Rattle.cc_names.specs.declared.memory.Or.{Or}
 use Rattle.cc_names.specs.declared.memory.Or.TheVariants.{NoMemory, Is}
 use Rattle.cc_names.specs.declared.refusals.ScriptFault.{ScriptFault}
 use Rattle.build_script.specs.Run.{Ran}
-use Rattle.build_script.specs.Parts.{IsStop}
-use Rattle.build_script.specs.declared.files.Stop.{Stop}
+use Rattle.build_script.specs.Parts.{IsGivenUpFor}
+use Rattle.build_script.specs.declared.files.GivenUp.{GivenUp}
 use Rattle.build_script.specs.declared.outcomes.Outcome.{Outcome}
 use Rattle.build_script.specs.declared.outcomes.Ended.{Ended}
 
@@ -19,6 +19,6 @@ abbrev pub ran_of : Ended → Ran
 ran_of ended = record { result = outputs_in ended.result; reads = ended.reads }
 
 -- a run was given up for want of memory, or since the files broke
-abbrev pub IsGivenUp : Or Stop → ℕ → ℕ → Type 0
+abbrev pub IsGivenUp : Or GivenUp → ℕ → ℕ → Type 0
 IsGivenUp NoMemory old new = Unit {0}
-IsGivenUp (Is stop) old new = IsStop stop old new
+IsGivenUp (Is cause) old new = IsGivenUpFor cause old new

@@ -1,7 +1,8 @@
 -- That a run depends on the files at its reads alone.
 use Rattle.std.specs.Prelude.{◌≡◌, ℕ, List}
 use Rattle.std.specs.List.{AllByRecursion}
-use Rattle.build_script.specs.Run.{Files, run}
+use Rattle.cc_names.specs.Files.{Files}
+use Rattle.build_script.specs.Run.{run}
 
 -- two files have the same text, or both none, at each of these paths
 pub record Agree (one other : Files) (paths : List (List ℕ)) : Type 0 where

@@ -4,7 +4,7 @@ use Rattle.std.specs.List.{slice_split}
 use Rattle.std.specs.Result.{result_ok}
 use Rattle.std.specs.Str.{bytes_eq}
 use Rattle.cc_names.specs.Cuts.{is_newline}
-use Rattle.cc_names.specs.Paths.{path_of}
+use Rattle.cc_names.specs.Paths.{path_of, path_before, paths_read}
 use Rattle.cc_names.specs.declared.refusals.ScriptFault.{ScriptFault}
 use Rattle.cc_names.specs.declared.refusals.ScriptFault.TheVariants as faults
 use Rattle.cc_names.specs.Numbers.{number_of}
@@ -18,15 +18,9 @@ use Rattle.build_script.specs.declared.lines.Line.TheVariants.{Empty, Makes, Fai
 abbrev pub path_in : List ℕ → Option (List ℕ)
 path_in word = result_ok (path_of word)
 
--- a path before paths, where all of them are there
-abbrev pub path_before : Option (List ℕ) → Option (List (List ℕ)) → Option (List (List ℕ))
-path_before (Some path) (Some paths) = Some (path ∷ paths)
-path_before _ _ = None
-
 -- words as paths, where all of them are paths
 abbrev pub paths_of : List (List ℕ) → Option (List (List ℕ))
-paths_of [] = Some []
-paths_of (word ∷ words) = path_before (path_in word) (paths_of words)
+paths_of words = paths_read path_in words
 
 -- `cat` takes one path or more
 abbrev pub cat_of : Option (List (List ℕ)) → Option Work

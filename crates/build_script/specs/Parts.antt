@@ -2,23 +2,24 @@
 use Rattle.std.specs.Prelude.{◌≡◌, ℕ, Option, Result, Ok, Err, List, Vec, option_map}
 use Rattle.std.specs.Str.{bytes_eq}
 use Rattle.std.specs.HashMap.{HashMap, get}
+use Rattle.cc_names.specs.Files.{Files}
 use Rattle.cc_names.specs.declared.refusals.ScriptFault.{ScriptFault}
-use Rattle.build_script.specs.Run.{Files, Asking, Done, traced}
-use Rattle.build_script.specs.Standings.{Standing, Rose, Stays, AreAmong, texts}
-use Rattle.build_script.specs.declared.files.Stop.{Stop}
-use Rattle.build_script.specs.declared.files.Stop.TheVariants.{Broken}
+use Rattle.build_script.specs.Run.{Asking, Done, traced}
+use Rattle.build_script.specs.Standings.{Standing, HasBroken, Stays, AreAmong, texts}
+use Rattle.build_script.specs.declared.files.GivenUp.{GivenUp}
+use Rattle.build_script.specs.declared.files.GivenUp.TheVariants.{Broken}
 use Rattle.build_script.specs.declared.halts.Halt.{Halt}
 use Rattle.build_script.specs.declared.halts.Halt.TheVariants as halts
 
--- a stop comes only where the count of broken answers rose
-abbrev pub IsStop : Stop → ℕ → ℕ → Type 0
-IsStop Broken old new = Rose old new
+-- a run is given up for a cause only where there is that cause
+abbrev pub IsGivenUpFor : GivenUp → ℕ → ℕ → Type 0
+IsGivenUpFor Broken old new = HasBroken old new
 
 -- A part of a run, from these reads on, that ended early: by a fault of the script, and the fault and the reads by then
 -- are what it traces; or given up.
 abbrev pub Halted : {A : Type 0} → Files → List (List ℕ) → Asking (Result A ScriptFault) → Halt → List (List ℕ) → ℕ → ℕ → Type 0
 Halted files before asking (halts.Fault fault) after old new = traced files before asking ≡ record { value = Err fault; reads = after }
-Halted files before asking (halts.Stop stop) after old new = IsStop stop old new
+Halted files before asking (halts.GivenUp cause) after old new = IsGivenUpFor cause old new
 Halted files before asking halts.NoMemory after old new = Unit {0}
 
 -- A part of a run that ended early, or passed to where it goes on as this says.
@@ -42,7 +43,7 @@ gives shown x = Done (Ok (shown x))
 abbrev pub Gave : {X A : Type 0} → Result A ScriptFault → (X → A) → Result X Halt → Type 0
 Gave value shown (Ok x) = value ≡ Ok (shown x)
 Gave value shown (Err (halts.Fault fault)) = value ≡ Err fault
-Gave value shown (Err (halts.Stop stop)) = ⊥
+Gave value shown (Err (halts.GivenUp cause)) = ⊥
 Gave value shown (Err halts.NoMemory) = Unit {0}
 
 -- what a table of the outputs that a run has written says of a path

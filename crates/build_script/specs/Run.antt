@@ -2,6 +2,7 @@
 use Rattle.std.specs.Prelude.{ℕ, zero, suc, ◌+◌, Bool, true, nat_lt, Option, Some, None, Result, Ok, Err, List, [], ◌∷◌, ◌++◌, length, map, if◌then◌else◌}
 use Rattle.std.specs.List.{list_any, join_with_byte}
 use Rattle.std.specs.Str.{bytes_eq}
+use Rattle.cc_names.specs.Files.{Files}
 use Rattle.cc_names.specs.declared.refusals.ScriptFault.{ScriptFault}
 use Rattle.cc_names.specs.declared.refusals.ScriptFault.TheVariants.{Absent, TooBig, IncludeDepth, Failed, StrayWrite, NotWritten}
 use Rattle.build_script.specs.Forms.{lines_in, whole, first_lines, replaced, digest_line, linked_text}
@@ -11,10 +12,6 @@ use Rattle.build_script.specs.declared.lines.Work.{Work}
 use Rattle.build_script.specs.declared.lines.Work.TheVariants.{Echo, Cat, Preprocess, Substitute, Head, Digest, Link}
 use Rattle.build_script.specs.declared.lines.Line.{Line}
 use Rattle.build_script.specs.declared.lines.Line.TheVariants.{Empty, Makes, Fail}
-
--- the text that stands at each path, if there is one
-abbrev pub Files : Type 0
-Files = List ℕ → Option (List ℕ)
 
 -- Something that asks for the texts of paths, one after the other, and goes on as it is answered.
 pub data Asking (A : Type 0) : Type 0 where

@@ -2,7 +2,7 @@
 use Rattle.std.specs.Prelude.{◌≡◌, true, ℕ, ◌<◌, ◌≤◌, ◌⊎◌, Option, List, option_map}
 use Rattle.std.specs.List.{AllByRecursion, list_any}
 use Rattle.std.specs.Str.{bytes_eq}
-use Rattle.build_script.specs.Run.{Files}
+use Rattle.cc_names.specs.Files.{Files}
 
 -- what stands at a path: the row that made it, and its text
 pub record Standing : Type 0 where
@@ -17,9 +17,9 @@ text_of standing = standing.text
 abbrev pub texts : (List ℕ → Option Standing) → Files
 texts stands path = option_map text_of (stands path)
 
--- a count rose, or stands at its last number
-abbrev pub Rose : ℕ → ℕ → Type 0
-Rose old new = (old < new) ⊎ (new ≡ 18446744073709551615)
+-- answers were `Broken`: their count rose, or stands at its last number
+abbrev pub HasBroken : ℕ → ℕ → Type 0
+HasBroken old new = (old < new) ⊎ (new ≡ 18446744073709551615)
 
 -- a path is one of these
 abbrev pub IsAmong : List ℕ → List (List ℕ) → Type 0

@@ -21,7 +21,7 @@ pub enum Got {
 
 /// Why a run was given up.
 #[derive(Clone, Copy, Debug, PartialEq, Eq)]
-pub enum Stop {
+pub enum GivenUp {
     /// The files answered `Broken`.
     Broken,
 }

@@ -1,6 +1,6 @@
 // Why a part of a run ends early.
 
-use crate::files::Stop;
+use crate::files::GivenUp;
 use cc_names::memory::NoMemory;
 use cc_names::refusals::ScriptFault;
 use std::alloc::{AllocError, AllocFailed};
@@ -9,7 +9,7 @@ use std::alloc::{AllocError, AllocFailed};
 #[derive(Debug, Drop)]
 pub(crate) enum Halt {
     Fault(ScriptFault),
-    Stop(Stop),
+    GivenUp(GivenUp),
     NoMemory,
 }
 

@@ -8,7 +8,7 @@ ghost use Rattle.build_script.specs.Making.{form_of, made_with, output_at};
 ghost use Rattle.build_script.specs.Parts.{Carried, Gave, gives, own_of};
 ghost use Rattle.build_script.specs.MadeOf.{made_of};
 
-use crate::files::{Files, Got, Stop};
+use crate::files::{Files, GivenUp, Got};
 use crate::forms::{Form, digest_line, first_lines, linked_text};
 use crate::halts::Halt;
 use crate::lines::Work;
@@ -88,7 +88,7 @@ fn ask<F: Files>(
     match files.read(path) {
         Got::Found { row: _, text } => Ok(Some(text)),
         Got::Absent => Ok(None),
-        Got::Broken => Err(Halt::Stop(Stop::Broken)),
+        Got::Broken => Err(Halt::GivenUp(GivenUp::Broken)),
         Got::NoMemory => Err(Halt::NoMemory),
     }
 }

@@ -7,7 +7,7 @@ ghost use Rattle.build_script.specs.Parts.{Carried, gives};
 ghost use Rattle.build_script.specs.Progress.{state_of, HoldsEach};
 ghost use Rattle.build_script.specs.Ended.{ran_of, IsGivenUp};
 
-use crate::files::{Files, Stop};
+use crate::files::{Files, GivenUp};
 use crate::halts::Halt;
 use crate::lines::Line;
 use crate::making::note;
@@ -90,13 +90,13 @@ pub fn run<F: Files>(
     script: &Script,
     targets: &[Path],
     files: &mut F,
-) -> Result<Ended, Or<Stop>>
+) -> Result<Ended, Or<GivenUp>>
     ensures ran { IfOk result
         (λ ended.
         ran_of ended
         ≡ carried_out (texts (F.stands files.old)) (run_of_lines targets.now script.now)) }
     ensures given_up { IfErr result
-        (λ stop. IsGivenUp stop (F.broken files.old) (F.broken files.new)) }
+        (λ cause. IsGivenUp cause (F.broken files.old) (F.broken files.new)) }
     ensures stays { Stays F.stands F.broken files.old files.new }
     ensures asks_its_reads { F.follows
         (carried_out (texts (F.stands files.old)) (run_of_lines targets.now script.now)).reads
@@ -113,7 +113,7 @@ pub fn run<F: Files>(
     ) {
         Ok(outputs) => Ok(Outcome { outputs }),
         Err(Halt::Fault(fault)) => Err(fault),
-        Err(Halt::Stop(stop)) => return Err(Or::Is(stop)),
+        Err(Halt::GivenUp(cause)) => return Err(Or::Is(cause)),
         Err(Halt::NoMemory) => return Err(Or::NoMemory),
     };
     let reads = into_paths(alloc, progress.reads)?;

@@ -5,8 +5,8 @@ use std::alloc::{AllocError, Global};
 use std::hash::RandomState;
 use std::test::Fail;
 
-// A script with the targets `out` and `log` over the files `in`, `abc` and `empty`; the outputs in brackets or the fault, and behind
-// `<` the paths that it read, absent ones too.
+// A script with the targets `out` and `log` over the files `in`, `abc` and `empty`; the outputs in brackets or the fault, and
+// behind `<` the paths that it read, absent ones too.
 const RUNS: [(&str, &str); 28] = [
     ("cat in > out\necho > log\n", "[hi\n][\n] < in"),
     ("echo hi there > out\n@echo>log", "[hi there\n][\n] <"),

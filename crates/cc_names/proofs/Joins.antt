@@ -7,9 +7,8 @@ use Rattle.std.proofs.lemmas.List.Splits.{length-slice_split, join_with_byte-sli
 use Rattle.cc_names.specs.declared.names.NameFault.TheVariants.{TooLong}
 use Rattle.cc_names.specs.Names.{IsName}
 use Rattle.cc_names.specs.Paths.{is_slash, root, is_root, IsPath, names_of, joined, without_last, parent_of, last_of, unless_long, join_of}
-use Rattle.cc_names.specs.PathBytes.{HoldsPath}
 use Rattle.cc_names.specs.PathLaws.{JoinHasParts, PartsJoin}
-use Rattle.cc_names.proofs.NamesOfPaths.{name-short, slice_split-join, path-short, path-of_names, not_root-of_names, lt-false, lt-true}
+use Rattle.cc_names.proofs.NamesOfPaths.{name-short, slice_split-join, path-short, path-of_names, lt-false, lt-true}
 use Rattle.cc_names.proofs.PathParts.{names_of-below, joined-some, joined-names_of, names_of-joined, names_of-names, without_last-append, last_or-append, All-front, All-append}
 
 join_with_byte-append : (c : ℕ) (names : List (List ℕ)) (name : List ℕ) → 0 < length names → join_with_byte c (names ++ (name ∷ [])) ≡ join_with_byte c names ++ (c ∷ name)
@@ -36,14 +35,14 @@ joined-below directory name below =
     ∙ ap (λ l. l ++ (47 ∷ name)) (join_with_byte-slice_split 47 directory)
 
 -- a path of these names, where it is short enough
-holds-joined : (names : List (List ℕ)) (path : List ℕ) → AllByRecursion IsName names → 0 < length names → joined names ≡ path → length path ≤ 1024 → HoldsPath (Some path)
+holds-joined : (names : List (List ℕ)) (path : List ℕ) → AllByRecursion IsName names → 0 < length names → joined names ≡ path → length path ≤ 1024 → IsPath path
 holds-joined [] path h more is short = absurd (omega arith)
 holds-joined (name ∷ names) path h more is short =
     let split = subst (λ p. AllByRecursion IsName (slice_split is_slash p)) is (subst (AllByRecursion IsName) (sym (slice_split-join name names h)) h) in
-    (path-of_names path split short, not_root-of_names path split)
+    path-of_names path split short
 
 -- in the root, the name alone
-pub join-at_root : (name : List ℕ) → IsName name → (join_of root name ≡ Ok name) × HoldsPath (Some name)
+pub join-at_root : (name : List ℕ) → IsName name → (join_of root name ≡ Ok name) × IsPath name
 join-at_root name h =
     let short : length name ≤ 1024 = omega (arith, name-short name h) in
     (unless_long-short name short, holds-joined (name ∷ []) name (h, tt) (omega arith) refl short)
@@ -52,7 +51,7 @@ join-at_root name h =
 pub join-below : (directory name : List ℕ) → is_root directory ≡ false → join_of directory name ≡ unless_long (directory ++ 47 ∷ name)
 join-below directory name below = ap unless_long (joined-below directory name below)
 
-pub holds-join : (directory name path : List ℕ) → IsPath directory → is_root directory ≡ false → IsName name → unless_long (directory ++ 47 ∷ name) ≡ Ok path → HoldsPath (Some path)
+pub holds-join : (directory name path : List ℕ) → IsPath directory → is_root directory ≡ false → IsName name → unless_long (directory ++ 47 ∷ name) ≡ Ok path → IsPath path
 holds-join directory name path h below named is =
     let bytes = directory ++ 47 ∷ name in
     let given = unless_long-Ok (nat_lt 1024 (length bytes)) bytes path (length bytes) is in

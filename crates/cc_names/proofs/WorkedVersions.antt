@@ -1,7 +1,7 @@
 -- Worked trees of versions, checked by computation.
 use Rattle.std.proofs.Common.{◌≡◌, Some, None, List, [], ◌∷◌, refl}
 use Rattle.std.specs.Prelude.{codes, map}
-use Rattle.cc_names.specs.Versions.{of_first_rows, versions_on, versions_of, row_of_version, place, latest, numbered, kind_of}
+use Rattle.cc_names.specs.Versions.{of_first_rows, versions_on, versions_of, row_of_version, version_id, latest, numbered, kind_of}
 use Rattle.cc_names.specs.Branches.{origin_of, name_of_branch, branch_named, branch_behind, names_of_branch}
 use Rattle.cc_names.specs.declared.rows.Kind.TheVariants.{File, Directory}
 use Rattle.cc_names.specs.declared.changes.TreeChange.{TreeChange}
@@ -44,20 +44,20 @@ third_of_in = refl
 no_fourth : numbered checked_in 6 3 ≡ None
 no_fourth = refl
 
-place_of_17 : place checked_in 17 ≡ Some (record { element = 6; branch = 6; number = 2 })
-place_of_17 = refl
+version_id_of_17 : version_id checked_in 17 ≡ Some (record { element = 6; branch = 6; number = 2 })
+version_id_of_17 = refl
 
-no_place : place checked_in 10 ≡ None
-no_place = refl
+no_version_id : version_id checked_in 10 ≡ None
+no_version_id = refl
 
 kinds : (kind_of checked_in 6 ≡ Some File) × (kind_of checked_in 0 ≡ Some Directory) × (kind_of checked_in 5 ≡ None)
 kinds = (refl, refl, refl)
 
 -- the branch begins with its own version 0, and `main` stays as it was
-on_the_branch : place branched 21 ≡ Some (record { element = 6; branch = 19; number = 1 })
+on_the_branch : version_id branched 21 ≡ Some (record { element = 6; branch = 19; number = 1 })
 on_the_branch = refl
 
-first_on_the_branch : place branched 19 ≡ Some (record { element = 6; branch = 19; number = 0 })
+first_on_the_branch : version_id branched 19 ≡ Some (record { element = 6; branch = 19; number = 0 })
 first_on_the_branch = refl
 
 newest_on_main : latest branched 6 None ≡ Some 17

@@ -1,8 +1,10 @@
 pub mod Answers
 pub mod Branches
+pub mod Commands
 pub mod Counts
 pub mod Cuts
 pub mod Falling
+pub mod Files
 pub mod Formed
 pub mod Keys
 pub mod Labels

@@ -1,17 +1,14 @@
--- How a path keeps its bytes: the root keeps none, and so takes no memory.
-use Rattle.std.specs.Prelude.{ℕ, Option, Some, None, List, ◌≡◌, false}
+-- How a path keeps its bytes, and what its parts are.
+use Rattle.std.specs.Prelude.{ℕ, Some, List, ◌≡◌}
 use Rattle.cc_names.specs.Names.{IsName}
-use Rattle.cc_names.specs.Paths.{root, is_root, IsPath, parent_of, last_of}
+use Rattle.cc_names.specs.Paths.{IsPath, parent_of, last_of}
+use Rattle.cc_names.specs.declared.paths.PathText.{PathText}
+use Rattle.cc_names.specs.declared.paths.PathText.TheVariants.{Short, Long}
 
--- the bytes of the path that keeps these
-abbrev pub bytes_of : Option (List ℕ) → List ℕ
-bytes_of None = root
-bytes_of (Some bytes) = bytes
-
--- what is kept is a path that is not the root
-abbrev pub HoldsPath : Option (List ℕ) → Type 0
-HoldsPath None = Unit {0}
-HoldsPath (Some bytes) = IsPath bytes × (is_root bytes ≡ false)
+-- the bytes of a path that keeps them so
+abbrev pub bytes_of : PathText → List ℕ
+bytes_of (Short bytes) = bytes
+bytes_of (Long bytes) = bytes
 
 -- these are the parts of a path below the root
 pub record PartsAre (path directory name : List ℕ) : Type 0 where

@@ -9,6 +9,10 @@ use Rattle.cc_names.specs.declared.names.NameFault.TheVariants.{Empty, TooLong}
 abbrev pub is_slash : ℕ → Bool
 is_slash b = b == 47
 
+-- the `@` that may stand behind a path, and before what else is told
+abbrev pub is_at : ℕ → Bool
+is_at b = b == 64
+
 -- the path of the root, `.`
 abbrev pub root : List ℕ
 root = 46 ∷ []
@@ -73,3 +77,13 @@ unless_long path = if nat_lt 1024 (length path) then Err (TooLong (length path))
 -- the path of this name in the directory of that path
 abbrev pub join_of : List ℕ → List ℕ → Result (List ℕ) NameFault
 join_of path name = unless_long (joined (names_of path ++ (name ∷ [])))
+
+-- a path before paths, where all of them are there
+abbrev pub path_before : Option (List ℕ) → Option (List (List ℕ)) → Option (List (List ℕ))
+path_before (Some path) (Some paths) = Some (path ∷ paths)
+path_before _ _ = None
+
+-- words as paths, where each of them is one as it is read so
+abbrev pub paths_read : (List ℕ → Option (List ℕ)) → List (List ℕ) → Option (List (List ℕ))
+paths_read read [] = Some []
+paths_read read (word ∷ words) = path_before (read word) (paths_read read words)

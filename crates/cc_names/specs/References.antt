@@ -8,34 +8,34 @@ use Rattle.std.specs.FinMap.Entries.{put, find, where_key}
 use Rattle.cc_names.specs.declared.changes.ReferenceChange.{ReferenceChange}
 use Rattle.cc_names.specs.declared.changes.ReferenceChange.TheVariants.{Won, Lost, ViewGone}
 
--- a view and a path
-abbrev pub Place : Type 0
-Place = List ℕ × List ℕ
+-- a path in a view
+abbrev pub ViewPath : Type 0
+ViewPath = List ℕ × List ℕ
 
 -- by view, then by path, each in byte order
-abbrev pub place_cmp : Place → Place → Ordering
-place_cmp = then_cmp (on (λ place. place.0) (slice_cmp nat_cmp)) (on (λ place. place.1) (slice_cmp nat_cmp))
+abbrev pub view_path_cmp : ViewPath → ViewPath → Ordering
+view_path_cmp = then_cmp (on (λ view_path. view_path.0) (slice_cmp nat_cmp)) (on (λ view_path. view_path.1) (slice_cmp nat_cmp))
 
--- the object held at each place, in the order of places
+-- the object held at each path of a view, in their order
 abbrev pub Held : Type 0
-Held = List (Place × ℕ)
+Held = List (ViewPath × ℕ)
 
 -- the view holds the object at each target, in place of what it held there
 abbrev pub won : List ℕ → ℕ → List (List ℕ) → Held → Held
 won v id [] held = held
-won v id (target ∷ targets) held = won v id targets (put place_cmp (v, target) id held)
+won v id (target ∷ targets) held = won v id targets (put view_path_cmp (v, target) id held)
 
--- whether two places are one: the same view and the same path
-abbrev pub is_place : Place → Place → Bool
-is_place one two = bytes_eq one.0 two.0 && bytes_eq one.1 two.1
+-- whether two are one: the same view and the same path
+abbrev pub is_view_path : ViewPath → ViewPath → Bool
+is_view_path one two = bytes_eq one.0 two.0 && bytes_eq one.1 two.1
 
 -- the view holds nothing at the path any more
 abbrev pub lost : List ℕ → List ℕ → Held → Held
-lost v path held = where_key place_cmp (λ place. not (is_place place (v, path))) held
+lost v path held = where_key view_path_cmp (λ view_path. not (is_view_path view_path (v, path))) held
 
 -- the view holds nothing any more
 abbrev pub view_gone : List ℕ → Held → Held
-view_gone v held = where_key place_cmp (λ place. not (bytes_eq place.0 v)) held
+view_gone v held = where_key view_path_cmp (λ view_path. not (bytes_eq view_path.0 v)) held
 
 -- the references after one change
 abbrev pub held_after : ReferenceChange → Held → Held
@@ -50,7 +50,7 @@ references (change ∷ older) = held_after change (references older)
 
 -- the object that the view holds at the path
 abbrev pub held_at : Held → List ℕ → List ℕ → Option ℕ
-held_at held v path = find place_cmp (v, path) held
+held_at held v path = find view_path_cmp (v, path) held
 
 -- whether some view holds the object
 abbrev pub is_held : Held → ℕ → Bool

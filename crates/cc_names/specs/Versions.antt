@@ -2,7 +2,7 @@
 -- `main` are named by the row that made the element, any other branch and every version by its own row.
 use Rattle.std.specs.Prelude.{ℕ, Bool, true, false, ◌==◌, nat_lt, Option, Some, None, option_map, option_and_then, List, [], ◌∷◌, length, filter, find}
 use Rattle.cc_names.specs.declared.rows.Kind.{Kind}
-use Rattle.cc_names.specs.declared.changes.Place.{Place}
+use Rattle.cc_names.specs.declared.changes.VersionId.{VersionId}
 use Rattle.cc_names.specs.declared.changes.TreeChange.{TreeChange}
 use Rattle.cc_names.specs.declared.changes.TreeChange.TheVariants.{ElementMade, BranchMade, VersionMade}
 
@@ -95,14 +95,14 @@ abbrev pub version_at : List TreeChange → ℕ → Option Version
 version_at changes r =
     option_and_then (λ change. find (λ v. v.row == r) (versions_on changes (branch_of_change change))) (change_at changes r)
 
--- where a version stands, once its element is found
-abbrev pub place_of : Version → ℕ → Place
-place_of version element = record { element = element; branch = version.branch; number = version.number }
+-- the id of a version, once its element is found
+abbrev pub version_id_of : Version → ℕ → VersionId
+version_id_of version element = record { element = element; branch = version.branch; number = version.number }
 
 -- the element, the branch and the number of the version that a row made
-abbrev pub place : List TreeChange → ℕ → Option Place
-place changes r =
-    option_and_then (λ v. option_map (place_of v) (element_of_branch changes v.branch)) (version_at changes r)
+abbrev pub version_id : List TreeChange → ℕ → Option VersionId
+version_id changes r =
+    option_and_then (λ v. option_map (version_id_of v) (element_of_branch changes v.branch)) (version_at changes r)
 
 -- whether a moment is before another one, where there is another one
 abbrev pub is_before : Option ℕ → ℕ → Bool

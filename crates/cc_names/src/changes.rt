@@ -32,9 +32,9 @@ pub enum TreeChange {
     },
 }
 
-/// Where a version stands: its element, its branch, and its number on the branch, counted from 0.
+/// What a version is known by: its element, its branch, and its number on the branch, counted from 0.
 #[derive(Clone, Copy, Debug, PartialEq, Eq)]
-pub struct Place {
+pub struct VersionId {
     pub element: u64,
     pub branch: u64,
     pub number: u64,
@@ -42,7 +42,7 @@ pub struct Place {
 
 /// One name of a directory's catalog, and the element that it names.
 #[derive(Drop)]
-pub struct Entry {
+pub struct CatalogEntry {
     pub name: Name,
     pub element: u64,
 }

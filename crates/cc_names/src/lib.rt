@@ -32,6 +32,7 @@ pub mod refusals;
 pub mod replies;
 pub mod rows;
 pub mod selection;
+mod short_texts;
 pub mod steps;
 pub mod texts;
 pub mod units;

@@ -1,50 +1,98 @@
 // The rule of paths, and a path that meets it.
 
-ghost use Rattle.std.specs.Prelude.{◌≡◌, ◌+◌, ◌<◌, ◌^◌, false, IfOk, IfSome, MatchOption, Some, length, take, drop};
+ghost use Rattle.std.specs.Prelude.{◌≡◌, ◌+◌, ◌<◌, ◌^◌, false, IfOk, IfSome, MatchOption, length, take, drop};
 ghost use Rattle.std.specs.List.{position, slice_split};
 ghost use Rattle.cc_names.specs.Answers.{Gives};
 ghost use Rattle.cc_names.specs.Names.{IsName};
 ghost use Rattle.cc_names.specs.Paths.{is_slash, root, is_root, first_fault, path_fault, path_of, parent_of, last_of, join_of, IsPath};
 ghost use Rattle.cc_names.specs.PathLaws.{JoinHasParts, PartsJoin};
-ghost use Rattle.cc_names.specs.PathBytes.{HoldsPath, PartsAre};
+ghost use Rattle.cc_names.specs.PathBytes.{bytes_of, PartsAre};
 
 use crate::memory::{NoMemory, Or};
 use crate::names::{Name, NameFault, fault_at};
+use crate::short_texts::{MOST, ShortText};
 use crate::texts::Text;
 use std::alloc::Global;
 use std::marker::Model;
+use std::mem::size_of;
+
+/// The bytes of a path. Lists of a million paths are read from rows, and most paths are short.
+#[derive(Debug, Drop)]
+pub(crate) enum PathText {
+    /// Those of a short path, in the value itself.
+    Short(ShortText),
+    /// Those of a longer one, in memory of their own.
+    Long(Text),
+}
+
+impl PathText {
+    /// A copy of these bytes.
+    fn from_bytes(alloc: Global, bytes: &[u8]) -> Result<PathText, NoMemory>
+        ensures { IfOk result (λ text. bytes_of text ≡ bytes.now) }
+    {
+        if bytes.len() <= MOST {
+            return Ok(PathText::Short(ShortText::of(bytes)));
+        }
+        Ok(PathText::Long(Text::from_bytes(alloc, bytes)?))
+    }
+
+    /// The bytes of this text. Takes no memory.
+    fn of(text: Text) -> PathText
+        ensures { bytes_of result ≡ text }
+    {
+        let bytes = text.as_bytes();
+        if bytes.len() <= MOST {
+            return PathText::Short(ShortText::of(bytes));
+        }
+        PathText::Long(text)
+    }
+}
 
 /// A path: `.` for the root, or names joined by `/`, at most 1,024 bytes in all. Contracts see it as its bytes.
 #[derive(Debug, Drop)]
 pub struct Path {
-    /// The bytes, or nothing for the root, which so takes no memory.
-    below_root: Option<Text>,
+    text: PathText,
 }
 
 impl Model for Path {
     ghost use Rattle.std.specs.Prelude.{List, ℕ};
-    ghost use Rattle.cc_names.specs.PathBytes.{bytes_of, HoldsPath};
+    ghost use Rattle.cc_names.specs.Paths.{IsPath};
+    ghost use Rattle.cc_names.specs.PathBytes.{bytes_of};
 
     ghost Value = { List ℕ };
 
-    ghost view = { λ path. bytes_of path.below_root };
+    ghost view = { λ path. bytes_of path.text };
 
-    ghost invariant = { λ path. HoldsPath path.below_root };
+    ghost invariant = { λ path. IsPath (bytes_of path.text) };
 }
+
+// A path is no larger for the bytes of a short one, which lie where a longer one keeps its vector.
+const _: () = prove!(size_of::<Path>() == 32);
 
 impl Path {
     /// The root. Takes no memory.
     pub fn root() -> Path
         ensures { result ≡ root }
     {
-        Path { below_root: None }
+        Path {
+            text: PathText::Short(ShortText::of(b".")),
+        }
+    }
+
+    /// The path of these bytes, which are those of a path.
+    fn of(alloc: Global, bytes: &[u8]) -> Result<Path, NoMemory>
+        requires { IsPath bytes.now }
+        ensures { IfOk result (λ path. path ≡ bytes.now) }
+    {
+        let text = PathText::from_bytes(alloc, bytes)?;
+        Ok(Path { text })
     }
 
     /// Whether it is the root.
     pub fn is_root(&self) -> bool
         ensures { result ≡ is_root self.now }
     {
-        self.below_root.is_none()
+        is_root(self.as_bytes())
     }
 
     /// Reads bytes as a path, or answers their first fault. Takes time linear in the bytes.
@@ -54,13 +102,7 @@ impl Path {
         if let Some(fault) = fault_of(bytes) {
             return Err(Or::Is(fault));
         }
-        if is_root(bytes) {
-            return Ok(Path::root());
-        }
-        let text = Text::from_bytes(alloc, bytes)?;
-        Ok(Path {
-            below_root: Some(text),
-        })
+        Ok(Path::of(alloc, bytes)?)
     }
 
     /// A copy.
@@ -68,39 +110,32 @@ impl Path {
         ensures copy { IfOk result (λ path. path ≡ self.now) }
         ensures path { IsPath self.now }
     {
-        match &self.below_root {
-            None => Ok(Path::root()),
-            Some(text) => Ok(Path {
-                below_root: Some(text.copy(alloc)?),
-            }),
-        }
+        Path::of(alloc, self.as_bytes())
     }
 
     /// The path of the directory that holds this one; the root has none.
     pub fn parent(&self, alloc: Global) -> Result<Option<Path>, NoMemory>
         ensures { IfOk result (λ parent. parent ≡ parent_of self.now) }
     {
-        let Some(text) = &self.below_root else {
+        let bytes = self.as_bytes();
+        if is_root(bytes) {
             return Ok(None);
-        };
-        let bytes = text.as_bytes();
+        }
         let Some(slash) = last_slash(bytes) else {
             return Ok(Some(Path::root()));
         };
-        let directory = Text::from_bytes(alloc, &bytes[..slash])?;
-        Ok(Some(Path {
-            below_root: Some(directory),
-        }))
+        let directory = Path::of(alloc, &bytes[..slash])?;
+        Ok(Some(directory))
     }
 
     /// The last name; the root has none.
     pub fn last(&self, alloc: Global) -> Result<Option<Name>, NoMemory>
         ensures { IfOk result (λ name. name ≡ last_of self.now) }
     {
-        let Some(text) = &self.below_root else {
+        let bytes = self.as_bytes();
+        if is_root(bytes) {
             return Ok(None);
-        };
-        let bytes = text.as_bytes();
+        }
         let name = match last_slash(bytes) {
             Some(slash) => Name::of(alloc, &bytes[slash + 1..])?,
             None => Name::of(alloc, bytes)?,
@@ -112,15 +147,13 @@ impl Path {
     pub fn join(&self, alloc: Global, name: &Name) -> Result<Path, Or<NameFault>>
         ensures { Gives result (join_of self.now name.now) }
     {
-        let Some(directory) = &self.below_root else {
-            let text = Text::from_bytes(alloc, name.as_bytes())?;
-            return Ok(Path {
-                below_root: Some(text),
-            });
-        };
-        let text = join_bytes(alloc, directory.as_bytes(), name.as_bytes())?;
+        let directory = self.as_bytes();
+        if is_root(directory) {
+            return Ok(Path::of(alloc, name.as_bytes())?);
+        }
+        let text = join_bytes(alloc, directory, name.as_bytes())?;
         Ok(Path {
-            below_root: Some(text),
+            text: PathText::of(text),
         })
     }
 
@@ -129,9 +162,9 @@ impl Path {
         ensures bytes { result.now ≡ self.now }
         ensures path { IsPath self.now }
     {
-        match &self.below_root {
-            None => b".",
-            Some(text) => text.as_bytes(),
+        match &self.text {
+            PathText::Short(text) => text.as_bytes(),
+            PathText::Long(text) => text.as_bytes(),
         }
     }
 }
@@ -158,7 +191,7 @@ fn join_bytes(alloc: Global, directory: &[u8], name: &[u8]) -> Result<Text, Or<N
     requires below { is_root directory.now ≡ false }
     requires name { IsName name.now }
     ensures joined { Gives result (join_of directory.now name.now) }
-    ensures path { IfOk result (λ text. HoldsPath (Some text)) }
+    ensures path { IfOk result IsPath }
 {
     let length = directory.len() + 1 + name.len();
     if length > 1024 {
@@ -191,7 +224,8 @@ fn last_slash(path: &[u8]) -> Option<usize>
     None
 }
 
-fn first_slash(bytes: &[u8]) -> Option<usize>
+/// The place of the first slash. Takes time linear in the bytes before it.
+pub fn first_slash(bytes: &[u8]) -> Option<usize>
     ensures place { result ≡ position is_slash bytes.now }
     ensures within { IfSome result (λ index. index < length bytes.now) }
 {

@@ -1,4 +1,4 @@
-// The steps of a story: what happened behind the lock, one event after the other.
+// The steps of a story: what happened of the base, one event after the other.
 
 use crate::commands::Phase;
 use crate::lists::List;

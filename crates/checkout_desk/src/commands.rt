@@ -1,7 +1,7 @@
 // What commands name.
 
 ghost use Rattle.std.specs.Prelude.{◌≡◌};
-ghost use Rattle.checkout_desk.specs.Commands.{view_of};
+ghost use Rattle.cc_names.specs.Commands.{view_of};
 
 use cc_names::commands::Command;
 

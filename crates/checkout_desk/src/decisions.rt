@@ -1,6 +1,7 @@
 // The decision on a command.
 
 ghost use Rattle.std.specs.Prelude.{◌≡◌, ℕ, ◌<◌, ◌≤◌, ◌^◌, length, true, false, None, is_some, IfOk, OnOk};
+ghost use Rattle.cc_names.specs.Commands.{builds, scrub_age, view_of};
 ghost use Rattle.legal_history.specs.Stories.Lawful.{last_moment};
 ghost use Rattle.session_text.specs.Formed.{IsCommand};
 ghost use Rattle.legal_history.specs.Base.Fits.{row_limit};
@@ -8,7 +9,6 @@ ghost use Rattle.legal_history.specs.Commands.Decisions.{Scene};
 ghost use Rattle.legal_history.specs.Commands.Lines.{decision};
 ghost use Rattle.carried_out.specs.CarriedOut.{is_carried_out, is_made};
 ghost use Rattle.legal_history.specs.Queries.QueryLines.{is_query};
-ghost use Rattle.checkout_desk.specs.Commands.{builds, scrub_age, view_of};
 ghost use Rattle.checkout_desk.specs.Deciding.{Decides, DecidesIfAny, IfNone, IfRow, Sees};
 
 use crate::branches::mkbranch;

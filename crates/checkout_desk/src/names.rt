@@ -51,7 +51,8 @@ fn rmname_in(
     requires in_time { occasion.moment ≤ last_moment }
     ensures decided { (scene : Scene) (now : ℕ)
         → Sees scene rows.now now view.now occasion.busy occasion.taken
-        → Decides occasion.tag occasion.moment result (rmname_in scene view.now path.now directory) }
+        → Decides occasion.tag occasion.moment result
+        (rmname_in scene view.now path.now directory) }
     ensures made { IfOk result (λ row. is_made row.deed ≡ true) }
     ensures room { OnOk result (occasion.taken < row_limit) }
 {

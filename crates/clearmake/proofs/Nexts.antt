@@ -1,12 +1,13 @@
 -- What a lane has to do next, by what has come of it.
 use Rattle.std.proofs.Common.{◌≡◌, refl, ap, ◌∙◌, ℕ, zero, suc, ◌+◌, ◌≤◌, Option, Some, None, List, [], ◌∷◌, arith}
 use Rattle.std.specs.Prelude.{option_and_then, slice_get}
+use Rattle.cc_names.specs.Commands.{lane_at}
 use Rattle.cc_names.specs.declared.commands.Command.{Command}
 use Rattle.cc_names.specs.declared.commands.Command.TheVariants as commands
 use Rattle.cc_names.specs.declared.commands.Lane.{Lane}
 use Rattle.cc_names.specs.declared.desks.Next.TheVariants as nexts
 use Rattle.cc_names.specs.declared.rows.Tag.{Tag}
-use Rattle.legal_history.specs.Stories.States.{State, command_behind, done_of, lane_at, next_tag}
+use Rattle.legal_history.specs.Stories.States.{State, command_behind, done_of, next_tag}
 use Rattle.clearmake.specs.Nexts.{next_by, next_of, waiting}
 
 tag_by : (o : Option Command) (next tag : Tag) → next_by o next ≡ nexts.Build tag → next ≡ tag

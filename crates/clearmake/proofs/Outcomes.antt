@@ -8,8 +8,8 @@ use Rattle.cc_names.specs.declared.steps.Told.{Told}
 use Rattle.build_script.specs.Ended.{IsGivenUp, ran_of}
 use Rattle.build_script.specs.Run.{Ran, carried_out, run_of, run_of_lines}
 use Rattle.build_script.specs.Standings.{Standing, text_of, texts}
-use Rattle.build_script.specs.declared.files.Stop.{Stop}
-use Rattle.build_script.specs.declared.files.Stop.TheVariants.{Broken}
+use Rattle.build_script.specs.declared.files.GivenUp.{GivenUp}
+use Rattle.build_script.specs.declared.files.GivenUp.TheVariants.{Broken}
 use Rattle.build_script.specs.declared.lines.Line.{Line}
 use Rattle.build_script.specs.declared.outcomes.Ended.{Ended}
 use Rattle.legal_history.specs.Base.Rows.{Base}
@@ -49,8 +49,8 @@ run_is s lane n script targets ran h e = record {
     seen : (path : List ℕ) → texts (sees s lane n) path ≡ text_of_row s.base path (visible s.base h.has.build n h.has.unit path)
     seen path = ap (option_map text_of) (stands_so s lane n h.has.build h.has.unit path h.has.active h.has.is_unit) ∙ of_row s.base path (visible s.base h.has.build n h.has.unit path)
 
-pub ran_so : (result : Result Ended (Or Stop)) (s : State) (tag : Tag) (n broken : ℕ) (script : List Line) (targets : List (List ℕ)) (story : List Told) → IsStarted s tag.lane n script targets →
-    IfOk result (λ ended. ran_of ended ≡ carried_out (texts (sees s tag.lane n)) (run_of_lines targets script)) → IfErr result (λ stop. IsGivenUp stop 0 broken) →
+pub ran_so : (result : Result Ended (Or GivenUp)) (s : State) (tag : Tag) (n broken : ℕ) (script : List Line) (targets : List (List ℕ)) (story : List Told) → IsStarted s tag.lane n script targets →
+    IfOk result (λ ended. ran_of ended ≡ carried_out (texts (sees s tag.lane n)) (run_of_lines targets script)) → IfErr result (λ cause. IsGivenUp cause 0 broken) →
     (0 < broken → IsPast (state_of story) tag) → RanSo result s tag n story
 ran_so (Ok ended) s tag n broken script targets story h ran given past = run_is s tag.lane n script targets (ran_of ended) h ran
 ran_so (Err NoMemory) s tag n broken script targets story h ran given past = tt

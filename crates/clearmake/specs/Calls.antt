@@ -63,10 +63,17 @@ pub record IsRunOfUnit (s : State) (lane n : ℕ) (ran : Ran) : Type 0 where
   pub started : is_some (came_to build n) ≡ true
   pub run : ran ≡ here s.base build n unit
 
--- unit n of a lane's build waits for this earlier unit, which has no outcome
+-- whether a unit of the build makes a prerequisite of another
+abbrev pub needs : Build → ℕ → Unit → Bool
+needs build n unit = list_any (λ path. unwrap_or (option_map (λ m. m == n) (unit_with build path)) false) unit.prerequisites
+
+-- unit n of a lane's build waits for this earlier unit, which makes one of its prerequisites and has no outcome
 pub record WaitsFor (s : State) (lane n m : ℕ) : Type 0 where
   pub build : Build
   pub active : build_of s.active lane ≡ Some build
+  pub unit : Unit
+  pub is_unit : unit_at build n ≡ Some unit
+  pub needed : needs build m unit ≡ true
   pub waits : is_outcome (came_to build m) ≡ false
   pub earlier : m < n
 
@@ -92,10 +99,6 @@ Tries old new lane n turns.Faulted = Finishes old new lane
 abbrev pub IsCarried : List Told → List Told → ℕ → ℕ → Carried → Type 0
 IsCarried old new lane n carried.Settled = Settled old new lane n
 IsCarried old new lane n carried.Faulted = Finishes old new lane
-
--- whether a unit of the build makes a prerequisite of another
-abbrev pub needs : Build → ℕ → Unit → Bool
-needs build n unit = list_any (λ path. unwrap_or (option_map (λ m. m == n) (unit_with build path)) false) unit.prerequisites
 
 -- whether a unit waits for unit n no more, and for no other: it has no outcome, and each unit that it needs has one
 abbrev pub is_released : Build → ℕ → ℕ → Bool

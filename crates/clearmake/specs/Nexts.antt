@@ -1,11 +1,12 @@
 -- What a lane has to do next.
 use Rattle.std.specs.Prelude.{ℕ, Option, Some, None, option_and_then}
+use Rattle.cc_names.specs.Commands.{lane_at}
 use Rattle.cc_names.specs.declared.commands.Command.{Command}
 use Rattle.cc_names.specs.declared.commands.Command.TheVariants as commands
 use Rattle.cc_names.specs.declared.desks.Next.{Next}
 use Rattle.cc_names.specs.declared.desks.Next.TheVariants.{Act, Build, Done}
 use Rattle.cc_names.specs.declared.rows.Tag.{Tag}
-use Rattle.legal_history.specs.Stories.States.{State, done_of, lane_at, command_behind, next_tag}
+use Rattle.legal_history.specs.Stories.States.{State, done_of, command_behind, next_tag}
 
 -- the first command of a lane that is not finished
 abbrev pub waiting : State → ℕ → Option Command

@@ -9,7 +9,7 @@ use Rattle.build_script.specs.Ended.{ran_of}
 use Rattle.build_script.specs.Standings.{Standing}
 use Rattle.build_script.specs.declared.files.Got.{Got}
 use Rattle.build_script.specs.declared.files.Got.TheVariants as gots
-use Rattle.build_script.specs.declared.files.Stop.{Stop}
+use Rattle.build_script.specs.declared.files.GivenUp.{GivenUp}
 use Rattle.build_script.specs.declared.outcomes.Ended.{Ended}
 use Rattle.legal_history.specs.Stories.States.{State}
 use Rattle.legal_history.specs.Stories.Steps.{state_of}
@@ -60,7 +60,7 @@ IsRead gots.NoMemory standing story tag = Unit {0}
 
 -- What came of a run outside the lock: it is the run of the unit in the state as it began; or it was given up, for want of memory
 -- or since the build's command is past in this story.
-abbrev pub RanSo : Result Ended (Or Stop) → State → Tag → ℕ → List Told → Type 0
+abbrev pub RanSo : Result Ended (Or GivenUp) → State → Tag → ℕ → List Told → Type 0
 RanSo (Ok ended) start tag n story = IsRunOfUnit start tag.lane n (ran_of ended)
 RanSo (Err NoMemory) start tag n story = Unit {0}
-RanSo (Err (Is stop)) start tag n story = IsPast (state_of story) tag
+RanSo (Err (Is cause)) start tag n story = IsPast (state_of story) tag

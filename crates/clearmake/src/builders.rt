@@ -6,10 +6,9 @@ ghost use Rattle.clearmake.specs.Passes.{IsLater, Knows};
 
 use crate::contexts::BuildContext;
 use crate::desks::BuildDesk;
-use crate::task_queues::{TaskQueues, deal, make_workers};
+use crate::task_queues::{Builder, TaskQueues, deal, make_builders};
 use crate::tasks::do_task;
 use cc_outside::Gate;
-use crossbeam_deque::Worker;
 use std::sync::Wait;
 use std::thread::{Threads, join};
 use turn_lock::Pass;
@@ -18,7 +17,7 @@ use turn_lock::Pass;
 fn build_share<R: Wait, T: BuildDesk, G: Gate>(
     context: &BuildContext<'_, R, T, G>,
     queues: &TaskQueues,
-    worker: &mut Worker<u32>,
+    builder: &mut Builder,
     pass: Pass<T>,
 ) -> Pass<T>
     requires own { pass.lock ≡ context.now.lock.now.id }
@@ -28,40 +27,37 @@ fn build_share<R: Wait, T: BuildDesk, G: Gate>(
 {
     let mut pass = pass;
     for _ in context.rt.forever() {
-        let changes = queues.changes();
-        if let Some(unit) = queues.find_task(worker) {
-            pass = do_task(context, queues, worker, pass, unit);
+        if let Some(unit) = queues.find_task(context.rt, builder) {
+            pass = do_task(context, queues, builder, pass, unit);
             queues.end_task();
         } else if queues.is_done() {
             break;
-        } else {
-            queues.wait(context.rt, changes);
         }
     }
     pass
 }
 
-/// A builder for each of these deques, half of them in another thread.
+/// The work of these builders, half of them in another thread.
 fn build_shares<R: Threads + Wait + Sync, T: BuildDesk + Send, G: Gate + Sync>(
     context: &BuildContext<'_, R, T, G>,
     queues: &TaskQueues,
-    workers: &mut [Worker<u32>],
+    builders: &mut [Builder],
     pass: Pass<T>,
 ) -> Pass<T>
     requires own { pass.lock ≡ context.now.lock.now.id }
     requires knows { Knows context.now.begun.now.value.seen pass.seen context.now.tag
         context.now.count }
-    requires builders { length workers.old ≤ pass.weight }
+    requires builders { length builders.old ≤ pass.weight }
     ensures { IsLater pass result }
 {
-    if let [worker] = workers {
-        return build_share(context, queues, worker, pass);
+    if let [builder] = builders {
+        return build_share(context, queues, builder, pass);
     }
-    if workers.is_empty() {
+    if builders.is_empty() {
         return pass;
     }
-    let others = workers.len() / 2;
-    let (here, there) = workers.split_at_mut(workers.len() - others);
+    let others = builders.len() / 2;
+    let (here, there) = builders.split_at_mut(builders.len() - others);
     let (one, two) = context.lock.split(pass);
     // The closures hold what the context refers to, and not the context: then it is known that they may cross threads.
     let rt = context.rt;
@@ -115,9 +111,9 @@ fn build_shares<R: Threads + Wait + Sync, T: BuildDesk + Send, G: Gate + Sync>(
     lock.join(one, two)
 }
 
-/// Has so many builders drive the units of a build, as far as they come: a unit goes to whoever is free once those that it
-/// needs have their outcomes, and no script is run twice. Nothing is said of what they leave: where memory runs out, that
-/// may be each unit.
+/// Has so many builders drive the units of a build, as far as they come: a unit is laid to whoever gave the last one that it
+/// needs its outcome, others steal from a builder that a long script holds up, and no script is run twice. Nothing is said of
+/// what they leave: where memory runs out, that may be each unit.
 pub(crate) fn build_units<R: Threads + Wait + Sync, T: BuildDesk + Send, G: Gate + Sync>(
     context: &BuildContext<'_, R, T, G>,
     pass: Pass<T>,
@@ -133,12 +129,12 @@ pub(crate) fn build_units<R: Threads + Wait + Sync, T: BuildDesk + Send, G: Gate
     if builders < 2 {
         return pass;
     }
-    let Ok(mut workers) = make_workers(context.alloc, builders) else {
+    let Ok(mut made) = make_builders(context.alloc, builders) else {
         return pass;
     };
-    let Ok(queues) = TaskQueues::new(context.alloc, workers.as_slice(), context.count) else {
+    let Ok(queues) = TaskQueues::new(context.alloc, made.as_slice(), context.count) else {
         return pass;
     };
-    deal(&queues, workers.as_mut_slice(), context.count);
-    build_shares(context, &queues, workers.as_mut_slice(), pass)
+    deal(&queues, made.as_mut_slice(), context.count);
+    build_shares(context, &queues, made.as_mut_slice(), pass)
 }

@@ -11,8 +11,9 @@ ghost use Rattle.clearmake.specs.Passes.{Builds, IsLater, Knows};
 use crate::contexts::BuildContext;
 use crate::desks::BuildDesk;
 use crate::runs::run_outside;
+use crate::script_runs::ScriptRuns;
 use crate::turns::{Carried, UnitTurn};
-use build_script::files::Stop;
+use build_script::files::GivenUp;
 use build_script::outcomes::Ended;
 use build_script::scripts::Script;
 use cc_names::lists::List;
@@ -163,13 +164,15 @@ fn finish_once<R: Wait, T: BuildDesk, G: Gate>(
     (context.lock.give(held, desk), driven)
 }
 
-/// Runs the script of a unit that was started, outside the lock, and finishes the unit.
+/// Runs the script of a unit that was started, outside the lock, and finishes the unit. The runs of its builder, where it is
+/// one of several, tell the others that it is at a script.
 pub(crate) fn run_started<R: Wait, T: BuildDesk, G: Gate>(
     context: &BuildContext<'_, R, T, G>,
     pass: Pass<T>,
     unit: u32,
     script: &Script,
     targets: &[Path],
+    runs: Option<&ScriptRuns>,
 ) -> (Pass<T>, Driven)
     requires own { pass.lock ≡ context.now.lock.now.id }
     requires knows { Knows context.now.begun.now.value.seen pass.seen context.now.tag
@@ -181,10 +184,10 @@ pub(crate) fn run_started<R: Wait, T: BuildDesk, G: Gate>(
     ensures driven { IsDriven result.1 result.0.seen context.now.tag context.now.count unit }
 {
     let start = Snapshot::of(&pass);
-    let (pass, ran) = run_outside(&*context, pass, &start, unit, script, &*targets);
+    let (pass, ran) = run_outside(&*context, pass, &start, unit, script, &*targets, runs);
     match ran {
         Ok(ended) => finish_once(context, pass, &start, unit, ended),
-        Err(Or::Is(Stop::Broken)) => (pass, Driven::Over),
+        Err(Or::Is(GivenUp::Broken)) => (pass, Driven::Over),
         Err(Or::NoMemory) => (pass, Driven::OutOfMemory),
     }
 }
@@ -210,6 +213,7 @@ pub(crate) fn drive<R: Wait, T: BuildDesk, G: Gate>(
             unit,
             &script,
             targets.as_slice(),
+            None,
         ),
         Tried::Over => (pass, Driven::Over),
         Tried::Settled => (pass, Driven::Settled),

@@ -18,8 +18,8 @@ use std::sync::Wait;
 use std::thread::{Threads, join};
 use turn_lock::{Pass, Storied, TurnLock};
 
-/// How many commands that build nothing a lane carries out in one turn at most. Where others wait, a turn costs more than a save
-/// without its syncs, and so many share that; the desk is held meanwhile, their syncs included.
+/// How many commands that build nothing a lane carries out in one turn at most. Where others wait, a turn costs more than a
+/// save without its syncs, and so many share that; the desk is held meanwhile, their syncs included.
 const COMMANDS_A_TURN: u32 = 64;
 
 /// What the lanes of a phase share: the lock round the desk, the gate, and how many turns each lane takes at most.
@@ -45,8 +45,8 @@ pub(crate) enum LaneTurn {
     OutOfMemory,
 }
 
-/// Carries out a lane's next commands as long as they build nothing, up to 64 in one turn at the desk, and says why it stops: the
-/// next one builds, there is none, the turn has had its commands, or memory ran out.
+/// Carries out a lane's next commands as long as they build nothing, up to 64 in one turn at the desk, and says why it stops:
+/// the next one builds, there is none, the turn has had its commands, or memory ran out.
 fn take_turn_at<T: PhaseDesk>(desk: &mut T, alloc: Global, lane: u32) -> LaneTurn
     ensures begins { IsPrefix (T.story desk.old) (T.story desk.new) }
     ensures turn { IsLaneTurn result (T.story desk.new) lane T.number }

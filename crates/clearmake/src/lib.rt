@@ -22,6 +22,7 @@ mod lanes;
 mod locked_files;
 mod phases;
 mod runs;
+mod script_runs;
 mod sweeps;
 mod task_queues;
 mod tasks;

@@ -11,6 +11,7 @@ ghost use Rattle.clearmake.specs.Sights.{sees};
 
 use crate::contexts::BuildContext;
 use crate::desks::BuildDesk;
+use crate::script_runs::{ScriptRuns, note_change};
 use build_script::files::{Files, Got};
 use cc_names::paths::Path;
 use cc_outside::Gate;
@@ -26,6 +27,7 @@ pub(crate) struct LockedFiles<'s, 'a, R: Wait, T: BuildDesk, G: Gate> {
     pub(crate) start: &'s Snapshot<Pass<T>>,
     pub(crate) unit: u32,
     pub(crate) target: &'s Path,
+    pub(crate) runs: Option<&'s ScriptRuns>,
     pub(crate) pass: Option<Pass<T>>,
     pub(crate) broken: u64,
 }
@@ -99,9 +101,11 @@ impl<R: Wait, T: BuildDesk, G: Gate> Files for LockedFiles<'_, '_, R, T, G> {
         let Some(pass) = self.pass.take() else {
             unreachable!()
         };
+        note_change(self.runs);
         let (held, desk) = self.context.lock.take(self.context.rt, pass);
         let got = read_at(self.context, &desk, self.start, self.unit, path);
         self.pass = Some(self.context.lock.give(held, desk));
+        note_change(self.runs);
         if let Got::Broken = got {
             self.broken = self.broken.saturating_add(1);
         }

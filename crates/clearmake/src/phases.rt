@@ -18,8 +18,8 @@ use turn_lock::TurnLock;
 const WHOLE: u64 = 65_536;
 
 /// Carries out the commands of the lanes of a desk's phase, the lanes in threads of their own: each step is a turn at the
-/// desk, and builds have builders of their own. Each lane has at most so many turns, of which it needs no more than one for each
-/// of its commands and one more.
+/// desk, and builds have builders of their own. Each lane has at most so many turns, of which it needs no more than one for
+/// each of its commands and one more.
 ///
 /// The desk comes back with a story that begins with its own. True where each lane has nothing left to do; not where memory or
 /// turns ran out, and whoever calls goes on with what is left. It need not return: it waits for the threads that it starts, and

@@ -10,7 +10,8 @@ ghost use Rattle.clearmake.specs.Passes.{Builds, IsLater, Knows};
 use crate::contexts::BuildContext;
 use crate::desks::BuildDesk;
 use crate::locked_files::LockedFiles;
-use build_script::files::Stop;
+use crate::script_runs::{ScriptRuns, note_change};
+use build_script::files::GivenUp;
 use build_script::outcomes::Ended;
 use build_script::run::run;
 use build_script::scripts::Script;
@@ -32,7 +33,8 @@ pub(crate) fn run_outside<'s, R: Wait, T: BuildDesk, G: Gate>(
     unit: u32,
     script: &Script,
     targets: &'s [Path],
-) -> (Pass<T>, Result<Ended, Or<Stop>>)
+    runs: Option<&'s ScriptRuns>,
+) -> (Pass<T>, Result<Ended, Or<GivenUp>>)
     requires own { pass.lock ≡ context.now.lock.now.id }
     requires knows { Knows context.now.begun.now.value.seen start.now.value.seen context.now.tag
         context.now.count }
@@ -51,17 +53,21 @@ pub(crate) fn run_outside<'s, R: Wait, T: BuildDesk, G: Gate>(
         start,
         unit,
         target,
+        runs,
         pass: Some(pass),
         broken: 0,
     };
+    note_change(runs);
     context.gate.enter(context.tag.lane, target);
     let ran = run(context.alloc, context.hashing, script, targets, &mut files);
     context.gate.leave(context.tag.lane, target);
+    note_change(runs);
     let LockedFiles {
         context: _,
         start: _,
         unit: _,
         target: _,
+        runs: _,
         pass,
         broken: _,
     } = files;

@@ -5,11 +5,13 @@
 
 ghost use Rattle.std.specs.Prelude.{◌≡◌, ◌<◌, ◌≤◌, IfOk, length, vec_len};
 
+use crate::script_runs::ScriptRuns;
 use cc_names::memory::NoMemory;
 use crossbeam_deque::{Steal, Stealer, Worker};
 use std::alloc::Global;
 use std::sync::Wait;
 use std::sync::atomic::{AtomicBool, AtomicU64, Ordering};
+use std::time::Duration;
 
 /// How often a builder tries to steal from one deque, while others take tasks there first.
 const TRIES: u32 = 16;
@@ -17,37 +19,70 @@ const TRIES: u32 = 16;
 /// The slots of a new deque, which grows.
 const FIRST_SLOTS: usize = 64;
 
-/// What the builders of a build share beside the desk: where to steal, and which units are claimed.
+/// For how many microseconds a script has to go on before a task of its builder is stolen. A task that is stolen costs the
+/// turns at a desk that another processor had at hand, so tiny ones are done sooner by the builder that has them.
+const LONG: u64 = 100;
+
+/// For how many microseconds a builder that finds no task sleeps at first.
+const FIRST_SLEEP: u64 = 100;
+
+/// And for how many at most, for each builder of the build: so many builders look no more often than few.
+const LONGEST_SLEEP: u64 = 400;
+
+/// A builder: its number, its deque, where it looks first for a task to steal, and for how many microseconds it sleeps next
+/// where it finds none.
+#[derive(Drop)]
+pub(crate) struct Builder {
+    number: usize,
+    worker: Worker<u32>,
+    first: usize,
+    sleep: u64,
+}
+
+/// What the others see of a builder: where to steal from it, and whether it is at a script.
+#[derive(Drop)]
+struct Fellow {
+    stealer: Stealer<u32>,
+    runs: ScriptRuns,
+}
+
+/// What the builders of a build share beside the desk: what they see of one another, and which units are claimed.
 #[derive(Drop)]
 pub(crate) struct TaskQueues {
-    stealers: Vec<Stealer<u32>>,
+    fellows: Vec<Fellow>,
     claimed: Vec<AtomicBool>,
     // How many tasks lie in deques or are being done.
     pending: AtomicU64,
-    // Changes with each task that comes or is done, and wakes the builders that wait for one.
-    changes: AtomicU64,
-    // How many builders wait for a task, or are about to.
-    waiting: AtomicU64,
+    // 1 once the last task is done. Builders that find none sleep here.
+    over: AtomicU64,
 }
 
-/// A deque for each of some builders. Each takes its own tasks in the order in which they came.
-pub(crate) fn make_workers(alloc: Global, builders: u32) -> Result<Vec<Worker<u32>>, NoMemory>
-    ensures { IfOk result (λ workers. vec_len workers ≡ builders) }
+/// So many builders. Each takes its own tasks in the order in which they came.
+pub(crate) fn make_builders(alloc: Global, builders: u32) -> Result<Vec<Builder>, NoMemory>
+    ensures { IfOk result (λ made. vec_len made ≡ builders) }
 {
-    let mut workers = Vec::new(alloc);
-    for _ in 0..builders {
-        workers.push(Worker::new_fifo(alloc, FIRST_SLOTS)?)?;
+    let mut made = Vec::new(alloc);
+    for number in 0..builders {
+        made.push(Builder {
+            number: number as usize,
+            worker: Worker::new_fifo(alloc, FIRST_SLOTS)?,
+            first: 0,
+            sleep: FIRST_SLEEP,
+        })?;
     }
-    Ok(workers)
+    Ok(made)
 }
 
-/// Where to steal from each of some deques.
-fn make_stealers(alloc: Global, workers: &[Worker<u32>]) -> Result<Vec<Stealer<u32>>, NoMemory> {
-    let mut stealers = Vec::new(alloc);
-    for worker in workers {
-        stealers.push(worker.stealer()?)?;
+/// What others see of each of some builders.
+fn make_fellows(alloc: Global, builders: &[Builder]) -> Result<Vec<Fellow>, NoMemory> {
+    let mut fellows = Vec::new(alloc);
+    for builder in builders {
+        fellows.push(Fellow {
+            stealer: builder.worker.stealer()?,
+            runs: ScriptRuns::new(),
+        })?;
     }
-    Ok(stealers)
+    Ok(fellows)
 }
 
 /// A flag for each of some units, which nobody has claimed.
@@ -72,19 +107,26 @@ fn steal_from(stealer: &Stealer<u32>) -> Option<u32> {
 }
 
 impl TaskQueues {
-    /// Queues for a build of so many units and for the builders with these deques.
+    /// Queues for a build of so many units and for these builders.
     pub(crate) fn new(
         alloc: Global,
-        workers: &[Worker<u32>],
+        builders: &[Builder],
         units: u32,
     ) -> Result<TaskQueues, NoMemory> {
         Ok(TaskQueues {
-            stealers: make_stealers(alloc, workers)?,
+            fellows: make_fellows(alloc, builders)?,
             claimed: make_claims(alloc, units)?,
             pending: AtomicU64::new(0),
-            changes: AtomicU64::new(0),
-            waiting: AtomicU64::new(0),
+            over: AtomicU64::new(0),
         })
+    }
+
+    /// The runs of scripts of a builder, as the others see them.
+    pub(crate) fn runs_of(&self, builder: &Builder) -> Option<&ScriptRuns> {
+        match self.fellows.get(builder.number) {
+            Some(fellow) => Some(&fellow.runs),
+            None => None,
+        }
     }
 
     /// Whether a builder has claimed a unit.
@@ -103,28 +145,20 @@ impl TaskQueues {
         }
     }
 
-    /// Wakes the builders that wait for a task, where there are any. Who is about to wait finds that `changes` is another number
-    /// by then, and does not.
-    fn wake(&self) {
-        self.changes.fetch_add(1, Ordering::SeqCst);
-        if self.waiting.load(Ordering::SeqCst) > 0 {
-            self.changes.wake_all();
-        }
-    }
-
     /// Lays a task into a builder's deque, unless there is no memory for it.
-    pub(crate) fn push(&self, worker: &mut Worker<u32>, unit: u32) {
+    pub(crate) fn push(&self, builder: &mut Builder, unit: u32) {
         self.pending.fetch_add(1, Ordering::SeqCst);
-        if worker.push(unit).is_err() {
+        if builder.worker.push(unit).is_err() {
             self.pending.fetch_sub(1, Ordering::SeqCst);
         }
-        self.wake();
     }
 
     /// Notes that a task is done, and what came of it lies in a deque.
     pub(crate) fn end_task(&self) {
-        self.pending.fetch_sub(1, Ordering::SeqCst);
-        self.wake();
+        if self.pending.fetch_sub(1, Ordering::SeqCst) == 1 {
+            self.over.store(1, Ordering::SeqCst);
+            self.over.wake_all();
+        }
     }
 
     /// Whether no task is left: none lies in a deque, and none is being done.
@@ -132,44 +166,71 @@ impl TaskQueues {
         self.pending.load(Ordering::SeqCst) == 0
     }
 
-    /// A task from the deque of any builder.
-    fn steal(&self) -> Option<u32> {
-        for stealer in &self.stealers {
-            if let Some(unit) = steal_from(stealer) {
-                return Some(unit);
+    /// A builder that is at a script and has tasks, which it begins only when that has ended: the first one from a number on.
+    fn held_up(&self, first: usize) -> Option<usize> {
+        let count = self.fellows.len();
+        for step in 0..count {
+            let number = first.wrapping_add(step) % count;
+            if let Some(fellow) = self.fellows.get(number) {
+                if fellow.runs.current().is_some() && !fellow.stealer.is_empty() {
+                    return Some(number);
+                }
             }
         }
         None
     }
 
-    /// The next task of a builder: its own, or else one that it steals.
-    pub(crate) fn find_task(&self, worker: &mut Worker<u32>) -> Option<u32> {
-        match worker.pop() {
-            Some(unit) => Some(unit),
-            None => self.steal(),
+    /// Sleeps for so many microseconds, or until no task is left or a script was found to be long.
+    fn sleep<R: Wait>(&self, rt: &R, micros: u64) {
+        self.over.park_timeout(rt, 0, Duration::from_micros(micros));
+    }
+
+    /// A task of a builder, where its script goes on while this one sleeps for a while, or was found to be long before.
+    fn steal_at<R: Wait>(&self, rt: &R, number: usize) -> Option<u32> {
+        let fellow = self.fellows.get(number)?;
+        let run = fellow.runs.current()?;
+        if !fellow.runs.is_long(run) {
+            self.sleep(rt, LONG);
+            if fellow.runs.current() != Some(run) {
+                return None;
+            }
+            fellow.runs.note_long(run);
+            self.over.wake_all();
         }
+        steal_from(&fellow.stealer)
     }
 
-    /// How far the queues have changed.
-    pub(crate) fn changes(&self) -> u64 {
-        self.changes.load(Ordering::SeqCst)
+    /// A task that another builder has, where a script holds that one up. Else this one sleeps, longer each time.
+    fn steal<R: Wait>(&self, rt: &R, builder: &mut Builder) -> Option<u32> {
+        if let Some(number) = self.held_up(builder.first) {
+            builder.first = number;
+            if let Some(unit) = self.steal_at(rt, number) {
+                builder.sleep = FIRST_SLEEP;
+                return Some(unit);
+            }
+            builder.first = number.wrapping_add(1);
+        }
+        self.sleep(rt, builder.sleep);
+        let longest = LONGEST_SLEEP.saturating_mul(self.fellows.len() as u64);
+        builder.sleep = builder.sleep.saturating_mul(2).min(longest);
+        None
     }
 
-    /// Sleeps while the queues have changed no further. It may also return for no reason.
-    pub(crate) fn wait<R: Wait>(&self, rt: &R, changes: u64) {
-        self.waiting.fetch_add(1, Ordering::SeqCst);
-        self.changes.park(rt, (changes & 0xffff_ffff) as u32);
-        self.waiting.fetch_sub(1, Ordering::SeqCst);
+    /// The next task of a builder: its own, or else one that it steals. None after a while where it finds none.
+    pub(crate) fn find_task<R: Wait>(&self, rt: &R, builder: &mut Builder) -> Option<u32> {
+        match builder.worker.pop() {
+            Some(unit) => Some(unit),
+            None => self.steal(rt, builder),
+        }
     }
 }
 
-/// Deals out the units of a build to the builders, in turn.
-pub(crate) fn deal(queues: &TaskQueues, workers: &mut [Worker<u32>], units: u32)
-    requires { 0 < length workers.old }
-    ensures { length workers.new ≡ length workers.old }
+/// Deals out the units of a build: all lie in the first deque, from which the others steal where that saves time.
+pub(crate) fn deal(queues: &TaskQueues, builders: &mut [Builder], units: u32)
+    requires { 0 < length builders.old }
+    ensures { length builders.new ≡ length builders.old }
 {
-    let builders = workers.len();
     for unit in 0..units {
-        queues.push(&mut workers[unit as usize % builders], unit);
+        queues.push(&mut builders[0], unit);
     }
 }

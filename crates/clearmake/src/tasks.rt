@@ -8,9 +8,8 @@ ghost use Rattle.clearmake.specs.Passes.{IsLater, Knows};
 use crate::contexts::BuildContext;
 use crate::desks::BuildDesk;
 use crate::drives::{Driven, Tried, run_started, try_at};
-use crate::task_queues::TaskQueues;
+use crate::task_queues::{Builder, TaskQueues};
 use cc_outside::Gate;
-use crossbeam_deque::Worker;
 use std::sync::Wait;
 use turn_lock::Pass;
 
@@ -49,9 +48,9 @@ fn released_once<R: Wait, T: BuildDesk, G: Gate>(
 }
 
 /// Lays tasks into a builder's deque.
-fn push_all(queues: &TaskQueues, worker: &mut Worker<u32>, units: &[u32]) {
+fn push_all(queues: &TaskQueues, builder: &mut Builder, units: &[u32]) {
     for unit in units {
-        queues.push(worker, *unit);
+        queues.push(builder, *unit);
     }
 }
 
@@ -59,7 +58,7 @@ fn push_all(queues: &TaskQueues, worker: &mut Worker<u32>, units: &[u32]) {
 fn push_released<R: Wait, T: BuildDesk, G: Gate>(
     context: &BuildContext<'_, R, T, G>,
     queues: &TaskQueues,
-    worker: &mut Worker<u32>,
+    builder: &mut Builder,
     pass: Pass<T>,
     unit: u32,
 ) -> Pass<T>
@@ -71,7 +70,7 @@ fn push_released<R: Wait, T: BuildDesk, G: Gate>(
 {
     let (pass, released) = released_once(context, pass, unit);
     if let Some(units) = released {
-        push_all(queues, worker, units.as_slice());
+        push_all(queues, builder, units.as_slice());
     }
     pass
 }
@@ -125,6 +124,7 @@ fn try_unclaimed<R: Wait, T: BuildDesk, G: Gate>(
 fn take_up<R: Wait, T: BuildDesk, G: Gate>(
     context: &BuildContext<'_, R, T, G>,
     queues: &TaskQueues,
+    builder: &Builder,
     pass: Pass<T>,
     unit: u32,
 ) -> (Pass<T>, bool)
@@ -138,7 +138,15 @@ fn take_up<R: Wait, T: BuildDesk, G: Gate>(
     match tried {
         Some(Tried::Settled) => (pass, true),
         Some(Tried::Run(script, targets)) => {
-            let (pass, driven) = run_started(context, pass, unit, &script, targets.as_slice());
+            let runs = queues.runs_of(builder);
+            let (pass, driven) = run_started(
+                context,
+                pass,
+                unit,
+                &script,
+                targets.as_slice(),
+                runs,
+            );
             match driven {
                 Driven::Settled => (pass, true),
                 Driven::Over | Driven::NotReady(_) | Driven::OutOfMemory => (pass, false),
@@ -152,7 +160,7 @@ fn take_up<R: Wait, T: BuildDesk, G: Gate>(
 pub(crate) fn do_task<R: Wait, T: BuildDesk, G: Gate>(
     context: &BuildContext<'_, R, T, G>,
     queues: &TaskQueues,
-    worker: &mut Worker<u32>,
+    builder: &mut Builder,
     pass: Pass<T>,
     unit: u32,
 ) -> Pass<T>
@@ -164,9 +172,9 @@ pub(crate) fn do_task<R: Wait, T: BuildDesk, G: Gate>(
     if unit >= context.count || queues.is_claimed(unit) {
         return pass;
     }
-    let (pass, settled) = take_up(context, queues, pass, unit);
+    let (pass, settled) = take_up(context, queues, builder, pass, unit);
     if settled {
-        push_released(context, queues, worker, pass, unit)
+        push_released(context, queues, builder, pass, unit)
     } else {
         pass
     }

@@ -16,7 +16,7 @@ use Rattle.legal_history.specs.Base.Changes.{targets_of}
 use Rattle.legal_history.specs.Base.Closures.{is_among}
 use Rattle.legal_history.specs.Builds.Reuse.{are_same_paths}
 use Rattle.legal_history.specs.Base.Rows.{Base}
-use Rattle.legal_history.specs.Queries.RecordTexts.{Paths, diffcr_text, record_of, recorded_script, path_lines, paths_of, row_in, is_same_row, side_line, unless_same}
+use Rattle.legal_history.specs.Queries.RecordTexts.{Paths, diffcr_text, record_of, recorded_script, path_lines, with_paths, row_in, is_same_row, side_line, unless_same}
 use Rattle.cleartool.specs.Differences.{is_read, row_lines}
 use Rattle.cleartool.proofs.ByKeys.{HasKeys, by_keys, told, told_of}
 
@@ -57,21 +57,21 @@ unread (entry ∷ entries) path h = row_first entry entries path ∙ by (bytes_e
     by false e h rest = ap (λ t. cond t (Some entry.row) (row_in entries path)) (turned e) ∙ rest h
 
 -- which paths are put among others
-put_paths : (entries : List ReadOf) (paths : Paths) (path : List ℕ) → is_some (find (slice_cmp nat_cmp) path (paths_of entries paths)) ≡ (is_read path entries || is_some (find (slice_cmp nat_cmp) path paths))
+put_paths : (entries : List ReadOf) (paths : Paths) (path : List ℕ) → is_some (find (slice_cmp nat_cmp) path (with_paths entries paths)) ≡ (is_read path entries || is_some (find (slice_cmp nat_cmp) path paths))
 put_paths [] paths path = refl
 put_paths (entry ∷ entries) paths path =
-    ap is_some (find-put (slice_cmp nat_cmp) nat_list_cmp_total path entry.path entry.path (paths_of entries paths))
-    ∙ ap (λ t. is_some (cond t (Some entry.path) (find (slice_cmp nat_cmp) path (paths_of entries paths)))) (is_eq-slice_cmp path entry.path)
+    ap is_some (find-put (slice_cmp nat_cmp) nat_list_cmp_total path entry.path entry.path (with_paths entries paths))
+    ∙ ap (λ t. is_some (cond t (Some entry.path) (find (slice_cmp nat_cmp) path (with_paths entries paths)))) (is_eq-slice_cmp path entry.path)
     ∙ by (bytes_eq path entry.path) (put_paths entries paths path)
   where
-    by : (t : Bool) → is_some (find (slice_cmp nat_cmp) path (paths_of entries paths)) ≡ (is_read path entries || is_some (find (slice_cmp nat_cmp) path paths)) →
-        is_some (cond t (Some entry.path) (find (slice_cmp nat_cmp) path (paths_of entries paths))) ≡ ((t || is_read path entries) || is_some (find (slice_cmp nat_cmp) path paths))
+    by : (t : Bool) → is_some (find (slice_cmp nat_cmp) path (with_paths entries paths)) ≡ (is_read path entries || is_some (find (slice_cmp nat_cmp) path paths)) →
+        is_some (cond t (Some entry.path) (find (slice_cmp nat_cmp) path (with_paths entries paths))) ≡ ((t || is_read path entries) || is_some (find (slice_cmp nat_cmp) path paths))
     by true rest = refl
     by false rest = rest
 
-put_sorted : (entries : List ReadOf) (paths : Paths) → T (is_sorted (slice_cmp nat_cmp) paths) → T (is_sorted (slice_cmp nat_cmp) (paths_of entries paths))
+put_sorted : (entries : List ReadOf) (paths : Paths) → T (is_sorted (slice_cmp nat_cmp) paths) → T (is_sorted (slice_cmp nat_cmp) (with_paths entries paths))
 put_sorted [] paths h = h
-put_sorted (entry ∷ entries) paths h = is_sorted-put (slice_cmp nat_cmp) nat_list_cmp_total entry.path entry.path (paths_of entries paths) (put_sorted entries paths h)
+put_sorted (entry ∷ entries) paths h = is_sorted-put (slice_cmp nat_cmp) nat_list_cmp_total entry.path entry.path (with_paths entries paths) (put_sorted entries paths h)
 
 either : (a b : Bool) → (a || (b || false)) ≡ (a || b)
 either true b = refl
@@ -96,10 +96,10 @@ of_path b one two key path = path_lines b one two key
 
 -- the paths of two records
 abbrev table_of : List ReadOf → List ReadOf → Paths
-table_of one two = paths_of one (paths_of two [])
+table_of one two = with_paths one (with_paths two [])
 
 has_path : (one two : List ReadOf) (path : List ℕ) → is_some (find (slice_cmp nat_cmp) path (table_of one two)) ≡ (is_read path one || is_read path two)
-has_path one two path = put_paths one (paths_of two []) path ∙ ap (λ t. is_read path one || t) (put_paths two [] path) ∙ either (is_read path one) (is_read path two)
+has_path one two path = put_paths one (with_paths two []) path ∙ ap (λ t. is_read path one || t) (put_paths two [] path) ∙ either (is_read path one) (is_read path two)
 
 -- what is told of a path, by the table
 told_by_table : (b : Base) (one two : List ReadOf) (key : List ℕ) → path_lines b one two key ≡ told_of (of_path b one two) (table_of one two) key
@@ -113,10 +113,10 @@ told_by_table b one two key = by (find (slice_cmp nat_cmp) key (table_of one two
 
 -- Paths in order that are those of two records tell what the model tells.
 pub paths_told : (b : Base) (one two : List ReadOf) (keys : List (List ℕ)) → IsStrictlySortedBy (slice_cmp nat_cmp) keys → ((path : List ℕ) → is_among path keys ≡ (is_read path one || is_read path two)) →
-    concat (map (path_lines b one two) keys) ≡ concat (map (λ path. path_lines b one two path.0) (paths_of one (paths_of two [])))
+    concat (map (path_lines b one two) keys) ≡ concat (map (λ path. path_lines b one two path.0) (with_paths one (with_paths two [])))
 paths_told b one two keys ordered among =
     ap concat (same_map (path_lines b one two) (told_of (of_path b one two) (table_of one two)) keys (told_by_table b one two))
-    ∙ by_keys (of_path b one two) keys (table_of one two) ordered (put_sorted one (paths_of two []) (put_sorted two [] tt))
+    ∙ by_keys (of_path b one two) keys (table_of one two) ordered (put_sorted one (with_paths two []) (put_sorted two [] tt))
     (λ key is. among key ∙ sym (has_path one two key) ∙ is)
 
 -- How two records differ, as it is written.
@@ -133,4 +133,4 @@ differences_told b one two first_targets second_targets first_script second_scri
     ∙ ap (λ t. (targets_line ++ unless_same t (codes "script differs\n")) ++ listed) (script ∙ ap₂ bytes_eq one_script two_script)
     ∙ ap (λ (rest : List ℕ). (targets_line ++ script_line) ++ rest)
     (paths_told b first second keys ordered among
-    ∙ ap₂ (λ (one two : List ReadOf). concat (map (λ path. path_lines b one two path.0) (paths_of one (paths_of two [])))) one_entries two_entries)
+    ∙ ap₂ (λ (one two : List ReadOf). concat (map (λ path. path_lines b one two path.0) (with_paths one (with_paths two [])))) one_entries two_entries)

@@ -14,7 +14,7 @@ use Rattle.std.proofs.lemmas.Cmp.{nat_list_cmp_total, nat_list_eq_equiv}
 use Rattle.std.proofs.lemmas.Map.Text.{is_eq-slice_cmp}
 use Rattle.std.proofs.lemmas.Slice.Eq.{bytes_eq-Decides}
 use Rattle.cc_names.specs.Last.{Keeps, Ends, Sets, only_if, left}
-use Rattle.cc_names.specs.References.{Held, held_at, place_cmp}
+use Rattle.cc_names.specs.References.{Held, held_at, view_path_cmp}
 use Rattle.cc_names.specs.Versions.{put_if}
 use Rattle.cc_names.specs.declared.rows.Deed.{Deed}
 use Rattle.cc_names.specs.declared.rows.Deed.TheVariants as deeds
@@ -29,7 +29,7 @@ use Rattle.view_lookup.specs.LookUps.{last_of}
 use Rattle.view_lookup.specs.Owned.{gives_view, paths_given, was_given}
 use Rattle.view_lookup.specs.Ended.{ended_or}
 use Rattle.view_lookup.proofs.GivenRows.{AreDeeds, deeds_below}
-use Rattle.view_lookup.proofs.Holdings.{held_by_last, held_effect, same_place}
+use Rattle.view_lookup.proofs.Holdings.{held_by_last, held_effect, same_view_path}
 use Rattle.view_lookup.proofs.Newest.{no_later}
 use Rattle.cleartool.specs.HeldObjects.{line_at}
 use Rattle.cleartool.proofs.ByKeys.{by_keys, told, told_of}
@@ -88,15 +88,15 @@ own_at : (v path : List ℕ) (held : Held) → find (slice_cmp nat_cmp) path (ow
 own_at v path [] = refl
 own_at v path (entry ∷ held) =
     by (bytes_eq entry.0.0 v) (own_at v path held)
-    ∙ sym (ap (λ t. cond t (Some entry.1) (held_at held v path)) (same_place v path entry.0.0 entry.0.1))
+    ∙ sym (ap (λ t. cond t (Some entry.1) (held_at held v path)) (same_view_path v path entry.0.0 entry.0.1))
   where
     by : (t : Bool) → find (slice_cmp nat_cmp) path (own v held) ≡ held_at held v path →
         find (slice_cmp nat_cmp) path (put_if t (entry.0.1, entry.1) (own v held)) ≡ cond (t && bytes_eq entry.0.1 path) (Some entry.1) (held_at held v path)
     by true rest = ap₂ (λ (t : Bool) (found : Option ℕ). cond t (Some entry.1) found) (is_eq-slice_cmp path entry.0.1 ∙ nat_list_eq_equiv.symm path entry.0.1) rest
     by false rest = rest
 
--- what lies behind a place of the view lies behind its path
-own_below : (v path : List ℕ) (held : Held) → T (below_all place_cmp (v, path) held) → T (below_all (slice_cmp nat_cmp) path (own v held))
+-- what lies behind a view path of the view lies behind its path
+own_below : (v path : List ℕ) (held : Held) → T (below_all view_path_cmp (v, path) held) → T (below_all (slice_cmp nat_cmp) path (own v held))
 own_below v path [] h = tt
 own_below v path (entry ∷ held) h = by (bytes_eq entry.0.0 v) refl (own_below v path held (t_second _ _ h))
   where
@@ -107,14 +107,14 @@ own_below v path (entry ∷ held) h = by (bytes_eq entry.0.0 v) refl (own_below 
         (subst (λ o. T (is_lt (ordering_then o (slice_cmp nat_cmp path entry.0.1)))) ties (t_first _ _ h)) rest
     by false other rest = rest
 
-own_sorted : (v : List ℕ) (held : Held) → T (is_sorted place_cmp held) → T (is_sorted (slice_cmp nat_cmp) (own v held))
+own_sorted : (v : List ℕ) (held : Held) → T (is_sorted view_path_cmp held) → T (is_sorted (slice_cmp nat_cmp) (own v held))
 own_sorted v [] h = tt
 own_sorted v (entry ∷ held) h = by (bytes_eq entry.0.0 v) refl (own_sorted v held (t_second _ _ h))
   where
     by : (t : Bool) → bytes_eq entry.0.0 v ≡ t → T (is_sorted (slice_cmp nat_cmp) (own v held)) → T (is_sorted (slice_cmp nat_cmp) (put_if t (entry.0.1, entry.1) (own v held)))
     by true same rest =
         t_both (below_all (slice_cmp nat_cmp) entry.0.1 (own v held)) (is_sorted (slice_cmp nat_cmp) (own v held))
-        (own_below v entry.0.1 held (subst (λ w. T (below_all place_cmp (w, entry.0.1) held)) (same_text entry.0.0 v same) (t_first _ _ h))) rest
+        (own_below v entry.0.1 held (subst (λ w. T (below_all view_path_cmp (w, entry.0.1) held)) (same_text entry.0.0 v same) (t_first _ _ h))) rest
     by false other rest = rest
 
 -- ---- each of them was given to the view by a row

@@ -11,5 +11,5 @@ pub mod NamesGiven
 pub mod ListedNames
 pub mod Behind
 pub mod LesserPaths
-pub mod LeastSources
+pub mod LeastInputs
 pub mod DifferingPaths

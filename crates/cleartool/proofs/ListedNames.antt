@@ -17,7 +17,7 @@ use Rattle.cc_names.specs.Last.{Ends, Sets, left, only_if}
 use Rattle.cc_names.specs.Names.{IsName}
 use Rattle.cc_names.specs.PathLaws.{PartsJoin}
 use Rattle.cc_names.specs.Paths.{IsPath, join_of, joined, last_of, names_of, parent_of, root, unless_long, without_last}
-use Rattle.cc_names.specs.References.{Held, held_at, place_cmp}
+use Rattle.cc_names.specs.References.{Held, held_at, view_path_cmp}
 use Rattle.cc_names.specs.Versions.{kind_of}
 use Rattle.cc_names.specs.declared.names.NameFault.TheVariants.{TooLong}
 use Rattle.cc_names.specs.declared.rows.Deed.{Deed}
@@ -41,7 +41,7 @@ use Rattle.legal_history.specs.Queries.ListingTexts.{Names, catalog_names, catal
 use Rattle.legal_history.proofs.Bases.Makings.{seen_element}
 use Rattle.legal_history.proofs.Bases.Picks.{picked_is}
 use Rattle.view_lookup.specs.Owned.{gives_view, is_name, paths_given, was_given, was_named}
-use Rattle.view_lookup.proofs.Holdings.{same_place}
+use Rattle.view_lookup.proofs.Holdings.{same_view_path}
 use Rattle.cleartool.specs.Listed.{HasNames, SeesDirectory, lies_in, line_at, line_of, line_where}
 use Rattle.cleartool.proofs.ByKeys.{by_keys, told, told_of}
 use Rattle.cleartool.proofs.HeldListed.{held_given}
@@ -307,7 +307,7 @@ module _ (law : PartsJoin) (b : Base) (v directory : List ℕ) where
 
   -- ---- the names of objects
 
-  -- the places of the view in some references lie below the root
+  -- the paths of the view in some references lie below the root
   abbrev HeldBelow : Held → Type 0
   HeldBelow held = (path : List ℕ) → is_some (held_at held v path) ≡ true → IsBelowRoot path
 
@@ -316,11 +316,11 @@ module _ (law : PartsJoin) (b : Base) (v directory : List ℕ) where
   some_if false id found h = h
 
   rest_below : (entry : (List ℕ × List ℕ) × ℕ) (held : Held) → HeldBelow (entry ∷ held) → HeldBelow held
-  rest_below entry held low = λ path is. low path (some_if (eq_by_cmp place_cmp (v, path) entry.0) entry.1 (held_at held v path) is)
+  rest_below entry held low = λ path is. low path (some_if (eq_by_cmp view_path_cmp (v, path) entry.0) entry.1 (held_at held v path) is)
 
   entry_below : (entry : (List ℕ × List ℕ) × ℕ) (held : Held) → bytes_eq entry.0.0 v ≡ true → HeldBelow (entry ∷ held) → IsBelowRoot entry.0.1
   entry_below entry held own low =
-      low entry.0.1 (ap (λ t. is_some (cond t (Some entry.1) (held_at held v entry.0.1))) (same_place v entry.0.1 entry.0.0 entry.0.1 ∙ ap₂ (λ (one two : Bool). one && two) own (itself entry.0.1)))
+      low entry.0.1 (ap (λ t. is_some (cond t (Some entry.1) (held_at held v entry.0.1))) (same_view_path v entry.0.1 entry.0.0 entry.0.1 ∙ ap₂ (λ (one two : Bool). one && two) own (itself entry.0.1)))
 
   object_find : (name : List ℕ) → IsPath directory → IsName name → (held : Held) → HeldBelow held → find (slice_cmp nat_cmp) name (object_names b v directory held [])
       ≡ cond (is_some (held_at held v (path_in directory name))) (Some (seen_at name)) None
@@ -328,7 +328,7 @@ module _ (law : PartsJoin) (b : Base) (v directory : List ℕ) where
   object_find name path is (entry ∷ held) low =
       find_if (bytes_eq entry.0.0 v && bytes_eq (parent entry.0.1) directory) name (last_name entry.0.1) (at b v entry.0.1) (object_names b v directory held [])
       ∙ by_view (bytes_eq entry.0.0 v) refl (object_find name path is held (rest_below entry held low))
-      ∙ sym (ap (λ t. cond (is_some (cond t (Some entry.1) (held_at held v (path_in directory name)))) (Some (seen_at name)) None) (same_place v (path_in directory name) entry.0.0 entry.0.1))
+      ∙ sym (ap (λ t. cond (is_some (cond t (Some entry.1) (held_at held v (path_in directory name)))) (Some (seen_at name)) None) (same_view_path v (path_in directory name) entry.0.0 entry.0.1))
     where
       by_path : IsBelowRoot entry.0.1 → (t : Bool) → bytes_eq entry.0.1 (path_in directory name) ≡ t →
           find (slice_cmp nat_cmp) name (object_names b v directory held []) ≡ cond (is_some (held_at held v (path_in directory name))) (Some (seen_at name)) None →
@@ -395,9 +395,9 @@ module _ (law : PartsJoin) (b : Base) (v directory : List ℕ) where
         let parts = and_both (bytes_eq entry.0.0 v && bytes_eq (parent entry.0.1) directory) (bytes_eq name (last_name entry.0.1)) h in
         let two = and_both (bytes_eq entry.0.0 v) (bytes_eq (parent entry.0.1) directory) parts.0 in
         let given : was_given b v entry.0.1 b ≡ true =
-        all entry.0.1 (ap (λ t. is_some (cond t (Some entry.1) (held_at held' v entry.0.1))) (same_place v entry.0.1 entry.0.0 entry.0.1 ∙ ap₂ (λ (one two : Bool). one && two) two.0 (itself entry.0.1))) in
+        all entry.0.1 (ap (λ t. is_some (cond t (Some entry.1) (held_at held' v entry.0.1))) (same_view_path v entry.0.1 entry.0.0 entry.0.1 ∙ ap₂ (λ (one two : Bool). one && two) two.0 (itself entry.0.1))) in
         has.own entry.0.1 name given (lies_there law directory name entry.0.1 (has.below entry.0.1 given) two.1 parts.1))
-        (object_has name held' (λ path found. all path (some_if (eq_by_cmp place_cmp (v, path) entry.0) entry.1 (held_at held' v path) found)))
+        (object_has name held' (λ path found. all path (some_if (eq_by_cmp view_path_cmp (v, path) entry.0) entry.1 (held_at held' v path) found)))
 
     catalog_has : (name : List ℕ) (P : Type 0) (catalog : Catalog) (rest : Names) → is_some (find (slice_cmp nat_cmp) name (catalog_names b v directory catalog rest)) ≡ true →
         (is_some (named name catalog) ≡ true → P) → (is_some (find (slice_cmp nat_cmp) name rest) ≡ true → P) → P

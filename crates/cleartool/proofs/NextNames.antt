@@ -5,8 +5,8 @@ use Rattle.std.specs.Option.{option_map_or}
 use Rattle.std.proofs.lemmas.Bool.Decides.{nat_tests}
 use Rattle.cc_names.specs.Branches.{branch_of_version, names_of_branch}
 use Rattle.cc_names.specs.Formed.{Plain}
-use Rattle.cc_names.specs.Versions.{Version, branch_of_change, change_at, element_by, element_of_branch, latest, place, place_of, put_if, row_of_change, version_at, version_made, versions_on}
-use Rattle.cc_names.specs.declared.changes.Place.{Place}
+use Rattle.cc_names.specs.Versions.{Version, branch_of_change, change_at, element_by, element_of_branch, latest, version_id, version_id_of, put_if, row_of_change, version_at, version_made, versions_on}
+use Rattle.cc_names.specs.declared.changes.VersionId.{VersionId}
 use Rattle.cc_names.specs.declared.changes.TreeChange.{TreeChange}
 use Rattle.cc_names.specs.declared.changes.TreeChange.TheVariants.{ElementMade, BranchMade, VersionMade}
 use Rattle.cc_names.specs.declared.rows.Kind.TheVariants.{Directory}
@@ -15,7 +15,7 @@ use Rattle.cleartool.specs.Naming.{names_above, name_on, name_of_new}
 use Rattle.legal_history.specs.Base.Changes.{tree, with_checkin, with_version}
 use Rattle.legal_history.specs.Base.Rows.{Base, size}
 use Rattle.legal_history.specs.Base.Views.{Checkout, out}
-use Rattle.legal_history.specs.Queries.VersionNames.{behind_slashes, version_name, name_of_place}
+use Rattle.legal_history.specs.Queries.VersionNames.{behind_slashes, version_name, name_of_version_id}
 use Rattle.legal_history.proofs.Bases.Below.{Within, within, older_change}
 use Rattle.legal_history.proofs.Bases.TreesStay.{Adds, Nothing, One, adds_row}
 use Rattle.legal_history.proofs.Bases.VersionsStay.{apart_below, find_older}
@@ -94,27 +94,27 @@ newest_found (row ∷ older) branch v rest h = by (adds_row older row.moment row
         subst (λ cs. version_at cs v.row ≡ Some v) (sym same)
         (newest_by (size older) change (tree older) branch v rest number (within older) found (ap (λ cs. versions_on cs branch) (sym same) ∙ h))
 
--- What is known of the newest version of a branch: how many there are, by its place, and the element, if any.
-pub data Newest (b : Base) (branch : ℕ) : Option ℕ → Option Place → Type 0 where
+-- What is known of the newest version of a branch: how many there are, by its version id, and the element, if any.
+pub data Newest (b : Base) (branch : ℕ) : Option ℕ → Option VersionId → Type 0 where
   Empty : versions_on (tree b) branch ≡ [] → Newest b branch None None
-  Stands : (row : ℕ) (p : Place) → p.number + 1 ≡ length (versions_on (tree b) branch) → element_of_branch (tree b) branch ≡ Some p.element → Newest b branch (Some row) (Some p)
+  Stands : (row : ℕ) (p : VersionId) → p.number + 1 ≡ length (versions_on (tree b) branch) → element_of_branch (tree b) branch ≡ Some p.element → Newest b branch (Some row) (Some p)
   Alone : (row : ℕ) → element_of_branch (tree b) branch ≡ None → Newest b branch (Some row) None
 
-pub newest_of : (b : Base) (branch : ℕ) → Newest b branch (latest (tree b) branch None) (option_and_then (place (tree b)) (latest (tree b) branch None))
+pub newest_of : (b : Base) (branch : ℕ) → Newest b branch (latest (tree b) branch None) (option_and_then (version_id (tree b)) (latest (tree b) branch None))
 newest_of b branch = by (versions_on (tree b) branch) refl
   where
     owned : (v : Version) (rest : List Version) → versions_on (tree b) branch ≡ v ∷ rest → (o : Option ℕ) → element_of_branch (tree b) branch ≡ o →
-        Newest b branch (Some v.row) (option_map (place_of v) o)
+        Newest b branch (Some v.row) (option_map (version_id_of v) o)
     owned v rest is None none = Alone v.row none
-    owned v rest is (Some e) some = Stands v.row (place_of v e) (newest_is (tree b) branch v rest is).number some
+    owned v rest is (Some e) some = Stands v.row (version_id_of v e) (newest_is (tree b) branch v rest is).number some
 
-    by : (versions : List Version) → versions_on (tree b) branch ≡ versions → Newest b branch (latest (tree b) branch None) (option_and_then (place (tree b)) (latest (tree b) branch None))
+    by : (versions : List Version) → versions_on (tree b) branch ≡ versions → Newest b branch (latest (tree b) branch None) (option_and_then (version_id (tree b)) (latest (tree b) branch None))
     by [] is = rw is (Empty is)
     by (v ∷ rest) is =
         let row : latest (tree b) branch None ≡ Some v.row = rw is refl in
-        let at : place (tree b) v.row ≡ option_map (place_of v) (element_of_branch (tree b) branch) =
-        ap (option_and_then (λ v. option_map (place_of v) (element_of_branch (tree b) v.branch))) (newest_found b branch v rest is)
-        ∙ ap (λ n. option_map (place_of v) (element_of_branch (tree b) n)) (newest_is (tree b) branch v rest is).on in
+        let at : version_id (tree b) v.row ≡ option_map (version_id_of v) (element_of_branch (tree b) branch) =
+        ap (option_and_then (λ v. option_map (version_id_of v) (element_of_branch (tree b) v.branch))) (newest_found b branch v rest is)
+        ∙ ap (λ n. option_map (version_id_of v) (element_of_branch (tree b) n)) (newest_is (tree b) branch v rest is).on in
         rw (row, at) (owned v rest is (element_of_branch (tree b) branch) refl)
 
 -- ---- the version that a checkin makes
@@ -142,12 +142,12 @@ version_next row b branch moment low made = by (element_of_branch (tree b) branc
     names : names_of_branch (tree (row ∷ b)) branch ≡ names_of_branch (tree b) branch
     names = ap (λ cs. names_of_branch cs branch) made ∙ ap (λ is. elim is as (λ x. List (List ℕ)) [ true ↦ [] | false ↦ names_of_branch (tree b) branch ]) apart
 
-    stands : place (tree (row ∷ b)) (size b) ≡ option_map (place_of (version_made new count)) (element_of_branch (tree b) branch)
-    stands = ap (option_and_then (λ v. option_map (place_of v) (element_of_branch (tree (row ∷ b)) v.branch))) version ∙ ap (option_map (place_of (version_made new count))) owner
+    stands : version_id (tree (row ∷ b)) (size b) ≡ option_map (version_id_of (version_made new count)) (element_of_branch (tree b) branch)
+    stands = ap (option_and_then (λ v. option_map (version_id_of v) (element_of_branch (tree (row ∷ b)) v.branch))) version ∙ ap (option_map (version_id_of (version_made new count))) owner
 
     by : (o : Option ℕ) → element_of_branch (tree b) branch ≡ o → version_name (row ∷ b) (size b) ≡ name_on (tree b) branch o
-    by None is = ap (λ p. option_map_or (name_of_place (row ∷ b)) p []) (stands ∙ ap (option_map (place_of (version_made new count))) is)
-    by (Some e) is = ap (λ p. option_map_or (name_of_place (row ∷ b)) p []) (stands ∙ ap (option_map (place_of (version_made new count))) is)
+    by None is = ap (λ p. option_map_or (name_of_version_id (row ∷ b)) p []) (stands ∙ ap (option_map (version_id_of (version_made new count))) is)
+    by (Some e) is = ap (λ p. option_map_or (name_of_version_id (row ∷ b)) p []) (stands ∙ ap (option_map (version_id_of (version_made new count))) is)
         ∙ ap (λ names. behind_slashes (codes "main" ∷ names) ++ 47 ∷ decimal count) names
 
 -- a row that makes no change has made no version
@@ -156,8 +156,8 @@ no_version row b same = by (change_at (tree b) (size b)) refl
   where
     by : (o : Option TreeChange) → change_at (tree b) (size b) ≡ o → version_name (row ∷ b) (size b) ≡ []
     by None is =
-        ap (λ p. option_map_or (name_of_place (row ∷ b)) p []) (ap (λ cs. place cs (size b)) same
-        ∙ ap (λ o. option_and_then (λ v. option_map (place_of v) (element_of_branch (tree b) v.branch)) (option_and_then (λ c. find (λ v. v.row == size b) (versions_on (tree b) (branch_of_change c))) o)) is)
+        ap (λ p. option_map_or (name_of_version_id (row ∷ b)) p []) (ap (λ cs. version_id cs (size b)) same
+        ∙ ap (λ o. option_and_then (λ v. option_map (version_id_of v) (element_of_branch (tree b) v.branch)) (option_and_then (λ c. find (λ v. v.row == size b) (versions_on (tree b) (branch_of_change c))) o)) is)
     by (Some c) is = let low = (within b).numbers (size b) c is in absurd (omega arith)
 
 -- no version stands on a branch that no row made yet
@@ -184,7 +184,7 @@ none_on (row ∷ older) branch past =
 pub version_first : (row : Plain) (b : Base) (moment e origin : ℕ) (name : List ℕ) → tree (row ∷ b) ≡ BranchMade (size b) moment e origin name ∷ tree b →
     version_name (row ∷ b) (size b) ≡ name_of_new (tree b) (branch_of_version (tree b) origin) name
 version_first row b moment e origin name made =
-    ap (λ p. option_map_or (name_of_place (row ∷ b)) p []) stands
+    ap (λ p. option_map_or (name_of_version_id (row ∷ b)) p []) stands
     ∙ ap₂ (λ names n. behind_slashes (codes "main" ∷ names) ++ 47 ∷ decimal n) names (ap length (none_on b (size b) (omega arith)))
   where
     new : TreeChange
@@ -206,8 +206,8 @@ version_first row b moment e origin name made =
     names = ap (λ cs. names_of_branch cs (size b)) made
         ∙ ap (λ is. elim is as (λ x. List (List ℕ)) [ true ↦ names_above (tree b) (branch_of_version (tree b) origin) ++ name ∷ [] | false ↦ names_of_branch (tree b) (size b) ]) same
 
-    stands : place (tree (row ∷ b)) (size b) ≡ Some (place_of (version_made new count) e)
-    stands = ap (option_and_then (λ v. option_map (place_of v) (element_of_branch (tree (row ∷ b)) v.branch))) version ∙ ap (option_map (place_of (version_made new count))) owner
+    stands : version_id (tree (row ∷ b)) (size b) ≡ Some (version_id_of (version_made new count) e)
+    stands = ap (option_and_then (λ v. option_map (version_id_of v) (element_of_branch (tree (row ∷ b)) v.branch))) version ∙ ap (option_map (version_id_of (version_made new count))) owner
 
 -- ---- how many versions there may be
 

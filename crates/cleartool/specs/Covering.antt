@@ -3,7 +3,7 @@ use Rattle.std.specs.Prelude.{ℕ, suc, Bool, true, false, not, max, cond, Optio
 use Rattle.std.specs.Cmp.Lexicographic.{slice_cmp}
 use Rattle.std.specs.Ordering.{is_lt, nat_cmp}
 use Rattle.cc_names.specs.declared.rows.ReadOf.{ReadOf}
-use Rattle.legal_history.specs.Base.Closures.{Sources, closure, is_publish, sources_of_entry}
+use Rattle.legal_history.specs.Base.Closures.{Inputs, closure, is_publish, inputs_of_entry}
 use Rattle.legal_history.specs.Base.Rows.{Base, only_where}
 use Rattle.legal_history.specs.Base.Seen.{file_at}
 use Rattle.legal_history.specs.Builds.Reuse.{agrees}
@@ -22,10 +22,10 @@ lesser (Some one) (Some two) = Some (lower one two)
 abbrev pub missed : Base → List ℕ → List ℕ → ℕ → Option (List ℕ)
 missed b v path row = only_where (not (agrees row (file_at b v path))) (Some path)
 
--- the least path among sources at which the view sees another row
-abbrev pub least_in : Base → List ℕ → Sources → Option (List ℕ)
+-- the least path among inputs at which the view sees another row
+abbrev pub least_in : Base → List ℕ → Inputs → Option (List ℕ)
 least_in b v [] = None
-least_in b v (source ∷ sources) = lesser (missed b v source.0.0 source.1) (least_in b v sources)
+least_in b v (input ∷ inputs) = lesser (missed b v input.0.0 input.1) (least_in b v inputs)
 
 -- the same of what an object rests on
 abbrev pub least_of : Base → List ℕ → ℕ → Option (List ℕ)
@@ -38,7 +38,7 @@ least_of_all b v (id ∷ ids) = lesser (least_of b v id) (least_of_all b v ids)
 
 -- of an entry of a record
 abbrev pub least_of_entry : Base → List ℕ → ReadOf → Option (List ℕ)
-least_of_entry b v entry = least_in b v (sources_of_entry (is_publish b entry.row) (closure b) entry)
+least_of_entry b v entry = least_in b v (inputs_of_entry (is_publish b entry.row) (closure b) entry)
 
 -- of some entries
 abbrev pub least_of_entries : Base → List ℕ → List ReadOf → Option (List ℕ)

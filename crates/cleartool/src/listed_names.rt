@@ -60,7 +60,8 @@ fn add_inside(
 }
 
 /// The names that may stand in a directory as a view sees it: those that were given there, and those of the paths in it at which
-/// the view ever had a private file or an object. Takes the time of `names_given` and of `paths_owned`, and time linear in these paths.
+/// the view ever had a private file or an object. Takes the time of `names_given` and of `paths_owned`, and time linear in these
+/// paths.
 pub(crate) fn names_in(
     alloc: Global,
     rows: &FirstRows<'_>,

@@ -12,7 +12,7 @@ use cc_names::memory::NoMemory;
 use cc_names::numbers::push_number;
 use cc_names::rows::Deed;
 use std::alloc::Global;
-use view_lookup::{FirstRows, place_of, row_at};
+use view_lookup::{FirstRows, row_at, version_id_of};
 
 /// The word for a row that made no version.
 fn row_word(rows: &FirstRows<'_>, row: u64) -> &'static [u8]
@@ -55,7 +55,7 @@ pub(crate) fn push_row_name(
 ) -> Result<(), NoMemory>
     ensures { OnOk result (text.new.items ≡ text.old.items ++ row_name rows.now path.now row) }
 {
-    match place_of(rows, row) {
+    match version_id_of(rows, row) {
         None => push_by_word(alloc, text, path, row_word(rows, row), row),
         Some(_) => {
             let name = version_name(alloc, rows, row)?;

@@ -18,7 +18,7 @@ use cc_names::texts::Text;
 use std::alloc::Global;
 use view_lookup::{
     FirstRows, branch_of_version, checked_out, first_rows, latest_version, name_of_branch,
-    origin_of, place_of,
+    origin_of, version_id_of,
 };
 
 /// The branch that a branch leaves; `main` leaves none.
@@ -142,11 +142,11 @@ fn nothing(alloc: Global) -> Text
 pub fn version_name(alloc: Global, rows: &FirstRows<'_>, version: u64) -> Result<Text, NoMemory>
     ensures { IfOk result (λ text. text ≡ version_name rows.now version) }
 {
-    match place_of(rows, version) {
+    match version_id_of(rows, version) {
         None => Ok(nothing(alloc)),
-        Some(place) => {
-            let branch = branch_text(alloc, rows, Some(place.branch))?;
-            numbered(alloc, branch, place.number)
+        Some(version_id) => {
+            let branch = branch_text(alloc, rows, Some(version_id.branch))?;
+            numbered(alloc, branch, version_id.number)
         }
     }
 }
@@ -178,11 +178,11 @@ fn name_on(alloc: Global, rows: &FirstRows<'_>, branch: u64) -> Result<Text, NoM
     let Some(newest) = latest_version(rows, branch, None) else {
         return Ok(nothing(alloc));
     };
-    match place_of(rows, newest) {
+    match version_id_of(rows, newest) {
         None => Ok(nothing(alloc)),
-        Some(place) => {
+        Some(version_id) => {
             let branch = branch_text(alloc, rows, Some(branch))?;
-            numbered(alloc, branch, place.number + 1)
+            numbered(alloc, branch, version_id.number + 1)
         }
     }
 }

@@ -91,9 +91,9 @@ fn verdict<S: Sources>(
     }
 }
 
-/// Picks the version of an element at the path of these bytes from what there is: that of the first rule whose pattern matches the
-/// path and whose selector finds a version, or none where such a rule is `-none` first. Takes no memory, and for each rule tried
-/// the matching of the path and one query, for a rule that names a branch two for each of its names.
+/// Picks the version of an element at the path of these bytes from what there is: that of the first rule whose pattern matches
+/// the path and whose selector finds a version, or none where such a rule is `-none` first. Takes no memory, and for each rule
+/// tried the matching of the path and one query, for a rule that names a branch two for each of its names.
 pub fn pick_from<S: Sources>(sources: &S, spec: &Spec, element: u64, path: &[u8]) -> Option<Picked>
     ensures { result
         ≡ pick (S.selectables sources.now) element (names_of path.now) spec.now }
@@ -106,9 +106,9 @@ pub fn pick_from<S: Sources>(sources: &S, spec: &Spec, element: u64, path: &[u8]
     None
 }
 
-/// Picks the version of an element at a path in the first `rows` rows, as `pick_from` does. `out` is the row that makes the text of
-/// the view's checkout, where it has one. Takes no memory, and for each rule tried the matching of the path and the look-up of a
-/// version: logarithmic in the versions, but for a rule with a time linear in those that are not before it (`Tree::latest`),
+/// Picks the version of an element at a path in the first `rows` rows, as `pick_from` does. `out` is the row that makes the text
+/// of the view's checkout, where it has one. Takes no memory, and for each rule tried the matching of the path and the look-up of
+/// a version: logarithmic in the versions, but for a rule with a time linear in those that are not before it (`Tree::latest`),
 /// and for one of a record linear in what the record lists (`Rolls`).
 pub fn pick(
     tree: &Tree,

@@ -89,10 +89,7 @@ impl Rolls {
             targets: List::of(targets),
             listed: List::of(listed),
         };
-        match self.rolls.push(roll) {
-            Ok(()) => {}
-            Err(_) => unreachable!(),
-        }
+        self.rolls.push_reserved(roll);
     }
 
     /// The version of the element that the record of an object with this target lists, where the object is among the

@@ -8,7 +8,7 @@ use Rattle.disk_model.specs.Files.{overwritten}
 use Rattle.disk_model.specs.Records.{failing, recorded, device_of, called}
 use Rattle.disk_model.specs.Told.{CountsFailures}
 use Rattle.disk_model.specs.declared.calls.Call.TheVariants as calls
-use Rattle.disk_model.specs.declared.calls.Entry.{Entry}
+use Rattle.disk_model.specs.declared.calls.TracedCall.{TracedCall}
 
 at_most_one : (failed : Bool) → (if failed then 1 else 0) ≤ 1
 at_most_one true = omega arith
@@ -38,21 +38,21 @@ unmade_counts ticks faults d counts ticked end fits = record {
   no_other = λ later. absurd (omega (arith, later, end));
 }
 
--- the device of a record with one entry more, which names all calls that failed since the last
-pub recorded_more : (journal objects : List ℕ) (entries more : List Entry) (failed : ℕ) (entry : Entry) → more ≡ entries ++ entry ∷ [] → entry.failed_before ≡ failed
-    → device_of journal objects more 0 ≡ called entry.call (device_of journal objects entries failed)
-recorded_more journal objects entries more failed entry is before =
-    ap (fold recorded (uncalled journal objects)) is ∙ fold-append recorded (uncalled journal objects) entries (entry ∷ [])
-    ∙ ap (λ n. called entry.call (failing n (fold recorded (uncalled journal objects) entries))) before
+-- the device of a trace with one call more, which names all calls that failed since the last
+pub recorded_more : (journal objects : List ℕ) (trace more : List TracedCall) (failed : ℕ) (traced : TracedCall) → more ≡ trace ++ traced ∷ [] → traced.failed_before ≡ failed
+    → device_of journal objects more 0 ≡ called traced.call (device_of journal objects trace failed)
+recorded_more journal objects trace more failed traced is before =
+    ap (fold recorded (uncalled journal objects)) is ∙ fold-append recorded (uncalled journal objects) trace (traced ∷ [])
+    ∙ ap (λ n. called traced.call (failing n (fold recorded (uncalled journal objects) trace))) before
 
 -- a call more failed and changed nothing
-pub missed_replayed : (journal objects : List ℕ) (entries : List Entry) (failed : ℕ) (now_journal now_objects : List ℕ) (ticks faults faults' : ℕ)
-    → IsReplayed (device_of journal objects entries failed) now_journal now_objects ticks faults → faults' ≡ next_count faults → ticks < 2 ^ 64 - 1
-    → IsReplayed (device_of journal objects entries (failed + 1)) now_journal now_objects (ticks + 1) faults'
-missed_replayed journal objects entries failed now_journal now_objects ticks faults faults' was rose more =
-    let d = device_of journal objects entries failed in
+pub missed_replayed : (journal objects : List ℕ) (trace : List TracedCall) (failed : ℕ) (now_journal now_objects : List ℕ) (ticks faults faults' : ℕ)
+    → IsReplayed (device_of journal objects trace failed) now_journal now_objects ticks faults → faults' ≡ next_count faults → ticks < 2 ^ 64 - 1
+    → IsReplayed (device_of journal objects trace (failed + 1)) now_journal now_objects (ticks + 1) faults'
+missed_replayed journal objects trace failed now_journal now_objects ticks faults faults' was rose more =
+    let d = device_of journal objects trace failed in
     let number : failed + 1 ≡ suc failed = omega arith in
-    let one : device_of journal objects entries (failed + 1) ≡ added Failed d = ap (device_of journal objects entries) number in
+    let one : device_of journal objects trace (failed + 1) ≡ added Failed d = ap (device_of journal objects trace) number in
     subst (λ e. IsReplayed e now_journal now_objects (ticks + 1) faults') (sym one)
     (record {
       journal_reads = was.journal_reads;
@@ -72,19 +72,19 @@ torn_files (suc zero) place size landed now_journal now_objects d within journal
 torn_files (suc (suc n)) place size landed now_journal now_objects d within journal objects = absurd (omega (arith, within))
 
 -- a write failed
-pub torn_replayed : (journal objects : List ℕ) (entries more : List Entry) (entry : Entry) (failed : ℕ) (now_journal now_objects now_journal' now_objects' : List ℕ) (file place lost : ℕ) (landed : List ℕ) (ticks faults faults' : ℕ)
-    → IsReplayed (device_of journal objects entries failed) now_journal now_objects ticks faults → more ≡ entries ++ entry ∷ [] → entry.failed_before ≡ failed
-    → entry.call ≡ calls.Tear file place landed lost → file ≤ 1
+pub torn_replayed : (journal objects : List ℕ) (trace more : List TracedCall) (traced : TracedCall) (failed : ℕ) (now_journal now_objects now_journal' now_objects' : List ℕ) (file place lost : ℕ) (landed : List ℕ) (ticks faults faults' : ℕ)
+    → IsReplayed (device_of journal objects trace failed) now_journal now_objects ticks faults → more ≡ trace ++ traced ∷ [] → traced.failed_before ≡ failed
+    → traced.call ≡ calls.Tear file place landed lost → file ≤ 1
     → now_journal' ≡ (if file == 0 then overwritten place landed now_journal else now_journal)
     → now_objects' ≡ (if file == 0 then now_objects else overwritten place landed now_objects)
     → faults' ≡ next_count faults → ticks < 2 ^ 64 - 1
     → IsReplayed (device_of journal objects more 0) now_journal' now_objects' (ticks + 1) faults'
-torn_replayed journal objects entries more entry failed now_journal now_objects now_journal' now_objects' file place lost landed ticks faults faults' was is before call within wrote other rose room =
-    let d = device_of journal objects entries failed in
+torn_replayed journal objects trace more traced failed now_journal now_objects now_journal' now_objects' file place lost landed ticks faults faults' was is before call within wrote other rose room =
+    let d = device_of journal objects trace failed in
     let event = Tore file place (length landed + lost) (overwritten place landed (bytes_of file d)) in
     let files = torn_files file place (length landed + lost) landed now_journal now_objects d within was.journal_reads was.objects_read in
     let made : device_of journal objects more 0 ≡ added event d =
-    recorded_more journal objects entries more failed entry is before ∙ ap (λ c. called c d) call in
+    recorded_more journal objects trace more failed traced is before ∙ ap (λ c. called c d) call in
     subst (λ e. IsReplayed e now_journal' now_objects' (ticks + 1) faults') (sym made)
     (record {
       journal_reads = wrote ∙ files.0;

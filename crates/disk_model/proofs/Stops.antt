@@ -1,4 +1,4 @@
--- What stops leave, along the record of calls.
+-- What stops leave, along the trace of calls.
 use Rattle.std.proofs.Common.{◌≡◌, ◌<◌, ◌≤◌, ◌+◌, ◌⊎◌, ℕ, zero, suc, List, [], ◌∷◌, length, refl, sym, ◌∙◌, ap, subst, inl, inr, arith, fold, take, drop, ◌-◌, get_or}
 use Rattle.std.proofs.lemmas.List.{take-append-drop, take_more, take_all}
 use Rattle.std.proofs.lemmas.List.Sums.{fold-append}
@@ -6,7 +6,7 @@ use Rattle.disk_model.specs.Files.{IsImage}
 use Rattle.disk_model.specs.Devices.{Device, uncalled, file_of, during, after, Leaves, MayLeave}
 use Rattle.disk_model.specs.Records.{failing, event_of, recorded, device_of}
 use Rattle.disk_model.specs.Picks.{IsPicture}
-use Rattle.disk_model.specs.declared.calls.Entry.{Entry}
+use Rattle.disk_model.specs.declared.calls.TracedCall.{TracedCall}
 
 pub length_failing : (n : ℕ) (d : Device) → length (failing n d).calls ≡ n + length d.calls
 length_failing zero d = omega arith
@@ -40,75 +40,75 @@ pub leaves_failing : (file n : ℕ) (d : Device) (k : ℕ) (image : List ℕ) �
 leaves_failing file zero d k image left = left
 leaves_failing file (suc n) d k image left = inr (leaves_failing file n d k image left)
 
-pub leaves_recorded : (file : ℕ) (entry : Entry) (d : Device) (k : ℕ) (image : List ℕ) → Leaves file d k image → Leaves file (recorded d entry) k image
-leaves_recorded file entry d k image left = inr (leaves_failing file entry.failed_before d k image left)
+pub leaves_recorded : (file : ℕ) (traced : TracedCall) (d : Device) (k : ℕ) (image : List ℕ) → Leaves file d k image → Leaves file (recorded d traced) k image
+leaves_recorded file traced d k image left = inr (leaves_failing file traced.failed_before d k image left)
 
-pub leaves_later : (file : ℕ) (entries : List Entry) (d : Device) (k : ℕ) (image : List ℕ) → Leaves file d k image → Leaves file (fold recorded d entries) k image
+pub leaves_later : (file : ℕ) (trace : List TracedCall) (d : Device) (k : ℕ) (image : List ℕ) → Leaves file d k image → Leaves file (fold recorded d trace) k image
 leaves_later file [] d k image left = left
-leaves_later file (entry ∷ entries) d k image left = leaves_later file entries (recorded d entry) k image (leaves_recorded file entry d k image left)
+leaves_later file (traced ∷ trace) d k image left = leaves_later file trace (recorded d traced) k image (leaves_recorded file traced d k image left)
 
--- the record, cut at an entry
-pub cut_at : (journal objects : List ℕ) (entries : List Entry) (i failed : ℕ)
-    → device_of journal objects entries failed ≡ failing failed (fold recorded (device_of journal objects (take i entries) 0) (drop i entries))
-cut_at journal objects entries i failed =
-    ap (λ es. device_of journal objects es failed) (sym (take-append-drop i entries))
-    ∙ ap (failing failed) (fold-append recorded (uncalled journal objects) (take i entries) (drop i entries))
+-- the device of a trace, cut at a call of it
+pub cut_at : (journal objects : List ℕ) (trace : List TracedCall) (i failed : ℕ)
+    → device_of journal objects trace failed ≡ failing failed (fold recorded (device_of journal objects (take i trace) 0) (drop i trace))
+cut_at journal objects trace i failed =
+    ap (λ es. device_of journal objects es failed) (sym (take-append-drop i trace))
+    ∙ ap (failing failed) (fold-append recorded (uncalled journal objects) (take i trace) (drop i trace))
 
--- a stop among the first entries leaves what it left
-pub leaves_in_all : (file : ℕ) (journal objects : List ℕ) (entries : List Entry) (i failed k : ℕ) (image : List ℕ)
-    → Leaves file (device_of journal objects (take i entries) 0) k image → MayLeave file (device_of journal objects entries failed) k image
-leaves_in_all file journal objects entries i failed k image left =
-    let d = device_of journal objects (take i entries) 0 in
-    inl (subst (λ e. Leaves file e k image) (sym (cut_at journal objects entries i failed))
-    (leaves_failing file failed (fold recorded d (drop i entries)) k image (leaves_later file (drop i entries) d k image left)))
+-- a stop among the first traced calls leaves what it left
+pub leaves_in_all : (file : ℕ) (journal objects : List ℕ) (trace : List TracedCall) (i failed k : ℕ) (image : List ℕ)
+    → Leaves file (device_of journal objects (take i trace) 0) k image → MayLeave file (device_of journal objects trace failed) k image
+leaves_in_all file journal objects trace i failed k image left =
+    let d = device_of journal objects (take i trace) 0 in
+    inl (subst (λ e. Leaves file e k image) (sym (cut_at journal objects trace i failed))
+    (leaves_failing file failed (fold recorded d (drop i trace)) k image (leaves_later file (drop i trace) d k image left)))
 
--- the device after one entry more
-pub device_more : (journal objects : List ℕ) (entries : List Entry) (i : ℕ) (entry : Entry) → i < length entries → entry ≡ get_or entries i entry
-    → device_of journal objects (take (i + 1) entries) 0 ≡ recorded (device_of journal objects (take i entries) 0) entry
-device_more journal objects entries i entry within is =
-    ap (fold recorded (uncalled journal objects)) (take_more entries i entry within)
-    ∙ fold-append recorded (uncalled journal objects) (take i entries) (get_or entries i entry ∷ [])
-    ∙ ap (recorded (device_of journal objects (take i entries) 0)) (sym is)
+-- the device after one traced call more
+pub device_more : (journal objects : List ℕ) (trace : List TracedCall) (i : ℕ) (traced : TracedCall) → i < length trace → traced ≡ get_or trace i traced
+    → device_of journal objects (take (i + 1) trace) 0 ≡ recorded (device_of journal objects (take i trace) 0) traced
+device_more journal objects trace i traced within is =
+    ap (fold recorded (uncalled journal objects)) (take_more trace i traced within)
+    ∙ fold-append recorded (uncalled journal objects) (take i trace) (get_or trace i traced ∷ [])
+    ∙ ap (recorded (device_of journal objects (take i trace) 0)) (sym is)
 
-module _ (file : ℕ) (journal objects : List ℕ) (entries : List Entry) (i failed call made : ℕ) (entry : Entry) (bytes image : List ℕ)
-    (within : i < length entries) (is : entry ≡ get_or entries i entry)
-    (picture : IsPicture (file_of file (device_of journal objects (take i entries) 0)) bytes image)
-    (count : made ≡ length (device_of journal objects (take i entries) 0).calls) where
-  in_entry : (other : List ℕ) → Leaves file (recorded (device_of journal objects (take i entries) 0) entry) call other
-      → MayLeave file (device_of journal objects entries failed) call other
-  in_entry other left = leaves_in_all file journal objects entries (i + 1) failed call other
-      (subst (λ e. Leaves file e call other) (sym (device_more journal objects entries i entry within is)) left)
+module _ (file : ℕ) (journal objects : List ℕ) (trace : List TracedCall) (i failed call made : ℕ) (traced : TracedCall) (bytes image : List ℕ)
+    (within : i < length trace) (is : traced ≡ get_or trace i traced)
+    (picture : IsPicture (file_of file (device_of journal objects (take i trace) 0)) bytes image)
+    (count : made ≡ length (device_of journal objects (take i trace) 0).calls) where
+  in_traced : (other : List ℕ) → Leaves file (recorded (device_of journal objects (take i trace) 0) traced) call other
+      → MayLeave file (device_of journal objects trace failed) call other
+  in_traced other left = leaves_in_all file journal objects trace (i + 1) failed call other
+      (subst (λ e. Leaves file e call other) (sym (device_more journal objects trace i traced within is)) left)
 
-  -- a stop within a call that failed before the entry's own
-  pub stop_before : made < call → call - made ≤ entry.failed_before → MayLeave file (device_of journal objects entries failed) call image
-  stop_before before most = in_entry image
-      (inr (stop_failing file entry.failed_before (device_of journal objects (take i entries) 0) call image picture.picked (omega arith) (omega arith)))
+  -- a stop within a call that failed before the traced one
+  pub stop_before : made < call → call - made ≤ traced.failed_before → MayLeave file (device_of journal objects trace failed) call image
+  stop_before before most = in_traced image
+      (inr (stop_failing file traced.failed_before (device_of journal objects (take i trace) 0) call image picture.picked (omega arith) (omega arith)))
 
-  -- the picture before the entry's own call
-  pub picture_failed : IsPicture (file_of file (failing entry.failed_before (device_of journal objects (take i entries) 0))) bytes image
-  picture_failed = subst (λ s. IsPicture s bytes image) (sym (file_failing file entry.failed_before (device_of journal objects (take i entries) 0))) picture
+  -- the picture before the traced call
+  pub picture_failed : IsPicture (file_of file (failing traced.failed_before (device_of journal objects (take i trace) 0))) bytes image
+  picture_failed = subst (λ s. IsPicture s bytes image) (sym (file_failing file traced.failed_before (device_of journal objects (take i trace) 0))) picture
 
-  -- a stop within the entry's own call
-  pub stop_at : (bytes' image' : List ℕ) → made + (entry.failed_before + 1) ≡ call
-      → ((d : Device) → IsPicture (file_of file d) bytes image → IsPicture (during file (event_of entry.call d) (file_of file d)) bytes' image')
-      → MayLeave file (device_of journal objects entries failed) call image'
+  -- a stop within the traced call
+  pub stop_at : (bytes' image' : List ℕ) → made + (traced.failed_before + 1) ≡ call
+      → ((d : Device) → IsPicture (file_of file d) bytes image → IsPicture (during file (event_of traced.call d) (file_of file d)) bytes' image')
+      → MayLeave file (device_of journal objects trace failed) call image'
   stop_at bytes' image' last entered =
-      let d = device_of journal objects (take i entries) 0 in
-      let after_it = entered (failing entry.failed_before d) picture_failed in
-      in_entry image' (inl (omega (arith, length_failing entry.failed_before d), after_it.picked))
+      let d = device_of journal objects (take i trace) 0 in
+      let after_it = entered (failing traced.failed_before d) picture_failed in
+      in_traced image' (inl (omega (arith, length_failing traced.failed_before d), after_it.picked))
 
-  -- the picture after the entry
+  -- the picture after the traced call
   pub picture_more : (bytes' image' : List ℕ)
-      → ((d : Device) → IsPicture (file_of file d) bytes image → IsPicture (after file (event_of entry.call d) (file_of file d)) bytes' image')
-      → IsPicture (file_of file (device_of journal objects (take (i + 1) entries) 0)) bytes' image'
-      × (made + (entry.failed_before + 1) ≡ length (device_of journal objects (take (i + 1) entries) 0).calls)
+      → ((d : Device) → IsPicture (file_of file d) bytes image → IsPicture (after file (event_of traced.call d) (file_of file d)) bytes' image')
+      → IsPicture (file_of file (device_of journal objects (take (i + 1) trace) 0)) bytes' image'
+      × (made + (traced.failed_before + 1) ≡ length (device_of journal objects (take (i + 1) trace) 0).calls)
   picture_more bytes' image' gone_over =
-      let d = device_of journal objects (take i entries) 0 in
-      subst (λ e. IsPicture (file_of file e) bytes' image' × (made + (entry.failed_before + 1) ≡ length e.calls))
-      (sym (device_more journal objects entries i entry within is))
-      (gone_over (failing entry.failed_before d) picture_failed, omega (arith, length_failing entry.failed_before d))
+      let d = device_of journal objects (take i trace) 0 in
+      subst (λ e. IsPicture (file_of file e) bytes' image' × (made + (traced.failed_before + 1) ≡ length e.calls))
+      (sym (device_more journal objects trace i traced within is))
+      (gone_over (failing traced.failed_before d) picture_failed, omega (arith, length_failing traced.failed_before d))
 
--- a stop behind the last entry
+-- a stop behind the last traced call
 pub stop_behind : (file : ℕ) (d : Device) (failed call : ℕ) (image : List ℕ) → IsImage (file_of file d) image → length d.calls < call
     → call ≤ length (failing failed d).calls + 1 → MayLeave file (failing failed d) call image
 stop_behind file d failed call image is_image above most =
@@ -118,12 +118,12 @@ stop_behind file d failed call image is_image above most =
       | inr last ↦ inr (omega (arith, last, length_failing failed d), subst (λ s. IsImage s image) (sym (file_failing file failed d)) is_image)
     ]
 
-pub stop_in_all : (file : ℕ) (journal objects : List ℕ) (entries : List Entry) (i failed call made : ℕ) (bytes image : List ℕ)
-    → length entries ≤ i → IsPicture (file_of file (device_of journal objects (take i entries) 0)) bytes image
-    → made ≡ length (device_of journal objects (take i entries) 0).calls → made < call
-    → call ≤ length (device_of journal objects entries failed).calls + 1 → MayLeave file (device_of journal objects entries failed) call image
-stop_in_all file journal objects entries i failed call made bytes image end picture count before most =
-    let all : take i entries ≡ entries = take_all i entries end in
+pub stop_in_all : (file : ℕ) (journal objects : List ℕ) (trace : List TracedCall) (i failed call made : ℕ) (bytes image : List ℕ)
+    → length trace ≤ i → IsPicture (file_of file (device_of journal objects (take i trace) 0)) bytes image
+    → made ≡ length (device_of journal objects (take i trace) 0).calls → made < call
+    → call ≤ length (device_of journal objects trace failed).calls + 1 → MayLeave file (device_of journal objects trace failed) call image
+stop_in_all file journal objects trace i failed call made bytes image end picture count before most =
+    let all : take i trace ≡ trace = take_all i trace end in
     let picked = subst (λ es. IsImage (file_of file (device_of journal objects es 0)) image) all picture.picked in
     let counted = subst (λ es. made ≡ length (device_of journal objects es 0).calls) all count in
-    stop_behind file (device_of journal objects entries 0) failed call image picked (omega arith) most
+    stop_behind file (device_of journal objects trace 0) failed call image picked (omega arith) most

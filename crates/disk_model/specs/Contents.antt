@@ -3,7 +3,7 @@ use Rattle.std.specs.Prelude.{◌≡◌, ℕ, ◌^◌, ◌<◌, List, length}
 use Rattle.disk_model.specs.Devices.{Device, bytes_of}
 use Rattle.disk_model.specs.Told.{CountsFailures}
 
--- both files read as the record says, and there is a tick for each call of it, and a fault for each that failed
+-- both files read as the trace says, and there is a tick for each call of it, and a fault for each that failed
 pub record IsReplayed (d : Device) (journal objects : List ℕ) (ticks faults : ℕ) : Type 0 where
   pub journal_reads : journal ≡ bytes_of 0 d
   pub objects_read : objects ≡ bytes_of 1 d

@@ -7,7 +7,7 @@ use Rattle.disk_model.specs.declared.memory.MemoryDisk.{MemoryDisk}
 
 -- the device that it tells
 abbrev pub told_by : MemoryDisk → Device
-told_by disk = device_of disk.first.journal.items disk.first.objects.items disk.entries.items disk.failed
+told_by disk = device_of disk.first.journal.items disk.first.objects.items disk.trace.items disk.failed
 
 -- what contracts see of it
 abbrev pub sight_of : MemoryDisk → Sight

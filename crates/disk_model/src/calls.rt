@@ -1,4 +1,4 @@
-// The record of device calls that a disk in memory keeps.
+// The trace of device calls that a disk in memory keeps.
 
 use cc_names::texts::Text;
 
@@ -31,9 +31,9 @@ pub enum Call {
     },
 }
 
-/// A call that did something, and how many calls directly before it failed and changed nothing.
+/// A call that did something, and how many calls directly before it failed and changed nothing: one call of a trace.
 #[derive(Debug, Drop)]
-pub struct Entry {
+pub struct TracedCall {
     pub failed_before: u64,
     pub call: Call,
 }

@@ -1,4 +1,4 @@
-// The images of a file that a stop may leave, made by going over the record of calls.
+// The images of a file that a stop may leave, made by going over the trace of calls.
 
 ghost use Rattle.std.specs.Prelude.{ℕ, List, ◌≡◌, ◌≤◌, ◌<◌, ◌+◌, length, take, IfOk, OnOk, OnErr, fold};
 ghost use Rattle.disk_model.specs.Files.{overwritten, IsImage};
@@ -6,7 +6,7 @@ ghost use Rattle.disk_model.specs.Devices.{Device, uncalled, first_of, file_of, 
 ghost use Rattle.disk_model.specs.Records.{device_of};
 ghost use Rattle.disk_model.specs.Picks.{IsPicture};
 
-use crate::calls::{Call, Entry};
+use crate::calls::{Call, TracedCall};
 use cc_names::memory::NoMemory;
 use cc_names::texts::Text;
 use std::alloc::{AllocError, Global};
@@ -168,11 +168,11 @@ pub(crate) fn overwrite(bytes: &mut Vec<u8>, place: u64, piece: &[u8]) -> Result
     Ok(())
 }
 
-/// One image that a stop at a call of this record may leave of a file, in time linear in the record.
+/// One image that a stop at a call of this trace may leave of a file, in time linear in its calls.
 pub(crate) fn image_of(
     alloc: Global,
     first: &[u8],
-    entries: &[Entry],
+    trace: &[TracedCall],
     file: u8,
     call: u64,
     keep: Keep,
@@ -182,21 +182,21 @@ pub(crate) fn image_of(
         (λ image.
         (journal objects : List ℕ) (failed : ℕ)
         → first_of file (uncalled journal objects) ≡ first.now
-        → call ≤ length (device_of journal objects entries.now failed).calls + 1
-        → MayLeave file (device_of journal objects entries.now failed) call image.items) }
+        → call ≤ length (device_of journal objects trace.now failed).calls + 1
+        → MayLeave file (device_of journal objects trace.now failed) call image.items) }
 {
     let mut picture = Picture::of(alloc, first)?;
     let mut made = 0u64;
-    for entry in entries {
-        if call - made <= entry.failed_before {
+    for traced in trace {
+        if call - made <= traced.failed_before {
             return Ok(picture.image);
         }
-        made += entry.failed_before + 1;
+        made += traced.failed_before + 1;
         if made == call {
-            picture.enter(alloc, keep, file, &entry.call)?;
+            picture.enter(alloc, keep, file, &traced.call)?;
             return Ok(picture.image);
         }
-        picture.go_over(alloc, keep, file, &entry.call)?;
+        picture.go_over(alloc, keep, file, &traced.call)?;
     }
     Ok(picture.image)
 }

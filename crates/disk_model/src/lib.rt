@@ -17,7 +17,7 @@ mod images;
 mod memory;
 mod named;
 
-pub use calls::{Call, Entry};
+pub use calls::{Call, TracedCall};
 pub use cc_names::steps::Counts;
 pub use disk::{Disk, DiskFault};
 pub use files::{FileDisk, Trouble};

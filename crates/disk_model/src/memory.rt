@@ -6,7 +6,7 @@ ghost use Rattle.disk_model.specs.Contents.{IsReplayed};
 ghost use Rattle.disk_model.specs.Counting.{next_count};
 
 use crate::Counts;
-use crate::calls::{Call, Entry};
+use crate::calls::{Call, TracedCall};
 use crate::disk::{Disk, DiskFault};
 use crate::images::{Keep, image_of, overwrite};
 use cc_names::memory::NoMemory;
@@ -58,21 +58,21 @@ impl Contents {
     }
 }
 
-/// A disk in memory, which tells all that was done to it and keeps a record of all its calls. It grows as it is written,
-/// and so does its record; each call for which there is no memory is a fault that changes nothing.
+/// A disk in memory, which tells all that was done to it and keeps a trace of all its calls. It grows as it is written,
+/// and so does its trace; each call for which there is no memory is a fault that changes nothing.
 #[derive(Drop)]
 pub struct MemoryDisk {
     alloc: Global,
     first: Contents,
     current: Contents,
     fail: Vec<u64>,
-    entries: Vec<Entry>,
-    /// How many calls failed and changed nothing since the last entry.
+    trace: Vec<TracedCall>,
+    /// How many calls failed and changed nothing since the last traced one.
     failed: u64,
     ticks: u64,
     faults: u64,
     ghost replayed: { IsReplayed
-        (device_of first.journal.items first.objects.items entries.items failed)
+        (device_of first.journal.items first.objects.items trace.items failed)
         current.journal.items current.objects.items ticks faults },
 }
 
@@ -99,7 +99,7 @@ impl MemoryDisk {
             first: Contents::of(alloc, journal, objects)?,
             current: Contents::of(alloc, journal, objects)?,
             fail: Vec::from_slice(alloc, fail)?,
-            entries: Vec::new(alloc),
+            trace: Vec::new(alloc),
             failed: 0,
             ticks: 0,
             faults: 0,
@@ -115,17 +115,17 @@ impl MemoryDisk {
         ensures { IfOk result (λ disk. IsCrash (told_by self.now) call (sight_of disk)) }
     {
         let keep = Keep::of(pick);
-        let entries = self.entries.as_slice();
-        let journal = image_of(alloc, self.first.journal.as_slice(), entries, 0, call, keep)?;
-        let objects = image_of(alloc, self.first.objects.as_slice(), entries, 1, call, keep)?;
+        let trace = self.trace.as_slice();
+        let journal = image_of(alloc, self.first.journal.as_slice(), trace, 0, call, keep)?;
+        let objects = image_of(alloc, self.first.objects.as_slice(), trace, 1, call, keep)?;
         MemoryDisk::new(alloc, journal.as_slice(), objects.as_slice(), &[])
     }
 
     /// The calls that were carried out, the oldest first.
-    pub fn entries(&self) -> &[Entry]
-        ensures { result.now ≡ self.now.entries.items }
+    pub fn trace(&self) -> &[TracedCall]
+        ensures { result.now ≡ self.now.trace.items }
     {
-        self.entries.as_slice()
+        self.trace.as_slice()
     }
 
     /// A file as it reads.
@@ -169,7 +169,7 @@ impl MemoryDisk {
         if self.ticks == u64::MAX || self.is_planned() {
             return Err(self.miss());
         }
-        match self.entries.push(Entry {
+        match self.trace.push(TracedCall {
             failed_before: self.failed,
             call,
         }) {
@@ -197,7 +197,7 @@ impl MemoryDisk {
         let Ok(text) = Text::from_bytes(self.alloc, piece) else {
             return Err(self.miss());
         };
-        if self.entries.reserve(1).is_err() {
+        if self.trace.reserve(1).is_err() {
             return Err(self.miss());
         }
         if self.current.overwrite(file, place, piece).is_err() {
@@ -208,8 +208,8 @@ impl MemoryDisk {
             place,
             piece: text,
         };
-        self.entries
-            .push(Entry {
+        self.trace
+            .push(TracedCall {
                 failed_before: self.failed,
                 call,
             })
@@ -234,7 +234,7 @@ impl MemoryDisk {
         let Ok(text) = Text::from_bytes(self.alloc, landed) else {
             return self.miss();
         };
-        if self.entries.reserve(1).is_err() {
+        if self.trace.reserve(1).is_err() {
             return self.miss();
         }
         if self.current.overwrite(file, place, landed).is_err() {
@@ -246,8 +246,8 @@ impl MemoryDisk {
             landed: text,
             lost,
         };
-        self.entries
-            .push(Entry {
+        self.trace
+            .push(TracedCall {
                 failed_before: self.failed,
                 call,
             })

@@ -2,7 +2,7 @@
 
 ghost use Rattle.std.specs.Prelude.{◌≡◌, ◌≤◌, IfOk, length};
 
-use disk_model::{Call, Counts, Disk, DiskFault, Entry, FileDisk, MemoryDisk, Trouble};
+use disk_model::{Call, Counts, Disk, DiskFault, FileDisk, MemoryDisk, TracedCall, Trouble};
 use std::alloc::Global;
 use std::fs;
 use std::process::Abort;
@@ -100,9 +100,9 @@ fn calls_fail_where_they_are_to(rt: HostRuntime) -> Result<(), Fail> {
     assert!(rt; first && second);
     tell_counts(&rt, disk.counts(), 4, 2);
     let mut letters = [0u8; 2];
-    for (letter, entry) in letters.iter_mut().zip(disk.entries()) {
-        assert_eq!(rt; entry.failed_before, 1);
-        *letter = letter_of(&entry.call);
+    for (letter, traced) in letters.iter_mut().zip(disk.trace()) {
+        assert_eq!(rt; traced.failed_before, 1);
+        *letter = letter_of(&traced.call);
     }
     assert_eq!(rt; &letters, b"LS");
     Ok(())

@@ -151,10 +151,7 @@ impl Book {
         match Held::find(self.hashing, &self.held, &self.newest, label, element) {
             Some(place) => {
                 let held = &mut self.held[place];
-                match held.moves.push(change) {
-                    Ok(()) => {}
-                    Err(_) => unreachable!(),
-                }
+                held.moves.push_reserved(change);
             }
             None => unreachable!(),
         }

@@ -46,7 +46,9 @@ impl Model for Graph {
 
     ghost view = { λ graph. graph.units.items };
 
-    ghost invariant = { λ graph. KnowsAll graph.numbers graph.units.items graph.makers.items graph.dependants.items graph.closures.items };
+    ghost invariant = { λ graph.
+        KnowsAll graph.numbers graph.units.items graph.makers.items
+        graph.dependants.items graph.closures.items };
 }
 
 /// The most units of a graph.

@@ -1,12 +1,13 @@
 -- Every makefile that is read is formed.
 use Rattle.std.proofs.Common.{◌≡◌, subst, ℕ, not, Option, Some, None, Result, Ok, Err, List, [], reverse}
+use Rattle.cc_names.specs.Files.{Files}
 use Rattle.cc_names.specs.declared.commands.Macro.{Macro}
 use Rattle.cc_names.specs.declared.refusals.MakeError.{MakeError}
 use Rattle.make_text.proofs.JoinedLaws.{joined_formed}
 use Rattle.make_text.proofs.RuleLineLaws.{AreLines, HasLines, lines_of_makefile}
 use Rattle.make_text.specs.Contents.{Contents, groups_of, is_suffix_rule}
 use Rattle.make_text.specs.Grammar.{checked, contents_of, fault_or, lines_read, macros_fault, makefile_of_text, phony_fault, unless_fault}
-use Rattle.make_text.specs.Statements.{Files, Reading, macros_of}
+use Rattle.make_text.specs.Statements.{Reading, macros_of}
 use Rattle.make_text.specs.UnitLaws.{IsFormed, MakefilesAreFormed}
 
 -- what is said by rule lines in their form

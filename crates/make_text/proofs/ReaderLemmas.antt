@@ -6,6 +6,7 @@ use Rattle.std.proofs.lemmas.Slice.Eq.{bytes_eq-Decides}
 use Rattle.std.proofs.lemmas.Bool.{or_left}
 use Rattle.std.proofs.lemmas.List.Folds.{list_any-append}
 use Rattle.cc_names.specs.Answers.{FaultIs}
+use Rattle.cc_names.specs.Files.{Files}
 use Rattle.cc_names.specs.declared.memory.Or.{Or}
 use Rattle.cc_names.specs.declared.memory.Or.TheVariants.{NoMemory, Is}
 use Rattle.cc_names.specs.declared.refusals.MakeCause.{MakeCause}
@@ -18,7 +19,7 @@ use Rattle.make_text.specs.Macros.{is_among, has_bad_dollar}
 use Rattle.make_text.specs.WordPaths.{with_path}
 use Rattle.make_text.specs.ReadingSteps.{Leaves, counted_file, with_newest_line, newest_with}
 use Rattle.make_text.specs.Readers.{Keeps, older_of, open_rule, script_tested}
-use Rattle.make_text.specs.Statements.{Reading, fault_at, and_then, unless_cause, cause_or, where_so, has_twice, is_scripted, is_second_script, include_paths, script_line, script_line_of, with_script_line, Files, included, read_lines, with_text, within_limits}
+use Rattle.make_text.specs.Statements.{Reading, fault_at, and_then, unless_cause, cause_or, where_so, has_twice, is_scripted, is_second_script, include_paths, script_line, script_line_of, with_script_line, included, read_lines, with_text, within_limits}
 use Rattle.make_text.proofs.ExpansionLemmas.{same_bytes}
 
 -- ---- paths among others

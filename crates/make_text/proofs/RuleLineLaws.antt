@@ -5,6 +5,7 @@ use Rattle.std.specs.Bool.{⊤}
 use Rattle.std.specs.List.{AllByRecursion, IsDistinct, list_any}
 use Rattle.std.specs.Str.{bytes_eq}
 use Rattle.cc_names.specs.Cuts.{words_of}
+use Rattle.cc_names.specs.Files.{Files}
 use Rattle.cc_names.specs.Formed.{IsBelowRoot, IsListOf}
 use Rattle.cc_names.specs.declared.commands.Macro.{Macro}
 use Rattle.cc_names.specs.declared.refusals.MakeCause.{MakeCause}
@@ -17,7 +18,7 @@ use Rattle.make_text.specs.LineKinds.{Kind, Blank, Include, Assignment, Rule, Un
 use Rattle.make_text.specs.Lines.{is_script_line, is_blank_line}
 use Rattle.make_text.specs.LogicalLines.{logical_lines}
 use Rattle.make_text.specs.Macros.{has_bad_dollar, is_among}
-use Rattle.make_text.specs.Statements.{Files, Reading, line_limit, target_limit, file_limit, depth_limit, and_then, assignment, before_mark, cause_or, expanded_by, fault_at, has_twice, include_by_words, include_line, include_paths, include_words, included, is_grouped, is_scripted, is_second_script, line_of_kind, macro_fault, macros_of, or_cause, override, read_line, read_lines, rule_by_words, rule_fault, rule_line, script_line, script_line_of, unless_cause, where_so, with_definition, with_rule, with_script_line, with_text, within_limits}
+use Rattle.make_text.specs.Statements.{Reading, line_limit, target_limit, file_limit, depth_limit, and_then, assignment, before_mark, cause_or, expanded_by, fault_at, has_twice, include_by_words, include_line, include_paths, include_words, included, is_grouped, is_scripted, is_second_script, line_of_kind, macro_fault, macros_of, or_cause, override, read_line, read_lines, rule_by_words, rule_fault, rule_line, script_line, script_line_of, unless_cause, where_so, with_definition, with_rule, with_script_line, with_text, within_limits}
 use Rattle.make_text.specs.declared.logical_lines.LogicalLine.{LogicalLine}
 use Rattle.make_text.specs.declared.rule_lines.RuleWords.{RuleWords}
 

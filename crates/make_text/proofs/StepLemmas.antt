@@ -10,7 +10,7 @@ use Rattle.make_text.specs.Expanding.{Opened}
 use Rattle.make_text.specs.Runs.{macro_at, HasNamesApart, untouched, Runs, work}
 use Rattle.make_text.specs.States.{state_at}
 use Rattle.make_text.specs.Scanning.{pieces_in}
-use Rattle.make_text.specs.Steps.{opened_in, opened_of, IsRunning, work_of, EndsSafely, Ended, RefersSafely, Referred, Undefined, Known, Begins, Meets, Took, Went, FallsBelow}
+use Rattle.make_text.specs.Steps.{opened_in, opened_of, IsRunning, work_of, EndsSafely, MacroEnded, RefersSafely, Referred, Undefined, Known, Begins, Meets, Took, Went, FallsBelow}
 use Rattle.make_text.specs.declared.expansions.Expanding.{Expanding}
 use Rattle.make_text.specs.declared.expansions.Opened as lent
 use Rattle.make_text.specs.declared.states.State.{State}
@@ -93,7 +93,7 @@ module _ (macros : List Macro) (automatic : ℕ → List ℕ) where
   refers_safely total e h = (h.runs.known, h.runs.ends)
 
   -- the end of the innermost macro is a step
-  pub ended_went : (total : Expansion) (old new : Expanding) (step : Step) → HasNamesApart macros → IsRunning macros automatic total [] old → old.rest.now ≡ [] → Ended old step new → Went macros automatic total step new
+  pub ended_went : (total : Expansion) (old new : Expanding) (step : Step) → HasNamesApart macros → IsRunning macros automatic total [] old → old.rest.now ≡ [] → MacroEnded old step new → Went macros automatic total step new
   ended_went total old new Goes distinct h end (o, items, rest, states, written) =
       let all = subst (Within (length macros)) items h.within in
       let r = runs_same total [] end refl (ap (opened_of macros) items ∙ last_opened macros new.opened.items o) refl h.runs in
@@ -178,7 +178,7 @@ module _ (macros : List Macro) (automatic : ℕ → List ℕ) where
 
   -- ---- less is left to do
 
-  pub ended_falls : (total : Expansion) (old new : Expanding) (step : Step) → IsRunning macros automatic total [] old → old.rest.now ≡ [] → Ended old step new → FallsBelow (work_of macros old) step (work_of macros new)
+  pub ended_falls : (total : Expansion) (old new : Expanding) (step : Step) → IsRunning macros automatic total [] old → old.rest.now ≡ [] → MacroEnded old step new → FallsBelow (work_of macros old) step (work_of macros new)
   ended_falls total old new Goes h end (o, items, rest, states, written) =
       let all = subst (Within (length macros)) items h.within in
       let index : o.index < length macros = last_within (length macros) new.opened.items o all in

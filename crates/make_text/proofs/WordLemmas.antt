@@ -1,10 +1,11 @@
 -- Words that are paths.
 use Rattle.std.proofs.Common.{◌≡◌, refl, sym, ap, ◌∙◌, ℕ, Bool, true, false, not, ◌&&◌, Option, Some, None, Result, Ok, Err, List, [], ◌∷◌, is_some, if◌then◌else◌}
 use Rattle.std.specs.List.{list_all}
+use Rattle.cc_names.specs.Paths.{path_before}
 use Rattle.cc_names.specs.declared.refusals.MakeCause.{MakeCause}
 use Rattle.cc_names.specs.declared.refusals.MakeCause.TheVariants.{BadPath}
 use Rattle.make_text.proofs.ServingLaws.{same_path}
-use Rattle.make_text.specs.WordPaths.{path_in, path_before, paths_of}
+use Rattle.make_text.specs.WordPaths.{path_in, paths_of}
 use Rattle.make_text.specs.RuleLines.{below_root}
 use Rattle.make_text.specs.Statements.{is_path, or_cause, where_so}
 

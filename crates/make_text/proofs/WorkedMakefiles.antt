@@ -2,6 +2,7 @@
 use Rattle.std.proofs.Common.{◌≡◌, ℕ, true, false, if◌then◌else◌, Some, None, Option, Result, Ok, Err, List, [], ◌∷◌, ◌++◌, refl, map}
 use Rattle.std.specs.Prelude.{codes, flat_map}
 use Rattle.std.specs.Str.{bytes_eq}
+use Rattle.cc_names.specs.Files.{Files}
 use Rattle.cc_names.specs.declared.commands.Macro.{Macro}
 use Rattle.cc_names.specs.declared.refusals.MakeCause.{MakeCause}
 use Rattle.cc_names.specs.declared.refusals.MakeCause.TheVariants.{BadLine, BadMacro, BadPath, MacroLoop, TwoScripts, PhonyScript, IncludeAbsent, IncludeDepth}
@@ -10,7 +11,6 @@ use Rattle.make_text.specs.LogicalLines.{logical_lines}
 use Rattle.make_text.specs.LineKinds.{Kind, Blank, Include, Assignment, Rule, Unclosed, Neither, line_kind, without_comment}
 use Rattle.make_text.specs.Macros.{Byte, Reference, Automatic, Bad, pieces_of, expansion_of, no_automatic, in_script}
 use Rattle.make_text.specs.Contents.{Contents, expansion}
-use Rattle.make_text.specs.Statements.{Files}
 use Rattle.make_text.specs.Grammar.{makefile_of}
 use Rattle.make_text.specs.declared.logical_lines.LogicalLine.{LogicalLine}
 use Rattle.make_text.specs.declared.contents.Expanded.TheVariants as expansions

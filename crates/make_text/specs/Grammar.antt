@@ -1,6 +1,7 @@
 -- What a makefile says, or its first line that fails: its lines, and what is tested behind the last of them.
 use Rattle.std.specs.Prelude.{ℕ, false, ◌&&◌, Option, Some, None, Result, Ok, Err, List, [], ◌∷◌, length, reverse, is_some, if◌then◌else◌, codes}
 use Rattle.std.specs.List.{list_any}
+use Rattle.cc_names.specs.Files.{Files}
 use Rattle.cc_names.specs.declared.commands.Macro.{Macro}
 use Rattle.cc_names.specs.declared.refusals.MakeCause.{MakeCause}
 use Rattle.cc_names.specs.declared.refusals.MakeCause.TheVariants.{PhonyScript}
@@ -8,7 +9,7 @@ use Rattle.cc_names.specs.declared.refusals.MakeError.{MakeError}
 use Rattle.make_text.specs.LogicalLines.{logical_lines}
 use Rattle.make_text.specs.Macros.{is_among, no_automatic, reference_expansion}
 use Rattle.make_text.specs.Contents.{Contents, RuleLine, contents_from, groups_of, joined_rules}
-use Rattle.make_text.specs.Statements.{Files, Definition, Reading, depth_limit, expansion_fault, included, macros_of, override, and_then, read_lines}
+use Rattle.make_text.specs.Statements.{Definition, Reading, depth_limit, expansion_fault, included, macros_of, override, and_then, read_lines}
 
 -- the suffixes of a makefile that says nothing of them
 abbrev pub first_suffixes : List (List ℕ)

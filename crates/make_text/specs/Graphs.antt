@@ -1,6 +1,7 @@
 -- The units of a build, in their order, or the refusal in their place.
 use Rattle.std.specs.Prelude.{ℕ, Bool, ◌||◌, not, is_some, Option, Some, None, Result, Ok, Err, List, [], ◌∷◌, map, find, flat_map, slice_get}
 use Rattle.std.specs.List.{filter_map}
+use Rattle.cc_names.specs.Files.{Files}
 use Rattle.cc_names.specs.Paths.{root}
 use Rattle.cc_names.specs.declared.commands.Macro.{Macro}
 use Rattle.cc_names.specs.declared.refusals.MakeError.{MakeError}
@@ -14,7 +15,6 @@ use Rattle.cc_names.specs.declared.units.UnitScript.TheVariants.{Bare}
 use Rattle.make_text.specs.Contents.{Contents, expansion}
 use Rattle.make_text.specs.Grammar.{makefile_of}
 use Rattle.make_text.specs.Serving.{servings}
-use Rattle.make_text.specs.Statements.{Files}
 use Rattle.make_text.specs.Units.{script_of_unit, goals_of, made_by, unless_source, unless_refused, main_file}
 use Rattle.make_text.specs.Rules.{Serving}
 use Rattle.make_text.specs.Walks.{Walk, number_of, walk_of}
@@ -24,7 +24,7 @@ abbrev pub first_of : List (List ℕ) → Option (List ℕ)
 first_of [] = None
 first_of (path ∷ paths) = Some path
 
--- the first of some targets
+-- the first of the targets of a unit, which has one
 abbrev pub first_target : List (List ℕ) → List ℕ
 first_target [] = root
 first_target (target ∷ targets) = target

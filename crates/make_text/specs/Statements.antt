@@ -3,6 +3,7 @@ use Rattle.std.specs.Prelude.{ℕ, ◌+◌, ◌-◌, zero, suc, Bool, true, fals
 use Rattle.std.specs.List.{list_any, list_all}
 use Rattle.std.specs.Str.{bytes_eq}
 use Rattle.cc_names.specs.Cuts.{words_of}
+use Rattle.cc_names.specs.Files.{Files}
 use Rattle.cc_names.specs.Names.{is_name_byte}
 use Rattle.cc_names.specs.declared.commands.Macro.{Macro}
 use Rattle.cc_names.specs.declared.refusals.MakeCause.{MakeCause}
@@ -16,10 +17,6 @@ use Rattle.make_text.specs.WordPaths.{path_in, with_path, each_once}
 use Rattle.make_text.specs.Contents.{RuleLine}
 use Rattle.make_text.specs.declared.logical_lines.LogicalLine.{LogicalLine}
 use Rattle.make_text.specs.declared.rule_lines.RuleWords.{RuleWords}
-
--- the text of the file at each path, if there is one
-abbrev pub Files : Type 0
-Files = List ℕ → Option (List ℕ)
 
 -- a macro with the place of its last definition
 pub record Definition : Type 0 where

@@ -45,15 +45,15 @@ EndsSafely e =
     → (o.index < length e.states) × (o.start ≤ length e.written.items)
 
 -- the innermost macro came to its end, and its result is known; or there was none
-abbrev pub Ended : expandings.Expanding → Step → expandings.Expanding → Type 0
-Ended old Goes new =
+abbrev pub MacroEnded : expandings.Expanding → Step → expandings.Expanding → Type 0
+MacroEnded old Goes new =
     (o : lent.Opened) × (old.opened.items ≡ new.opened.items ++ (o ∷ [])) × (new.rest.now ≡ o.outer.now)
     × (new.states ≡ slice_set old.states o.index (Expanded o.start (length old.written.items - o.start)))
     × (new.written.items ≡ old.written.items)
-Ended old Ends new =
+MacroEnded old Ends new =
     (old.opened.items ≡ []) × (new.opened.items ≡ []) × (new.rest.now ≡ old.rest.now)
     × (new.states ≡ old.states) × (new.written.items ≡ old.written.items)
-Ended old Loops new = ⊥
+MacroEnded old Loops new = ⊥
 
 -- ---- a reference
 

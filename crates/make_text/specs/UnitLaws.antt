@@ -3,6 +3,7 @@ use Rattle.std.specs.Bool.{⊤}
 use Rattle.std.specs.Prelude.{◌≡◌, ℕ, ◌<◌, ◌≤◌, Bool, true, Some, Ok, List, flat_map, length, slice_get}
 use Rattle.std.specs.List.{AllByRecursion, IsDistinct}
 use Rattle.std.specs.Str.{bytes_eq}
+use Rattle.cc_names.specs.Files.{Files}
 use Rattle.cc_names.specs.Formed.{AreTargets, IsBelowRoot}
 use Rattle.cc_names.specs.declared.commands.Macro.{Macro}
 use Rattle.cc_names.specs.declared.units.Unit.{Unit}
@@ -13,7 +14,6 @@ use Rattle.make_text.specs.Grammar.{makefile_of}
 use Rattle.make_text.specs.Graphs.{graph_of}
 use Rattle.make_text.specs.Macros.{is_among, expansion_limit}
 use Rattle.make_text.specs.Numbers.{number_from}
-use Rattle.make_text.specs.Statements.{Files}
 use Rattle.make_text.specs.Units.{targets_of}
 use Rattle.make_text.specs.Rules.{MakeRule}
 

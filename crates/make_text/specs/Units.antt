@@ -2,6 +2,7 @@
 use Rattle.std.specs.Prelude.{ℕ, Bool, true, false, not, is_some, Option, Some, None, Result, Ok, Err, List, [], ◌∷◌, find, flat_map, if◌then◌else◌, codes}
 use Rattle.std.specs.List.{list_any}
 use Rattle.std.specs.Str.{bytes_eq}
+use Rattle.cc_names.specs.Files.{Files}
 use Rattle.cc_names.specs.declared.refusals.GraphFault.{GraphFault}
 use Rattle.cc_names.specs.declared.refusals.GraphFault.TheVariants as graphs
 use Rattle.cc_names.specs.declared.refusals.Refusal.{Refusal}
@@ -10,7 +11,6 @@ use Rattle.cc_names.specs.declared.units.Unit.{Unit}
 use Rattle.cc_names.specs.declared.units.UnitScript.{UnitScript}
 use Rattle.cc_names.specs.declared.units.UnitScript.TheVariants.{Bare, TooLong, Lines}
 use Rattle.make_text.specs.WordPaths.{begins_with_period}
-use Rattle.make_text.specs.Statements.{Files}
 use Rattle.make_text.specs.declared.contents.Expanded.{Expanded}
 use Rattle.make_text.specs.declared.contents.Expanded.TheVariants as expansions
 use Rattle.make_text.specs.Rules.{MakeRule}

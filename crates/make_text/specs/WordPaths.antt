@@ -3,7 +3,7 @@ use Rattle.std.specs.Prelude.{ℕ, Bool, Option, Some, None, List, [], ◌∷◌
 use Rattle.std.specs.List.{list_any}
 use Rattle.std.specs.Result.{result_ok}
 use Rattle.std.specs.Str.{bytes_eq}
-use Rattle.cc_names.specs.Paths.{path_of, is_root}
+use Rattle.cc_names.specs.Paths.{path_of, is_root, paths_read}
 use Rattle.make_text.specs.Lines.{is_byte}
 
 -- a path that is not the root
@@ -15,15 +15,9 @@ unless_root (Some path) = if is_root path then None else Some path
 abbrev pub path_in : List ℕ → Option (List ℕ)
 path_in word = unless_root (result_ok (path_of word))
 
--- a path before paths, where all of them are there
-abbrev pub path_before : Option (List ℕ) → Option (List (List ℕ)) → Option (List (List ℕ))
-path_before (Some path) (Some paths) = Some (path ∷ paths)
-path_before _ _ = None
-
 -- words as paths below the root, where all of them are so
 abbrev pub paths_of : List (List ℕ) → Option (List (List ℕ))
-paths_of [] = Some []
-paths_of (word ∷ words) = path_before (path_in word) (paths_of words)
+paths_of words = paths_read path_in words
 
 -- a path behind paths, unless it stands there
 abbrev pub with_path : List (List ℕ) → List ℕ → List (List ℕ)

@@ -5,7 +5,7 @@ ghost use Rattle.make_text.specs.Macros.{Expansion, plain, expansion_of, is_too_
 ghost use Rattle.make_text.specs.Runs.{HasNamesApart, len_in};
 ghost use Rattle.make_text.specs.States.{state_at};
 ghost use Rattle.make_text.specs.Statements.{macros_of};
-ghost use Rattle.make_text.specs.Steps.{automatic_of, IsRunning, work_of, EndsSafely, Ended, RefersSafely, Referred, Took, Went, FallsBelow, IsSomeRun, IsOutcome};
+ghost use Rattle.make_text.specs.Steps.{automatic_of, IsRunning, work_of, EndsSafely, MacroEnded, RefersSafely, Referred, Took, Went, FallsBelow, IsSomeRun, IsOutcome};
 ghost use Rattle.make_text.specs.declared.states.State.TheVariants as variants;
 
 use crate::macros::MacroTable;
@@ -98,7 +98,7 @@ impl<'a> Expanding<'a> {
     /// Ends the innermost macro, whose result is known then.
     fn end(&mut self) -> Result<Step, NoMemory>
         requires { EndsSafely self.old }
-        ensures { IfOk result (λ step. Ended self.old step self.new) }
+        ensures { IfOk result (λ step. MacroEnded self.old step self.new) }
     {
         let Some(innermost) = self.opened.pop() else {
             return Ok(Step::Ends);

@@ -1,6 +1,7 @@
 -- How refusals and faults are printed: their code and name, and then their arguments.
-use Rattle.std.specs.Prelude.{ℕ, zero, suc, Option, Some, None, List, [], ◌∷◌, codes, slice_get}
+use Rattle.std.specs.Prelude.{ℕ, Option, Some, None, List, [], ◌∷◌, codes}
 use Rattle.std.specs.Fmt.{decimal}
+use Rattle.cc_names.specs.Commands.{lane_at}
 use Rattle.cc_names.specs.declared.commands.Lane.{Lane}
 use Rattle.cc_names.specs.declared.commands.Phase.{Phase}
 use Rattle.cc_names.specs.declared.refusals.Refusal.{Refusal}
@@ -77,11 +78,6 @@ refusal_name (refusals.TargetIsSource path) = codes "G3 TargetIsSource"
 abbrev pub name_of_lane : Option Lane → List ℕ
 name_of_lane (Some lane) = lane.name
 name_of_lane None = []
-
--- a lane of a phase by its number, from 1
-abbrev pub lane_at : Phase → ℕ → Option Lane
-lane_at phase zero = None
-lane_at phase (suc n) = slice_get phase.lanes n
 
 -- The arguments of a refusal, in order. A running build is named by its lane and the number of its command.
 abbrev pub refusal_arguments : Phase → Refusal → List (List ℕ)

@@ -2,6 +2,7 @@
 use Rattle.std.specs.Prelude.{ℕ, ◌+◌, Bool, true, false, Option, Some, None, List, [], ◌∷◌, ◌++◌, codes, if◌then◌else◌}
 use Rattle.std.specs.List.{flat_map, list_all}
 use Rattle.std.specs.Fmt.{decimal}
+use Rattle.cc_names.specs.Commands.{lane_at}
 use Rattle.hex.specs.Hex.{encode_lower}
 use Rattle.cc_names.specs.declared.commands.Command.{Command}
 use Rattle.cc_names.specs.declared.commands.Lane.{Lane}
@@ -13,7 +14,7 @@ use Rattle.cc_names.specs.declared.replies.UnitLine.{UnitLine}
 use Rattle.cc_names.specs.declared.replies.Reply.{Reply}
 use Rattle.cc_names.specs.declared.replies.Reply.TheVariants as replies
 use Rattle.reply_text.specs.Words.{spaced, shown, word_of}
-use Rattle.reply_text.specs.Refusals.{refusal_words, fault_words, lane_at}
+use Rattle.reply_text.specs.Refusals.{refusal_words, fault_words}
 
 -- the length and the digest of an output as words
 abbrev pub digest_words : Digest → List (List ℕ)

@@ -2,8 +2,9 @@
 
 ghost use Rattle.std.specs.Prelude.{◌≡◌, ◌++◌, ◌∷◌, [], OnOk, MatchOption, Some, None};
 ghost use Rattle.std.specs.Fmt.{decimal};
+ghost use Rattle.cc_names.specs.Commands.{lane_at};
 ghost use Rattle.reply_text.specs.Words.{spaced};
-ghost use Rattle.reply_text.specs.Refusals.{refusal_arguments, refusal_words, script_words, fault_words, lane_at, name_of_lane};
+ghost use Rattle.reply_text.specs.Refusals.{refusal_arguments, refusal_words, script_words, fault_words, name_of_lane};
 
 use crate::names::{make_cause, refusal_name, spec_cause};
 use crate::pieces::{push_number_word, push_word};

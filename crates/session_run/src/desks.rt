@@ -36,7 +36,7 @@ pub(crate) struct PhaseCore<D: Disk, P: Beginning> {
 
 impl<D: Disk, P: Beginning> Model for PhaseCore<D, P> {
     ghost use Rattle.base_core.specs.Story.Shown.{Shown};
-    ghost use Rattle.session_run.specs.Since.{IsSince};
+    ghost use Rattle.session_run.specs.Running.Since.{IsSince};
 
     ghost Value = { Shown };
 

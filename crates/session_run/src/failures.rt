@@ -5,7 +5,7 @@ ghost use Rattle.std.specs.List.{list_any, list_all};
 ghost use Rattle.legal_history.specs.Stories.Steps.{state_of};
 ghost use Rattle.base_core.specs.Story.Replying.{replies_of};
 ghost use Rattle.reply_text.specs.Replies.{is_made_line};
-ghost use Rattle.session_run.specs.Rendered.{is_failure, lanes_fail};
+ghost use Rattle.session_run.specs.Story.Rendered.{is_failure, lanes_fail};
 
 use base_core::Core;
 use cc_names::replies::{Reply, UnitLine, UnitWord};

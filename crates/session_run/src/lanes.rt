@@ -6,9 +6,9 @@ ghost use Rattle.base_core.specs.Story.Counted.{KeepsCount};
 ghost use Rattle.legal_history.specs.Stories.Lanes.{IsWithin};
 ghost use Rattle.legal_history.specs.Stories.States.{all_done};
 ghost use Rattle.legal_history.specs.Stories.Steps.{state_of};
-ghost use Rattle.session_run.specs.Begun.{is_opened};
-ghost use Rattle.session_run.specs.Lanes.{GoesInLane, GoesInLanes};
-ghost use Rattle.session_run.specs.Turns.{StandAt, TakesRound, TakesTurn};
+ghost use Rattle.session_run.specs.Running.Lanes.{GoesInLane, GoesInLanes};
+ghost use Rattle.session_run.specs.Running.Turns.{StandAt, TakesRound, TakesTurn};
+ghost use Rattle.session_run.specs.Story.Begun.{is_opened};
 
 use crate::moves::move_on;
 use crate::turns::Turns;

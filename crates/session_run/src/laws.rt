@@ -2,10 +2,10 @@
 
 ghost use Rattle.legal_history.specs.Base.Values.{IsSound};
 ghost use Rattle.legal_history.specs.Stories.Steps.{state_of};
-ghost use Rattle.session_run.specs.HandedOn.{SoundnessIsHandedOn};
-ghost use Rattle.session_run.specs.Headline.{AreFromNothing, AreOfTheirCommands};
-ghost use Rattle.session_run.specs.Objects.{HeldObjectsAreLive, ScrubsListWhatIsDue};
-ghost use Rattle.session_run.specs.Reused.{HaveTheirOutcomes, NewBaseWasSound, OfEachLegal, PassNothingOver, RecordWhatTheyRead, TakeWhatTheySee, WasSound};
+ghost use Rattle.session_run.specs.Promises.HandedOn.{SoundnessIsHandedOn};
+ghost use Rattle.session_run.specs.Promises.Headline.{AreFromNothing, AreOfTheirCommands};
+ghost use Rattle.session_run.specs.Promises.Objects.{HeldObjectsAreLive, ScrubsListWhatIsDue};
+ghost use Rattle.session_run.specs.Promises.Reused.{HaveTheirOutcomes, NewBaseWasSound, OfEachLegal, PassNothingOver, RecordWhatTheyRead, TakeWhatTheySee, WasSound};
 
 use base_core::laws::a_found_base_is_sound;
 use legal_history::laws::builds::{

@@ -4,8 +4,8 @@
 // of a phase run on threads, and so do the units of each build. They take turns at the base, for one step of a build, or up to
 // 64 other commands, so other lanes' rows come between the steps of a build.
 //
-// What it promises: the headline of the product, in `specs/Headline.antt`, and when each status comes, in
-// `specs/Causes.antt`. The printed replies are those of one legal history, which holds each command once in its lane's
+// What it promises: the headline of the product, in `specs/Promises/Headline.antt`, and when each status comes, in
+// `specs/Calls/Causes.antt`. The printed replies are those of one legal history, which holds each command once in its lane's
 // order; where the base that was opened is sound, every clearmake is replied as building from nothing is and its units have their
 // outcomes from nothing. Over any base each object that is reused has a record of just what its unit sees, none that would do is
 // passed over, each scrub lists exactly what is due, every object that a view holds is live, and a stop at any device call finds
@@ -34,5 +34,5 @@ mod transcripts;
 mod turns;
 mod words;
 
-pub use run::{Ended, run_words};
+pub use run::{SessionResult, run_words};
 pub use statuses::Status;

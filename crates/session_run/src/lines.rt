@@ -2,12 +2,12 @@
 
 ghost use Rattle.std.specs.Prelude.{◌≡◌, ◌≤◌, length};
 ghost use Rattle.base_core.specs.declared.opening.OpenCause.TheVariants as opens;
-ghost use Rattle.session_run.specs.declared.sessions.Stop.TheVariants as stops;
-ghost use Rattle.session_run.specs.Causes.{sink_faults};
-ghost use Rattle.session_run.specs.Statuses.{cause_word};
-ghost use Rattle.session_run.specs.Stops.{stop_status, stop_line, WritesStop};
+ghost use Rattle.session_run.specs.declared.sessions.Unstarted.TheVariants as why;
+ghost use Rattle.session_run.specs.Calls.Causes.{sink_faults};
+ghost use Rattle.session_run.specs.Calls.Statuses.{cause_word};
+ghost use Rattle.session_run.specs.Running.Unstarted.{unstarted_status, unstarted_line, WritesUnstarted};
 
-use crate::sessions::Stop;
+use crate::sessions::Unstarted;
 use crate::statuses::Status;
 use arrayvec::ArrayString;
 use base_core::OpenCause;
@@ -31,18 +31,18 @@ fn cause_word(cause: SessionCause) -> &'static str
     }
 }
 
-/// The status of a stop.
-fn status_of(stop: Stop) -> Status
-    ensures { result ≡ stop_status stop }
+/// The status that tells why no session was started.
+fn status_of(unstarted: Unstarted) -> Status
+    ensures { result ≡ unstarted_status unstarted }
 {
-    match stop {
-        Stop::BadWords => Status::BadWords,
-        Stop::ReadFault => Status::ReadFault,
-        Stop::TooLong => Status::TooLong,
-        Stop::BadSession(_) => Status::BadSession,
-        Stop::Unopened(OpenCause::Damaged(row)) => Status::Damaged(row),
-        Stop::Unopened(OpenCause::DiskFault) => Status::DiskFault,
-        Stop::Unopened(OpenCause::NoMemory) => Status::NoMemory,
+    match unstarted {
+        Unstarted::BadWords => Status::BadWords,
+        Unstarted::ReadFault => Status::ReadFault,
+        Unstarted::TooLong => Status::TooLong,
+        Unstarted::BadSession(_) => Status::BadSession,
+        Unstarted::Unopened(OpenCause::Damaged(row)) => Status::Damaged(row),
+        Unstarted::Unopened(OpenCause::DiskFault) => Status::DiskFault,
+        Unstarted::Unopened(OpenCause::NoMemory) => Status::NoMemory,
     }
 }
 
@@ -56,7 +56,7 @@ fn text_line(text: &str) -> ArrayString<80>
 }
 
 fn error_line(error: SessionError) -> ArrayString<80>
-    ensures { result.bytes ≡ stop_line (stops.BadSession error) }
+    ensures { result.bytes ≡ unstarted_line (why.BadSession error) }
 {
     let mut number = Buffer::new();
     let mut line = ArrayString::new();
@@ -69,7 +69,7 @@ fn error_line(error: SessionError) -> ArrayString<80>
 }
 
 fn damaged_line(row: u64) -> ArrayString<80>
-    ensures { result.bytes ≡ stop_line (stops.Unopened (opens.Damaged row)) }
+    ensures { result.bytes ≡ unstarted_line (why.Unopened (opens.Damaged row)) }
 {
     let mut number = Buffer::new();
     let mut line = ArrayString::new();
@@ -79,29 +79,29 @@ fn damaged_line(row: u64) -> ArrayString<80>
     line
 }
 
-fn line_of(stop: Stop) -> ArrayString<80>
-    ensures { result.bytes ≡ stop_line stop }
+fn line_of(unstarted: Unstarted) -> ArrayString<80>
+    ensures { result.bytes ≡ unstarted_line unstarted }
 {
-    match stop {
-        Stop::BadWords => text_line("bad words\n"),
-        Stop::ReadFault => text_line("read fault\n"),
-        Stop::TooLong => text_line("too long\n"),
-        Stop::BadSession(error) => error_line(error),
-        Stop::Unopened(OpenCause::Damaged(row)) => damaged_line(row),
-        Stop::Unopened(OpenCause::DiskFault) => text_line("disk fault\n"),
-        Stop::Unopened(OpenCause::NoMemory) => text_line(""),
+    match unstarted {
+        Unstarted::BadWords => text_line("bad words\n"),
+        Unstarted::ReadFault => text_line("read fault\n"),
+        Unstarted::TooLong => text_line("too long\n"),
+        Unstarted::BadSession(error) => error_line(error),
+        Unstarted::Unopened(OpenCause::Damaged(row)) => damaged_line(row),
+        Unstarted::Unopened(OpenCause::DiskFault) => text_line("disk fault\n"),
+        Unstarted::Unopened(OpenCause::NoMemory) => text_line(""),
     }
 }
 
-/// Writes the line of a stop, and answers the status. Takes no memory.
-#[tactic(auto, using(crate::proofs::StopStatuses::only_memory))]
-pub(crate) fn refuse<K: Sink>(stop: Stop, sink: &mut K) -> Status
-    ensures { WritesStop stop result (K.sight sink.old).held (K.sight sink.new).held
+/// Writes the line that says why no session was started, and answers the status. Takes no memory.
+#[tactic(auto, using(crate::proofs::Calls::UnstartedStatuses::only_memory))]
+pub(crate) fn refuse<K: Sink>(unstarted: Unstarted, sink: &mut K) -> Status
+    ensures { WritesUnstarted unstarted result (K.sight sink.old).held (K.sight sink.new).held
         (sink_faults (K.sight sink.old) (K.sight sink.new)) }
 {
-    let line = line_of(stop);
+    let line = line_of(unstarted);
     match write_whole(sink, line.as_str().as_bytes()) {
-        Ok(()) => status_of(stop),
+        Ok(()) => status_of(unstarted),
         Err(_fault) => Status::WriteFault,
     }
 }

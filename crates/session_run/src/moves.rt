@@ -9,7 +9,7 @@ ghost use Rattle.clearmake.specs.Nexts.{next_of};
 ghost use Rattle.base_core.specs.Story.Counted.{KeepsCount};
 ghost use Rattle.legal_history.specs.Stories.States.{next_tag};
 ghost use Rattle.legal_history.specs.Stories.Steps.{state_of};
-ghost use Rattle.session_run.specs.Turns.{HasBuilt, HasUnitLeft, Moves, MovesTo, StandsAt};
+ghost use Rattle.session_run.specs.Running.Turns.{HasBuilt, HasUnitLeft, Moves, MovesTo, StandsAt};
 ghost use Rattle.session_run.specs.declared.turns.LaneTurn.TheVariants as lane_turns;
 
 use crate::turns::LaneTurn;

@@ -10,10 +10,10 @@ ghost use Rattle.legal_history.specs.Stories.Steps.{state_of};
 ghost use Rattle.legal_history.specs.Stories.Lawful.{last_moment};
 ghost use Rattle.base_core.specs.Story.Counted.{KeepsCount};
 ghost use Rattle.base_core.specs.Story.Replying.{replies_of};
-ghost use Rattle.session_run.specs.Begun.{first_step, is_opened};
-ghost use Rattle.session_run.specs.Rendered.{transcript};
-ghost use Rattle.session_run.specs.Lanes.{RunsPhase, LeavesPhase};
-ghost use Rattle.session_run.specs.Runs.{outside_of, IsJustOpened, IsReadyPhase, IsRunnable, HasRunPhases, IsRunGivenUp, OnWriteFault};
+ghost use Rattle.session_run.specs.Running.Lanes.{RunsPhase, LeavesPhase};
+ghost use Rattle.session_run.specs.Running.Runs.{outside_of, IsJustOpened, IsReadyPhase, IsRunnable, HasRunPhases, IsRunGivenUp, OnWriteFault};
+ghost use Rattle.session_run.specs.Story.Begun.{first_step, is_opened};
+ghost use Rattle.session_run.specs.Story.Rendered.{transcript};
 
 use crate::failures::any_failed;
 use crate::lanes::run_lanes;

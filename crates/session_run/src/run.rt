@@ -8,21 +8,21 @@ ghost use Rattle.cc_names.specs.Counts.{rises};
 ghost use Rattle.disk_model.specs.Told.{IfTold, IsCounted};
 ghost use Rattle.disk_model.specs.Devices.{file_of, bytes_of};
 ghost use Rattle.disk_model.specs.Files.{stable};
-ghost use Rattle.session_run.specs.Accounted.{IsAccountedFor, KeepsFiles, Settles};
-ghost use Rattle.session_run.specs.Causes.{intake_of, sink_faults, FindsDamage, HasCause, LeavesAlone, TakesNoMore};
-ghost use Rattle.session_run.specs.Begun.{first_step, is_opened};
-ghost use Rattle.session_run.specs.Headline.{clock_readings, IsSession, IsOneHistory, AreOfTheirCommands, AreFromNothing, ArePrinted};
-ghost use Rattle.session_run.specs.Objects.{HeldObjectsAreLive, ScrubsListWhatIsDue};
-ghost use Rattle.session_run.specs.Outcomes.{RunsOpened, RunsSession};
-ghost use Rattle.session_run.specs.Reused.{HaveTheirOutcomes, PassNothingOver, RecordWhatTheyRead, TakeWhatTheySee, WasSound};
-ghost use Rattle.session_run.specs.Runs.{IsJustOpened, IsRunnable, outside_of, run_status};
-ghost use Rattle.session_run.specs.Stopped.{IsHandedIn, IsMended, IsStopped};
-ghost use Rattle.session_run.specs.Stops.{open_stop};
+ghost use Rattle.session_run.specs.Calls.Causes.{intake_of, sink_faults, FindsDamage, HasCause, LeavesAlone, TakesNoMore};
+ghost use Rattle.session_run.specs.Faults.Accounted.{IsAccountedFor, KeepsFiles, Settles};
+ghost use Rattle.session_run.specs.Faults.Stopped.{IsHandedIn, IsMended, IsStopped};
+ghost use Rattle.session_run.specs.Promises.Headline.{clock_readings, IsSession, IsOneHistory, AreOfTheirCommands, AreFromNothing, ArePrinted};
+ghost use Rattle.session_run.specs.Promises.Objects.{HeldObjectsAreLive, ScrubsListWhatIsDue};
+ghost use Rattle.session_run.specs.Promises.Reused.{HaveTheirOutcomes, PassNothingOver, RecordWhatTheyRead, TakeWhatTheySee, WasSound};
+ghost use Rattle.session_run.specs.Running.Outcomes.{RunsOpened, RunsSession};
+ghost use Rattle.session_run.specs.Running.Runs.{IsJustOpened, IsRunnable, outside_of, run_status};
+ghost use Rattle.session_run.specs.Running.Unstarted.{of_unopened};
+ghost use Rattle.session_run.specs.Story.Begun.{first_step, is_opened};
 
 use crate::laws::{builds_are_as_from_nothing, objects_are_reused_well, objects_are_scrubbed_well};
 use crate::lines::refuse;
 use crate::phases::run_phases;
-use crate::sessions::{Stop, session_given};
+use crate::sessions::{Unstarted, session_given};
 use crate::statuses::Status;
 use crate::threads::Host;
 use base_core::laws::a_stop_opens_again;
@@ -39,7 +39,7 @@ use std::thread::Threads;
 
 /// How a call ended: its status, the disk, and the history of the base that it opened, which is empty where it opened none.
 #[derive(Drop)]
-pub struct Ended<D: Disk> {
+pub struct SessionResult<D: Disk> {
     pub status: Status,
     pub disk: D,
     pub history: History<D>,
@@ -66,12 +66,12 @@ fn status_of(run: Result<bool, Or<WriteFault>>, rose: bool) -> Status
 }
 
 /// Why no base was opened, by whether the disk's faults rose.
-fn stop_of(cause: OpenCause, rose: bool) -> Stop
-    ensures { result ≡ open_stop cause rose }
+fn of_unopened(cause: OpenCause, rose: bool) -> Unstarted
+    ensures { result ≡ of_unopened cause rose }
 {
     match cause {
-        OpenCause::Damaged(_) if rose => Stop::Unopened(OpenCause::DiskFault),
-        cause => Stop::Unopened(cause),
+        OpenCause::Damaged(_) if rose => Unstarted::Unopened(OpenCause::DiskFault),
+        cause => Unstarted::Unopened(cause),
     }
 }
 
@@ -100,7 +100,7 @@ fn run_opened<R: Threads + Wait + Sync, G: Gate + Sync, K: Sink, D: Disk + Send,
     phases: Vec<PhaseText>,
     sink: &mut K,
     clock: &mut C,
-) -> Ended<D>
+) -> SessionResult<D>
     requires opened { IsJustOpened core.story }
     requires runnable { IsRunnable phases.items }
     ensures { RunsOpened phases.items result.status (first_step core.story) result.history before
@@ -114,7 +114,7 @@ fn run_opened<R: Threads + Wait + Sync, G: Gate + Sync, K: Sink, D: Disk + Send,
     settle(&mut core);
     let status = status_of(run, has_risen(before, core.counts().faults));
     let (disk, history) = core.into_parts();
-    Ended {
+    SessionResult {
         status,
         disk,
         history,
@@ -128,7 +128,7 @@ fn run_session<R: Threads + Wait + Sync, G: Gate + Sync, K: Sink, D: Disk + Send
     sink: &mut K,
     disk: D,
     clock: &mut C,
-) -> Ended<D>
+) -> SessionResult<D>
     requires runnable { IsRunnable phases.items }
     requires stable { IfTold (D.sight disk).told (λ d. file_of 0 d ≡ stable (bytes_of 0 d)) }
     ensures { RunsSession phases.items result.status result.history
@@ -140,9 +140,9 @@ fn run_session<R: Threads + Wait + Sync, G: Gate + Sync, K: Sink, D: Disk + Send
     match Core::open(host.alloc, host.hashing, disk) {
         Ok(core) => run_opened(host, core, before, phases, sink, clock),
         Err(OpenFault { cause, disk }) => {
-            let stop = stop_of(cause, has_risen(before, disk.counts().faults));
-            Ended {
-                status: refuse(stop, sink),
+            let unstarted = of_unopened(cause, has_risen(before, disk.counts().faults));
+            SessionResult {
+                status: refuse(unstarted, sink),
                 disk,
                 history: History::empty(host.alloc),
             }
@@ -182,7 +182,7 @@ pub fn run_words<
     sink: &mut K,
     disk: D,
     clock: &mut C,
-) -> Ended<D>
+) -> SessionResult<D>
     requires { IsHandedIn (D.sight disk) }
     ensures session { IsSession result.status result.history
         (intake_of words.now (S.sight source.old) (S.sight source.new)) (C.sight clock.old).told
@@ -234,8 +234,8 @@ pub fn run_words<
             };
             run_session(&host, phases, sink, disk, clock)
         }
-        Err(stop) => Ended {
-            status: refuse(stop, sink),
+        Err(unstarted) => SessionResult {
+            status: refuse(unstarted, sink),
             disk,
             history: History::empty(alloc),
         },

@@ -1,8 +1,8 @@
 // The session that the source gives.
 
 ghost use Rattle.std.specs.Prelude.{◌≡◌, IfOk, IfErr};
-ghost use Rattle.session_run.specs.Causes.{intake_of, TakesNoMore};
-ghost use Rattle.session_run.specs.Stops.{GivesPhases, HasStop, unread_stop, unsaid_stop};
+ghost use Rattle.session_run.specs.Calls.Causes.{intake_of, TakesNoMore};
+ghost use Rattle.session_run.specs.Running.Unstarted.{GivesPhases, IsUnstarted, of_unread, of_unsaid};
 
 use crate::words::is_run;
 use base_core::OpenCause;
@@ -14,12 +14,12 @@ use session_text::{PhaseText, read};
 use std::alloc::Global;
 use std::hash::RandomState;
 
-// The most bytes of a session's text.
-const TEXT_LIMIT: usize = 16_777_216;
+/// The most bytes of a session's text.
+pub(crate) const TEXT_LIMIT: usize = 16_777_216;
 
-/// Why no base is opened.
+/// Why a session is not started.
 #[derive(Clone, Copy, Debug, PartialEq, Eq)]
-pub(crate) enum Stop {
+pub(crate) enum Unstarted {
     BadWords,
     ReadFault,
     TooLong,
@@ -28,22 +28,22 @@ pub(crate) enum Stop {
     Unopened(OpenCause),
 }
 
-fn stop_unread(unread: Or<Unread>) -> Stop
-    ensures { result ≡ unread_stop unread }
+fn of_unread(unread: Or<Unread>) -> Unstarted
+    ensures { result ≡ of_unread unread }
 {
     match unread {
-        Or::Is(Unread::Fault) => Stop::ReadFault,
-        Or::Is(Unread::TooLong) => Stop::TooLong,
-        Or::NoMemory => Stop::Unopened(OpenCause::NoMemory),
+        Or::Is(Unread::Fault) => Unstarted::ReadFault,
+        Or::Is(Unread::TooLong) => Unstarted::TooLong,
+        Or::NoMemory => Unstarted::Unopened(OpenCause::NoMemory),
     }
 }
 
-fn stop_unsaid(error: Or<SessionError>) -> Stop
-    ensures { result ≡ unsaid_stop error }
+fn of_unsaid(error: Or<SessionError>) -> Unstarted
+    ensures { result ≡ of_unsaid error }
 {
     match error {
-        Or::Is(error) => Stop::BadSession(error),
-        Or::NoMemory => Stop::Unopened(OpenCause::NoMemory),
+        Or::Is(error) => Unstarted::BadSession(error),
+        Or::NoMemory => Unstarted::Unopened(OpenCause::NoMemory),
     }
 }
 
@@ -53,28 +53,29 @@ pub(crate) fn session_given<S: Source>(
     hashing: RandomState,
     words: &[Text],
     source: &mut S,
-) -> Result<Vec<PhaseText>, Stop>
+) -> Result<Vec<PhaseText>, Unstarted>
     ensures gives { IfOk result
         (λ phases.
         GivesPhases (intake_of words.now (S.sight source.old) (S.sight source.new))
         phases.items) }
-    ensures stops { IfErr result
-        (λ stop. HasStop stop (intake_of words.now (S.sight source.old) (S.sight source.new))) }
+    ensures why { IfErr result
+        (λ unstarted.
+        IsUnstarted unstarted (intake_of words.now (S.sight source.old) (S.sight source.new))) }
     ensures taken { TakesNoMore (intake_of words.now (S.sight source.old) (S.sight source.new)) }
 {
     if !is_run(words) {
-        return Err(Stop::BadWords);
+        return Err(Unstarted::BadWords);
     }
     let text = match read_whole(alloc, source, TEXT_LIMIT) {
         Ok(text) => text,
-        Err(unread) => return Err(stop_unread(unread)),
+        Err(unread) => return Err(of_unread(unread)),
     };
     let session = match read(alloc, hashing, text) {
         Ok(session) => session,
-        Err(error) => return Err(stop_unsaid(error)),
+        Err(error) => return Err(of_unsaid(error)),
     };
     match session.into_phases().into_vec(alloc) {
         Ok(phases) => Ok(phases),
-        Err(NoMemory) => Err(stop_unsaid(Or::NoMemory)),
+        Err(NoMemory) => Err(of_unsaid(Or::NoMemory)),
     }
 }

@@ -1,7 +1,7 @@
 // How a call ends.
 
 ghost use Rattle.std.specs.Prelude.{◌≡◌};
-ghost use Rattle.session_run.specs.Statuses.{number_of};
+ghost use Rattle.session_run.specs.Calls.Statuses.{number_of};
 
 /// How a call of the program ends.
 #[derive(Clone, Copy, Debug, PartialEq, Eq)]

@@ -7,10 +7,11 @@ ghost use Rattle.legal_history.specs.Stories.Lanes.{IsWithin};
 ghost use Rattle.legal_history.specs.Stories.States.{all_done};
 ghost use Rattle.legal_history.specs.Stories.Steps.{state_of};
 ghost use Rattle.clearmake.specs.Passes.{AreLanesDone};
-ghost use Rattle.session_run.specs.Begun.{is_opened};
-ghost use Rattle.session_run.specs.Since.{IsSince};
+ghost use Rattle.session_run.specs.Running.Since.{IsSince};
+ghost use Rattle.session_run.specs.Story.Begun.{is_opened};
 
 use crate::desks::{Beginning, PhaseCore};
+use crate::sessions::TEXT_LIMIT;
 use base_core::Core;
 use cc_outside::Gate;
 use clearmake::run_phase;
@@ -22,8 +23,8 @@ use std::marker::{Brand, PhantomData};
 use std::sync::Wait;
 use std::thread::Threads;
 
-// How many turns a lane has at most: it has fewer commands, since the text of a session (`sessions.rt`) has no more bytes.
-const TURNS: u32 = 16_777_216;
+// How many turns a lane has at most: it has fewer commands, since the text of a session has no more bytes.
+const TURNS: u32 = TEXT_LIMIT as u32;
 
 /// What the phases of a session are run by: threads, memory, the keys for hashing, and the gate of the runs of scripts.
 #[derive(Drop)]

@@ -4,7 +4,7 @@ ghost use Rattle.std.specs.Prelude.{◌≡◌, ◌≤◌, ◌<◌, ◌++◌, IfO
 ghost use Rattle.legal_history.specs.Stories.Steps.{state_of};
 ghost use Rattle.base_core.specs.Story.Replying.{replies_of};
 ghost use Rattle.reply_text.specs.Replies.{render};
-ghost use Rattle.session_run.specs.Rendered.{phase_line, lanes_text, transcript};
+ghost use Rattle.session_run.specs.Story.Rendered.{phase_line, lanes_text, transcript};
 
 use base_core::Core;
 use cc_names::commands::Phase;

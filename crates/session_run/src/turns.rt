@@ -51,7 +51,7 @@ impl Model for Turns {
 
 impl Turns {
     ghost use Rattle.std.specs.Prelude.{◌≡◌, ◌≤◌, IfOk, length, replicate};
-    ghost use Rattle.session_run.specs.Turns.{turn_at, with_turn};
+    ghost use Rattle.session_run.specs.Running.Turns.{turn_at, with_turn};
     ghost use Rattle.session_run.specs.declared.turns.LaneTurn.TheVariants as lane_turns;
 
     /// So many lanes, each before its first command.

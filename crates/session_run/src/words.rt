@@ -1,7 +1,7 @@
 // The forms of words.
 
 ghost use Rattle.std.specs.Prelude.{◌≡◌};
-ghost use Rattle.session_run.specs.Asked.{is_run};
+ghost use Rattle.session_run.specs.Calls.Asked.{is_run};
 
 use cc_names::texts::Text;
 

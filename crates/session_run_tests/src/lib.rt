@@ -5,8 +5,8 @@
 //
 // What it promises: nothing; it is only run.
 //
-// What it stands on: `session_run` for the top call, `base_core` for histories, `disk_model` and `cc_outside` for the doubles, and
-// `cc_names` for texts, rows, names and paths.
+// What it stands on: `session_run` for the top call, `base_core` for histories, `disk_model` and `cc_outside` for the doubles,
+// and `cc_names` for texts, rows, names and paths.
 #![tactic(auto)]
 
 #[cfg(test)]

@@ -2,13 +2,13 @@
 
 ghost use Rattle.std.specs.Prelude.{◌<◌, IfOk, length};
 ghost use Rattle.disk_model.specs.MemoryDisks.{sight_of};
-ghost use Rattle.session_run.specs.Stopped.{IsHandedIn};
+ghost use Rattle.session_run.specs.Faults.Stopped.{IsHandedIn};
 
 use cc_names::memory::NoMemory;
 use cc_names::texts::Text;
 use cc_outside::{ListClock, MemorySink, MemorySource, OpenGate};
 use disk_model::{Call, MemoryDisk};
-use session_run::{Ended, Status, run_words};
+use session_run::{SessionResult, Status, run_words};
 use std::alloc::Global;
 use std::hash::RandomState;
 use std::process::Abort;
@@ -114,7 +114,7 @@ fn ended_by(
     sink: &mut MemorySink,
     disk: MemoryDisk,
     moments: &[u64],
-) -> Result<Ended<MemoryDisk>, Fail>
+) -> Result<SessionResult<MemoryDisk>, Fail>
     requires handed_in { IsHandedIn (sight_of disk) }
     requires told { 0 < length moments.now }
 {
@@ -194,11 +194,11 @@ fn letter_of(call: &Call) -> char {
 // before it did anything.
 fn calls_on(alloc: Global, disk: &MemoryDisk) -> Result<String, NoMemory> {
     let mut calls = String::new(alloc);
-    for entry in disk.entries() {
-        for _ in 0..entry.failed_before {
+    for traced in disk.trace() {
+        for _ in 0..traced.failed_before {
             calls.push('!')?;
         }
-        calls.push(letter_of(&entry.call))?;
+        calls.push(letter_of(&traced.call))?;
     }
     Ok(calls)
 }

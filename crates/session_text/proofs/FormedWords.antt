@@ -15,10 +15,10 @@ use Rattle.cc_names.specs.declared.refusals.SessionCause.TheVariants.{BadWord}
 use Rattle.cc_names.specs.Formed.{IsTypeName, IsBelowRoot, begins_with_letter}
 use Rattle.cc_names.specs.Names.{IsName, name_fault, unless_fault}
 use Rattle.cc_names.specs.Numbers.{number_of, below_limit, begins_wrong}
-use Rattle.cc_names.specs.Paths.{IsPath, path_fault, is_root, is_slash, join_of}
+use Rattle.cc_names.specs.Paths.{IsPath, path_fault, is_root, is_slash, join_of, is_at}
 use Rattle.session_text.specs.Formed.{IsVersionName, MakesPath}
 use Rattle.session_text.specs.Shapes.{first_name, view, only_type, view_path, view_below, maybe_path, type_path, path_type, flag_path, flag_below, has_flag, without_flag}
-use Rattle.session_text.specs.Words.{Said, or_bad, where_so, name_word, path_word, below_root, type_word, within, age_word, jobs_word, numbered, with_branch, behind_main, version_word, is_at, both, says, and_says, cat_by, cat_word, latest_word}
+use Rattle.session_text.specs.Words.{Said, or_bad, where_so, name_word, path_word, below_root, type_word, within, age_word, jobs_word, numbered, with_branch, behind_main, version_word, both, says, and_says, cat_by, cat_word, latest_word}
 
 pub both_is : {X Y : Type 0} (P : X → Type 0) (Q : Y → Type 0) (x : Said X) (y : Said Y) → IfOk x P → IfOk y Q → IfOk (both x y) (λ z. P z.0 × Q z.1)
 both_is P Q (Err cause) y p q = tt

@@ -1,11 +1,11 @@
 -- What single words say.
-use Rattle.std.specs.Prelude.{ℕ, ◌-◌, Bool, true, false, ◌&&◌, ◌==◌, nat_le, Option, Some, None, Result, Ok, Err, List, [], ◌∷◌, ◌++◌, codes, take, drop, length, if◌then◌else◌}
+use Rattle.std.specs.Prelude.{ℕ, ◌-◌, Bool, true, false, ◌&&◌, nat_le, Option, Some, None, Result, Ok, Err, List, [], ◌∷◌, ◌++◌, codes, take, drop, length, if◌then◌else◌}
 use Rattle.std.specs.List.{position, slice_split}
 use Rattle.std.specs.Result.{result_ok}
 use Rattle.std.specs.Str.{bytes_eq}
 use Rattle.cc_names.specs.Names.{name_of}
 use Rattle.cc_names.specs.Numbers.{number_of}
-use Rattle.cc_names.specs.Paths.{path_of, is_root, is_slash}
+use Rattle.cc_names.specs.Paths.{path_of, is_root, is_slash, is_at}
 use Rattle.cc_names.specs.TypeNames.{type_name_of}
 use Rattle.cc_names.specs.declared.commands.VersionName.{VersionName}
 use Rattle.cc_names.specs.declared.refusals.SessionCause.{SessionCause}
@@ -74,10 +74,6 @@ behind_main (branch ∷ next ∷ parts) branches = with_branch (behind_main (nex
 abbrev pub version_word : List ℕ → Said VersionName
 version_word word =
     where_so (bytes_eq (take 6 word) (codes "/main/")) (behind_main (slice_split is_slash (drop 6 word)) [])
-
--- the `@` of a version's name behind a path
-abbrev pub is_at : ℕ → Bool
-is_at b = b == 64
 
 -- two readings, where both gave something
 abbrev pub both : {X Y : Type 0} → Said X → Said Y → Said (X × Y)

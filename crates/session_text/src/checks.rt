@@ -237,8 +237,8 @@ impl Above {
     }
 }
 
-/// Finds the first line of a text that stands wrong or, where none does, the first that is not carried out. Takes time linear in the
-/// text, and for each lane in those of its phase above it; and memory for one command.
+/// Finds the first line of a text that stands wrong or, where none does, the first that is not carried out. Takes time linear in
+/// the text, and for each lane in those of its phase above it; and memory for one command.
 pub(crate) fn check(
     alloc: Global,
     hashing: RandomState,

@@ -437,8 +437,8 @@ fn said_of_queries(
     }
 }
 
-/// The command of a line where it is on types, labels or objects, or a query, whether it is carried out or not. None of them takes
-/// a body.
+/// The command of a line where it is on types, labels or objects, or a query, whether it is carried out or not. None of them
+/// takes a body.
 fn said_of_types_on(
     alloc: Global,
     hashing: RandomState,
@@ -459,7 +459,8 @@ fn said_of_types_on(
     }
 }
 
-/// The command that a word says with the words behind it and with the body lines behind its line, whether it is carried out or not.
+/// The command that a word says with the words behind it and with the body lines behind its line, whether it is carried out or
+/// not.
 pub(crate) fn command_of(
     alloc: Global,
     hashing: RandomState,

@@ -3,15 +3,15 @@
 ghost use Rattle.std.specs.Prelude.{◌≡◌, ◌<◌, ◌+◌, [], length, IfSome, MatchOption, true};
 ghost use Rattle.std.specs.List.{position, slice_split};
 ghost use Rattle.cc_names.specs.Answers.{Gives};
-ghost use Rattle.cc_names.specs.Paths.{is_root, is_slash};
-ghost use Rattle.session_text.specs.Words.{name_word, path_word, below_root, type_word, age_word, jobs_word, numbered, behind_main, version_word, is_at, cat_word, latest_word};
+ghost use Rattle.cc_names.specs.Paths.{is_root, is_slash, is_at};
+ghost use Rattle.session_text.specs.Words.{name_word, path_word, below_root, type_word, age_word, jobs_word, numbered, behind_main, version_word, cat_word, latest_word};
 
 use cc_names::commands::VersionName;
 use cc_names::lists::List;
 use cc_names::memory::Or;
 use cc_names::names::{Name, type_name};
 use cc_names::numbers::number;
-use cc_names::paths::Path;
+use cc_names::paths::{Path, first_slash};
 use cc_names::refusals::SessionCause;
 use std::alloc::Global;
 
@@ -81,13 +81,6 @@ pub(crate) fn jobs_word(word: &[u8]) -> Result<u32, SessionCause>
         Some(jobs) if matches!(jobs, 1..=64) => Ok(jobs as u32),
         _ => Err(SessionCause::BadWord),
     }
-}
-
-fn first_slash(bytes: &[u8]) -> Option<usize>
-    ensures place { result ≡ position is_slash bytes.now }
-    ensures within { IfSome result (λ place. place < length bytes.now) }
-{
-    bytes.iter().position(|byte| *byte == b'/')
 }
 
 fn numbered(branches: Vec<Name>, number: Option<u64>) -> Result<VersionName, Or<SessionCause>>

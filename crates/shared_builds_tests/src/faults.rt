@@ -2,7 +2,7 @@
 
 ghost use Rattle.std.specs.Prelude.{IfOk};
 ghost use Rattle.disk_model.specs.MemoryDisks.{sight_of};
-ghost use Rattle.session_run.specs.Stopped.{IsHandedIn};
+ghost use Rattle.session_run.specs.Faults.Stopped.{IsHandedIn};
 
 use crate::gates::Late;
 use crate::sessions::{Runtime, outside_of, parts_of, run_on, told_of};

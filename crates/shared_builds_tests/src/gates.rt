@@ -18,18 +18,19 @@ pub(crate) enum About {
     Read,
 }
 
-/// A place in the run of a unit's script: the lane by its number, the unit by its first target, and what is asked first there.
+/// A point at which a run of a unit's script asks the gate: the lane by its number, the unit by its first target, and what is
+/// asked first there.
 #[derive(Drop)]
-pub(crate) struct Place {
+pub(crate) struct GatePoint {
     lane: u32,
     unit: &'static str,
     about: About,
     has_come: AtomicBool,
 }
 
-impl Place {
-    pub(crate) fn new(lane: u32, unit: &'static str, about: About) -> Place {
-        Place {
+impl GatePoint {
+    pub(crate) fn new(lane: u32, unit: &'static str, about: About) -> GatePoint {
+        GatePoint {
             lane,
             unit,
             about,
@@ -52,16 +53,16 @@ impl Place {
     }
 }
 
-/// Holds the run that comes to one place until another run has come to another place.
+/// Holds the run that comes to one point until another run has come to another point.
 #[derive(Drop)]
 pub(crate) struct Hold {
-    held: Place,
-    until: Place,
+    held: GatePoint,
+    until: GatePoint,
     gave_up: AtomicBool,
 }
 
 impl Hold {
-    pub(crate) fn new(held: Place, until: Place) -> Hold {
+    pub(crate) fn new(held: GatePoint, until: GatePoint) -> Hold {
         Hold {
             held,
             until,

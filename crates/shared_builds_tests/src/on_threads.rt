@@ -2,7 +2,7 @@
 // to is what it is in any order.
 
 use crate::fronts::ONE_FILE;
-use crate::gates::{About, Counting, Hold, Holds, Place, Runs};
+use crate::gates::{About, Counting, GatePoint, Hold, Holds, Runs};
 use crate::sessions::{ALONE, Front, Runtime, is_as_wanted, outcome_at, parts_of};
 use cc_outside::Gate;
 use std::alloc::Global;
@@ -65,12 +65,12 @@ status 0, 12 rows
 fn scripts_of_two_lanes_meet_at_their_reads(rt: HostRuntime) -> Result<(), Fail> {
     let holds = [
         Hold::new(
-            Place::new(1, "out", About::Read),
-            Place::new(2, "out", About::Read),
+            GatePoint::new(1, "out", About::Read),
+            GatePoint::new(2, "out", About::Read),
         ),
         Hold::new(
-            Place::new(2, "out", About::Read),
-            Place::new(1, "out", About::Read),
+            GatePoint::new(2, "out", About::Read),
+            GatePoint::new(1, "out", About::Read),
         ),
     ];
     assert_held(&rt, rt.alloc(), &holds, ONE_FILE, TWO_LANES)
@@ -116,12 +116,12 @@ status 0, 8 rows
 fn scripts_of_one_build_meet_at_their_reads(rt: HostRuntime) -> Result<(), Fail> {
     let holds = [
         Hold::new(
-            Place::new(1, "main.o", About::Read),
-            Place::new(1, "util.o", About::Read),
+            GatePoint::new(1, "main.o", About::Read),
+            GatePoint::new(1, "util.o", About::Read),
         ),
         Hold::new(
-            Place::new(1, "util.o", About::Read),
-            Place::new(1, "main.o", About::Read),
+            GatePoint::new(1, "util.o", About::Read),
+            GatePoint::new(1, "main.o", About::Read),
         ),
     ];
     assert_held(&rt, rt.alloc(), &holds, ALONE, PROGRAM_OF_TWO)
@@ -131,18 +131,18 @@ fn scripts_of_one_build_meet_at_their_reads(rt: HostRuntime) -> Result<(), Fail>
 fn scripts_of_one_build_are_inside_at_once(rt: HostRuntime) -> Result<(), Fail> {
     let holds = [
         Hold::new(
-            Place::new(1, "main.o", About::Enter),
-            Place::new(1, "util.o", About::Enter),
+            GatePoint::new(1, "main.o", About::Enter),
+            GatePoint::new(1, "util.o", About::Enter),
         ),
         Hold::new(
-            Place::new(1, "util.o", About::Enter),
-            Place::new(1, "main.o", About::Enter),
+            GatePoint::new(1, "util.o", About::Enter),
+            GatePoint::new(1, "main.o", About::Enter),
         ),
     ];
     assert_held(&rt, rt.alloc(), &holds, ALONE, PROGRAM_OF_TWO)
 }
 
-// Of two builders one is dealt `a` and `c`, the other `b`, and none of them stands on another.
+// The first of two builders is dealt all three, and none of them stands on another.
 const STOLEN: &str = "\
 phase
 lane a
@@ -167,17 +167,17 @@ lane a
 status 0, 5 rows
 ";
 
-/// Whoever runs `a` is held there, so one of the two has what the other was dealt.
+/// Whoever runs `a` is held there until the other has stolen `c`.
 #[test]
 fn a_builder_without_tasks_steals_one(rt: HostRuntime) -> Result<(), Fail> {
     let holds = [Hold::new(
-        Place::new(1, "a", About::Enter),
-        Place::new(1, "c", About::Enter),
+        GatePoint::new(1, "a", About::Enter),
+        GatePoint::new(1, "c", About::Enter),
     )];
     assert_held(&rt, rt.alloc(), &holds, ALONE, STOLEN)
 }
 
-// Of two builders one is dealt `a` and `c`, the other `b` and `d`, which need `a`.
+// The first of two builders is dealt `a`, `b`, `c` and `d`; `b` and `d` need `a`.
 const RELEASED: &str = "\
 phase
 lane a
@@ -205,29 +205,28 @@ lane a
 status 0, 6 rows
 ";
 
-/// The run of `a` lasts until `c` begins. Whoever was dealt `b` and `d` has tried both in vain by then, since it takes its own
-/// tasks first. So builders come to them only as `a` releases them; what no builder runs is run by one thread, where they never
-/// meet.
+/// The run of `a` lasts until `c` begins, by when the second builder has stolen `b` and tried it in vain. So builders come to
+/// it only as `a` releases it; what no builder runs is run by one thread, where it would never meet `d`.
 #[test]
 fn a_unit_is_driven_once_it_is_released(rt: HostRuntime) -> Result<(), Fail> {
     let holds = [
         Hold::new(
-            Place::new(1, "a", About::Enter),
-            Place::new(1, "c", About::Enter),
+            GatePoint::new(1, "a", About::Enter),
+            GatePoint::new(1, "c", About::Enter),
         ),
         Hold::new(
-            Place::new(1, "b", About::Enter),
-            Place::new(1, "d", About::Enter),
+            GatePoint::new(1, "b", About::Enter),
+            GatePoint::new(1, "d", About::Enter),
         ),
         Hold::new(
-            Place::new(1, "d", About::Enter),
-            Place::new(1, "b", About::Enter),
+            GatePoint::new(1, "d", About::Enter),
+            GatePoint::new(1, "b", About::Enter),
         ),
     ];
     assert_held(&rt, rt.alloc(), &holds, ALONE, RELEASED)
 }
 
-// Of two builders one is dealt `a`, `c` and `e`, the other `b`, `d`, which needs `a`, and `f`.
+// The first of two builders is dealt `a`, `x`, `f`, which needs `x`, and `d`, which needs `a`.
 const LAID_TWICE: &str = "\
 phase
 lane a
@@ -235,17 +234,13 @@ mkview v
 save v Makefile
 |a:
 |\techo hi > a
-|b:
-|\techo hi > b
-|c:
-|\techo hi > c
+|x:
+|\techo hi > x
+|f: x
+|\tcat x > f
 |d: a
 |\tcat a > d
-|e:
-|\techo hi > e
-|f:
-|\techo hi > f
-clearmake v -J 2 a b c d e f
+clearmake v -J 2 a f d
 ----
 phase 1
 lane a
@@ -253,26 +248,25 @@ lane a
 2 save ok
 3 clearmake ok
   a built 3 98ea6e4f216f2fb4b69fff9b3a44842c38686ca685f3f55dc48c5d3fb1107be4
-  b built 3 98ea6e4f216f2fb4b69fff9b3a44842c38686ca685f3f55dc48c5d3fb1107be4
-  c built 3 98ea6e4f216f2fb4b69fff9b3a44842c38686ca685f3f55dc48c5d3fb1107be4
-  d built 3 98ea6e4f216f2fb4b69fff9b3a44842c38686ca685f3f55dc48c5d3fb1107be4
-  e built 3 98ea6e4f216f2fb4b69fff9b3a44842c38686ca685f3f55dc48c5d3fb1107be4
+  x built 3 98ea6e4f216f2fb4b69fff9b3a44842c38686ca685f3f55dc48c5d3fb1107be4
   f built 3 98ea6e4f216f2fb4b69fff9b3a44842c38686ca685f3f55dc48c5d3fb1107be4
-status 0, 8 rows
+  d built 3 98ea6e4f216f2fb4b69fff9b3a44842c38686ca685f3f55dc48c5d3fb1107be4
+status 0, 6 rows
 ";
 
-/// The first builder comes to `d` once `a` has released it, while the second one is held in `b`; and `d` is the second one's next
-/// task too, before `f`. The run of `d` lasts until `f` begins, which would never come if the second one ran `d` as well.
+/// As the first builder comes to `x`, `d` lies in its deque twice, since `a` has released it. The second one steals `f`, which
+/// it tries in vain, and `d`, whose run lets that of `x` go on and lasts until `f` begins. The first builder comes to the other
+/// `d` before `f`, which `x` has released by then: if it ran `d` as well, nobody would come to `f`.
 #[test]
 fn a_unit_that_is_laid_twice_is_run_once(rt: HostRuntime) -> Result<(), Fail> {
     let holds = [
         Hold::new(
-            Place::new(1, "b", About::Enter),
-            Place::new(1, "d", About::Enter),
+            GatePoint::new(1, "x", About::Enter),
+            GatePoint::new(1, "d", About::Enter),
         ),
         Hold::new(
-            Place::new(1, "d", About::Enter),
-            Place::new(1, "f", About::Enter),
+            GatePoint::new(1, "d", About::Enter),
+            GatePoint::new(1, "f", About::Enter),
         ),
     ];
     assert_held(&rt, rt.alloc(), &holds, ALONE, LAID_TWICE)
@@ -339,12 +333,12 @@ lane a
 fn holds_between_builds() -> [Hold; 2] {
     [
         Hold::new(
-            Place::new(2, "pre", About::Enter),
-            Place::new(1, "out", About::Enter),
+            GatePoint::new(2, "pre", About::Enter),
+            GatePoint::new(1, "out", About::Enter),
         ),
         Hold::new(
-            Place::new(1, "out", About::Enter),
-            Place::new(2, "out", About::Enter),
+            GatePoint::new(1, "out", About::Enter),
+            GatePoint::new(2, "out", About::Enter),
         ),
     ]
 }

@@ -110,8 +110,8 @@ fn what_was_made_from_another_object_is_made_again(rt: HostRuntime) -> Result<()
 }
 
 // View `v` builds rows 17 to 19, and `w` builds `one` anew in row 20. View `x` winks in the newer `one`, and `two`, by rows 22
-// and 23: `prog` of row 19 was made from the older one, so it is built again, in row 24. View `w` keeps its own `one`, and winks in
-// `two` and what `x` made.
+// and 23: `prog` of row 19 was made from the older one, so it is built again, in row 24. View `w` keeps its own `one`, and winks
+// in `two` and what `x` made.
 const ANOTHER_OBJECT: &str = "\
 clearmake v
 clearmake w -u one

@@ -9,13 +9,13 @@
 
 ghost use Rattle.std.specs.Prelude.{IfOk};
 ghost use Rattle.disk_model.specs.MemoryDisks.{sight_of};
-ghost use Rattle.session_run.specs.Stopped.{IsHandedIn};
+ghost use Rattle.session_run.specs.Faults.Stopped.{IsHandedIn};
 
 use cc_names::memory::NoMemory;
 use cc_names::texts::Text;
 use cc_outside::{Gate, ListClock, MemorySink, MemorySource, OpenGate};
 use disk_model::MemoryDisk;
-use session_run::{Ended, run_words};
+use session_run::{SessionResult, run_words};
 use std::alloc::Global;
 use std::hash::RandomState;
 use std::process::Abort;
@@ -90,7 +90,7 @@ pub(crate) fn run_on<G: Gate + Sync>(
     gate: &G,
     disk: MemoryDisk,
     outside: &mut Outside,
-) -> Result<Ended<MemoryDisk>, Fail>
+) -> Result<SessionResult<MemoryDisk>, Fail>
     requires { IsHandedIn (sight_of disk) }
 {
     let words = words_of_run(alloc)?;
@@ -114,7 +114,7 @@ pub(crate) fn run_in<G: Gate + Sync>(
     gate: &G,
     journal: &[u8],
     outside: &mut Outside,
-) -> Result<Ended<MemoryDisk>, Fail> {
+) -> Result<SessionResult<MemoryDisk>, Fail> {
     let disk = disk_with(alloc, journal)?;
     run_on(rt, alloc, gate, disk, outside)
 }
@@ -123,7 +123,7 @@ pub(crate) fn run_in<G: Gate + Sync>(
 pub(crate) fn told_of(
     alloc: Global,
     written: &[u8],
-    ended: &Ended<MemoryDisk>,
+    ended: &SessionResult<MemoryDisk>,
 ) -> Result<String, NoMemory> {
     let (status, rows) = (ended.status.code(), ended.history.rows().len());
     let written = Text::from_bytes(alloc, written)?;
@@ -140,7 +140,7 @@ pub(crate) struct Outcome {
 fn outcome_of(
     alloc: Global,
     written: &[u8],
-    ended: &Ended<MemoryDisk>,
+    ended: &SessionResult<MemoryDisk>,
 ) -> Result<Outcome, NoMemory> {
     let told = told_of(alloc, written, ended)?;
     let journal = ended.disk.bytes(0).to_vec(alloc)?;

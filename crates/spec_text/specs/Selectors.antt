@@ -1,11 +1,11 @@
 -- Which words spell a selector of a config spec.
-use Rattle.std.specs.Prelude.{ℕ, Bool, true, false, ◌&&◌, ◌==◌, Option, Some, None, ok_or, Result, Ok, List, [], ◌∷◌, ◌++◌, codes, if◌then◌else◌}
+use Rattle.std.specs.Prelude.{ℕ, Bool, true, false, ◌&&◌, Option, Some, None, ok_or, Result, Ok, List, [], ◌∷◌, ◌++◌, codes, if◌then◌else◌}
 use Rattle.std.specs.List.{slice_split}
 use Rattle.std.specs.Option.{option_map, option_and_then, option_or}
 use Rattle.std.specs.Result.{result_ok}
 use Rattle.std.specs.Str.{bytes_eq}
 use Rattle.cc_names.specs.Numbers.{number_of}
-use Rattle.cc_names.specs.Paths.{is_slash, path_of}
+use Rattle.cc_names.specs.Paths.{is_slash, is_at, path_of}
 use Rattle.cc_names.specs.TypeNames.{type_name_of}
 use Rattle.cc_names.specs.declared.refusals.SpecCause.{SpecCause}
 use Rattle.cc_names.specs.declared.refusals.SpecCause.TheVariants.{BadSelector, BadType}
@@ -45,10 +45,6 @@ selector_of_word word =
     if bytes_eq word (codes "CHECKEDOUT") then Some CheckedOut
     else if bytes_eq word (codes "-none") then Some Nothing
     else option_or (option_map Label (type_name_of word)) (selector_of_parts (slice_split is_slash word))
-
--- whether a byte is `@`
-abbrev pub is_at : ℕ → Bool
-is_at b = b == 64
 
 -- the selector by an object's path and number
 abbrev pub of_object : List ℕ → List ℕ → Option Selector

@@ -47,29 +47,29 @@ fn before(word: Option<&[u8]>, block: Option<u64>) -> Result<Option<u64>, Or<Spe
 
 /// Where a line stands: its number, and the time of the innermost block around it.
 #[derive(Clone, Copy)]
-pub(crate) struct Place {
+pub(crate) struct LineContext {
     pub line: u32,
     pub block: Option<u64>,
 }
 
 fn rule(
     alloc: Global,
-    place: Place,
+    context: LineContext,
     pattern: &[u8],
     behind_config: bool,
     selector: &[u8],
     options: Options,
 ) -> Result<Line, Or<SpecCause>>
     ensures { Gives result
-        (rule_of place.line place.block pattern.now behind_config selector.now
+        (rule_of context.line context.block pattern.now behind_config selector.now
         (plain_options options.entry)) }
 {
     let pattern = read_pattern(alloc, pattern)?;
     let selector = read_selector(alloc, behind_config, selector)?;
-    let before = before(options.time, place.block)?;
+    let before = before(options.time, context.block)?;
     let mkbranch = read_branch_type(alloc, options.mkbranch)?;
     Ok(Line::Gives(Rule {
-        line: place.line,
+        line: context.line,
         pattern,
         selector,
         before,
@@ -80,38 +80,42 @@ fn rule(
 
 fn rule_with_options(
     alloc: Global,
-    place: Place,
+    context: LineContext,
     pattern: &[u8],
     behind_config: bool,
     selector: &[u8],
     words: Words<'_>,
 ) -> Result<Line, Or<SpecCause>>
     ensures { Gives result
-        (with_options place.line place.block pattern.now behind_config selector.now
+        (with_options context.line context.block pattern.now behind_config selector.now
         (options_from words.entry no_options)) }
 {
     match read_options(words) {
         None => Err(Or::Is(SpecCause::BadRule)),
-        Some(options) => rule(alloc, place, pattern, behind_config, selector, options),
+        Some(options) => rule(alloc, context, pattern, behind_config, selector, options),
     }
 }
 
 fn object_line(
     alloc: Global,
-    place: Place,
+    context: LineContext,
     pattern: &[u8],
     mut words: Words<'_>,
 ) -> Result<Line, Or<SpecCause>>
-    ensures { Gives result (object_line place.line place.block pattern.now words.entry) }
+    ensures { Gives result (object_line context.line context.block pattern.now words.entry) }
 {
     match words.next() {
         None => Err(Or::Is(SpecCause::BadRule)),
-        Some(object) => rule_with_options(alloc, place, pattern, true, object, words),
+        Some(object) => rule_with_options(alloc, context, pattern, true, object, words),
     }
 }
 
-fn element_line(alloc: Global, place: Place, mut words: Words<'_>) -> Result<Line, Or<SpecCause>>
-    ensures { Gives result (element_line place.line place.block words.entry) }
+fn element_line(
+    alloc: Global,
+    context: LineContext,
+    mut words: Words<'_>,
+) -> Result<Line, Or<SpecCause>>
+    ensures { Gives result (element_line context.line context.block words.entry) }
 {
     let Some(pattern) = words.next() else {
         return Err(Or::Is(SpecCause::BadRule));
@@ -120,9 +124,9 @@ fn element_line(alloc: Global, place: Place, mut words: Words<'_>) -> Result<Lin
         return Err(Or::Is(SpecCause::BadRule));
     };
     if selector == b"-config".as_slice() {
-        return object_line(alloc, place, pattern, words);
+        return object_line(alloc, context, pattern, words);
     }
-    rule_with_options(alloc, place, pattern, false, selector, words)
+    rule_with_options(alloc, context, pattern, false, selector, words)
 }
 
 fn time_line(mut words: Words<'_>) -> Result<Line, Or<SpecCause>>
@@ -156,8 +160,12 @@ fn is_comment(word: &[u8]) -> bool
 }
 
 /// What a line says, or why it is none, in time linear in its bytes.
-pub(crate) fn read_line(alloc: Global, place: Place, bytes: &[u8]) -> Result<Line, Or<SpecCause>>
-    ensures { Gives result (line_of place.line place.block bytes.now) }
+pub(crate) fn read_line(
+    alloc: Global,
+    context: LineContext,
+    bytes: &[u8],
+) -> Result<Line, Or<SpecCause>>
+    ensures { Gives result (line_of context.line context.block bytes.now) }
 {
     let mut words = Words::of(bytes);
     let Some(word) = words.next() else {
@@ -166,7 +174,7 @@ pub(crate) fn read_line(alloc: Global, place: Place, bytes: &[u8]) -> Result<Lin
     if is_comment(word) {
         Ok(Line::Skipped)
     } else if word == b"element".as_slice() {
-        element_line(alloc, place, words)
+        element_line(alloc, context, words)
     } else if word == b"time".as_slice() {
         time_line(words)
     } else if word == b"end".as_slice() {

@@ -4,8 +4,9 @@ ghost use Rattle.std.specs.Prelude.{◌≡◌, IfOk, []};
 ghost use Rattle.std.specs.Option.{option_copied};
 ghost use Rattle.std.specs.List.{slice_split};
 ghost use Rattle.cc_names.specs.Answers.{Gives};
+ghost use Rattle.cc_names.specs.Paths.{is_at};
 ghost use Rattle.cc_names.specs.TypeNames.{type_name_of};
-ghost use Rattle.spec_text.specs.Selectors.{is_at, on_branch, behind_main, behind_dots, selector_of_parts, selector_of_word, of_object, object_of_parts, selector_of, branch_type_of};
+ghost use Rattle.spec_text.specs.Selectors.{on_branch, behind_main, behind_dots, selector_of_parts, selector_of_word, of_object, object_of_parts, selector_of, branch_type_of};
 ghost use Rattle.spec_text.specs.Parts.{parts_left};
 
 use crate::parts::split_part;

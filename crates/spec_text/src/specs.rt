@@ -4,7 +4,7 @@ ghost use Rattle.std.specs.Prelude.{◌≡◌, ◌<◌, ◌^◌, length, slice_g
 ghost use Rattle.cc_names.specs.Answers.{Gives};
 ghost use Rattle.spec_text.specs.Reading.{at_line};
 
-use crate::lines::{Line, Place, read_line};
+use crate::lines::{Line, LineContext, read_line};
 use cc_names::cuts::Lines;
 use cc_names::memory::Or;
 use cc_names::refusals::{SpecCause, SpecError};
@@ -92,11 +92,11 @@ impl Reader {
         ensures { Gives result
             (after_read (line_of number (slice_get self.blocks 0) bytes.now) self) }
     {
-        let place = Place {
+        let context = LineContext {
             line: number,
             block: self.innermost(),
         };
-        let line = read_line(alloc, place, bytes)?;
+        let line = read_line(alloc, context, bytes)?;
         self.take(line)
     }
 

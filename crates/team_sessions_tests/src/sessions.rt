@@ -5,13 +5,13 @@
 
 ghost use Rattle.std.specs.Prelude.{IfOk};
 ghost use Rattle.disk_model.specs.MemoryDisks.{sight_of};
-ghost use Rattle.session_run.specs.Stopped.{IsHandedIn};
+ghost use Rattle.session_run.specs.Faults.Stopped.{IsHandedIn};
 
 use cc_names::memory::NoMemory;
 use cc_names::texts::Text;
 use cc_outside::{ListClock, MemorySink, MemorySource, OpenGate};
 use disk_model::MemoryDisk;
-use session_run::{Ended, run_words};
+use session_run::{SessionResult, run_words};
 use std::alloc::Global;
 use std::hash::RandomState;
 use std::process::Abort;
@@ -127,7 +127,7 @@ fn run_in(
     alloc: Global,
     journal: &[u8],
     outside: &mut Outside,
-) -> Result<Ended<MemoryDisk>, Fail> {
+) -> Result<SessionResult<MemoryDisk>, Fail> {
     let words = words_of_run(alloc)?;
     let disk = disk_with(alloc, journal)?;
     Ok(run_words(
@@ -144,7 +144,11 @@ fn run_in(
 }
 
 // What was written, and then the line of the status and the rows.
-fn told_of(alloc: Global, written: &[u8], ended: &Ended<MemoryDisk>) -> Result<String, NoMemory> {
+fn told_of(
+    alloc: Global,
+    written: &[u8],
+    ended: &SessionResult<MemoryDisk>,
+) -> Result<String, NoMemory> {
     let (status, rows) = (ended.status.code(), ended.history.rows().len());
     let written = Text::from_bytes(alloc, written)?;
     Ok(format!(in alloc; "{written}status {status}, {rows} rows\n")?)
@@ -160,7 +164,7 @@ pub(crate) struct Outcome {
 fn outcome_of(
     alloc: Global,
     written: &[u8],
-    ended: &Ended<MemoryDisk>,
+    ended: &SessionResult<MemoryDisk>,
 ) -> Result<Outcome, NoMemory> {
     let told = told_of(alloc, written, ended)?;
     let journal = ended.disk.bytes(0).to_vec(alloc)?;

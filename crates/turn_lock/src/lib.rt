@@ -14,6 +14,7 @@
 mod lock;
 mod moves;
 mod rule;
+mod sleepers;
 mod story;
 #[cfg(test)]
 mod tests;

@@ -3,6 +3,7 @@
 //! A ticket lock: who wants the value draws a number, and has its turn when the number is served. No call but `new`
 //! takes memory.
 ghost use Rattle.std.specs.Prelude.{◌≡◌, ℕ, ◌+◌, ◌-◌, ◌/◌, ◌%◌, ◌^◌, ◌<◌, ◌≤◌, [], ◌∷◌, IfOk, IfErr, Some, None};
+ghost use Rattle.std.specs.Bool.{OnTrue, OnFalse};
 ghost use mathlib.Core.List.{IsPrefix};
 ghost use Rattle.turn_lock.specs.declared.rule.Stage.TheVariants.{Idle, Waits};
 ghost use Rattle.turn_lock.specs.Sight.{IsLongerOf};
@@ -11,20 +12,18 @@ ghost use Rattle.turn_lock.specs.Moves.{HasTaken};
 
 use crate::moves::{Draw, Give, Halve, Look, Settle, Unite};
 use crate::rule::{DRAWN, Opening, SERVED, SharedTable, TurnSeat, TurnTable, VALUE};
+use crate::sleepers::Sleepers;
 use crate::story::Storied;
 use atomic_table::{Refused, Table};
 use std::alloc::Global;
-use std::hint;
 use std::marker::Model;
 use std::snapshot::Snapshot;
 use std::sync::Wait;
-use std::sync::atomic::{AtomicU64, Ordering};
+use std::thread;
 
-// How often a thread looks whether its turn has come before it sleeps: about as long as it takes to sleep and to be woken.
-const LOOKS: u32 = 400;
-
-// It looks so while at most as many turns come before its own.
-const NEAR: u64 = 3;
+// How often the thread whose turn is next looks for it before it sleeps: for some tenths of a millisecond where nothing else
+// runs on its processor. To be woken takes long beside most turns.
+const LOOKS: u32 = 1_000;
 
 /// A lock round one value, which its passes take in turns.
 ///
@@ -33,8 +32,7 @@ const NEAR: u64 = 3;
 /// that threads are served in any order, or any time. A thread that keeps the value keeps all others waiting.
 pub struct TurnLock<T: Storied> {
     table: TurnTable<T>,
-    // How many threads sleep, or are about to.
-    sleepers: AtomicU64,
+    sleepers: Sleepers,
 }
 
 impl<T: Storied> Model for TurnLock<T> {
@@ -102,8 +100,8 @@ impl<T: Storied> Model for Held<T> {
 impl<T: Storied> TurnLock<T> {
     /// A lock round the value, and one pass with the whole weight, which has seen the value's story.
     ///
-    /// For want of memory alone the value comes back. The lock keeps one block with room for the value and one of two
-    /// words.
+    /// For want of memory alone the value comes back. The lock keeps one block with room for the value, one of two words, and
+    /// one of 256 words for those that wait.
     pub fn new(alloc: Global, value: T, weight: u64) -> Result<(TurnLock<T>, Pass<T>), T>
         requires { 1 ≤ weight }
         ensures ok { IfOk result
@@ -119,15 +117,13 @@ impl<T: Storied> TurnLock<T> {
         let Ok(mut slots) = Vec::with_capacity(alloc, 1) else {
             return Err(value);
         };
+        let Ok(sleepers) = Sleepers::new(alloc) else {
+            slots.destroy_empty();
+            return Err(value);
+        };
         slots.push_reserved(Some(value));
         match Table::new(alloc, &[0, 0], slots, &opening) {
-            Ok((table, seat)) => {
-                let lock = TurnLock {
-                    table,
-                    sleepers: AtomicU64::new(0),
-                };
-                Ok((lock, Pass { seat }))
-            }
+            Ok((table, seat)) => { Ok((TurnLock { table, sleepers }, Pass { seat })) }
             Err(Refused { slots }) => Err(only(slots)),
         }
     }
@@ -168,9 +164,9 @@ impl<T: Storied> TurnLock<T> {
 
     /// Waits for the pass's turn, and takes the value. Its story begins with all that the pass has seen.
     ///
-    /// It need not return: no turn is promised, nor any order of turns. Uncontended it costs two atomic steps. A thread that
-    /// waits looks for its turn, for some microseconds, where few turns come before its own, and then sleeps;
-    /// it is woken at each turn until its own.
+    /// It need not return: no turn is promised, nor any order of turns. Uncontended it costs one atomic addition and some
+    /// loads. A thread that waits sleeps until it is next, looks then for its turn a thousand times, and sleeps again if it
+    /// has not come.
     pub fn take<R: Wait>(&self, rt: &R, pass: Pass<T>) -> (Held<T>, T)
         requires own { pass.lock ≡ self.now.id }
         ensures own { result.0.lock ≡ pass.lock }
@@ -186,11 +182,10 @@ impl<T: Storied> TurnLock<T> {
         (Held { seat }, value)
     }
 
-    /// Gives the value back, with a story that begins with the one taken, and wakes those who wait. The pass has then
-    /// seen the given story whole.
+    /// Gives the value back, with a story that begins with the one taken, and wakes the thread whose turn it is, and the one
+    /// that is next then. The pass has then seen the given story whole.
     ///
-    /// It waits for nobody. Uncontended it costs two atomic steps and a load, else it also wakes every thread that
-    /// sleeps.
+    /// It waits for nobody. It costs one atomic addition and two loads; where threads sleep it also wakes those at two places.
     pub fn give(&self, held: Held<T>, value: T) -> Pass<T>
         requires own { held.lock ≡ self.now.id }
         requires story { IsPrefix held.story (T.story value) }
@@ -202,11 +197,9 @@ impl<T: Storied> TurnLock<T> {
         let shared = &self.table.shared;
         let taken = shared.exchange(&mut seat, VALUE, Some(value));
         let None = taken else { unreachable!() };
-        shared.fetch_add::<Give<T>>(&mut seat, SERVED, 1);
-        // Who is about to sleep and was not counted yet finds the number just served, and does not.
-        if self.sleepers.load(Ordering::SeqCst) > 0 {
-            shared.wake_all(SERVED);
-        }
+        let served = shared.fetch_add::<Give<T>>(&mut seat, SERVED, 1);
+        self.sleepers.call(served.wrapping_add(1));
+        self.sleepers.call(served.wrapping_add(2));
         Pass { seat }
     }
 
@@ -226,25 +219,39 @@ impl<T: Storied> TurnLock<T> {
     }
 }
 
-// Looks for a while whether it is the ticket's turn, where few turns come before it: most turns are shorter than a sleep.
+// Looks for a while whether it is the ticket's turn, where the turn before it has begun. Other threads may run meanwhile, the
+// one that has the value among them.
 fn look_ahead<T: Storied>(shared: &SharedTable<T>, ticket: u64)
     requires { shared.now.table_id.words ≡ 2 }
 {
     for _ in 0..LOOKS {
         let served = shared.peek(SERVED);
-        if served == ticket || ticket.wrapping_sub(served) > NEAR {
+        if ticket == served || ticket.wrapping_sub(served) > 1 {
             return;
         }
-        hint::spin_loop();
+        thread::yield_now();
     }
 }
 
-// Waits until it is the ticket's turn, and then has the value in hand. A thread sleeps only while the word still reads
-// what it last found there, so a turn that comes between the look and the sleep is not missed.
+// Looks whether it is the ticket's turn, and then has the value in hand.
+fn has_turn<T: Storied>(shared: &SharedTable<T>, seat: &mut TurnSeat<T>, ticket: u64) -> bool
+    requires own { (seat.old.table_id ≡ shared.now.table_id) × (shared.now.table_id.words ≡ 2) }
+    requires waits { (t : ℕ) × (seat.old.me.0.stage ≡ Waits t) × (ticket ≡ in_word t) }
+    requires empty { seat.old.me.1 ≡ [] }
+    ensures own { seat.new.table_id ≡ seat.old.table_id }
+    ensures taken { OnTrue result (HasTaken T.story seat.old.me seat.new.me) }
+    ensures same { OnFalse result (seat.new.me ≡ seat.old.me) }
+{
+    let served = shared.load::<Look<T>>(seat, SERVED);
+    served == ticket
+}
+
+// Waits until it is the ticket's turn, and then has the value in hand. It is counted as a sleeper before it looks for the last
+// time, so whoever serves its ticket afterwards calls it; and it does not sleep where it was called since its round began.
 fn wait_for<T: Storied, R: Wait>(
     rt: &R,
     shared: &SharedTable<T>,
-    sleepers: &AtomicU64,
+    sleepers: &Sleepers,
     seat: &mut TurnSeat<T>,
     ticket: u64,
 )
@@ -254,15 +261,19 @@ fn wait_for<T: Storied, R: Wait>(
     ensures own { seat.new.table_id ≡ seat.old.table_id }
     ensures taken { HasTaken T.story seat.old.me seat.new.me }
 {
-    look_ahead(shared, ticket);
     for _ in rt.forever() {
-        let served = shared.load::<Look<T>>(seat, SERVED);
-        if served == ticket {
+        let calls = sleepers.calls(ticket);
+        look_ahead(shared, ticket);
+        if has_turn(shared, seat, ticket) {
             return;
         }
-        sleepers.fetch_add(1, Ordering::SeqCst);
-        shared.park(rt, SERVED, (served & 0xffff_ffff) as u32);
-        sleepers.fetch_sub(1, Ordering::SeqCst);
+        sleepers.enter();
+        if has_turn(shared, seat, ticket) {
+            sleepers.leave();
+            return;
+        }
+        sleepers.sleep(rt, ticket, calls);
+        sleepers.leave();
     }
     unreachable!()
 }

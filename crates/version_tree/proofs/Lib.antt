@@ -1,7 +1,7 @@
 pub mod FirstRows
 mod Found
 mod Links
-mod Places
+mod VersionIds
 mod Readiness
 mod Steps
 mod VersionsKept

@@ -7,7 +7,7 @@ use Rattle.std.specs.Cmp.Lexicographic.{slice_cmp}
 use Rattle.std.specs.Ordering.{nat_cmp}
 use Rattle.cc_names.specs.declared.changes.TreeChange.{TreeChange}
 use Rattle.cc_names.specs.declared.changes.TreeChange.TheVariants.{VersionMade}
-use Rattle.cc_names.specs.declared.changes.Entry.{Entry}
+use Rattle.cc_names.specs.declared.changes.CatalogEntry.{CatalogEntry}
 use Rattle.version_tree.specs.declared.contents.Contents.{Contents}
 use Rattle.version_tree.specs.declared.contents.Contents.TheVariants.{Text, Catalog}
 
@@ -24,7 +24,7 @@ abbrev pub contents_of : Forest → ℕ → Option Contents
 contents_of forest version = lookup (nat_eq version) forest.contents
 
 -- the catalog of a version; one that holds none has no names
-abbrev pub entries_in : Option Contents → List Entry
+abbrev pub entries_in : Option Contents → List CatalogEntry
 entries_in (Some (Catalog entries)) = entries
 entries_in _ = []
 
@@ -34,11 +34,11 @@ text_in (Some (Text row)) = Some row
 text_in _ = None
 
 -- the name of an entry
-abbrev pub name_of_entry : Entry → List ℕ
+abbrev pub name_of_entry : CatalogEntry → List ℕ
 name_of_entry entry = entry.name
 
 -- entries in byte order of their names, each name once
-abbrev pub AreInOrder : List Entry → Type 0
+abbrev pub AreInOrder : List CatalogEntry → Type 0
 AreInOrder entries = IsStrictlySortedBy (slice_cmp nat_cmp) (map name_of_entry entries)
 
 -- whether a branch has room for one more version

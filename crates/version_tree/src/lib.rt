@@ -11,9 +11,9 @@
 // What it stands on: `cc_names`. A version takes about 100 bytes, and what it holds about 60 more.
 #![tactic(auto)]
 
-ghost use Rattle.std.specs.Prelude.{◌≡◌, ℕ, ◌==◌, ◌<◌, ◌≤◌, ◌+◌, ◌∷◌, [], ◌++◌, IsTrue, IsSome, IfOk, IfSome, OnOk, map, reverse, filter, nat_eq, nat_lt, option_copied, vec_len, vec_capacity, if◌then◌else◌};
+ghost use Rattle.std.specs.Prelude.{◌≡◌, ℕ, ◌==◌, ◌<◌, ◌≤◌, ◌+◌, ◌∷◌, [], IsTrue, IsSome, IfOk, IfSome, OnOk, map, reverse, filter, nat_eq, nat_lt, option_copied, if◌then◌else◌};
 ghost use Rattle.std.specs.HashMap.{get, spare};
-ghost use Rattle.cc_names.specs.Versions.{row_of_change, branch_of_change, of_first_rows, change_at, element_of_branch, versions_on, latest, numbered, place, kind_of};
+ghost use Rattle.cc_names.specs.Versions.{row_of_change, branch_of_change, of_first_rows, change_at, element_of_branch, versions_on, latest, numbered, version_id, kind_of};
 ghost use Rattle.cc_names.specs.Branches.{branch_named, branch_of_version, origin_of, name_of_branch};
 ghost use Rattle.cc_names.specs.declared.changes.TreeChange.TheVariants as changes;
 ghost use Rattle.version_tree.specs.declared.contents.Contents.TheVariants as contents;
@@ -28,7 +28,7 @@ mod namesakes;
 use branches::{Branch, Later};
 use cc_names::by_row::{item_of, place_of};
 use cc_names::changes::TreeChange;
-pub use cc_names::changes::{Entry, Place};
+pub use cc_names::changes::{CatalogEntry, VersionId};
 use cc_names::keys::key_of;
 use cc_names::lists::List;
 use cc_names::memory::NoMemory;
@@ -62,19 +62,6 @@ impl Model for Tree {
     ghost view = { forest_of };
 
     ghost invariant = { IsInStep };
-}
-
-/// Adds an item to a list that has room for it.
-fn push_within<T: Drop>(items: &mut Vec<T>, item: T)
-    requires { vec_len items.old < vec_capacity items.old }
-    ensures items { items.new.items ≡ items.old.items ++ item ∷ [] }
-    ensures len { vec_len items.new ≡ vec_len items.old + 1 }
-    ensures capacity { vec_capacity items.old ≤ vec_capacity items.new }
-{
-    match items.push(item) {
-        Ok(()) => {}
-        Err(_) => unreachable!(),
-    }
 }
 
 /// Sets the value at a key of a map that has room for one key more.
@@ -189,15 +176,12 @@ impl Tree {
         ensures { AddsChange self.old self.new (changes.ElementMade row moment kind) }
     {
         let change = TreeChange::ElementMade { row, moment, kind };
-        push_within(
-            &mut self.made,
-            Made {
-                change,
-                namesake: None,
-            },
-        );
+        self.made.push_reserved(Made {
+            change,
+            namesake: None,
+        });
         let later = Vec::new(self.alloc);
-        push_within(&mut self.branches, Branch { row, moment, later });
+        self.branches.push_reserved(Branch { row, moment, later });
     }
 
     /// Adds a branch of an element that begins at the version `origin`, and version 0 on it. The row is above all rows so
@@ -217,9 +201,9 @@ impl Tree {
             origin,
             name,
         };
-        push_within(&mut self.made, Made { change, namesake });
+        self.made.push_reserved(Made { change, namesake });
         let later = Vec::new(self.alloc);
-        push_within(&mut self.branches, Branch { row, moment, later });
+        self.branches.push_reserved(Branch { row, moment, later });
     }
 
     /// Adds the next version on a branch. The row is above all rows so far. Takes time logarithmic in the branches.
@@ -234,17 +218,14 @@ impl Tree {
             moment,
             branch,
         };
-        push_within(
-            &mut self.made,
-            Made {
-                change,
-                namesake: None,
-            },
-        );
+        self.made.push_reserved(Made {
+            change,
+            namesake: None,
+        });
         match place_of(&self.branches, branch) {
             Some(place) => {
                 let on = &mut self.branches[place];
-                push_within(&mut on.later, Later { row, moment });
+                on.later.push_reserved(Later { row, moment });
             }
             None => unreachable!(),
         }
@@ -334,14 +315,14 @@ impl Tree {
         }
     }
 
-    /// Where the version that a row made stands. Takes time logarithmic in the changes.
-    pub fn place(&self, version: u64) -> Option<Place>
-        ensures { result ≡ place self.now.changes version }
+    /// The id of the version that a row made. Takes time logarithmic in the changes.
+    pub fn version_id(&self, version: u64) -> Option<VersionId>
+        ensures { result ≡ version_id self.now.changes version }
     {
         let branch = branch_of(self.change_at(version)?);
         let element = self.element_of(branch)?;
         let number = self.branch_at(branch)?.number_of(version)?;
-        Some(Place {
+        Some(VersionId {
             element,
             branch,
             number,
@@ -356,7 +337,7 @@ impl Tree {
     }
 
     /// The catalog of a directory's version, in byte order of names; empty where none was set. Takes constant time.
-    pub fn entries(&self, version: u64) -> &[Entry]
+    pub fn entries(&self, version: u64) -> &[CatalogEntry]
         ensures catalog { result.now ≡ entries_in (contents_of self.now version) }
         ensures in_order { AreInOrder result.now }
     {
@@ -377,7 +358,7 @@ impl Tree {
     }
 
     /// Sets the catalog of a directory's version. Takes constant time.
-    pub fn set_catalog(&mut self, version: u64, entries: Vec<Entry>)
+    pub fn set_catalog(&mut self, version: u64, entries: Vec<CatalogEntry>)
         requires room { 0 < self.old.content_room }
         requires in_order { AreInOrder entries.items }
         ensures { SetsContents self.old self.new version (contents.Catalog entries.items) }

@@ -4,7 +4,7 @@ ghost use Rattle.std.specs.Prelude.{◌≡◌, ◌≢◌, ◌+◌, ◌^◌, ◌<
 ghost use Rattle.cc_names.specs.Versions.{row_of_change};
 ghost use Rattle.cc_names.specs.Falling.{IsAbove};
 
-use cc_names::changes::Place;
+use cc_names::changes::VersionId;
 use cc_names::names::Name;
 use cc_names::rows::Kind;
 use std::alloc::Global;
@@ -230,7 +230,7 @@ fn finds_branches(rt: HostRuntime) -> Result<(), Fail> {
 }
 
 // A row, and where its version stands: element, branch and number.
-const PLACES: [(u64, Option<(u64, u64, u64)>); 6] = [
+const VERSION_IDS: [(u64, Option<(u64, u64, u64)>); 6] = [
     (0, Some((0, 0, 0))),
     (8, Some((6, 6, 1))),
     (9, Some((0, 0, 1))),
@@ -250,13 +250,13 @@ const KINDS: [(u64, Option<Kind>, Option<u64>); 4] = [
 #[test]
 fn tells_what_rows_made(rt: HostRuntime) -> Result<(), Fail> {
     let tree = worked_tree(rt.alloc(), RandomState::new(&rt)?, Worked::BranchOfARule)?;
-    for (row, place) in PLACES {
-        let place = place.map(|(element, branch, number)| Place {
+    for (row, id) in VERSION_IDS {
+        let id = id.map(|(element, branch, number)| VersionId {
             element,
             branch,
             number,
         });
-        assert_eq!(rt; tree.place(row), place, "of {row}");
+        assert_eq!(rt; tree.version_id(row), id, "of {row}");
     }
     for (row, kind, origin) in KINDS {
         assert_eq!(rt; tree.kind(row), kind, "of {row}");
@@ -520,7 +520,7 @@ fn agrees_at_every_number_of_rows(rt: HostRuntime) -> Result<(), Fail> {
 // Whether the row of a line made what the line says, and its version stands there.
 fn agrees_on_line(alloc: Global, tree: &Tree, lines: &[Line], line: &Line) -> Result<bool, Fail> {
     let before = slow_versions(alloc, lines, line.branch, line.row)?;
-    let place = Place {
+    let id = VersionId {
         element: line.element,
         branch: line.branch,
         number: before.len() as u64,
@@ -528,7 +528,7 @@ fn agrees_on_line(alloc: Global, tree: &Tree, lines: &[Line], line: &Line) -> Re
     let is_element = line.row == line.element;
     let origin = line.made.map(|(_, origin)| origin);
     Ok(
-        tree.place(line.row) == Some(place)
+        tree.version_id(line.row) == Some(id)
             && tree.branch(line.row) == Some(line.branch)
             && tree.kind(line.row).is_some() == is_element
             && tree.origin(line.row) == origin
@@ -546,6 +546,6 @@ fn agrees_on_every_row(rt: HostRuntime) -> Result<(), Fail> {
             "at {line:?}"
         );
     }
-    assert_eq!(rt; tree.place(2001), None);
+    assert_eq!(rt; tree.version_id(2001), None);
     Ok(())
 }

@@ -10,14 +10,14 @@ use Rattle.std.proofs.lemmas.Bool.Decides.{nat_tests}
 use Rattle.std.proofs.lemmas.Slice.Eq.{bytes_eq-Decides}
 use Rattle.cc_names.specs.Formed.{Plain}
 use Rattle.cc_names.specs.Last.{Keeps, Ends, Sets, only_if, left}
-use Rattle.cc_names.specs.References.{Held, Place, place_cmp, held_at, is_held}
+use Rattle.cc_names.specs.References.{Held, ViewPath, view_path_cmp, held_at, is_held}
 use Rattle.cc_names.specs.Versions.{is_number}
 use Rattle.cc_names.specs.declared.rows.Deed.{Deed}
 use Rattle.cc_names.specs.declared.rows.Deed.TheVariants as deeds
 use Rattle.cc_names.specs.declared.rows.ReadOf.{ReadOf}
 use Rattle.legal_history.specs.Base.Changes.{held, targets_of}
 use Rattle.legal_history.specs.Base.Rows.{Base, size, deed_at, deed_of, row_at}
-use Rattle.legal_history.proofs.Bases.HeldObjects.{held_in_order, is_held_there, places_total}
+use Rattle.legal_history.proofs.Bases.HeldObjects.{held_in_order, is_held_there, view_paths_total}
 use Rattle.view_lookup.specs.Effects.{held_by_maker, holds_one, winked_effect}
 use Rattle.view_lookup.specs.Ended.{ended_or}
 use Rattle.view_lookup.specs.LookUps.{last_of}
@@ -54,33 +54,33 @@ or_second : (a b : Bool) → b ≡ true → (a || b) ≡ true
 or_second true b h = refl
 or_second false b h = h
 
--- a place of a table at which an object is found, behind all places that come before the table's
+-- a view path at which an object is found, behind all that come before those of the table
 record Found (held : Held) (id : ℕ) : Type 0 where
-  at : Place
-  is : find place_cmp at held ≡ Some id
-  behind : (q : Place) → T (below_all place_cmp q held) → place_cmp q at ≡ Less
+  at : ViewPath
+  is : find view_path_cmp at held ≡ Some id
+  behind : (q : ViewPath) → T (below_all view_path_cmp q held) → view_path_cmp q at ≡ Less
 
--- what a table in order holds is found at its place
-found_in : (held : Held) (id : ℕ) → T (is_sorted place_cmp held) → is_held held id ≡ true → Found held id
+-- what a table in order holds is found at its view path
+found_in : (held : Held) (id : ℕ) → T (is_sorted view_path_cmp held) → is_held held id ≡ true → Found held id
 found_in [] id sorted h = absurd (cc)
-found_in (entry ∷ held) id sorted h = by (entry.1 == id) refl (found_in held id (second (below_all place_cmp entry.0 held) (is_sorted place_cmp held) sorted)) h
+found_in (entry ∷ held) id sorted h = by (entry.1 == id) refl (found_in held id (second (below_all view_path_cmp entry.0 held) (is_sorted view_path_cmp held) sorted)) h
   where
     by : (t : Bool) → (entry.1 == id) ≡ t → (is_held held id ≡ true → Found held id) → (t || is_held held id) ≡ true → Found (entry ∷ held) id
     by true here older is =
         let number : entry.1 ≡ id = grind (arith, nat_tests) in
         record {
           at = entry.0;
-          is = ap (λ o. cond (is_eq o) (Some entry.1) (find place_cmp entry.0 held)) (tied_itself places_total entry.0) ∙ ap Some number;
-          behind = λ q below. less (place_cmp q entry.0) (first (is_lt (place_cmp q entry.0)) (below_all place_cmp q held) below);
+          is = ap (λ o. cond (is_eq o) (Some entry.1) (find view_path_cmp entry.0 held)) (tied_itself view_paths_total entry.0) ∙ ap Some number;
+          behind = λ q below. less (view_path_cmp q entry.0) (first (is_lt (view_path_cmp q entry.0)) (below_all view_path_cmp q held) below);
         }
     by false other older is =
         let there = older is in
-        let later : place_cmp there.at entry.0 ≡ Greater =
-        places_total.antisymm there.at entry.0 ∙ ap ordering_reverse (there.behind entry.0 (first (below_all place_cmp entry.0 held) (is_sorted place_cmp held) sorted)) in
+        let later : view_path_cmp there.at entry.0 ≡ Greater =
+        view_paths_total.antisymm there.at entry.0 ∙ ap ordering_reverse (there.behind entry.0 (first (below_all view_path_cmp entry.0 held) (is_sorted view_path_cmp held) sorted)) in
         record {
           at = there.at;
-          is = ap (λ o. cond (is_eq o) (Some entry.1) (find place_cmp there.at held)) later ∙ there.is;
-          behind = λ q below. there.behind q (second (is_lt (place_cmp q entry.0)) (below_all place_cmp q held) below);
+          is = ap (λ o. cond (is_eq o) (Some entry.1) (find view_path_cmp there.at held)) later ∙ there.is;
+          behind = λ q below. there.behind q (second (is_lt (view_path_cmp q entry.0)) (below_all view_path_cmp q held) below);
         }
 
 module _ (b : Base) (id : ℕ) where
@@ -220,7 +220,7 @@ module _ (b : Base) (id : ℕ) where
 
   one_way : is_held (held b) id ≡ true → IsTraced b
   one_way is =
-      let found = found_in (held b) id (as_true (is_sorted place_cmp (held b)) (held_in_order b)) is in
+      let found = found_in (held b) id (as_true (is_sorted view_path_cmp (held b)) (held_in_order b)) is in
       traced found.at.0 found.at.1 found.is b (record { same = λ n deed here. here }) (sym (held_by_last b found.at.0 found.at.1) ∙ found.is)
 
   other_way : (maker winked : Bool) → held_by_maker b id (deed_at b id) ≡ maker → is_some (last_of (winked_effect b id) b) ≡ winked → (maker || winked) ≡ true → is_held (held b) id ≡ true

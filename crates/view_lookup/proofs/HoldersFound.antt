@@ -16,7 +16,7 @@ use Rattle.std.proofs.lemmas.Map.Text.{is_eq-slice_cmp}
 use Rattle.std.proofs.lemmas.Slice.Eq.{bytes_eq-Decides}
 use Rattle.cc_names.specs.Formed.{Plain}
 use Rattle.cc_names.specs.Last.{Keeps, Ends, Sets, only_if, left}
-use Rattle.cc_names.specs.References.{Held, Place, count, held_at, is_held_by, place_cmp}
+use Rattle.cc_names.specs.References.{Held, ViewPath, count, held_at, is_held_by, view_path_cmp}
 use Rattle.cc_names.specs.Versions.{is_number}
 use Rattle.cc_names.specs.declared.rows.Deed.{Deed}
 use Rattle.cc_names.specs.declared.rows.Deed.TheVariants as deeds
@@ -35,7 +35,7 @@ use Rattle.view_lookup.specs.Owned.{is_name, maker_by, winker, winker_at}
 use Rattle.view_lookup.specs.Walks.{all_told}
 use Rattle.view_lookup.proofs.GivenRows.{AreDeeds, any_put, deed_newest, deeds_below}
 use Rattle.view_lookup.proofs.HeldSomewhere.{holds_target, number_of}
-use Rattle.view_lookup.proofs.Holdings.{held_by_last, held_effect, places_total, same_place}
+use Rattle.view_lookup.proofs.Holdings.{held_by_last, held_effect, view_paths_total, same_view_path}
 
 and_both : (a b : Bool) → (a && b) ≡ true → (a ≡ true) × (b ≡ true)
 and_both true b h = (refl, h)
@@ -145,23 +145,23 @@ ordered_once (name ∷ names) h = (apart names h.0, ordered_once names h.1)
 -- what is found at a view's path is held by the view
 found_held : (held : Held) (w path : List ℕ) (id : ℕ) → held_at held w path ≡ Some id → is_held_by held w id ≡ true
 found_held [] w path id is = absurd (cc)
-found_held (entry ∷ held) w path id is = by (eq_by_cmp place_cmp (w, path) entry.0) refl is (found_held held w path id)
+found_held (entry ∷ held) w path id is = by (eq_by_cmp view_path_cmp (w, path) entry.0) refl is (found_held held w path id)
   where
-    by : (t : Bool) → eq_by_cmp place_cmp (w, path) entry.0 ≡ t → cond t (Some entry.1) (held_at held w path) ≡ Some id → (held_at held w path ≡ Some id → is_held_by held w id ≡ true) →
+    by : (t : Bool) → eq_by_cmp view_path_cmp (w, path) entry.0 ≡ t → cond t (Some entry.1) (held_at held w path) ≡ Some id → (held_at held w path ≡ Some id → is_held_by held w id ≡ true) →
         ((bytes_eq entry.0.0 w && (entry.1 == id)) || is_held_by held w id) ≡ true
     by true here found rest =
-        let view : bytes_eq entry.0.0 w ≡ true = (and_both (bytes_eq entry.0.0 w) (bytes_eq entry.0.1 path) (sym (same_place w path entry.0.0 entry.0.1) ∙ here)).0 in
+        let view : bytes_eq entry.0.0 w ≡ true = (and_both (bytes_eq entry.0.0 w) (bytes_eq entry.0.1 path) (sym (same_view_path w path entry.0.0 entry.0.1) ∙ here)).0 in
         let number : entry.1 ≡ id = cc in
         let same : (entry.1 == id) ≡ true = grind (arith, nat_tests) in
         or_first (bytes_eq entry.0.0 w && (entry.1 == id)) (is_held_by held w id) (ap₂ (λ (x y : Bool). x && y) view same)
     by false other found rest = or_second (bytes_eq entry.0.0 w && (entry.1 == id)) (is_held_by held w id) (rest found)
 
--- a place of a view at which it holds an object, behind all places that come before those of the table
+-- a path of a view at which it holds an object, behind all view paths that come before those of the table
 record FoundBy (held : Held) (w : List ℕ) (id : ℕ) : Type 0 where
-  at : Place
+  at : ViewPath
   by : bytes_eq at.0 w ≡ true
-  is : find place_cmp at held ≡ Some id
-  behind : (q : Place) → T (below_all place_cmp q held) → place_cmp q at ≡ Less
+  is : find view_path_cmp at held ≡ Some id
+  behind : (q : ViewPath) → T (below_all view_path_cmp q held) → view_path_cmp q at ≡ Less
 
 t_first : (a b : Bool) → T (a && b) → T a
 t_first true b h = tt
@@ -180,9 +180,9 @@ as_true : (t : Bool) → t ≡ true → T t
 as_true true h = tt
 as_true false h = absurd (cc)
 
-found_by : (held : Held) (w : List ℕ) (id : ℕ) → T (is_sorted place_cmp held) → is_held_by held w id ≡ true → FoundBy held w id
+found_by : (held : Held) (w : List ℕ) (id : ℕ) → T (is_sorted view_path_cmp held) → is_held_by held w id ≡ true → FoundBy held w id
 found_by [] w id sorted h = absurd (cc)
-found_by (entry ∷ held) w id sorted h = by (bytes_eq entry.0.0 w && (entry.1 == id)) refl (found_by held w id (t_second (below_all place_cmp entry.0 held) (is_sorted place_cmp held) sorted)) h
+found_by (entry ∷ held) w id sorted h = by (bytes_eq entry.0.0 w && (entry.1 == id)) refl (found_by held w id (t_second (below_all view_path_cmp entry.0 held) (is_sorted view_path_cmp held) sorted)) h
   where
     by : (t : Bool) → (bytes_eq entry.0.0 w && (entry.1 == id)) ≡ t → (is_held_by held w id ≡ true → FoundBy held w id) → (t || is_held_by held w id) ≡ true → FoundBy (entry ∷ held) w id
     by true here older is =
@@ -192,18 +192,18 @@ found_by (entry ∷ held) w id sorted h = by (bytes_eq entry.0.0 w && (entry.1 =
         record {
           at = entry.0;
           by = parts.0;
-          is = ap (λ o. cond (is_eq o) (Some entry.1) (find place_cmp entry.0 held)) (tied_itself places_total entry.0) ∙ ap Some number;
-          behind = λ q below. less (place_cmp q entry.0) (t_first (is_lt (place_cmp q entry.0)) (below_all place_cmp q held) below);
+          is = ap (λ o. cond (is_eq o) (Some entry.1) (find view_path_cmp entry.0 held)) (tied_itself view_paths_total entry.0) ∙ ap Some number;
+          behind = λ q below. less (view_path_cmp q entry.0) (t_first (is_lt (view_path_cmp q entry.0)) (below_all view_path_cmp q held) below);
         }
     by false other older is =
         let there = older is in
-        let later : place_cmp there.at entry.0 ≡ Greater =
-        places_total.antisymm there.at entry.0 ∙ ap ordering_reverse (there.behind entry.0 (t_first (below_all place_cmp entry.0 held) (is_sorted place_cmp held) sorted)) in
+        let later : view_path_cmp there.at entry.0 ≡ Greater =
+        view_paths_total.antisymm there.at entry.0 ∙ ap ordering_reverse (there.behind entry.0 (t_first (below_all view_path_cmp entry.0 held) (is_sorted view_path_cmp held) sorted)) in
         record {
           at = there.at;
           by = there.by;
-          is = ap (λ o. cond (is_eq o) (Some entry.1) (find place_cmp there.at held)) later ∙ there.is;
-          behind = λ q below. there.behind q (t_second (is_lt (place_cmp q entry.0)) (below_all place_cmp q held) below);
+          is = ap (λ o. cond (is_eq o) (Some entry.1) (find view_path_cmp there.at held)) later ∙ there.is;
+          behind = λ q below. there.behind q (t_second (is_lt (view_path_cmp q entry.0)) (below_all view_path_cmp q held) below);
         }
 
 module _ (b : Base) (id : ℕ) (w : List ℕ) where
@@ -322,7 +322,7 @@ module _ (b : Base) (id : ℕ) (w : List ℕ) where
       same_test (made (deed_at b id) || winks b) (is_held_by (held b) w id)
       (λ h. or_cases (made (deed_at b id)) (winks b) (is_held_by (held b) w id ≡ true) h (made_held (deed_at b id)) (winks_held b (λ n low. refl)))
       (λ is.
-      let found = found_by (held b) w id (as_true (is_sorted place_cmp (held b)) (held_in_order b)) is in
+      let found = found_by (held b) w id (as_true (is_sorted view_path_cmp (held b)) (held_in_order b)) is in
       traced found.at.0 found.at.1 found.by found.is b (λ n low. refl) (sym (held_by_last b found.at.0 found.at.1) ∙ found.is))
 
 -- Views in order that are those which hold the object are as many as hold it.

@@ -10,7 +10,7 @@ use Rattle.std.specs.Cmp.{IsTotalOrder}
 use Rattle.std.proofs.lemmas.Cmp.{then_total, on_total, nat_list_cmp_total, nat_list_eq_equiv}
 use Rattle.std.proofs.lemmas.Map.Text.{is_eq-slice_cmp}
 use Rattle.cc_names.specs.Last.{Keeps, Ends, Sets, only_if, left}
-use Rattle.cc_names.specs.References.{Place, Held, is_place, place_cmp, won, lost, view_gone, held_at, references}
+use Rattle.cc_names.specs.References.{ViewPath, Held, is_view_path, view_path_cmp, won, lost, view_gone, held_at, references}
 use Rattle.cc_names.specs.declared.rows.Deed.{Deed}
 use Rattle.cc_names.specs.declared.rows.Deed.TheVariants as deeds
 use Rattle.legal_history.specs.Base.Rows.{Base, size}
@@ -21,8 +21,8 @@ use Rattle.view_lookup.specs.Made.{is_target}
 use Rattle.view_lookup.specs.LookUps.{Deeds, last_of}
 use Rattle.view_lookup.proofs.Fronts.{both}
 
-pub places_total : IsTotalOrder place_cmp
-places_total = then_total (on_total (λ (place : Place). place.0) nat_list_cmp_total) (on_total (λ (place : Place). place.1) nat_list_cmp_total)
+pub view_paths_total : IsTotalOrder view_path_cmp
+view_paths_total = then_total (on_total (λ (view_path : ViewPath). view_path.0) nat_list_cmp_total) (on_total (λ (view_path : ViewPath). view_path.1) nat_list_cmp_total)
 
 -- both of two orders tie
 ties : (one two : Ordering) → is_eq (ordering_then one two) ≡ (is_eq one && is_eq two)
@@ -30,9 +30,9 @@ ties Less two = refl
 ties Equal two = refl
 ties Greater two = refl
 
--- two places are one where their views and their paths are
-pub same_place : (v path w target : List ℕ) → eq_by_cmp place_cmp (v, path) (w, target) ≡ (bytes_eq w v && bytes_eq target path)
-same_place v path w target =
+-- two view paths are one where their views and their paths are
+pub same_view_path : (v path w target : List ℕ) → eq_by_cmp view_path_cmp (v, path) (w, target) ≡ (bytes_eq w v && bytes_eq target path)
+same_view_path v path w target =
     ties (slice_cmp nat_cmp v w) (slice_cmp nat_cmp path target)
     ∙ ap₂ ◌&&◌ (is_eq-slice_cmp v w ∙ nat_list_eq_equiv.symm v w) (is_eq-slice_cmp path target ∙ nat_list_eq_equiv.symm path target)
 
@@ -51,22 +51,22 @@ no_target false id before = refl
 pub held_after_won : (v path w : List ℕ) (id : ℕ) (targets : List (List ℕ)) (held : Held) → held_at (won w id targets held) v path ≡ cond (bytes_eq w v && is_target path targets) (Some id) (held_at held v path)
 held_after_won v path w id [] held = no_target (bytes_eq w v) (Some id) (held_at held v path)
 held_after_won v path w id (target ∷ targets) held =
-    held_after_won v path w id targets (put place_cmp (w, target) id held)
-    ∙ ap (cond (bytes_eq w v && is_target path targets) (Some id)) (find-put place_cmp places_total (v, path) (w, target) id held ∙ ap (λ same. cond same (Some id) (held_at held v path)) (same_place v path w target))
+    held_after_won v path w id targets (put view_path_cmp (w, target) id held)
+    ∙ ap (cond (bytes_eq w v && is_target path targets) (Some id)) (find-put view_path_cmp view_paths_total (v, path) (w, target) id held ∙ ap (λ same. cond same (Some id) (held_at held v path)) (same_view_path v path w target))
     ∙ one_more (bytes_eq w v) (bytes_eq target path) (is_target path targets) (Some id) (held_at held v path)
 
--- places that tie are one
-tied_parts : (v path : List ℕ) (place : Place) → place_cmp (v, path) place ≡ Equal → (v ≡ place.0) × (path ≡ place.1)
-tied_parts v path place same =
-    let parts : (is_eq (slice_cmp nat_cmp v place.0) && is_eq (slice_cmp nat_cmp path place.1)) ≡ true = sym (ties (slice_cmp nat_cmp v place.0) (slice_cmp nat_cmp path place.1)) ∙ ap is_eq same in
-    let each = both (is_eq (slice_cmp nat_cmp v place.0)) (is_eq (slice_cmp nat_cmp path place.1)) parts in
-    ((bytes_eq-Decides v place.0).0 (sym (is_eq-slice_cmp v place.0) ∙ each.0), (bytes_eq-Decides path place.1).0 (sym (is_eq-slice_cmp path place.1) ∙ each.1))
+-- view paths that tie are one
+tied_parts : (v path : List ℕ) (view_path : ViewPath) → view_path_cmp (v, path) view_path ≡ Equal → (v ≡ view_path.0) × (path ≡ view_path.1)
+tied_parts v path view_path same =
+    let parts : (is_eq (slice_cmp nat_cmp v view_path.0) && is_eq (slice_cmp nat_cmp path view_path.1)) ≡ true = sym (ties (slice_cmp nat_cmp v view_path.0) (slice_cmp nat_cmp path view_path.1)) ∙ ap is_eq same in
+    let each = both (is_eq (slice_cmp nat_cmp v view_path.0)) (is_eq (slice_cmp nat_cmp path view_path.1)) parts in
+    ((bytes_eq-Decides v view_path.0).0 (sym (is_eq-slice_cmp v view_path.0) ∙ each.0), (bytes_eq-Decides path view_path.1).0 (sym (is_eq-slice_cmp path view_path.1) ∙ each.1))
 
-tied : (v path : List ℕ) (place : Place) → place_cmp (v, path) place ≡ Equal → v ≡ place.0
-tied v path place same = (tied_parts v path place same).0
+tied : (v path : List ℕ) (view_path : ViewPath) → view_path_cmp (v, path) view_path ≡ Equal → v ≡ view_path.0
+tied v path view_path same = (tied_parts v path view_path same).0
 
-tied_place : (v path : List ℕ) (place : Place) → place_cmp (v, path) place ≡ Equal → (v, path) ≡ place
-tied_place v path place same = ap₂ (λ one two. (one, two)) (tied_parts v path place same).0 (tied_parts v path place same).1
+tied_view_path : (v path : List ℕ) (view_path : ViewPath) → view_path_cmp (v, path) view_path ≡ Equal → (v, path) ≡ view_path
+tied_view_path v path view_path same = ap₂ (λ one two. (one, two)) (tied_parts v path view_path same).0 (tied_parts v path view_path same).1
 
 -- what a view holds after one is gone
 turned : (is : Bool) (there : Option ℕ) → cond (not is) there None ≡ cond is None there
@@ -75,14 +75,14 @@ turned false there = refl
 
 held_after_gone : (v path w : List ℕ) (held : Held) → held_at (view_gone w held) v path ≡ cond (bytes_eq w v) None (held_at held v path)
 held_after_gone v path w held =
-    find-where_key place_cmp (λ place. not (bytes_eq place.0 w)) (v, path) (λ place same. sym (ap (λ name. not (bytes_eq name w)) (tied v path place same))) held
+    find-where_key view_path_cmp (λ view_path. not (bytes_eq view_path.0 w)) (v, path) (λ view_path same. sym (ap (λ name. not (bytes_eq name w)) (tied v path view_path same))) held
     ∙ turned (bytes_eq v w) (held_at held v path)
     ∙ ap (λ is. cond is None (held_at held v path)) (nat_list_eq_equiv.symm v w)
 
 -- what a view holds after it has lost a path
 held_after_lost : (v path w q : List ℕ) (held : Held) → held_at (lost w q held) v path ≡ cond (bytes_eq w v && bytes_eq q path) None (held_at held v path)
 held_after_lost v path w q held =
-    find-where_key place_cmp (λ place. not (is_place place (w, q))) (v, path) (λ place same. sym (ap (λ at. not (is_place at (w, q))) (tied_place v path place same))) held
+    find-where_key view_path_cmp (λ view_path. not (is_view_path view_path (w, q))) (v, path) (λ view_path same. sym (ap (λ at. not (is_view_path at (w, q))) (tied_view_path v path view_path same))) held
     ∙ turned (bytes_eq v w && bytes_eq path q) (held_at held v path)
     ∙ ap₂ (λ one two. cond (one && two) None (held_at held v path)) (nat_list_eq_equiv.symm v w) (nat_list_eq_equiv.symm path q)
 

@@ -1,4 +1,4 @@
--- What sources list that are joined to others: of each element the greater version.
+-- What inputs list that are joined to others: of each element the greater version.
 use Rattle.std.proofs.Common.{◌≡◌, refl, ap, sym, ◌∙◌, ℕ, Bool, true, false, cond, ◌==◌, max, Option, Some, None, List, [], ◌∷◌, arith}
 use Rattle.std.proofs.lemmas.Bool.Decides.{nat_tests, Decides-eqb}
 use Rattle.std.proofs.lemmas.Cmp.{nat_cmp_total}
@@ -13,11 +13,11 @@ use Rattle.std.specs.Map.{keys_of, lookup}
 use Rattle.std.specs.Ordering.{eq_by_cmp, is_eq, nat_cmp}
 use Rattle.std.specs.declared.cmp.Ordering.{Ordering}
 use Rattle.std.specs.declared.cmp.Ordering.TheVariants.{Less, Equal, Greater}
-use Rattle.cc_names.specs.declared.changes.Place.{Place}
+use Rattle.cc_names.specs.declared.changes.VersionId.{VersionId}
 use Rattle.cc_names.specs.declared.rows.ReadOf.{ReadOf}
-use Rattle.legal_history.specs.Base.Closures.{Listing, Source, Sources, closure, greater_of, is_publish, joined_sources, listing_of, source_cmp, sources_of, sources_of_entry, version_listed, with_version_at}
+use Rattle.legal_history.specs.Base.Closures.{Listing, Input, Inputs, closure, greater_of, is_publish, joined_inputs, listing_of, input_cmp, inputs_of, inputs_of_entry, version_listed, with_version_at}
 use Rattle.legal_history.specs.Base.Rows.{Base, only_where}
-use Rattle.legal_history.proofs.Reuse.Covered.{Keyed, closure_keyed, entries_keyed, entry_keyed, one_source, put_keyed}
+use Rattle.legal_history.proofs.Reuse.Covered.{Keyed, closure_keyed, entries_keyed, entry_keyed, one_input, put_keyed}
 use Rattle.legal_history.proofs.Stories.Tables.{find_after_put}
 use Rattle.view_lookup.specs.Listings.{greater, greatest_in}
 
@@ -43,10 +43,10 @@ greater_twice None b = refl
 greater_twice (Some m) None = let same : max m m ≡ m = grind arith in ap Some same
 greater_twice (Some m) (Some n) = let same : max m (max m n) ≡ max m n = grind arith in ap Some same
 
--- the version of an element at a place
-abbrev pub version_at : ℕ → ℕ → Option Place → Option ℕ
+-- the version of an element with an id
+abbrev pub version_at : ℕ → ℕ → Option VersionId → Option ℕ
 version_at e row None = None
-version_at e row (Some place) = only_where (e == place.element) (Some row)
+version_at e row (Some version_id) = only_where (e == version_id.element) (Some row)
 
 -- the version of an element that a row made, where it made one and is not row 0
 abbrev pub own_version : Base → ℕ → ℕ → Option ℕ
@@ -66,67 +66,67 @@ one_put_in old e row element =
     ∙ by_element old e row element (e == element) refl
 
 -- a listing with one version more
-with_one : (e row : ℕ) (place : Option Place) (listing : Listing) → find nat_cmp e (with_version_at row place listing) ≡ greater (version_at e row place) (find nat_cmp e listing)
+with_one : (e row : ℕ) (version_id : Option VersionId) (listing : Listing) → find nat_cmp e (with_version_at row version_id listing) ≡ greater (version_at e row version_id) (find nat_cmp e listing)
 with_one e row None listing = refl
-with_one e row (Some place) listing =
-    find_after_put e place.element (greater_of row (find nat_cmp place.element listing)) listing
-    ∙ by_element (λ n. find nat_cmp n listing) e row place.element (e == place.element) refl
+with_one e row (Some version_id) listing =
+    find_after_put e version_id.element (greater_of row (find nat_cmp version_id.element listing)) listing
+    ∙ by_element (λ n. find nat_cmp n listing) e row version_id.element (e == version_id.element) refl
 
--- one source more
-pub one_more : (b : Base) (e : ℕ) (source : Source × ℕ) (sources : Sources) → find nat_cmp e (listing_of b (source ∷ sources)) ≡ greater (own_version b e source.1) (find nat_cmp e (listing_of b sources))
-one_more b e source sources = with_one e source.1 (version_listed b source.1) (listing_of b sources)
+-- one input more
+pub one_more : (b : Base) (e : ℕ) (input : Input × ℕ) (inputs : Inputs) → find nat_cmp e (listing_of b (input ∷ inputs)) ≡ greater (own_version b e input.1) (find nat_cmp e (listing_of b inputs))
+one_more b e input inputs = with_one e input.1 (version_listed b input.1) (listing_of b inputs)
 
-pub one_alone : (b : Base) (e : ℕ) (source : Source × ℕ) → find nat_cmp e (listing_of b (source ∷ [])) ≡ own_version b e source.1
-one_alone b e source = one_more b e source [] ∙ greater_none (own_version b e source.1)
+pub one_alone : (b : Base) (e : ℕ) (input : Input × ℕ) → find nat_cmp e (listing_of b (input ∷ [])) ≡ own_version b e input.1
+one_alone b e input = one_more b e input [] ∙ greater_none (own_version b e input.1)
 
--- one source put in its place, each under its own row
-one_put : (b : Base) (e : ℕ) (s : Source) (row : ℕ) (sources : Sources) → row ≡ s.1 → Keyed sources →
-    find nat_cmp e (listing_of b (put source_cmp s row sources)) ≡ greater (own_version b e row) (find nat_cmp e (listing_of b sources))
+-- one input put in its place, each under its own row
+one_put : (b : Base) (e : ℕ) (s : Input) (row : ℕ) (inputs : Inputs) → row ≡ s.1 → Keyed inputs →
+    find nat_cmp e (listing_of b (put input_cmp s row inputs)) ≡ greater (own_version b e row) (find nat_cmp e (listing_of b inputs))
 one_put b e s row [] own keyed = one_more b e (s, row) []
-one_put b e s row (source ∷ sources) own keyed = by (source_cmp s source.0) refl (one_put b e s row sources own keyed.1)
+one_put b e s row (input ∷ inputs) own keyed = by (input_cmp s input.0) refl (one_put b e s row inputs own keyed.1)
   where
-    by : (o : Ordering) → source_cmp s source.0 ≡ o →
-        find nat_cmp e (listing_of b (put source_cmp s row sources)) ≡ greater (own_version b e row) (find nat_cmp e (listing_of b sources)) →
-        find nat_cmp e (listing_of b (by_order o ((s, row) ∷ source ∷ sources) ((source.0, row) ∷ sources) (source ∷ put source_cmp s row sources))) ≡ greater (own_version b e row) (find nat_cmp e (listing_of b (source ∷ sources)))
-    by Less place before = one_more b e (s, row) (source ∷ sources)
+    by : (o : Ordering) → input_cmp s input.0 ≡ o →
+        find nat_cmp e (listing_of b (put input_cmp s row inputs)) ≡ greater (own_version b e row) (find nat_cmp e (listing_of b inputs)) →
+        find nat_cmp e (listing_of b (by_order o ((s, row) ∷ input ∷ inputs) ((input.0, row) ∷ inputs) (input ∷ put input_cmp s row inputs))) ≡ greater (own_version b e row) (find nat_cmp e (listing_of b (input ∷ inputs)))
+    by Less place before = one_more b e (s, row) (input ∷ inputs)
     by Equal place before =
-        let same : source.1 ≡ row = keyed.0 ∙ sym (one_source s source.0 (ap is_eq place)).row ∙ sym own in
-        one_more b e (source.0, row) sources
-        ∙ sym (greater_twice (own_version b e row) (find nat_cmp e (listing_of b sources)))
-        ∙ ap (λ n. greater (own_version b e row) (greater (own_version b e n) (find nat_cmp e (listing_of b sources)))) (sym same)
-        ∙ ap (greater (own_version b e row)) (sym (one_more b e source sources))
+        let same : input.1 ≡ row = keyed.0 ∙ sym (one_input s input.0 (ap is_eq place)).row ∙ sym own in
+        one_more b e (input.0, row) inputs
+        ∙ sym (greater_twice (own_version b e row) (find nat_cmp e (listing_of b inputs)))
+        ∙ ap (λ n. greater (own_version b e row) (greater (own_version b e n) (find nat_cmp e (listing_of b inputs)))) (sym same)
+        ∙ ap (greater (own_version b e row)) (sym (one_more b e input inputs))
     by Greater place before =
-        one_more b e source (put source_cmp s row sources)
-        ∙ ap (greater (own_version b e source.1)) before
-        ∙ greater_swap (own_version b e source.1) (own_version b e row) (find nat_cmp e (listing_of b sources))
-        ∙ ap (greater (own_version b e row)) (sym (one_more b e source sources))
+        one_more b e input (put input_cmp s row inputs)
+        ∙ ap (greater (own_version b e input.1)) before
+        ∙ greater_swap (own_version b e input.1) (own_version b e row) (find nat_cmp e (listing_of b inputs))
+        ∙ ap (greater (own_version b e row)) (sym (one_more b e input inputs))
 
--- Sources that are joined to others list of each element the greater version of both.
-pub both_list : (b : Base) (e : ℕ) (one others : Sources) → Keyed one → Keyed others →
-    find nat_cmp e (listing_of b (joined_sources one others)) ≡ greater (find nat_cmp e (listing_of b one)) (find nat_cmp e (listing_of b others))
+-- Inputs that are joined to others list of each element the greater version of both.
+pub both_list : (b : Base) (e : ℕ) (one others : Inputs) → Keyed one → Keyed others →
+    find nat_cmp e (listing_of b (joined_inputs one others)) ≡ greater (find nat_cmp e (listing_of b one)) (find nat_cmp e (listing_of b others))
 both_list b e [] others own keyed = refl
-both_list b e (source ∷ one) others own keyed =
-    both_list b e one (put source_cmp source.0 source.1 others) own.1 (put_keyed source.0 source.1 others own.0 keyed)
-    ∙ ap (greater (find nat_cmp e (listing_of b one))) (one_put b e source.0 source.1 others own.0 keyed)
-    ∙ greater_swap (find nat_cmp e (listing_of b one)) (own_version b e source.1) (find nat_cmp e (listing_of b others))
-    ∙ sym (greater_join (own_version b e source.1) (find nat_cmp e (listing_of b one)) (find nat_cmp e (listing_of b others)))
-    ∙ ap (λ first. greater first (find nat_cmp e (listing_of b others))) (sym (one_more b e source one))
+both_list b e (input ∷ one) others own keyed =
+    both_list b e one (put input_cmp input.0 input.1 others) own.1 (put_keyed input.0 input.1 others own.0 keyed)
+    ∙ ap (greater (find nat_cmp e (listing_of b one))) (one_put b e input.0 input.1 others own.0 keyed)
+    ∙ greater_swap (find nat_cmp e (listing_of b one)) (own_version b e input.1) (find nat_cmp e (listing_of b others))
+    ∙ sym (greater_join (own_version b e input.1) (find nat_cmp e (listing_of b one)) (find nat_cmp e (listing_of b others)))
+    ∙ ap (λ first. greater first (find nat_cmp e (listing_of b others))) (sym (one_more b e input one))
 
 -- what the first entry of a record stands for, and the others
-pub first_entry : (b : Base) (e : ℕ) (entry : ReadOf) (entries : List ReadOf) → find nat_cmp e (listing_of b (sources_of b (closure b) (entry ∷ entries))) ≡
-    greater (find nat_cmp e (listing_of b (sources_of_entry (is_publish b entry.row) (closure b) entry))) (find nat_cmp e (listing_of b (sources_of b (closure b) entries)))
+pub first_entry : (b : Base) (e : ℕ) (entry : ReadOf) (entries : List ReadOf) → find nat_cmp e (listing_of b (inputs_of b (closure b) (entry ∷ entries))) ≡
+    greater (find nat_cmp e (listing_of b (inputs_of_entry (is_publish b entry.row) (closure b) entry))) (find nat_cmp e (listing_of b (inputs_of b (closure b) entries)))
 first_entry b e entry entries =
-    both_list b e (sources_of_entry (is_publish b entry.row) (closure b) entry) (sources_of b (closure b) entries)
+    both_list b e (inputs_of_entry (is_publish b entry.row) (closure b) entry) (inputs_of b (closure b) entries)
     (entry_keyed (is_publish b entry.row) (closure b) entry (closure_keyed b)) (entries_keyed b (closure b) entries (closure_keyed b))
 
 -- one entry more is put among versions: with what the others stand for they are still all
 pub entry_put : (b : Base) (e : ℕ) (entry : ReadOf) (entries : List ReadOf) (old new all : Option ℕ) →
-    new ≡ greater (find nat_cmp e (listing_of b (sources_of_entry (is_publish b entry.row) (closure b) entry))) old →
-    greater (find nat_cmp e (listing_of b (sources_of b (closure b) (entry ∷ entries)))) old ≡ all →
-    greater (find nat_cmp e (listing_of b (sources_of b (closure b) entries))) new ≡ all
+    new ≡ greater (find nat_cmp e (listing_of b (inputs_of_entry (is_publish b entry.row) (closure b) entry))) old →
+    greater (find nat_cmp e (listing_of b (inputs_of b (closure b) (entry ∷ entries)))) old ≡ all →
+    greater (find nat_cmp e (listing_of b (inputs_of b (closure b) entries))) new ≡ all
 entry_put b e entry entries old new all put before =
-    let own = find nat_cmp e (listing_of b (sources_of_entry (is_publish b entry.row) (closure b) entry)) in
-    let others = find nat_cmp e (listing_of b (sources_of b (closure b) entries)) in
+    let own = find nat_cmp e (listing_of b (inputs_of_entry (is_publish b entry.row) (closure b) entry)) in
+    let others = find nat_cmp e (listing_of b (inputs_of b (closure b) entries)) in
     ap (greater others) put ∙ greater_swap others own old ∙ sym (greater_join own others old) ∙ ap (λ a. greater a old) (sym (first_entry b e entry entries)) ∙ before
 
 -- one version more is put among versions: with the others they are still all

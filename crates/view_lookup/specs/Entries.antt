@@ -10,8 +10,8 @@ use Rattle.view_lookup.specs.declared.edits.Edit as code
 use Rattle.view_lookup.specs.declared.edits.Edit.TheVariants as codes
 use Rattle.view_lookup.specs.declared.catalogs.Catalog as places
 use Rattle.view_lookup.specs.declared.catalogs.Catalog.TheVariants.{OfVersion, OfCheckout}
-use Rattle.view_lookup.specs.declared.catalogs.Entry.{Entry}
-use Rattle.view_lookup.specs.declared.catalogs.Entry.TheVariants.{Is, As}
+use Rattle.view_lookup.specs.declared.catalogs.Resolution.{Resolution}
+use Rattle.view_lookup.specs.declared.catalogs.Resolution.TheVariants.{Is, As}
 
 -- a checkout of a directory is begun
 abbrev pub begun_effect : List ℕ → ℕ → Deeds ℕ
@@ -40,7 +40,7 @@ catalog_in b (OfVersion r) = catalog_of b r
 catalog_in b (OfCheckout v d) = own_of b v.now d
 
 -- what is known of a name in a catalog is so, and where it stands for another name, that is one in a catalog of fewer rows
-abbrev pub IsEntryOf : Base → List ℕ → Catalog → Entry → Type 0
-IsEntryOf b name catalog (Is found) = named name catalog ≡ found
-IsEntryOf b name catalog (As count place other) =
+abbrev pub Resolves : Base → List ℕ → Catalog → Resolution → Type 0
+Resolves b name catalog (Is found) = named name catalog ≡ found
+Resolves b name catalog (As count place other) =
     (length (first_rows count b) < length b) × (named name catalog ≡ named other.now (catalog_in (first_rows count b) place))

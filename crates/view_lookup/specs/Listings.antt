@@ -5,7 +5,7 @@ use Rattle.std.specs.FinMap.Entries.{find}
 use Rattle.std.specs.Map.{lookup}
 use Rattle.std.specs.Ordering.{nat_cmp}
 use Rattle.cc_names.specs.declared.rows.Deed.{Deed}
-use Rattle.legal_history.specs.Base.Closures.{Listing, closure, entries_of_deed, greater_of, listing, listing_of, sources_of}
+use Rattle.legal_history.specs.Base.Closures.{Listing, closure, entries_of_deed, greater_of, listing, listing_of, inputs_of}
 use Rattle.legal_history.specs.Base.Rows.{Base, only_where}
 
 -- versions by their elements, as a map has them
@@ -38,7 +38,7 @@ HasListing versions listing = (e : ℕ) → version_in e versions ≡ find nat_c
 
 -- what the record lists that the next row has, where it is of this deed
 abbrev pub listing_made : Base → Deed → Listing
-listing_made b deed = listing_of b (sources_of b (closure b) (entries_of_deed (Some deed)))
+listing_made b deed = listing_of b (inputs_of b (closure b) (entries_of_deed (Some deed)))
 
 -- each object of a base has what its record lists
 abbrev pub AreListings : (ℕ → Option Versions) → Base → Type 0

@@ -6,8 +6,8 @@ use Rattle.cc_names.specs.declared.rows.Deed.TheVariants as deeds
 use Rattle.cc_names.specs.declared.rows.Kind.{Kind}
 use Rattle.legal_history.specs.Base.Texts.{TextSource, Bytes, OfRow, NoText}
 use Rattle.legal_history.specs.Base.Views.{default_spec}
-use Rattle.view_lookup.specs.declared.texts.Source as code
-use Rattle.view_lookup.specs.declared.texts.Source.TheVariants as codes
+use Rattle.view_lookup.specs.declared.texts.TextSource as code
+use Rattle.view_lookup.specs.declared.texts.TextSource.TheVariants as codes
 
 -- whether a path is one of these targets
 abbrev pub is_target : List ℕ → List (List ℕ) → Bool
@@ -19,7 +19,7 @@ kind_made (deeds.Mkelem v directory name kind out) = Some kind
 kind_made deed = None
 
 -- where code finds the text of a row
-abbrev pub plain_source : code.Source → TextSource
+abbrev pub plain_source : code.TextSource → TextSource
 plain_source (codes.Bytes bytes) = Bytes bytes.now
 plain_source (codes.OfRow row) = OfRow row
 plain_source codes.NoText = NoText

@@ -7,12 +7,12 @@ use Rattle.legal_history.specs.Base.Rows.{Base, first_rows, size}
 use Rattle.legal_history.specs.Base.Seen.{file_at}
 use Rattle.view_lookup.specs.declared.seen_files.SeenFiles.{SeenFiles}
 
--- files by their paths, as a map has them
-abbrev pub Files : Type 0
-Files = HashMap (List ℕ) (Option ℕ) RandomState
+-- the rows of files by their paths, as a map has them
+abbrev pub FileRows : Type 0
+FileRows = HashMap (List ℕ) (Option ℕ) RandomState
 
 -- each of the files is what a view sees in the rows of a base
-abbrev pub AreFiles : Base → List ℕ → Files → Type 0
+abbrev pub AreFiles : Base → List ℕ → FileRows → Type 0
 AreFiles b v files = (path : List ℕ) (row : Option ℕ) → get bytes_eq files path ≡ Some row → row ≡ file_at b v path
 
 -- a file is kept, of so many first rows

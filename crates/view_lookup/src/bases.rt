@@ -5,7 +5,7 @@ ghost use Rattle.std.specs.Prelude.{◌≡◌, ◌≤◌, ◌∷◌, [], ℕ, Li
 ghost use Rattle.std.specs.Option.{option_and_then, option_copied};
 ghost use Rattle.carried_out.specs.CarriedOut.{is_made};
 ghost use Rattle.cc_names.specs.Labels.{holder, labels_of_first_rows};
-ghost use Rattle.cc_names.specs.Versions.{of_first_rows, place};
+ghost use Rattle.cc_names.specs.Versions.{of_first_rows, version_id};
 ghost use Rattle.legal_history.specs.Base.Changes.{labels, tree};
 ghost use Rattle.legal_history.specs.Base.Closures.{listing};
 ghost use Rattle.legal_history.specs.Base.Rows.{deed_at, first_rows, row_at, size};
@@ -31,7 +31,7 @@ use crate::skips::first_below;
 use crate::subjects::{count_subjects, named_targets, reserved_branch};
 use crate::view_specs::{Parsed, keep_spec, read_given, spec_of};
 use crate::walks::add_told;
-use cc_names::changes::Place;
+use cc_names::changes::VersionId;
 use cc_names::memory::NoMemory;
 use cc_names::names::Name;
 use cc_names::paths::Path;
@@ -244,10 +244,10 @@ impl Rows {
         self.rows.push(row).unwrap();
     }
 
-    /// Has at hand the files of a view in the first rows, `count` of them with row 0, for which a build is likely to ask as it tries
-    /// a unit of these targets: those at the paths of the record of the newest live object with the targets, else of the newest row. No
-    /// answer changes; where memory runs out, fewer are at hand. Takes the time of `newest_object`, for each of the paths time
-    /// linear in it, and that of `file_at` where it is not at hand yet.
+    /// Has at hand the files of a view in the first rows, `count` of them with row 0, for which a build is likely to ask as it
+    /// tries a unit of these targets: those at the paths of the record of the newest live object with the targets, else of the
+    /// newest row. No answer changes; where memory runs out, fewer are at hand. Takes the time of `newest_object`, for each of
+    /// the paths time linear in it, and that of `file_at` where it is not at hand yet.
     pub fn remember(&mut self, view: &Name, count: u64, targets: &[Path])
         ensures { self.new ≡ self.old }
     {
@@ -361,15 +361,15 @@ impl<'a> FirstRows<'a> {
         &base.tree
     }
 
-    /// Where the version that a row made stands. Takes time logarithmic in the changes of the trees.
-    pub(crate) fn place(&self, version: u64) -> Option<Place>
-        ensures { result ≡ place (tree self.now) version }
+    /// The id of the version that a row made. Takes time logarithmic in the changes of the trees.
+    pub(crate) fn version_id(&self, version: u64) -> Option<VersionId>
+        ensures { result ≡ version_id (tree self.now) version }
     {
         if self.size() <= version {
             return None;
         }
         let base = self.base;
-        base.tree.place(version)
+        base.tree.version_id(version)
     }
 
     /// The labels of all rows of the base, with what these rows made of them.
@@ -406,8 +406,8 @@ impl<'a> FirstRows<'a> {
         base.listings.get(&object)
     }
 
-    /// The row of the file that a view was seen to have at a path in these very rows, or that there is none; nothing where that is
-    /// not at hand. Takes time linear in the view's name and in the path.
+    /// The row of the file that a view was seen to have at a path in these very rows, or that there is none; nothing where that
+    /// is not at hand. Takes time linear in the view's name and in the path.
     pub(crate) fn seen_file(&self, view: &Name, path: &Path) -> Option<Option<u64>>
         ensures { IfSome result (λ row. row ≡ file_at self.now view.now path.now) }
     {

@@ -3,7 +3,7 @@
 ghost use Rattle.std.specs.Prelude.{◌≡◌, Some, suc};
 ghost use Rattle.legal_history.specs.Base.Catalogs.{catalog_of, named, own_of};
 ghost use Rattle.legal_history.specs.Base.Rows.{first_rows};
-ghost use Rattle.view_lookup.specs.Entries.{IsEntryOf, catalog_in, entry_effect};
+ghost use Rattle.view_lookup.specs.Entries.{Resolves, catalog_in, entry_effect};
 ghost use Rattle.view_lookup.specs.LookUps.{last_of};
 ghost use Rattle.view_lookup.specs.ToldOn.{altered_by, at_least};
 
@@ -25,23 +25,27 @@ pub(crate) enum Catalog<'a> {
 /// What a row tells of a name in a catalog: its element, if any, or that it stands for what a name stands for in a catalog of
 /// the rows below that one.
 #[derive(Clone, Copy)]
-enum Entry<'a> {
+enum Resolution<'a> {
     Is(Option<u64>),
     As(u64, Catalog<'a>, &'a [u8]),
 }
 
 /// A name in the catalog of a version, by the row that made the version.
-fn entry_made<'a>(rows: &FirstRows<'a>, version: u64, name: &'a [u8]) -> Entry<'a>
-    ensures { IsEntryOf rows.now name.now (catalog_of rows.now version) result }
+fn entry_made<'a>(rows: &FirstRows<'a>, version: u64, name: &'a [u8]) -> Resolution<'a>
+    ensures { Resolves rows.now name.now (catalog_of rows.now version) result }
 {
     match row_at(rows, version) {
-        None => Entry::Is(None),
+        None => Resolution::Is(None),
         Some(row) => match row.deed() {
-            Deed::Branch { origin, .. } => Entry::As(version, Catalog::OfVersion(*origin), name),
+            Deed::Branch { origin, .. } => Resolution::As(
+                version,
+                Catalog::OfVersion(*origin),
+                name,
+            ),
             Deed::Checkin { view, element } => {
-                Entry::As(version, Catalog::OfCheckout(view, *element), name)
+                Resolution::As(version, Catalog::OfCheckout(view, *element), name)
             }
-            _ => Entry::Is(None),
+            _ => Resolution::Is(None),
         },
     }
 }
@@ -61,8 +65,8 @@ fn told_on(rows: &FirstRows<'_>, version: u64, branch: u64, name: &[u8]) -> u64
 }
 
 /// A name in the catalog of a version, by the row of its branch that tells of it.
-fn entry_of_version<'a>(rows: &FirstRows<'a>, version: u64, name: &'a [u8]) -> Entry<'a>
-    ensures { IsEntryOf rows.now name.now (catalog_of rows.now version) result }
+fn entry_of_version<'a>(rows: &FirstRows<'a>, version: u64, name: &'a [u8]) -> Resolution<'a>
+    ensures { Resolves rows.now name.now (catalog_of rows.now version) result }
 {
     rows.are_base();
     match branch_of_version(rows, version) {
@@ -78,28 +82,28 @@ fn entry_by<'a>(
     directory: u64,
     name: &'a [u8],
     number: u64,
-) -> Entry<'a>
+) -> Resolution<'a>
     requires { last_of (entry_effect view.now directory name.now) rows.now ≡ Some number }
-    ensures { IsEntryOf rows.now name.now (own_of rows.now view.now directory) result }
+    ensures { Resolves rows.now name.now (own_of rows.now view.now directory) result }
 {
     rows.are_base();
     match row_at(rows, number) {
-        None => Entry::Is(None),
+        None => Resolution::Is(None),
         Some(row) => match edit_of(view, directory, number, row.deed()) {
-            Edit::Same => Entry::Is(None),
-            Edit::BeginsEmpty => Entry::Is(None),
-            Edit::BeginsAs(origin) => Entry::As(number, Catalog::OfVersion(origin), name),
-            Edit::Adds(_, element) => Entry::Is(Some(element)),
-            Edit::Removes(_) => Entry::Is(None),
+            Edit::Same => Resolution::Is(None),
+            Edit::BeginsEmpty => Resolution::Is(None),
+            Edit::BeginsAs(origin) => Resolution::As(number, Catalog::OfVersion(origin), name),
+            Edit::Adds(_, element) => Resolution::Is(Some(element)),
+            Edit::Removes(_) => Resolution::Is(None),
             Edit::Renames(from, to) => {
                 if is_name(name, to) {
-                    Entry::As(
+                    Resolution::As(
                         number,
                         Catalog::OfCheckout(view, directory),
                         from.as_bytes(),
                     )
                 } else {
-                    Entry::Is(None)
+                    Resolution::Is(None)
                 }
             }
         },
@@ -112,8 +116,8 @@ fn entry_of_checkout<'a>(
     view: &'a Name,
     directory: u64,
     name: &'a [u8],
-) -> Entry<'a>
-    ensures { IsEntryOf rows.now name.now (own_of rows.now view.now directory) result }
+) -> Resolution<'a>
+    ensures { Resolves rows.now name.now (own_of rows.now view.now directory) result }
 {
     let begun = rows.newest(&BegunOf { view, directory });
     let changed = rows.newest(&ChangedOf {
@@ -122,13 +126,13 @@ fn entry_of_checkout<'a>(
         name,
     });
     match left_by(later(begun, changed)) {
-        None => Entry::Is(None),
+        None => Resolution::Is(None),
         Some(number) => entry_by(rows, view, directory, name, number),
     }
 }
 
-fn entry_of<'a>(rows: &FirstRows<'a>, catalog: Catalog<'a>, name: &'a [u8]) -> Entry<'a>
-    ensures { IsEntryOf rows.now name.now (catalog_in rows.now catalog.entry) result }
+fn entry_of<'a>(rows: &FirstRows<'a>, catalog: Catalog<'a>, name: &'a [u8]) -> Resolution<'a>
+    ensures { Resolves rows.now name.now (catalog_in rows.now catalog.entry) result }
 {
     match catalog {
         Catalog::OfVersion(version) => entry_of_version(rows, version, name),
@@ -150,8 +154,8 @@ pub(crate) fn named_in<'a>(
     let mut name = name;
     loop {
         match entry_of(&rows, catalog, name) {
-            Entry::Is(found) => return found,
-            Entry::As(count, older, other) => {
+            Resolution::Is(found) => return found,
+            Resolution::As(count, older, other) => {
                 rows = first_rows(&rows, count);
                 catalog = older;
                 name = other;

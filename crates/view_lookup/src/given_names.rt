@@ -98,8 +98,8 @@ pub(crate) fn add_name(
     }
 }
 
-/// The names that were given to elements of a directory, by whatever view and whether they stand there still or not. Takes time linear
-/// in the rows that gave them, times logarithmic in the names.
+/// The names that were given to elements of a directory, by whatever view and whether they stand there still or not. Takes time
+/// linear in the rows that gave them, times logarithmic in the names.
 pub fn names_given(
     alloc: Global,
     rows: &FirstRows<'_>,

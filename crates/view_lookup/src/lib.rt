@@ -80,7 +80,7 @@ pub use standings::oldest_out;
 pub use texts::{text_at, text_of};
 pub use trees::{
     branch_named, branch_of_version, has_branch, is_latest, is_version_of, latest_beside,
-    latest_version, name_of_branch, origin_of, place_of, version_numbered,
+    latest_version, name_of_branch, origin_of, version_id_of, version_numbered,
 };
 pub use types::{is_branch_type, is_label_type, is_type_taken, kind_of_type};
 pub use version_labels::{VersionLabels, labels_of, labels_on};

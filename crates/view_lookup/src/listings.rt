@@ -7,7 +7,7 @@ ghost use Rattle.std.specs.HashMap as hashed;
 ghost use Rattle.std.specs.HashMap.{spare};
 ghost use Rattle.std.specs.Ordering.{nat_cmp};
 ghost use Rattle.legal_history.specs.Base.Changes.{targets_of};
-ghost use Rattle.legal_history.specs.Base.Closures.{closure, greater_of, is_among, is_publish, listed, listing_of, sources_of, sources_of_entry};
+ghost use Rattle.legal_history.specs.Base.Closures.{closure, greater_of, is_among, is_publish, listed, listing_of, inputs_of, inputs_of_entry};
 ghost use Rattle.legal_history.specs.Base.Rows.{only_where};
 ghost use Rattle.view_lookup.specs.Listings.{HasListing, greater, listing_made, versions_of, with_listing};
 
@@ -70,9 +70,9 @@ fn put_version(
     if entry.row == 0 {
         return Ok(());
     }
-    match rows.place(entry.row) {
+    match rows.version_id(entry.row) {
         None => Ok(()),
-        Some(place) => put(versions, place.element, entry.row),
+        Some(version_id) => put(versions, version_id.element, entry.row),
     }
 }
 
@@ -92,7 +92,7 @@ fn put_entry(rows: &FirstRows<'_>, versions: &mut Versions, entry: &ReadOf) -> R
     ensures { OnOk result
         ((e : ℕ) → get nat_cmp versions.new e
         ≡ greater (find nat_cmp e (listing_of rows.now
-        (sources_of_entry (is_publish rows.now entry.now.row) (closure rows.now) entry.now)))
+        (inputs_of_entry (is_publish rows.now entry.now.row) (closure rows.now) entry.now)))
         (get nat_cmp versions.old e)) }
 {
     if !is_publish(rows, entry.row) {
@@ -108,7 +108,7 @@ fn put_entry(rows: &FirstRows<'_>, versions: &mut Versions, entry: &ReadOf) -> R
 fn listing_of(alloc: Global, rows: &FirstRows<'_>, entries: &[ReadOf]) -> Result<Versions, NoMemory>
     ensures { IfOk result
         (λ versions. HasListing (Some versions.entries)
-        (listing_of rows.now (sources_of rows.now (closure rows.now) entries.now))) }
+        (listing_of rows.now (inputs_of rows.now (closure rows.now) entries.now))) }
 {
     let mut versions = BTreeMap::new(alloc);
     for entry in entries {

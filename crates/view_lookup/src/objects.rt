@@ -14,7 +14,7 @@ use crate::bases::FirstRows;
 use crate::look_ups::{Does, LookUp, only_if, within};
 use crate::numbered::targets_of;
 use crate::subjects::Subject;
-use crate::views::{same_name, same_place};
+use crate::views::{same_name, same_view_path};
 use cc_names::names::Name;
 use cc_names::paths::Path;
 use cc_names::rows::Deed;
@@ -88,7 +88,7 @@ impl LookUp for ObjectOf<'_> {
                 Does::Sets(*object),
             ),
             Deed::Drop { view, path } => {
-                only_if(same_place(self.view, self.path, view, path), Does::Ends)
+                only_if(same_view_path(self.view, self.path, view, path), Does::Ends)
             }
             _ => Does::Keeps,
         }

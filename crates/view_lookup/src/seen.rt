@@ -1,8 +1,7 @@
 // What stands at a path in a view.
 
-ghost use Rattle.std.specs.Prelude.{◌≡◌, ◌<◌, ◌≤◌, length, is_some, IfSome, option_map};
-ghost use Rattle.std.specs.List.{position};
-ghost use Rattle.cc_names.specs.Paths.{is_slash, names_of};
+ghost use Rattle.std.specs.Prelude.{◌≡◌, ◌<◌, ◌≤◌, length, is_some, option_map};
+ghost use Rattle.cc_names.specs.Paths.{names_of};
 ghost use Rattle.cc_names.specs.Versions.{kind_of};
 ghost use Rattle.legal_history.specs.Base.Catalogs.{named};
 ghost use Rattle.legal_history.specs.Base.Changes.{tree};
@@ -17,7 +16,7 @@ use crate::catalogs::{Catalog, named_in};
 use crate::picks::pick;
 use crate::views::private_at;
 use cc_names::names::Name;
-use cc_names::paths::Path;
+use cc_names::paths::{Path, first_slash};
 use cc_names::rows::{Deed, Kind};
 use cc_names::selection::{Picked, Seen};
 
@@ -40,14 +39,6 @@ pub fn kind_of(rows: &FirstRows<'_>, element: u64) -> Option<Kind>
     }
     let row = row_at(rows, element)?;
     kind_made(row.deed())
-}
-
-/// The place of the first slash.
-fn first_slash(bytes: &[u8]) -> Option<usize>
-    ensures place { result ≡ position is_slash bytes.now }
-    ensures within { IfSome result (λ place. place < length bytes.now) }
-{
-    bytes.iter().position(|byte| *byte == b'/')
 }
 
 /// An element at the path of these bytes, with what the view selects of it. Takes the time of `pick`.
@@ -154,8 +145,8 @@ pub fn at(rows: &FirstRows<'_>, view: &Name, path: &Path) -> Seen
 }
 
 /// The row that made the text of the file that a view sees at a path, where there is one: of a private file, or of the version
-/// of an element that is selected. Takes time linear in the view's name and in the path where the file is at hand (`remember`), else
-/// the time of `at`.
+/// of an element that is selected. Takes time linear in the view's name and in the path where the file is at hand (`remember`),
+/// else the time of `at`.
 pub fn file_at(rows: &FirstRows<'_>, view: &Name, path: &Path) -> Option<u64>
     ensures { result ≡ file_at rows.now view.now path.now }
 {

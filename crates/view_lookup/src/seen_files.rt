@@ -23,13 +23,13 @@ const MOST_VIEWS: usize = 64;
 const MOST_FILES: usize = 65_536;
 
 /// By path the row of the file that is there, or that there is none.
-pub(crate) type Files = HashMap<Path, Option<u64>, RandomState>;
+pub(crate) type FileRows = HashMap<Path, Option<u64>, RandomState>;
 
 /// Files that a view sees in some first rows of a base, with how many rows these are.
 #[derive(Drop)]
 pub(crate) struct SeenFiles {
     count: u64,
-    files: Files,
+    files: FileRows,
 }
 
 impl SeenFiles {
@@ -115,7 +115,7 @@ fn see(
     alloc: Global,
     rows: &FirstRows<'_>,
     view: &Name,
-    files: &mut Files,
+    files: &mut FileRows,
     path: &Path,
 ) -> Result<(), NoMemory>
     requires { AreFiles rows.now view.now files.old }
@@ -134,7 +134,7 @@ fn see_each(
     alloc: Global,
     rows: &FirstRows<'_>,
     view: &Name,
-    files: &mut Files,
+    files: &mut FileRows,
     entries: &[ReadOf],
 ) -> Result<(), NoMemory>
     requires { AreFiles rows.now view.now files.old }
@@ -153,7 +153,7 @@ fn begin(
     rows: &FirstRows<'_>,
     view: &Name,
     kept: Option<(Name, SeenFiles)>,
-) -> Result<(Name, Files), NoMemory>
+) -> Result<(Name, FileRows), NoMemory>
     requires { IfSome kept (λ it. IsSeenIn rows.now view.now it) }
     ensures name { IfOk result (λ it. it.0 ≡ view.now) }
     ensures files { IfOk result (λ it. AreFiles rows.now view.now it.1) }
@@ -164,8 +164,9 @@ fn begin(
     }
 }
 
-/// The files that a view sees in the first rows at paths that a build is likely to ask for next as it tries a unit of these targets,
-/// beside what was kept before. Takes the time of `newest_object` and, for each path that is not kept yet, that of `find_file`.
+/// The files that a view sees in the first rows at paths that a build is likely to ask for next as it tries a unit of these
+/// targets, beside what was kept before. Takes the time of `newest_object` and, for each path that is not kept yet, that of
+/// `find_file`.
 pub(crate) fn see_ahead(
     alloc: Global,
     hashing: RandomState,

@@ -28,7 +28,7 @@ fn output_at<'a>(path: &Path, targets: &[Path], outputs: &'a [Text]) -> Option<&
 
 /// Where the text that a row makes comes from.
 #[derive(Clone, Copy)]
-pub(crate) enum Source<'a> {
+pub(crate) enum TextSource<'a> {
     /// The row itself.
     Bytes(&'a [u8]),
     /// An earlier row.
@@ -38,41 +38,41 @@ pub(crate) enum Source<'a> {
 }
 
 /// The text of the row that made a view's own.
-fn of_making<'a>(making: Option<u64>) -> Source<'a>
+fn of_making<'a>(making: Option<u64>) -> TextSource<'a>
     ensures { plain_source result ≡ of_making making }
 {
     match making {
-        None => Source::NoText,
-        Some(row) => Source::OfRow(row),
+        None => TextSource::NoText,
+        Some(row) => TextSource::OfRow(row),
     }
 }
 
-fn of_output(output: Option<&[u8]>) -> Source<'_>
+fn of_output(output: Option<&[u8]>) -> TextSource<'_>
     ensures { plain_source result ≡ of_output (option_copied output.entry) }
 {
     match output {
-        None => Source::NoText,
-        Some(output) => Source::Bytes(output),
+        None => TextSource::NoText,
+        Some(output) => TextSource::Bytes(output),
     }
 }
 
 /// Where the text comes from of a row of this deed, which comes behind the older rows; of an object, its output at the path.
-fn source_of<'a>(older: &FirstRows<'_>, path: &Path, deed: &'a Deed) -> Source<'a>
+fn source_of<'a>(older: &FirstRows<'_>, path: &Path, deed: &'a Deed) -> TextSource<'a>
     ensures { plain_source result ≡ source_of older.now path.now deed.now }
 {
     match deed {
-        Deed::Mkelem { .. } => Source::Bytes(&[]),
-        Deed::Checkout { origin, .. } => Source::OfRow(*origin),
-        Deed::Branch { origin, .. } => Source::OfRow(*origin),
-        Deed::Save { text, .. } => Source::Bytes(text.as_bytes()),
+        Deed::Mkelem { .. } => TextSource::Bytes(&[]),
+        Deed::Checkout { origin, .. } => TextSource::OfRow(*origin),
+        Deed::Branch { origin, .. } => TextSource::OfRow(*origin),
+        Deed::Save { text, .. } => TextSource::Bytes(text.as_bytes()),
         Deed::Checkin { view, element } => of_making(making(older, view, *element)),
-        Deed::Put { text, .. } => Source::Bytes(text.as_bytes()),
+        Deed::Put { text, .. } => TextSource::Bytes(text.as_bytes()),
         Deed::Publish {
             targets,
             outputs,
             ..
         } => of_output(output_at(path, targets.as_slice(), outputs.as_slice())),
-        _ => Source::NoText,
+        _ => TextSource::NoText,
     }
 }
 
@@ -86,9 +86,9 @@ pub fn text_of<'a>(rows: &FirstRows<'a>, row: u64, path: &Path) -> Option<&'a [u
     while let Some(found) = row_at(&older, number) {
         older = first_rows(&older, number);
         match source_of(&older, path, found.deed()) {
-            Source::Bytes(bytes) => return Some(bytes),
-            Source::OfRow(origin) => number = origin,
-            Source::NoText => return None,
+            TextSource::Bytes(bytes) => return Some(bytes),
+            TextSource::OfRow(origin) => number = origin,
+            TextSource::NoText => return None,
         }
     }
     None

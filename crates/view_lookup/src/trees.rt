@@ -3,14 +3,14 @@
 ghost use Rattle.std.specs.Prelude.{◌≡◌};
 ghost use Rattle.std.specs.Option.{option_copied};
 ghost use Rattle.cc_names.specs.Branches.{branch_named, branch_of_version, name_of_branch, origin_of};
-ghost use Rattle.cc_names.specs.Versions.{is_number, latest, numbered, place};
+ghost use Rattle.cc_names.specs.Versions.{is_number, latest, numbered, version_id};
 ghost use Rattle.legal_history.specs.Base.Changes.{tree};
 ghost use Rattle.legal_history.specs.Base.Checkouts.{is_latest, latest_beside};
 ghost use Rattle.legal_history.specs.Base.Closures.{is_version_of};
 ghost use Rattle.legal_history.specs.Base.Conditions.{has_branch};
 
 use crate::bases::FirstRows;
-use cc_names::changes::Place;
+use cc_names::changes::VersionId;
 use cc_names::names::Name;
 
 /// Whether there is a number, and it is this one.
@@ -76,11 +76,11 @@ pub fn has_branch(rows: &FirstRows<'_>, element: u64, name: &Name) -> bool
     branch_named(rows, element, name).is_some()
 }
 
-/// Where the version that a row made stands: its element, its branch and its number there. Takes time logarithmic in the changes.
-pub fn place_of(rows: &FirstRows<'_>, version: u64) -> Option<Place>
-    ensures { result ≡ place (tree rows.now) version }
+/// The id of the version that a row made: its element, its branch and its number there. Takes time logarithmic in the changes.
+pub fn version_id_of(rows: &FirstRows<'_>, version: u64) -> Option<VersionId>
+    ensures { result ≡ version_id (tree rows.now) version }
 {
-    rows.place(version)
+    rows.version_id(version)
 }
 
 /// The name of a branch; `main` has none of its own. Takes time logarithmic in the changes.
@@ -99,9 +99,9 @@ pub fn name_of_branch<'a>(rows: &FirstRows<'a>, branch: u64) -> Option<&'a Name>
 pub fn is_version_of(rows: &FirstRows<'_>, element: u64, row: u64) -> bool
     ensures { result ≡ is_version_of rows.now element row }
 {
-    match place_of(rows, row) {
+    match version_id_of(rows, row) {
         None => false,
-        Some(place) => place.element == element,
+        Some(version_id) => version_id.element == element,
     }
 }
 

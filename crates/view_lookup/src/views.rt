@@ -19,7 +19,7 @@ pub(crate) fn same_name(one: &Name, two: &Name) -> bool
     two.as_bytes() == one.as_bytes()
 }
 
-pub(crate) fn same_place(view: &Name, path: &Path, other: &Name, place: &Path) -> bool
+pub(crate) fn same_view_path(view: &Name, path: &Path, other: &Name, place: &Path) -> bool
     ensures { result ≡ (bytes_eq other.now view.now && bytes_eq place.now path.now) }
 {
     same_name(view, other) && place.as_bytes() == path.as_bytes()

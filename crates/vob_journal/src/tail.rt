@@ -86,7 +86,9 @@ pub(crate) fn commit<D: Disk>(
     requires ends { IfTold (D.sight disk.old).told (IsTail settled tail) }
     ensures most { IfOk result (λ _. tail + (5 + length frame.now) ≤ 2 ^ 62) }
     ensures told { MatchResult result
-        (λ _. Both (CommitsFrame settled tail frame.now) (D.sight disk.old).told (D.sight disk.new).told)
+        (λ _.
+        Both (CommitsFrame settled tail frame.now) (D.sight disk.old).told
+        (D.sight disk.new).told)
         (λ left.
         Both (FailsToAppend settled tail frame.now left) (D.sight disk.old).told
         (D.sight disk.new).told) }

@@ -131,10 +131,10 @@ fn four_rows_take_nineteen_calls(rt: HostRuntime) -> Result<(), Fail> {
         ('w', 45, 1),
         ('s', 0, 0),
     ];
-    assert_eq!(rt; disk.entries().len(), kinds.len());
-    for (entry, kind) in disk.entries().iter().zip(kinds.iter()) {
-        assert_eq!(rt; entry.failed_before, 0);
-        assert_eq!(rt; kind_of(&entry.call), *kind);
+    assert_eq!(rt; disk.trace().len(), kinds.len());
+    for (traced, kind) in disk.trace().iter().zip(kinds.iter()) {
+        assert_eq!(rt; traced.failed_before, 0);
+        assert_eq!(rt; kind_of(&traced.call), *kind);
     }
     Ok(())
 }
@@ -266,9 +266,9 @@ fn a_journal_is_read_in_pieces(rt: HostRuntime) -> Result<(), Fail> {
         ('r', 120_015, 65_536),
         ('r', 160_020, 40_005),
     ];
-    assert_eq!(rt; disk.entries().len(), kinds.len());
-    for (entry, kind) in disk.entries().iter().zip(kinds.iter()) {
-        assert_eq!(rt; kind_of(&entry.call), *kind);
+    assert_eq!(rt; disk.trace().len(), kinds.len());
+    for (traced, kind) in disk.trace().iter().zip(kinds.iter()) {
+        assert_eq!(rt; kind_of(&traced.call), *kind);
     }
     Ok(())
 }

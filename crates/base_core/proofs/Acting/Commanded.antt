@@ -1,7 +1,8 @@
 -- The command that a lane has next is one of the phase: it has the form of one, and is carried out.
 use Rattle.std.proofs.Common.{◌≡◌, ℕ, zero, suc, ◌≤◌, true, false, Option, Some, None, refl, ap, sym, subst, ◌∙◌}
-use Rattle.std.specs.Prelude.{option_and_then, slice_get}
+use Rattle.std.specs.Prelude.{IsSome, option_and_then, slice_get}
 use Rattle.std.specs.List.{AllByRecursion}
+use Rattle.cc_names.specs.Commands.{builds, lane_at}
 use Rattle.cc_names.specs.declared.commands.Command.{Command}
 use Rattle.cc_names.specs.declared.commands.Command.TheVariants as commands
 use Rattle.cc_names.specs.declared.commands.Lane.{Lane}
@@ -9,9 +10,7 @@ use Rattle.cc_names.specs.declared.commands.Phase.{Phase}
 use Rattle.cc_names.specs.declared.desks.Next.TheVariants as nexts
 use Rattle.cc_names.specs.declared.rows.Tag.{Tag}
 use Rattle.session_text.specs.Formed.{IsCommand, IsLane, IsPhase}
-use Rattle.legal_history.specs.Stories.States.{State, lane_at, command_behind, next_tag}
-use Rattle.build_core.specs.Plans.{is_clearmake, view_of as build_view}
-use Rattle.checkout_desk.specs.Commands.{builds, view_of}
+use Rattle.legal_history.specs.Stories.States.{State, command_behind, next_tag}
 use Rattle.carried_out.specs.CarriedOut.{AreCarriedOut, IsLaneCarriedOut, is_carried_out}
 use Rattle.base_core.specs.Keeping.Kept.{command_limit}
 use Rattle.clearmake.specs.Nexts.{jobs_of, next_by, next_of, waiting}
@@ -39,28 +38,23 @@ acting : (command : Command) (tag : Tag) → next_by (Some command) tag ≡ next
 acting (commands.Clearmake view file own_only rebuild jobs macros goals) tag act = absurd (cc)
 acting command tag act = refl
 
-building : (command : Command) (tag : Tag) → next_by (Some command) tag ≡ nexts.Build tag → is_clearmake command ≡ true
+building : (command : Command) (tag : Tag) → next_by (Some command) tag ≡ nexts.Build tag → builds command ≡ true
 building (commands.Clearmake view file own_only rebuild jobs macros goals) tag builds = refl
 building command tag builds = cc
 
 pub acts : (s : State) (lane : ℕ) (command : Command) → waiting s lane ≡ Some command → next_of s lane ≡ nexts.Act → builds command ≡ false
 acts s lane command e act = acting command (next_tag s lane) (ap (λ found. next_by found (next_tag s lane)) (sym e) ∙ act)
 
-pub builds_next : (s : State) (lane : ℕ) (command : Command) → waiting s lane ≡ Some command → next_of s lane ≡ nexts.Build (next_tag s lane) → is_clearmake command ≡ true
+pub builds_next : (s : State) (lane : ℕ) (command : Command) → waiting s lane ≡ Some command → next_of s lane ≡ nexts.Build (next_tag s lane) → builds command ≡ true
 builds_next s lane command e build = building command (next_tag s lane) (ap (λ found. next_by found (next_tag s lane)) (sym e) ∙ build)
 
--- the view in which a command builds is the one that it names
-pub same_view : (command : Command) → is_clearmake command ≡ true → view_of command ≡ build_view command
-same_view (commands.Clearmake view file own_only rebuild jobs macros goals) builds_it = refl
-same_view command builds_it = absurd (cc)
-
 -- one that builds asks for some number of units at once
-asks : (command : Command) (tag : Tag) → next_by (Some command) tag ≡ nexts.Build tag → jobs_of (Some command) ≡ None → ⊥
-asks (commands.Clearmake view file own_only rebuild jobs macros goals) tag builds none = absurd (cc)
-asks command tag builds none = absurd (cc)
+asks : (command : Command) (tag : Tag) → next_by (Some command) tag ≡ nexts.Build tag → IsSome (jobs_of (Some command))
+asks (commands.Clearmake view file own_only rebuild jobs macros goals) tag builds = refl
+asks command tag builds = absurd (cc)
 
-pub builds_ask : (s : State) (lane : ℕ) (command : Command) → waiting s lane ≡ Some command → next_of s lane ≡ nexts.Build (next_tag s lane) → jobs_of (Some command) ≡ None → ⊥
-builds_ask s lane command e build none = asks command (next_tag s lane) (ap (λ found. next_by found (next_tag s lane)) (sym e) ∙ build) none
+pub builds_ask : (s : State) (lane : ℕ) (command : Command) → waiting s lane ≡ Some command → next_of s lane ≡ nexts.Build (next_tag s lane) → IsSome (jobs_of (Some command))
+builds_ask s lane command e build = asks command (next_tag s lane) (ap (λ found. next_by found (next_tag s lane)) (sym e) ∙ build)
 
 -- which is from 1 to 64
 pub jobs_within : (command : Command) (jobs : ℕ) → IsCommand command_limit command → jobs_of (Some command) ≡ Some jobs → (1 ≤ jobs) × (jobs ≤ 64)

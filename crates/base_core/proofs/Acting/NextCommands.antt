@@ -3,6 +3,7 @@ use Rattle.std.proofs.Common.{◌≡◌, ℕ, zero, suc, ◌+◌, ◌<◌, ◌�
 use Rattle.std.specs.Prelude.{option_and_then, option_map, is_none, is_some, slice_get}
 use Rattle.std.proofs.lemmas.Bool.Decides.{nat_tests}
 use Rattle.std.proofs.lemmas.Option.{slice_get_within}
+use Rattle.cc_names.specs.Commands.{builds, scrub_age, lane_at}
 use Rattle.carried_out.specs.CarriedOut.{is_carried_out, is_made}
 use Rattle.legal_history.specs.Queries.QueryLines.{is_query}
 use Rattle.cc_names.specs.Formed.{Plain}
@@ -17,7 +18,6 @@ use Rattle.cc_names.specs.declared.refusals.Refusal.{Refusal}
 use Rattle.cc_names.specs.declared.replies.Reply.TheVariants as replies
 use Rattle.cc_names.specs.declared.rows.Tag.{Tag}
 use Rattle.cc_names.specs.declared.steps.Told.{Told}
-use Rattle.checkout_desk.specs.Commands.{builds, scrub_age}
 use Rattle.checkout_desk.specs.Deciding.{DecidesIfAny, IfNone, IfRow, Sees}
 use Rattle.cleartool.specs.Answering.{AnswersAs}
 use Rattle.legal_history.specs.Base.Fits.{row_limit}
@@ -25,7 +25,7 @@ use Rattle.legal_history.specs.Base.Rows.{Base, size, only_where}
 use Rattle.legal_history.specs.Builds.Active.{building, build_of, reserved}
 use Rattle.legal_history.specs.Commands.Decisions.{Scene}
 use Rattle.legal_history.specs.Commands.Lines.{decision}
-use Rattle.legal_history.specs.Stories.States.{State, scene, done_of, lane_at, command_behind, same_tag, next_tag, next_command, decided}
+use Rattle.legal_history.specs.Stories.States.{State, scene, done_of, command_behind, same_tag, next_tag, next_command, decided}
 use Rattle.legal_history.specs.Stories.Steps.{state_of}
 use Rattle.legal_history.specs.Stories.Lawful.{Legal}
 use Rattle.base_core.specs.Calls.Acting.{AnswersNext, DecidesNext}

@@ -1,5 +1,6 @@
 -- The rows that commands make which build nothing.
 use Rattle.std.proofs.Common.{◌≡◌, ℕ, Bool, not, ◌||◌, true, false, Option, Some, None, Result, Ok, List, [], ◌∷◌, refl, subst}
+use Rattle.cc_names.specs.Commands.{builds}
 use Rattle.carried_out.specs.CarriedOut.{is_carried_out}
 use Rattle.legal_history.specs.Queries.QueryLines.{is_query}
 use Rattle.cc_names.specs.declared.commands.Command.{Command}
@@ -15,7 +16,6 @@ use Rattle.cc_names.specs.declared.rows.TypeKind.TheVariants as type_kinds
 use Rattle.cc_names.specs.declared.selection.Picked.{Picked}
 use Rattle.cc_names.specs.declared.selection.Seen.{Seen}
 use Rattle.cc_names.specs.declared.selection.Seen.TheVariants.{Private, Element, Unselected, Nothing}
-use Rattle.checkout_desk.specs.Commands.{builds}
 use Rattle.legal_history.specs.Base.Seen.{at}
 use Rattle.legal_history.specs.Commands.CheckoutLines.{branch_by, checkin_of, checkin_tests, checkout_deed, checkout_of, checkout_tests, deciding_rule, mkbranch_of, mkbranch_tests, out_unless, uncheckout_of}
 use Rattle.legal_history.specs.Commands.CheckoutTests.{needs_out}

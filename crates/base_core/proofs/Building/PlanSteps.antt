@@ -2,6 +2,7 @@
 use Rattle.std.proofs.Common.{◌≡◌, ℕ, ◌+◌, ◌≤◌, nat_lt, true, false, Option, Some, None, Result, Ok, Err, List, [], ◌∷◌, length, refl, ap, ap₂, sym, subst, ◌∙◌, arith}
 use Rattle.std.specs.Prelude.{IfOk, IsSome, option_and_then, option_map}
 use Rattle.std.proofs.lemmas.Bool.Decides.{nat_tests}
+use Rattle.cc_names.specs.Commands.{lane_at}
 use Rattle.cc_names.specs.declared.commands.Command.{Command}
 use Rattle.cc_names.specs.declared.commands.Command.TheVariants as commands
 use Rattle.cc_names.specs.declared.desks.Next.TheVariants as nexts
@@ -17,7 +18,7 @@ use Rattle.legal_history.specs.Builds.Active.{Build, build_of, building, reserve
 use Rattle.legal_history.specs.Commands.Decisions.{Scene, Begins}
 use Rattle.legal_history.specs.Base.Fits.{row_limit}
 use Rattle.legal_history.specs.Commands.Lines.{decision}
-use Rattle.legal_history.specs.Stories.States.{State, scene, done_of, lane_at, command_behind, next_tag, next_command, decided}
+use Rattle.legal_history.specs.Stories.States.{State, scene, done_of, command_behind, next_tag, next_command, decided}
 use Rattle.legal_history.specs.Stories.Steps.{begun, new_build, units_begun}
 use Rattle.legal_history.specs.Base.Views.{view_row}
 use Rattle.base_core.specs.Calls.Building.{IsBuildKept, PlansNext}

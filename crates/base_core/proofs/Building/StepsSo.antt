@@ -18,7 +18,7 @@ use Rattle.legal_history.specs.Builds.Turns.{fault_of, standing_of_unit}
 use Rattle.base_core.specs.Calls.BuildCalls.{MayStart, StepsTo}
 use Rattle.base_core.specs.Calls.Building.{IsBuildKept}
 use Rattle.base_core.proofs.Building.Closing.{build_is_by}
-use Rattle.base_core.proofs.Building.UnitCalls.{early_is, early_settles, awaits_earlier}
+use Rattle.base_core.proofs.Building.UnitCalls.{early_is, early_settles, awaits_earlier, awaits_needed}
 
 -- a unit without an outcome waits
 waiting_unit : (s : State) (lane n : ℕ) (build : Build) (unit : Unit) → IsBuildKept s lane build → build_of s.active lane ≡ Some build → unit_at build n ≡ Some unit → is_outcome (came_to build n) ≡ false → Waits s (next_tag s lane) n build unit
@@ -47,7 +47,15 @@ steps_so s b lane n build step kept active within consistent same h = here step 
   where
     here : (step : UnitStep) → IsStep s.base build n step → StepsTo s lane n step
     here next.Settled h = record { build = build; active = active; outcome = h }
-    here (next.NotReady m) h = record { build = build; active = active; waits = h.next.waits; earlier = awaits_earlier s.base build n m h.unit consistent h.is_unit h.next }
+    here (next.NotReady m) h = record {
+      build = build;
+      active = active;
+      unit = h.unit;
+      is_unit = h.is_unit;
+      needed = awaits_needed build h.unit.prerequisites m h.next.first;
+      waits = h.next.waits;
+      earlier = awaits_earlier s.base build n m h.unit consistent h.is_unit h.next;
+    }
     here (next.Settle end) h = record {
       build = build;
       active = active;

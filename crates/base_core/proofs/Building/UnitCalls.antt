@@ -1,8 +1,10 @@
 -- What the calls on a unit of a lane's build rest on.
-use Rattle.std.proofs.Common.{◌≡◌, ℕ, ◌<◌, ◌||◌, Bool, true, false, Option, Some, None, List, [], ◌∷◌, refl, ap, sym, subst, ◌∙◌}
+use Rattle.std.proofs.Common.{◌≡◌, ℕ, ◌<◌, ◌==◌, ◌||◌, Bool, true, false, Option, Some, None, List, [], ◌∷◌, refl, ap, sym, subst, ◌∙◌}
 use Rattle.std.specs.Bool.{⊤}
 use Rattle.std.specs.Option.{option_or}
-use Rattle.std.specs.Prelude.{IsSome, bytes_eq, find, option_map}
+use Rattle.std.specs.List.{list_any}
+use Rattle.std.specs.Prelude.{IsSome, bytes_eq, find, option_map, unwrap_or}
+use Rattle.std.proofs.lemmas.Bool.Decides.{Decides-eqb}
 use Rattle.std.proofs.lemmas.Slice.Eq.{bytes_eq-Decides}
 use Rattle.cc_names.specs.declared.commands.Command.{Command}
 use Rattle.cc_names.specs.declared.desks.Next.TheVariants as nexts
@@ -111,3 +113,26 @@ pub awaits_earlier : (b : Base) (build : Build) (n m : ℕ) (unit : Unit) → Is
 awaits_earlier b build n m unit consistent is awaits =
     let made = awaited_is build unit.prerequisites m awaits.first in
     consistent.in_order.earlier n m unit made.0 is made.1 made.2
+
+abbrev makes : Option ℕ → ℕ → Bool
+makes found m = unwrap_or (option_map (λ k. k == m) found) false
+
+abbrev makes_one : Build → ℕ → List (List ℕ) → Bool
+makes_one build m paths = list_any (λ path. makes (unit_with build path) m) paths
+
+needed_or : (build : Build) (path : List ℕ) (paths : List (List ℕ)) (m : ℕ) (found : Option ℕ) → unit_with build path ≡ found → (first_awaited build paths ≡ Some m → makes_one build m paths ≡ true) → option_or (awaited build found) (first_awaited build paths) ≡ Some m → makes_one build m (path ∷ paths) ≡ true
+needed_or build path paths m None is rest e = ap (λ found. makes found m || makes_one build m paths) is ∙ rest e
+needed_or build path paths m (Some k) is rest e = ap (λ found. makes found m || makes_one build m paths) is ∙ by_over (is_outcome (came_to build k)) e
+  where
+    by_test : (b : Bool) → (b || true) ≡ true
+    by_test true = refl
+    by_test false = refl
+
+    by_over : (over : Bool) → option_or (unless_over over k) (first_awaited build paths) ≡ Some m → ((k == m) || makes_one build m paths) ≡ true
+    by_over true e = ap (λ b. (k == m) || b) (rest e) ∙ by_test (k == m)
+    by_over false e = ap (λ b. b || makes_one build m paths) ((Decides-eqb k m).1 (some_same k m e))
+
+-- the unit that is waited for makes one of the paths
+pub awaits_needed : (build : Build) (paths : List (List ℕ)) (m : ℕ) → first_awaited build paths ≡ Some m → makes_one build m paths ≡ true
+awaits_needed build [] m e = absurd (cc)
+awaits_needed build (path ∷ paths) m e = needed_or build path paths m (unit_with build path) refl (awaits_needed build paths m) e

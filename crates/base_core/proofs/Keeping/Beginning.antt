@@ -2,6 +2,7 @@
 use Rattle.std.proofs.Common.{◌≡◌, ℕ, zero, suc, ◌+◌, ◌-◌, ◌<◌, ◌≤◌, ◌^◌, true, Option, Some, None, List, [], ◌∷◌, ◌++◌, append_assoc, drop, get_or, length, length-append, refl, ap, sym, subst, ◌∙◌, arith}
 use Rattle.std.proofs.lemmas.List.{length-map}
 use Rattle.std.specs.Prelude.{MatchOption, slice_get}
+use Rattle.cc_names.specs.Commands.{lane_at}
 use Rattle.cc_names.specs.declared.commands.Lane.{Lane}
 use Rattle.cc_names.specs.declared.commands.Phase.{Phase}
 use Rattle.cc_names.specs.declared.steps.Told.{Told}
@@ -11,7 +12,7 @@ use Rattle.carried_out.specs.CarriedOut.{AreCarriedOut}
 use Rattle.build_core.specs.Slots.{numbered}
 use Rattle.legal_history.specs.Builds.Active.{build_of, reserved}
 use Rattle.legal_history.specs.Stories.Lawful.{last_moment}
-use Rattle.legal_history.specs.Stories.States.{State, start, all_done, done_of, lane_at}
+use Rattle.legal_history.specs.Stories.States.{State, start, all_done, done_of}
 use Rattle.legal_history.specs.Stories.Steps.{after, state_of}
 use Rattle.base_core.specs.Keeping.Kept.{last_phase, command_limit, IsStoryKept, IsPhaseKept, AreBuilds, IsCoreKept}
 use Rattle.base_core.specs.Keeping.Lanes.{LaneKept, no_lane, builds_in, begun_lane, fresh_lanes, commands_at, room_at}

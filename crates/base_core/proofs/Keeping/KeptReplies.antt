@@ -1,11 +1,12 @@
 -- The replies to the lanes after one more step of the story.
 use Rattle.std.proofs.Common.{◌≡◌, ◌≢◌, ℕ, zero, suc, ◌+◌, ◌-◌, ◌≤◌, ◌⊎◌, inl, inr, Some, List, [], ◌∷◌, ◌++◌, length, length-append, set, drop, drop-drop, refl, ap, sym, subst, ◌∙◌, arith}
 use Rattle.std.proofs.lemmas.List.{append-nil, length-set, get_or-set_same, get_or-set_other}
+use Rattle.cc_names.specs.Commands.{lane_at}
 use Rattle.cc_names.specs.declared.commands.Lane.{Lane}
 use Rattle.cc_names.specs.declared.replies.Reply.{Reply}
 use Rattle.cc_names.specs.declared.rows.Tag.{Tag}
 use Rattle.cc_names.specs.declared.steps.Told.{Told}
-use Rattle.legal_history.specs.Stories.States.{start, done_of, with_done, lane_at}
+use Rattle.legal_history.specs.Stories.States.{start, done_of, with_done}
 use Rattle.legal_history.specs.Stories.Steps.{after, state_of}
 use Rattle.base_core.specs.Keeping.Kept.{AreReplies}
 use Rattle.base_core.specs.Keeping.Lanes.{LaneKept, no_lane, commands_at, replies_at, room_at}

@@ -2,11 +2,12 @@
 use Rattle.std.proofs.Common.{◌≡◌, ℕ, ◌+◌, ◌≤◌, false, ◌∷◌, nat_lt, refl, ap, ap₂, sym, subst, ◌∙◌, arith}
 use Rattle.std.specs.Prelude.{IsSome, option_and_then}
 use Rattle.std.proofs.lemmas.Bool.Decides.{nat_tests}
+use Rattle.cc_names.specs.Commands.{lane_at}
 use Rattle.cc_names.specs.Formed.{Plain}
 use Rattle.cc_names.specs.declared.desks.Next.TheVariants as nexts
 use Rattle.legal_history.specs.Base.Rows.{Base, size, first_rows}
 use Rattle.legal_history.specs.Builds.Active.{Build}
-use Rattle.legal_history.specs.Stories.States.{State, done_of, lane_at, command_behind, next_tag}
+use Rattle.legal_history.specs.Stories.States.{State, done_of, command_behind, next_tag}
 use Rattle.legal_history.specs.Base.Views.{view_row}
 use Rattle.base_core.specs.Calls.Building.{IsBuildKept}
 use Rattle.clearmake.specs.Nexts.{next_of, next_by}

@@ -2,7 +2,6 @@
 use Rattle.std.proofs.Common.{◌≡◌, Bor, ℕ, zero, suc, ◌-◌, ◌<◌, ◌≤◌, true, inl, inr, Option, Some, None, IfSome, List, [], ◌∷◌, drop, length, get_or, refl, ap, sym, subst, ◌∙◌, arith}
 use Rattle.std.specs.Prelude.{option_and_then, is_some, IsSome, nat_lt, slice_get}
 use Rattle.std.specs.Option.{option_copied}
-use Rattle.std.proofs.lemmas.Bool.{false≢true}
 use Rattle.std.proofs.lemmas.Bool.Decides.{nat_tests}
 use Rattle.std.proofs.lemmas.Option.{slice_get_cases, slice_get_past, slice_get_read, slice_get_within, slice_get-get_or}
 use Rattle.carried_out.specs.CarriedOut.{AreCarriedOut, is_carried_out}
@@ -66,10 +65,6 @@ next_kept log lanes now (suc n) h = by (slice_get s.phase.lanes n) refl
 
 pub waits_kept : (log : Logged) (lanes : List LaneKept) (now lane : ℕ) (story : List Told) → log.story ≡ story → IsCoreKept log lanes now → waiting (state_of story) lane ≡ next_in lanes lane
 waits_kept log lanes now lane story same h = ap (λ t. waiting (state_of t) lane) (sym same) ∙ sym (next_kept log lanes now lane h)
-
--- a lane that waits has a command that is kept
-pub one_waits : (log : Logged) (lanes : List LaneKept) (now lane : ℕ) (story : List Told) → log.story ≡ story → IsCoreKept log lanes now → next_in lanes lane ≡ None → IsSome (waiting (state_of story) lane) → ⊥
-one_waits log lanes now lane story same h none waits = false≢true (subst IsSome (waits_kept log lanes now lane story same h ∙ none) waits)
 
 -- what a lane has to do by what its next command asks for
 abbrev pub next_ahead : Ahead → Tag → Next

@@ -1,5 +1,6 @@
 -- What a core keeps: its story is legal, and its rows, its phases and what it keeps for its lanes are those of the story.
 use Rattle.std.specs.Prelude.{◌≡◌, ℕ, ◌<◌, ◌≤◌, ◌^◌, true, Option, Some, is_some, List, [], ◌∷◌, drop, length}
+use Rattle.cc_names.specs.Commands.{lane_at}
 use Rattle.carried_out.specs.CarriedOut.{AreCarriedOut}
 use Rattle.cc_names.specs.declared.commands.Lane.{Lane}
 use Rattle.cc_names.specs.declared.commands.Phase.{Phase}
@@ -8,7 +9,7 @@ use Rattle.session_text.specs.Formed.{IsPhase}
 use Rattle.build_core.specs.Slots.{numbered}
 use Rattle.legal_history.specs.Builds.Active.{Build, build_of, reserved}
 use Rattle.legal_history.specs.Base.Fits.{row_limit}
-use Rattle.legal_history.specs.Stories.States.{State, done_of, lane_at}
+use Rattle.legal_history.specs.Stories.States.{State, done_of}
 use Rattle.legal_history.specs.Stories.Steps.{state_of}
 use Rattle.legal_history.specs.Stories.Lawful.{Legal, last_moment}
 use Rattle.base_core.specs.Calls.Building.{IsBuildKept}

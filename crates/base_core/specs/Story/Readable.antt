@@ -1,4 +1,4 @@
--- Readable rows, which a journal gives back, and stories that name no others.
+-- Readable rows, which a journal gives back, and stories that name no others. Each law is promised by a function of `laws`.
 use Rattle.std.specs.Prelude.{◌≡◌, true, IfSome, List, reverse}
 use Rattle.std.specs.List.{AllByRecursion}
 use Rattle.carried_out.specs.CarriedOut.{is_made}
@@ -7,6 +7,8 @@ use Rattle.cc_names.specs.declared.steps.Step.TheVariants as steps
 use Rattle.cc_names.specs.declared.steps.Told.{Told}
 use Rattle.cc_names.specs.declared.steps.Told.TheVariants as told
 use Rattle.legal_history.specs.Base.Rows.{Base}
+use Rattle.legal_history.specs.Stories.States.{hanging}
+use Rattle.legal_history.specs.Stories.Steps.{state_of}
 
 -- a readable row: it keeps its form, and what is carried out so far makes rows of its deed
 pub record IsReadable (row : Plain) : Type 0 where
@@ -27,3 +29,13 @@ NamesOnly P step = Unit {0}
 -- each row that a story names is so
 abbrev pub TellsOnly : (Plain → Type 0) → List Told → Type 0
 TellsOnly P story = AllByRecursion (NamesOnly P) story
+
+-- The base of a story that names only readable rows is one of readable rows.
+abbrev pub StoryKeepsItsBaseReadable : Type 0
+StoryKeepsItsBaseReadable = (story : List Told) → TellsOnly IsReadable story
+    → AreReadable (state_of story).base
+
+-- A row that a fault left behind that base, if there is one, is readable.
+abbrev pub FaultLeavesAReadableRow : Type 0
+FaultLeavesAReadableRow = (story : List Told) → TellsOnly IsReadable story
+    → IfSome (hanging (state_of story).ends) IsReadable

@@ -40,10 +40,7 @@ impl<D: Disk> Core<D> {
         ensures within { IfOk result (λ jobs. (1 ≤ jobs) × (jobs ≤ 64)) }
     {
         let command = self.command(alloc, lane)?;
-        match jobs_of(&command) {
-            Some(jobs) => Ok(jobs),
-            None => unreachable!(),
-        }
+        Ok(jobs_of(&command).unwrap())
     }
 
     /// What a unit of a lane's build that was started finds at a path, which is the same at every moment since its start, or

@@ -78,10 +78,8 @@ impl<D: Disk> Core<D> {
         ensures formed { IfOk result (λ command. IsCommand command_limit command) }
         ensures carried_out { IfOk result (λ command. is_carried_out command ≡ true) }
     {
-        match self.lanes.next(alloc, lane)? {
-            Some(command) => Ok(command),
-            None => unreachable!(),
-        }
+        let command = self.lanes.next(alloc, lane)?;
+        Ok(command.unwrap())
     }
 
     /// What a lane has to do next. Takes time linear in the line of its next command and those before it that are left, whatever

@@ -7,7 +7,7 @@ use Rattle.std.specs.Prelude.{T, is_some, bytes_eq}
 use Rattle.std.specs.FinMap.Entries.{put, is_sorted, is_sorted-put, is_sorted-where_key}
 use Rattle.cc_names.specs.Formed.{Plain}
 use Rattle.cc_names.specs.Last.{Ends, Sets, only_if, left}
-use Rattle.cc_names.specs.References.{Held, Place, place_cmp, is_place, won, references, held_at, is_held, is_held_by, count, one_where}
+use Rattle.cc_names.specs.References.{Held, ViewPath, view_path_cmp, is_view_path, won, references, held_at, is_held, is_held_by, count, one_where}
 use Rattle.cc_names.specs.declared.changes.ReferenceChange.{ReferenceChange}
 use Rattle.cc_names.specs.declared.changes.ReferenceChange.TheVariants.{Won, Lost, ViewGone}
 use Rattle.cc_names.specs.declared.rows.Deed.{Deed}
@@ -47,7 +47,7 @@ not_taken b (object ∷ objects) id fit h = by (object == id) refl (not_taken b 
 
 all_won : (P : ℕ → Type 0) (v : List ℕ) (id : ℕ) (targets : List (List ℕ)) (held : Held) → P id → AllValues P held → AllValues P (won v id targets held)
 all_won P v id [] held is h = h
-all_won P v id (target ∷ targets) held is h = all_won P v id targets (put place_cmp (v, target) id held) is (all_put P place_cmp (v, target) id held is h)
+all_won P v id (target ∷ targets) held is h = all_won P v id targets (put view_path_cmp (v, target) id held) is (all_put P view_path_cmp (v, target) id held is h)
 
 -- an object that lives goes on to live when another is published
 lives_on : (older : Base) (id n : ℕ) (test : Bool) → Lives older id → is_some (left (only_if test (Sets n)) (live older id)) ≡ true
@@ -56,14 +56,14 @@ lives_on older id n false h = h
 
 row_holds : (older : Base) (deed : Deed) → deed_fits older deed ≡ true → AllValues (Lives older) (held older) →
     AllValues (λ id. is_some (left (live_effect id (size older) deed) (live older id)) ≡ true) (references (holdings_after older deed (holdings older)))
-row_holds older (deeds.Rmview v) fit h = all_where (Lives older) place_cmp (λ place. not (bytes_eq place.0 v)) (held older) h
+row_holds older (deeds.Rmview v) fit h = all_where (Lives older) view_path_cmp (λ view_path. not (bytes_eq view_path.0 v)) (held older) h
 row_holds older (deeds.Publish v targets script entries outputs) fit h =
     all_won (λ id. is_some (left (only_if (size older == id) (Sets (size older))) (live older id)) ≡ true) v (size older) targets (held older)
     (ap (λ t. is_some (left (only_if t (Sets (size older))) (live older (size older)))) (same_is_same (size older)))
     (all_as (Lives older) (λ id. is_some (left (only_if (size older == id) (Sets (size older))) (live older id)) ≡ true) (held older)
     (λ id lives. lives_on older id (size older) (size older == id) lives) h)
 row_holds older (deeds.Wink v id) fit h = all_won (Lives older) v id (targets_of older id) (held older) (and_second (exists older v) (is_some (live older id)) fit) h
-row_holds older (deeds.Drop v path) fit h = all_where (Lives older) place_cmp (λ place. not (is_place place (v, path))) (held older) h
+row_holds older (deeds.Drop v path) fit h = all_where (Lives older) view_path_cmp (λ view_path. not (is_view_path view_path (v, path))) (held older) h
 row_holds older (deeds.Scrub objects) fit h =
     all_both (Lives older) (λ id. is_held (held older) id ≡ true) (λ id. is_some (left (only_if (list_any (λ object. object == id) objects) Ends) (live older id)) ≡ true) (held older)
     (λ id lives is. ap (λ t. is_some (left (only_if t Ends) (live older id))) (not_taken older objects id fit is) ∙ lives) h (all_are_held (held older))
@@ -74,7 +74,7 @@ all_live [] base = tt
 all_live (row ∷ older) base = row_holds older row.deed (row_fits row older base) (all_live older (rows_below row older base))
 
 pub held_is_live : (b : Base) (v path : List ℕ) (id : ℕ) → is_base b ≡ true → held_at (held b) v path ≡ Some id → is_some (live b id) ≡ true
-held_is_live b v path id base is = all_found (Lives b) place_cmp (v, path) (held b) id (all_live b base) is
+held_is_live b v path id base is = all_found (Lives b) view_path_cmp (v, path) (held b) id (all_live b base) is
 
 -- an object that is held lives on whatever row fits
 pub held_lives_on : (b : Base) (deed : Deed) (id : ℕ) → deed_fits b deed ≡ true → is_held (held b) id ≡ true → Lives b id → is_some (left (live_effect id (size b) deed) (live b id)) ≡ true
@@ -83,7 +83,7 @@ held_lives_on b (deeds.Scrub objects) id fit is lives = ap (λ t. is_some (left 
 held_lives_on b deed id fit is lives = lives
 
 pub is_held_there : (b : Base) (v path : List ℕ) (id : ℕ) → held_at (held b) v path ≡ Some id → is_held (held b) id ≡ true
-is_held_there b v path id is = all_found (λ id. is_held (held b) id ≡ true) place_cmp (v, path) (held b) id (all_are_held (held b)) is
+is_held_there b v path id is = all_found (λ id. is_held (held b) id ≡ true) view_path_cmp (v, path) (held b) id (all_are_held (held b)) is
 
 pub scrub_takes : (row : Plain) (b : Base) (objects : List ℕ) (id : ℕ) → is_base (row ∷ b) ≡ true → row.deed ≡ deeds.Scrub objects → list_any (λ object. object == id) objects ≡ true → is_held (held b) id ≡ false
 scrub_takes row b objects id base is among = by (is_held (held b) id) refl
@@ -96,25 +96,25 @@ scrub_takes row b objects id base is among = by (is_held (held b) id) refl
     by true e = let taken = not_taken b objects id fit e in absurd (cc)
 
 -- the references are in order
-pub places_total : IsTotalOrder place_cmp
-places_total = then_total (on_total (λ (place : Place). place.0) nat_list_cmp_total) (on_total (λ (place : Place). place.1) nat_list_cmp_total)
+pub view_paths_total : IsTotalOrder view_path_cmp
+view_paths_total = then_total (on_total (λ (view_path : ViewPath). view_path.0) nat_list_cmp_total) (on_total (λ (view_path : ViewPath). view_path.1) nat_list_cmp_total)
 
-won_sorted : (v : List ℕ) (id : ℕ) (targets : List (List ℕ)) (held : Held) → T (is_sorted place_cmp held) → T (is_sorted place_cmp (won v id targets held))
+won_sorted : (v : List ℕ) (id : ℕ) (targets : List (List ℕ)) (held : Held) → T (is_sorted view_path_cmp held) → T (is_sorted view_path_cmp (won v id targets held))
 won_sorted v id [] held h = h
-won_sorted v id (target ∷ targets) held h = won_sorted v id targets (put place_cmp (v, target) id held) (is_sorted-put place_cmp places_total (v, target) id held h)
+won_sorted v id (target ∷ targets) held h = won_sorted v id targets (put view_path_cmp (v, target) id held) (is_sorted-put view_path_cmp view_paths_total (v, target) id held h)
 
-references_sorted : (changes : List ReferenceChange) → T (is_sorted place_cmp (references changes))
+references_sorted : (changes : List ReferenceChange) → T (is_sorted view_path_cmp (references changes))
 references_sorted [] = tt
 references_sorted (Won v targets id ∷ older) = won_sorted v id targets (references older) (references_sorted older)
-references_sorted (Lost v path ∷ older) = is_sorted-where_key place_cmp (λ place. not (is_place place (v, path))) (references older) (references_sorted older)
-references_sorted (ViewGone v ∷ older) = is_sorted-where_key place_cmp (λ place. not (bytes_eq place.0 v)) (references older) (references_sorted older)
+references_sorted (Lost v path ∷ older) = is_sorted-where_key view_path_cmp (λ view_path. not (is_view_path view_path (v, path))) (references older) (references_sorted older)
+references_sorted (ViewGone v ∷ older) = is_sorted-where_key view_path_cmp (λ view_path. not (bytes_eq view_path.0 v)) (references older) (references_sorted older)
 
 pub true_by : (t : Bool) → T t → t ≡ true
 true_by true h = refl
 true_by false h = absurd h
 
-pub held_in_order : (b : Base) → is_sorted place_cmp (held b) ≡ true
-held_in_order b = true_by (is_sorted place_cmp (held b)) (references_sorted (holdings b))
+pub held_in_order : (b : Base) → is_sorted view_path_cmp (held b) ≡ true
+held_in_order b = true_by (is_sorted view_path_cmp (held b)) (references_sorted (holdings b))
 
 -- the counts
 none_counted_by : (t one : Bool) (held : Held) (id : ℕ) → (t || is_held held id) ≡ false → (is_held held id ≡ false → count held id ≡ 0) → one_where (t && one) + count held id ≡ 0

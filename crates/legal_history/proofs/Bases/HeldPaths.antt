@@ -9,14 +9,14 @@ use Rattle.std.specs.Ordering.{nat_cmp, is_eq, ordering_then, eq_by_cmp}
 use Rattle.std.specs.Cmp.Lexicographic.{slice_cmp}
 use Rattle.std.specs.FinMap.Entries.{put, find-put, find-where_key}
 use Rattle.std.specs.Prelude.{bytes_eq}
-use Rattle.cc_names.specs.References.{Place, Held, place_cmp, is_place, won, lost, view_gone, held_at, references}
+use Rattle.cc_names.specs.References.{ViewPath, Held, view_path_cmp, is_view_path, won, lost, view_gone, held_at, references}
 use Rattle.cc_names.specs.declared.rows.Deed.{Deed}
 use Rattle.cc_names.specs.declared.rows.Deed.TheVariants as deeds
 use Rattle.legal_history.specs.Base.Rows.{Base, size}
 use Rattle.legal_history.specs.Base.Changes.{held, holdings, holdings_after, targets_of}
 use Rattle.legal_history.specs.Base.Closures.{is_among}
 use Rattle.legal_history.proofs.Bases.Owned.{and_first, and_second}
-use Rattle.legal_history.proofs.Bases.HeldObjects.{places_total}
+use Rattle.legal_history.proofs.Bases.HeldObjects.{view_paths_total}
 
 -- both of two orders tie
 ties : (one two : Ordering) → is_eq (ordering_then one two) ≡ (is_eq one && is_eq two)
@@ -24,9 +24,9 @@ ties Less two = refl
 ties Equal two = refl
 ties Greater two = refl
 
--- two places are one where their views and their paths are
-same_place : (v path w target : List ℕ) → eq_by_cmp place_cmp (v, path) (w, target) ≡ (bytes_eq v w && bytes_eq path target)
-same_place v path w target = ties (slice_cmp nat_cmp v w) (slice_cmp nat_cmp path target) ∙ ap₂ ◌&&◌ (is_eq-slice_cmp v w) (is_eq-slice_cmp path target)
+-- two view paths are one where their views and their paths are
+same_view_path : (v path w target : List ℕ) → eq_by_cmp view_path_cmp (v, path) (w, target) ≡ (bytes_eq v w && bytes_eq path target)
+same_view_path v path w target = ties (slice_cmp nat_cmp v w) (slice_cmp nat_cmp path target) ∙ ap₂ ◌&&◌ (is_eq-slice_cmp v w) (is_eq-slice_cmp path target)
 
 one_more : (view here later : Bool) (id before : Option ℕ) → cond (view && later) id (cond (view && here) id before) ≡ cond (view && (here || later)) id before
 one_more false here later id before = refl
@@ -42,26 +42,26 @@ no_target false id before = refl
 pub held_after_won : (v path w : List ℕ) (id : ℕ) (targets : List (List ℕ)) (held : Held) → held_at (won w id targets held) v path ≡ cond (bytes_eq v w && is_among path targets) (Some id) (held_at held v path)
 held_after_won v path w id [] held = no_target (bytes_eq v w) (Some id) (held_at held v path)
 held_after_won v path w id (target ∷ targets) held =
-    held_after_won v path w id targets (put place_cmp (w, target) id held)
-    ∙ ap (cond (bytes_eq v w && is_among path targets) (Some id)) (find-put place_cmp places_total (v, path) (w, target) id held ∙ ap (λ same. cond same (Some id) (held_at held v path)) (same_place v path w target))
+    held_after_won v path w id targets (put view_path_cmp (w, target) id held)
+    ∙ ap (cond (bytes_eq v w && is_among path targets) (Some id)) (find-put view_path_cmp view_paths_total (v, path) (w, target) id held ∙ ap (λ same. cond same (Some id) (held_at held v path)) (same_view_path v path w target))
     ∙ one_more (bytes_eq v w) (bytes_eq path target) (is_among path targets) (Some id) (held_at held v path)
 
--- the parts of places that tie
-tied_views : (v path : List ℕ) (place : Place) → place_cmp (v, path) place ≡ Equal → v ≡ place.0
-tied_views v path place e = (bytes_eq-Decides v place.0).0 (and_first (bytes_eq v place.0) (bytes_eq path place.1) (sym (same_place v path place.0 place.1) ∙ ap is_eq e))
+-- the parts of view paths that tie
+tied_views : (v path : List ℕ) (view_path : ViewPath) → view_path_cmp (v, path) view_path ≡ Equal → v ≡ view_path.0
+tied_views v path view_path e = (bytes_eq-Decides v view_path.0).0 (and_first (bytes_eq v view_path.0) (bytes_eq path view_path.1) (sym (same_view_path v path view_path.0 view_path.1) ∙ ap is_eq e))
 
-tied_paths : (v path : List ℕ) (place : Place) → place_cmp (v, path) place ≡ Equal → path ≡ place.1
-tied_paths v path place e = (bytes_eq-Decides path place.1).0 (and_second (bytes_eq v place.0) (bytes_eq path place.1) (sym (same_place v path place.0 place.1) ∙ ap is_eq e))
+tied_paths : (v path : List ℕ) (view_path : ViewPath) → view_path_cmp (v, path) view_path ≡ Equal → path ≡ view_path.1
+tied_paths v path view_path e = (bytes_eq-Decides path view_path.1).0 (and_second (bytes_eq v view_path.0) (bytes_eq path view_path.1) (sym (same_view_path v path view_path.0 view_path.1) ∙ ap is_eq e))
 
 after_gone : (v path w : List ℕ) (held : Held) → bytes_eq v w ≡ false → held_at (view_gone w held) v path ≡ held_at held v path
 after_gone v path w held apart =
-    find-where_key place_cmp (λ place. not (bytes_eq place.0 w)) (v, path) (λ place e. ap (λ x. not (bytes_eq x w)) (sym (tied_views v path place e))) held
+    find-where_key view_path_cmp (λ view_path. not (bytes_eq view_path.0 w)) (v, path) (λ view_path e. ap (λ x. not (bytes_eq x w)) (sym (tied_views v path view_path e))) held
     ∙ ap (λ t. cond (not t) (held_at held v path) None) apart
 
 after_lost : (v path w q : List ℕ) (held : Held) → bytes_eq v w ≡ false → held_at (lost w q held) v path ≡ held_at held v path
 after_lost v path w q held apart =
-    find-where_key place_cmp (λ place. not (is_place place (w, q))) (v, path)
-    (λ place e. ap₂ (λ x y. not (bytes_eq x w && bytes_eq y q)) (sym (tied_views v path place e)) (sym (tied_paths v path place e))) held
+    find-where_key view_path_cmp (λ view_path. not (is_view_path view_path (w, q))) (v, path)
+    (λ view_path e. ap₂ (λ x y. not (bytes_eq x w && bytes_eq y q)) (sym (tied_views v path view_path e)) (sym (tied_paths v path view_path e))) held
     ∙ ap (λ t. cond (not (t && bytes_eq path q)) (held_at held v path) None) apart
 
 -- a deed leaves what the view holds at the path

@@ -8,16 +8,16 @@ use Rattle.std.specs.FinMap.Entries.{find}
 use Rattle.cc_names.specs.Formed.{Plain}
 use Rattle.cc_names.specs.Labels.{holder}
 use Rattle.cc_names.specs.Last.{Ends, Sets, only_if, left}
-use Rattle.cc_names.specs.Versions.{place}
+use Rattle.cc_names.specs.Versions.{version_id}
 use Rattle.cc_names.specs.declared.changes.LabelChange.{LabelChange}
 use Rattle.cc_names.specs.declared.changes.LabelChange.TheVariants.{Put, Taken}
-use Rattle.cc_names.specs.declared.changes.Place.{Place}
+use Rattle.cc_names.specs.declared.changes.VersionId.{VersionId}
 use Rattle.cc_names.specs.declared.rows.Deed.{Deed}
 use Rattle.cc_names.specs.declared.rows.Deed.TheVariants as deeds
 use Rattle.cc_names.specs.declared.rows.Placed.{Placed}
 use Rattle.legal_history.specs.Base.Rows.{Base, size}
 use Rattle.legal_history.specs.Base.Changes.{tree, labels, labels_after, all_placed}
-use Rattle.legal_history.specs.Base.Closures.{Sources, Listing, is_version_of, listing_of, version_listed, with_version_at, greater_of}
+use Rattle.legal_history.specs.Base.Closures.{Inputs, Listing, is_version_of, listing_of, version_listed, with_version_at, greater_of}
 use Rattle.legal_history.specs.Base.Conditions.{is_label_type, is_placed}
 use Rattle.legal_history.specs.Base.Fits.{is_base, deed_fits}
 use Rattle.legal_history.proofs.Stories.Goes.{same_number}
@@ -80,12 +80,12 @@ greater P a b p q = elim (nat_le a b) as (λ (x : Bool). nat_le a b ≡ x → P 
 pub record AllListed (b : Base) (listing : Listing) : Type 0 where
   pub lists : (e r : ℕ) → find nat_cmp e listing ≡ Some r → is_version_of b e r ≡ true
 
--- what a source lists is the version that its row made
-pub place_listed : (b : Base) (row : ℕ) (p : Place) → version_listed b row ≡ Some p → place (tree b) row ≡ Some p
-place_listed b zero p is = cc
-place_listed b (suc row) p is = is
+-- what an input lists is the version that its row made
+pub version_id_listed : (b : Base) (row : ℕ) (p : VersionId) → version_listed b row ≡ Some p → version_id (tree b) row ≡ Some p
+version_id_listed b zero p is = cc
+version_id_listed b (suc row) p is = is
 
-one_listed : (b : Base) (row : ℕ) (p : Option Place) (listing : Listing) → ((q : Place) → p ≡ Some q → place (tree b) row ≡ Some q) → AllListed b listing → AllListed b (with_version_at row p listing)
+one_listed : (b : Base) (row : ℕ) (p : Option VersionId) (listing : Listing) → ((q : VersionId) → p ≡ Some q → version_id (tree b) row ≡ Some q) → AllListed b listing → AllListed b (with_version_at row p listing)
 one_listed b row None listing is h = h
 one_listed b row (Some p) listing is h = record { lists = λ e r found. by e r (e == p.element) refl (sym (find_after_put e p.element (greater_of row (find nat_cmp p.element listing)) listing) ∙ found) }
   where
@@ -103,6 +103,6 @@ one_listed b row (Some p) listing is h = record { lists = λ e r found. by e r (
         subst (λ e. is_version_of b e r ≡ true) (sym number) (subst (λ r. is_version_of b p.element r ≡ true) same (greatest (find nat_cmp p.element listing) refl))
     by e r false test found = h.lists e r found
 
-pub all_listed : (b : Base) (sources : Sources) → AllListed b (listing_of b sources)
+pub all_listed : (b : Base) (inputs : Inputs) → AllListed b (listing_of b inputs)
 all_listed b [] = record { lists = λ e r found. absurd (cc) }
-all_listed b (source ∷ sources) = one_listed b source.1 (version_listed b source.1) (listing_of b sources) (place_listed b source.1) (all_listed b sources)
+all_listed b (input ∷ inputs) = one_listed b input.1 (version_listed b input.1) (listing_of b inputs) (version_id_listed b input.1) (all_listed b inputs)

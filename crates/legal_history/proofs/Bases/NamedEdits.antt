@@ -5,7 +5,7 @@ use Rattle.std.specs.Cmp.Lexicographic.{slice_cmp}
 use Rattle.std.specs.Ordering.{nat_cmp}
 use Rattle.std.specs.Prelude.{bytes_eq}
 use Rattle.cc_names.specs.Formed.{Plain}
-use Rattle.cc_names.specs.declared.changes.Place.{Place}
+use Rattle.cc_names.specs.declared.changes.VersionId.{VersionId}
 use Rattle.cc_names.specs.declared.rows.Deed.{Deed}
 use Rattle.cc_names.specs.declared.rows.Deed.TheVariants as deeds
 use Rattle.cc_names.specs.declared.rows.Kind.{Kind}
@@ -42,11 +42,11 @@ pub one_element : (b : Base) (d e r : ℕ) → is_version_of b d r ≡ true → 
 one_element b d e r h g =
     let p = of_element b d r h in
     let q = of_element b e r g in
-    let same : p.0 ≡ q.0 = some_place (sym p.1 ∙ q.1) in
-    sym p.2 ∙ ap (λ (x : Place). x.element) same ∙ q.2
+    let same : p.0 ≡ q.0 = some_version_id (sym p.1 ∙ q.1) in
+    sym p.2 ∙ ap (λ (x : VersionId). x.element) same ∙ q.2
   where
-    some_place : {x y : Place} → Some x ≡ Some y → x ≡ y
-    some_place h = cc
+    some_version_id : {x y : VersionId} → Some x ≡ Some y → x ≡ y
+    some_version_id h = cc
 
 pub made_stays : (row : Plain) (b : Base) (d e : ℕ) → MadeIn b d e → MadeIn (row ∷ b) d e
 made_stays row b d e h = by (deed_at b e) refl h

@@ -1,7 +1,7 @@
 -- What stands on a branch of a base is a version of the branch's element.
 use Rattle.std.proofs.Common.{◌≡◌, refl, sym, subst, ◌∙◌, ℕ, Bool, true, false, cond, ◌==◌, Option, Some, None, List, [], ◌∷◌, length}
 use Rattle.std.specs.Prelude.{option_map, find}
-use Rattle.cc_names.specs.Versions.{Version, row_of_change, branch_of_change, change_at, versions_on, version_at, version_made, put_if, element_of_branch, place_of, row_of_version}
+use Rattle.cc_names.specs.Versions.{Version, row_of_change, branch_of_change, change_at, versions_on, version_at, version_made, put_if, element_of_branch, version_id_of, row_of_version}
 use Rattle.cc_names.specs.declared.changes.TreeChange.{TreeChange}
 use Rattle.cc_names.specs.declared.changes.TreeChange.TheVariants.{ElementMade}
 use Rattle.cc_names.specs.declared.rows.Kind.TheVariants.{Directory}
@@ -85,7 +85,7 @@ branch_version b e branch test v owner found =
     let h = (all_stand b).stands branch test v found in
     let at_row : version_at (tree b) v.row ≡ Some v = rw h.made (subst (λ m. find (λ w. w.row == v.row) (versions_on (tree b) m) ≡ Some v) (sym h.on) h.found) in
     let of_branch : element_of_branch (tree b) v.branch ≡ Some e = subst (λ m. element_of_branch (tree b) m ≡ Some e) (sym h.branch_is) owner in
-    is_version b e v.row (place_of v e) (rw (at_row, of_branch) refl) refl
+    is_version b e v.row (version_id_of v e) (rw (at_row, of_branch) refl) refl
 
 found_row : (versions : List Version) (test : Version → Bool) (r : ℕ) → option_map row_of_version (find test versions) ≡ Some r → (v : Version) × (find test versions ≡ Some v) × (v.row ≡ r)
 found_row versions test r h = by (find test versions) refl h

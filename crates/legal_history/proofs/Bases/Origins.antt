@@ -3,7 +3,7 @@ use Rattle.std.proofs.Common.{◌≡◌, refl, ap, sym, subst, ◌∙◌, ℕ, B
 use Rattle.std.specs.Prelude.{option_and_then, bytes_eq, find}
 use Rattle.cc_names.specs.Formed.{Plain}
 use Rattle.cc_names.specs.Last.{Ends, Sets, only_if}
-use Rattle.cc_names.specs.Versions.{Version, place_of, change_at, versions_on, version_made, put_if, place, element_of_branch, element_by, row_of_change, branch_of_change}
+use Rattle.cc_names.specs.Versions.{Version, version_id_of, change_at, versions_on, version_made, put_if, version_id, element_of_branch, element_by, row_of_change, branch_of_change}
 use Rattle.cc_names.specs.declared.changes.TreeChange.{TreeChange}
 use Rattle.cc_names.specs.declared.changes.TreeChange.TheVariants.{ElementMade, BranchMade}
 use Rattle.cc_names.specs.declared.rows.Deed.{Deed}
@@ -21,7 +21,7 @@ use Rattle.legal_history.specs.Base.Views.{Checkout, TakenOut, made_out, taken_o
 use Rattle.legal_history.proofs.Bases.Below.{last_holds}
 use Rattle.legal_history.proofs.Stories.Goes.{same_number}
 use Rattle.legal_history.proofs.Bases.Owned.{row_fits, rows_below, same_is_same, third_of, and_second}
-use Rattle.legal_history.proofs.Bases.VersionsStay.{Parts, place_by, version_stays}
+use Rattle.legal_history.proofs.Bases.VersionsStay.{Parts, version_id_by, version_stays}
 
 some_same : {A : Type 0} {a b : A} → Some a ≡ Some b → a ≡ b
 some_same e = cc
@@ -33,9 +33,9 @@ newest_change change before n e = ap (λ b. cond b (Some change) (change_at befo
 pub newest_version : (v : Version) (rest : List Version) (n : ℕ) (on : Bool) → on ≡ true → (v.row == n) ≡ true → find (λ v. v.row == n) (put_if on v rest) ≡ Some v
 newest_version v rest n on here number = rw here (ap (λ b. cond b (Some v) (find (λ v. v.row == n) rest)) number)
 
--- the place of a version by the newest change, which makes its own branch of element e
+-- the version id by the newest change, which makes its own branch of element e
 own_parts : (change : TreeChange) (before : List TreeChange) (e n : ℕ) → (row_of_change change == n) ≡ true → branch_of_change change ≡ n → element_by change ≡ Some e →
-    Parts (change ∷ before) n (place_of (version_made change (length (versions_on before (branch_of_change change)))) e)
+    Parts (change ∷ before) n (version_id_of (version_made change (length (versions_on before (branch_of_change change)))) e)
 own_parts change before e n number branch owner = record {
   change = change;
   version = version_made change (length (versions_on before (branch_of_change change)));
@@ -47,9 +47,9 @@ own_parts change before e n number branch owner = record {
 }
 
 own_version : (change : TreeChange) (before : List TreeChange) (e n : ℕ) → (row_of_change change == n) ≡ true → branch_of_change change ≡ n → element_by change ≡ Some e →
-    is_of_element e (place (change ∷ before) n) ≡ true
+    is_of_element e (version_id (change ∷ before) n) ≡ true
 own_version change before e n number branch owner =
-    subst (λ o. is_of_element e o ≡ true) (sym (place_by (change ∷ before) n _ (own_parts change before e n number branch owner))) (same_is_same e)
+    subst (λ o. is_of_element e o ≡ true) (sym (version_id_by (change ∷ before) n _ (own_parts change before e n number branch owner))) (same_is_same e)
 
 -- a checkout that a row makes is of an element of which its origin is a version, once the row is there
 abbrev Sound : Base → TakenOut → Type 0

@@ -4,8 +4,8 @@ use Rattle.std.proofs.lemmas.Bool.Decides.{nat_tests}
 use Rattle.std.specs.Prelude.{is_some, option_and_then}
 use Rattle.cc_names.specs.Formed.{Plain}
 use Rattle.cc_names.specs.Branches.{branch_of_version}
-use Rattle.cc_names.specs.Versions.{row_of_change, change_at, element_by, place, kind_of, kind_by}
-use Rattle.cc_names.specs.declared.changes.Place.{Place}
+use Rattle.cc_names.specs.Versions.{row_of_change, change_at, element_by, version_id, kind_of, kind_by}
+use Rattle.cc_names.specs.declared.changes.VersionId.{VersionId}
 use Rattle.cc_names.specs.declared.changes.TreeChange.{TreeChange}
 use Rattle.cc_names.specs.declared.changes.TreeChange.TheVariants.{ElementMade, BranchMade, VersionMade}
 use Rattle.cc_names.specs.declared.rows.Deed.{Deed}
@@ -40,7 +40,7 @@ rows_below row older h = and_second _ _ h
 pub record AllOwned (changes : List TreeChange) : Type 0 where
   pub kinds : (r : ℕ) (c : TreeChange) (e : ℕ) → change_at changes r ≡ Some c → element_by c ≡ Some e → is_some (kind_of changes e) ≡ true
 
-owner_has_kind : (changes : List TreeChange) (r : ℕ) (p : Place) → AllOwned changes → place changes r ≡ Some p → is_some (kind_of changes p.element) ≡ true
+owner_has_kind : (changes : List TreeChange) (r : ℕ) (p : VersionId) → AllOwned changes → version_id changes r ≡ Some p → is_some (kind_of changes p.element) ≡ true
 owner_has_kind changes r p h e =
     let parts = parts_of changes r p e in
     let owner = owner_change changes parts.version.branch p.element parts.owner in

@@ -10,7 +10,7 @@ use Rattle.std.specs.Ordering.{nat_cmp, is_lt}
 use Rattle.std.specs.Prelude.{◌↔◌, is_some, is_none, option_map}
 use Rattle.std.specs.declared.cmp.Ordering.TheVariants.{Equal, Greater}
 use Rattle.cc_names.specs.References.{held_at}
-use Rattle.cc_names.specs.Versions.{place}
+use Rattle.cc_names.specs.Versions.{version_id}
 use Rattle.cc_names.specs.declared.commands.Command.TheVariants as commands
 use Rattle.cc_names.specs.declared.refusals.Refusal.{Refusal}
 use Rattle.cc_names.specs.declared.refusals.Refusal.TheVariants as refusals
@@ -18,7 +18,7 @@ use Rattle.cc_names.specs.declared.rows.Deed.TheVariants as deeds
 use Rattle.cc_names.specs.declared.rows.Placed.{Placed}
 use Rattle.legal_history.specs.Base.Rows.{Base, only_where}
 use Rattle.legal_history.specs.Base.Changes.{held, targets_of, tree}
-use Rattle.legal_history.specs.Base.Closures.{Source, Sources, Listing, closure, is_among, listing, listed}
+use Rattle.legal_history.specs.Base.Closures.{Input, Inputs, Listing, closure, is_among, listing, listed}
 use Rattle.legal_history.specs.Commands.Decisions.{Decision, Scene, Makes}
 use Rattle.legal_history.specs.Commands.LabelLines.{as_placed, placed_by, labels_or_nothing, mklabel_config_of, mklabel_config_tests, outsider_among}
 use Rattle.legal_history.specs.Commands.Found.{for_object}
@@ -92,24 +92,24 @@ placed (entry ∷ entries) one is = by (one.element == entry.0) refl (ap (λ t. 
     by false here is rest = behind (as_placed entry) one (map as_placed entries) (rest is)
 
 -- what the listing of an object says of an element, from both sides
-listed_is : (b : Base) (sources : Sources) (e version : ℕ) (o : Option ℕ) → SaysOf b sources e o → o ≡ Some version → IsListed b sources e version
-listed_is b sources e version None h is = absurd (cc)
-listed_is b sources e version (Some other) h is = let same : other ≡ version = cc in subst (IsListed b sources e) same h
+listed_is : (b : Base) (inputs : Inputs) (e version : ℕ) (o : Option ℕ) → SaysOf b inputs e o → o ≡ Some version → IsListed b inputs e version
+listed_is b inputs e version None h is = absurd (cc)
+listed_is b inputs e version (Some other) h is = let same : other ≡ version = cc in subst (IsListed b inputs e) same h
 
-is_listed : (b : Base) (sources : Sources) (e version : ℕ) (o : Option ℕ) → SaysOf b sources e o → IsListed b sources e version → o ≡ Some version
-is_listed b sources e version None h is = absurd (h version is.rests)
-is_listed b sources e version (Some other) h is = let up = is.greatest other h.rests in let down = h.greatest version is.rests in let same : other ≡ version = omega arith in ap Some same
+is_listed : (b : Base) (inputs : Inputs) (e version : ℕ) (o : Option ℕ) → SaysOf b inputs e o → IsListed b inputs e version → o ≡ Some version
+is_listed b inputs e version None h is = absurd (h version is.rests)
+is_listed b inputs e version (Some other) h is = let up = is.greatest other h.rests in let down = h.greatest version is.rests in let same : other ≡ version = omega arith in ap Some same
 
--- no source that is there is an outsider
-all_versions : (b : Base) (sources : Sources) (source : Source × ℕ) → outsider_among b sources ≡ None → Contains sources source → 0 < source.1 → is_some (place (tree b) source.1) ≡ true
-all_versions b [] source none among there = absurd (none_of source among)
-all_versions b (first ∷ sources) source none among there = by (nat_lt 0 first.1) (place (tree b) first.1) refl refl none (one_of first source sources among) (λ none later. all_versions b sources source none later there)
+-- no input that is there is an outsider
+all_versions : (b : Base) (inputs : Inputs) (input : Input × ℕ) → outsider_among b inputs ≡ None → Contains inputs input → 0 < input.1 → is_some (version_id (tree b) input.1) ≡ true
+all_versions b [] input none among there = absurd (none_of input among)
+all_versions b (first ∷ inputs) input none among there = by (nat_lt 0 first.1) (version_id (tree b) first.1) refl refl none (one_of first input inputs among) (λ none later. all_versions b inputs input none later there)
   where
-    by : (t : Bool) (o : Option _) → nat_lt 0 first.1 ≡ t → place (tree b) first.1 ≡ o → option_or (only_where (t && is_none o) (Some first.0.0)) (outsider_among b sources) ≡ None → (first ≡ source) ⊎ Contains sources source →
-        (outsider_among b sources ≡ None → Contains sources source → is_some (place (tree b) source.1) ≡ true) → is_some (place (tree b) source.1) ≡ true
-    by t (Some at) above is none (inl same) rest = ap (λ (s : Source × ℕ). is_some (place (tree b) s.1)) (sym same) ∙ ap is_some is
+    by : (t : Bool) (o : Option _) → nat_lt 0 first.1 ≡ t → version_id (tree b) first.1 ≡ o → option_or (only_where (t && is_none o) (Some first.0.0)) (outsider_among b inputs) ≡ None → (first ≡ input) ⊎ Contains inputs input →
+        (outsider_among b inputs ≡ None → Contains inputs input → is_some (version_id (tree b) input.1) ≡ true) → is_some (version_id (tree b) input.1) ≡ true
+    by t (Some at) above is none (inl same) rest = ap (λ (s : Input × ℕ). is_some (version_id (tree b) s.1)) (sym same) ∙ ap is_some is
     by true None above is none (inl same) rest = absurd (cc)
-    by false None above is none (inl same) rest = let row : first.1 ≡ source.1 = ap (λ (s : Source × ℕ). s.1) same in absurd (grind (arith, nat_tests))
+    by false None above is none (inl same) rest = let row : first.1 ≡ input.1 = ap (λ (s : Input × ℕ). s.1) same in absurd (grind (arith, nat_tests))
     by true (Some at) above is none (inr later) rest = rest none later
     by true None above is none (inr later) rest = absurd (cc)
     by false (Some at) above is none (inr later) rest = rest none later
@@ -188,10 +188,10 @@ labels_selected s v path label name replace given id target one h is of_object =
       λ at. both.1 (sym there ∙ at),
     )
 
-pub labels_versions : (s : Scene) (v path label name : List ℕ) (replace : Bool) (given : List Placed) (id : ℕ) (source : Source × ℕ) → decision s (commands.MklabelConfig v replace path label) ≡ Ok (Makes (deeds.Labels name given)) → held_at (held s.base) v path ≡ Some id →
-    Contains (closure s.base id) source → 0 < source.1 → is_some (place (tree s.base) source.1) ≡ true
-labels_versions s v path label name replace given id source h is among there =
+pub labels_versions : (s : Scene) (v path label name : List ℕ) (replace : Bool) (given : List Placed) (id : ℕ) (input : Input × ℕ) → decision s (commands.MklabelConfig v replace path label) ≡ Ok (Makes (deeds.Labels name given)) → held_at (held s.base) v path ≡ Some id →
+    Contains (closure s.base id) input → 0 < input.1 → is_some (version_id (tree s.base) input.1) ≡ true
+labels_versions s v path label name replace given id input h is among there =
     let l = labelled s v path label name replace given h in
     let same = same_object s v path label replace given l id is in
-    all_versions s.base (closure s.base id) source
+    all_versions s.base (closure s.base id) input
     (subst (λ n. outsider_among s.base (closure s.base n) ≡ None) same (no_refusal refusals.NotVersion (outsider_among s.base (closure s.base l.id)) l.pass.1.0)) among there

@@ -1,6 +1,7 @@
 -- An active build stays the one of its lane's command where the lane finishes nothing.
 use Rattle.std.proofs.Common.{◌≡◌, refl, ap, sym, subst, ◌∙◌, ℕ, zero, suc, ◌+◌, Bool, true, false, ◌&&◌, ◌==◌, Option, Some, None, Ok, List, [], ◌∷◌, length, arith}
 use Rattle.std.specs.Prelude.{is_none, option_and_then, slice_get, unwrap_or}
+use Rattle.cc_names.specs.Commands.{lane_at}
 use Rattle.cc_names.specs.declared.commands.Command.{Command}
 use Rattle.cc_names.specs.declared.commands.Lane.{Lane}
 use Rattle.cc_names.specs.declared.rows.Tag.{Tag}
@@ -9,7 +10,7 @@ use Rattle.legal_history.specs.Base.Rows.{size, first_rows, only_where}
 use Rattle.legal_history.specs.Builds.Active.{Build, Came, build_of}
 use Rattle.legal_history.specs.Commands.Decisions.{Begins}
 use Rattle.legal_history.specs.Builds.Fresh.{all_finished, fresh, fresh_of}
-use Rattle.legal_history.specs.Stories.States.{State, all_done, command_behind, decided, done_of, is_next, lane_at, lanes_done, next_command, next_tag, same_tag, with_done}
+use Rattle.legal_history.specs.Stories.States.{State, all_done, command_behind, decided, done_of, is_next, lanes_done, next_command, next_tag, same_tag, with_done}
 use Rattle.legal_history.specs.Stories.Steps.{begun, with_came}
 use Rattle.legal_history.proofs.Stories.Goes.{same_number}
 use Rattle.legal_history.proofs.Bases.Owned.{and_first, and_second}

@@ -2,9 +2,10 @@
 use Rattle.std.proofs.Common.{◌≡◌, refl, ap, sym, ◌∙◌, ℕ, Bool, true, false, ◌||◌, Option, Some, None, List, [], ◌∷◌, map}
 use Rattle.std.specs.Option.{option_or}
 use Rattle.std.specs.Prelude.{is_some, bytes_eq, if◌then◌else◌}
+use Rattle.cc_names.specs.Files.{Files}
 use Rattle.cc_names.specs.declared.steps.UnitEnd.TheVariants.{Kept}
 use Rattle.cc_names.specs.declared.units.Unit.{Unit}
-use Rattle.build_script.specs.Run.{Files, run}
+use Rattle.build_script.specs.Run.{run}
 use Rattle.legal_history.specs.Base.Rows.{Base, first_rows, only_where}
 use Rattle.legal_history.specs.Builds.Active.{Build, Came, Started, Ended, Given, object_of}
 use Rattle.legal_history.specs.Builds.Choices.{unit_of_member, object_among, text_of_row, visible, here}

@@ -1,6 +1,7 @@
 -- The units that a makefile gives are in order.
 use Rattle.std.proofs.Common.{◌≡◌, refl, ap, sym, ◌∙◌, ℕ, ◌+◌, true, false, Option, Some, None, Result, Ok, Err, List, [], ◌∷◌}
 use Rattle.std.specs.Prelude.{is_some}
+use Rattle.cc_names.specs.Files.{Files}
 use Rattle.cc_names.specs.declared.commands.Macro.{Macro}
 use Rattle.cc_names.specs.declared.refusals.GraphFault.{GraphFault}
 use Rattle.cc_names.specs.declared.refusals.MakeError.{MakeError}
@@ -9,7 +10,6 @@ use Rattle.make_text.specs.Contents.{Contents}
 use Rattle.make_text.specs.Grammar.{makefile_of}
 use Rattle.make_text.specs.Graphs.{graph_of, units_of, units_at, units}
 use Rattle.make_text.specs.Numbers.{number_from as number_of}
-use Rattle.make_text.specs.Statements.{Files}
 use Rattle.make_text.specs.UnitLaws.{IsFormed, InOrder as AreOrdered, made_by_unit}
 use Rattle.make_text.specs.Units.{unless_refused, main_file}
 use Rattle.make_text.proofs.FormedMakefiles.{makefiles_are_formed}

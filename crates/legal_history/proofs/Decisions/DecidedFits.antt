@@ -9,8 +9,8 @@ use Rattle.std.specs.declared.cmp.Ordering.{Ordering}
 use Rattle.std.specs.declared.cmp.Ordering.TheVariants.{Less, Equal, Greater}
 use Rattle.std.specs.FinMap.Entries.{put, find, by_order}
 use Rattle.cc_names.specs.References.{held_at, is_held}
-use Rattle.cc_names.specs.Versions.{place, put_if}
-use Rattle.cc_names.specs.declared.changes.Place.{Place}
+use Rattle.cc_names.specs.Versions.{version_id, put_if}
+use Rattle.cc_names.specs.declared.changes.VersionId.{VersionId}
 use Rattle.cc_names.specs.declared.commands.Command.{Command}
 use Rattle.cc_names.specs.declared.commands.Command.TheVariants as commands
 use Rattle.cc_names.specs.declared.refusals.Refusal.{Refusal}
@@ -25,7 +25,7 @@ use Rattle.legal_history.specs.Base.Rows.{Base, size}
 use Rattle.legal_history.specs.Commands.Found.{for_object}
 use Rattle.legal_history.specs.Commands.Tests.{needs_view}
 use Rattle.legal_history.specs.Base.Changes.{tree, held, live}
-use Rattle.legal_history.specs.Base.Closures.{Sources, Listing, closure, listing, listing_of, version_listed, with_version_at, greater_of, is_version_of}
+use Rattle.legal_history.specs.Base.Closures.{Inputs, Listing, closure, listing, listing_of, version_listed, with_version_at, greater_of, is_version_of}
 use Rattle.legal_history.specs.Base.Conditions.{is_label_type, is_placed, may_be_scrubbed}
 use Rattle.legal_history.specs.Commands.Decisions.{Makes, Begins, Scene, first_refusal, unless_refused, needs_room}
 use Rattle.legal_history.specs.Base.Fits.{fits, is_base}
@@ -39,7 +39,7 @@ use Rattle.legal_history.proofs.Decisions.ElementFits.{checkout_fits, mkbranch_f
 use Rattle.legal_history.proofs.Decisions.FileFits.{Fits, RowFits, mkview_fits, rmview_fits, setcs_fits, rm_fits, mktype_fits, rmdo_fits}
 use Rattle.legal_history.proofs.Decisions.Handed.{past_is, object_is, row_is, answer_is}
 use Rattle.legal_history.proofs.Decisions.Queried.{query_is}
-use Rattle.legal_history.proofs.Bases.LabelsHold.{greater, all_listed, place_listed}
+use Rattle.legal_history.proofs.Bases.LabelsHold.{greater, all_listed, version_id_listed}
 use Rattle.legal_history.proofs.Stories.Tables.{tied}
 use Rattle.legal_history.proofs.Bases.Owned.{and_first, and_second}
 use Rattle.legal_history.proofs.Decisions.Passed.{AllPass, unless_passes, fits_by}
@@ -68,17 +68,17 @@ greatest_version : (b : Base) (e r : ℕ) (o : Option ℕ) → is_version_of b e
 greatest_version b e r None own others = own
 greatest_version b e r (Some m) own others = greater (λ r. is_version_of b e r ≡ true) r m own (others m refl)
 
-one_version : (b : Base) (row : ℕ) (p : Option Place) (sources : Sources) → ((q : Place) → p ≡ Some q → place (tree b) row ≡ Some q) → AllVersions b (listing_of b sources) → AllVersions b (with_version_at row p (listing_of b sources))
-one_version b row None sources is h = h
-one_version b row (Some p) sources is h =
-    let r = greater_of row (find nat_cmp p.element (listing_of b sources)) in
+one_version : (b : Base) (row : ℕ) (p : Option VersionId) (inputs : Inputs) → ((q : VersionId) → p ≡ Some q → version_id (tree b) row ≡ Some q) → AllVersions b (listing_of b inputs) → AllVersions b (with_version_at row p (listing_of b inputs))
+one_version b row None inputs is h = h
+one_version b row (Some p) inputs is h =
+    let r = greater_of row (find nat_cmp p.element (listing_of b inputs)) in
     let version : is_version_of b p.element r ≡ true =
-    greatest_version b p.element row (find nat_cmp p.element (listing_of b sources)) (is_version b p.element row p (is p refl) refl) (λ m found. (all_listed b sources).lists p.element m found) in
-    put_version b p.element r (listing_of b sources) (λ f same. subst (λ f. is_version_of b f r ≡ true) (tied p.element f same) version) version h
+    greatest_version b p.element row (find nat_cmp p.element (listing_of b inputs)) (is_version b p.element row p (is p refl) refl) (λ m found. (all_listed b inputs).lists p.element m found) in
+    put_version b p.element r (listing_of b inputs) (λ f same. subst (λ f. is_version_of b f r ≡ true) (tied p.element f same) version) version h
 
-all_versions : (b : Base) (sources : Sources) → AllVersions b (listing_of b sources)
+all_versions : (b : Base) (inputs : Inputs) → AllVersions b (listing_of b inputs)
 all_versions b [] = tt
-all_versions b (source ∷ sources) = one_version b source.1 (version_listed b source.1) sources (place_listed b source.1) (all_versions b sources)
+all_versions b (input ∷ inputs) = one_version b input.1 (version_listed b input.1) inputs (version_id_listed b input.1) (all_versions b inputs)
 
 all_placed : (b : Base) (listing : Listing) → AllVersions b listing → list_all (is_placed b) (map as_placed listing) ≡ true
 all_placed b [] h = refl

@@ -17,36 +17,36 @@ use Rattle.cc_names.specs.declared.rows.Kind.TheVariants.{File, Directory}
 use Rattle.cc_names.specs.declared.rows.ReadOf.{ReadOf}
 use Rattle.legal_history.specs.Base.Rows.{Base, size, deed_at}
 use Rattle.legal_history.specs.Base.Changes.{targets_of_deed, tree}
-use Rattle.legal_history.specs.Base.Closures.{Source, Sources, source_cmp, joined_sources, sources_of_entry, sources_of, closure, entries_of_deed, is_among, is_publish, is_publish_deed, is_version_of}
+use Rattle.legal_history.specs.Base.Closures.{Input, Inputs, input_cmp, joined_inputs, inputs_of_entry, inputs_of, closure, entries_of_deed, is_among, is_publish, is_publish_deed, is_version_of}
 use Rattle.legal_history.specs.Base.Conditions.{element_of_text, is_file_kind, is_some_file, makes_file_text, is_entry}
 use Rattle.legal_history.specs.Base.Fits.{is_base}
 use Rattle.legal_history.proofs.Bases.Owned.{and_first, and_second, row_fits, rows_below}
 use Rattle.legal_history.proofs.Bases.FileRows.{FileText, file_text_stays}
 use Rattle.legal_history.proofs.Bases.VersionRows.{version_text}
-use Rattle.legal_history.proofs.Reuse.Covered.{one_source}
+use Rattle.legal_history.proofs.Reuse.Covered.{one_input}
 use Rattle.legal_history.proofs.Reuse.EntriesBelow.{entry_below, entries_fit}
 
--- each source made the text of a file, where it is not row 0
-abbrev OfFiles : Base → Sources → Type 0
+-- each input made the text of a file, where it is not row 0
+abbrev OfFiles : Base → Inputs → Type 0
 OfFiles b [] = ⊤
-OfFiles b (source ∷ sources) = (0 < source.0.1 → FileText b source.0.1) × OfFiles b sources
+OfFiles b (input ∷ inputs) = (0 < input.0.1 → FileText b input.0.1) × OfFiles b inputs
 
-put_of_files : (b : Base) (s : Source) (row : ℕ) (sources : Sources) → (0 < s.1 → FileText b s.1) → OfFiles b sources → OfFiles b (put source_cmp s row sources)
+put_of_files : (b : Base) (s : Input) (row : ℕ) (inputs : Inputs) → (0 < s.1 → FileText b s.1) → OfFiles b inputs → OfFiles b (put input_cmp s row inputs)
 put_of_files b s row [] own h = (own, tt)
-put_of_files b s row (source ∷ sources) own h = by (source_cmp s source.0) (put_of_files b s row sources own h.1)
+put_of_files b s row (input ∷ inputs) own h = by (input_cmp s input.0) (put_of_files b s row inputs own h.1)
   where
-    by : (o : Ordering) → OfFiles b (put source_cmp s row sources) → OfFiles b (by_order o ((s, row) ∷ source ∷ sources) ((source.0, row) ∷ sources) (source ∷ put source_cmp s row sources))
+    by : (o : Ordering) → OfFiles b (put input_cmp s row inputs) → OfFiles b (by_order o ((s, row) ∷ input ∷ inputs) ((input.0, row) ∷ inputs) (input ∷ put input_cmp s row inputs))
     by Less rest = (own, h)
     by Equal rest = h
     by Greater rest = (h.0, rest)
 
-joined_of_files : (b : Base) (one others : Sources) → OfFiles b one → OfFiles b others → OfFiles b (joined_sources one others)
+joined_of_files : (b : Base) (one others : Inputs) → OfFiles b one → OfFiles b others → OfFiles b (joined_inputs one others)
 joined_of_files b [] others h g = g
-joined_of_files b (source ∷ one) others h g = joined_of_files b one (put source_cmp source.0 source.1 others) h.1 (put_of_files b source.0 source.1 others h.0 g)
+joined_of_files b (input ∷ one) others h g = joined_of_files b one (put input_cmp input.0 input.1 others) h.1 (put_of_files b input.0 input.1 others h.0 g)
 
-of_files_stay : (row : Plain) (b : Base) (sources : Sources) → OfFiles b sources → OfFiles (row ∷ b) sources
+of_files_stay : (row : Plain) (b : Base) (inputs : Inputs) → OfFiles b inputs → OfFiles (row ∷ b) inputs
 of_files_stay row b [] h = tt
-of_files_stay row b (source ∷ sources) h = (λ above. file_text_stays row b source.0.1 (h.0 above), of_files_stay row b sources h.1)
+of_files_stay row b (input ∷ inputs) h = (λ above. file_text_stays row b input.0.1 (h.0 above), of_files_stay row b inputs h.1)
 
 -- only an object has targets
 no_targets : (o : Option Deed) → is_publish_deed o ≡ false → targets_of_deed o ≡ []
@@ -67,14 +67,14 @@ entry_of_file b entry fit other above = record {
       (ap (λ targets. (entry.row == 0) || makes_file_text b entry.row (deed_at b entry.row) || is_among entry.path targets) (sym (no_targets (deed_at b entry.row) other)) ∙ fit);
 }
 
-entry_of_files : (b : Base) (t : Bool) (of_object : ℕ → Sources) (entry : ReadOf) → is_publish b entry.row ≡ t → is_entry b entry ≡ true → ((id : ℕ) → OfFiles b (of_object id)) → OfFiles b (sources_of_entry t of_object entry)
+entry_of_files : (b : Base) (t : Bool) (of_object : ℕ → Inputs) (entry : ReadOf) → is_publish b entry.row ≡ t → is_entry b entry ≡ true → ((id : ℕ) → OfFiles b (of_object id)) → OfFiles b (inputs_of_entry t of_object entry)
 entry_of_files b true of_object entry is fit h = h entry.row
 entry_of_files b false of_object entry is fit h = (entry_of_file b entry fit is, tt)
 
-entries_of_files : (b : Base) (of_object : ℕ → Sources) (entries : List ReadOf) → list_all (is_entry b) entries ≡ true → ((id : ℕ) → OfFiles b (of_object id)) → OfFiles b (sources_of b of_object entries)
+entries_of_files : (b : Base) (of_object : ℕ → Inputs) (entries : List ReadOf) → list_all (is_entry b) entries ≡ true → ((id : ℕ) → OfFiles b (of_object id)) → OfFiles b (inputs_of b of_object entries)
 entries_of_files b of_object [] fit h = tt
 entries_of_files b of_object (entry ∷ entries) fit h =
-    joined_of_files b (sources_of_entry (is_publish b entry.row) of_object entry) (sources_of b of_object entries)
+    joined_of_files b (inputs_of_entry (is_publish b entry.row) of_object entry) (inputs_of b of_object entries)
     (entry_of_files b (is_publish b entry.row) of_object entry refl (and_first (is_entry b entry) (list_all (is_entry b) entries) fit) h)
     (entries_of_files b of_object entries (and_second (is_entry b entry) (list_all (is_entry b) entries) fit) h)
 
@@ -82,17 +82,17 @@ closure_of_files : (b : Base) (id : ℕ) → is_base b ≡ true → OfFiles b (c
 closure_of_files [] id base = tt
 closure_of_files (row ∷ older) id base = of_files_stay row older (closure (row ∷ older) id) (by (size older == id) (λ id. closure_of_files older id (rows_below row older base)))
   where
-    by : (t : Bool) → ((id : ℕ) → OfFiles older (closure older id)) → OfFiles older (elim t as (λ x. Sources) [ true ↦ sources_of older (closure older) (entries_of_deed (Some row.deed)) | false ↦ closure older id ])
+    by : (t : Bool) → ((id : ℕ) → OfFiles older (closure older id)) → OfFiles older (elim t as (λ x. Inputs) [ true ↦ inputs_of older (closure older) (entries_of_deed (Some row.deed)) | false ↦ closure older id ])
     by true before = entries_of_files older (closure older) (entries_of_deed (Some row.deed)) (entries_fit older row.deed (row_fits row older base)) before
     by false before = before id
 
-found_of_file : (b : Base) (sources : Sources) (q : Source) → OfFiles b sources → is_some (find source_cmp q sources) ≡ true → 0 < q.1 → FileText b q.1
+found_of_file : (b : Base) (inputs : Inputs) (q : Input) → OfFiles b inputs → is_some (find input_cmp q inputs) ≡ true → 0 < q.1 → FileText b q.1
 found_of_file b [] q h has above = absurd (cc)
-found_of_file b (source ∷ sources) q h has above = by (eq_by_cmp source_cmp q source.0) refl has (λ rest. found_of_file b sources q h.1 rest above)
+found_of_file b (input ∷ inputs) q h has above = by (eq_by_cmp input_cmp q input.0) refl has (λ rest. found_of_file b inputs q h.1 rest above)
   where
-    by : (t : Bool) → eq_by_cmp source_cmp q source.0 ≡ t → is_some (cond t (Some source.1) (find source_cmp q sources)) ≡ true → (is_some (find source_cmp q sources) ≡ true → FileText b q.1) → FileText b q.1
+    by : (t : Bool) → eq_by_cmp input_cmp q input.0 ≡ t → is_some (cond t (Some input.1) (find input_cmp q inputs)) ≡ true → (is_some (find input_cmp q inputs) ≡ true → FileText b q.1) → FileText b q.1
     by true e has rest =
-        let same : q.1 ≡ source.0.1 = (one_source q source.0 e).row in
+        let same : q.1 ≡ input.0.1 = (one_input q input.0 e).row in
         subst (FileText b) (sym same) (h.0 (subst (λ r. 0 < r) same above))
     by false e has rest = rest has
 
@@ -107,8 +107,8 @@ element_is_file b r e (deeds.Put v path text) is h = absurd (cc)
 element_is_file b r e deed is h = ap (is_some_file b) (sym is) ∙ h
 
 -- An element of which the closure of an object lists a version is a file.
-pub listed_is_file : (b : Base) (id e : ℕ) (source : Source) → is_base b ≡ true → is_some (find source_cmp source (closure b id)) ≡ true → is_version_of b e source.1 ≡ true → 0 < source.1 → kind_of (tree b) e ≡ Some File
-listed_is_file b id e source base has version above =
-    let made = version_text b e source.1 base version above in
-    let file = found_of_file b (closure b id) source (closure_of_files b id base) has above in
-    file_kind (kind_of (tree b) e) (element_is_file b source.1 e made.deed made.of_element (ap (makes_file_text b source.1) (sym made.made) ∙ file.makes))
+pub listed_is_file : (b : Base) (id e : ℕ) (input : Input) → is_base b ≡ true → is_some (find input_cmp input (closure b id)) ≡ true → is_version_of b e input.1 ≡ true → 0 < input.1 → kind_of (tree b) e ≡ Some File
+listed_is_file b id e input base has version above =
+    let made = version_text b e input.1 base version above in
+    let file = found_of_file b (closure b id) input (closure_of_files b id base) has above in
+    file_kind (kind_of (tree b) e) (element_is_file b input.1 e made.deed made.of_element (ap (makes_file_text b input.1) (sym made.made) ∙ file.makes))

@@ -1,13 +1,14 @@
 -- Where a view covers an object's record, running the record again in the view gives what it gives on its own entries.
 use Rattle.std.proofs.Common.{◌≡◌, refl, ap, sym, ◌∙◌, ℕ, zero, suc, ◌<◌, Bool, true, false, ◌==◌, Option, Some, None, List, [], ◌∷◌, arith}
 use Rattle.std.specs.Prelude.{option_and_then}
+use Rattle.cc_names.specs.Files.{Files}
 use Rattle.cc_names.specs.declared.rows.Deed.{Deed}
 use Rattle.cc_names.specs.declared.rows.Deed.TheVariants as deeds
 use Rattle.cc_names.specs.declared.rows.ReadOf.{ReadOf}
-use Rattle.build_script.specs.Run.{Files, Ran, run}
+use Rattle.build_script.specs.Run.{Ran, run}
 use Rattle.legal_history.specs.Base.Rows.{Base, size}
 use Rattle.legal_history.specs.Base.Changes.{targets_of}
-use Rattle.legal_history.specs.Base.Closures.{Sources, sources_of_entry, sources_of, closure, entries_of_deed, is_publish}
+use Rattle.legal_history.specs.Base.Closures.{Inputs, inputs_of_entry, inputs_of, closure, entries_of_deed, is_publish}
 use Rattle.legal_history.specs.Base.Fits.{is_base}
 use Rattle.legal_history.specs.Builds.Fresh.{texts}
 use Rattle.legal_history.specs.Queries.RecordTexts.{row_in, uncovered}
@@ -17,7 +18,7 @@ use Rattle.legal_history.specs.Base.Values.{output_of_run, outputs_of_run, text_
 use Rattle.legal_history.proofs.Bases.Owned.{row_fits, rows_below}
 use Rattle.legal_history.proofs.Bases.Stay.{text_stays}
 use Rattle.legal_history.specs.Laws.Objects.{outputs_of, outputs_of_deed}
-use Rattle.legal_history.proofs.Reuse.Covered.{Covers, entry_covered, closure_covered, own_source}
+use Rattle.legal_history.proofs.Reuse.Covered.{Covers, entry_covered, closure_covered, own_input}
 use Rattle.legal_history.proofs.Reuse.EntriesBelow.{AreBelow, deed_entries_below}
 use Rattle.legal_history.proofs.Reuse.SeenTexts.{number_is}
 use Rattle.legal_history.proofs.Reuse.TrueObjects.{true_object}
@@ -28,18 +29,18 @@ SeenAsText rows seen b = (path : List ℕ) (r : ℕ) → r < size b → rows pat
 
 -- the text of an entry as it is seen, and as it was
 same_entry : (rows : List ℕ → Option ℕ) (seen : Files) (b : Base) (path : List ℕ) (r : ℕ) → SeenAsText rows seen b → ((id : ℕ) → Covers rows (closure b id) → rerun_on seen b id ≡ rerun b id) → r < size b →
-    Covers rows (sources_of_entry (is_publish b r) (closure b) (record { path = path; row = r })) → text_seen b seen (rerun_on seen b) path r ≡ text_of_entry b (rerun b) path r
+    Covers rows (inputs_of_entry (is_publish b r) (closure b) (record { path = path; row = r })) → text_seen b seen (rerun_on seen b) path r ≡ text_of_entry b (rerun b) path r
 same_entry rows seen b path zero as_text reruns low covers = refl
 same_entry rows seen b path (suc r) as_text reruns low covers = by (is_publish b (suc r)) covers
   where
-    by : (t : Bool) → Covers rows (sources_of_entry t (closure b) (record { path = path; row = suc r })) →
+    by : (t : Bool) → Covers rows (inputs_of_entry t (closure b) (record { path = path; row = suc r })) →
         elim t as (λ x. Option (List ℕ)) [ true ↦ output_of_run path (targets_of b (suc r)) (outputs_of_run (rerun_on seen b (suc r))) | false ↦ seen path ]
         ≡ elim t as (λ x. Option (List ℕ)) [ true ↦ output_of_run path (targets_of b (suc r)) (outputs_of_run (rerun b (suc r))) | false ↦ text b (suc r) path ]
     by true covers = ap (λ o. output_of_run path (targets_of b (suc r)) (outputs_of_run o)) (reruns (suc r) covers)
-    by false covers = as_text path (suc r) low (number_is (suc r) (rows path) (covers (path, suc r) (own_source path (suc r))))
+    by false covers = as_text path (suc r) low (number_is (suc r) (rows path) (covers (path, suc r) (own_input path (suc r))))
 
 same_texts : (rows : List ℕ → Option ℕ) (seen : Files) (b : Base) (entries : List ReadOf) (path : List ℕ) → SeenAsText rows seen b → ((id : ℕ) → Covers rows (closure b id) → rerun_on seen b id ≡ rerun b id) → AreBelow (size b) entries →
-    Covers rows (sources_of b (closure b) entries) → texts_seen b seen (rerun_on seen b) entries path ≡ texts_of_entries b (rerun b) entries path
+    Covers rows (inputs_of b (closure b) entries) → texts_seen b seen (rerun_on seen b) entries path ≡ texts_of_entries b (rerun b) entries path
 same_texts rows seen b entries path as_text reruns low covers = by (row_in entries path) refl
   where
     by : (o : Option ℕ) → row_in entries path ≡ o → option_and_then (text_seen b seen (rerun_on seen b) path) o ≡ option_and_then (text_of_entry b (rerun b) path) o
@@ -47,7 +48,7 @@ same_texts rows seen b entries path as_text reruns low covers = by (row_in entri
     by (Some r) is = same_entry rows seen b path r as_text reruns (low path r is) (entry_covered rows b (closure b) entries path r covers is)
 
 same_deed : (rows : List ℕ → Option ℕ) (seen : Files) (b : Base) (deed : Deed) → SeenAsText rows seen b → ((id : ℕ) → Covers rows (closure b id) → rerun_on seen b id ≡ rerun b id) → AreBelow (size b) (entries_of_deed (Some deed)) →
-    Covers rows (sources_of b (closure b) (entries_of_deed (Some deed))) → run_of_deed (texts_seen b seen (rerun_on seen b)) deed ≡ run_of_deed (texts_of_entries b (rerun b)) deed
+    Covers rows (inputs_of b (closure b) (entries_of_deed (Some deed))) → run_of_deed (texts_seen b seen (rerun_on seen b)) deed ≡ run_of_deed (texts_of_entries b (rerun b)) deed
 same_deed rows seen b (deeds.Publish v targets script entries outputs) as_text reruns low covers = λ i. Some (run script targets (λ path. same_texts rows seen b entries path as_text reruns low covers i))
 same_deed rows seen b deed as_text reruns low covers = refl
 
@@ -61,7 +62,7 @@ same_rerun rows seen (row ∷ older) base as_text id covers = by (size older == 
         higher : r < size older → r < size (row ∷ older)
         higher low = omega arith
 
-    by : (t : Bool) → Covers rows (elim t as (λ x. Sources) [ true ↦ sources_of older (closure older) (entries_of_deed (Some row.deed)) | false ↦ closure older id ]) →
+    by : (t : Bool) → Covers rows (elim t as (λ x. Inputs) [ true ↦ inputs_of older (closure older) (entries_of_deed (Some row.deed)) | false ↦ closure older id ]) →
         ((id : ℕ) → Covers rows (closure older id) → rerun_on seen older id ≡ rerun older id) →
         elim t as (λ x. Option Ran) [ true ↦ run_of_deed (texts_seen older seen (rerun_on seen older)) row.deed | false ↦ rerun_on seen older id ]
         ≡ elim t as (λ x. Option Ran) [ true ↦ run_of_deed (texts_of_entries older (rerun older)) row.deed | false ↦ rerun older id ]

@@ -6,20 +6,20 @@ use Rattle.std.specs.Option.{option_or}
 use Rattle.std.specs.Ordering.{nat_cmp}
 use Rattle.std.specs.Prelude.{is_some, option_and_then, option_map, reverse}
 use Rattle.cc_names.specs.Paths.{names_of}
-use Rattle.cc_names.specs.Versions.{place, kind_of}
-use Rattle.cc_names.specs.declared.changes.Place.{Place}
+use Rattle.cc_names.specs.Versions.{version_id, kind_of}
+use Rattle.cc_names.specs.declared.changes.VersionId.{VersionId}
 use Rattle.cc_names.specs.declared.rows.Kind.TheVariants.{File}
 use Rattle.cc_names.specs.declared.selection.Picked.{Picked}
 use Rattle.spec_text.specs.Rules.{finds, is_checkout, picked_by}
 use Rattle.legal_history.specs.Base.Rows.{Base, only_where}
 use Rattle.legal_history.specs.Base.Changes.{targets_of, tree}
-use Rattle.legal_history.specs.Base.Closures.{Source, Sources, source_cmp, closure, greater_of, is_among, is_version_of, listed, listing, listing_of, version_listed, with_version_at}
+use Rattle.legal_history.specs.Base.Closures.{Input, Inputs, input_cmp, closure, greater_of, is_among, is_version_of, listed, listing, listing_of, version_listed, with_version_at}
 use Rattle.legal_history.specs.Base.Fits.{is_base}
 use Rattle.legal_history.specs.Queries.RecordTexts.{uncovered, uncovered_among}
 use Rattle.legal_history.specs.Builds.Reuse.{agrees}
 use Rattle.legal_history.specs.Base.Seen.{file_at, file_seen, row_of_file, selected, sources}
 use Rattle.legal_history.proofs.Stories.Goes.{same_number}
-use Rattle.legal_history.proofs.Bases.LabelsHold.{greater, place_listed}
+use Rattle.legal_history.proofs.Bases.LabelsHold.{greater, version_id_listed}
 use Rattle.legal_history.proofs.Bases.Makings.{seen_element}
 use Rattle.legal_history.proofs.Bases.Owned.{same_is_same}
 use Rattle.legal_history.proofs.Stories.Tables.{find_after_put}
@@ -28,31 +28,31 @@ use Rattle.legal_history.specs.Laws.Selected.{SeesByRecord, IsOnlyVersion, IsSel
 use Rattle.legal_history.proofs.Reuse.ClosureFiles.{listed_is_file}
 use Rattle.legal_history.proofs.Reuse.Covered.{Keyed, closure_keyed, front_found, later_found}
 
--- what the listing of some sources has of an element is the row of one of them that is a version of it
-listed_is : (b : Base) (P : ℕ → Type 0) (e : ℕ) (sources : Sources) (r : ℕ) → Keyed sources → ((source : Source) → is_some (find source_cmp source sources) ≡ true → is_version_of b e source.1 ≡ true → P source.1) →
-    find nat_cmp e (listing_of b sources) ≡ Some r → P r
+-- what the listing of some inputs has of an element is the row of one of them that is a version of it
+listed_is : (b : Base) (P : ℕ → Type 0) (e : ℕ) (inputs : Inputs) (r : ℕ) → Keyed inputs → ((input : Input) → is_some (find input_cmp input inputs) ≡ true → is_version_of b e input.1 ≡ true → P input.1) →
+    find nat_cmp e (listing_of b inputs) ≡ Some r → P r
 listed_is b P e [] r keyed each h = absurd (cc)
-listed_is b P e (source ∷ rest) r keyed each h =
-    by (version_listed b source.1) refl h (λ r found. listed_is b P e rest r keyed.1 (λ q has version. each q (later_found q source rest has) version) found)
+listed_is b P e (input ∷ rest) r keyed each h =
+    by (version_listed b input.1) refl h (λ r found. listed_is b P e rest r keyed.1 (λ q has version. each q (later_found q input rest has) version) found)
   where
-    own : (p : Place) → place (tree b) source.1 ≡ Some p → p.element ≡ e → P source.1
-    own p is same = subst P (sym keyed.0) (each source.0 (front_found source rest) (ap (is_version_of b e) (sym keyed.0) ∙ is_version b e source.1 p is same))
+    own : (p : VersionId) → version_id (tree b) input.1 ≡ Some p → p.element ≡ e → P input.1
+    own p is same = subst P (sym keyed.0) (each input.0 (front_found input rest) (ap (is_version_of b e) (sym keyed.0) ∙ is_version b e input.1 p is same))
 
-    or_greater : (p : Place) → place (tree b) source.1 ≡ Some p → p.element ≡ e → ((r : ℕ) → find nat_cmp e (listing_of b rest) ≡ Some r → P r) → (o : Option ℕ) → find nat_cmp p.element (listing_of b rest) ≡ o → P (greater_of source.1 o)
+    or_greater : (p : VersionId) → version_id (tree b) input.1 ≡ Some p → p.element ≡ e → ((r : ℕ) → find nat_cmp e (listing_of b rest) ≡ Some r → P r) → (o : Option ℕ) → find nat_cmp p.element (listing_of b rest) ≡ o → P (greater_of input.1 o)
     or_greater p is same before None found = own p is same
-    or_greater p is same before (Some other) found = greater P source.1 other (own p is same) (before other (ap (λ k. find nat_cmp k (listing_of b rest)) (sym same) ∙ found))
+    or_greater p is same before (Some other) found = greater P input.1 other (own p is same) (before other (ap (λ k. find nat_cmp k (listing_of b rest)) (sym same) ∙ found))
 
-    by_number : (p : Place) (t : Bool) → place (tree b) source.1 ≡ Some p → (e == p.element) ≡ t → cond t (Some (greater_of source.1 (find nat_cmp p.element (listing_of b rest)))) (find nat_cmp e (listing_of b rest)) ≡ Some r →
+    by_number : (p : VersionId) (t : Bool) → version_id (tree b) input.1 ≡ Some p → (e == p.element) ≡ t → cond t (Some (greater_of input.1 (find nat_cmp p.element (listing_of b rest)))) (find nat_cmp e (listing_of b rest)) ≡ Some r →
         ((r : ℕ) → find nat_cmp e (listing_of b rest) ≡ Some r → P r) → P r
     by_number p true is test h before =
-        let same : greater_of source.1 (find nat_cmp p.element (listing_of b rest)) ≡ r = cc in
+        let same : greater_of input.1 (find nat_cmp p.element (listing_of b rest)) ≡ r = cc in
         subst P same (or_greater p is (sym (same_number e p.element test)) before (find nat_cmp p.element (listing_of b rest)) refl)
     by_number p false is test h before = before r h
 
-    by : (o : Option Place) → version_listed b source.1 ≡ o → find nat_cmp e (with_version_at source.1 o (listing_of b rest)) ≡ Some r → ((r : ℕ) → find nat_cmp e (listing_of b rest) ≡ Some r → P r) → P r
+    by : (o : Option VersionId) → version_listed b input.1 ≡ o → find nat_cmp e (with_version_at input.1 o (listing_of b rest)) ≡ Some r → ((r : ℕ) → find nat_cmp e (listing_of b rest) ≡ Some r → P r) → P r
     by None is h before = before r h
     by (Some p) is h before =
-        by_number p (e == p.element) (place_listed b source.1 p is) refl (sym (find_after_put e p.element (greater_of source.1 (find nat_cmp p.element (listing_of b rest))) (listing_of b rest)) ∙ h) before
+        by_number p (e == p.element) (version_id_listed b input.1 p is) refl (sym (find_after_put e p.element (greater_of input.1 (find nat_cmp p.element (listing_of b rest))) (listing_of b rest)) ∙ h) before
 
 -- what is listed of an element is its only version in the closure, and the element is a file
 only_listed : (b : Base) (id e row : ℕ) (target : List ℕ) (r : ℕ) → is_base b ≡ true → IsOnlyVersion b id e row → listed b id target e ≡ Some r → (r ≡ row) × (0 < r → kind_of (tree b) e ≡ Some File)
@@ -61,7 +61,7 @@ only_listed b id e row target r base o h = by (is_among target (targets_of b id)
     by : (t : Bool) → only_where t (find nat_cmp e (listing b id)) ≡ Some r → (r ≡ row) × (0 < r → kind_of (tree b) e ≡ Some File)
     by true h =
         listed_is b (λ k. (k ≡ row) × (0 < k → kind_of (tree b) e ≡ Some File)) e (closure b id) r (closure_keyed b id)
-        (λ source has version. (o.only source has version, listed_is_file b id e source base has version)) h
+        (λ input has version. (o.only input has version, listed_is_file b id e input base has version)) h
     by false h = absurd (cc)
 
 -- the row that is picked by a record is the one that it lists
@@ -92,12 +92,12 @@ selected_agrees b v target id path (suc r) base (IsVersion e above only s) =
     let kind : kind_of (tree b) e ≡ Some File = picked.1 (subst (λ k. 0 < k) (sym picked.0) above) in
     ap (agrees (suc r)) (seen_file b v target id path e s kind ∙ ap Some picked.0) ∙ same_is_same (suc r)
 
-all_covered : (b : Base) (v : List ℕ) (sources : Sources) → Keyed sources → ((source : Source) → is_some (find source_cmp source sources) ≡ true → agrees source.1 (file_at b v source.0) ≡ true) → uncovered_among b v sources ≡ None
+all_covered : (b : Base) (v : List ℕ) (inputs : Inputs) → Keyed inputs → ((input : Input) → is_some (find input_cmp input inputs) ≡ true → agrees input.1 (file_at b v input.0) ≡ true) → uncovered_among b v inputs ≡ None
 all_covered b v [] keyed each = refl
-all_covered b v (source ∷ rest) keyed each =
-    ap (λ t. option_or (only_where (not t) (Some source.0.0)) (uncovered_among b v rest)) (ap (λ k. agrees k (file_at b v source.0.0)) keyed.0 ∙ each source.0 (front_found source rest))
-    ∙ all_covered b v rest keyed.1 (λ q has. each q (later_found q source rest has))
+all_covered b v (input ∷ rest) keyed each =
+    ap (λ t. option_or (only_where (not t) (Some input.0.0)) (uncovered_among b v rest)) (ap (λ k. agrees k (file_at b v input.0.0)) keyed.0 ∙ each input.0 (front_found input rest))
+    ∙ all_covered b v rest keyed.1 (λ q has. each q (later_found q input rest has))
 
 -- The law of a selection by a record.
-pub selection_covers : (b : Base) (v target : List ℕ) (id : ℕ) → is_base b ≡ true → ((path : List ℕ) (row : ℕ) → is_some (find source_cmp (path, row) (closure b id)) ≡ true → IsSelected b v target id path row) → uncovered b v id ≡ None
-selection_covers b v target id base each = all_covered b v (closure b id) (closure_keyed b id) (λ source has. selected_agrees b v target id source.0 source.1 base (each source.0 source.1 has))
+pub selection_covers : (b : Base) (v target : List ℕ) (id : ℕ) → is_base b ≡ true → ((path : List ℕ) (row : ℕ) → is_some (find input_cmp (path, row) (closure b id)) ≡ true → IsSelected b v target id path row) → uncovered b v id ≡ None
+selection_covers b v target id base each = all_covered b v (closure b id) (closure_keyed b id) (λ input has. selected_agrees b v target id input.0 input.1 base (each input.0 input.1 has))

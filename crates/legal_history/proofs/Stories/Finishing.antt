@@ -1,6 +1,7 @@
 -- A command that builds is finished by its refusal, or by the end of its build.
 use Rattle.std.proofs.Common.{◌≡◌, refl, ap, sym, subst, ◌∙◌, inl, inr, ℕ, ◌+◌, Bool, true, false, ◌==◌, Option, Some, None, Result, Ok, Err, List, length, arith}
 use Rattle.std.specs.Prelude.{option_map}
+use Rattle.cc_names.specs.Commands.{builds}
 use Rattle.cc_names.specs.Formed.{Plain}
 use Rattle.cc_names.specs.declared.commands.Command.{Command}
 use Rattle.cc_names.specs.declared.commands.Command.TheVariants as commands
@@ -23,7 +24,7 @@ use Rattle.legal_history.specs.Commands.ObjectLines.{build_unless, clearmake_tes
 use Rattle.legal_history.specs.Stories.States.{State, build_by, decided, done_of, next_command, next_tag, scene, with_done}
 use Rattle.legal_history.specs.Stories.Steps.{after, after_step, done_after, done_by_fault}
 use Rattle.legal_history.specs.Stories.Lawful.{Lawful, LawfulStep}
-use Rattle.legal_history.specs.Laws.Ends.{IsLeft, IsRefused, builds}
+use Rattle.legal_history.specs.Laws.Ends.{IsLeft, IsRefused}
 use Rattle.legal_history.proofs.Builds.CommandStays.{next_is, other_done}
 use Rattle.legal_history.proofs.Builds.FineBuilds.{some_same}
 use Rattle.legal_history.proofs.Decisions.DecidedIdle.{builds_nothing}

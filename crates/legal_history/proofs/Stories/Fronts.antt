@@ -1,6 +1,7 @@
 -- A front of a legal story is legal, and the story goes on from there; the base only grows.
 use Rattle.std.proofs.Common.{◌≡◌, refl, ℕ, zero, suc, Bool, true, false, Option, None, List, [], ◌∷◌, ◌++◌, inl, inr}
 use Rattle.std.specs.Prelude.{is_some, option_and_then}
+use Rattle.cc_names.specs.Commands.{lane_at}
 use Rattle.cc_names.specs.Formed.{Plain}
 use Rattle.cc_names.specs.declared.rows.Deed.{Deed}
 use Rattle.cc_names.specs.declared.rows.Deed.TheVariants as deeds
@@ -13,7 +14,7 @@ use Rattle.cc_names.specs.declared.steps.UnitEnd.{UnitEnd}
 use Rattle.cc_names.specs.declared.steps.UnitEnd.TheVariants as ends
 use Rattle.cc_names.specs.declared.refusals.UnitFault.TheVariants as unit_faults
 use Rattle.legal_history.specs.Base.Rows.{only_where}
-use Rattle.legal_history.specs.Stories.States.{State, start, decided, is_next, next_command, command_behind, lane_at, done_of}
+use Rattle.legal_history.specs.Stories.States.{State, start, decided, is_next, next_command, command_behind, done_of}
 use Rattle.legal_history.specs.Stories.Steps.{after, state_from}
 use Rattle.legal_history.specs.Stories.Committing.{MakesRow}
 use Rattle.legal_history.specs.Stories.Lawful.{Lawful, LawfulStep, LegalFrom}

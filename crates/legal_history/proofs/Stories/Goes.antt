@@ -4,6 +4,7 @@ use Rattle.std.proofs.lemmas.Bool.Decides.{nat_tests}
 use Rattle.std.specs.Prelude.{Result, is_none, is_some, option_map, option_and_then, ◌&&◌}
 use Rattle.std.specs.Ordering.{nat_cmp}
 use Rattle.std.specs.FinMap.Entries.{put}
+use Rattle.cc_names.specs.Commands.{lane_at}
 use Rattle.cc_names.specs.Formed.{Plain}
 use Rattle.cc_names.specs.declared.rows.Deed.{Deed}
 use Rattle.cc_names.specs.declared.rows.Deed.TheVariants as deeds
@@ -23,7 +24,7 @@ use Rattle.legal_history.specs.Stories.Growth.{Continues, StaysTheBuild, Over, O
 use Rattle.cc_names.specs.declared.refusals.Refusal.{Refusal}
 use Rattle.legal_history.specs.Commands.Decisions.{Decision}
 use Rattle.legal_history.specs.Commands.Lines.{decision}
-use Rattle.legal_history.specs.Stories.States.{State, scene, decided, command_behind, lane_at, done_of, is_next, build_by, build_if, same_tag}
+use Rattle.legal_history.specs.Stories.States.{State, scene, decided, command_behind, done_of, is_next, build_by, build_if, same_tag}
 use Rattle.legal_history.specs.Stories.Steps.{after, after_step, noted, with_came, begun, with_build, without_build, faulted_in, active_after}
 use Rattle.legal_history.specs.Stories.Committing.{MakesRow}
 use Rattle.legal_history.specs.Stories.Lawful.{Lawful, LawfulStep}

@@ -2,6 +2,7 @@
 use Rattle.std.proofs.Common.{◌≡◌, refl, ap, sym, subst, ℕ, ◌<◌, ◌≤◌, Bool, true, false, ◌==◌, inl, inr, Option, Some, None, Result, List, [], ◌∷◌, ◌++◌, arith}
 use Rattle.std.specs.Prelude.{option_and_then, option_map}
 use Rattle.std.proofs.lemmas.Option.{slice_get_within}
+use Rattle.cc_names.specs.Commands.{lane_at}
 use Rattle.cc_names.specs.Formed.{Plain}
 use Rattle.cc_names.specs.declared.commands.Command.{Command}
 use Rattle.cc_names.specs.declared.commands.Lane.{Lane}
@@ -19,7 +20,7 @@ use Rattle.legal_history.specs.Commands.Lines.{decision}
 use Rattle.legal_history.specs.Stories.Commanded.{command_of}
 use Rattle.legal_history.specs.Stories.Committing.{MakesRow}
 use Rattle.legal_history.specs.Stories.Lanes.{count_of, IsFinished, IsWithin}
-use Rattle.legal_history.specs.Stories.States.{State, build_by, command_behind, decided, done_of, lane_at, next_command, scene, start, with_done}
+use Rattle.legal_history.specs.Stories.States.{State, build_by, command_behind, decided, done_of, next_command, scene, start, with_done}
 use Rattle.legal_history.specs.Stories.Steps.{after, after_step, done_after, done_by_fault, state_from, state_of}
 use Rattle.legal_history.specs.Stories.Lawful.{Lawful, LawfulStep, Legal, LegalFrom}
 use Rattle.legal_history.proofs.Builds.CommandStays.{next_is, other_done}

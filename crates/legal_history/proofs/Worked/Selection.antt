@@ -5,14 +5,14 @@ use Rattle.std.specs.Ordering.{eq_by_cmp}
 use Rattle.std.specs.Prelude.{codes, is_some}
 use Rattle.cc_names.specs.declared.rows.Deed.TheVariants as deeds
 use Rattle.legal_history.specs.Base.Rows.{Base}
-use Rattle.legal_history.specs.Base.Closures.{Source, source_cmp, closure}
+use Rattle.legal_history.specs.Base.Closures.{Input, input_cmp, closure}
 use Rattle.legal_history.specs.Base.Fits.{is_base}
 use Rattle.legal_history.specs.Queries.RecordTexts.{uncovered}
 use Rattle.legal_history.specs.Queries.VersionNames.{line}
 use Rattle.legal_history.specs.Worked.{base_of}
 use Rattle.legal_history.proofs.Worked.TwoViews.{all_deeds, v}
 use Rattle.legal_history.specs.Laws.Selected.{IsSelected, IsVersion, SeesByRecord}
-use Rattle.legal_history.proofs.Reuse.Covered.{one_source}
+use Rattle.legal_history.proofs.Reuse.Covered.{one_input}
 
 abbrev x : List ℕ
 x = codes "x"
@@ -33,13 +33,13 @@ it_is_covered = refl
 by_the_record : SeesByRecord selected_by_record x (codes "out") 10 (codes "in") 6
 by_the_record = record { picked = _; rule = _; stands = refl; decides = refl; by_record = refl }
 
--- the one source of the closure
-one_of : (source : Source) → is_some (find source_cmp source (closure selected_by_record 10)) ≡ true → source.1 ≡ 8
-one_of source h = by (eq_by_cmp source_cmp source (codes "in", 8)) refl h
+-- the one input of the closure
+one_of : (input : Input) → is_some (find input_cmp input (closure selected_by_record 10)) ≡ true → input.1 ≡ 8
+one_of input h = by (eq_by_cmp input_cmp input (codes "in", 8)) refl h
   where
-    by : (t : Bool) → eq_by_cmp source_cmp source (codes "in", 8) ≡ t → is_some {T = ℕ} (cond t (Some 8) None) ≡ true → source.1 ≡ 8
-    by true e h = (one_source source (codes "in", 8) e).row
+    by : (t : Bool) → eq_by_cmp input_cmp input (codes "in", 8) ≡ t → is_some {T = ℕ} (cond t (Some 8) None) ≡ true → input.1 ≡ 8
+    by true e h = (one_input input (codes "in", 8) e).row
     by false e h = absurd (cc)
 
 it_is_selected : IsSelected selected_by_record x (codes "out") 10 (codes "in") 8
-it_is_selected = IsVersion 6 (omega arith) (record { only = λ source has version. one_of source has }) by_the_record
+it_is_selected = IsVersion 6 (omega arith) (record { only = λ input has version. one_of input has }) by_the_record

@@ -5,30 +5,30 @@ use Rattle.std.specs.declared.cmp.Ordering.{Ordering}
 use Rattle.std.specs.Ordering.{nat_cmp, on, then_cmp}
 use Rattle.std.specs.Cmp.Lexicographic.{slice_cmp}
 use Rattle.std.specs.FinMap.Entries.{put, find}
-use Rattle.cc_names.specs.Versions.{place}
-use Rattle.cc_names.specs.declared.changes.Place.{Place}
+use Rattle.cc_names.specs.Versions.{version_id}
+use Rattle.cc_names.specs.declared.changes.VersionId.{VersionId}
 use Rattle.cc_names.specs.declared.rows.ReadOf.{ReadOf}
 use Rattle.cc_names.specs.declared.rows.Deed.{Deed}
 use Rattle.cc_names.specs.declared.rows.Deed.TheVariants as deeds
 use Rattle.legal_history.specs.Base.Rows.{Base, size, deed_at, only_where}
 use Rattle.legal_history.specs.Base.Changes.{tree, targets_of}
 
--- a path, and the row that made the text there, 0 where nothing was there
-abbrev pub Source : Type 0
-Source = List ℕ × ℕ
+-- one of what an object rests on: a path, and the row that made the text there, 0 where nothing was there
+abbrev pub Input : Type 0
+Input = List ℕ × ℕ
 
 -- in byte order of paths, then by rows
-abbrev pub source_cmp : Source → Source → Ordering
-source_cmp = then_cmp (on (λ source. source.0) (slice_cmp nat_cmp)) (on (λ source. source.1) nat_cmp)
+abbrev pub input_cmp : Input → Input → Ordering
+input_cmp = then_cmp (on (λ input. input.0) (slice_cmp nat_cmp)) (on (λ input. input.1) nat_cmp)
 
--- sources in order, each once
-abbrev pub Sources : Type 0
-Sources = List (Source × ℕ)
+-- inputs in order, each once
+abbrev pub Inputs : Type 0
+Inputs = List (Input × ℕ)
 
--- the sources of a list, put among others
-abbrev pub joined_sources : Sources → Sources → Sources
-joined_sources [] others = others
-joined_sources (source ∷ sources) others = joined_sources sources (put source_cmp source.0 source.1 others)
+-- the inputs of a list, put among others
+abbrev pub joined_inputs : Inputs → Inputs → Inputs
+joined_inputs [] others = others
+joined_inputs (input ∷ inputs) others = joined_inputs inputs (put input_cmp input.0 input.1 others)
 
 -- the entries of an object's record; any other row has none
 abbrev pub entries_of_deed : Option Deed → List ReadOf
@@ -44,31 +44,31 @@ is_publish_deed _ = false
 abbrev pub is_publish : Base → ℕ → Bool
 is_publish b id = is_publish_deed (deed_at b id)
 
--- the sources of an entry: those of the object that it names, else the entry itself
-abbrev pub sources_of_entry : Bool → (ℕ → Sources) → ReadOf → Sources
-sources_of_entry true of_object entry = of_object entry.row
-sources_of_entry false of_object entry = ((entry.path, entry.row), entry.row) ∷ []
+-- the inputs of an entry: those of the object that it names, else the entry itself
+abbrev pub inputs_of_entry : Bool → (ℕ → Inputs) → ReadOf → Inputs
+inputs_of_entry true of_object entry = of_object entry.row
+inputs_of_entry false of_object entry = ((entry.path, entry.row), entry.row) ∷ []
 
--- the sources of all entries of a record in a base
-abbrev pub sources_of : Base → (ℕ → Sources) → List ReadOf → Sources
-sources_of b of_object [] = []
-sources_of b of_object (entry ∷ entries) =
-    joined_sources (sources_of_entry (is_publish b entry.row) of_object entry) (sources_of b of_object entries)
+-- the inputs of all entries of a record in a base
+abbrev pub inputs_of : Base → (ℕ → Inputs) → List ReadOf → Inputs
+inputs_of b of_object [] = []
+inputs_of b of_object (entry ∷ entries) =
+    joined_inputs (inputs_of_entry (is_publish b entry.row) of_object entry) (inputs_of b of_object entries)
 
 -- The closure of an object: the entries of its record, each that names an object replaced by that object's closure.
-abbrev pub closure : Base → ℕ → Sources
+abbrev pub closure : Base → ℕ → Inputs
 closure [] id = []
 closure (row ∷ older) id =
-    elim (size older == id) [ true ↦ sources_of older (closure older) (entries_of_deed (Some row.deed)) | false ↦ closure older id ]
+    elim (size older == id) [ true ↦ inputs_of older (closure older) (entries_of_deed (Some row.deed)) | false ↦ closure older id ]
 
 -- whether a version is one of the element
-abbrev pub is_of_element : ℕ → Option Place → Bool
+abbrev pub is_of_element : ℕ → Option VersionId → Bool
 is_of_element e None = false
-is_of_element e (Some place) = place.element == e
+is_of_element e (Some version_id) = version_id.element == e
 
 -- whether a row made a version of the element
 abbrev pub is_version_of : Base → ℕ → ℕ → Bool
-is_version_of b e row = is_of_element e (place (tree b) row)
+is_version_of b e row = is_of_element e (version_id (tree b) row)
 
 -- the greater of a number and another, where there is another
 abbrev pub greater_of : ℕ → Option ℕ → ℕ
@@ -80,19 +80,19 @@ abbrev pub Listing : Type 0
 Listing = List (ℕ × ℕ)
 
 -- a listing with one more version, of which the greatest of each element counts
-abbrev pub with_version_at : ℕ → Option Place → Listing → Listing
+abbrev pub with_version_at : ℕ → Option VersionId → Listing → Listing
 with_version_at row None listing = listing
-with_version_at row (Some place) listing = put nat_cmp place.element (greater_of row (find nat_cmp place.element listing)) listing
+with_version_at row (Some version_id) listing = put nat_cmp version_id.element (greater_of row (find nat_cmp version_id.element listing)) listing
 
--- The version that the row of a source made. Row 0, which says that nothing was at the path, lists none.
-abbrev pub version_listed : Base → ℕ → Option Place
+-- The version that the row of an input made. Row 0, which says that nothing was at the path, lists none.
+abbrev pub version_listed : Base → ℕ → Option VersionId
 version_listed b zero = None
-version_listed b (suc row) = place (tree b) (suc row)
+version_listed b (suc row) = version_id (tree b) (suc row)
 
--- the versions among sources
-abbrev pub listing_of : Base → Sources → Listing
+-- the versions among inputs
+abbrev pub listing_of : Base → Inputs → Listing
 listing_of b [] = []
-listing_of b (source ∷ sources) = with_version_at source.1 (version_listed b source.1) (listing_of b sources)
+listing_of b (input ∷ inputs) = with_version_at input.1 (version_listed b input.1) (listing_of b inputs)
 
 -- What the record of an object lists: of each element the greatest row of the object's closure that is a version of it.
 abbrev pub listing : Base → ℕ → Listing

@@ -2,12 +2,13 @@
 use Rattle.std.specs.Prelude.{◌≡◌, ℕ, zero, suc, ◌+◌, Bool, true, false, not, ◌&&◌, ◌||◌, ◌==◌, Option, Some, None, Result, Ok, Err, List, [], ◌∷◌, is_some, option_and_then}
 use Rattle.std.specs.List.{list_all}
 use Rattle.std.specs.Option.{option_or}
+use Rattle.cc_names.specs.Files.{Files}
 use Rattle.cc_names.specs.References.{one_where}
 use Rattle.cc_names.specs.declared.refusals.ScriptFault.{ScriptFault}
 use Rattle.cc_names.specs.declared.rows.Deed.{Deed}
 use Rattle.cc_names.specs.declared.rows.Deed.TheVariants as deeds
 use Rattle.cc_names.specs.declared.rows.ReadOf.{ReadOf}
-use Rattle.build_script.specs.Run.{Files, Ran, run}
+use Rattle.build_script.specs.Run.{Ran, run}
 use Rattle.legal_history.specs.Base.Rows.{Base, size, deed_at, only_where}
 use Rattle.legal_history.specs.Base.Changes.{live, targets_of}
 use Rattle.legal_history.specs.Base.Closures.{is_publish}

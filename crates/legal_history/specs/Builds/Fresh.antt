@@ -1,6 +1,7 @@
 -- The build from nothing on what a view sees.
 use Rattle.std.specs.Prelude.{ℕ, Bool, Option, Some, None, Result, Ok, Err, is_some, List, [], ◌∷◌, reverse, option_and_then}
 use Rattle.std.specs.Option.{option_or}
+use Rattle.cc_names.specs.Files.{Files}
 use Rattle.cc_names.specs.declared.commands.Macro.{Macro}
 use Rattle.cc_names.specs.declared.refusals.Refusal.{Refusal}
 use Rattle.cc_names.specs.declared.refusals.ScriptFault.{ScriptFault}
@@ -10,7 +11,7 @@ use Rattle.cc_names.specs.declared.steps.UnitEnd.TheVariants.{Failed}
 use Rattle.cc_names.specs.declared.units.Unit.{Unit}
 use Rattle.cc_names.specs.declared.units.UnitScript.{UnitScript}
 use Rattle.cc_names.specs.declared.units.UnitScript.TheVariants as scripts
-use Rattle.build_script.specs.Run.{Files, run}
+use Rattle.build_script.specs.Run.{run}
 use Rattle.make_text.specs.Graphs.{units}
 use Rattle.legal_history.specs.Base.Rows.{Base}
 use Rattle.legal_history.specs.Base.Seen.{file_at, directory_at}

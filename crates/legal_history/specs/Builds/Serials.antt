@@ -2,13 +2,13 @@
 use Rattle.std.specs.Prelude.{not, ℕ, Bool, true, false, Option, Some, None, List, [], ◌∷◌, ◌++◌, find, option_map}
 use Rattle.std.specs.Option.{option_or}
 use Rattle.std.specs.List.{list_any}
-use Rattle.cc_names.specs.Paths.{root}
 use Rattle.cc_names.specs.declared.refusals.UnitFault.TheVariants.{NoRule, NoDirectory, ScriptTooLong}
 use Rattle.cc_names.specs.declared.steps.UnitEnd.{UnitEnd}
 use Rattle.cc_names.specs.declared.steps.UnitEnd.TheVariants.{Kept, Failed, Blocked, Bare}
 use Rattle.cc_names.specs.declared.units.Unit.{Unit}
 use Rattle.cc_names.specs.declared.units.UnitScript.{UnitScript}
 use Rattle.cc_names.specs.declared.units.UnitScript.TheVariants as scripts
+use Rattle.make_text.specs.Graphs.{first_target}
 use Rattle.legal_history.specs.Base.Rows.{only_where}
 use Rattle.legal_history.specs.Base.Closures.{is_among}
 use Rattle.legal_history.specs.Commands.FileLines.{parent}
@@ -46,11 +46,6 @@ outside is_directory (path ∷ paths) =
 abbrev pub no_directory : (List ℕ → Bool) → List (List ℕ) → UnitScript → Option UnitEnd
 no_directory is_directory targets scripts.Bare = None
 no_directory is_directory targets script = option_map (λ path. Failed (NoDirectory path)) (outside is_directory targets)
-
--- the first target of a unit, which has one
-abbrev pub first_target : List (List ℕ) → List ℕ
-first_target [] = root
-first_target (target ∷ targets) = target
 
 -- a unit without a script is bare, and one whose script is too long fails
 abbrev pub no_script : List (List ℕ) → UnitScript → Option UnitEnd

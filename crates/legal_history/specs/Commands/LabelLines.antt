@@ -4,7 +4,7 @@ use Rattle.std.specs.Option.{option_or}
 use Rattle.cc_names.specs.Branches.{branch_behind}
 use Rattle.cc_names.specs.Labels.{holder}
 use Rattle.cc_names.specs.References.{held_at}
-use Rattle.cc_names.specs.Versions.{is_number, numbered, place}
+use Rattle.cc_names.specs.Versions.{is_number, numbered, version_id}
 use Rattle.cc_names.specs.declared.commands.VersionName.{VersionName}
 use Rattle.cc_names.specs.declared.refusals.Refusal.{Refusal}
 use Rattle.cc_names.specs.declared.refusals.Refusal.TheVariants as refusals
@@ -14,7 +14,7 @@ use Rattle.cc_names.specs.declared.rows.TypeKind.{TypeKind}
 use Rattle.cc_names.specs.declared.selection.Picked.{Picked}
 use Rattle.legal_history.specs.Base.Rows.{Base, only_where}
 use Rattle.legal_history.specs.Base.Changes.{tree, labels, held}
-use Rattle.legal_history.specs.Base.Closures.{Sources, closure, listing}
+use Rattle.legal_history.specs.Base.Closures.{Inputs, closure, listing}
 use Rattle.legal_history.specs.Base.Conditions.{has_label, arrow_row}
 use Rattle.legal_history.specs.Commands.Decisions.{Scene, Decision, past, makes, answers}
 use Rattle.legal_history.specs.Commands.Found.{for_selected, for_element, for_object, for_version}
@@ -73,11 +73,11 @@ rmlabel_of s label path e = makes s (rmlabel_tests s label path e) (deeds.Unlabe
 abbrev pub rmlabel : Scene → List ℕ → List ℕ → List ℕ → Result Decision Refusal
 rmlabel s v label path = past (needs_view s.base v ∷ []) (for_element path (at s.base v path) (rmlabel_of s label path))
 
--- the first path among sources whose row is above 0 and no version
-abbrev pub outsider_among : Base → Sources → Option (List ℕ)
+-- the first path among inputs whose row is above 0 and no version
+abbrev pub outsider_among : Base → Inputs → Option (List ℕ)
 outsider_among b [] = None
-outsider_among b (source ∷ sources) =
-    option_or (only_where (nat_lt 0 source.1 && is_none (place (tree b) source.1)) (Some source.0.0)) (outsider_among b sources)
+outsider_among b (input ∷ inputs) =
+    option_or (only_where (nat_lt 0 input.1 && is_none (version_id (tree b) input.1)) (Some input.0.0)) (outsider_among b inputs)
 
 -- the first path of an object's closure that is there and no version
 abbrev pub outsider : Base → ℕ → Option (List ℕ)

@@ -5,7 +5,7 @@ use Rattle.std.specs.FinMap.Entries.{is_sorted}
 use Rattle.std.specs.List.{list_any}
 use Rattle.std.specs.Ordering.{nat_cmp}
 use Rattle.cc_names.specs.Formed.{Plain}
-use Rattle.cc_names.specs.References.{Held, place_cmp, held_at, is_held, is_held_by, count}
+use Rattle.cc_names.specs.References.{Held, view_path_cmp, held_at, is_held, is_held_by, count}
 use Rattle.cc_names.specs.declared.rows.Deed.TheVariants as deeds
 use Rattle.legal_history.specs.Base.Rows.{Base, size, first_rows, row_at}
 use Rattle.legal_history.specs.Base.Catalogs.{catalog_of, named, own_of}
@@ -73,10 +73,10 @@ abbrev pub HeldObjectIsLive : Type 0
 HeldObjectIsLive = (b : Base) (v path : List ℕ) (id : ℕ) → is_base b ≡ true
     → held_at (held b) v path ≡ Some id → is_some (live b id) ≡ true
 
--- The references of a base stand in the order of views and paths, each place once; and an object is counted once for each
+-- The references of a base stand in the order of views and paths, each of them once; and an object is counted once for each
 -- view that holds it, at however many paths.
 abbrev pub ReferencesAreCountedByViewsOrder : Type 0
-ReferencesAreCountedByViewsOrder = (b : Base) → is_sorted place_cmp (held b) ≡ true
+ReferencesAreCountedByViewsOrder = (b : Base) → is_sorted view_path_cmp (held b) ≡ true
 
 -- The same law, its part *count*.
 abbrev pub ReferencesAreCountedByViewsCount : Type 0

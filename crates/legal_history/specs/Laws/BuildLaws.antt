@@ -1,5 +1,6 @@
 -- What holds of the builds of legal stories. Each is promised by a function of `laws::builds`.
 use Rattle.std.specs.Prelude.{◌≡◌, ℕ, ◌+◌, List, ◌++◌, Some, None, is_some, true, false}
+use Rattle.cc_names.specs.Commands.{builds}
 use Rattle.cc_names.specs.References.{held_at}
 use Rattle.cc_names.specs.declared.commands.Command.{Command}
 use Rattle.cc_names.specs.declared.rows.Tag.{Tag}
@@ -12,7 +13,7 @@ use Rattle.legal_history.specs.Builds.Choices.{here, visible}
 use Rattle.legal_history.specs.Stories.Commanded.{IsOfCommand}
 use Rattle.legal_history.specs.Builds.Freshness.{AgreesSoFar}
 use Rattle.legal_history.specs.Stories.Growth.{StaysTheBuild}
-use Rattle.legal_history.specs.Laws.Ends.{IsLeft, IsRefused, builds}
+use Rattle.legal_history.specs.Laws.Ends.{IsLeft, IsRefused}
 use Rattle.legal_history.specs.Laws.FromNothing.{EndsAsFromNothing}
 use Rattle.legal_history.specs.Laws.Given.{HoldsGiven}
 use Rattle.legal_history.specs.Builds.Replied.{reply_of, reply_from_nothing}

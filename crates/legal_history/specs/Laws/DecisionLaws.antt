@@ -3,14 +3,14 @@ use Rattle.std.specs.Prelude.{◌≡◌, ℕ, ◌<◌, ◌↔◌, ◌==◌, Bool
 use Rattle.std.specs.List.{list_any}
 use Rattle.std.specs.List.Sorted.{IsStrictlyIncreasing}
 use Rattle.cc_names.specs.References.{held_at}
-use Rattle.cc_names.specs.Versions.{place}
+use Rattle.cc_names.specs.Versions.{version_id}
 use Rattle.cc_names.specs.declared.commands.Command.{Command}
 use Rattle.cc_names.specs.declared.commands.Command.TheVariants as commands
 use Rattle.cc_names.specs.declared.rows.Deed.{Deed}
 use Rattle.cc_names.specs.declared.rows.Deed.TheVariants as deeds
 use Rattle.cc_names.specs.declared.rows.Placed.{Placed}
 use Rattle.legal_history.specs.Base.Changes.{held, targets_of, tree}
-use Rattle.legal_history.specs.Base.Closures.{Source, closure, is_among, listed}
+use Rattle.legal_history.specs.Base.Closures.{Input, closure, is_among, listed}
 use Rattle.legal_history.specs.Commands.Decisions.{Scene, Makes}
 use Rattle.legal_history.specs.Base.Fits.{fits, is_base}
 use Rattle.legal_history.specs.Laws.Dues.{is_due_object}
@@ -30,8 +30,8 @@ ScrubListsWhatIsDue = (s : Scene) (age : ℕ) (objects : List ℕ) (id : ℕ)
     → list_any (λ object. object == id) objects ≡ is_due_object s.base s.moment age id
 
 -- The row that is decided to label the record of the object that a view holds at a path places the label on exactly the
--- versions that the record lists: of each element the greatest one among the sources of the object's closure, in ascending
--- order of elements, each element once. A config spec selects the same ones by the record. Each source whose row is above
+-- versions that the record lists: of each element the greatest one among the inputs of the object's closure, in ascending
+-- order of elements, each element once. A config spec selects the same ones by the record. Each input whose row is above
 -- 0 is a version then.
 abbrev pub RecordIsLabelledAsListedLabel : Type 0
 RecordIsLabelledAsListedLabel = (s : Scene) (v path label name : List ℕ) (replace : Bool) (placed : List Placed)
@@ -66,7 +66,7 @@ RecordIsLabelledAsListedSelected = (s : Scene) (v path label name : List ℕ) (r
 
 -- The same law, its part *versions*.
 abbrev pub RecordIsLabelledAsListedVersions : Type 0
-RecordIsLabelledAsListedVersions = (s : Scene) (v path label name : List ℕ) (replace : Bool) (placed : List Placed) (id : ℕ) (source : Source × ℕ)
+RecordIsLabelledAsListedVersions = (s : Scene) (v path label name : List ℕ) (replace : Bool) (placed : List Placed) (id : ℕ) (input : Input × ℕ)
     → decision s (commands.MklabelConfig v replace path label) ≡ Ok (Makes (deeds.Labels name placed))
-    → held_at (held s.base) v path ≡ Some id → Contains (closure s.base id) source → 0 < source.1
-    → is_some (place (tree s.base) source.1) ≡ true
+    → held_at (held s.base) v path ≡ Some id → Contains (closure s.base id) input → 0 < input.1
+    → is_some (version_id (tree s.base) input.1) ≡ true

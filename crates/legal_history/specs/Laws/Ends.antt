@@ -1,8 +1,6 @@
 -- The ends of a story in their order, and how a build is left.
 use Rattle.std.specs.Bool.{⊤}
-use Rattle.std.specs.Prelude.{◌≡◌, ℕ, ◌≤◌, Bool, true, false, ◌||◌, Option, Some, Err, List, [], ◌∷◌}
-use Rattle.cc_names.specs.declared.commands.Command.{Command}
-use Rattle.cc_names.specs.declared.commands.Command.TheVariants as commands
+use Rattle.std.specs.Prelude.{◌≡◌, ℕ, ◌≤◌, true, ◌||◌, Option, Some, Err, List, [], ◌∷◌}
 use Rattle.cc_names.specs.declared.refusals.Refusal.{Refusal}
 use Rattle.cc_names.specs.declared.rows.Tag.{Tag}
 use Rattle.cc_names.specs.declared.steps.Step.TheVariants as steps
@@ -25,11 +23,6 @@ AreRising opened [] = ⊤
 AreRising opened (Committed row tick ∷ ends) = (rises (ticks_of opened ends) tick ≡ true) × AreRising opened ends
 AreRising opened (Faulted left faults tick ∷ ends) =
     (rises (ticks_of opened ends) tick ≡ true) × RoseBy (faults_of opened ends) faults × AreRising opened ends
-
--- whether a command builds
-abbrev pub builds : Command → Bool
-builds (commands.Clearmake v file own_only rebuild jobs macros goals) = true
-builds command = false
 
 -- The command of this tag is finished by its refusal.
 pub record IsRefused (s : State) (x : Told) (tag : Tag) : Type 0 where

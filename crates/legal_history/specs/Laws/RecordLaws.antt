@@ -2,7 +2,7 @@
 use Rattle.std.specs.Prelude.{◌≡◌, ℕ, List, None, is_some, true}
 use Rattle.std.specs.FinMap.Entries.{find}
 use Rattle.legal_history.specs.Base.Rows.{Base}
-use Rattle.legal_history.specs.Base.Closures.{closure, source_cmp}
+use Rattle.legal_history.specs.Base.Closures.{closure, input_cmp}
 use Rattle.legal_history.specs.Base.Fits.{is_base}
 use Rattle.legal_history.specs.Laws.Objects.{outputs_of}
 use Rattle.legal_history.specs.Laws.Selected.{IsSelected}
@@ -15,9 +15,9 @@ abbrev pub CoveredRecordRunsAgain : Type 0
 CoveredRecordRunsAgain = (b : Base) (v : List ℕ) (id : ℕ) → is_base b ≡ true → is_true b id ≡ true
     → uncovered b v id ≡ None → again b v id ≡ outputs_of b id
 
--- A view that selects by the record of an object covers the record: where each source of the object is either absent there
+-- A view that selects by the record of an object covers the record: where each input of the object is either absent there
 -- as it was, or the one version of an element in the closure that the view sees there by the rule `-config` of the object.
 abbrev pub SelectionByARecordCovers : Type 0
 SelectionByARecordCovers = (b : Base) (v target : List ℕ) (id : ℕ) → is_base b ≡ true
-    → ((path : List ℕ) (row : ℕ) → is_some (find source_cmp (path, row) (closure b id)) ≡ true → IsSelected b v target id path row)
+    → ((path : List ℕ) (row : ℕ) → is_some (find input_cmp (path, row) (closure b id)) ≡ true → IsSelected b v target id path row)
     → uncovered b v id ≡ None

@@ -1,4 +1,4 @@
--- How a view that selects by the record of an object sees the sources of that object.
+-- How a view that selects by the record of an object sees the inputs of that object.
 use Rattle.std.specs.Prelude.{◌≡◌, ℕ, ◌<◌, true, Some, None, is_some, List}
 use Rattle.std.specs.FinMap.Entries.{find}
 use Rattle.cc_names.specs.Paths.{names_of}
@@ -8,7 +8,7 @@ use Rattle.cc_names.specs.declared.selection.Seen.TheVariants.{Element}
 use Rattle.cc_names.specs.declared.selection.Selector.TheVariants.{Config}
 use Rattle.spec_text.specs.Rules.{deciding}
 use Rattle.legal_history.specs.Base.Rows.{Base}
-use Rattle.legal_history.specs.Base.Closures.{Source, source_cmp, closure, is_version_of}
+use Rattle.legal_history.specs.Base.Closures.{Input, input_cmp, closure, is_version_of}
 use Rattle.legal_history.specs.Base.Seen.{at, file_at, rules, sources}
 
 -- A view sees element e at a path by the record of an object: the rule that decides there is `-config TARGET@@ID`.
@@ -22,9 +22,9 @@ pub record SeesByRecord (b : Base) (v target : List ℕ) (id : ℕ) (path : List
 
 -- a row is the one version of element e in an object's closure
 pub record IsOnlyVersion (b : Base) (id e row : ℕ) : Type 0 where
-  pub only : (source : Source) → is_some (find source_cmp source (closure b id)) ≡ true → is_version_of b e source.1 ≡ true → source.1 ≡ row
+  pub only : (input : Input) → is_some (find input_cmp input (closure b id)) ≡ true → is_version_of b e input.1 ≡ true → input.1 ≡ row
 
--- A source is selected by the record: nothing was there and the view sees nothing, or it is the one version of an element
+-- An input is selected by the record: nothing was there and the view sees nothing, or it is the one version of an element
 -- that the view sees there by the record.
 pub data IsSelected (b : Base) (v target : List ℕ) (id : ℕ) (path : List ℕ) (row : ℕ) : Type 0 where
   WasAbsent : row ≡ 0 → file_at b v path ≡ None → IsSelected b v target id path row

@@ -125,7 +125,7 @@ diffcr s v path w second =
     past (needs_view s.base v ∷ needs_view s.base w ∷ [])
     (for_object path (held_at (held s.base) v path) (λ one. answers_of_object s w second (diffcr_text s.base one)))
 
--- `covers W V P`: whether view W sees each source of the object that V holds at P
+-- `covers W V P`: whether view W sees each input of the object that V holds at P
 abbrev pub covers : Scene → List ℕ → List ℕ → List ℕ → Result Decision Refusal
 covers s seer v path =
     past (needs_view s.base seer ∷ needs_view s.base v ∷ [])

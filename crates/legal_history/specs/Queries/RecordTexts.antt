@@ -12,7 +12,7 @@ use Rattle.cc_names.specs.declared.rows.Deed.TheVariants as deeds
 use Rattle.cc_names.specs.declared.rows.ReadOf.{ReadOf}
 use Rattle.legal_history.specs.Base.Rows.{Base, deed_at, only_where}
 use Rattle.legal_history.specs.Base.Changes.{targets_of}
-use Rattle.legal_history.specs.Base.Closures.{Sources, closure, entries_of_deed}
+use Rattle.legal_history.specs.Base.Closures.{Inputs, closure, entries_of_deed}
 use Rattle.legal_history.specs.Builds.Reuse.{agrees, are_same_paths}
 use Rattle.legal_history.specs.Base.Seen.{file_at}
 use Rattle.legal_history.specs.Queries.VersionNames.{line, row_name}
@@ -51,9 +51,9 @@ abbrev pub Paths : Type 0
 Paths = List (List ℕ × List ℕ)
 
 -- the paths of a record, put among others
-abbrev pub paths_of : List ReadOf → Paths → Paths
-paths_of [] paths = paths
-paths_of (entry ∷ entries) paths = put (slice_cmp nat_cmp) entry.path entry.path (paths_of entries paths)
+abbrev pub with_paths : List ReadOf → Paths → Paths
+with_paths [] paths = paths
+with_paths (entry ∷ entries) paths = put (slice_cmp nat_cmp) entry.path entry.path (with_paths entries paths)
 
 -- a path on one side of a difference
 abbrev pub side_name : Base → List ℕ → ℕ → List ℕ
@@ -87,13 +87,13 @@ abbrev pub diffcr_text : Base → ℕ → ℕ → List ℕ
 diffcr_text b one two =
     unless_same (are_same_paths (targets_of b one) (targets_of b two)) (line (codes "targets differ"))
     ++ unless_same (bytes_eq (recorded_script b one) (recorded_script b two)) (line (codes "script differs"))
-    ++ concat (map (λ path. path_lines b (record_of b one) (record_of b two) path.0) (paths_of (record_of b one) (paths_of (record_of b two) [])))
+    ++ concat (map (λ path. path_lines b (record_of b one) (record_of b two) path.0) (with_paths (record_of b one) (with_paths (record_of b two) [])))
 
--- the first path among sources that the view sees with another row; row 0 stands for none
-abbrev pub uncovered_among : Base → List ℕ → Sources → Option (List ℕ)
+-- the first path among inputs that the view sees with another row; row 0 stands for none
+abbrev pub uncovered_among : Base → List ℕ → Inputs → Option (List ℕ)
 uncovered_among b v [] = None
-uncovered_among b v (source ∷ sources) =
-    option_or (only_where (not (agrees source.1 (file_at b v source.0.0))) (Some source.0.0)) (uncovered_among b v sources)
+uncovered_among b v (input ∷ inputs) =
+    option_or (only_where (not (agrees input.1 (file_at b v input.0.0))) (Some input.0.0)) (uncovered_among b v inputs)
 
 -- The first path of an object's closure whose row is not the one that the view sees there. Where there is none, what the
 -- view sees covers the record.

@@ -1,12 +1,13 @@
 -- That an active build is the one of its lane's command.
 use Rattle.std.specs.Prelude.{◌≡◌, ℕ, Option, Some, Ok, List, option_and_then}
+use Rattle.cc_names.specs.Commands.{lane_at}
 use Rattle.cc_names.specs.declared.commands.Command.{Command}
 use Rattle.cc_names.specs.declared.commands.Command.TheVariants as commands
 use Rattle.cc_names.specs.declared.commands.Macro.{Macro}
 use Rattle.legal_history.specs.Base.Rows.{first_rows}
 use Rattle.legal_history.specs.Builds.Active.{Build}
 use Rattle.legal_history.specs.Builds.Fresh.{all_finished, fresh}
-use Rattle.legal_history.specs.Stories.States.{State, command_behind, done_of, lane_at, next_tag}
+use Rattle.legal_history.specs.Stories.States.{State, command_behind, done_of, next_tag}
 
 -- the command of a lane behind those that it has finished
 abbrev pub command_of : State → ℕ → Option Command

@@ -1,7 +1,8 @@
 -- How far the lanes of the last phase have come.
 use Rattle.std.specs.Prelude.{◌≡◌, ℕ, ◌≤◌, Option, Some, None, length}
+use Rattle.cc_names.specs.Commands.{lane_at}
 use Rattle.cc_names.specs.declared.commands.Lane.{Lane}
-use Rattle.legal_history.specs.Stories.States.{State, done_of, lane_at}
+use Rattle.legal_history.specs.Stories.States.{State, done_of}
 
 -- how many commands a lane has
 abbrev pub count_of : Option Lane → ℕ

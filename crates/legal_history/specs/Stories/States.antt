@@ -1,7 +1,8 @@
 -- What a story has come to: the state that its steps leave, one after the other.
-use Rattle.std.specs.Prelude.{ℕ, zero, suc, ◌+◌, Bool, true, ◌&&◌, ◌==◌, Option, Some, None, Result, is_none, List, [], ◌∷◌, length, slice_get, option_map, option_and_then, unwrap_or}
+use Rattle.std.specs.Prelude.{ℕ, ◌+◌, Bool, true, ◌&&◌, ◌==◌, Option, Some, None, Result, is_none, List, [], ◌∷◌, length, slice_get, option_map, option_and_then, unwrap_or}
 use Rattle.std.specs.Ordering.{nat_cmp}
 use Rattle.std.specs.FinMap.Entries.{put, find}
+use Rattle.cc_names.specs.Commands.{lane_at}
 use Rattle.cc_names.specs.Formed.{Plain}
 use Rattle.cc_names.specs.declared.commands.Command.{Command}
 use Rattle.cc_names.specs.declared.commands.Lane.{Lane}
@@ -62,11 +63,6 @@ done_of done lane = unwrap_or (find nat_cmp lane done) 0
 -- one more command of the lane is finished
 abbrev pub with_done : List (ℕ × ℕ) → ℕ → List (ℕ × ℕ)
 with_done done lane = put nat_cmp lane (done_of done lane + 1) done
-
--- the lane of this number, counted from 1
-abbrev pub lane_at : Phase → ℕ → Option Lane
-lane_at phase zero = None
-lane_at phase (suc n) = slice_get phase.lanes n
 
 -- the command of a lane behind those that are finished
 abbrev pub command_behind : ℕ → Lane → Option Command

@@ -3,7 +3,7 @@ use Rattle.std.proofs.lemmas.Result.{err_from_is_err_and}
 use Rattle.build_script.specs.Progress.{state_of}
 use Rattle.build_script.specs.Run.{after_lines}
 use Rattle.build_script.specs.declared.lines.Line.{Line}
-use Rattle.build_script.proofs.CarriedLemmas.{carried_step, carried_stop}
+use Rattle.build_script.proofs.CarriedLemmas.{carried_step, carried_halt}
 use Rattle.build_script.proofs.RunLemmas.{item_at}
 use Rattle.build_script.proofs.run.run_lines.Goals as goal
 
@@ -11,7 +11,7 @@ pub returns-in_err-carry_out : goal.returns-in_err-carry_out
 returns-in_err-carry_out g c =
     let p = err_from_is_err_and c.from_residual.result c.from_residual.ensures.1 in
     let cut = item_at c.args.lines.now c.loop-line.line-index c.line-item.result c.line-item.is c.loop-line-test.true in
-    rw (p.1, p.2) (carried_stop g.met.F.Files.transitive (after_lines c.args.targets.now.keys (drop (c.loop-line.line-index + 1) c.args.lines.now)) _ c.loop-line.invariant
+    rw (p.1, p.2) (carried_halt g.met.F.Files.transitive (after_lines c.args.targets.now.keys (drop (c.loop-line.line-index + 1) c.args.lines.now)) _ c.loop-line.invariant
     (ap (λ (lines : List Line). after_lines c.args.targets.now.keys lines (state_of c.loop-line.progress)) cut) c.in_err-carry_out.ensures)
 
 pub loop-line-preserved : goal.loop-line-preserved

@@ -1,6 +1,6 @@
-use Rattle.std.proofs.Common.{◌≡◌, ◌+◌, ◌≤◌, ◌∷◌, ◌++◌, List, ℕ, Some, Ok, length, length-append, sym, ap, subst, ◌∙◌, arith}
+use Rattle.std.proofs.Common.{◌≡◌, ◌+◌, ◌≤◌, ◌∷◌, ◌++◌, List, ℕ, Ok, length, length-append, sym, ap, subst, ◌∙◌, arith}
 use Rattle.std.proofs.lemmas.Grind.{common_steps}
-use Rattle.cc_names.specs.PathBytes.{HoldsPath}
+use Rattle.cc_names.specs.Paths.{IsPath}
 use Rattle.cc_names.proofs.Joins.{join-below, join-long, unless_long-short, holds-join}
 use Rattle.cc_names.proofs.paths.join_bytes.Goals as goal
 
@@ -24,4 +24,4 @@ returns-clause-path c =
     let name = c.args.name.now in
     let whole : c.of.result ≡ directory ++ 47 ∷ name = grind (arith, common_steps) in
     let given = unless_long-short (directory ++ 47 ∷ name) (short directory name c.if-length-gt1024.false) in
-    subst (λ path. HoldsPath (Some path)) (sym whole) (holds-join directory name _ c.requires.path c.requires.below c.requires.name given)
+    subst IsPath (sym whole) (holds-join directory name _ c.requires.path c.requires.below c.requires.name given)

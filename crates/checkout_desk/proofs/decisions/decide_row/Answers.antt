@@ -1,7 +1,7 @@
 -- The command is the one that was matched.
 use Rattle.std.proofs.Common.{sym, subst}
+use Rattle.cc_names.specs.Commands.{view_of}
 use Rattle.legal_history.specs.Commands.Lines.{decision}
-use Rattle.checkout_desk.specs.Commands.{view_of}
 use Rattle.checkout_desk.specs.Deciding.{Sees, Decides}
 use Rattle.checkout_desk.proofs.decisions.decide_row.Goals as goal
 

@@ -9,4 +9,4 @@ abbrev pub decreases-join+arg3 : goal.decreases-join+arg3
 decreases-join+arg3 g l = 2 * length l.here.now + 2
 
 abbrev pub decreases-build_shares : goal.decreases-build_shares
-decreases-build_shares g l = 2 * length l.workers.now + 1
+decreases-build_shares g l = 2 * length l.builders.now + 1

@@ -3,7 +3,7 @@ use Rattle.std.proofs.Common.{◌≤◌, ℕ, suc, max, List, ap, sym, subst, �
 use Rattle.std.specs.Option.{option_copied}
 use Rattle.legal_history.specs.Builds.Reuse.{agrees}
 use Rattle.cleartool.specs.Covering.{above, least_of_all}
-use Rattle.cleartool.proofs.LeastSources.{entry_missed, entry_object, one_above}
+use Rattle.cleartool.proofs.LeastInputs.{entry_missed, entry_object, one_above}
 use Rattle.cleartool.proofs.covered_records.add_entry.Goals as goal
 
 pub returns-then-is_publish-clause-least : goal.returns-then-is_publish-clause-least

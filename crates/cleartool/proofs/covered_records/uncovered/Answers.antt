@@ -5,7 +5,7 @@ use Rattle.std.specs.Option.{option_copied}
 use Rattle.std.specs.Ordering.{nat_cmp}
 use Rattle.cc_names.specs.declared.rows.ReadOf.{ReadOf}
 use Rattle.cleartool.specs.Covering.{least_of, least_of_all, least_of_entries, lesser}
-use Rattle.cleartool.proofs.LeastSources.{object_taken, uncovered_least, walk_falls}
+use Rattle.cleartool.proofs.LeastInputs.{object_taken, uncovered_least, walk_falls}
 use Rattle.cleartool.proofs.LesserPaths.{lesser_none}
 use Rattle.cleartool.proofs.covered_records.uncovered.Goals as goal
 

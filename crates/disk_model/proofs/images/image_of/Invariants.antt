@@ -4,10 +4,10 @@ use Rattle.disk_model.specs.Records.{device_of}
 use Rattle.disk_model.specs.Picks.{IsPicture}
 use Rattle.disk_model.proofs.images.image_of.Given as goal
 
-abbrev pub invariant-loop-entry : goal.invariant-loop-entry
-invariant-loop-entry l = record {
+abbrev pub invariant-loop-traced : goal.invariant-loop-traced
+invariant-loop-traced l = record {
   before : l.made < l.call;
   follows : (journal objects : List ℕ) → first_of l.file (uncalled journal objects) ≡ l.first
-      → IsPicture (file_of l.file (device_of journal objects (take l.entry-index l.entries) 0)) l.picture.bytes.items l.picture.image.items
-      × (l.made ≡ length (device_of journal objects (take l.entry-index l.entries) 0).calls);
+      → IsPicture (file_of l.file (device_of journal objects (take l.traced-index l.trace) 0)) l.picture.bytes.items l.picture.image.items
+      × (l.made ≡ length (device_of journal objects (take l.traced-index l.trace) 0).calls);
 }

@@ -1,4 +1,4 @@
-use Rattle.std.proofs.Common.{◌≡◌, ◌≤◌, true, [], ◌∷◌, ◌++◌, get_or, vec_len, vec_capacity, refl, sym, ◌∙◌, arith, rules}
+use Rattle.std.proofs.Common.{◌≡◌, true, [], ◌∷◌, ◌++◌, get_or, refl, sym, ◌∙◌, arith, rules}
 use Rattle.std.specs.List.{list_any}
 use Rattle.std.proofs.lemmas.List.{get_or_default}
 use Rattle.std.proofs.lemmas.Bool.Decides.{nat_tests}
@@ -17,20 +17,20 @@ invariant_of-self c =
     let all = c.self.inside.held.items in
     let p = c.in-Some.place in
     let on = c.index_mut-held.result.now in
-    let held : Held = record { label = on.label; element = on.element; namesake = on.namesake; moves = c.push.new.self } in
+    let held : Held = record { label = on.label; element = on.element; namesake = on.namesake; moves = c.push_reserved.new.self } in
     let place : IsPlaceOf c.args.label.now c.args.element all p = search rules in
     let there : get_or all p on ≡ on = search rules in
     let at : (d : Held) → get_or all p d ≡ on = λ d. get_or_default all p d on place.within ∙ there in
     let same : (d : Held) → SameHead held (get_or all p d) = λ d. rw (at d) (record { label = refl; element = refl; namesake = refl }) in
-    let items : c.push.new.self.items ≡ on.moves.items ++ c.args.change ∷ [] = c.in-Ok.ensures.items in
+    let items : c.push_reserved.new.self.items ≡ on.moves.items ++ c.args.change ∷ [] = c.push_reserved.ensures.items in
     let more : (d : Held) → held.moves.items ≡ (get_or all p d).moves.items ++ c.args.change ∷ [] = λ d. rw (at d) items in
     let above : IsAbove c.args.change.row (rows_of_pair c.args.label.now c.args.element (all_changes all)) = rw (← c.self.view_is) at c.requires.above in
     moves_set all _ c.self.invariant p held place.within same
     (falls_more all _ c.self.invariant c.args.label.now c.args.element p place c.args.change held on (more on) above)
 
 -- there is room for it
-pub unreachable-requires : goal.unreachable-requires
-unreachable-requires c =
+pub push_reserved-requires : goal.push_reserved-requires
+push_reserved-requires c =
     let all = c.self.inside.held.items in
     let p = c.in-Some.place in
     let on = c.index_mut-held.result.now in
@@ -40,12 +40,11 @@ unreachable-requires c =
     let room : has_room (get_or all p on) ≡ true =
     ready_room c.args.label.now c.args.element all p on place.within (others_fail all _ c.self.invariant c.args.label.now c.args.element p place) ready in
     let here : has_room on ≡ true = rw there at room in
-    let full : vec_capacity on.moves ≤ vec_len on.moves = c.in-Err.ensures.full in
     grind (arith, nat_tests)
 
 -- a label that is ready on an element stands there
-pub unreachable-requires-in-None : goal.unreachable-requires-in-None
-unreachable-requires-in-None c =
+pub unreachable-requires : goal.unreachable-requires
+unreachable-requires c =
     let all = c.self.inside.held.items in
     let absent : HasNoPlace c.args.label.now c.args.element all = search rules in
     let unready = none_ready c.args.label.now c.args.element all absent.none in
@@ -58,12 +57,12 @@ returns c =
     let all = c.self.inside.held.items in
     let p = c.in-Some.place in
     let on = c.index_mut-held.result.now in
-    let held : Held = record { label = on.label; element = on.element; namesake = on.namesake; moves = c.push.new.self } in
+    let held : Held = record { label = on.label; element = on.element; namesake = on.namesake; moves = c.push_reserved.new.self } in
     let place : IsPlaceOf c.args.label.now c.args.element all p = search rules in
     let there : get_or all p on ≡ on = search rules in
     let at : (d : Held) → get_or all p d ≡ on = λ d. get_or_default all p d on place.within ∙ there in
     let same : (d : Held) → SameHead held (get_or all p d) = λ d. rw (at d) (record { label = refl; element = refl; namesake = refl }) in
-    let items : c.push.new.self.items ≡ on.moves.items ++ c.args.change ∷ [] = c.in-Ok.ensures.items in
+    let items : c.push_reserved.new.self.items ≡ on.moves.items ++ c.args.change ∷ [] = c.push_reserved.ensures.items in
     let more : (d : Held) → held.moves.items ≡ (get_or all p d).moves.items ++ c.args.change ∷ [] = λ d. rw (at d) items in
     rw (← c.self.view_is) (record {
       pairs = added all _ c.self.invariant c.args.label.now c.args.element p place c.args.change held same more;

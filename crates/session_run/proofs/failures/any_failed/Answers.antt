@@ -3,8 +3,8 @@ use Rattle.std.specs.List.{list_any}
 use Rattle.std.proofs.lemmas.List.{at_drop_all}
 use Rattle.legal_history.specs.Stories.Steps.{state_of}
 use Rattle.base_core.specs.Story.Replying.{replies_of}
-use Rattle.session_run.specs.Rendered.{is_failure, lanes_fail}
-use Rattle.session_run.proofs.FailedLanes.{first_fails}
+use Rattle.session_run.specs.Story.Rendered.{is_failure, lanes_fail}
+use Rattle.session_run.proofs.Story.FailedLanes.{first_fails}
 use Rattle.session_run.proofs.failures.any_failed.Goals as goal
 
 pub loop-index-preserved : goal.loop-index-preserved

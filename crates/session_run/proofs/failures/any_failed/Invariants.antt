@@ -1,7 +1,7 @@
 use Rattle.std.proofs.Common.{◌≡◌, ◌+◌, drop}
 use Rattle.legal_history.specs.Stories.Steps.{state_of}
 use Rattle.base_core.specs.Story.Replying.{replies_of}
-use Rattle.session_run.specs.Rendered.{lanes_fail}
+use Rattle.session_run.specs.Story.Rendered.{lanes_fail}
 use Rattle.session_run.proofs.failures.any_failed.Given as goal
 
 abbrev pub invariant-loop-index : goal.invariant-loop-index

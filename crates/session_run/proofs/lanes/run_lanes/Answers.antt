@@ -1,7 +1,7 @@
 -- the lanes take turns until each is finished
 use Rattle.base_core.proofs.Story.Counts.{keeps_further}
-use Rattle.session_run.proofs.PhaseSteps.{lanes_go_further, lanes_start}
-use Rattle.session_run.proofs.RoundSteps.{rounds_end}
+use Rattle.session_run.proofs.Running.PhaseSteps.{lanes_go_further, lanes_start}
+use Rattle.session_run.proofs.Running.RoundSteps.{rounds_end}
 use Rattle.session_run.proofs.lanes.run_lanes.Goals as goal
 
 pub returns-in_err-turns-clause-goes : goal.returns-in_err-turns-clause-goes

@@ -1,7 +1,7 @@
 use Rattle.base_core.specs.Story.Counted.{KeepsCount}
 use Rattle.legal_history.specs.Stories.Steps.{state_of}
-use Rattle.session_run.specs.Lanes.{GoesInLanes}
-use Rattle.session_run.specs.Turns.{StandAt, turns_left}
+use Rattle.session_run.specs.Running.Lanes.{GoesInLanes}
+use Rattle.session_run.specs.Running.Turns.{StandAt, turns_left}
 use Rattle.session_run.proofs.lanes.run_lanes.Given as goal
 
 abbrev pub invariant-loop-turns : goal.invariant-loop-turns

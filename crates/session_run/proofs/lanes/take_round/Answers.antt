@@ -1,8 +1,8 @@
 -- the lanes take their turns, one after the other
 use Rattle.std.proofs.Common.{◌∙◌, ◌+◌}
 use Rattle.base_core.proofs.Story.Counts.{keeps_further}
-use Rattle.session_run.proofs.PhaseSteps.{lanes_go_on}
-use Rattle.session_run.proofs.RoundSteps.{round_on}
+use Rattle.session_run.proofs.Running.PhaseSteps.{lanes_go_on}
+use Rattle.session_run.proofs.Running.RoundSteps.{round_on}
 use Rattle.session_run.proofs.lanes.take_round.Goals as goal
 
 pub loop-index-preserved : goal.loop-index-preserved

@@ -1,7 +1,7 @@
 use Rattle.std.proofs.Common.{◌≡◌, length}
 use Rattle.base_core.specs.Story.Counted.{KeepsCount}
-use Rattle.session_run.specs.Lanes.{GoesInLanes}
-use Rattle.session_run.specs.Turns.{StandAt, TakesRound}
+use Rattle.session_run.specs.Running.Lanes.{GoesInLanes}
+use Rattle.session_run.specs.Running.Turns.{StandAt, TakesRound}
 use Rattle.session_run.proofs.lanes.take_round.Given as goal
 
 abbrev pub invariant-loop-index : goal.invariant-loop-index

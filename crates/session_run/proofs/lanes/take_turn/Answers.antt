@@ -3,11 +3,11 @@ use Rattle.std.proofs.Common.{◌-◌, ◌<◌, ap, length, subst, sym, ◌∙�
 use Rattle.std.proofs.lemmas.List.{length-set, set-set}
 use Rattle.std.proofs.lemmas.Result.{err_from_is_err_and}
 use Rattle.legal_history.specs.Stories.Steps.{state_of}
-use Rattle.session_run.specs.Turns.{MovesTo, StandAt, StandsAt, turns_left, with_turn}
+use Rattle.session_run.specs.Running.Turns.{MovesTo, StandAt, StandsAt, turns_left, with_turn}
 use Rattle.session_run.specs.declared.turns.LaneTurn.TheVariants as lane_turns
-use Rattle.session_run.proofs.TurnSteps.{goes_in_lane, put_same, rests_in_lane, stand_dropped, stand_on}
-use Rattle.session_run.proofs.TurnsLeft.{fewer_left}
-use Rattle.session_run.proofs.Within.{finished_where}
+use Rattle.session_run.proofs.Running.TurnSteps.{goes_in_lane, put_same, rests_in_lane, stand_dropped, stand_on}
+use Rattle.session_run.proofs.Running.TurnsLeft.{fewer_left}
+use Rattle.session_run.proofs.Running.Within.{finished_where}
 use Rattle.session_run.proofs.lanes.take_turn.Goals as goal
 
 pub move_on-requires-clause-stands : goal.move_on-requires-clause-stands

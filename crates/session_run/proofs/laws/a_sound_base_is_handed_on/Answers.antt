@@ -1,5 +1,5 @@
 -- what a stop left is sound for the next call
-use Rattle.session_run.proofs.HandedOn.{handed_on}
+use Rattle.session_run.proofs.Promises.HandedOn.{handed_on}
 use Rattle.session_run.proofs.laws.a_sound_base_is_handed_on.Goals as goal
 
 pub returns : goal.returns

@@ -1,5 +1,5 @@
 -- by the laws of builds
-use Rattle.session_run.proofs.Reused.{built_so, commanded_so, outcomes_so}
+use Rattle.session_run.proofs.Promises.Reused.{built_so, commanded_so, outcomes_so}
 use Rattle.session_run.proofs.laws.builds_are_as_from_nothing.Goals as goal
 
 pub returns-clause-commanded : goal.returns-clause-commanded

@@ -1,5 +1,5 @@
 -- by the laws of reuse
-use Rattle.session_run.proofs.Reused.{recorded_so, reused_so, sought_so, sound_so}
+use Rattle.session_run.proofs.Promises.Reused.{recorded_so, reused_so, sought_so, sound_so}
 use Rattle.session_run.proofs.laws.objects_are_reused_well.Goals as goal
 
 pub returns-clause-reused : goal.returns-clause-reused

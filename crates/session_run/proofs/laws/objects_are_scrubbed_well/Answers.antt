@@ -1,5 +1,5 @@
 -- by the laws of stories
-use Rattle.session_run.proofs.Objects.{held_are_live, scrubs_list}
+use Rattle.session_run.proofs.Promises.Objects.{held_are_live, scrubs_list}
 use Rattle.session_run.proofs.laws.objects_are_scrubbed_well.Goals as goal
 
 pub returns-clause-scrubs : goal.returns-clause-scrubs

@@ -1,8 +1,8 @@
 -- a build begins, or its command is refused
 use Rattle.std.proofs.Common.{refl, subst}
 use Rattle.clearmake.specs.Calls.{Begins}
-use Rattle.session_run.specs.Turns.{Past}
-use Rattle.session_run.proofs.BuildTurns.{begun_moves}
+use Rattle.session_run.specs.Running.Turns.{Past}
+use Rattle.session_run.proofs.Running.BuildTurns.{begun_moves}
 use Rattle.session_run.proofs.moves.begin.Goals as goal
 
 pub returns-in-Units-clause-ok : goal.returns-in-Units-clause-ok

@@ -1,8 +1,8 @@
 -- a unit whose script was run is finished
 use Rattle.std.proofs.Common.{refl, subst}
 use Rattle.clearmake.specs.Calls.{IsCarried}
-use Rattle.session_run.specs.Turns.{Past}
-use Rattle.session_run.proofs.BuildTurns.{finished_moves}
+use Rattle.session_run.specs.Running.Turns.{Past}
+use Rattle.session_run.proofs.Running.BuildTurns.{finished_moves}
 use Rattle.session_run.proofs.moves.finish.Goals as goal
 
 pub returns-in-Settled-clause-ok : goal.returns-in-Settled-clause-ok

@@ -1,8 +1,8 @@
 -- a build goes on at a unit, or ends
 use Rattle.std.proofs.Common.{arith, refl}
 use Rattle.legal_history.specs.Stories.Steps.{state_of}
-use Rattle.session_run.specs.Turns.{Past}
-use Rattle.session_run.proofs.BuildTurns.{built_over}
+use Rattle.session_run.specs.Running.Turns.{Past}
+use Rattle.session_run.proofs.Running.BuildTurns.{built_over}
 use Rattle.session_run.proofs.moves.go_on.Goals as goal
 
 pub end-requires : goal.end-requires

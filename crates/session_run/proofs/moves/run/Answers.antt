@@ -1,5 +1,5 @@
 -- the script of a unit is run
-use Rattle.session_run.proofs.BuildTurns.{ran_moves}
+use Rattle.session_run.proofs.Running.BuildTurns.{ran_moves}
 use Rattle.session_run.proofs.moves.run.Goals as goal
 
 pub returns : goal.returns

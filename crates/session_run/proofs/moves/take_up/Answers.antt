@@ -1,7 +1,7 @@
 -- a lane's next command is taken up
 use Rattle.std.proofs.Common.{refl, sym}
-use Rattle.session_run.specs.Turns.{Past}
-use Rattle.session_run.proofs.LaneSteps.{act_finishes}
+use Rattle.session_run.specs.Running.Turns.{Past}
+use Rattle.session_run.proofs.Running.LaneSteps.{act_finishes}
 use Rattle.session_run.proofs.moves.take_up.Goals as goal
 
 pub returns-in_ok-act-in-Act-clause-ok : goal.returns-in_ok-act-in-Act-clause-ok

@@ -2,8 +2,8 @@
 use Rattle.std.proofs.Common.{refl, subst}
 use Rattle.legal_history.specs.Stories.Steps.{state_of}
 use Rattle.clearmake.specs.Calls.{Tries}
-use Rattle.session_run.specs.Turns.{Past}
-use Rattle.session_run.proofs.BuildTurns.{started_moves, tried_moves, waits_for_none}
+use Rattle.session_run.specs.Running.Turns.{Past}
+use Rattle.session_run.proofs.Running.BuildTurns.{started_moves, tried_moves, waits_for_none}
 use Rattle.session_run.proofs.moves.try_unit.Goals as goal
 
 pub try_unit-requires : goal.try_unit-requires

@@ -1,8 +1,8 @@
 use Rattle.std.proofs.Common.{ap, sym, subst, arith, length, ◌∙◌}
 use Rattle.carried_out.specs.CarriedOut.{AreCarriedOut}
 use Rattle.base_core.proofs.Story.Counts.{keeps_further}
-use Rattle.session_run.proofs.LanesDone.{of_true}
-use Rattle.session_run.proofs.PhaseSteps.{phase_begins, phase_runs, lanes_go_since, lanes_start, runs_by, leaves_by}
+use Rattle.session_run.proofs.Running.LanesDone.{of_true}
+use Rattle.session_run.proofs.Running.PhaseSteps.{phase_begins, phase_runs, lanes_go_since, lanes_start, runs_by, leaves_by}
 use Rattle.session_run.proofs.phases.run_commands.Goals as goal
 
 pub run_on_threads-core-requires-clause-carried_out : goal.run_on_threads-core-requires-clause-carried_out

@@ -2,9 +2,9 @@ use Rattle.std.proofs.Common.{◌≡◌, ◌≤◌, ◌++◌, length}
 use Rattle.std.specs.List.{AllByRecursion}
 use Rattle.std.specs.Vec.Iter.{into_iter_items}
 use Rattle.base_core.specs.Story.Counted.{KeepsCount}
-use Rattle.session_run.specs.Asked.{text_limit}
-use Rattle.session_run.specs.Begun.{first_step}
-use Rattle.session_run.specs.Runs.{HasRunPhases, IsReadyPhase}
+use Rattle.session_run.specs.Calls.Asked.{text_limit}
+use Rattle.session_run.specs.Running.Runs.{HasRunPhases, IsReadyPhase}
+use Rattle.session_run.specs.Story.Begun.{first_step}
 use Rattle.session_run.proofs.phases.run_phases.Given as goal
 
 abbrev pub invariant-loop-phase : goal.invariant-loop-phase

@@ -1,7 +1,7 @@
 use Rattle.std.proofs.Common.{ap, ◌∙◌}
 use Rattle.cc_names.specs.Counts.{rises}
-use Rattle.session_run.specs.Runs.{run_status}
-use Rattle.session_run.proofs.Promises.{runs_opened}
+use Rattle.session_run.specs.Running.Runs.{run_status}
+use Rattle.session_run.proofs.Promises.Headline.{runs_opened}
 use Rattle.session_run.proofs.run.run_opened.Goals as goal
 
 pub returns : goal.returns

@@ -1,11 +1,11 @@
 use Rattle.std.proofs.Common.{ap, ap₂, ◌∙◌, inl, inr, refl, subst}
 use Rattle.cc_names.specs.Counts.{rises}
-use Rattle.session_run.specs.Causes.{Change}
-use Rattle.session_run.specs.Begun.{first_step}
-use Rattle.session_run.specs.Outcomes.{RunsOpened}
-use Rattle.session_run.specs.Runs.{Outside}
-use Rattle.session_run.specs.Stops.{WritesStop, open_stop}
-use Rattle.session_run.proofs.Promises.{begins_on, just_opened}
+use Rattle.session_run.specs.Calls.Causes.{Change}
+use Rattle.session_run.specs.Running.Outcomes.{RunsOpened}
+use Rattle.session_run.specs.Running.Runs.{Outside}
+use Rattle.session_run.specs.Running.Unstarted.{WritesUnstarted, of_unopened}
+use Rattle.session_run.specs.Story.Begun.{first_step}
+use Rattle.session_run.proofs.Promises.Headline.{begins_on, just_opened}
 use Rattle.session_run.proofs.run.run_session.Goals as goal
 
 pub run_opened-requires-clause-opened : goal.run_opened-requires-clause-opened
@@ -40,5 +40,5 @@ returns-in-Err g c =
       fails = c.in-Err.ensures.err;
       empty = c.empty.ensures;
       unread = refl;
-      wrote = subst (λ stop. WritesStop stop c.refuse.result (g.K.Sink.sight c.args.sink.now).held (g.K.Sink.sight c.refuse.new.sink).held faults) (c.stop_of-stop.ensures ∙ ap (open_stop cause) rose) c.refuse.ensures;
+      wrote = subst (λ unstarted. WritesUnstarted unstarted c.refuse.result (g.K.Sink.sight c.args.sink.now).held (g.K.Sink.sight c.refuse.new.sink).held faults) (c.of_unopened-unstarted.ensures ∙ ap (of_unopened cause) rose) c.refuse.ensures;
     })

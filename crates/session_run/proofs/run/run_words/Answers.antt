@@ -1,10 +1,10 @@
 use Rattle.std.proofs.Common.{List, inl, inr, refl, subst, sym}
 use Rattle.cc_names.specs.declared.steps.Told.{Told}
-use Rattle.session_run.specs.Causes.{Change, Intake, IsUntouched}
-use Rattle.session_run.specs.Runs.{Outside}
-use Rattle.session_run.proofs.Exactly.{finds_damage}
-use Rattle.session_run.proofs.Promises.{Promised, asked, promised_run, promised_stop, untouched}
-use Rattle.session_run.proofs.Stopping.{journal_stable}
+use Rattle.session_run.specs.Calls.Causes.{Change, Intake, IsUntouched}
+use Rattle.session_run.specs.Running.Runs.{Outside}
+use Rattle.session_run.proofs.Calls.Exactly.{finds_damage}
+use Rattle.session_run.proofs.Faults.Stopping.{journal_stable}
+use Rattle.session_run.proofs.Promises.Headline.{Promised, asked, promised_run, promised_unstarted, untouched}
 use Rattle.session_run.proofs.run.run_words.Goals as goal
 
 pub run_session-requires-clause-stable : goal.run_session-requires-clause-stable
@@ -22,5 +22,5 @@ returns-in-Err g c =
     let faults : Change _ = record { before = (g.K.Sink.sight c.args.sink.now).faults; after = (g.K.Sink.sight c.refuse.new.sink).faults } in
     let disk = g.D.Disk.sight c.args.disk in
     let all = subst (λ story. Promised c.refuse.result story intake outside faults (record { before = disk; after = disk })) (sym c.empty.ensures)
-    (promised_stop c.in-Err.stop c.refuse.result intake outside faults disk refl (c.a_disk_is_counted.ensures c.args.disk) c.requires c.in-Err.ensures.stops c.refuse.ensures) in
+    (promised_unstarted c.in-Err.unstarted c.refuse.result intake outside faults disk refl (c.a_disk_is_counted.ensures c.args.disk) c.requires c.in-Err.ensures.why c.refuse.ensures) in
     record { session = all.session; history = all.history; commanded = c.builds_are_as_from_nothing.ensures.commanded _ all.history.legal; built = c.builds_are_as_from_nothing.ensures.built _ all.history.legal; outcomes = c.builds_are_as_from_nothing.ensures.outcomes _ all.history.legal; reused = c.objects_are_reused_well.ensures.reused _ all.history.legal; sought = c.objects_are_reused_well.ensures.sought _ all.history.legal; recorded = c.objects_are_reused_well.ensures.recorded _ all.history.legal; sound = c.objects_are_reused_well.ensures.sound _ all.history.legal; scrubs = c.objects_are_scrubbed_well.ensures.scrubs _ all.history.legal; held = c.objects_are_scrubbed_well.ensures.held _ all.history.legal; printed = all.printed; stopped = all.stopped; cause = all.cause; accounted = all.accounted; files = all.files; damaged = finds_damage _ _ _ _ _ all.cause; untouched = record { unless_asked = inr (subst (λ (story : List Told). IsUntouched (record { before = disk; after = disk }) story) (sym c.empty.ensures) (untouched disk)) }; taken = c.session_given.ensures.taken }

@@ -1,5 +1,5 @@
 use Rattle.legal_history.specs.Stories.Steps.{state_of}
-use Rattle.session_run.proofs.Stopping.{mended_by}
+use Rattle.session_run.proofs.Faults.Stopping.{mended_by}
 use Rattle.session_run.proofs.run.settle.Goals as goal
 
 pub returns-clause-mended : goal.returns-clause-mended

@@ -1,7 +1,7 @@
 use Rattle.std.proofs.Common.{◌≡◌, sym, subst, ◌∙◌, true, arith}
-use Rattle.session_run.specs.Asked.{is_run}
-use Rattle.session_run.specs.Stops.{GivesPhases}
-use Rattle.session_run.proofs.Ready.{gives_phases}
+use Rattle.session_run.specs.Calls.Asked.{is_run}
+use Rattle.session_run.specs.Running.Unstarted.{GivesPhases}
+use Rattle.session_run.proofs.Calls.Ready.{gives_phases}
 use Rattle.session_run.proofs.sessions.session_given.Goals as goal
 
 pub returns-in-Ok-into_vec-clause-gives : goal.returns-in-Ok-into_vec-clause-gives

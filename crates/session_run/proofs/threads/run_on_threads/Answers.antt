@@ -1,6 +1,6 @@
 use Rattle.std.proofs.Common.{ap, arith, length}
-use Rattle.session_run.proofs.LanesDone.{phase_done_if}
-use Rattle.session_run.proofs.SinceSteps.{since_itself}
+use Rattle.session_run.proofs.Running.LanesDone.{phase_done_if}
+use Rattle.session_run.proofs.Running.SinceSteps.{since_itself}
 use Rattle.session_run.proofs.threads.run_on_threads.Goals as goal
 
 pub returns-then-lanes-eq0-clause-since : goal.returns-then-lanes-eq0-clause-since

@@ -1,7 +1,7 @@
 use Rattle.std.proofs.Common.{◌≡◌, ◌++◌, ◌+◌, ◌≤◌, length}
 use Rattle.legal_history.specs.Stories.Steps.{state_of}
 use Rattle.base_core.specs.Story.Replying.{replies_of}
-use Rattle.session_run.specs.Rendered.{lanes_text}
+use Rattle.session_run.specs.Story.Rendered.{lanes_text}
 use Rattle.session_run.proofs.transcripts.push_lanes.Given as goal
 
 abbrev pub invariant-loop-behind : goal.invariant-loop-behind

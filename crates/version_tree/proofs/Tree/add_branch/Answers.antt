@@ -35,7 +35,7 @@ invariant_of-self c =
     ∙ ap (λ q. cond (eqb q k) (Some c.len.result) (get nat_eq c.self.inside.newest k)) c.key_of-key.ensures
     ∙ ap (λ n. cond (eqb named k) (Some n) (get nat_eq c.self.inside.newest k)) count
     ∙ ap (λ o. cond (eqb named k) (Some (length (reverse made))) o) (c.self.invariant.newest k) in
-    rw (c.push_within.ensures.items, c.push_within-2.ensures.items, reverse-append made (m ∷ []), reverse-append branches (b ∷ []))
+    rw (c.push_reserved.ensures.items, c.push_reserved-2.ensures.items, reverse-append made (m ∷ []), reverse-append branches (b ∷ []))
     (branch_added m b (reverse made) (reverse branches) _ _ _ c.self.invariant refl refl refl c.new-later.ensures.items above link newest)
 
 -- branches that have room keep it
@@ -46,9 +46,9 @@ returns c =
     let items = c.self.inside.branches.items in
     let b : Branch = record { row = c.args.row; moment = c.args.moment; later = c.new-later.result } in
     rw (← c.self.view_is) (record {
-      changes = rw (c.push_within.ensures.items, reverse-append made (m ∷ [])) refl;
+      changes = rw (c.push_reserved.ensures.items, reverse-append made (m ∷ [])) refl;
       contents = search rules;
       room = search rules;
       content_room = search rules;
-      ready = λ q other is. rw c.push_within-2.ensures.items (push_keeps q items b is);
+      ready = λ q other is. rw c.push_reserved-2.ensures.items (push_keeps q items b is);
     })

@@ -13,8 +13,8 @@ use Rattle.version_tree.proofs.Readiness.{others_keep}
 use Rattle.version_tree.proofs.Tree.add_version.Goals as goal
 
 -- a branch that is ready has room
-pub push_within-requires-in-Some : goal.push_within-requires-in-Some
-push_within-requires-in-Some c =
+pub push_reserved-requires-in-Some : goal.push_reserved-requires-in-Some
+push_reserved-requires-in-Some c =
     let items = c.self.inside.branches.items in
     let place = c.in-Some.place in
     let on = c.index_mut-on.result.now in
@@ -34,17 +34,17 @@ invariant_of-self c =
     let place = c.in-Some.place in
     let on = c.index_mut-on.result.now in
     let m : Made = record { change = VersionMade c.args.row c.args.moment c.args.branch; namesake = None } in
-    let b : Branch = record { row = on.row; moment = on.moment; later = c.push_within-in-Some.new.items } in
+    let b : Branch = record { row = on.row; moment = on.moment; later = c.push_reserved-in-Some.new.self } in
     let found : slice_get items place ≡ find (λ x. eqb x.row c.args.branch) items = search rules in
     let within : place < length items = search rules in
     let there : get_or items place on ≡ on = search rules in
     let at : (d : Branch) → get_or items place d ≡ on = λ d. get_or_default items place d on within ∙ there in
     let above : IsAbove c.args.row (map row_of_made (reverse made)) = rw (rows_of_made (reverse made)) at (rw (← c.self.view_is) at c.requires.above) in
     let same_row : on.row ≡ c.args.branch = rw (at on) at (row_there items c.args.branch place c.self.invariant.branches_fall within found on) in
-    rw (c.push_within.ensures.items, reverse-append made (m ∷ []))
+    rw (c.push_reserved.ensures.items, reverse-append made (m ∷ []))
     (version_added m (reverse made) items place b c.args.row c.args.moment c.args.branch _ _ c.self.invariant refl above within found same_row
     (λ d. ap (λ (x : Branch). x.moment) (sym (at d)))
-    (λ d. rw (at d) c.push_within-in-Some.ensures.items))
+    (λ d. rw (at d) c.push_reserved-in-Some.ensures.items))
 
 -- a branch that is ready is there
 pub unreachable-requires : goal.unreachable-requires
@@ -63,12 +63,12 @@ returns c =
     let items = c.self.inside.branches.items in
     let place = c.in-Some.place in
     let on = c.index_mut-on.result.now in
-    let b : Branch = record { row = on.row; moment = on.moment; later = c.push_within-in-Some.new.items } in
+    let b : Branch = record { row = on.row; moment = on.moment; later = c.push_reserved-in-Some.new.self } in
     let found : slice_get items place ≡ find (λ x. eqb x.row c.args.branch) items = search rules in
     let within : place < length items = search rules in
     let there = row_there items c.args.branch place c.self.invariant.branches_fall within found in
     rw (← c.self.view_is) (record {
-      changes = rw (c.push_within.ensures.items, reverse-append made (m ∷ [])) refl;
+      changes = rw (c.push_reserved.ensures.items, reverse-append made (m ∷ [])) refl;
       contents = search rules;
       room = search rules;
       content_room = search rules;

@@ -2,20 +2,20 @@
 use Rattle.std.proofs.Common.{◌≡◌, List, ℕ, sym, ap, ◌∙◌}
 use Rattle.legal_history.specs.Base.Catalogs.{Catalog, catalog_of, named}
 use Rattle.legal_history.specs.Base.Rows.{Base}
-use Rattle.view_lookup.specs.Entries.{IsEntryOf}
-use Rattle.view_lookup.specs.declared.catalogs.Entry.{Entry}
-use Rattle.view_lookup.specs.declared.catalogs.Entry.TheVariants.{Is, As}
+use Rattle.view_lookup.specs.Entries.{Resolves}
+use Rattle.view_lookup.specs.declared.catalogs.Resolution.{Resolution}
+use Rattle.view_lookup.specs.declared.catalogs.Resolution.TheVariants.{Is, As}
 use Rattle.view_lookup.proofs.ChangedNames.{version_told}
 use Rattle.view_lookup.proofs.catalogs.entry_of_version.Goals as goal
 
-entry_same : (b : Base) (name : List ℕ) (one two : Catalog) (entry : Entry) → named name one ≡ named name two → IsEntryOf b name two entry → IsEntryOf b name one entry
-entry_same b name one two (Is found) same is = same ∙ is
-entry_same b name one two (As count place other) same is = (is.0, same ∙ is.1)
+resolves_same : (b : Base) (name : List ℕ) (one two : Catalog) (it : Resolution) → named name one ≡ named name two → Resolves b name two it → Resolves b name one it
+resolves_same b name one two (Is found) same is = same ∙ is
+resolves_same b name one two (As count place other) same is = (is.0, same ∙ is.1)
 
 pub returns-in-Some : goal.returns-in-Some
 returns-in-Some c =
     let b = c.args.rows.now in
     let name = c.args.name.now in
-    entry_same b name (catalog_of b c.args.version) (catalog_of b c.told_on.result) c.entry_made-in-Some.result
+    resolves_same b name (catalog_of b c.args.version) (catalog_of b c.told_on.result) c.entry_made-in-Some.result
     (version_told b c.are_base.ensures name c.args.version c.in-Some.branch (sym c.branch_of_version.ensures ∙ c.in-Some.is) ∙ ap (λ n. named name (catalog_of b n)) (sym c.told_on.ensures))
     c.entry_made-in-Some.ensures

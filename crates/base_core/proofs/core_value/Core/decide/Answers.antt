@@ -1,8 +1,8 @@
 -- the decision on a lane's next command is that of its state
 use Rattle.std.proofs.Common.{◌≡◌, false, None, ap, sym, subst, ◌∙◌}
 use Rattle.std.specs.Prelude.{IfSome}
+use Rattle.cc_names.specs.Commands.{view_of}
 use Rattle.legal_history.specs.Queries.QueryLines.{is_query}
-use Rattle.checkout_desk.specs.Commands.{view_of}
 use Rattle.legal_history.specs.Builds.Active.{build_of, building}
 use Rattle.legal_history.specs.Stories.Lawful.{Legal}
 use Rattle.legal_history.specs.Stories.Steps.{state_of}

@@ -3,30 +3,30 @@ use Rattle.disk_model.specs.Overwriting.{AreOverwritten}
 use Rattle.disk_model.specs.Records.{called}
 use Rattle.disk_model.specs.MemoryDisks.{told_by}
 use Rattle.disk_model.specs.declared.calls.Call.TheVariants as calls
-use Rattle.disk_model.specs.declared.calls.Entry.{Entry}
+use Rattle.disk_model.specs.declared.calls.TracedCall.{TracedCall}
 use Rattle.disk_model.proofs.Recording.{recorded_more, torn_replayed, unless_err}
 use Rattle.disk_model.proofs.memory.MemoryDisk.tear.Goals as goal
 
 pub invariant_of-self-2 : goal.invariant_of-self-2
 invariant_of-self-2 c =
     let disk = c.args.self.now in
-    let entry : Entry = record { failed_before = disk.failed; call = calls.Tear c.args.file c.args.place c.in-Ok.text c.args.lost } in
-    let kept : c.push.new.self.items ≡ disk.entries.items ++ entry ∷ [] =
-    c.push.ensures.items ∙ ap (λ r. cond (is_ok r) (c.reserve.new.self.items ++ entry ∷ []) c.reserve.new.self.items) c.unwrap.ensures
-    ∙ ap (λ xs. xs ++ entry ∷ []) c.reserve.ensures.items in
+    let traced : TracedCall = record { failed_before = disk.failed; call = calls.Tear c.args.file c.args.place c.in-Ok.text c.args.lost } in
+    let kept : c.push.new.self.items ≡ disk.trace.items ++ traced ∷ [] =
+    c.push.ensures.items ∙ ap (λ r. cond (is_ok r) (c.reserve.new.self.items ++ traced ∷ []) c.reserve.new.self.items) c.unwrap.ensures
+    ∙ ap (λ xs. xs ++ traced ∷ []) c.reserve.ensures.items in
     let wrote = unless_err c.overwrite.result (AreOverwritten c.args.file c.args.place c.args.landed.now disk.current c.overwrite.new.self) (sym c.is_err-2.ensures.value ∙ c.if-is_err-2.false) c.overwrite.ensures.ok in
     record {
       replayed =
-          torn_replayed disk.first.journal.items disk.first.objects.items disk.entries.items c.push.new.self.items entry disk.failed _ _ _ _ c.args.file c.args.place c.args.lost c.args.landed.now disk.ticks disk.faults _
+          torn_replayed disk.first.journal.items disk.first.objects.items disk.trace.items c.push.new.self.items traced disk.failed _ _ _ _ c.args.file c.args.place c.args.lost c.args.landed.now disk.ticks disk.faults _
           disk.replayed kept refl (ap (λ t. calls.Tear c.args.file c.args.place t c.args.lost) c.in-Ok.ensures) c.requires wrote.journal wrote.objects c.one_more-self.ensures (omega (arith, c.if-self.false, disk.replayed.ticks_fit));
     }
 
 pub returns-clause-told : goal.returns-clause-told
 returns-clause-told c =
     let disk = c.args.self.now in
-    let entry : Entry = record { failed_before = disk.failed; call = calls.Tear c.args.file c.args.place c.in-Ok.text c.args.lost } in
-    let kept : c.push.new.self.items ≡ disk.entries.items ++ entry ∷ [] =
-    c.push.ensures.items ∙ ap (λ r. cond (is_ok r) (c.reserve.new.self.items ++ entry ∷ []) c.reserve.new.self.items) c.unwrap.ensures
-    ∙ ap (λ xs. xs ++ entry ∷ []) c.reserve.ensures.items in
-    inr (recorded_more disk.first.journal.items disk.first.objects.items disk.entries.items c.push.new.self.items disk.failed entry kept refl
+    let traced : TracedCall = record { failed_before = disk.failed; call = calls.Tear c.args.file c.args.place c.in-Ok.text c.args.lost } in
+    let kept : c.push.new.self.items ≡ disk.trace.items ++ traced ∷ [] =
+    c.push.ensures.items ∙ ap (λ r. cond (is_ok r) (c.reserve.new.self.items ++ traced ∷ []) c.reserve.new.self.items) c.unwrap.ensures
+    ∙ ap (λ xs. xs ++ traced ∷ []) c.reserve.ensures.items in
+    inr (recorded_more disk.first.journal.items disk.first.objects.items disk.trace.items c.push.new.self.items disk.failed traced kept refl
     ∙ ap (λ call. called call (told_by disk)) (ap (λ t. calls.Tear c.args.file c.args.place t c.args.lost) c.in-Ok.ensures))

@@ -2,7 +2,7 @@ use Rattle.std.proofs.Common.{◌≡◌, [], ◌<◌, refl, arith}
 use Rattle.std.proofs.lemmas.List.{nil_from_length}
 use Rattle.make_text.specs.Statements.{macros_of}
 use Rattle.make_text.specs.Macros.{Expansion}
-use Rattle.make_text.specs.Steps.{automatic_of, Ended, IsRunning, Took, Went, FallsBelow, work_of}
+use Rattle.make_text.specs.Steps.{automatic_of, MacroEnded, IsRunning, Took, Went, FallsBelow, work_of}
 use Rattle.make_text.specs.declared.expansions.Expanding.{Expanding}
 use Rattle.make_text.proofs.StepLemmas.{ends_safely, ended_went, ended_falls, took_went, took_falls, where_ok}
 use Rattle.make_text.proofs.expansions.Expanding.step.Goals as goal
@@ -15,7 +15,7 @@ returns-then-is_empty-clause-went c =
     let macros = (macros_of c.args.macros.now) in
     let automatic = automatic_of c.args.automatic.now in
     let none : c.args.self.now.rest.now ≡ [] = nil_from_length c.args.self.now.rest.now (grind arith) in
-    where_ok (λ step. Ended c.args.self.now step c.end.new.self)
+    where_ok (λ step. MacroEnded c.args.self.now step c.end.new.self)
     (λ step. (total : Expansion) → IsRunning macros automatic total [] c.args.self.now → Went macros automatic total step c.end.new.self)
     c.end.result c.end.ensures
     (λ step ended total h. ended_went macros automatic total c.args.self.now c.end.new.self step c.requires.apart h none ended)
@@ -25,7 +25,7 @@ returns-then-is_empty-clause-falls c =
     let macros = (macros_of c.args.macros.now) in
     let automatic = automatic_of c.args.automatic.now in
     let none : c.args.self.now.rest.now ≡ [] = nil_from_length c.args.self.now.rest.now (grind arith) in
-    where_ok (λ step. Ended c.args.self.now step c.end.new.self)
+    where_ok (λ step. MacroEnded c.args.self.now step c.end.new.self)
     (λ step. FallsBelow (work_of macros c.args.self.now) step (work_of macros c.end.new.self))
     c.end.result c.end.ensures
     (λ step ended. ended_falls macros automatic c.requires.runs.0 c.args.self.now c.end.new.self step c.requires.runs.1 none ended)

@@ -3,8 +3,8 @@ use Rattle.cc_names.specs.declared.desks.Next.TheVariants as nexts
 use Rattle.legal_history.specs.Stories.Steps.{state_of}
 use Rattle.clearmake.specs.Going.{Finishes}
 use Rattle.clearmake.specs.Nexts.{next_of}
-use Rattle.session_run.proofs.LaneSteps.{act_finishes}
-use Rattle.session_run.proofs.SinceSteps.{since_acts}
+use Rattle.session_run.proofs.Running.LaneSteps.{act_finishes}
+use Rattle.session_run.proofs.Running.SinceSteps.{since_acts}
 use Rattle.session_run.proofs.desks.PhaseCoreBuildDesk.act.Goals as goal
 
 pub invariant_of-self : goal.invariant_of-self

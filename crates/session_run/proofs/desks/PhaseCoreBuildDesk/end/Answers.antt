@@ -1,4 +1,4 @@
-use Rattle.session_run.proofs.SinceSteps.{since_finishes}
+use Rattle.session_run.proofs.Running.SinceSteps.{since_finishes}
 use Rattle.session_run.proofs.desks.PhaseCoreBuildDesk.end.Goals as goal
 
 pub invariant_of-self : goal.invariant_of-self

@@ -1,4 +1,4 @@
-use Rattle.session_run.proofs.SinceSteps.{since_tries}
+use Rattle.session_run.proofs.Running.SinceSteps.{since_tries}
 use Rattle.session_run.proofs.desks.PhaseCoreBuildDesk.try_unit.Goals as goal
 
 pub invariant_of-self : goal.invariant_of-self

@@ -1,0 +1,340 @@
+-- The least path of an object's closure at which a view sees another row, by the entries of its record.
+use Rattle.std.proofs.Common.{◌≡◌, refl, ap, sym, subst, ◌∙◌, ℕ, suc, ◌<◌, ◌≤◌, Bool, true, false, not, cond, ◌&&◌, ◌==◌, max, Option, Some, None, List, [], ◌∷◌, ◌++◌, length, drop, get_or, ◌+◌, arith}
+use Rattle.std.proofs.lemmas.Bool.Decides.{nat_tests}
+use Rattle.std.proofs.lemmas.Cmp.{nat_list_cmp_total, then_total, on_total, nat_cmp_total, ranked}
+use Rattle.std.proofs.lemmas.List.Elements.{recursion_from_All}
+use Rattle.std.proofs.lemmas.List.{at_drop_more}
+use Rattle.std.specs.BTreeSet.{insert_key}
+use Rattle.std.specs.Bool.{⊤}
+use Rattle.std.specs.Cmp.{IsTotalOrder, unsigned_tied}
+use Rattle.std.specs.Cmp.Lexicographic.{slice_cmp}
+use Rattle.std.specs.FinMap.Entries.{below_all, by_order, is_sorted, is_sorted-put, put}
+use Rattle.std.specs.List.{All, AllByRecursion, list_all}
+use Rattle.std.specs.Option.{option_or}
+use Rattle.std.specs.Ordering.{is_eq, is_lt, match_ordering, nat_cmp, ordering_reverse, ordering_then}
+use Rattle.std.specs.Prelude.{IfSome, T}
+use Rattle.std.specs.declared.cmp.Ordering.{Ordering}
+use Rattle.std.specs.declared.cmp.Ordering.TheVariants.{Less, Equal, Greater}
+use Rattle.cc_names.specs.Formed.{Plain}
+use Rattle.cc_names.specs.declared.rows.ReadOf.{ReadOf}
+use Rattle.legal_history.specs.Base.Closures.{Input, Inputs, closure, entries_of_deed, is_publish, joined_inputs, input_cmp, inputs_of, inputs_of_entry}
+use Rattle.legal_history.specs.Base.Conditions.{is_entry}
+use Rattle.legal_history.specs.Base.Fits.{is_base}
+use Rattle.legal_history.specs.Base.Rows.{Base, only_where, size}
+use Rattle.legal_history.specs.Base.Seen.{file_at}
+use Rattle.legal_history.specs.Builds.Reuse.{agrees}
+use Rattle.legal_history.specs.Queries.RecordTexts.{record_of, uncovered, uncovered_among}
+use Rattle.legal_history.proofs.Bases.Owned.{and_first, and_second, row_fits, rows_below}
+use Rattle.legal_history.proofs.Reuse.Covered.{Keyed, closure_keyed, entries_keyed, entry_keyed, one_input, put_keyed}
+use Rattle.legal_history.proofs.Reuse.EntriesBelow.{entry_below, entries_fit}
+use Rattle.legal_history.proofs.Stories.Goes.{same_number}
+use Rattle.cleartool.specs.Covering.{above, above_entries, least_in, least_of, least_of_all, least_of_entries, least_of_entry, lesser, lower, missed}
+use Rattle.cleartool.proofs.LesserPaths.{lesser_join, lesser_none, lesser_swap, lesser_twice}
+
+-- one input put in its place, each under its own row
+one_put : (b : Base) (v : List ℕ) (s : Input) (row : ℕ) (inputs : Inputs) → row ≡ s.1 → Keyed inputs → least_in b v (put input_cmp s row inputs) ≡ lesser (missed b v s.0 row) (least_in b v inputs)
+one_put b v s row [] own keyed = refl
+one_put b v s row (input ∷ inputs) own keyed = by (input_cmp s input.0) refl (one_put b v s row inputs own keyed.1)
+  where
+    by : (o : Ordering) → input_cmp s input.0 ≡ o → least_in b v (put input_cmp s row inputs) ≡ lesser (missed b v s.0 row) (least_in b v inputs) →
+        least_in b v (by_order o ((s, row) ∷ input ∷ inputs) ((input.0, row) ∷ inputs) (input ∷ put input_cmp s row inputs)) ≡ lesser (missed b v s.0 row) (least_in b v (input ∷ inputs))
+    by Less place before = refl
+    by Equal place before =
+        let one = one_input s input.0 (ap is_eq place) in
+        let same : input.1 ≡ row = keyed.0 ∙ sym one.row ∙ sym own in
+        let rest = least_in b v inputs in
+        ap (λ path. lesser (missed b v path row) rest) (sym one.path)
+        ∙ sym (lesser_twice (missed b v s.0 row) rest)
+        ∙ ap (λ path. lesser (missed b v s.0 row) (lesser (missed b v path row) rest)) one.path
+        ∙ ap (λ r. lesser (missed b v s.0 row) (lesser (missed b v input.0.0 r) rest)) (sym same)
+    by Greater place before =
+        ap (lesser (missed b v input.0.0 input.1)) before
+        ∙ lesser_swap (missed b v input.0.0 input.1) (missed b v s.0 row) (least_in b v inputs)
+
+-- inputs that are joined to others have the lesser of both
+both_least : (b : Base) (v : List ℕ) (one others : Inputs) → Keyed one → Keyed others → least_in b v (joined_inputs one others) ≡ lesser (least_in b v one) (least_in b v others)
+both_least b v [] others own keyed = refl
+both_least b v (input ∷ one) others own keyed =
+    both_least b v one (put input_cmp input.0 input.1 others) own.1 (put_keyed input.0 input.1 others own.0 keyed)
+    ∙ ap (lesser (least_in b v one)) (one_put b v input.0 input.1 others own.0 keyed)
+    ∙ lesser_swap (least_in b v one) (missed b v input.0.0 input.1) (least_in b v others)
+    ∙ sym (lesser_join (missed b v input.0.0 input.1) (least_in b v one) (least_in b v others))
+
+-- the inputs of entries have the least of them all
+entries_least : (b : Base) (v : List ℕ) (entries : List ReadOf) → least_in b v (inputs_of b (closure b) entries) ≡ least_of_entries b v entries
+entries_least b v [] = refl
+entries_least b v (entry ∷ entries) =
+    both_least b v (inputs_of_entry (is_publish b entry.row) (closure b) entry) (inputs_of b (closure b) entries)
+    (entry_keyed (is_publish b entry.row) (closure b) entry (closure_keyed b)) (entries_keyed b (closure b) entries (closure_keyed b))
+    ∙ ap (lesser (least_of_entry b v entry)) (entries_least b v entries)
+
+-- entries that name rows below a number
+abbrev AreBelow : ℕ → List ReadOf → Type 0
+AreBelow n [] = ⊤
+AreBelow n (entry ∷ entries) = (entry.row < n) × AreBelow n entries
+
+entries_below : (b : Base) (entries : List ReadOf) → list_all (is_entry b) entries ≡ true → AreBelow (size b) entries
+entries_below b [] fit = tt
+entries_below b (entry ∷ entries) fit =
+    (entry_below b entry (and_first (is_entry b entry) (list_all (is_entry b) entries) fit), entries_below b entries (and_second (is_entry b entry) (list_all (is_entry b) entries) fit))
+
+below_wider : (n m : ℕ) (entries : List ReadOf) → n ≤ m → AreBelow n entries → AreBelow m entries
+below_wider n m [] wide h = tt
+below_wider n m (entry ∷ entries) wide h = let low = h.0 in (omega arith, below_wider n m entries wide h.1)
+
+-- the entries of a record are below its object
+record_below : (b : Base) (id : ℕ) → is_base b ≡ true → AreBelow id (record_of b id)
+record_below [] id base = tt
+record_below (row ∷ older) id base = by (size older == id) refl (record_below older id (rows_below row older base))
+  where
+    by : (t : Bool) → (size older == id) ≡ t → AreBelow id (record_of older id) → AreBelow id (record_of (row ∷ older) id)
+    by true here rest =
+        subst (λ (entries : List ReadOf). AreBelow id entries) (sym (newest here))
+        (subst (λ n. AreBelow n (entries_of_deed (Some row.deed))) (same_number (size older) id here) (entries_below older (entries_of_deed (Some row.deed)) (entries_fit older row.deed (row_fits row older base))))
+      where
+        newest : (size older == id) ≡ true → record_of (row ∷ older) id ≡ entries_of_deed (Some row.deed)
+        newest here = grind (arith, nat_tests)
+    by false apart rest = subst (λ (entries : List ReadOf). AreBelow id entries) (sym (older_one apart)) rest
+      where
+        older_one : (size older == id) ≡ false → record_of (row ∷ older) id ≡ record_of older id
+        older_one apart = grind (arith, nat_tests)
+
+-- inputs that rows below a row have stay
+older_closure : (row : Plain) (older : Base) (id : ℕ) → id < size older → closure (row ∷ older) id ≡ closure older id
+older_closure row older id low = grind (arith, nat_tests)
+
+older_publish : (row : Plain) (older : Base) (id : ℕ) → id < size older → is_publish (row ∷ older) id ≡ is_publish older id
+older_publish row older id low = grind (arith, nat_tests)
+
+same_entry : (row : Plain) (older : Base) (entry : ReadOf) → entry.row < size older → (t : Bool) → inputs_of_entry t (closure (row ∷ older)) entry ≡ inputs_of_entry t (closure older) entry
+same_entry row older entry low true = older_closure row older entry.row low
+same_entry row older entry low false = refl
+
+inputs_stay : (row : Plain) (older : Base) (entries : List ReadOf) → AreBelow (size older) entries → inputs_of (row ∷ older) (closure (row ∷ older)) entries ≡ inputs_of older (closure older) entries
+inputs_stay row older [] low = refl
+inputs_stay row older (entry ∷ entries) low =
+    ap (λ t. joined_inputs (inputs_of_entry t (closure (row ∷ older)) entry) (inputs_of (row ∷ older) (closure (row ∷ older)) entries)) (older_publish row older entry.row low.0)
+    ∙ ap (λ (own : Inputs). joined_inputs own (inputs_of (row ∷ older) (closure (row ∷ older)) entries)) (same_entry row older entry low.0 (is_publish older entry.row))
+    ∙ ap (joined_inputs (inputs_of_entry (is_publish older entry.row) (closure older) entry)) (inputs_stay row older entries low.1)
+
+-- the entries of a record are below the base
+record_within : (b : Base) (id : ℕ) → is_base b ≡ true → AreBelow (size b) (record_of b id)
+record_within [] id base = tt
+record_within (row ∷ older) id base = by (size older == id) refl (record_within older id (rows_below row older base))
+  where
+    by : (t : Bool) → (size older == id) ≡ t → AreBelow (size older) (record_of older id) → AreBelow (suc (size older)) (record_of (row ∷ older) id)
+    by true here rest =
+        let recorded : record_of (row ∷ older) id ≡ entries_of_deed (Some row.deed) = grind (arith, nat_tests) in
+        subst (λ (entries : List ReadOf). AreBelow (suc (size older)) entries) (sym recorded)
+        (below_wider (size older) (suc (size older)) (entries_of_deed (Some row.deed)) (omega arith) (entries_below older (entries_of_deed (Some row.deed)) (entries_fit older row.deed (row_fits row older base))))
+    by false apart rest =
+        let recorded : record_of (row ∷ older) id ≡ record_of older id = grind (arith, nat_tests) in
+        subst (λ (entries : List ReadOf). AreBelow (suc (size older)) entries) (sym recorded) (below_wider (size older) (suc (size older)) (record_of older id) (omega arith) rest)
+
+-- the closure of an object, by its entries in the whole base
+closure_made : (b : Base) (id : ℕ) → is_base b ≡ true → closure b id ≡ inputs_of b (closure b) (record_of b id)
+closure_made [] id base = refl
+closure_made (row ∷ older) id base = by (size older == id) refl (closure_made older id (rows_below row older base))
+  where
+    by : (t : Bool) → (size older == id) ≡ t → closure older id ≡ inputs_of older (closure older) (record_of older id) → closure (row ∷ older) id ≡ inputs_of (row ∷ older) (closure (row ∷ older)) (record_of (row ∷ older) id)
+    by true here rest =
+        let entries = entries_of_deed (Some row.deed) in
+        let closed : closure (row ∷ older) id ≡ inputs_of older (closure older) entries = grind (arith, nat_tests) in
+        let recorded : record_of (row ∷ older) id ≡ entries = grind (arith, nat_tests) in
+        closed
+        ∙ sym (inputs_stay row older entries (entries_below older entries (entries_fit older row.deed (row_fits row older base))))
+        ∙ ap (inputs_of (row ∷ older) (closure (row ∷ older))) (sym recorded)
+    by false apart rest =
+        let closed : closure (row ∷ older) id ≡ closure older id = grind (arith, nat_tests) in
+        let recorded : record_of (row ∷ older) id ≡ record_of older id = grind (arith, nat_tests) in
+        closed ∙ rest
+        ∙ sym (inputs_stay row older (record_of older id) (record_within older id (rows_below row older base)))
+        ∙ ap (inputs_of (row ∷ older) (closure (row ∷ older))) (sym recorded)
+
+-- what an object rests on has the least path of its entries
+pub object_least : (b : Base) (v : List ℕ) (id : ℕ) → is_base b ≡ true → least_of b v id ≡ least_of_entries b v (record_of b id)
+object_least b v id base = ap (least_in b v) (closure_made b id base) ∙ entries_least b v (record_of b id)
+
+above_below : (n : ℕ) (entries : List ReadOf) → AreBelow n entries → above_entries entries ≤ n
+above_below n [] h = omega arith
+above_below n (entry ∷ entries) h = let rest = above_below n entries h.1 in let low = h.0 in grind arith
+
+-- the entries of a record name rows below the object
+pub record_above : (b : Base) (id : ℕ) → is_base b ≡ true → above_entries (record_of b id) ≤ id
+record_above b id base = above_below id (record_of b id) (record_below b id base)
+
+-- inputs whose paths are not below a path
+abbrev NotBelow : List ℕ → Inputs → Type 0
+NotBelow path [] = ⊤
+NotBelow path (input ∷ inputs) = (is_lt (slice_cmp nat_cmp input.0.0 path) ≡ false) × NotBelow path inputs
+
+lower_not_below : (path one two : List ℕ) → is_lt (slice_cmp nat_cmp one path) ≡ false → is_lt (slice_cmp nat_cmp two path) ≡ false → is_lt (slice_cmp nat_cmp (lower one two) path) ≡ false
+lower_not_below path one two h g = by (is_lt (slice_cmp nat_cmp two one))
+  where
+    by : (t : Bool) → is_lt (slice_cmp nat_cmp (cond t two one) path) ≡ false
+    by true = g
+    by false = h
+
+least_not_below : (b : Base) (v path : List ℕ) (inputs : Inputs) → NotBelow path inputs → IfSome (least_in b v inputs) (λ q. is_lt (slice_cmp nat_cmp q path) ≡ false)
+least_not_below b v path [] h = tt
+least_not_below b v path (input ∷ inputs) h = by (agrees input.1 (file_at b v input.0.0)) (least_in b v inputs) (least_not_below b v path inputs h.1)
+  where
+    by : (t : Bool) (rest : Option (List ℕ)) → IfSome rest (λ q. is_lt (slice_cmp nat_cmp q path) ≡ false) → IfSome (lesser (only_where (not t) (Some input.0.0)) rest) (λ q. is_lt (slice_cmp nat_cmp q path) ≡ false)
+    by true rest g = g
+    by false None g = h.0
+    by false (Some q) g = lower_not_below path input.0.0 q h.0 g
+
+inputs_total : IsTotalOrder input_cmp
+inputs_total = then_total (on_total (λ (input : Input). input.0) nat_list_cmp_total) (on_total (λ (input : Input). input.1) nat_cmp_total)
+
+-- the path of an input behind another is not below that one's
+path_not_below : (one two : Input) → T (is_lt (input_cmp one two)) → is_lt (slice_cmp nat_cmp two.0 one.0) ≡ false
+path_not_below one two low = by (slice_cmp nat_cmp one.0 two.0) refl low
+  where
+    turned : (o : Ordering) → slice_cmp nat_cmp one.0 two.0 ≡ o → slice_cmp nat_cmp two.0 one.0 ≡ ordering_reverse o
+    turned o e = nat_list_cmp_total.antisymm two.0 one.0 ∙ ap ordering_reverse e
+
+    by : (o : Ordering) → slice_cmp nat_cmp one.0 two.0 ≡ o → T (is_lt (ordering_then o (nat_cmp one.1 two.1))) → is_lt (slice_cmp nat_cmp two.0 one.0) ≡ false
+    by Less e low = ap is_lt (turned Less e)
+    by Equal e low = ap is_lt (turned Equal e)
+    by Greater e low = absurd low
+
+t_first : (a b : Bool) → T (a && b) → T a
+t_first true b h = tt
+t_first false b h = h
+
+t_second : (a b : Bool) → T (a && b) → T b
+t_second true b h = h
+t_second false b h = absurd h
+
+not_below_all : (s : Input) (inputs : Inputs) → T (below_all input_cmp s inputs) → NotBelow s.0 inputs
+not_below_all s [] h = tt
+not_below_all s (input ∷ inputs) h = (path_not_below s input.0 (t_first _ _ h), not_below_all s inputs (t_second _ _ h))
+
+-- in order, the first uncovered path is the least
+first_is_least : (b : Base) (v : List ℕ) (inputs : Inputs) → T (is_sorted input_cmp inputs) → uncovered_among b v inputs ≡ least_in b v inputs
+first_is_least b v [] sorted = refl
+first_is_least b v (input ∷ inputs) sorted =
+    ap (option_or (missed b v input.0.0 input.1)) (first_is_least b v inputs (t_second _ _ sorted))
+    ∙ by (agrees input.1 (file_at b v input.0.0)) (least_in b v inputs) (least_not_below b v input.0.0 inputs (not_below_all input.0 inputs (t_first _ _ sorted)))
+  where
+    by : (t : Bool) (rest : Option (List ℕ)) → IfSome rest (λ q. is_lt (slice_cmp nat_cmp q input.0.0) ≡ false) → option_or (only_where (not t) (Some input.0.0)) rest ≡ lesser (only_where (not t) (Some input.0.0)) rest
+    by true rest g = refl
+    by false None g = refl
+    by false (Some q) g = sym (ap (λ t. Some (cond t q input.0.0)) g)
+
+joined_sorted : (one others : Inputs) → T (is_sorted input_cmp others) → T (is_sorted input_cmp (joined_inputs one others))
+joined_sorted [] others h = h
+joined_sorted (input ∷ one) others h = joined_sorted one (put input_cmp input.0 input.1 others) (is_sorted-put input_cmp inputs_total input.0 input.1 others h)
+
+inputs_sorted : (b : Base) (of_object : ℕ → Inputs) (entries : List ReadOf) → T (is_sorted input_cmp (inputs_of b of_object entries))
+inputs_sorted b of_object [] = tt
+inputs_sorted b of_object (entry ∷ entries) = joined_sorted (inputs_of_entry (is_publish b entry.row) of_object entry) (inputs_of b of_object entries) (inputs_sorted b of_object entries)
+
+-- the least path is the model's
+pub uncovered_least : (b : Base) (v : List ℕ) (id : ℕ) → is_base b ≡ true → uncovered b v id ≡ least_of b v id
+uncovered_least b v id base =
+    first_is_least b v (closure b id) (subst (λ (inputs : Inputs). T (is_sorted input_cmp inputs)) (sym (closure_made b id base)) (inputs_sorted b (closure b) (record_of b id)))
+
+-- one object more is left
+pub one_left : (b : Base) (v : List ℕ) (ids : List ℕ) (id : ℕ) → least_of_all b v (insert_key nat_cmp ids id) ≡ lesser (least_of b v id) (least_of_all b v ids)
+one_left b v [] id = refl
+one_left b v (first ∷ ids) id = by (nat_cmp id first) refl (one_left b v ids id)
+  where
+    by : (o : Ordering) → nat_cmp id first ≡ o → least_of_all b v (insert_key nat_cmp ids id) ≡ lesser (least_of b v id) (least_of_all b v ids) →
+        least_of_all b v (match_ordering o (id ∷ first ∷ ids) (first ∷ ids) (first ∷ insert_key nat_cmp ids id)) ≡ lesser (least_of b v id) (least_of_all b v (first ∷ ids))
+    by Less e rest = refl
+    by Equal e rest =
+        sym (lesser_twice (least_of b v first) (least_of_all b v ids))
+        ∙ ap (λ n. lesser (least_of b v n) (least_of_all b v (first ∷ ids))) (sym (same_number id first (tied e)))
+      where
+        tied : nat_cmp id first ≡ Equal → (id == first) ≡ true
+        tied e = sym (unsigned_tied id first) ∙ ap is_eq e
+    by Greater e rest = ap (lesser (least_of b v first)) rest ∙ lesser_swap (least_of b v first) (least_of b v id) (least_of_all b v ids)
+
+pub one_above : (ids : List ℕ) (id : ℕ) → above (insert_key nat_cmp ids id) ≤ max (suc id) (above ids)
+one_above [] id = omega arith
+one_above (first ∷ ids) id = by (nat_cmp id first) (one_above ids id)
+  where
+    by : (o : Ordering) → above (insert_key nat_cmp ids id) ≤ max (suc id) (above ids) → above (match_ordering o (id ∷ first ∷ ids) (first ∷ ids) (first ∷ insert_key nat_cmp ids id)) ≤ max (suc id) (above (first ∷ ids))
+    by Less rest = omega arith
+    by Equal rest = omega arith
+    by Greater rest = omega arith
+
+-- the last object that was left
+pub last_left : (b : Base) (v : List ℕ) (ids : List ℕ) (id : ℕ) → least_of_all b v (ids ++ id ∷ []) ≡ lesser (least_of b v id) (least_of_all b v ids)
+last_left b v [] id = refl
+last_left b v (first ∷ ids) id = ap (lesser (least_of b v first)) (last_left b v ids id) ∙ lesser_swap (least_of b v first) (least_of b v id) (least_of_all b v ids)
+
+pub last_above : (ids : List ℕ) (id : ℕ) → id < above (ids ++ id ∷ [])
+last_above [] id = omega arith
+last_above (first ∷ ids) id = let rest = last_above ids id in omega arith
+
+rising_above : (ids : List ℕ) (id : ℕ) → AllByRecursion (λ n. nat_cmp n id ≡ Less) ids → above ids ≤ id
+rising_above [] id h = omega arith
+rising_above (n ∷ ids) id h = let low : n < id = ranked n id Less (sym h.0) in let rest = rising_above ids id h.1 in omega arith
+
+pub all_above : (ids : List ℕ) (id : ℕ) → All (λ n. nat_cmp n id ≡ Less) ids → above ids ≤ id
+all_above ids id h = rising_above ids id (recursion_from_All (λ n. nat_cmp n id ≡ Less) ids h)
+
+-- an entry that names an object, which is left then
+pub entry_object : (b : Base) (v : List ℕ) (least : Option (List ℕ)) (entry : ReadOf) (old new : List ℕ) → is_publish b entry.row ≡ true → new ≡ insert_key nat_cmp old entry.row →
+    lesser least (least_of_all b v new) ≡ lesser (least_of_entry b v entry) (lesser least (least_of_all b v old))
+entry_object b v least entry old new object more =
+    ap (λ (ids : List ℕ). lesser least (least_of_all b v ids)) more
+    ∙ ap (lesser least) (one_left b v old entry.row)
+    ∙ lesser_swap least (least_of b v entry.row) (least_of_all b v old)
+    ∙ sym (ap (λ t. lesser (least_in b v (inputs_of_entry t (closure b) entry)) (lesser least (least_of_all b v old))) object)
+
+-- an entry at whose path the view sees another row
+pub entry_missed : (b : Base) (v : List ℕ) (entry : ReadOf) (least found rest : Option (List ℕ)) → is_publish b entry.row ≡ false → agrees entry.row (file_at b v entry.path) ≡ false → found ≡ lesser (Some entry.path) least →
+    lesser found rest ≡ lesser (least_of_entry b v entry) (lesser least rest)
+entry_missed b v entry least found rest other unseen is =
+    ap (λ (p : Option (List ℕ)). lesser p rest) is
+    ∙ lesser_join (Some entry.path) least rest
+    ∙ sym (ap (λ t. lesser (least_in b v (inputs_of_entry t (closure b) entry)) (lesser least rest)) other
+    ∙ ap (λ t. lesser (lesser (only_where (not t) (Some entry.path)) None) (lesser least rest)) unseen)
+
+-- one entry after the other is taken in
+pub entry_taken : (b : Base) (v : List ℕ) (entry : ReadOf) (entries : List ReadOf) (old new all : Option (List ℕ)) → new ≡ lesser (least_of_entry b v entry) old → lesser (least_of_entries b v (entry ∷ entries)) old ≡ all →
+    lesser (least_of_entries b v entries) new ≡ all
+entry_taken b v entry entries old new all taken before =
+    ap (lesser (least_of_entries b v entries)) taken
+    ∙ lesser_swap (least_of_entries b v entries) (least_of_entry b v entry) old
+    ∙ sym (lesser_join (least_of_entry b v entry) (least_of_entries b v entries) old)
+    ∙ before
+
+-- the object that was taken from those that are left, and its entries in its place
+pub object_taken : (b : Base) (v : List ℕ) (id : ℕ) (old new more : List ℕ) (least found : Option (List ℕ)) → is_base b ≡ true → old ≡ new ++ id ∷ [] →
+    lesser found (least_of_all b v more) ≡ lesser (least_of_entries b v (record_of b id)) (lesser least (least_of_all b v new)) → lesser found (least_of_all b v more) ≡ lesser least (least_of_all b v old)
+object_taken b v id old new more least found base left taken =
+    taken
+    ∙ ap (λ (p : Option (List ℕ)). lesser p (lesser least (least_of_all b v new))) (sym (object_least b v id base))
+    ∙ lesser_swap (least_of b v id) least (least_of_all b v new)
+    ∙ ap (lesser least) (sym (last_left b v new id))
+    ∙ ap (λ (ids : List ℕ). lesser least (least_of_all b v ids)) (sym left)
+
+-- what is left lies lower with each object that is taken
+pub walk_falls : (b : Base) (id : ℕ) (old new more : List ℕ) (entries : List ReadOf) → is_base b ≡ true → old ≡ new ++ id ∷ [] → All (λ n. nat_cmp n id ≡ Less) new → entries ≡ record_of b id →
+    above more ≤ max (above_entries entries) (above new) → above more < above old
+walk_falls b id old new more entries base left below recorded taken =
+    let low : above_entries entries ≤ id = subst (λ (es : List ReadOf). above_entries es ≤ id) (sym recorded) (record_above b id base) in
+    let under = all_above new id below in
+    let last : id < above old = subst (λ (ids : List ℕ). id < above ids) (sym left) (last_above new id) in
+    omega arith
+
+-- one entry more is below the same number
+pub entries_above : (entries : List ReadOf) (i : ℕ) (entry : ReadOf) (old new all : ℕ) → i < length entries → entry ≡ get_or entries i entry → new ≤ max (suc entry.row) old → max (above_entries (drop i entries)) old ≤ all →
+    max (above_entries (drop (i + 1) entries)) new ≤ all
+entries_above entries i entry old new all within at low before =
+    let same : above_entries (drop i entries) ≡ max (suc entry.row) (above_entries (drop (i + 1) entries)) =
+    at_drop_more above_entries entries i entry within ∙ ap (λ (e : ReadOf). max (suc e.row) (above_entries (drop (i + 1) entries))) (sym at) in
+    omega arith
+
+-- the entries that are left begin with this one
+pub entries_left : (b : Base) (v : List ℕ) (entries : List ReadOf) (i : ℕ) (entry : ReadOf) (old all : Option (List ℕ)) → i < length entries → entry ≡ get_or entries i entry → lesser (least_of_entries b v (drop i entries)) old ≡ all →
+    lesser (least_of_entries b v (entry ∷ drop (i + 1) entries)) old ≡ all
+entries_left b v entries i entry old all within at before =
+    ap (λ (e : ReadOf). lesser (least_of_entries b v (e ∷ drop (i + 1) entries)) old) at
+    ∙ sym (at_drop_more (λ (left : List ReadOf). lesser (least_of_entries b v left) old) entries i entry within)
+    ∙ before

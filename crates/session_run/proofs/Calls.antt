@@ -1,0 +1,4 @@
+-- The session that a call gives, and which status comes of which cause.
+pub mod Exactly
+pub mod Ready
+pub mod UnstartedStatuses

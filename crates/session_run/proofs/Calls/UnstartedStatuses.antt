@@ -1,0 +1,17 @@
+-- Which status tells which reason why a session is not started.
+use Rattle.std.proofs.Common.{◌≡◌, refl}
+use Rattle.base_core.specs.declared.opening.OpenCause.TheVariants as opens
+use Rattle.session_run.specs.Running.Unstarted.{unstarted_status}
+use Rattle.session_run.specs.declared.sessions.Unstarted.{Unstarted}
+use Rattle.session_run.specs.declared.sessions.Unstarted.TheVariants as why
+use Rattle.session_run.specs.declared.statuses.Status.TheVariants as statuses
+
+-- want of memory is told for nothing else
+pub only_memory : (unstarted : Unstarted) → unstarted_status unstarted ≡ statuses.NoMemory → unstarted ≡ why.Unopened opens.NoMemory
+only_memory why.BadWords is = absurd (cc)
+only_memory why.ReadFault is = absurd (cc)
+only_memory why.TooLong is = absurd (cc)
+only_memory (why.BadSession error) is = absurd (cc)
+only_memory (why.Unopened (opens.Damaged row)) is = absurd (cc)
+only_memory (why.Unopened opens.DiskFault) is = absurd (cc)
+only_memory (why.Unopened opens.NoMemory) is = refl

@@ -1,0 +1,279 @@
+-- Whose fault it was, by the calls on the device.
+use Rattle.std.proofs.Common.{◌≡◌, ◌⊎◌, ◌<◌, ◌≤◌, ◌+◌, ◌-◌, ◌^◌, ℕ, Bool, true, false, not, ◌&&◌, if◌then◌else◌, Option, Some, None, List, [], ◌∷◌, ◌++◌, length, reverse, drop, refl, sym, ◌∙◌, ap, ap₂, subst, inl, inr, arith, length-append}
+use Rattle.std.proofs.lemmas.List.{reverse-append, append_assoc, length-reverse, take_at, drop_at}
+use Rattle.std.proofs.lemmas.List.Folds.{list_all-append}
+use Rattle.std.proofs.lemmas.Bool.{cases_lt}
+use Rattle.std.specs.List.{list_all}
+use Rattle.cc_names.specs.Formed.{Plain}
+use Rattle.cc_names.specs.declared.steps.Counts.{Counts}
+use Rattle.cc_names.specs.declared.steps.Step.TheVariants as steps
+use Rattle.cc_names.specs.declared.steps.Told.{Told}
+use Rattle.cc_names.specs.declared.steps.Told.TheVariants as told
+use Rattle.disk_model.specs.Counting.{next_count}
+use Rattle.disk_model.specs.Devices.{Device, Event, Measured, Fetched, Wrote, Tore, Synced, Failed, failures}
+use Rattle.disk_model.specs.Told.{Sight, IfTold, Both, IsCounted, CountsFailures}
+use Rattle.disk_model.proofs.Recording.{failures_most}
+use Rattle.legal_history.specs.Stories.States.{State, End, start}
+use Rattle.legal_history.specs.Stories.Steps.{after, state_from, state_of}
+use Rattle.vob_journal.specs.Added.{Adds, WritesOn, is_read, may_read, may_write}
+use Rattle.vob_journal.proofs.Adding.{adds_none, adds_then}
+use Rattle.vob_journal.proofs.Telling.{both_map, both_then}
+use Rattle.base_core.specs.Stopping.Backed.{may_be_open}
+use Rattle.base_core.specs.Stopping.Standing.{tick_of}
+use Rattle.base_core.specs.Story.Counted.{CountsStep, CountsSteps}
+use Rattle.session_run.specs.Faults.Accounted.{CountsFrom, Settles}
+use Rattle.session_run.specs.Faults.Blamed.{failed_by, MeetsFault, FailsAtFaults, SettlesBehind, RestsBehind, reads_first, IsBlamed}
+use Rattle.session_run.specs.Story.Begun.{first_step}
+
+pub failures_more : (more earlier : List Event) → failures (more ++ earlier) ≡ failures more + failures earlier
+failures_more [] earlier = omega arith
+failures_more (event ∷ more) earlier = omega (arith, failures_more more earlier)
+
+failures_back : (calls : List Event) → failures (reverse calls) ≡ failures calls
+failures_back [] = refl
+failures_back (event ∷ calls) =
+    let one = failures_more (reverse calls) (event ∷ []) in
+    ap failures (reverse-append (event ∷ []) calls) ∙ omega (arith, one, failures_back calls)
+
+-- the calls of a device, the oldest first, begin with those of an earlier one
+first_calls : (kind : Event → Bool) (d e : Device) (added : Adds kind d e) → reverse e.calls ≡ reverse d.calls ++ reverse added.more
+first_calls kind d e added = ap reverse added.calls ∙ reverse-append added.more d.calls
+
+failed_before : (d : Device) (calls rest : List Event) → calls ≡ reverse d.calls ++ rest → failed_by (length d.calls) calls ≡ failures d.calls
+failed_before d calls rest is =
+    ap (failed_by (length d.calls)) is ∙ ap failures (take_at (reverse d.calls) rest (length d.calls) (length-reverse d.calls)) ∙ failures_back d.calls
+
+-- The counts of a device that went on
+module _ (kind : Event → Bool) (one two : Sight) (d e : Device) (first : IsCounted one) (second : IsCounted two)
+    (is : one.told ≡ Some d) (be : two.told ≡ Some e) (added : Adds kind d e) where
+  ticks_one : one.ticks ≡ length d.calls
+  ticks_one = subst (λ told. IfTold told (λ d. one.ticks ≡ length d.calls)) is first.told
+
+  ticks_two : two.ticks ≡ length e.calls
+  ticks_two = subst (λ told. IfTold told (λ d. two.ticks ≡ length d.calls)) be second.told
+
+  counts_one : CountsFailures one.ticks one.faults d
+  counts_one = subst (λ told. IfTold told (CountsFailures one.ticks one.faults)) is first.failed
+
+  counts_two : CountsFailures two.ticks two.faults e
+  counts_two = subst (λ told. IfTold told (CountsFailures two.ticks two.faults)) be second.failed
+
+  longer : length e.calls ≡ length added.more + length d.calls
+  longer = ap length added.calls ∙ length-append added.more d.calls
+
+  failed_more : failures e.calls ≡ failures added.more + failures d.calls
+  failed_more = ap failures added.calls ∙ failures_more added.more d.calls
+
+  -- no more failed than faults were counted
+  none_more : (n : ℕ) → two.faults ≤ one.faults + n → failures added.more ≤ n
+  none_more n most = elim (cases_lt one.ticks (2 ^ 64 - 1)) [
+    | inl within ↦ omega (arith, counts_one.no_other within, counts_two.each, failed_more, most)
+    | inr end ↦ omega (arith, failures_most added.more, longer, ticks_one, ticks_two, second.ticks, end)
+  ]
+
+  pub same_failed : two.faults ≡ one.faults → failures e.calls ≡ failures d.calls
+  same_failed same = omega (arith, none_more 0 (omega (arith, same)), failed_more)
+
+  pub one_failed : (two.faults ≡ one.faults) ⊎ (two.faults ≡ next_count one.faults) → failures e.calls ≤ failures d.calls + 1
+  one_failed (inl same) = omega (arith, none_more 1 (omega (arith, same)), failed_more)
+  one_failed (inr rose) = omega (arith, none_more 1 (omega (arith, rose)), failed_more)
+
+  -- a fault below the end of ticks
+  pub some_failed : two.ticks < 2 ^ 64 - 1 → two.faults ≡ next_count one.faults → (one.faults ≡ failures d.calls) × (two.faults ≡ failures e.calls) × (two.faults ≡ one.faults + 1)
+  some_failed within rose =
+      let was = counts_one.no_other (omega (arith, within, longer, ticks_one, ticks_two)) in
+      let now = counts_two.no_other within in
+      (was, now, omega (arith, rose, now, failures_most e.calls, ticks_two, within))
+
+  -- so many calls more at most
+  pub so_many : (n : ℕ) → two.ticks ≤ one.ticks + n → length e.calls ≤ length d.calls + n
+  so_many n most = omega (arith, ticks_one, ticks_two, most)
+
+  -- and none, where none was made
+  pub no_call : two.ticks ≡ one.ticks → length e.calls ≡ length d.calls
+  no_call same = sym ticks_two ∙ same ∙ ticks_one
+
+-- what was told before, where more is told now
+told_before : (R : Device → Device → Type 0) (old new : Option Device) (e : Device) → new ≡ Some e → Both R old new → (d : Device) × (old ≡ Some d) × R d e
+told_before R old new e is both = by old (subst (λ told. Both R old told) is both)
+  where
+    by : (old : Option Device) → Both R old (Some e) → (d : Device) × (old ≡ Some d) × R d e
+    by None h = absurd h
+    by (Some d) h = (d, refl, h)
+
+adds_idle : (told : Option Device) → Both (Adds may_write) told told
+adds_idle None = tt
+adds_idle (Some d) = adds_none may_write d
+
+same_adds : (old new : Sight) → new ≡ old → Both (Adds may_write) old.told new.told
+same_adds old new e = subst (λ s. Both (Adds may_write) old.told s.told) (sym e) (adds_idle old.told)
+
+adds_on : (one two three : Option Device) → Both (Adds may_write) one two → Both (Adds may_write) two three → Both (Adds may_write) one three
+adds_on one two three h k = both_then (Adds may_write) (Adds may_write) (Adds may_write) one two three (adds_then may_write) h k
+
+of_writes : (one two : Option Device) → Both WritesOn one two → Both (Adds may_write) one two
+of_writes one two h = both_map WritesOn (Adds may_write) one two (λ d e w. w.adds) h
+
+step_adds : (step : Told) (old new : Sight) → CountsStep step old new → Both (Adds may_write) old.told new.told
+step_adds (told.Commit row tick) old new h = of_writes old.told new.told h.4
+step_adds (told.Other (steps.Fault tag left before faults tick)) old new h = of_writes old.told new.told h.6
+step_adds (told.Other (steps.Opened n)) old new h = same_adds old new h
+step_adds (told.Other step) old new h = same_adds old new h
+step_adds (told.Opened rows counts tells) old new h = same_adds old new h
+step_adds (told.Plan phase moment) old new h = same_adds old new h
+
+steps_add : (more : List Told) (old new : Sight) → CountsSteps more old new → Both (Adds may_write) old.told new.told
+steps_add [] old new h = same_adds old new h
+steps_add (step ∷ more) old new h = adds_on old.told h.0.told new.told (step_adds step old h.0 h.1) (steps_add more h.0 new h.2)
+
+both_at : (R : Device → Device → Type 0) (old new : Option Device) (d e : Device) → old ≡ Some d → new ≡ Some e → Both R old new → R d e
+both_at R old new d e is be h = subst (λ told. Both R (Some d) told) be (subst (λ told. Both R told new) is h)
+
+-- the newest end was made on this device, on which so many of the calls had been made and had failed
+abbrev IsNewest : ℕ → List Event → List End → Device → Type 0
+IsNewest handed calls [] d = failures d.calls ≡ failed_by handed calls
+IsNewest handed calls (end ∷ ends) d = (tick_of end ≡ length d.calls) × (failed_by (tick_of end) calls ≡ failures d.calls)
+
+-- the journal was settled at the end
+module _ (old now : Sight) (d e : Device) (first : IsCounted old) (second : IsCounted now) (is : old.told ≡ Some d) (be : now.told ≡ Some e) where
+  settling_adds : (ajar : Bool) → Settles ajar old now → Adds may_write d e
+  settling_adds ajar settles = (both_at WritesOn old.told now.told d e is be settles.writes).adds
+
+  settles_behind : (ajar : Bool) (tick : ℕ) → tick ≡ length d.calls → failed_by tick (reverse e.calls) ≡ failures d.calls → Settles ajar old now → SettlesBehind ajar tick (reverse e.calls)
+  settles_behind true tick at failed settles = (
+    omega (arith, length-reverse e.calls, at, so_many may_write old now d e first second is be (settling_adds true settles) 2 settles.few),
+    omega (arith, failures_back e.calls, failed, one_failed may_write old now d e first second is be (settling_adds true settles) settles.faults),
+  )
+  settles_behind false tick at failed settles =
+      length-reverse e.calls ∙ no_call may_write old now d e first second is be (settling_adds false settles) (ap (λ s. s.ticks) (settles.rests refl)) ∙ sym at
+
+  pub ends_well : (handed : ℕ) (ends : List End) → IsNewest handed (reverse e.calls) ends d → Settles (may_be_open ends) old now → RestsBehind handed ends (reverse e.calls)
+  ends_well handed [] newest settles =
+      failures_back e.calls ∙ same_failed may_write old now d e first second is be (settling_adds false settles) (ap (λ s. s.faults) (settles.rests refl)) ∙ newest
+  ends_well handed (end ∷ ends) newest settles = settles_behind (may_be_open (end ∷ ends)) (tick_of end) newest.0 newest.1 settles
+
+-- the steps of a history, and the calls of the device as it came back
+blames : (e : Device) (handed : ℕ) (s : State) (more : List Told) (old ended now : Sight) (d : Device) → IsNewest handed (reverse e.calls) s.ends d → old.told ≡ Some d → now.told ≡ Some e → IsCounted old → IsCounted now
+    → CountsSteps more old ended → Settles (may_be_open (state_from s more).ends) ended now
+    → FailsAtFaults (failures d.calls) (reverse e.calls) more × RestsBehind handed (state_from s more).ends (reverse e.calls)
+blames e handed s [] old ended now d newest is be first second h settles =
+    (tt, ends_well old now d e first second is be handed s.ends newest (subst (λ t. Settles (may_be_open s.ends) t now) h settles))
+blames e handed s (told.Commit row tick ∷ more) old ended now d newest is be first second h settles =
+    let mid = h.0 in
+    let rest = adds_on mid.told ended.told now.told (steps_add more mid ended h.2) (of_writes ended.told now.told settles.writes) in
+    let at = told_before (Adds may_write) mid.told now.told e be rest in
+    let added = (both_at WritesOn old.told mid.told d at.0 is at.1 h.1.4).adds in
+    let same = same_failed may_write old mid d at.0 first h.1.3 is at.1 added h.1.2 in
+    let ticks : tick ≡ length at.0.calls = h.1.0 ∙ subst (λ told. IfTold told (λ d. mid.ticks ≡ length d.calls)) at.1 h.1.3.told in
+    let failed = ap (λ n. failed_by n (reverse e.calls)) ticks ∙ failed_before at.0 (reverse e.calls) (reverse at.2.more) (first_calls may_write at.0 e at.2) in
+    let on = blames e handed (after s (told.Commit row tick)) more mid ended now at.0 (ticks, failed) at.1 be h.1.3 second h.2 settles in
+    ((failed ∙ same, subst (λ n. FailsAtFaults n (reverse e.calls) more) same on.0), on.1)
+blames e handed s (told.Other (steps.Fault tag left before faults tick) ∷ more) old ended now d newest is be first second h settles =
+    let mid = h.0 in
+    let rest = adds_on mid.told ended.told now.told (steps_add more mid ended h.2) (of_writes ended.told now.told settles.writes) in
+    let at = told_before (Adds may_write) mid.told now.told e be rest in
+    let added = (both_at WritesOn old.told mid.told d at.0 is at.1 h.1.6).adds in
+    let rose : mid.faults ≡ next_count old.faults = sym h.1.1 ∙ h.1.2 ∙ ap next_count h.1.0 in
+    let ticks : tick ≡ length at.0.calls = h.1.3 ∙ subst (λ told. IfTold told (λ d. mid.ticks ≡ length d.calls)) at.1 h.1.5.told in
+    let failed = ap (λ n. failed_by n (reverse e.calls)) ticks ∙ failed_before at.0 (reverse e.calls) (reverse at.2.more) (first_calls may_write at.0 e at.2) in
+    let on = blames e handed (after s (told.Other (steps.Fault tag left before faults tick))) more mid ended now at.0 (ticks, failed) at.1 be h.1.5 second h.2 settles in
+    let meets : MeetsFault (failures d.calls) before faults tick (reverse e.calls) = λ within.
+    let some = some_failed may_write old mid d at.0 first h.1.5 is at.1 added (omega (arith, within, h.1.3)) rose in
+    (h.1.0 ∙ some.0, h.1.1 ∙ some.1 ∙ sym failed, omega (arith, h.1.0, h.1.1, some.2)) in
+    ((meets, subst (λ n. FailsAtFaults n (reverse e.calls) more) (sym failed) on.0), on.1)
+blames e handed s (told.Other step ∷ more) old ended now d newest is be first second h settles =
+    blames e handed (after s (told.Other step)) more old ended now d newest is be first second (subst (λ t. CountsSteps more t ended) h.1 h.2) settles
+blames e handed s (told.Opened rows counts tells ∷ more) old ended now d newest is be first second h settles =
+    blames e handed (after s (told.Opened rows counts tells)) more old ended now d newest is be first second (subst (λ t. CountsSteps more t ended) h.1 h.2) settles
+blames e handed s (told.Plan phase moment ∷ more) old ended now d newest is be first second h settles =
+    blames e handed (after s (told.Plan phase moment)) more old ended now d newest is be first second (subst (λ t. CountsSteps more t ended) h.1 h.2) settles
+
+-- the calls of the opening come first, and none of them failed
+all_back : (kind : Event → Bool) (calls : List Event) → list_all kind calls ≡ true → list_all kind (reverse calls) ≡ true
+all_back kind [] h = refl
+all_back kind (event ∷ calls) h =
+    let parts = halves (kind event) (list_all kind calls) h in
+    ap (list_all kind) (reverse-append (event ∷ []) calls) ∙ list_all-append kind (reverse calls) (event ∷ [])
+    ∙ ap₂ (λ a b. a && b) (all_back kind calls parts.1) (ap (λ a. a && true) parts.0)
+  where
+    halves : (a b : Bool) → a && b ≡ true → (a ≡ true) × (b ≡ true)
+    halves true b h = (refl, h)
+    halves false b h = absurd (cc)
+
+all_read : (calls : List Event) → list_all may_read calls ≡ true → failures calls ≡ 0 → list_all is_read calls ≡ true
+all_read [] h none = refl
+all_read (Measured file ∷ calls) h none = all_read calls h (omega (arith, none))
+all_read (Fetched file place size ∷ calls) h none = all_read calls h (omega (arith, none))
+all_read (Wrote file place size left ∷ calls) h none = absurd (cc)
+all_read (Tore file place size left ∷ calls) h none = absurd (cc)
+all_read (Synced file ∷ calls) h none = absurd (cc)
+all_read (Failed ∷ calls) h none = absurd (omega (arith, none))
+
+writes_alone : (calls : List Event) → list_all may_write calls ≡ true → reads_first calls ≡ true
+writes_alone [] h = refl
+writes_alone (event ∷ calls) h = by (is_read event) (reads_first calls) (list_all may_write calls) h
+  where
+    by : (b x y : Bool) → not b && y ≡ true → (if b then x else y) ≡ true
+    by true x y h = absurd (cc)
+    by false x y h = h
+
+reads_and_writes : (reads writes : List Event) → list_all is_read reads ≡ true → list_all may_write writes ≡ true → reads_first (reads ++ writes) ≡ true
+reads_and_writes [] writes h k = writes_alone writes k
+reads_and_writes (event ∷ reads) writes h k = by (is_read event) (list_all is_read reads) h (λ more. reads_and_writes reads writes more k)
+  where
+    by : (a b : Bool) → a && b ≡ true → (b ≡ true → reads_first (reads ++ writes) ≡ true) → (if a then reads_first (reads ++ writes) else list_all may_write (reads ++ writes)) ≡ true
+    by true b h on = on h
+    by false b h on = absurd (cc)
+
+-- the first step is the opening
+first_opens : (first : Told) (rows : List Plain) (counts : Counts) (tells : Bool) → Some first ≡ Some (told.Opened rows counts tells) → first ≡ told.Opened rows counts tells
+first_opens first rows counts tells is = ap (λ o. elim o [ None ↦ first | Some x ↦ x ]) is
+
+-- *Whose fault*, of a session whose base was opened
+pub blamed : (before opened now : Sight) (story : List Told) (rows : List Plain) (counts : Counts) (tells : Bool) → IsCounted before → IsCounted opened → IsCounted now
+    → opened.faults ≡ before.faults → Both (Adds may_read) before.told opened.told → first_step story ≡ Some (told.Opened rows counts tells) → CountsFrom opened now story
+    → IfTold now.told (IsBlamed before.ticks story)
+blamed before opened now story rows counts tells was first second sound reads begins from = by now.told refl
+  where
+    is_first : from.first ≡ told.Opened rows counts tells
+    is_first = first_opens from.first rows counts tells (ap first_step (sym from.story_is) ∙ begins)
+
+    story_is : story ≡ told.Opened rows counts tells ∷ from.steps
+    story_is = from.story_is ∙ ap (λ x. x ∷ from.steps) is_first
+
+    settles : Settles (may_be_open (state_from (after start (told.Opened rows counts tells)) from.steps).ends) from.ended now
+    settles = subst (λ s. Settles (may_be_open (state_of s).ends) from.ended now) story_is from.settled
+
+    all : Both (Adds may_write) opened.told now.told
+    all = adds_on opened.told from.ended.told now.told (steps_add from.steps opened from.ended from.counts) (of_writes from.ended.told now.told from.settled.writes)
+
+    on : (e : Device) → now.told ≡ Some e → IsBlamed before.ticks story e
+    on e be =
+        let at = told_before (Adds may_write) opened.told now.told e be all in
+        let d = at.0 in
+        let written = at.2 in
+        let old = told_before (Adds may_read) before.told opened.told d at.1 reads in
+        let b = old.0 in
+        let read = old.2 in
+        let same = same_failed may_read before opened b d was first old.1 at.1 read sound in
+        let none : failures read.more ≡ 0 = omega (arith, same, ap failures read.calls, failures_more read.more b.calls) in
+        let ticks : before.ticks ≡ length b.calls = subst (λ told. IfTold told (λ d. before.ticks ≡ length d.calls)) old.1 was.told in
+        let split : reverse e.calls ≡ reverse b.calls ++ (reverse read.more ++ reverse written.more) =
+        first_calls may_write d e written ∙ ap (λ calls. calls ++ reverse written.more) (first_calls may_read b d read)
+        ∙ append_assoc (reverse b.calls) (reverse read.more) (reverse written.more) in
+        let failed : failed_by before.ticks (reverse e.calls) ≡ failures d.calls =
+        ap (λ n. failed_by n (reverse e.calls)) ticks ∙ failed_before b (reverse e.calls) (reverse read.more ++ reverse written.more) split ∙ sym same in
+        let ends = blames e before.ticks (after start (told.Opened rows counts tells)) from.steps opened from.ended now d (sym failed) at.1 be first second from.counts settles in
+        record {
+          opening =
+              ap reads_first (ap (λ calls. drop before.ticks calls) split
+              ∙ drop_at (reverse b.calls) (reverse read.more ++ reverse written.more) before.ticks (length-reverse b.calls ∙ sym ticks))
+              ∙ reads_and_writes (reverse read.more) (reverse written.more) (all_back is_read read.more (all_read read.more read.kinds none)) (all_back may_write written.more written.kinds);
+          ends = subst (λ s. FailsAtFaults (failed_by before.ticks (reverse e.calls)) (reverse e.calls) s) (sym story_is)
+              (subst (λ n. FailsAtFaults n (reverse e.calls) from.steps) (sym failed) ends.0);
+          behind = subst (λ s. RestsBehind before.ticks (state_of s).ends (reverse e.calls)) (sym story_is) ends.1;
+        }
+
+    by : (told : Option Device) → now.told ≡ told → IfTold told (IsBlamed before.ticks story)
+    by None be = tt
+    by (Some e) be = on e be

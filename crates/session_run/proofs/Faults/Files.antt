@@ -1,0 +1,97 @@
+-- What a session leaves of the files.
+use Rattle.std.proofs.Common.{◌≡◌, true, false, Option, Some, None, List, [], ◌∷◌, refl, ap, sym, subst, ◌∙◌}
+use Rattle.cc_names.specs.declared.steps.Step.TheVariants as steps
+use Rattle.cc_names.specs.declared.steps.Told.{Told}
+use Rattle.cc_names.specs.declared.steps.Told.TheVariants as told
+use Rattle.disk_model.specs.Devices.{Device}
+use Rattle.disk_model.specs.Told.{Sight, Both}
+use Rattle.legal_history.specs.Stories.States.{State, start}
+use Rattle.legal_history.specs.Stories.Steps.{after, state_from, state_of}
+use Rattle.vob_journal.specs.Added.{WritesOn}
+use Rattle.vob_journal.specs.Reads.{SameFiles, SameObjects}
+use Rattle.vob_journal.proofs.Telling.{both_map, both_then}
+use Rattle.base_core.specs.Stopping.Backed.{may_be_open}
+use Rattle.base_core.specs.Story.Counted.{CountsStep, CountsSteps}
+use Rattle.session_run.specs.Calls.Causes.{Change}
+use Rattle.session_run.specs.Faults.Accounted.{CountsFrom, KeepsFiles, is_calm}
+
+-- the file of objects is as it was before, also through a third moment
+objects_then : (one two three : Option Device) → Both SameObjects one two → Both SameObjects two three → Both SameObjects one three
+objects_then one two three h k = both_then SameObjects SameObjects SameObjects one two three (λ d e f first second. second ∙ first) h k
+
+of_files : (one two : Option Device) → Both SameFiles one two → Both SameObjects one two
+of_files None None h = tt
+of_files None (Some e) h = absurd h
+of_files (Some d) None h = absurd h
+of_files (Some d) (Some e) h = h.objects
+
+of_writes : (one two : Option Device) → Both WritesOn one two → Both SameObjects one two
+of_writes one two h = both_map WritesOn SameObjects one two (λ d e writes. writes.objects) h
+
+objects_idle : (one : Option Device) → Both SameObjects one one
+objects_idle None = tt
+objects_idle (Some d) = refl
+
+same_sight : (old new : Sight) → new ≡ old → Both SameObjects old.told new.told
+same_sight old new e = subst (λ s. Both SameObjects old.told s.told) (sym e) (objects_idle old.told)
+
+-- each step leaves the file of objects
+step_leaves : (step : Told) (old new : Sight) → CountsStep step old new → Both SameObjects old.told new.told
+step_leaves (told.Commit row tick) old new h = of_writes old.told new.told h.4
+step_leaves (told.Other (steps.Fault tag left before faults tick)) old new h = of_writes old.told new.told h.6
+step_leaves (told.Other (steps.Opened n)) old new h = same_sight old new h
+step_leaves (told.Other step) old new h = same_sight old new h
+step_leaves (told.Opened rows counts tells) old new h = same_sight old new h
+step_leaves (told.Plan phase moment) old new h = same_sight old new h
+
+steps_leave : (more : List Told) (old new : Sight) → CountsSteps more old new → Both SameObjects old.told new.told
+steps_leave [] old new h = same_sight old new h
+steps_leave (step ∷ more) old new h = objects_then old.told h.0.told new.told (step_leaves step old h.0 h.1) (steps_leave more h.0 new h.2)
+
+-- steps without a commit and a fault make no call on the disk
+calm_rests : (more : List Told) (old new : Sight) → is_calm more ≡ true → CountsSteps more old new → new ≡ old
+calm_rests [] old new calm h = h
+calm_rests (told.Commit row tick ∷ more) old new calm h = absurd (cc)
+calm_rests (told.Other (steps.Fault tag left before faults tick) ∷ more) old new calm h = absurd (cc)
+calm_rests (told.Other step ∷ more) old new calm h = calm_rests more h.0 new calm h.2 ∙ h.1
+calm_rests (told.Opened rows counts tells ∷ more) old new calm h = calm_rests more h.0 new calm h.2 ∙ h.1
+calm_rests (told.Plan phase moment ∷ more) old new calm h = calm_rests more h.0 new calm h.2 ∙ h.1
+
+-- and add no end
+calm_ends : (s : State) (more : List Told) → is_calm more ≡ true → (state_from s more).ends ≡ s.ends
+calm_ends s [] calm = refl
+calm_ends s (told.Commit row tick ∷ more) calm = absurd (cc)
+calm_ends s (told.Other (steps.Fault tag left before faults tick) ∷ more) calm = absurd (cc)
+calm_ends s (told.Other step ∷ more) calm = calm_ends (after s (told.Other step)) more calm
+calm_ends s (told.Opened rows counts tells ∷ more) calm = calm_ends (after s (told.Opened rows counts tells)) more calm
+calm_ends s (told.Plan phase moment ∷ more) calm = calm_ends (after s (told.Plan phase moment)) more calm
+
+-- a calm story that begins with an opening has no fault
+calm_story : (story : List Told) (first : Told) (more : List Told) → story ≡ first ∷ more → is_calm story ≡ true → (is_calm more ≡ true) × (may_be_open (state_of story).ends ≡ false)
+calm_story story first more is calm = subst (λ s. is_calm s ≡ true → (is_calm more ≡ true) × (may_be_open (state_of s).ends ≡ false)) (sym is) (by first) calm
+  where
+    none : (x : Told) → is_calm more ≡ true → (after start x).ends ≡ [] → may_be_open (state_from (after start x) more).ends ≡ false
+    none x calm empty = ap may_be_open (calm_ends (after start x) more calm ∙ empty)
+
+    by : (x : Told) → is_calm (x ∷ more) ≡ true → (is_calm more ≡ true) × (may_be_open (state_of (x ∷ more)).ends ≡ false)
+    by (told.Commit row tick) calm = absurd (cc)
+    by (told.Other (steps.Fault tag left before faults tick)) calm = absurd (cc)
+    by (told.Other step) calm = (calm, none (told.Other step) calm refl)
+    by (told.Opened rows counts tells) calm = (calm, none (told.Opened rows counts tells) calm refl)
+    by (told.Plan phase moment) calm = (calm, none (told.Plan phase moment) calm refl)
+
+-- The files of a session whose base was opened
+pub keeps_files : (disk : Change Sight) (opened : Sight) (story : List Told) → Both SameFiles disk.before.told opened.told → CountsFrom opened disk.after story → KeepsFiles disk story
+keeps_files disk opened story same counted = record {
+  objects =
+      objects_then disk.before.told opened.told disk.after.told (of_files disk.before.told opened.told same)
+      (objects_then opened.told counted.ended.told disk.after.told (steps_leave counted.steps opened counted.ended counted.counts) (of_writes counted.ended.told disk.after.told counted.settled.writes));
+  files = λ calm.
+      let parts = calm_story story counted.first counted.steps counted.story_is calm in
+      let rests = counted.settled.rests parts.1 ∙ calm_rests counted.steps opened counted.ended parts.0 counted.counts in
+      subst (λ s. Both SameFiles disk.before.told s.told) (sym rests) same;
+}
+
+-- and of one whose base was not
+pub closed_files : (disk : Change Sight) → Both SameFiles disk.before.told disk.after.told → KeepsFiles disk []
+closed_files disk same = record { objects = of_files disk.before.told disk.after.told same; files = λ calm. same }

@@ -1,0 +1,177 @@
+-- What a stop finds, from what the core and the disk tell.
+use Rattle.std.proofs.Common.{◌≡◌, ℕ, ◌-◌, ◌^◌, ◌<◌, ◌≤◌, inl, inr, Bool, true, false, Option, Some, None, Result, Ok, Err, List, [], ◌∷◌, length, reverse, refl, ap, sym, subst, ◌∙◌, arith}
+use Rattle.std.specs.Prelude.{is_some, OnOk, OnErr}
+use Rattle.std.proofs.lemmas.Bool.Decides.{nat_tests}
+use Rattle.cc_names.specs.Formed.{Plain}
+use Rattle.cc_names.specs.declared.steps.Counts.{Counts}
+use Rattle.cc_names.specs.declared.steps.Step.TheVariants as steps
+use Rattle.cc_names.specs.declared.steps.Told.{Told}
+use Rattle.cc_names.specs.declared.steps.Told.TheVariants as told
+use Rattle.disk_model.specs.Devices.{Device, MayLeave, bytes_of, file_of}
+use Rattle.disk_model.specs.Files.{IsImage, stable}
+use Rattle.disk_model.specs.Told.{Sight, Both, IfTold, IsCounted}
+use Rattle.legal_history.specs.Stories.States.{State, Opening, start, faults_of, hanging}
+use Rattle.legal_history.specs.Stories.Steps.{after, state_from, state_of}
+use Rattle.cc_names.specs.Counts.{rises}
+use Rattle.legal_history.specs.Stories.Lawful.{Legal, LegalFrom}
+use Rattle.vob_journal.specs.Frames.{frames}
+use Rattle.vob_journal.specs.Reads.{SameFiles}
+use Rattle.vob_journal.proofs.Journals.{stable_image}
+use Rattle.vob_journal.proofs.Staying.{told_stay}
+use Rattle.base_core.specs.Stopping.Backed.{IsAccounted, IsSettled}
+use Rattle.base_core.specs.Stopping.Founds.{OpensAgain}
+use Rattle.base_core.specs.Stopping.Standing.{MayBeFound}
+use Rattle.base_core.specs.Story.Telling.{oldest_first}
+use Rattle.base_core.proofs.Stopping.Backing.{left_within_calls}
+use Rattle.base_core.proofs.Keeping.Idle.{some_same}
+use Rattle.session_run.specs.Faults.Stopped.{AllOpenAgain, AreApart, IsHandedIn, IsMended, IsStopped, KeepsFrames, rises_of}
+use Rattle.session_run.specs.Promises.Headline.{BeginsOn}
+use Rattle.session_run.specs.Story.Begun.{first_step, is_opened}
+
+-- each fault of a story has a rise of its own
+apart_from : (s : State) (story : List Told) → is_some s.opened ≡ true → LegalFrom s story → AreApart (faults_of s.opened s.ends) (rises_of story) (faults_of (state_from s story).opened (state_from s story).ends)
+apart_from s [] opened legal = omega arith
+apart_from s (told.Opened rows counts tells ∷ story) opened legal = let first = legal.0.first in absurd (cc)
+apart_from s (told.Plan phase moment ∷ story) opened legal = apart_from (after s (told.Plan phase moment)) story opened legal.1
+apart_from s (told.Commit row tick ∷ story) opened legal = apart_from (after s (told.Commit row tick)) story opened legal.1
+apart_from s (told.Other (steps.Fault tag left before faults tick) ∷ story) opened legal = (
+  legal.0.later,
+  legal.0.rose,
+  apart_from (after s (told.Other (steps.Fault tag left before faults tick))) story opened legal.1,
+)
+apart_from s (told.Other step ∷ story) opened legal = apart_from (after s (told.Other step)) story opened legal.1
+
+apart_wider : (low : ℕ) (rs : List (ℕ × ℕ)) (high most : ℕ) → AreApart low rs high → high ≤ most → AreApart low rs most
+apart_wider low [] high most h le = omega arith
+apart_wider low (rise ∷ rs) high most h le = (h.0, h.1, apart_wider rise.1 rs high most h.2 le)
+
+-- the base stays the one that was opened
+opened_stays : (s : State) (story : List Told) → is_some s.opened ≡ true → LegalFrom s story → (state_from s story).opened ≡ s.opened
+opened_stays s [] opened legal = refl
+opened_stays s (told.Opened rows counts tells ∷ story) opened legal = let first = legal.0.first in absurd (cc)
+opened_stays s (told.Plan phase moment ∷ story) opened legal = opened_stays (after s (told.Plan phase moment)) story opened legal.1
+opened_stays s (told.Commit row tick ∷ story) opened legal = opened_stays (after s (told.Commit row tick)) story opened legal.1
+opened_stays s (told.Other (steps.Fault tag left before faults tick) ∷ story) opened legal = opened_stays (after s (told.Other (steps.Fault tag left before faults tick))) story opened legal.1
+opened_stays s (told.Other step ∷ story) opened legal = opened_stays (after s (told.Other step)) story opened legal.1
+
+-- a story without a fault leaves no row behind
+none_hangs : (s : State) (story : List Told) → hanging s.ends ≡ None → rises_of story ≡ [] → hanging (state_from s story).ends ≡ None
+none_hangs s [] none sound = none
+none_hangs s (told.Opened rows counts tells ∷ story) none sound = none_hangs (after s (told.Opened rows counts tells)) story none sound
+none_hangs s (told.Plan phase moment ∷ story) none sound = none_hangs (after s (told.Plan phase moment)) story none sound
+none_hangs s (told.Commit row tick ∷ story) none sound = none_hangs (after s (told.Commit row tick)) story refl sound
+none_hangs s (told.Other (steps.Fault tag left before faults tick) ∷ story) none sound = absurd (cc)
+none_hangs s (told.Other step ∷ story) none sound = none_hangs (after s (told.Other step)) story none sound
+
+-- what a story that begins with this opening came from
+abbrev pub opening_of : List Plain → Counts → Bool → Opening
+opening_of rows counts tells = record { base = reverse rows; counts = counts; tells = tells }
+
+-- of a legal story that begins with an opening
+pub record IsBegun (story : List Told) (rows : List Plain) (counts : Counts) (tells : Bool) : Type 0 where
+  pub opened : (state_of story).opened ≡ Some (opening_of rows counts tells)
+  apart : AreApart counts.faults (rises_of story) (faults_of (state_of story).opened (state_of story).ends)
+
+pub is_begun : (story : List Told) (rows : List Plain) (counts : Counts) (tells : Bool) → first_step story ≡ Some (told.Opened rows counts tells) → Legal story → IsBegun story rows counts tells
+is_begun [] rows counts tells first legal = absurd (cc)
+is_begun (x ∷ story) rows counts tells first legal = subst (λ y. IsBegun (y ∷ story) rows counts tells) (sym same) (begun (subst (λ y. Legal (y ∷ story)) same legal))
+  where
+    same : x ≡ told.Opened rows counts tells
+    same = cc
+
+    begun : Legal (told.Opened rows counts tells ∷ story) → IsBegun (told.Opened rows counts tells ∷ story) rows counts tells
+    begun legal = record {
+      opened = opened_stays (after start (told.Opened rows counts tells)) story refl legal.1;
+      apart = apart_from (after start (told.Opened rows counts tells)) story refl legal.1;
+    }
+
+none_without : (story : List Told) → rises_of story ≡ [] → hanging (state_of story).ends ≡ None
+none_without story sound = none_hangs start story refl sound
+
+same_counts : (one : Opening) (rows : List Plain) (counts : Counts) (tells : Bool) (found : Option Opening) → found ≡ Some one → found ≡ Some (opening_of rows counts tells) → (one.counts ≡ counts) × (one.tells ≡ tells)
+same_counts one rows counts tells found is begun =
+    let same : one ≡ opening_of rows counts tells = some_same one (opening_of rows counts tells) (sym is ∙ begun) in
+    (ap (λ o. o.counts) same, ap (λ o. o.tells) same)
+
+-- what is told of a disk
+told_map : (told : Option Device) (P Q : Device → Type 0) → IfTold told P → ((d : Device) → P d → Q d) → IfTold told Q
+told_map None P Q h f = tt
+told_map (Some d) P Q h f = f d h
+
+-- A stop finds a prefix of what was committed, where the base of the disk was opened
+pub keeps_prefix : (before now : Sight) (story : List Told) → BeginsOn before story → Legal story → IsAccounted (state_of story) now → IsMended (state_of story) now → AllOpenAgain story → IsStopped before now story
+keeps_prefix before now story begins legal accounted mended again = record {
+  tells = sym accounted.tells ∙ counts.1 ∙ begins.on.tells;
+  on_base = λ opened. record {
+    opening = accounted.opening;
+    opened = accounted.opened;
+    ticks = accounted.ticks;
+    stops =
+        told_map now.told _ (λ d. (k : ℕ) (image : List ℕ) → before.ticks < k → MayLeave 0 d k image → MayBeFound accounted.opening (state_of story).ends k (frames image)) accounted.stops
+        (λ d h k image later. h k image (omega (arith, later, ap (λ c. c.ticks) counts.0, begins.on.ticks)));
+    again =
+        told_map now.told _ (λ d. (k : ℕ) (image : List ℕ) → before.ticks < k → MayLeave 0 d k image → OpensAgain accounted.opening.base (frames image)) accounted.stops
+        (λ d h k image later may. again accounted.opening k (frames image) accounted.opened (h k image (omega (arith, later, ap (λ c. c.ticks) counts.0, begins.on.ticks)) may));
+    sound = λ sound. accounted.settled (none_without story sound);
+    mended = mended;
+    apart =
+        apart_wider before.faults (rises_of story) (faults_of (state_of story).opened (state_of story).ends) now.faults
+        (subst (λ n. AreApart n (rises_of story) (faults_of (state_of story).opened (state_of story).ends)) begins.on.faults begun.apart) accounted.faults;
+  };
+  on_none = λ closed. absurd (not_closed story begins.first closed);
+  files = λ closed. absurd (not_closed story begins.first closed);
+}
+  where
+    begun : IsBegun story (oldest_first begins.base) begins.handed.counts begins.handed.tells
+    begun = is_begun story (oldest_first begins.base) begins.handed.counts begins.handed.tells begins.first legal
+
+    counts : (accounted.opening.counts ≡ begins.handed.counts) × (accounted.opening.tells ≡ begins.handed.tells)
+    counts = same_counts accounted.opening (oldest_first begins.base) begins.handed.counts begins.handed.tells (state_of story).opened accounted.opened begun.opened
+
+    not_closed : (xs : List Told) → first_step xs ≡ Some (told.Opened (oldest_first begins.base) begins.handed.counts begins.handed.tells) → is_opened xs ≡ false → ⊥
+    not_closed [] first closed = cc
+    not_closed (x ∷ xs) first closed = cc
+
+-- a disk on which no call was made
+frames_stay : (told : Option Device) (ticks : ℕ) → IfTold told (λ d. ticks ≡ length d.calls) → IfTold told (λ d. file_of 0 d ≡ stable (bytes_of 0 d)) → IfTold told (λ d. IfTold told (λ e. (k : ℕ) (image : List ℕ) → ticks < k → MayLeave 0 e k image → frames image ≡ frames (bytes_of 0 d)))
+frames_stay None ticks counted handed = tt
+frames_stay (Some d) ticks counted handed = λ k image later may. by k image later may
+  where
+    by : (k : ℕ) (image : List ℕ) → ticks < k → MayLeave 0 d k image → frames image ≡ frames (bytes_of 0 d)
+    by k image later (inl earlier) = let within = left_within_calls d k image earlier in absurd (omega (arith, within, later, counted))
+    by k image later (inr now) = ap frames (stable_image (bytes_of 0 d) image (subst (λ s. IsImage s image) handed now.1))
+
+first_stable : (told : Option Device) → IfTold told (λ d. (file_of 0 d ≡ stable (bytes_of 0 d)) × (file_of 1 d ≡ stable (bytes_of 1 d))) → IfTold told (λ d. file_of 0 d ≡ stable (bytes_of 0 d))
+first_stable None h = tt
+first_stable (Some d) h = h.0
+
+pub journal_stable : (disk : Sight) → IsHandedIn disk → IfTold disk.told (λ d. file_of 0 d ≡ stable (bytes_of 0 d))
+journal_stable disk h = first_stable disk.told h
+
+pub stays_untouched : (disk : Sight) → IsCounted disk → IsHandedIn disk → IsStopped disk disk []
+stays_untouched disk counted handed = record {
+  tells = refl;
+  on_base = λ opened. absurd (cc);
+  on_none = λ closed. frames_stay disk.told disk.ticks counted.told (journal_stable disk handed);
+  files = λ closed. told_stay disk.told;
+}
+
+pub stays_closed : (before now : Sight) (story : List Told) → story ≡ [] → is_some now.told ≡ is_some before.told → KeepsFrames before now → Both SameFiles before.told now.told → IsStopped before now story
+stays_closed before now story empty tells frames files = record {
+  tells = tells;
+  on_base = λ opened. absurd (not_opened story empty opened);
+  on_none = λ closed. frames;
+  files = λ closed. files;
+}
+  where
+    not_opened : (xs : List Told) → xs ≡ [] → is_opened xs ≡ true → ⊥
+    not_opened [] e opened = cc
+    not_opened (x ∷ xs) e opened = cc
+
+-- a count that rose is not the one that it was, unless it stands at its last number
+no_rise : (low high : ℕ) → low ≡ high → high < 2 ^ 64 - 1 → rises low high ≡ true → ⊥
+no_rise low high same below rose = grind (arith, nat_tests)
+
+pub mended_by : {A E : Type 0} (result : Result A E) (s : State) (sight : Sight) → OnOk result (IsSettled s sight) → OnErr result (rises (faults_of s.opened s.ends) sight.faults ≡ true) → IsMended s sight
+mended_by (Ok a) s sight settled rose = λ same below. settled
+mended_by (Err fault) s sight settled rose = λ same below. absurd (no_rise (faults_of s.opened s.ends) sight.faults same below rose)

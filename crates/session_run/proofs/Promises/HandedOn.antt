@@ -1,0 +1,48 @@
+-- A call begins on a sound base where the call did whose leavings it opens.
+use Rattle.std.proofs.Common.{◌≡◌, ℕ, ◌<◌, true, Option, Some, List, [], ◌∷◌, refl, ap, sym, subst, ◌∙◌}
+use Rattle.std.proofs.lemmas.List.{reverse-reverse}
+use Rattle.cc_names.specs.declared.steps.Told.{Told}
+use Rattle.disk_model.specs.Devices.{Device, MayLeave, bytes_of}
+use Rattle.disk_model.specs.Told.{Sight, IfTold}
+use Rattle.legal_history.specs.Base.Values.{IsSound}
+use Rattle.legal_history.specs.Stories.States.{Opening}
+use Rattle.legal_history.specs.Stories.Steps.{state_of}
+use Rattle.vob_journal.specs.Frames.{frames}
+use Rattle.base_core.specs.Stopping.Founds.{FoundBaseIsSound, OpensAgain}
+use Rattle.base_core.specs.Story.Telling.{oldest_first}
+use Rattle.base_core.proofs.Keeping.Idle.{some_same}
+use Rattle.session_run.specs.Faults.Stopped.{KeepsPrefix}
+use Rattle.session_run.specs.Promises.HandedOn.{SoundnessIsHandedOn}
+use Rattle.session_run.specs.Promises.Headline.{BeginsOn, IsOneHistory}
+use Rattle.session_run.specs.Story.Begun.{is_opened}
+use Rattle.session_run.specs.declared.statuses.Status.{Status}
+use Rattle.session_run.proofs.Faults.Stopping.{is_begun, opening_of}
+
+-- a story that opened a base has a first step
+has_opened : (story : List Told) (opening : Opening) → (state_of story).opened ≡ Some opening → is_opened story ≡ true
+has_opened [] opening is = absurd (cc)
+has_opened (x ∷ story) opening is = refl
+
+told_so : (told : Option Device) (device : Device) (P : Device → Type 0) → told ≡ Some device → IfTold told P → P device
+told_so told device P is h = subst (λ t. IfTold t P) is h
+
+-- the base that was opened is the one on which the history begins
+opened_on : (disk : Sight) (story : List Told) (opened : Opening) (status : Status) (held holds : Option (List ℕ)) (history : IsOneHistory status story disk held holds) (is : (state_of story).opened ≡ Some opened) →
+    opened.base ≡ (history.base (has_opened story opened is)).base
+opened_on disk story opened status held holds history is =
+    let begins : BeginsOn disk story = history.base (has_opened story opened is) in
+    let begun = is_begun story (oldest_first begins.base) begins.handed.counts begins.handed.tells begins.first history.legal in
+    let same : opened ≡ opening_of (oldest_first begins.base) begins.handed.counts begins.handed.tells = some_same _ _ (sym is ∙ begun.opened) in
+    ap (λ o. o.base) same ∙ reverse-reverse begins.base
+
+pub handed_on : FoundBaseIsSound → SoundnessIsHandedOn
+handed_on law before after next left read k story later status held holds stopped is_open told since may next_told history sound = record {
+  base = λ opened begun.
+      let keeps : KeepsPrefix before after story = stopped.on_base is_open in
+      let again : OpensAgain keeps.opening.base (frames (bytes_of 0 read)) =
+      told_so after.told left (λ d. (k : ℕ) (image : List ℕ) → before.ticks < k → MayLeave 0 d k image → OpensAgain keeps.opening.base (frames image)) told keeps.again k (bytes_of 0 read) since may
+      in
+      let begins : BeginsOn next later = history.base (has_opened later opened begun) in
+      subst IsSound (sym (opened_on next later opened status held holds history begun))
+      (law keeps.opening.base begins.base next read begins.handed next_told again begins.on (sound.base keeps.opening keeps.opened));
+}

@@ -1,0 +1,138 @@
+-- What a command of a lane that builds nothing does to the story.
+use Rattle.std.proofs.Common.{◌≡◌, ℕ, Bool, true, false, ◌||◌, Option, Some, None, Result, Ok, Err, List, [], ◌∷◌, refl, ap, ap₂, sym, subst, ◌∙◌}
+use Rattle.std.specs.Prelude.{IfSome, option_map, option_and_then}
+use Rattle.cc_names.specs.Commands.{builds}
+use Rattle.cc_names.specs.declared.commands.Command.{Command}
+use Rattle.cc_names.specs.declared.commands.Command.TheVariants as commands
+use Rattle.cc_names.specs.declared.desks.Done.{Done}
+use Rattle.cc_names.specs.declared.desks.Done.TheVariants.{Committed, Refused, Answered, Faulted}
+use Rattle.cc_names.specs.declared.desks.Next.TheVariants as nexts
+use Rattle.cc_names.specs.declared.refusals.Refusal.{Refusal}
+use Rattle.cc_names.specs.declared.rows.Tag.{Tag}
+use Rattle.cc_names.specs.declared.rows.Deed.{Deed}
+use Rattle.cc_names.specs.declared.steps.Step.TheVariants as steps
+use Rattle.cc_names.specs.declared.steps.Told.{Told}
+use Rattle.cc_names.specs.declared.steps.Told.TheVariants as told
+use Rattle.base_core.proofs.Acting.PlainRows.{command_finishes}
+use Rattle.base_core.proofs.Keeping.Idle.{decided_is_free}
+use Rattle.base_core.specs.Calls.Acting.{Acts, IsStepOf}
+use Rattle.carried_out.specs.CarriedOut.{is_carried_out, AreCarriedOut}
+use Rattle.legal_history.specs.Queries.QueryLines.{is_query}
+use Rattle.clearmake.specs.Going.{SamePhase, Finishes}
+use Rattle.clearmake.specs.Nexts.{next_of, next_by, waiting}
+use Rattle.legal_history.specs.Base.Rows.{only_where}
+use Rattle.legal_history.specs.Commands.Decisions.{Scene, Decision, Makes, Answers, Begins}
+use Rattle.legal_history.specs.Commands.Lines.{decision}
+use Rattle.legal_history.proofs.Decisions.Handed.{IfDecided}
+use Rattle.legal_history.proofs.Decisions.Queried.{query_is}
+use Rattle.legal_history.specs.Stories.States.{State, start, scene, done_of, with_done, is_next, next_tag, decided, build_if, build_by}
+use Rattle.legal_history.specs.Stories.Steps.{after, done_after, done_by_fault, state_of}
+use Rattle.session_run.specs.Running.Lanes.{Goes}
+use Rattle.session_run.proofs.Running.Within.{done_same, done_other, waiting_carried}
+use Rattle.session_run.proofs.Story.MoreSteps.{state_more}
+
+-- what is decided finishes the command: its row, where it makes one, is none of a build
+EndsCommand : Option (Result Decision Refusal) → Type 0
+EndsCommand (Some (Ok (Makes deed))) = (done : List (ℕ × ℕ)) (lane : ℕ) → done_after done lane deed ≡ with_done done lane
+EndsCommand decided = Unit {0}
+
+ends_if : (chosen : Result Decision Refusal) → IfDecided (λ decision. EndsCommand (Some (Ok decision))) chosen → EndsCommand (Some chosen)
+unfolding EndsCommand
+ends_if (Ok decision) so = so decision refl
+ends_if (Err refusal) so = tt
+
+-- a query makes no row
+query_ends : (sc : Scene) (command : Command) → is_query command ≡ true → EndsCommand (Some (decision sc command))
+unfolding EndsCommand
+query_ends sc command h =
+    ends_if (decision sc command) (query_is (λ decision. EndsCommand (Some (Ok decision))) sc command h (λ text. tt))
+
+-- a command that waits to be carried out builds nothing
+acts_alone : (command : Command) (tag : Tag) → next_by (Some command) tag ≡ nexts.Act → builds command ≡ false
+acts_alone (commands.Clearmake v file own_only rebuild jobs macros goals) tag acts = absurd (cc)
+acts_alone command tag acts = refl
+
+decision_ends : (sc : Scene) (command : Command) (tag : Tag) → is_carried_out command ≡ true → is_query command ≡ false → next_by (Some command) tag ≡ nexts.Act → EndsCommand (Some (decision sc command))
+unfolding EndsCommand
+decision_ends sc command tag carried quiet acts = ends_if (decision sc command) by
+  where
+    by : (made : Decision) → decision sc command ≡ Ok made → EndsCommand (Some (Ok made))
+    by (Makes deed) is = (command_finishes sc command deed carried (ap₂ ◌||◌ (acts_alone command tag acts) quiet) is).done
+    by (Answers text) is = tt
+    by (Begins units) is = tt
+
+command_ends : (sc : Scene) (command : Command) (tag : Tag) → is_carried_out command ≡ true → next_by (Some command) tag ≡ nexts.Act → EndsCommand (Some (decision sc command))
+command_ends sc command tag h acts = by (is_query command) refl
+  where
+    by : (query : Bool) → is_query command ≡ query → EndsCommand (Some (decision sc command))
+    by true is = query_ends sc command is
+    by false is = decision_ends sc command tag h is acts
+
+found_ends : (sc : Scene) (is : Bool) (found : Option Command) (tag : Tag) → IfSome found (λ command. is_carried_out command ≡ true) → next_by found tag ≡ nexts.Act → EndsCommand (option_map (decision sc) (only_where is found))
+unfolding EndsCommand
+found_ends sc false found tag h acts = tt
+found_ends sc true None tag h acts = tt
+found_ends sc true (Some command) tag h acts = command_ends sc command tag h acts
+
+decided_ends : (s : State) (lane : ℕ) → AreCarriedOut s.phase → next_of s lane ≡ nexts.Act → EndsCommand (decided s (next_tag s lane))
+decided_ends s lane h acts = found_ends (scene s) (is_next s (next_tag s lane)) (waiting s lane) (next_tag s lane) (waiting_carried s lane h) acts
+
+-- a step that finishes a command of a lane
+record IsLaneStep (s : State) (x : Told) (lane : ℕ) : Type 0 where
+  phase : SamePhase s (after s x)
+  done : (after s x).done ≡ with_done s.done lane
+
+-- a decision as it stands where a command makes a row
+row_ends : (deed : Deed) → EndsCommand (Some (Ok (Makes deed))) → (done : List (ℕ × ℕ)) (lane : ℕ) → done_after done lane deed ≡ with_done done lane
+unfolding EndsCommand
+row_ends deed ends = ends
+
+makes_ends_by : (chosen : Option (Result Decision Refusal)) (deed : Deed) → EndsCommand chosen → chosen ≡ Some (Ok (Makes deed)) → (done : List (ℕ × ℕ)) (lane : ℕ) → done_after done lane deed ≡ with_done done lane
+makes_ends_by chosen deed ends is = row_ends deed (subst EndsCommand is ends)
+
+-- a command of which anything is decided builds nothing
+free_by : (s : State) (lane : ℕ) (chosen : Result Decision Refusal) → decided s (next_tag s lane) ≡ Some chosen → build_by s (next_tag s lane) ≡ None
+free_by s lane chosen is = ap (option_and_then (build_if (next_tag s lane))) (decided_is_free s (next_tag s lane) chosen is)
+
+lane_step : (s : State) (lane : ℕ) (done : Done) (x : Told) → EndsCommand (decided s (next_tag s lane)) → IsStepOf s (next_tag s lane) done x → IsLaneStep s x lane
+lane_step s lane Committed (told.Commit row tick) ends is =
+    let at : row.tag.lane ≡ lane = ap (λ t. t.lane) is.0 in
+    record { phase = record { phase = refl; number = refl; moment = refl }; done = ap (λ l. done_after s.done l row.deed) at ∙ makes_ends_by (decided s (next_tag s lane)) row.deed ends is.2 s.done lane }
+lane_step s lane Refused (told.Other (steps.Refused finished refusal)) ends is = record { phase = record { phase = refl; number = refl; moment = refl }; done = ap (λ t. with_done s.done t.lane) is.0 }
+lane_step s lane Answered (told.Other (steps.Answer finished text)) ends is = record { phase = record { phase = refl; number = refl; moment = refl }; done = ap (λ t. with_done s.done t.lane) is.0 }
+lane_step s lane Faulted (told.Other (steps.Fault finished left before faults tick)) ends is =
+    record {
+      phase = record { phase = refl; number = refl; moment = refl };
+      done = ap (λ t. done_by_fault s.done t.lane (build_by s t)) is.0 ∙ ap (done_by_fault s.done lane) (free_by s lane (Ok (Makes is.1)) is.2);
+    }
+lane_step s lane done x ends is = absurd is
+
+-- a lane that acts finishes its command
+pub act_finishes : (old new : List Told) (lane : ℕ) (done : Done) → AreCarriedOut (state_of old).phase → next_of (state_of old) lane ≡ nexts.Act → Acts old new lane done → Finishes old new lane
+act_finishes old new lane done carried acts by_act =
+    let s = state_of old in
+    let x = by_act.step in
+    let step = lane_step s lane done x (decided_ends s lane carried acts) by_act.is in
+    let state : state_of new ≡ after s x = ap state_of by_act.grows ∙ state_more start old (x ∷ []) in
+    record {
+      steps = x ∷ [];
+      grows = by_act.grows;
+      phase = subst (SamePhase s) (sym state) step.phase;
+      done = ap (λ t. done_of t.done lane) state ∙ ap (λ d. done_of d lane) step.done ∙ done_same s.done lane;
+      others = λ other differs. ap (λ t. done_of t.done other) state ∙ ap (λ d. done_of d other) step.done ∙ done_other s.done lane other differs;
+    }
+
+-- a story that goes on by nothing, and one that goes on twice
+pub goes_nowhere : (story : List Told) → Goes story story
+goes_nowhere story = record { phases = refl; moments = refl; phase = refl; number = refl; earlier = refl; first = refl; opened = refl }
+
+pub goes_further : (old now new : List Told) → Goes old now → Goes now new → Goes old new
+goes_further old now new one two = record {
+  phases = two.phases ∙ one.phases;
+  moments = two.moments ∙ one.moments;
+  phase = two.phase ∙ one.phase;
+  number = two.number ∙ one.number;
+  earlier = two.earlier ∙ one.earlier;
+  first = two.first ∙ one.first;
+  opened = two.opened ∙ one.opened;
+}

@@ -1,0 +1,37 @@
+-- Where each lane of a phase has nothing left to do, all of its commands are finished.
+use Rattle.std.proofs.Common.{◌≡◌, refl, ℕ, Bool, true, false, Option, Some, None, List, length, subst, arith}
+use Rattle.std.specs.Bool.{OnTrue}
+use Rattle.cc_names.specs.declared.commands.Command.{Command}
+use Rattle.cc_names.specs.declared.commands.Command.TheVariants as commands
+use Rattle.cc_names.specs.declared.desks.Next.TheVariants as nexts
+use Rattle.cc_names.specs.declared.rows.Tag.{Tag}
+use Rattle.cc_names.specs.declared.steps.Told.{Told}
+use Rattle.legal_history.specs.Stories.Lanes.{IsWithin}
+use Rattle.legal_history.specs.Stories.States.{all_done, next_tag}
+use Rattle.legal_history.specs.Stories.Steps.{state_of}
+use Rattle.clearmake.specs.Nexts.{next_by, waiting}
+use Rattle.clearmake.specs.Passes.{AreLanesDone}
+use Rattle.session_run.proofs.Running.Within.{all_finished, finished_where}
+
+-- a lane that has nothing left to do has no command left
+none_by : (found : Option Command) (tag : Tag) → next_by found tag ≡ nexts.Done → found ≡ None
+none_by None tag e = refl
+none_by (Some command) tag e = by_command command e
+  where
+    by_command : (command : Command) → next_by (Some command) tag ≡ nexts.Done → Some command ≡ None
+    by_command (commands.Clearmake view file own_only rebuild jobs macros goals) e = absurd (cc)
+    by_command command e = absurd (cc)
+
+phase_is_done : (story : List Told) (lanes number : ℕ) → lanes ≡ length (state_of story).phase.lanes → ((k : ℕ) → IsWithin (state_of story) k) → AreLanesDone story 1 lanes number → all_done (state_of story) ≡ true
+phase_is_done story lanes number count within done =
+    all_finished (state_of story) (λ k from upto.
+    let lane = done k from (omega (arith, count, upto)) in
+    finished_where (state_of story) k (within k) (none_by (waiting (state_of story) k) (next_tag (state_of story) k) lane.finished))
+
+pub phase_done_if : (done : Bool) (story : List Told) (lanes number : ℕ) → lanes ≡ length (state_of story).phase.lanes → ((k : ℕ) → IsWithin (state_of story) k) → OnTrue done (AreLanesDone story 1 lanes number) → OnTrue done (all_done (state_of story) ≡ true)
+phase_done_if true story lanes number count within h = phase_is_done story lanes number count within h
+phase_done_if false story lanes number count within h = tt
+
+-- what holds where a flag is true, of one that is
+pub of_true : (flag : Bool) (P : Type 0) → flag ≡ true → OnTrue flag P → P
+of_true flag P e h = let Q : Bool → Type 0 = λ b. OnTrue b P in subst Q e h

@@ -1,0 +1,89 @@
+-- How many commands a lane has finished, of those that it has.
+use Rattle.std.proofs.Common.{◌≡◌, ◌≢◌, ℕ, zero, suc, ◌+◌, ◌<◌, ◌≤◌, ◌==◌, ◌⊎◌, inl, inr, Bool, true, false, cond, Option, Some, None, List, [], ◌∷◌, length, refl, ap, ap₂, ◌∙◌, arith}
+use Rattle.std.specs.Prelude.{unwrap_or, option_and_then, slice_get, IfSome, ◌&&◌}
+use Rattle.std.specs.List.{AllByRecursion}
+use Rattle.std.specs.Ordering.{nat_cmp, eq_by_cmp}
+use Rattle.std.specs.FinMap.Entries.{find, find-put}
+use Rattle.std.proofs.lemmas.Cmp.{nat_cmp_total}
+use Rattle.std.proofs.lemmas.Bool.{eqb-true}
+use Rattle.std.proofs.lemmas.Bool.Decides.{nat_tests}
+use Rattle.std.proofs.lemmas.Option.{slice_get_within}
+use Rattle.cc_names.specs.Commands.{lane_at}
+use Rattle.cc_names.specs.declared.commands.Command.{Command}
+use Rattle.cc_names.specs.declared.commands.Lane.{Lane}
+use Rattle.cc_names.specs.declared.commands.Phase.{Phase}
+use Rattle.carried_out.specs.CarriedOut.{is_carried_out, IsLaneCarriedOut, AreCarriedOut}
+use Rattle.legal_history.specs.Stories.Lanes.{IsFinished, IsWithin, count_of}
+use Rattle.legal_history.specs.Stories.States.{State, done_of, with_done, command_behind, lanes_done, all_done}
+use Rattle.clearmake.specs.Nexts.{waiting}
+
+pub done_same : (done : List (ℕ × ℕ)) (lane : ℕ) → done_of (with_done done lane) lane ≡ done_of done lane + 1
+done_same done lane =
+    let same : eq_by_cmp nat_cmp lane lane ≡ true = grind (arith, nat_tests) in
+    ap (λ found. unwrap_or found 0) (find-put nat_cmp nat_cmp_total lane lane (done_of done lane + 1) done ∙ ap (λ is. cond is (Some (done_of done lane + 1)) (find nat_cmp lane done)) same)
+
+pub done_other : (done : List (ℕ × ℕ)) (lane other : ℕ) → other ≢ lane → done_of (with_done done lane) other ≡ done_of done other
+done_other done lane other differs =
+    let apart : eq_by_cmp nat_cmp other lane ≡ false = grind (arith, nat_tests) in
+    ap (λ found. unwrap_or found 0) (find-put nat_cmp nat_cmp_total other lane (done_of done lane + 1) done ∙ ap (λ is. cond is (Some (done_of done lane + 1)) (find nat_cmp other done)) apart)
+
+pub one_or_two : (a b : ℕ) → (a ≡ b) ⊎ (a ≢ b)
+one_or_two a b = by_test (a == b) refl
+  where
+    by_test : (is : Bool) → (a == b) ≡ is → (a ≡ b) ⊎ (a ≢ b)
+    by_test true e = inl (eqb-true a b e)
+    by_test false e = inr (λ same. absurd (grind (arith, nat_tests)))
+
+-- a command waits where fewer are finished than the lane has
+behind_is : (done : ℕ) (found : Option Lane) (command : Command) → option_and_then (command_behind done) found ≡ Some command → done < count_of found
+behind_is done None command e = absurd (cc)
+behind_is done (Some lane) command e = slice_get_within lane.commands done command e
+
+pub waits_below : (s : State) (lane : ℕ) (command : Command) → waiting s lane ≡ Some command → done_of s.done lane < count_of (lane_at s.phase lane)
+waits_below s lane command e = behind_is (done_of s.done lane) (lane_at s.phase lane) command e
+
+past : (xs : List Command) (n : ℕ) → slice_get xs n ≡ None → length xs ≤ n
+past [] n e = omega arith
+past (x ∷ xs) zero e = absurd (cc)
+past (x ∷ xs) (suc n) e = let h = past xs n e in omega arith
+
+none_behind : (done : ℕ) (found : Option Lane) → option_and_then (command_behind done) found ≡ None → count_of found ≤ done
+none_behind done None e = omega arith
+none_behind done (Some lane) e = past lane.commands done e
+
+-- a lane where no command waits is finished
+pub finished_where : (s : State) (lane : ℕ) → IsWithin s lane → waiting s lane ≡ None → IsFinished s lane
+finished_where s lane within e = let h = none_behind (done_of s.done lane) (lane_at s.phase lane) e in omega arith
+
+-- the command that waits in a phase whose commands are carried out is carried out
+command_carried : (commands : List Command) (n : ℕ) → AllByRecursion (λ command. is_carried_out command ≡ true) commands → IfSome (slice_get commands n) (λ command. is_carried_out command ≡ true)
+command_carried [] n h = tt
+command_carried (x ∷ xs) zero h = h.0
+command_carried (x ∷ xs) (suc n) h = command_carried xs n h.1
+
+lane_carried : (lanes : List Lane) (n : ℕ) → AllByRecursion IsLaneCarriedOut lanes → IfSome (slice_get lanes n) IsLaneCarriedOut
+lane_carried [] n h = tt
+lane_carried (x ∷ xs) zero h = h.0
+lane_carried (x ∷ xs) (suc n) h = lane_carried xs n h.1
+
+at_carried : (phase : Phase) (lane : ℕ) → AreCarriedOut phase → IfSome (lane_at phase lane) IsLaneCarriedOut
+at_carried phase zero h = tt
+at_carried phase (suc n) h = lane_carried phase.lanes n h
+
+behind_carried : (done : ℕ) (found : Option Lane) → IfSome found IsLaneCarriedOut → IfSome (option_and_then (command_behind done) found) (λ command. is_carried_out command ≡ true)
+behind_carried done None h = tt
+behind_carried done (Some lane) h = command_carried lane.commands done h
+
+pub waiting_carried : (s : State) (lane : ℕ) → AreCarriedOut s.phase → IfSome (waiting s lane) (λ command. is_carried_out command ≡ true)
+waiting_carried s lane h = behind_carried (done_of s.done lane) (lane_at s.phase lane) (at_carried s.phase lane h)
+
+-- lanes that are each finished, from number n on
+lanes_finished : (done : List (ℕ × ℕ)) (n : ℕ) (lanes : List Lane) → ((k : ℕ) → k < length lanes → done_of done (n + k) ≡ count_of (slice_get lanes k)) → lanes_done done n lanes ≡ true
+lanes_finished done n [] h = refl
+lanes_finished done n (lane ∷ lanes) h =
+    let here : done_of done n ≡ length lane.commands = ap (done_of done) (omega arith) ∙ h 0 (omega arith) in
+    let test : (done_of done n == length lane.commands) ≡ true = grind (arith, nat_tests) in
+    ap₂ ◌&&◌ test (lanes_finished done (n + 1) lanes (λ k low. ap (done_of done) (omega arith) ∙ h (suc k) (omega arith)))
+
+pub all_finished : (s : State) → ((k : ℕ) → 1 ≤ k → k ≤ length s.phase.lanes → IsFinished s k) → all_done s ≡ true
+all_finished s h = lanes_finished s.done 1 s.phase.lanes (λ k low. ap (done_of s.done) (omega arith) ∙ h (suc k) (omega arith) (omega arith))

@@ -1,0 +1,139 @@
+-- The cause of each status of a call.
+use Rattle.std.specs.Prelude.{◌≡◌, ℕ, ◌+◌, ◌<◌, ◌≤◌, ◌⊎◌, Bool, true, false, Option, is_some, IfSome, List, [], length}
+use Rattle.std.specs.Io.KnownBytes.{IsAtEnd}
+use Rattle.cc_names.specs.declared.steps.Told.{Told}
+use Rattle.cc_names.specs.Counts.{raised, Rose, RoseAbove, RoseAtMost, rises}
+use Rattle.cc_outside.specs.Sights.{SinkSight, SourceSight}
+use Rattle.disk_model.specs.Devices.{bytes_of}
+use Rattle.disk_model.specs.Told.{Sight, IfTold}
+use Rattle.vob_journal.specs.Frames.{frames}
+use Rattle.base_core.specs.Bases.Opening.{IsDamaged, IsUndamaged}
+use Rattle.legal_history.specs.Stories.States.{all_done}
+use Rattle.legal_history.specs.Stories.Steps.{state_of}
+use Rattle.session_run.specs.Calls.Asked.{text_limit, is_run, is_session}
+use Rattle.session_run.specs.Calls.Statuses.{is_cut}
+use Rattle.session_run.specs.Story.Begun.{is_opened}
+use Rattle.session_run.specs.Story.Rendered.{has_failure}
+use Rattle.session_run.specs.declared.statuses.Status.{Status}
+use Rattle.session_run.specs.declared.statuses.Status.TheVariants as statuses
+
+-- a count or a text as the call began and as it ended
+pub record Change (A : Type 0) : Type 0 where
+  pub before : A
+  pub after : A
+
+-- what came in: the words, and of the source the bytes that are left and the counts of bytes given and of faults
+pub record Intake : Type 0 where
+  pub words : List (List ℕ)
+  pub text : Change (Option (List ℕ))
+  pub given : Change ℕ
+  pub faults : Change ℕ
+
+-- what came in with these words from a source that was seen so before and after
+abbrev pub intake_of : List (List ℕ) → SourceSight → SourceSight → Intake
+intake_of words before after = record {
+  words = words;
+  text = record { before = before.left; after = after.left };
+  given = record { before = before.given; after = after.given };
+  faults = record { before = before.faults; after = after.faults };
+}
+
+-- the counts of faults of a sink before and after
+abbrev pub sink_faults : SinkSight → SinkSight → Change ℕ
+sink_faults before after = record { before = before.faults; after = after.faults }
+
+-- the words have the form, and the source was read to its end, which came within the limit
+pub record IsRead (intake : Intake) : Type 0 where
+  pub words : is_run intake.words ≡ true
+  pub at_end : IsAtEnd intake.text.after
+  pub count : ℕ
+  pub within : count ≤ text_limit
+  pub given : intake.given.after ≡ raised intake.given.before count
+  pub bytes : IfSome intake.text.before (λ bytes. length bytes ≡ count)
+
+-- a whole run: the source's bytes spell a session, a base was opened, and each command is finished
+pub record IsWhole (intake : Intake) (story : List Told) : Type 0 where
+  pub read : IsRead intake
+  pub session : IfSome intake.text.before (λ bytes. is_session bytes ≡ true)
+  pub opened : is_opened story ≡ true
+  pub finished : all_done (state_of story) ≡ true
+
+-- the source's bytes spell a session, so the base was to be opened
+pub record IsAsked (intake : Intake) : Type 0 where
+  pub read : IsRead intake
+  pub session : IfSome intake.text.before (λ bytes. is_session bytes ≡ true)
+
+-- the source's bytes spell no session
+abbrev pub SpellsNone : Intake → Type 0
+SpellsNone intake = IfSome intake.text.before (λ bytes. is_session bytes ≡ false)
+
+-- the source was not read
+pub record IsUnread (intake : Intake) : Type 0 where
+  pub text : intake.text.after ≡ intake.text.before
+  pub given : intake.given.after ≡ intake.given.before
+  pub faults : intake.faults.after ≡ intake.faults.before
+
+-- the source failed
+pub record SourceFailed (intake : Intake) : Type 0 where
+  pub words : is_run intake.words ≡ true
+  pub rose : Rose intake.faults.before intake.faults.after
+
+-- the source gave more bytes than the limit
+pub record GaveTooMuch (intake : Intake) : Type 0 where
+  pub words : is_run intake.words ≡ true
+  pub rose : RoseAbove text_limit intake.given.before intake.given.after
+  pub bytes : IfSome intake.text.before (λ bytes. text_limit < length bytes)
+
+-- whether the count of the disk's faults rose in the call
+abbrev pub disk_rose : Change Sight → Bool
+disk_rose disk = rises disk.before.faults disk.after.faults
+
+-- no base was opened, and no call was made on the disk
+pub record IsUntouched (disk : Change Sight) (story : List Told) : Type 0 where
+  pub disk_is : disk.after ≡ disk.before
+  pub story_is : story ≡ []
+
+-- the frame of this number is the first of the disk's journal that spells no readable row, or whose row does not fit those
+-- before it
+abbrev pub DiskDamaged : Change Sight → ℕ → Type 0
+DiskDamaged disk row = IfTold disk.before.told (λ d. IsDamaged (frames (bytes_of 0 d)) row)
+
+-- no frame of the disk's journal is so
+abbrev pub DiskUndamaged : Change Sight → Type 0
+DiskUndamaged disk = IfTold disk.before.told (λ d. IsUndamaged (frames (bytes_of 0 d)))
+
+-- *The cause of each status*. Memory may run out anywhere, but where no base was opened it hides no fault of the disk. The other
+-- causes exclude one another, a failed source and a failed sink aside, so each status but those comes exactly where its cause
+-- does, unless the sink fails or memory runs out. Where the disk failed and a base was opened, each command is finished.
+abbrev pub HasCause : Status → Intake → Change ℕ → Change Sight → List Told → Type 0
+HasCause statuses.Good intake sink_faults disk story = IsWhole intake story × (has_failure story ≡ false) × (disk_rose disk ≡ false) × DiskUndamaged disk
+HasCause statuses.SomeFailed intake sink_faults disk story = IsWhole intake story × (has_failure story ≡ true) × (disk_rose disk ≡ false) × DiskUndamaged disk
+HasCause statuses.BadWords intake sink_faults disk story = (is_run intake.words ≡ false) × IsUnread intake × IsUntouched disk story
+HasCause statuses.BadSession intake sink_faults disk story = IsRead intake × SpellsNone intake × IsUntouched disk story
+HasCause (statuses.Damaged row) intake sink_faults disk story = IsAsked intake × DiskDamaged disk row × (disk_rose disk ≡ false) × (story ≡ [])
+HasCause statuses.ReadFault intake sink_faults disk story = SourceFailed intake × IsUntouched disk story
+HasCause statuses.WriteFault intake sink_faults disk story = Rose sink_faults.before sink_faults.after
+HasCause statuses.DiskFault intake sink_faults disk story = IsAsked intake × (disk_rose disk ≡ true) × (is_opened story ≡ true → all_done (state_of story) ≡ true)
+HasCause statuses.NoMemory intake sink_faults disk story = is_opened story ≡ false → disk.after.faults ≡ disk.before.faults
+HasCause statuses.TooLong intake sink_faults disk story = GaveTooMuch intake × IsUntouched disk story
+
+-- the base was to be opened, as the source tells, whose count of faults did not rise
+pub record IsToldToOpen (intake : Intake) : Type 0 where
+  pub asked : IsAsked intake
+  pub text : is_some intake.text.before ≡ true
+  pub sound : Rose intake.faults.before intake.faults.after → ⊥
+
+-- *A damaged journal*, the other way. Where the base was to be opened on a disk that tells a damaged journal, and the count of
+-- the disk's faults did not rise, the status says so with the frame's number, unless the sink fails or memory runs out.
+pub record FindsDamage (status : Status) (intake : Intake) (disk : Change Sight) : Type 0 where
+  pub damaged : (row : ℕ) → IsToldToOpen intake → is_some disk.before.told ≡ true → DiskDamaged disk row → disk_rose disk ≡ false → is_cut status ≡ false → status ≡ statuses.Damaged row
+
+-- *The disk of a call that read no session*, whatever the status: no base was opened, and no call was made on the disk.
+pub record LeavesAlone (intake : Intake) (disk : Change Sight) (story : List Told) : Type 0 where
+  pub unless_asked : IsAsked intake ⊎ IsUntouched disk story
+
+-- *How far a source is read*, whatever the status: it gave at most one byte more than a text may have, and where the words are
+-- not those of a run it was not read
+pub record TakesNoMore (intake : Intake) : Type 0 where
+  pub most : RoseAtMost (text_limit + 1) intake.given.before intake.given.after
+  pub unread : is_run intake.words ≡ false → IsUnread intake

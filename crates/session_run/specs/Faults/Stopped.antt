@@ -1,0 +1,73 @@
+-- What a stop at any device call finds on the disk: the last promise of the headline.
+use Rattle.std.specs.Prelude.{◌≡◌, ℕ, ◌-◌, ◌^◌, ◌<◌, ◌≤◌, true, false, Some, is_some, List, [], ◌∷◌}
+use Rattle.cc_names.specs.declared.steps.Step.TheVariants as steps
+use Rattle.cc_names.specs.declared.steps.Told.{Told}
+use Rattle.cc_names.specs.declared.steps.Told.TheVariants as told
+use Rattle.disk_model.specs.Devices.{MayLeave, bytes_of, file_of}
+use Rattle.disk_model.specs.Files.{stable}
+use Rattle.disk_model.specs.Told.{Sight, Both, IfTold}
+use Rattle.legal_history.specs.Stories.States.{State, Opening, faults_of, ticks_of}
+use Rattle.legal_history.specs.Stories.Steps.{state_of}
+use Rattle.cc_names.specs.Counts.{rises}
+use Rattle.vob_journal.specs.Frames.{frames}
+use Rattle.vob_journal.specs.Reads.{SameFiles}
+use Rattle.base_core.specs.Stopping.Backed.{IsSettled}
+use Rattle.base_core.specs.Stopping.Founds.{OpensAgain}
+use Rattle.base_core.specs.Stopping.Standing.{MayBeFound}
+use Rattle.session_run.specs.Story.Begun.{is_opened}
+
+-- what a call asks of its disk: where it tells its files, both are on the disk as they read
+abbrev pub IsHandedIn : Sight → Type 0
+IsHandedIn disk = IfTold disk.told (λ d. (file_of 0 d ≡ stable (bytes_of 0 d)) × (file_of 1 d ≡ stable (bytes_of 1 d)))
+
+-- the counts of the disk's faults before and after each fault of a story, in order
+abbrev pub rises_of : List Told → List (ℕ × ℕ)
+rises_of [] = []
+rises_of (told.Other (steps.Fault tag left before after tick) ∷ story) = (before, after) ∷ rises_of story
+rises_of (x ∷ story) = rises_of story
+
+-- each of these rises is one of its own, behind those before it, and all lie within two counts
+abbrev pub AreApart : ℕ → List (ℕ × ℕ) → ℕ → Type 0
+AreApart low [] high = low ≤ high
+AreApart low (rise ∷ more) high = (low ≤ rise.0) × (rises rise.0 rise.1 ≡ true) × AreApart rise.1 more high
+
+-- where the count of the disk's faults stands as the newest fault of a story left it, or as it was at the opening, and below
+-- its last number, a stop now finds the rows of all commits and no more
+abbrev pub IsMended : State → Sight → Type 0
+IsMended s disk = faults_of s.opened s.ends ≡ disk.faults → disk.faults < 2 ^ 64 - 1 → IsSettled s disk
+
+-- Where a base was opened. A stop at a device call of the session, or after the last, finds the base as it was opened with the
+-- row of each commit that ended before that call; besides it may find the row of the commit within whose call it comes, or the
+-- row that a fault left, and no more. What it finds opens again without damage, to the base that it stands for, which is sound
+-- where the base was sound as it was opened, also where the one row more is an object. After the last call it finds the rows
+-- of all commits and no more where the history has no fault, and where the count of the disk's faults stands as the last fault
+-- left it, below its last number. Each fault of the history has a rise of that count of its own, within those of the call, and
+-- each commit and fault ended at a call that the disk has counted.
+pub record KeepsPrefix (before after : Sight) (story : List Told) : Type 0 where
+  pub opening : Opening
+  pub opened : (state_of story).opened ≡ Some opening
+  pub ticks : ticks_of (state_of story).opened (state_of story).ends ≤ after.ticks
+  pub stops : IfTold after.told (λ d. (k : ℕ) (image : List ℕ) → before.ticks < k → MayLeave 0 d k image → MayBeFound opening (state_of story).ends k (frames image))
+  pub again : IfTold after.told (λ d. (k : ℕ) (image : List ℕ) → before.ticks < k
+      → MayLeave 0 d k image → OpensAgain opening.base (frames image))
+  pub sound : rises_of story ≡ [] → IsSettled (state_of story) after
+  pub mended : IsMended (state_of story) after
+  pub apart : AreApart before.faults (rises_of story) after.faults
+
+-- Where none was opened. A stop finds the frames that the disk had.
+abbrev pub KeepsFrames : Sight → Sight → Type 0
+KeepsFrames before after = IfTold before.told (λ d. IfTold after.told (λ e. (k : ℕ) (image : List ℕ) → before.ticks < k → MayLeave 0 e k image → frames image ≡ frames (bytes_of 0 d)))
+
+-- whatever a stop may find of a story opens again, to a base that is sound where the opened one was
+abbrev pub AllOpenAgain : List Told → Type 0
+AllOpenAgain story = (opening : Opening) (k : ℕ) (found : List (List ℕ))
+    → (state_of story).opened ≡ Some opening
+    → MayBeFound opening (state_of story).ends k found → OpensAgain opening.base found
+
+-- *Stopped*: what a stop at each device call finds, from what the disk told as it was handed in and as it came back. Where no
+-- base was opened both files are as they were.
+pub record IsStopped (before after : Sight) (story : List Told) : Type 0 where
+  pub tells : is_some after.told ≡ is_some before.told
+  pub on_base : is_opened story ≡ true → KeepsPrefix before after story
+  pub on_none : is_opened story ≡ false → KeepsFrames before after
+  pub files : is_opened story ≡ false → Both SameFiles before.told after.told

@@ -1,0 +1,135 @@
+-- The headline of the product:
+--
+-- For every session, the printed replies are those of one legal history that holds each command once in its lane's order,
+-- and every clearmake reply is that of building from nothing on the versions its view selects at the reference row, where the
+-- base that was opened is sound, whatever objects were reused; stopped at any device call, the disk holds a prefix of the
+-- history's commits with every acknowledged one.
+--
+-- A call of the program is seen as plain values: its words, what the source had left and gave, what the sink holds, what the
+-- clock tells, what the disk tells as it was handed in and as it came back, its status, and the story of the base that it
+-- opened, which is empty where it opened none. Each record is one promise of the sentence, `IsStopped` in `Stopped` the last
+-- of them; `HasCause` adds when each status comes, `IsAccountedFor` in `Accounted` which command met which fault, `Objects` which
+-- objects a scrub takes and that those that views hold are live, `Reused` which objects builds take in place of runs. What they
+-- say of bytes, moments and stops holds where the source, the sink, the clock and the disk tell them.
+use Rattle.std.specs.Prelude.{◌≡◌, ◌≢◌, ◌⊎◌, ℕ, zero, suc, ◌+◌, ◌<◌, min, true, false, Option, Some, IfSome, Err, List, [], ◌∷◌, ◌++◌, length}
+use Rattle.std.specs.Io.KnownBytes.{Appends}
+use Rattle.cc_names.specs.declared.refusals.SessionError.{SessionError}
+use Rattle.cc_names.specs.declared.rows.Tag.{Tag}
+use Rattle.cc_names.specs.declared.steps.Step.TheVariants as steps
+use Rattle.cc_names.specs.declared.steps.Told.{Told}
+use Rattle.cc_names.specs.declared.steps.Told.TheVariants as told
+use Rattle.cc_names.specs.Counts.{raised}
+use Rattle.cc_outside.specs.Feeds.{AppendsFront}
+use Rattle.cc_outside.specs.Moments.{moment_at}
+use Rattle.cc_outside.specs.Sights.{ClockSight}
+use Rattle.disk_model.specs.Told.{Sight}
+use Rattle.base_core.specs.Bases.Opening.{IsBaseOn}
+use Rattle.base_core.specs.Story.Handed.{Handed}
+use Rattle.base_core.specs.Story.Telling.{oldest_first}
+use Rattle.legal_history.specs.Base.Rows.{Base}
+use Rattle.session_text.specs.Sessions.{session_of}
+use Rattle.legal_history.specs.Stories.Commanded.{IsOfCommand}
+use Rattle.legal_history.specs.Builds.Replied.{reply_of, reply_from_nothing}
+use Rattle.legal_history.specs.Builds.Active.{Build}
+use Rattle.legal_history.specs.Stories.States.{all_done, build_by}
+use Rattle.legal_history.specs.Stories.Steps.{state_of}
+use Rattle.legal_history.specs.Stories.Lawful.{Legal, last_moment}
+use Rattle.session_run.specs.Calls.Asked.{phases_spelled, is_run, is_session}
+use Rattle.session_run.specs.Calls.Causes.{Change, Intake, HasCause}
+use Rattle.session_run.specs.Calls.Statuses.{is_cut, status_line}
+use Rattle.session_run.specs.Story.Begun.{first_step, is_opened, is_through, phases_begun, moments_begun, IsFront}
+use Rattle.session_run.specs.Story.FromNothing.{text_from_nothing}
+use Rattle.session_run.specs.Story.Rendered.{rendered, earlier_text}
+use Rattle.session_run.specs.declared.statuses.Status.{Status}
+use Rattle.session_run.specs.declared.statuses.Status.TheVariants as statuses
+
+-- the moments that a clock tells from a reading on, none above the last one of all
+abbrev pub clock_moments : List ℕ → ℕ → ℕ → List ℕ
+clock_moments told reading zero = []
+clock_moments told reading (suc n) = min (moment_at told reading) last_moment ∷ clock_moments told (raised reading 1) n
+
+-- the counts of readings of a clock before and after
+abbrev pub clock_readings : ClockSight → ClockSight → Change ℕ
+clock_readings before after = record { before = before.readings; after = after.readings }
+
+-- the clock was read so often
+abbrev pub ReadsTimes : ℕ → Change ℕ → Type 0
+ReadsTimes count readings = readings.after ≡ raised readings.before count
+
+-- The clock was read once for each phase that began. Where memory ran out it may have been read once more, for a phase that did
+-- not begin.
+pub record ReadsClock (status : Status) (story : List Told) (readings : Change ℕ) : Type 0 where
+  pub once : status ≢ statuses.NoMemory → ReadsTimes (length (phases_begun story)) readings
+  pub most : ReadsTimes (length (phases_begun story)) readings ⊎ ReadsTimes (length (phases_begun story) + 1) readings
+
+-- *The session*, where the words are those of a run: the phases of the history are the first of the session that the source's
+-- bytes spell, and all of them where it was run through; where the bytes spell none the history is empty. Their moments are
+-- the clock's, in order, which is read once a phase.
+pub record IsSession (status : Status) (story : List Told) (intake : Intake) (clock : Option (List ℕ)) (readings : Change ℕ) : Type 0 where
+  pub begun : is_run intake.words ≡ true → IfSome intake.text.before (λ bytes. IsFront (phases_begun story) (phases_spelled bytes))
+  pub all : is_run intake.words ≡ true → is_through status story ≡ true → IfSome intake.text.before (λ bytes. phases_begun story ≡ phases_spelled bytes)
+  pub none : is_run intake.words ≡ true → IfSome intake.text.before (λ bytes. is_session bytes ≡ false → story ≡ [])
+  pub moments : IfSome clock (λ told. moments_begun story ≡ clock_moments told readings.before (length (moments_begun story)))
+  pub read : ReadsClock status story readings
+
+-- a sink that failed took the transcripts of all phases but the last, and each command of these phases is finished
+pub record IsCutAtLast (story : List Told) (earlier : List ℕ) (old new : Option (List ℕ)) : Type 0 where
+  pub begun : 0 < length (phases_begun story)
+  pub finished : all_done (state_of story) ≡ true
+  pub written : (more : List ℕ) × Appends old new (earlier ++ more)
+
+-- the story begins with the base that the disk stood for as it was handed in, and with the disk's counts then
+pub record BeginsOn (disk : Sight) (story : List Told) : Type 0 where
+  pub base : Base
+  pub handed : Handed
+  pub on : IsBaseOn disk base handed
+  pub first : first_step story ≡ Some (told.Opened (oldest_first base) handed.counts handed.tells)
+
+-- *One legal history*: the story is legal, of the base that the disk stood for, so a phase begins where each command of the
+-- one before is finished. Each command of the last phase is finished too where the session was run through, and where the
+-- sink failed.
+pub record IsOneHistory (status : Status) (story : List Told) (disk : Sight) (old new : Option (List ℕ)) : Type 0 where
+  pub legal : Legal story
+  pub base : is_opened story ≡ true → BeginsOn disk story
+  pub complete : is_through status story ≡ true → all_done (state_of story) ≡ true
+  pub cut : is_opened story ≡ true → status ≡ statuses.WriteFault → IsCutAtLast story (earlier_text story) old new
+
+-- *Commanded*: each build of the history that ends is the one of its lane's clearmake, whose build from nothing at the reference
+-- rows, on the versions that the view selects there, has the same units.
+pub record AreOfTheirCommands (story : List Told) : Type 0 where
+  pub each : (front rest : List Told) (tag : Tag) (build : Build)
+      → story ≡ front ++ told.Other (steps.End tag) ∷ rest
+      → build_by (state_of front) tag ≡ Some build → IsOfCommand (state_of front) tag.lane build
+
+-- *Builds as from nothing*: what the units of each build of the history have come to, where it ends and no disk failed under it,
+-- is replied as its build from nothing is. So the text of the history is the one that building from nothing tells.
+pub record AreFromNothing (story : List Told) : Type 0 where
+  pub text : rendered story ≡ text_from_nothing story
+  pub each : (front rest : List Told) (tag : Tag) (build : Build)
+      → story ≡ front ++ told.Other (steps.End tag) ∷ rest
+      → build_by (state_of front) tag ≡ Some build → build.faulted ≡ false
+      → reply_of (state_of front).base build ≡ reply_from_nothing (state_of front).base build
+
+-- the status's line was written; the line of a bad session names the first line that stands wrong
+pub record PrintsLine (status : Status) (text old new : Option (List ℕ)) : Type 0 where
+  pub error : SessionError
+  pub written : Appends old new (status_line status error)
+  pub first : status ≡ statuses.BadSession → IfSome text (λ bytes. session_of bytes ≡ Err error)
+
+-- a front of the line of a status was written, whose cause had come
+pub record PrintsFront (intake : Intake) (faults : Change ℕ) (disk : Change Sight) (old new : Option (List ℕ)) : Type 0 where
+  pub status : Status
+  pub error : SessionError
+  pub cause : HasCause status intake faults disk []
+  pub first : status ≡ statuses.BadSession → IfSome intake.text.before (λ bytes. session_of bytes ≡ Err error)
+  pub written : AppendsFront old new (status_line status error)
+
+-- *Printed replies*: what the sink holds more is the text of the history, where a base was opened; else it is the
+-- status's line. Where the sink failed it is a front of the history's text, or of the line of the cause that had come. Where
+-- memory ran out it is a front of the history's text; where no base was opened, nothing.
+pub record ArePrinted (status : Status) (story : List Told) (intake : Intake) (faults : Change ℕ) (disk : Change Sight) (old new : Option (List ℕ)) : Type 0 where
+  pub whole : is_opened story ≡ true → is_cut status ≡ false → Appends old new (rendered story)
+  pub front : is_opened story ≡ true → is_cut status ≡ true → AppendsFront old new (rendered story)
+  pub line : is_opened story ≡ false → is_cut status ≡ false → PrintsLine status intake.text.before old new
+  pub line_front : is_opened story ≡ false → status ≡ statuses.WriteFault → PrintsFront intake faults disk old new
+  pub nothing : is_opened story ≡ false → status ≡ statuses.NoMemory → Appends old new []

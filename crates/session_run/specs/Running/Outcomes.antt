@@ -1,0 +1,60 @@
+-- What became of a session that was to be run: its base was opened and its phases were run, or no base was opened.
+use Rattle.std.specs.Prelude.{◌≡◌, ℕ, Bool, ◌⊎◌, Option, Result, List, []}
+use Rattle.cc_names.specs.declared.commands.Phase.{Phase}
+use Rattle.cc_names.specs.declared.memory.Or.{Or}
+use Rattle.cc_names.specs.declared.steps.Told.{Told}
+use Rattle.cc_names.specs.Counts.{Rose, rises}
+use Rattle.cc_outside.specs.declared.sinks.WriteFault.{WriteFault}
+use Rattle.disk_model.specs.Told.{Sight, Both, IsCounted}
+use Rattle.vob_journal.specs.Added.{Adds, may_read}
+use Rattle.vob_journal.specs.Reads.{SameFiles}
+use Rattle.legal_history.specs.Stories.Steps.{state_of}
+use Rattle.legal_history.specs.Stories.Lawful.{Legal}
+use Rattle.base_core.specs.Stopping.Backed.{IsAccounted}
+use Rattle.base_core.specs.Bases.Opening.{FailsToOpen}
+use Rattle.base_core.specs.declared.opening.OpenCause.{OpenCause}
+use Rattle.session_run.specs.Calls.Causes.{Change, disk_rose}
+use Rattle.session_run.specs.Faults.Accounted.{CountsFrom}
+use Rattle.session_run.specs.Faults.Stopped.{AllOpenAgain, IsMended}
+use Rattle.session_run.specs.Promises.Headline.{BeginsOn}
+use Rattle.session_run.specs.Running.Runs.{Outside, HasRunSo, OnWriteFault, run_status}
+use Rattle.session_run.specs.Running.Unstarted.{WritesUnstarted, of_unopened}
+use Rattle.session_run.specs.Story.Begun.{first_step}
+use Rattle.session_run.specs.declared.statuses.Status.{Status}
+
+-- The phases were run on a base that was opened, or their run was given up, and the disk was handed back: it is seen as the base
+-- was opened and as it came back. The story has this first step, and the disk had this count of faults as the call began.
+pub record RunsOpened (phases : List Phase) (status : Status) (first : Option Told) (story : List Told) (before : ℕ) (disk : Change Sight) (outside : Outside) (faults : Change ℕ) : Type 0 where
+  pub result : Result Bool (Or WriteFault)
+  pub status_is : status ≡ run_status result (rises before disk.after.faults)
+  pub first_is : first_step story ≡ first
+  pub legal : Legal story
+  pub ran : HasRunSo result phases story outside
+  pub fault : OnWriteFault result (Rose faults.before faults.after)
+  pub accounted : IsAccounted (state_of story) disk.after
+  pub mended : IsMended (state_of story) disk.after
+  pub again : AllOpenAgain story
+  pub counted : CountsFrom disk.before disk.after story
+
+-- the base that the disk stood for was opened, by calls that read and of which none failed
+pub record RunsOn (phases : List Phase) (status : Status) (story : List Told) (outside : Outside) (faults : Change ℕ) (disk : Change Sight) : Type 0 where
+  pub begins : BeginsOn disk.before story
+  pub first : Option Told
+  pub opened : Sight
+  pub sound : opened.faults ≡ disk.before.faults
+  pub fit : IsCounted opened
+  pub adds : Both (Adds may_read) disk.before.told opened.told
+  pub files : Both SameFiles disk.before.told opened.told
+  pub runs : RunsOpened phases status first story disk.before.faults (record { before = opened; after = disk.after }) outside faults
+
+-- no base was opened, the line of the cause was written, and the clock was not read
+pub record StaysClosed (status : Status) (story : List Told) (outside : Outside) (faults : Change ℕ) (disk : Change Sight) : Type 0 where
+  pub because : OpenCause
+  pub fails : FailsToOpen disk.before because disk.after
+  pub empty : story ≡ []
+  pub unread : outside.reading ≡ outside.first
+  pub wrote : WritesUnstarted (of_unopened because (disk_rose disk)) status outside.held outside.holds faults
+
+-- A session was run: its base was opened and the phases carried out, or it could not be opened.
+abbrev pub RunsSession : List Phase → Status → List Told → Outside → Change ℕ → Change Sight → Type 0
+RunsSession phases status story outside faults disk = RunsOn phases status story outside faults disk ⊎ StaysClosed status story outside faults disk

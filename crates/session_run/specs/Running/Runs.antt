@@ -1,0 +1,104 @@
+-- What running the phases of a session does to the story, to the sink and to the clock.
+use Rattle.std.specs.Prelude.{◌≡◌, ◌⊎◌, ℕ, ◌+◌, ◌≤◌, Bool, true, false, Option, IfSome, Result, Ok, Err, List, [], ◌∷◌, length}
+use Rattle.std.specs.List.{AllByRecursion}
+use Rattle.std.specs.Io.KnownBytes.{Appends}
+use Rattle.cc_names.specs.Formed.{Plain}
+use Rattle.cc_names.specs.declared.commands.Phase.{Phase}
+use Rattle.cc_names.specs.declared.memory.Or.{Or}
+use Rattle.cc_names.specs.declared.memory.Or.TheVariants.{NoMemory, Is}
+use Rattle.cc_names.specs.declared.steps.Counts.{Counts}
+use Rattle.cc_names.specs.declared.steps.Told.{Told}
+use Rattle.cc_names.specs.declared.steps.Told.TheVariants as told
+use Rattle.cc_names.specs.Counts.{raised}
+use Rattle.cc_outside.specs.Feeds.{AppendsFront}
+use Rattle.cc_outside.specs.Sights.{ClockSight, SinkSight}
+use Rattle.cc_outside.specs.declared.sinks.WriteFault.{WriteFault}
+use Rattle.session_text.specs.Formed.{IsPhase}
+use Rattle.carried_out.specs.CarriedOut.{AreCarriedOut}
+use Rattle.legal_history.specs.Stories.States.{all_done}
+use Rattle.legal_history.specs.Stories.Steps.{state_of}
+use Rattle.session_run.specs.Calls.Asked.{text_limit}
+use Rattle.session_run.specs.Promises.Headline.{IsCutAtLast, clock_moments}
+use Rattle.session_run.specs.Story.Begun.{IsFront, phases_begun, moments_begun, is_opened}
+use Rattle.session_run.specs.Story.Rendered.{earlier_text, rendered, has_failure}
+use Rattle.session_run.specs.declared.statuses.Status.{Status}
+use Rattle.session_run.specs.declared.statuses.Status.TheVariants as statuses
+
+-- a base was opened, and nothing was done since
+pub record IsJustOpened (story : List Told) : Type 0 where
+  pub rows : List Plain
+  pub counts : Counts
+  pub tells : Bool
+  pub is : story ≡ told.Opened rows counts tells ∷ []
+
+-- a phase that can be run: it has the form of one, and each of its commands is carried out
+pub record IsReadyPhase (phase : Phase) : Type 0 where
+  pub formed : IsPhase text_limit phase
+  pub carried_out : AreCarriedOut phase
+
+-- a session whose phases can be run
+pub record IsRunnable (phases : List Phase) : Type 0 where
+  pub few : length phases ≤ text_limit
+  pub ready : AllByRecursion IsReadyPhase phases
+
+-- the outside of a run: what the sink held and holds, what the clock tells, and its reading then and now
+pub record Outside : Type 0 where
+  pub held : Option (List ℕ)
+  pub holds : Option (List ℕ)
+  pub moments : Option (List ℕ)
+  pub first : ℕ
+  pub reading : ℕ
+
+-- the outside of a run by how its sink and its clock were seen before and after
+abbrev pub outside_of : SinkSight → SinkSight → ClockSight → ClockSight → Outside
+outside_of sink new_sink clock new_clock =
+    record { held = sink.held; holds = new_sink.held; moments = clock.told; first = clock.readings; reading = new_clock.readings }
+
+-- these phases have been run, and their transcripts written
+pub record HasRunPhases (phases : List Phase) (story : List Told) (outside : Outside) (failed : Bool) : Type 0 where
+  pub opened : is_opened story ≡ true
+  pub phases_are : phases_begun story ≡ phases
+  pub number : (state_of story).number ≡ length phases
+  pub finished : all_done (state_of story) ≡ true
+  pub moments_are : IfSome outside.moments (λ told. moments_begun story ≡ clock_moments told outside.first (length phases))
+  pub reading_is : outside.reading ≡ raised outside.first (length phases)
+  pub failures : has_failure story ≡ failed
+  pub written : Appends outside.held outside.holds (rendered story)
+
+-- where the sink failed, its last transcript is cut
+abbrev pub IsCutBy : Or WriteFault → List Told → Option (List ℕ) → Option (List ℕ) → Type 0
+IsCutBy NoMemory story old new = Unit {0}
+IsCutBy (Is fault) story old new = IsCutAtLast story (earlier_text story) old new
+
+-- how often the clock was read where so many phases had begun: once for each, or where memory ran out perhaps once more
+abbrev pub ReadsBy : Or WriteFault → ℕ → Outside → Type 0
+ReadsBy NoMemory count outside = (outside.reading ≡ raised outside.first count) ⊎ (outside.reading ≡ raised outside.first (count + 1))
+ReadsBy (Is fault) count outside = outside.reading ≡ raised outside.first count
+
+-- the run of these phases was given up
+pub record IsRunGivenUp (cut : Or WriteFault) (phases : List Phase) (story : List Told) (outside : Outside) : Type 0 where
+  pub opened : is_opened story ≡ true
+  pub begun : IsFront (phases_begun story) phases
+  pub moments_are : IfSome outside.moments (λ told. moments_begun story ≡ clock_moments told outside.first (length (moments_begun story)))
+  pub reading_is : ReadsBy cut (length (phases_begun story)) outside
+  pub written : AppendsFront outside.held outside.holds (rendered story)
+  pub cut_at : IsCutBy cut story outside.held outside.holds
+
+-- the sink's faults rose where it failed
+abbrev pub OnWriteFault : {X : Type 0} → Result X (Or WriteFault) → Type 0 → Type 0
+OnWriteFault (Ok x) P = Unit {0}
+OnWriteFault (Err NoMemory) P = Unit {0}
+OnWriteFault (Err (Is fault)) P = P
+
+-- the status of a run, by whether the disk's faults rose
+abbrev pub run_status : Result Bool (Or WriteFault) → Bool → Status
+run_status (Ok failed) true = statuses.DiskFault
+run_status (Ok false) false = statuses.Good
+run_status (Ok true) false = statuses.SomeFailed
+run_status (Err NoMemory) rose = statuses.NoMemory
+run_status (Err (Is fault)) rose = statuses.WriteFault
+
+-- the phases were run, or their run was given up
+abbrev pub HasRunSo : Result Bool (Or WriteFault) → List Phase → List Told → Outside → Type 0
+HasRunSo (Ok failed) phases story outside = HasRunPhases phases story outside failed
+HasRunSo (Err cut) phases story outside = IsRunGivenUp cut phases story outside
