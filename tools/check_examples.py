@@ -6,8 +6,9 @@ transcript beside it.
 
 CCBASE is the built program; NAME an example without its ending, all of them where none is given. Says of each whether it is
 as told, shows the lines that differ, and ends with 1 where one does. With --refuse-threads the system makes no thread for the
-program, which then runs lanes and builders one after the other, the first lane first, and writes the same. That it does shows in
-two lanes that make one view, the first of them late, which are then run ten times too. It stands outside the gate."""
+program, which then runs builders, and lanes once one builds, one after the other, the first lane first, and writes the same.
+That it does shows in two lanes that make one view, the first of them late, which are then run ten times too. It stands outside
+the gate."""
 import difflib
 import pathlib
 import resource
@@ -17,10 +18,10 @@ import tempfile
 
 EXAMPLES = pathlib.Path(__file__).resolve().parent.parent / "examples"
 
-# Of two lanes at once the second makes its view while the first looks at another one.
+# Of two lanes at once, which are on threads since the first builds, the second makes its view while the first looks at another.
 LOOKS = 200
-ONE_VIEW = "phase\nlane a\nmkview w\n" + "catcs w\n" * LOOKS + "mkview v\nlane b\nmkview v\n"
-FIRST, SECOND = f"\n{LOOKS + 2} mkview ok\n", "lane b\n1 mkview refused C2 ViewExists\n"
+ONE_VIEW = "phase\nlane a\nclearmake w\nmkview w\n" + "catcs w\n" * LOOKS + "mkview v\nlane b\nmkview v\n"
+FIRST, SECOND = f"\n{LOOKS + 3} mkview ok\n", "lane b\n1 mkview refused C2 ViewExists\n"
 TIMES = 10
 
 

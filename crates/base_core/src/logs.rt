@@ -104,9 +104,9 @@ fn push_both(steps: &mut Vec<Step>, step: Step, ending: Option<Step>)
     requires { vec_len steps.old + 2 ≤ vec_capacity steps.old }
     ensures { steps.new.items ≡ steps.old.items ++ step ∷ option_to_list ending }
 {
-    steps.push(step).unwrap();
+    steps.push_reserved(step);
     if let Some(ending) = ending {
-        steps.push(ending).unwrap();
+        steps.push_reserved(ending);
     }
 }
 
@@ -183,7 +183,7 @@ impl<D: Disk> Log<D> {
                 moment,
             },
         )?;
-        self.phases.push(phase).unwrap();
+        self.phases.push_reserved(phase);
         Ok(())
     }
 
@@ -210,7 +210,7 @@ impl<D: Disk> Log<D> {
         let number = self.rows.all().size();
         let before = self.journal.counts().faults;
         if let Ok(tick) = self.journal.append(&frame) {
-            self.steps.push(Step::Commit { tag, number, tick }).unwrap();
+            self.steps.push_reserved(Step::Commit { tag, number, tick });
             self.rows.push(row);
             return Ok(Appended::Committed);
         }
@@ -242,8 +242,8 @@ impl<D: Disk> Log<D> {
         Ok(())
     }
 
-    /// Settles the journal's tail where a fault left it open; elsewhere it makes no device call, and changes nothing. Afterwards
-    /// no stop finds more than the rows.
+    /// Settles the journal's tail where a fault left it open; elsewhere it makes no device call, and changes nothing.
+    /// Afterwards no stop finds more than the rows.
     pub(crate) fn settle(&mut self) -> Result<(), DiskFault>
         ensures same { self.new ≡ with_sight self.old self.new.sight }
         ensures ok { OnOk result (IsSettled (state_of self.new.story) self.new.sight) }

@@ -10,8 +10,8 @@ use Rattle.legal_history.specs.Builds.Active as model
 use Rattle.legal_history.specs.Builds.Turns.{all_over}
 use Rattle.build_core.specs.Comes.{came_of, cames_of, comes_of}
 use Rattle.build_core.specs.Slots.{numbered, held_in}
-use Rattle.build_core.specs.SlotLaws.{find_numbered, put_numbered}
 use Rattle.build_core.specs.declared.active.Came.{Came}
+use Rattle.build_core.proofs.SlotLaws.{find_numbered, put_numbered}
 
 held_in_read : {A : Type 0} (slots : List (Option A)) (n : ℕ) (slot : Option A) → n < length slots → slot ≡ get_or slots n slot → held_in slots n ≡ slot
 held_in_read [] n slot h e = absurd (omega arith)

@@ -22,5 +22,7 @@ pub mod RunsSeen
 pub mod RunsUnits
 pub mod RunsWell
 pub mod RunsWords
+pub mod SightLaws
+pub mod SlotLaws
 mod UnitNumbers
 mod Waiting

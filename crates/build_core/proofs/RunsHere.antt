@@ -13,8 +13,8 @@ use Rattle.legal_history.specs.Base.Rows.{Base}
 use Rattle.legal_history.specs.Builds.Active.{Build, unit_at}
 use Rattle.legal_history.specs.Builds.Choices.{here, text_of_row, visible}
 use Rattle.legal_history.specs.Builds.Fresh.{script_text}
-use Rattle.build_core.specs.SightLaws.{texts_seen}
 use Rattle.clearmake.specs.Sights.{stands, standing_at}
+use Rattle.build_core.proofs.SightLaws.{texts_seen}
 
 each_holds : (P : List ℕ → Type 0) → ((path : List ℕ) → P path) → (paths : List (List ℕ)) → AllByRecursion P paths
 each_holds P holds [] = tt

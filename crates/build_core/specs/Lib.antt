@@ -4,10 +4,7 @@ pub mod Plans
 pub mod Publishing
 pub mod Releasing
 pub mod Reusing
-pub mod RunLaws
-pub mod SightLaws
 pub mod Sights
-pub mod SlotLaws
 pub mod Slots
 pub mod UnitSteps
 pub mod Kept

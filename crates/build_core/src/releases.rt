@@ -22,8 +22,8 @@ fn is_over(build: &ActiveBuild, path: &Path) -> bool
     }
 }
 
-/// Whether the units that make these paths have their outcomes. The last path is looked at first: units come in the order of their
-/// prerequisites, so its unit is most often the last to have one, and the others need no look before.
+/// Whether the units that make these paths have their outcomes. The last path is looked at first: units come in the order of
+/// their prerequisites, so its unit is most often the last to have one, and the others need no look before.
 #[tactic(auto, using(crate::proofs::Waiting::one_is_not_over))]
 fn are_over(build: &ActiveBuild, paths: &[Path]) -> bool
     ensures { result ≡ list_all (λ path. is_over build.now (unit_with build.now path)) paths.now }

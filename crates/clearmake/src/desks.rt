@@ -1,4 +1,4 @@
-// What builders and lanes ask of the value behind the lock.
+// What builders and lanes ask of the base, which stands behind a lock as soon as threads are started.
 
 ghost use Rattle.std.specs.Prelude.{◌≡◌, ◌<◌, ◌≤◌, ℕ, Some, IfOk, OnOk, OnErr};
 ghost use Rattle.build_script.specs.Ended.{ran_of};

@@ -47,7 +47,7 @@ pub(crate) enum LaneTurn {
 
 /// Carries out a lane's next commands as long as they build nothing, up to 64 in one turn at the desk, and says why it stops:
 /// the next one builds, there is none, the turn has had its commands, or memory ran out.
-fn take_turn_at<T: PhaseDesk>(desk: &mut T, alloc: Global, lane: u32) -> LaneTurn
+pub(crate) fn take_turn_at<T: PhaseDesk>(desk: &mut T, alloc: Global, lane: u32) -> LaneTurn
     ensures begins { IsPrefix (T.story desk.old) (T.story desk.new) }
     ensures turn { IsLaneTurn result (T.story desk.new) lane T.number }
 {

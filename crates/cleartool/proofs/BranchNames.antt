@@ -1,7 +1,6 @@
 -- The names that lead to a branch: those of the branch that it leaves, and its own behind them.
 use Rattle.std.proofs.Common.{◌≡◌, refl, ap, ap₂, sym, ◌∙◌, ℕ, ◌<◌, ◌≤◌, ◌==◌, Bool, true, false, Option, Some, None, List, [], ◌∷◌, ◌++◌, arith}
 use Rattle.std.specs.Prelude.{option_and_then}
-use Rattle.std.specs.Option.{option_map_or}
 use Rattle.std.proofs.lemmas.Bool.Decides.{nat_tests}
 use Rattle.cc_names.specs.Branches.{branch_of_version, name_of_branch, names_of_branch, origin_of}
 use Rattle.cc_names.specs.Formed.{Plain}

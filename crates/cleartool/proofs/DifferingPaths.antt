@@ -1,11 +1,11 @@
 -- The paths at which two records differ, found by their keys.
-use Rattle.std.proofs.Common.{◌≡◌, refl, ap, ap₂, sym, subst, ◌∙◌, ℕ, suc, ◌-◌, ◌<◌, Bool, true, false, cond, ◌||◌, Option, Some, None, List, [], ◌∷◌, length, drop, drop-cons, get_or, map, ◌++◌, bytes_eq, arith}
+use Rattle.std.proofs.Common.{◌≡◌, refl, ap, ap₂, sym, ◌∙◌, ℕ, suc, ◌-◌, ◌<◌, Bool, true, false, cond, ◌||◌, Option, Some, None, List, [], ◌∷◌, length, drop, drop-cons, get_or, map, ◌++◌, bytes_eq, arith}
 use Rattle.std.proofs.lemmas.Cmp.{nat_list_cmp_total}
 use Rattle.std.proofs.lemmas.Map.Text.{is_eq-slice_cmp}
 use Rattle.std.proofs.lemmas.Slice.Eq.{bytes_eq-Decides}
 use Rattle.std.specs.BTreeMap.{is_at}
 use Rattle.std.specs.Cmp.Lexicographic.{slice_cmp}
-use Rattle.std.specs.FinMap.Entries.{find, find-put, is_sorted, is_sorted-put, put}
+use Rattle.std.specs.FinMap.Entries.{find, find-put, is_sorted, is_sorted-put}
 use Rattle.std.specs.List.{concat}
 use Rattle.std.specs.List.Sorted.{IsStrictlySortedBy}
 use Rattle.std.specs.Option.{option_map_or}
@@ -16,9 +16,9 @@ use Rattle.legal_history.specs.Base.Changes.{targets_of}
 use Rattle.legal_history.specs.Base.Closures.{is_among}
 use Rattle.legal_history.specs.Builds.Reuse.{are_same_paths}
 use Rattle.legal_history.specs.Base.Rows.{Base}
-use Rattle.legal_history.specs.Queries.RecordTexts.{Paths, diffcr_text, record_of, recorded_script, path_lines, with_paths, row_in, is_same_row, side_line, unless_same}
+use Rattle.legal_history.specs.Queries.RecordTexts.{Paths, diffcr_text, record_of, recorded_script, path_lines, with_paths, row_in, unless_same}
 use Rattle.cleartool.specs.Differences.{is_read, row_lines}
-use Rattle.cleartool.proofs.ByKeys.{HasKeys, by_keys, told, told_of}
+use Rattle.cleartool.proofs.ByKeys.{by_keys, told_of}
 
 -- the row of a path, by the first entry
 row_first : (entry : ReadOf) (entries : List ReadOf) (path : List ℕ) → row_in (entry ∷ entries) path ≡ cond (bytes_eq entry.path path) (Some entry.row) (row_in entries path)

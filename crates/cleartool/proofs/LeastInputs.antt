@@ -29,7 +29,7 @@ use Rattle.legal_history.proofs.Reuse.Covered.{Keyed, closure_keyed, entries_key
 use Rattle.legal_history.proofs.Reuse.EntriesBelow.{entry_below, entries_fit}
 use Rattle.legal_history.proofs.Stories.Goes.{same_number}
 use Rattle.cleartool.specs.Covering.{above, above_entries, least_in, least_of, least_of_all, least_of_entries, least_of_entry, lesser, lower, missed}
-use Rattle.cleartool.proofs.LesserPaths.{lesser_join, lesser_none, lesser_swap, lesser_twice}
+use Rattle.cleartool.proofs.LesserPaths.{lesser_join, lesser_swap, lesser_twice}
 
 -- one input put in its place, each under its own row
 one_put : (b : Base) (v : List ℕ) (s : Input) (row : ℕ) (inputs : Inputs) → row ≡ s.1 → Keyed inputs → least_in b v (put input_cmp s row inputs) ≡ lesser (missed b v s.0 row) (least_in b v inputs)

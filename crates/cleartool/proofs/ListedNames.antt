@@ -1,5 +1,5 @@
 -- The names of a directory are told by those that rows gave there and by the paths at which rows gave the view something.
-use Rattle.std.proofs.Common.{◌≡◌, ℕ, ◌<◌, ◌≤◌, Bool, true, false, cond, ◌&&◌, ◌||◌, List, [], ◌∷◌, ◌++◌, Option, Some, None, Result, Ok, Err, length, map, reverse, refl, ap, ap₂, sym, subst, ◌∙◌, arith, bytes_eq}
+use Rattle.std.proofs.Common.{◌≡◌, ℕ, ◌<◌, Bool, true, false, cond, ◌&&◌, ◌||◌, List, [], ◌∷◌, ◌++◌, Option, Some, None, Ok, Err, length, map, reverse, refl, ap, ap₂, sym, subst, ◌∙◌, arith, bytes_eq}
 use Rattle.std.specs.Prelude.{T, is_some, nat_le, nat_lt, unwrap_or, if◌then◌else◌}
 use Rattle.std.specs.Cmp.Lexicographic.{slice_cmp}
 use Rattle.std.specs.FinMap.Entries.{find, find-put, is_sorted, is_sorted-put}
@@ -16,21 +16,19 @@ use Rattle.cc_names.specs.Formed.{IsBelowRoot, Plain}
 use Rattle.cc_names.specs.Last.{Ends, Sets, left, only_if}
 use Rattle.cc_names.specs.Names.{IsName}
 use Rattle.cc_names.specs.PathLaws.{PartsJoin}
-use Rattle.cc_names.specs.Paths.{IsPath, join_of, joined, last_of, names_of, parent_of, root, unless_long, without_last}
+use Rattle.cc_names.specs.Paths.{IsPath, join_of, last_of, names_of, parent_of, root, without_last}
 use Rattle.cc_names.specs.References.{Held, held_at, view_path_cmp}
-use Rattle.cc_names.specs.Versions.{kind_of}
 use Rattle.cc_names.specs.declared.names.NameFault.TheVariants.{TooLong}
 use Rattle.cc_names.specs.declared.rows.Deed.{Deed}
 use Rattle.cc_names.specs.declared.rows.Deed.TheVariants as deeds
-use Rattle.cc_names.specs.declared.rows.Kind.{Kind}
 use Rattle.cc_names.specs.declared.selection.Picked.{Picked}
 use Rattle.cc_names.specs.declared.selection.Seen.{Seen}
-use Rattle.cc_names.specs.declared.selection.Seen.TheVariants.{Element, Nothing, Private, Unselected}
+use Rattle.cc_names.specs.declared.selection.Seen.TheVariants.{Nothing}
 use Rattle.cc_names.proofs.NamesOfPaths.{path-short}
 use Rattle.cc_names.proofs.PathParts.{joined-names_of, last_or-append, names_of-joined, names_of-names, without_last-append}
 use Rattle.legal_history.specs.Base.Catalogs.{Catalog, catalog_of, named, own_of}
-use Rattle.legal_history.specs.Base.Changes.{held, tree}
-use Rattle.legal_history.specs.Base.Closures.{is_among, is_version_of}
+use Rattle.legal_history.specs.Base.Changes.{held}
+use Rattle.legal_history.specs.Base.Closures.{is_among}
 use Rattle.legal_history.specs.Base.Fits.{is_base}
 use Rattle.legal_history.specs.Base.Rows.{Base, size}
 use Rattle.legal_history.specs.Base.Seen as seeing
@@ -40,10 +38,10 @@ use Rattle.legal_history.specs.Commands.FileLines.{last_name, parent}
 use Rattle.legal_history.specs.Queries.ListingTexts.{Names, catalog_names, catalog_or_none, is_something, ls_text, names_in, object_names, path_in, private_names, with_name_if, with_private}
 use Rattle.legal_history.proofs.Bases.Makings.{seen_element}
 use Rattle.legal_history.proofs.Bases.Picks.{picked_is}
-use Rattle.view_lookup.specs.Owned.{gives_view, is_name, paths_given, was_given, was_named}
+use Rattle.view_lookup.specs.Owned.{gives_view, is_name, paths_given, was_given}
 use Rattle.view_lookup.proofs.Holdings.{same_view_path}
 use Rattle.cleartool.specs.Listed.{HasNames, SeesDirectory, lies_in, line_at, line_of, line_where}
-use Rattle.cleartool.proofs.ByKeys.{by_keys, told, told_of}
+use Rattle.cleartool.proofs.ByKeys.{by_keys, told_of}
 use Rattle.cleartool.proofs.HeldListed.{held_given}
 use Rattle.cleartool.proofs.NamesGiven.{checkout_given, version_given}
 

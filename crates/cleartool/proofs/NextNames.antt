@@ -10,11 +10,9 @@ use Rattle.cc_names.specs.declared.changes.VersionId.{VersionId}
 use Rattle.cc_names.specs.declared.changes.TreeChange.{TreeChange}
 use Rattle.cc_names.specs.declared.changes.TreeChange.TheVariants.{ElementMade, BranchMade, VersionMade}
 use Rattle.cc_names.specs.declared.rows.Kind.TheVariants.{Directory}
-use Rattle.cc_names.specs.declared.rows.Deed.TheVariants as deeds
 use Rattle.cleartool.specs.Naming.{names_above, name_on, name_of_new}
-use Rattle.legal_history.specs.Base.Changes.{tree, with_checkin, with_version}
+use Rattle.legal_history.specs.Base.Changes.{tree}
 use Rattle.legal_history.specs.Base.Rows.{Base, size}
-use Rattle.legal_history.specs.Base.Views.{Checkout, out}
 use Rattle.legal_history.specs.Queries.VersionNames.{behind_slashes, version_name, name_of_version_id}
 use Rattle.legal_history.proofs.Bases.Below.{Within, within, older_change}
 use Rattle.legal_history.proofs.Bases.TreesStay.{Adds, Nothing, One, adds_row}

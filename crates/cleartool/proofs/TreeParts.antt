@@ -1,10 +1,10 @@
 -- What is left to tell once a part was told of, and in how many steps.
-use Rattle.std.proofs.Common.{◌≡◌, ◌≢◌, ℕ, zero, suc, ◌+◌, ◌-◌, ◌<◌, List, [], ◌∷◌, ◌++◌, append-nil, append_assoc, codes, drop, length, map, reverse, Option, Some, None, refl, ap, ap₂, sym, ◌∙◌, arith}
+use Rattle.std.proofs.Common.{◌≡◌, ◌≢◌, ℕ, zero, suc, ◌+◌, ◌-◌, ◌<◌, List, [], ◌∷◌, ◌++◌, append-nil, append_assoc, codes, drop, map, reverse, refl, ap, sym, ◌∙◌, arith}
 use Rattle.std.specs.List.{concat, fold, sum_by}
 use Rattle.std.proofs.lemmas.List.Sums.{sum_by-append}
 use Rattle.std.proofs.lemmas.List.{map-append, reverse-append}
 use Rattle.std.proofs.lemmas.List.Folds.{concat-append}
-use Rattle.cc_names.specs.Versions.{Version, row_of_version, versions_on}
+use Rattle.cc_names.specs.Versions.{row_of_version, versions_on}
 use Rattle.legal_history.specs.Base.Changes.{tree}
 use Rattle.legal_history.specs.Base.Rows.{Base}
 use Rattle.legal_history.specs.Queries.ElementTexts.{branch_lines, branches_leaving, in_brackets, labels_on, version_lines, with_commas}

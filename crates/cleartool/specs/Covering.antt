@@ -1,5 +1,5 @@
 -- The least path at which a view sees another row than what an object rests on, object by object.
-use Rattle.std.specs.Prelude.{ℕ, suc, Bool, true, false, not, max, cond, Option, Some, None, List, [], ◌∷◌}
+use Rattle.std.specs.Prelude.{ℕ, suc, not, max, cond, Option, Some, None, List, [], ◌∷◌}
 use Rattle.std.specs.Cmp.Lexicographic.{slice_cmp}
 use Rattle.std.specs.Ordering.{is_lt, nat_cmp}
 use Rattle.cc_names.specs.declared.rows.ReadOf.{ReadOf}

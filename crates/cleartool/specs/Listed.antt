@@ -1,7 +1,7 @@
 -- The names of a directory, and the line of each.
-use Rattle.std.specs.Prelude.{◌≡◌, ℕ, Bool, true, false, ◌&&◌, Option, Some, None, Result, Ok, Err, List, []}
+use Rattle.std.specs.Prelude.{◌≡◌, ℕ, Bool, true, ◌&&◌, Option, Some, None, Result, Ok, Err, List, []}
 use Rattle.cc_names.specs.Formed.{IsBelowRoot}
-use Rattle.cc_names.specs.Paths.{IsPath, last_of, parent_of}
+use Rattle.cc_names.specs.Paths.{last_of, parent_of}
 use Rattle.cc_names.specs.References.{held_at}
 use Rattle.cc_names.specs.Versions.{kind_of}
 use Rattle.cc_names.specs.declared.memory.Or.{Or}

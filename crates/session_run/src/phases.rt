@@ -40,8 +40,8 @@ fn moment_of<C: Clock>(clock: &mut C) -> u64
     clock.now().min(LAST_MOMENT)
 }
 
-/// Begins a phase and carries out its commands: its lanes on threads, and then what want of memory left there, on this one. The
-/// core comes back in every case.
+/// Begins a phase and carries out its commands: its lanes, on threads once one builds, and then what want of memory left, on
+/// this one. The core comes back in every case.
 fn run_commands<R: Threads + Wait + Sync, G: Gate + Sync, D: Disk + Send>(
     host: &Host<'_, R, G>,
     core: Core<D>,

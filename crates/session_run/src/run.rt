@@ -152,16 +152,17 @@ fn run_session<R: Threads + Wait + Sync, G: Gate + Sync, K: Sink, D: Disk + Send
 
 /// Runs the session that the words ask for: reads it from the source, opens the base that the disk stands for, runs the
 /// phases in order, writes the transcript of each when its lanes have ended, and settles the journal. The disk comes back in
-/// every case, and unless a session was read no call was made on it. Names in the base are found by hashing them so: with random
-/// keys nobody can choose names that make a look-up there slow, and the answers are the same with any.
+/// every case, and unless a session was read no call was made on it. Names in the base are found by hashing them so: with
+/// random keys nobody can choose names that make a look-up there slow, and the answers are the same with any.
 ///
-/// The lanes of a phase run on threads, and so do the units of each build: what is promised holds in whatever order they take
-/// turns, and it is not promised that they get on. Around each script, and before each read of it, the gate is called.
+/// The lanes of a phase run on threads once one of them builds, and so do the units of each build: what is promised holds in
+/// whatever order they take turns, and it is not promised that they get on. Around each script, and before each read of it, the
+/// gate is called.
 ///
-/// A phase starts a thread for each lane but one, and a build that asks for N scripts at once up to N - 1 more, anew each time:
-/// 4,095 at most are there at once beside the caller's. Each has a stack of its own, of the size that `ulimit -s` tells, and
-/// counts against the processes of its user, `ulimit -u`. Where one is refused, the thread that asked does what it was wanted
-/// for.
+/// Such a phase starts a thread for each lane but one, and a build that asks for N scripts at once up to N - 1 more, anew
+/// each time: 4,095 at most are there at once beside the caller's. Each has a stack of its own, of the size that `ulimit -s`
+/// tells, and counts against the processes of its user, `ulimit -u`. Where one is refused, the thread that asked does what it
+/// was wanted for.
 ///
 /// Takes time linear in the session and in the replies, the time of `Core::open`, and for each command that of `act` or of its
 /// build.

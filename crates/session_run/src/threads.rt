@@ -1,4 +1,4 @@
-// The lanes of a phase on threads.
+// The lanes of a phase, on threads once one of them builds.
 
 ghost use Rattle.std.specs.Prelude.{◌≡◌, ◌≤◌, ℕ, true, length};
 ghost use Rattle.std.specs.Bool.{OnTrue};
@@ -35,7 +35,8 @@ pub(crate) struct Host<'a, R, G> {
     pub(crate) gate: &'a G,
 }
 
-/// Carries out commands of so many lanes of the last phase on threads, where `P` fixes how the core stood as it had begun.
+/// Carries out commands of so many lanes of the last phase, on threads once one builds, where `P` fixes how the core stood as
+/// it had begun.
 fn run_lanes_at<
     R: Threads + Wait + Sync,
     G: Gate + Sync,
@@ -65,8 +66,9 @@ fn run_lanes_at<
     (core, done)
 }
 
-/// Carries out commands of the last phase, the lanes in threads of their own, and each build with builders of its own. True where
-/// none is left. False where memory or a lane's turns ran out, and for a phase without lanes: then the caller goes on.
+/// Carries out commands of the last phase, the lanes in threads once one builds, and each build with builders of its own.
+/// True where none is left. False where memory or a lane's turns ran out, and for a phase without lanes: then the caller goes
+/// on.
 pub(crate) fn run_on_threads<R: Threads + Wait + Sync, G: Gate + Sync, D: Disk + Send>(
     host: &Host<'_, R, G>,
     core: Core<D>,

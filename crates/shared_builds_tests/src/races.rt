@@ -1,5 +1,6 @@
-// Eight lanes that race for one label, one branch and one target, again and again. Which of them comes first is open: the rows
-// of the base tell, and what each lane is replied follows from that. The row from which it follows stands before the lane's next.
+// Eight lanes that race for one label, one branch and one target, again and again. Which of them comes first is open: the
+// rows of the base tell, and what each lane is replied follows from that. The row from which it follows stands before the
+// lane's next.
 
 use crate::sessions::{IN_A_LANE, Runtime, outcome_on, outside_of, run_in, told_of};
 use cc_names::rows::{Deed, Row, Tag};
@@ -76,7 +77,8 @@ enum Act {
     Branch,
 }
 
-// What the lanes begin with; they go on in the order of the acts, round and round.
+// What the lanes begin with; they go on in the order of the acts, round and round. Lanes are on threads once one of them is to
+// build, so where the others begin with a label or a branch the last one begins with its build.
 #[derive(Clone, Copy)]
 enum Start {
     Label,
@@ -90,6 +92,7 @@ impl Start {
     // The act of a lane's command, of which the first has the number 1.
     fn act(self, lane: u32, command: u32) -> Act {
         let first = match self {
+            Start::Label | Start::Branch if lane == LANES => 2,
             Start::Label => 1,
             Start::Build => 2,
             Start::Branch => 3,

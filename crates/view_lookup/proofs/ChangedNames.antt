@@ -1,13 +1,13 @@
 -- A name in the catalog of a version is as the newest version of its branch up to it leaves it that alters the name, else as the
 -- row that made the branch does.
-use Rattle.std.proofs.Common.{◌≡◌, ℕ, suc, ◌<◌, ◌≤◌, ◌==◌, Bool, true, false, not, ◌&&◌, ◌||◌, cond, max, nat_lt, Option, Some, None, IfSome, List, [], ◌∷◌, length, bytes_eq, refl, ap, ap₂, sym, subst, ◌∙◌, arith}
+use Rattle.std.proofs.Common.{◌≡◌, ℕ, suc, ◌<◌, ◌≤◌, ◌==◌, Bool, true, false, not, ◌&&◌, cond, max, nat_lt, Option, Some, None, IfSome, List, [], ◌∷◌, length, bytes_eq, refl, ap, sym, subst, ◌∙◌, arith}
 use Rattle.std.specs.Prelude.{find, is_none, option_and_then, option_map}
 use Rattle.std.specs.Option.{option_or}
 use Rattle.std.proofs.lemmas.Bool.Decides.{nat_tests, Decides-eqb}
 use Rattle.cc_names.specs.Branches.{branch_of_version}
 use Rattle.cc_names.specs.Formed.{Plain}
-use Rattle.cc_names.specs.Last.{Ends, Sets, only_if, left, last}
-use Rattle.cc_names.specs.Versions.{branch_of_change, change_at, is_before, is_number, latest, of_first_rows, put_if, row_of_change, row_of_version, version_made, versions_on}
+use Rattle.cc_names.specs.Last.{Ends, Sets, only_if, left}
+use Rattle.cc_names.specs.Versions.{branch_of_change, change_at, is_before, is_number, latest, put_if, row_of_change, row_of_version, version_made, versions_on}
 use Rattle.cc_names.specs.declared.changes.TreeChange.{TreeChange}
 use Rattle.cc_names.specs.declared.changes.TreeChange.TheVariants.{ElementMade, BranchMade, VersionMade}
 use Rattle.cc_names.specs.declared.rows.Deed.{Deed}
@@ -15,13 +15,13 @@ use Rattle.cc_names.specs.declared.rows.Deed.TheVariants as deeds
 use Rattle.cc_names.specs.declared.rows.Out.TheVariants as outs
 use Rattle.cc_names.specs.declared.rows.Kind.TheVariants.{Directory}
 use Rattle.cc_names.specs.declared.rows.Tag.{Tag}
-use Rattle.legal_history.specs.Base.Catalogs.{Catalog, Edit, BeginsEmpty, BeginsAs, Adds, Removes, Renames, OfCheckout, catalog_of, catalog_source, edit_of, edit_where, edited, first_edit, is_out, made_or_older, named, own_of}
-use Rattle.legal_history.specs.Base.Changes.{tree, tree_after, with_checkin, with_version}
+use Rattle.legal_history.specs.Base.Catalogs.{Catalog, Edit, BeginsEmpty, BeginsAs, Adds, Removes, Renames, OfCheckout, catalog_of, catalog_source, edit_of, edit_where, edited, first_edit, made_or_older, named, own_of}
+use Rattle.legal_history.specs.Base.Changes.{tree, with_checkin, with_version}
 use Rattle.legal_history.specs.Base.Checkouts.{branch_of, is_latest, latest_beside, other_reserver}
 use Rattle.legal_history.specs.Base.Closures.{is_version_of}
 use Rattle.legal_history.specs.Base.Conditions.{exists, has_out, may_check_in}
 use Rattle.legal_history.specs.Base.Fits.{deed_fits, is_base, may_reserve}
-use Rattle.legal_history.specs.Base.Rows.{Base, size, first_rows, row_at, deed_of, deed_at}
+use Rattle.legal_history.specs.Base.Rows.{Base, size, first_rows, row_at, deed_of}
 use Rattle.legal_history.specs.Base.Views.{Checkout, out}
 use Rattle.legal_history.proofs.Bases.Below.{within}
 use Rattle.legal_history.proofs.Bases.Owned.{and_first, and_second, row_fits, rows_below, same_is_same}
@@ -29,7 +29,7 @@ use Rattle.legal_history.proofs.Bases.Stay.{catalog_stays, first_rows_stay, row_
 use Rattle.legal_history.proofs.Bases.TreesStay.{tree_of_first_rows}
 use Rattle.legal_history.proofs.Bases.VersionsStay.{of_element, parts_of}
 use Rattle.view_lookup.specs.Changed.{alters, begins, begun, changed, changes, checked_in_on, is_since}
-use Rattle.view_lookup.specs.Ended.{later, or_else}
+use Rattle.view_lookup.specs.Ended.{later}
 use Rattle.view_lookup.specs.Entries.{begun_effect, changed_effect, entry_effect}
 use Rattle.view_lookup.specs.Growing.{tree_change, with_change}
 use Rattle.view_lookup.specs.LookUps.{Deeds, Told, last_of, left_by, newest, told}

@@ -3,8 +3,7 @@ use Rattle.std.specs.Prelude.{IfOk, IfSome, IsTrue, cond, option_map}
 use Rattle.std.specs.HashMap.{get}
 use Rattle.std.specs.Str.{bytes_eq}
 use Rattle.std.proofs.lemmas.Slice.Eq.{bytes_eq-Decides}
-use Rattle.std.proofs.Common.{◌≡◌, refl, ℕ, ◌<◌, ◌≤◌, Bool, true, false, nat_lt, Option, Some, None, Result, Ok, Err, List, [], ◌∷◌, suc, length, ap, sym, subst, ◌∙◌, arith}
-use Rattle.std.proofs.lemmas.Bool.Decides.{nat_tests}
+use Rattle.std.proofs.Common.{◌≡◌, refl, ℕ, ◌≤◌, Bool, true, false, nat_lt, Option, Some, None, Result, Ok, Err, List, [], ◌∷◌, ap, sym, subst, ◌∙◌, arith}
 use Rattle.cc_names.specs.Formed.{Plain}
 use Rattle.legal_history.specs.Base.Rows.{Base, first_rows, size}
 use Rattle.legal_history.specs.Base.Seen.{file_at}

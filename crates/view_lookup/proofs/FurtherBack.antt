@@ -1,11 +1,11 @@
 -- Links that lead further back than to the next older one of their key.
-use Rattle.std.proofs.Common.{◌≡◌, ℕ, ◌+◌, ◌<◌, ◌≤◌, ◌==◌, Bool, true, false, List, [], ◌∷◌, ◌++◌, length, get_or, nat_lt, reverse, Option, Some, None, IfSome, refl, sym, ap, subst, ◌∙◌, arith, append_assoc}
+use Rattle.std.proofs.Common.{◌≡◌, ℕ, ◌<◌, ◌≤◌, ◌==◌, true, false, List, [], ◌∷◌, ◌++◌, length, get_or, nat_lt, reverse, Option, Some, None, IfSome, refl, sym, ap, subst, ◌∙◌, arith, append_assoc}
 use Rattle.std.proofs.lemmas.Bool.Decides.{nat_tests}
 use Rattle.std.proofs.lemmas.List.{reverse-reverse, reverse-append, length-reverse}
 use Rattle.std.proofs.Math.ListN.{get_or-append}
 use Rattle.std.proofs.Math.Seq.{get_or-append_seam}
 use Rattle.cc_names.specs.Versions.{put_if}
-use Rattle.view_lookup.specs.Marked.{is_place, rows_from, AreLinked, AreAtMost, IsEnd, IsLinked, LeadsOn, Sink, rows_below}
+use Rattle.view_lookup.specs.Marked.{is_place, rows_from, AreLinked, AreAtMost, IsEnd, LeadsOn, Sink, rows_below}
 use Rattle.view_lookup.specs.declared.marks.Link.{Link}
 
 not_last : (next : Option ℕ) (n : ℕ) → IfSome next (λ place. place < n) → is_place next n ≡ false

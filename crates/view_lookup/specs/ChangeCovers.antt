@@ -1,15 +1,15 @@
 -- Each row that changes a name in a checkout, or that alters one on a branch, bears on the subject by which it is found.
-use Rattle.std.specs.Prelude.{◌≡◌, ℕ, suc, ◌<◌, Bool, true, false, not, ◌&&◌, ◌||◌, ◌==◌, ◌++◌, nat_lt, Option, Some, None, IfSome, List, [], ◌∷◌, map, bytes_eq, refl}
+use Rattle.std.specs.Prelude.{◌≡◌, ℕ, suc, ◌<◌, Bool, true, false, ◌&&◌, ◌||◌, ◌==◌, ◌++◌, Option, Some, None, IfSome, List, [], ◌∷◌, map, bytes_eq, refl}
 use Rattle.std.proofs.Common.{ap, ap₂, sym, subst, ◌∙◌, arith}
 use Rattle.std.specs.List.{list_any}
 use Rattle.std.proofs.lemmas.Bool.Decides.{nat_tests, Decides-eqb}
 use Rattle.std.proofs.lemmas.Slice.Eq.{bytes_eq-Decides}
 use Rattle.cc_names.specs.Formed.{Plain}
-use Rattle.cc_names.specs.Last.{Keeps, Sets, only_if, left, last}
+use Rattle.cc_names.specs.Last.{Keeps, Sets, only_if, left}
 use Rattle.cc_names.specs.Versions.{is_number, put_if}
 use Rattle.cc_names.specs.declared.rows.Deed.{Deed}
 use Rattle.cc_names.specs.declared.rows.Deed.TheVariants as deeds
-use Rattle.legal_history.specs.Base.Catalogs.{Edit, BeginsEmpty, BeginsAs, Adds, Removes, Renames, edit_of, edit_where, first_edit, is_out}
+use Rattle.legal_history.specs.Base.Catalogs.{BeginsEmpty, BeginsAs, Adds, Removes, Renames, edit_of, edit_where, first_edit, is_out}
 use Rattle.legal_history.specs.Base.Rows.{Base, size, deed_at, deed_of, row_at}
 use Rattle.view_lookup.specs.Changed.{alters, begins, begun, changed, changes, changing, changing_rows, checked_in_on, checked_in_rows, changing_rows_of, is_since, names_by, names_of_deed}
 use Rattle.view_lookup.specs.LookUps.{Deeds, IsCovered}

@@ -1,5 +1,5 @@
 -- A name in a catalog, told by the newest row that bears on it: what rows do to the catalog of a view's checkout of a directory.
-use Rattle.std.specs.Prelude.{◌≡◌, ℕ, ◌<◌, Option, List, length}
+use Rattle.std.specs.Prelude.{◌≡◌, ℕ, ◌<◌, List, length}
 use Rattle.cc_names.specs.Last.{Sets, only_if}
 use Rattle.legal_history.specs.Base.Catalogs.{Catalog, Edit, Same, BeginsEmpty, BeginsAs, Adds, Removes, Renames, named, catalog_of, own_of, edit_of}
 use Rattle.legal_history.specs.Base.Rows.{Base, size, first_rows}

@@ -241,7 +241,7 @@ impl Rows {
         relabel(&mut self.labels, number, row.deed());
         keep_spec(&mut self.specs, number, self.spec.take());
         keep_listing(&mut self.listings, number, self.listing.take());
-        self.rows.push(row).unwrap();
+        self.rows.push_reserved(row);
     }
 
     /// Has at hand the files of a view in the first rows, `count` of them with row 0, for which a build is likely to ask as it

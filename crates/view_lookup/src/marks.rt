@@ -39,7 +39,7 @@ fn mark(links: &mut Vec<Link>, newest: &mut HashMap<u64, usize>, row: u64, key: 
     let older = newest.get(&key).copied();
     let place = links.len();
     let link = link_to(links.as_slice(), row, older);
-    links.push(link).unwrap();
+    links.push_reserved(link);
     match newest.insert(key, place) {
         Ok(_) => {}
         Err(_) => unreachable!(),

@@ -131,7 +131,7 @@ pub(crate) fn keep_spec(specs: &mut Vec<Parsed>, row: u64, spec: Option<Spec>)
 {
     match spec {
         None => {}
-        Some(spec) => specs.push(Parsed { row, spec }).unwrap(),
+        Some(spec) => specs.push_reserved(Parsed { row, spec }),
     }
 }
 

@@ -11,7 +11,6 @@ use Rattle.cc_names.specs.declared.steps.Step.TheVariants as steps
 use Rattle.cc_names.specs.declared.steps.Told.{Told}
 use Rattle.cc_names.specs.declared.steps.Told.TheVariants as told
 use Rattle.build_core.specs.Slots.{numbered}
-use Rattle.build_core.specs.SlotLaws.{put_numbered, without_numbered}
 use Rattle.disk_model.specs.Told.{Sight}
 use Rattle.legal_history.specs.Builds.Active.{Build, build_of}
 use Rattle.legal_history.specs.Builds.Turns.{is_complete}
@@ -27,6 +26,7 @@ use Rattle.base_core.specs.Keeping.Lanes.{LaneKept, lane_kept, commands_at, repl
 use Rattle.base_core.specs.Logging.Logs.{Logged, with_step, with_step_on}
 use Rattle.base_core.specs.Story.Readable.{IsReadable}
 use Rattle.base_core.specs.Story.Replying.{in_lane, reply_to_fault, reply_to_end, replies_of}
+use Rattle.build_core.proofs.SlotLaws.{put_numbered, without_numbered}
 use Rattle.base_core.proofs.Building.Closing.{build_is_by, builds_closed}
 use Rattle.base_core.proofs.Acting.Faulting.{leaves_so}
 use Rattle.base_core.proofs.Story.Growing.{state_from-more}

@@ -8,7 +8,6 @@ use Rattle.cc_names.specs.declared.steps.Step.TheVariants as steps
 use Rattle.cc_names.specs.declared.steps.Told.{Told}
 use Rattle.cc_names.specs.declared.steps.Told.TheVariants as told
 use Rattle.build_core.specs.Slots.{numbered}
-use Rattle.build_core.specs.SlotLaws.{without_numbered}
 use Rattle.legal_history.specs.Builds.Replied.{reply_of}
 use Rattle.legal_history.specs.Base.Rows.{only_where}
 use Rattle.legal_history.specs.Builds.Active.{Build, build_of}
@@ -21,6 +20,7 @@ use Rattle.base_core.specs.Keeping.Kept.{AreBuilds, IsPhaseKept, IsCoreKept}
 use Rattle.base_core.specs.Keeping.Lanes.{LaneKept, lane_kept, commands_at, replies_at, builds_in, with_closed}
 use Rattle.base_core.specs.Logging.Logs.{Logged, with_step}
 use Rattle.base_core.specs.Story.Replying.{in_lane, reply_to_end, replies_of}
+use Rattle.build_core.proofs.SlotLaws.{without_numbered}
 use Rattle.base_core.proofs.Story.Growing.{state_from-more}
 use Rattle.base_core.proofs.Keeping.KeptBuilds.{KeepsRows, same_rows, builds_put}
 use Rattle.base_core.proofs.Keeping.KeptReplies.{replies_more}

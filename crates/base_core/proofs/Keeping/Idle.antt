@@ -10,7 +10,6 @@ use Rattle.cc_names.specs.declared.desks.Next.TheVariants as nexts
 use Rattle.cc_names.specs.declared.refusals.Refusal.{Refusal}
 use Rattle.cc_names.specs.declared.rows.Tag.{Tag}
 use Rattle.build_core.specs.Slots.{numbered, held_in}
-use Rattle.build_core.specs.SlotLaws.{find_numbered}
 use Rattle.legal_history.specs.Base.Rows.{only_where}
 use Rattle.legal_history.specs.Builds.Active.{Build, build_of}
 use Rattle.legal_history.specs.Commands.Decisions.{Decision}
@@ -21,6 +20,7 @@ use Rattle.base_core.specs.Keeping.Kept.{IsCoreKept}
 use Rattle.base_core.specs.Keeping.Lanes.{LaneKept, builds_in}
 use Rattle.base_core.specs.Logging.Logs.{Logged}
 use Rattle.clearmake.specs.Nexts.{waiting, next_by, next_of}
+use Rattle.build_core.proofs.SlotLaws.{find_numbered}
 
 -- nothing is not something
 pub not_both : {A : Type 0} (found : Option A) (a : A) → found ≡ None → found ≡ Some a → ⊥

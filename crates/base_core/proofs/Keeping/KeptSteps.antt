@@ -10,7 +10,6 @@ use Rattle.cc_names.specs.declared.steps.Step.TheVariants as steps
 use Rattle.cc_names.specs.declared.steps.Told.{Told}
 use Rattle.cc_names.specs.declared.steps.Told.TheVariants as told
 use Rattle.build_core.specs.Slots.{numbered}
-use Rattle.build_core.specs.SlotLaws.{put_numbered}
 use Rattle.disk_model.specs.Told.{Sight}
 use Rattle.legal_history.specs.Base.Fits.{row_limit}
 use Rattle.legal_history.specs.Base.Rows.{Base}
@@ -25,6 +24,7 @@ use Rattle.base_core.specs.Keeping.Lanes.{LaneKept, lane_kept, commands_at, repl
 use Rattle.base_core.specs.Logging.Logs.{Logged}
 use Rattle.base_core.specs.Story.Readable.{IsReadable, NamesOnly}
 use Rattle.base_core.specs.Story.Replying.{in_lane, replies_after, replies_of}
+use Rattle.build_core.proofs.SlotLaws.{put_numbered}
 use Rattle.base_core.proofs.Story.Growing.{state_from-more, legal_more}
 use Rattle.base_core.proofs.Keeping.Idle.{not_both, some_same}
 use Rattle.base_core.proofs.Keeping.KeptBuilds.{KeepsRows, stays, builds_stay, builds_put}

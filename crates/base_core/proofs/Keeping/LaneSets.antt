@@ -2,11 +2,11 @@
 use Rattle.std.proofs.Common.{◌≡◌, ◌≢◌, ℕ, zero, suc, ◌-◌, ◌<◌, ◌≤◌, ◌⊎◌, inl, inr, Option, None, List, [], ◌∷◌, length, get_or, set, refl, ap, sym, ◌∙◌, arith}
 use Rattle.std.proofs.lemmas.List.{get_or-set_same, get_or-set_other, length-map, map-set, set-get_or}
 use Rattle.build_core.specs.Slots.{numbered, held_in}
-use Rattle.build_core.specs.SlotLaws.{find_numbered}
 use Rattle.legal_history.specs.Builds.Active.{Build, build_of}
 use Rattle.cc_names.specs.declared.commands.Command.{Command}
 use Rattle.cc_names.specs.declared.replies.Reply.{Reply}
 use Rattle.base_core.specs.Keeping.Lanes.{LaneKept, no_lane, lane_kept, builds_in, put_build}
+use Rattle.build_core.proofs.SlotLaws.{find_numbered}
 use Rattle.base_core.proofs.Keeping.LaneCounts.{one_or_two}
 
 -- what a lane that was set has in common with the one before it, all lanes keep

@@ -1,8 +1,8 @@
 -- The builds in the slots of the lanes, after one slot is set: who is found, and what is reserved.
 use Rattle.std.proofs.Common.{◌≡◌, ◌≢◌, ℕ, zero, suc, ◌+◌, ◌-◌, ◌<◌, ◌≤◌, Option, Some, None, List, [], ◌∷◌, length, set, refl, sym, ◌∙◌, arith}
 use Rattle.build_core.specs.Slots.{numbered, held_in}
-use Rattle.build_core.specs.SlotLaws.{find_numbered, find_below}
 use Rattle.legal_history.specs.Builds.Active.{Build, build_of, reserved}
+use Rattle.build_core.proofs.SlotLaws.{find_numbered, find_below}
 
 -- what a slot holds that was set, and another
 held_set : {A : Type 0} (slots : List (Option A)) (i : ℕ) (a : Option A) → i < length slots → held_in (set slots i a) i ≡ a

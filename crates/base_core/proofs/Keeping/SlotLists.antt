@@ -3,8 +3,8 @@ use Rattle.std.proofs.Common.{◌≡◌, ℕ, zero, suc, ◌+◌, ◌-◌, ◌<�
 use Rattle.std.specs.Prelude.{option_map, find, bytes_eq}
 use Rattle.cc_names.specs.declared.rows.Tag.{Tag}
 use Rattle.build_core.specs.Slots.{numbered, held_in}
-use Rattle.build_core.specs.SlotLaws.{find_below, find_numbered}
 use Rattle.legal_history.specs.Builds.Active.{Build, build_of, building, is_of_view, tag_of, reserved}
+use Rattle.build_core.proofs.SlotLaws.{find_below, find_numbered}
 
 -- the rows that the builds in some slots reserve
 abbrev pub rows_of : List (Option Build) → ℕ

@@ -1,5 +1,7 @@
 -- What became of a row that was to be committed.
 use Rattle.std.specs.Prelude.{◌≡◌, ℕ, ◌<◌, ◌≤◌, ◌⊎◌, true, false, Option, Some, None, List}
+use Rattle.cc_names.specs.declared.desks.Done.{Done}
+use Rattle.cc_names.specs.declared.desks.Done.TheVariants as dones
 use Rattle.cc_names.specs.declared.replies.Reply.{Reply}
 use Rattle.cc_names.specs.declared.replies.Reply.TheVariants as replies
 use Rattle.base_core.specs.Story.Replying.{row_reply}
@@ -76,3 +78,8 @@ Appends old new row ending appends.Faulted = IsFaulted old new row ending
 abbrev pub append_reply : Appended → Option (List ℕ) → Option ℕ → Reply
 append_reply appends.Committed name count = row_reply name count
 append_reply appends.Faulted name count = replies.DiskFault
+
+-- what became of the command of that row
+abbrev pub append_done : Appended → Done
+append_done appends.Committed = dones.Committed
+append_done appends.Faulted = dones.Faulted

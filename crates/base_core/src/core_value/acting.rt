@@ -1,7 +1,7 @@
 // How a core carries out commands that build nothing.
 
 ghost use Rattle.std.specs.Prelude.{◌≡◌};
-ghost use Rattle.base_core.specs.Logging.Appending.{append_reply};
+ghost use Rattle.base_core.specs.Logging.Appending.{append_reply, append_done};
 ghost use Rattle.base_core.specs.Story.Replying.{count_told, row_reply};
 
 use super::Core;
@@ -30,8 +30,8 @@ fn count_told(deed: &Deed) -> Option<u64>
     }
 }
 
-/// The reply to the command of a row that was committed: the version of this name, where it takes out or makes one, the number of
-/// things that it names, where that is replied, else that all is well.
+/// The reply to the command of a row that was committed: the version of this name, where it takes out or makes one, the
+/// number of things that it names, where that is replied, else that all is well.
 fn row_reply(name: Option<Text>, count: Option<u64>) -> Reply
     ensures { result ≡ row_reply name count }
 {
@@ -51,6 +51,16 @@ fn append_reply(appended: Appended, name: Option<Text>, count: Option<u64>) -> R
     match appended {
         Appended::Committed => row_reply(name, count),
         Appended::Faulted => Reply::DiskFault,
+    }
+}
+
+/// What became of the command of a row that was to be committed.
+fn append_done(appended: Appended) -> Done
+    ensures { result ≡ append_done appended }
+{
+    match appended {
+        Appended::Committed => Done::Committed,
+        Appended::Faulted => Done::Faulted,
     }
 }
 
@@ -121,17 +131,8 @@ impl<D: Disk> Core<D> {
         let name = name_told(alloc, &self.log.rows(), row.deed())?;
         let count = count_told(row.deed());
         let appended = self.log.append(alloc, row, None)?;
-        let reply = append_reply(appended, name, count);
-        match appended {
-            Appended::Committed => {
-                self.lanes.reply(lane, reply);
-                Ok(Done::Committed)
-            }
-            Appended::Faulted => {
-                self.lanes.reply(lane, reply);
-                Ok(Done::Faulted)
-            }
-        }
+        self.lanes.reply(lane, append_reply(appended, name, count));
+        Ok(append_done(appended))
     }
 
     /// Refuses its lane's next command. An `Err` changes nothing.

@@ -113,7 +113,8 @@ fn a_fault_under_one_lanes_build_leaves_the_other_lanes(rt: HostRuntime) -> Resu
     assert_fault(&rt, alloc, wanted)
 }
 
-/// The call behind it fails too, with which the next commit settles the journal: that of the other publish, or of lane a's save.
+/// The call behind it fails too, with which the next commit settles the journal: that of the other publish, or of lane a's
+/// save.
 #[test]
 fn faults_under_two_commands_leave_the_third(rt: HostRuntime) -> Result<(), Fail> {
     let alloc = rt.alloc();
@@ -139,9 +140,21 @@ const SAVERS: &str =
 const SAVED: &str =
     "phase 1\nlane a\n1 mkview ok\n2 mkview ok\n3 mkview ok\n4 mkview ok\nphase 2\nlane a\n1 save ok\n2 save ok\n3 save ok\nlane b\n1 save ok\n2 save ok\n3 save ok\nlane c\n1 save ok\n2 save ok\n3 save ok\nlane d\n1 save ok\n2 save ok\n3 save ok\n";
 
+// A lane more, whose build is refused: since it builds, all are on threads.
+const BUILDER: &str = "lane e\nclearmake v\n";
+
+const REFUSED: &str = "lane e\n1 clearmake refused B1 NoMakefile Makefile\n";
+
 // One save is told the fault, all else is as without it, and the base that is opened again has the other rows.
-fn assert_one_fault(rt: &impl Runtime, alloc: Global, call: u64) -> Result<(), Fail> {
-    let outcome = outcome_on(rt, alloc, SAVERS, failing_disk(alloc, &[call])?)?;
+fn assert_one_fault(
+    rt: &impl Runtime,
+    alloc: Global,
+    more: &str,
+    told: &str,
+    call: u64,
+) -> Result<(), Fail> {
+    let session = format!(in alloc; "{SAVERS}{more}")?;
+    let outcome = outcome_on(rt, alloc, session.as_str(), failing_disk(alloc, &[call])?)?;
     assert_eq!(rt; outcome.status.code(), 7, "at {call}");
     assert_eq!(rt; outcome.rows, 15, "at {call}");
     let written = format!(in alloc; "{}", outcome.written)?;
@@ -153,15 +166,26 @@ fn assert_one_fault(rt: &impl Runtime, alloc: Global, call: u64) -> Result<(), F
     let mended = written
         .as_str()
         .replace(alloc, "save disk fault", "save ok")?;
-    assert_eq!(rt; mended.as_str(), SAVED, "at {call}");
+    let wanted = format!(in alloc; "{SAVED}{told}")?;
+    assert_eq!(rt; mended.as_str(), wanted.as_str(), "at {call}");
     assert_eq!(rt; rows_in(rt, alloc, outcome.disk.bytes(0))?, 15, "at {call}");
     Ok(())
 }
 
+/// On one thread, since no lane builds.
 #[test]
 fn a_fault_under_one_of_four_lanes_is_told_to_one(rt: HostRuntime) -> Result<(), Fail> {
     for call in 20..=67 {
-        assert_one_fault(&rt, rt.alloc(), call)?;
+        assert_one_fault(&rt, rt.alloc(), "", "", call)?;
+    }
+    Ok(())
+}
+
+/// On threads, since lane e builds.
+#[test]
+fn a_fault_under_one_of_four_threads_is_told_to_one(rt: HostRuntime) -> Result<(), Fail> {
+    for call in 20..=67 {
+        assert_one_fault(&rt, rt.alloc(), BUILDER, REFUSED, call)?;
     }
     Ok(())
 }

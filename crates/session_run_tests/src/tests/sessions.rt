@@ -110,16 +110,49 @@ fn a_session_of_a_phase_and_65_lanes_is_none(rt: HostRuntime) -> Result<(), Fail
     Ok(())
 }
 
-const ONE_NAME: &str = "phase\nlane a\nmkview v\nlane b\nmkview v\n";
+// A third lane builds in no view, and is refused: so all are on threads.
+const ONE_NAME: &str = "phase\nlane a\nmkview v\nlane b\nmkview v\nlane c\nclearmake w\n";
 
 /// Of two lanes that make a view of one name the one that comes first makes it, whichever that is.
 #[test]
 fn one_of_two_lanes_makes_a_view(rt: HostRuntime) -> Result<(), Fail> {
     let outcome = outcome_on(&rt, rt.alloc(), ONE_NAME, failing_disk(rt.alloc(), &[])?)?;
     let replies = [
-        "phase 1\nlane a\n1 mkview ok\nlane b\n1 mkview refused C2 ViewExists\n",
-        "phase 1\nlane a\n1 mkview refused C2 ViewExists\nlane b\n1 mkview ok\n",
+        "phase 1\nlane a\n1 mkview ok\nlane b\n1 mkview refused C2 ViewExists\nlane c\n1 clearmake refused C1 NoView\n",
+        "phase 1\nlane a\n1 mkview refused C2 ViewExists\nlane b\n1 mkview ok\nlane c\n1 clearmake refused C1 NoView\n",
     ];
     assert_one_of(&rt, &outcome, 1, &replies, 1);
+    Ok(())
+}
+
+// Two lanes that build nothing. Lane a makes `w`, and the same again until its command 64 makes `v` and the next one `u`.
+// Lane b makes `v` and `u`.
+fn turn_of_64(alloc: Global) -> Result<String, Fail> {
+    let mut text = String::from_str(alloc, "phase\nlane a\n")?;
+    for _ in 1..=63 {
+        text.push_str("mkview w\n")?;
+    }
+    text.push_str("mkview v\nmkview u\nlane b\nmkview v\nmkview u\n")?;
+    Ok(text)
+}
+
+fn turn_of_64_told(alloc: Global) -> Result<String, Fail> {
+    let mut told = String::from_str(alloc, "phase 1\nlane a\n1 mkview ok\n")?;
+    for number in 2..=63 {
+        let line = format!(in alloc; "{number} mkview refused C2 ViewExists\n")?;
+        told.push_str(line.as_str())?;
+    }
+    told.push_str("64 mkview ok\n65 mkview refused C2 ViewExists\n")?;
+    told.push_str("lane b\n1 mkview refused C2 ViewExists\n2 mkview ok\n")?;
+    Ok(told)
+}
+
+/// Lanes that build nothing take turns of 64 commands on one thread: lane a has `v` by its last one, and lane b `u`.
+#[test]
+fn lanes_take_turns_of_64_commands(rt: HostRuntime) -> Result<(), Fail> {
+    let (text, told) = (turn_of_64(rt.alloc())?, turn_of_64_told(rt.alloc())?);
+    let disk = failing_disk(rt.alloc(), &[])?;
+    let outcome = outcome_on(&rt, rt.alloc(), text.as_str(), disk)?;
+    assert_outcome(&rt, &outcome, 1, told.as_str(), 3);
     Ok(())
 }

@@ -1,5 +1,5 @@
 -- The first label is written, and then each other one with a comma before it.
-use Rattle.std.proofs.Common.{◌≡◌, ℕ, List, [], ◌∷◌, ◌++◌, map, append_assoc, ap, sym, ◌∙◌, Bor}
+use Rattle.std.proofs.Common.{◌≡◌, ℕ, List, ◌∷◌, ◌++◌, map, append_assoc, ap, sym, ◌∙◌, Bor}
 use Rattle.std.specs.Prelude.{codes}
 use Rattle.std.specs.List.{concat}
 use Rattle.legal_history.specs.Queries.ElementTexts.{in_brackets, with_commas}

@@ -1,7 +1,7 @@
 -- One entry after the other is taken in.
 use Rattle.std.proofs.Common.{◌+◌, drop}
 use Rattle.std.specs.Option.{option_copied}
-use Rattle.cleartool.specs.Covering.{above, above_entries, least_of_all, least_of_entries, lesser}
+use Rattle.cleartool.specs.Covering.{above, least_of_all, least_of_entries, lesser}
 use Rattle.cleartool.proofs.LeastInputs.{entries_above, entries_left, entry_taken}
 use Rattle.cleartool.proofs.covered_records.add_entries.Goals as goal
 

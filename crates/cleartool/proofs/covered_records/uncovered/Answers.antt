@@ -1,5 +1,5 @@
 -- One object after the other is taken, from the newest on, and its entries are left in its place.
-use Rattle.std.proofs.Common.{ℕ, List, [], ap, sym, ◌∙◌}
+use Rattle.std.proofs.Common.{ℕ, List, ap, sym, ◌∙◌}
 use Rattle.std.specs.BTreeSet.{insert_key}
 use Rattle.std.specs.Option.{option_copied}
 use Rattle.std.specs.Ordering.{nat_cmp}

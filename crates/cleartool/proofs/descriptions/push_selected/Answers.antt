@@ -1,5 +1,5 @@
 -- The labels on the selected version are told behind its name.
-use Rattle.std.proofs.Common.{◌≡◌, ℕ, Bool, false, List, ◌++◌, append_assoc, codes, map, ap, ap₂, sym, ◌∙◌, Bor}
+use Rattle.std.proofs.Common.{◌≡◌, ℕ, Bool, List, ◌++◌, append_assoc, codes, map, ap, ap₂, sym, ◌∙◌, Bor}
 use Rattle.std.specs.List.{concat}
 use Rattle.legal_history.specs.Queries.ElementTexts.{labels_on, selected_lines}
 use Rattle.legal_history.specs.Queries.VersionNames.{line, version_name}

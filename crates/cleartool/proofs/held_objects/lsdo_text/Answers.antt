@@ -1,5 +1,5 @@
 -- The line at one path after the other is written.
-use Rattle.std.proofs.Common.{◌≡◌, ℕ, List, ◌++◌, append-nil, append_assoc, map, ap, sym, ◌∙◌}
+use Rattle.std.proofs.Common.{ℕ, List, ◌++◌, append-nil, append_assoc, map, ap, sym, ◌∙◌}
 use Rattle.std.specs.List.{concat}
 use Rattle.cleartool.specs.HeldObjects.{line_at}
 use Rattle.cleartool.proofs.HeldListed.{lsdo_told}

@@ -1,5 +1,5 @@
 -- The object, the number of views and the end of the line are written one behind the other.
-use Rattle.std.proofs.Common.{◌≡◌, ℕ, true, List, [], ◌∷◌, ◌++◌, Option, ap, ap₂, sym, ◌∙◌}
+use Rattle.std.proofs.Common.{ℕ, true, List, [], ◌∷◌, ◌++◌, Option, ap, ap₂, sym, ◌∙◌}
 use Rattle.std.specs.Prelude.{codes, decimal}
 use Rattle.std.specs.Option.{option_map_or}
 use Rattle.legal_history.specs.Base.Changes.{held}

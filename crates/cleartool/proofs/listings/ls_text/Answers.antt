@@ -1,5 +1,5 @@
 -- The line of one name after the other is written.
-use Rattle.std.proofs.Common.{◌≡◌, ℕ, List, ◌++◌, append-nil, append_assoc, map, ap, sym, ◌∙◌}
+use Rattle.std.proofs.Common.{ℕ, List, ◌++◌, append-nil, append_assoc, map, ap, sym, ◌∙◌}
 use Rattle.std.specs.List.{concat}
 use Rattle.legal_history.specs.Queries.ListingTexts.{names_in}
 use Rattle.cleartool.specs.Listed.{line_of}

@@ -1,5 +1,5 @@
 -- The three parts are written one behind the other.
-use Rattle.std.proofs.Common.{ℕ, List, ◌++◌, map, ap, sym, ◌∙◌}
+use Rattle.std.proofs.Common.{ℕ, List, ◌++◌, map, ap, ◌∙◌}
 use Rattle.std.specs.Prelude.{codes}
 use Rattle.std.specs.List.{concat}
 use Rattle.legal_history.specs.Queries.RecordTexts.{path_lines, unless_same}

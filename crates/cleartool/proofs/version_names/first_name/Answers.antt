@@ -2,7 +2,7 @@
 use Rattle.std.proofs.Common.{◌≡◌, ℕ, List, [], ◌∷◌, ◌++◌, codes, decimal, append_assoc, ap, sym, subst, ◌∙◌}
 use Rattle.std.specs.Prelude.{IfOk}
 use Rattle.cc_names.specs.Branches.{branch_of_version}
-use Rattle.cleartool.specs.Naming.{names_above, name_of_new}
+use Rattle.cleartool.specs.Naming.{names_above}
 use Rattle.legal_history.specs.Base.Changes.{tree}
 use Rattle.legal_history.specs.Queries.VersionNames.{behind_slashes}
 use Rattle.cleartool.proofs.NextNames.{slashes_more}

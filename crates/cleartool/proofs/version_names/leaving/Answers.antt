@@ -1,5 +1,5 @@
 -- A branch leaves the branch of its origin, among the rows below it.
-use Rattle.std.proofs.Common.{List, ℕ, [], ◌∷◌, ◌++◌, Option, ap, ap₂, sym, ◌∙◌}
+use Rattle.std.proofs.Common.{List, ℕ, [], ◌∷◌, ◌++◌, Option, ap₂, sym, ◌∙◌}
 use Rattle.cleartool.specs.Naming.{names_above}
 use Rattle.legal_history.specs.Base.Changes.{tree}
 use Rattle.legal_history.specs.Base.Rows.{first_rows}

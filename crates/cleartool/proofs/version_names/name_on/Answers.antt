@@ -1,14 +1,12 @@
 -- The newest version of a branch that there is tells how many there are.
-use Rattle.std.proofs.Common.{◌≡◌, ℕ, ◌+◌, ◌≤◌, List, [], ◌∷◌, ◌++◌, Option, Some, None, codes, decimal, length, ap, ap₂, sym, subst, ◌∙◌, arith, Fits, w64}
+use Rattle.std.proofs.Common.{◌≡◌, ℕ, ◌+◌, List, ◌∷◌, ◌++◌, Option, Some, None, decimal, length, ap, ap₂, sym, subst, ◌∙◌, arith}
 use Rattle.std.specs.Prelude.{IfOk, option_and_then}
-use Rattle.cc_names.specs.Branches.{names_of_branch}
 use Rattle.cc_names.specs.Versions.{element_of_branch, latest, version_id, versions_on}
 use Rattle.cc_names.specs.declared.changes.VersionId.{VersionId}
 use Rattle.cleartool.specs.Naming.{name_on}
 use Rattle.legal_history.specs.Base.Changes.{tree}
-use Rattle.legal_history.specs.Base.Rows.{Base, size}
-use Rattle.legal_history.specs.Queries.VersionNames.{behind_slashes}
-use Rattle.cleartool.proofs.NextNames.{Newest, Empty, Stands, Alone, few_on, newest_of}
+use Rattle.legal_history.specs.Base.Rows.{Base}
+use Rattle.cleartool.proofs.NextNames.{Newest, Stands, Alone, few_on, newest_of}
 use Rattle.cleartool.proofs.version_names.name_on.Goals as goal
 
 -- what is known where the newest version and its id were found

@@ -1,5 +1,5 @@
 -- Each branch on the way up leaves the next one, among fewer rows.
-use Rattle.std.proofs.Common.{◌≡◌, ℕ, zero, suc, ◌<◌, ◌≤◌, List, [], ◌∷◌, ◌++◌, Option, length, map, reverse, append-nil, append_assoc, refl, ap, ap₂, sym, subst, ◌∙◌, arith, Bor}
+use Rattle.std.proofs.Common.{◌≡◌, ℕ, zero, suc, ◌<◌, ◌≤◌, List, [], ◌∷◌, ◌++◌, Option, length, map, reverse, append-nil, append_assoc, ap, ap₂, sym, subst, ◌∙◌, arith, Bor}
 use Rattle.cleartool.specs.Naming.{names_above}
 use Rattle.legal_history.specs.Base.Changes.{tree}
 use Rattle.legal_history.specs.Base.Rows.{Base, first_rows, size}

@@ -3,15 +3,12 @@ use Rattle.std.proofs.Common.{◌≡◌, ℕ, List, ◌∷◌, Option, Some, Non
 use Rattle.std.specs.Prelude.{IfOk}
 use Rattle.cc_names.specs.Branches.{branch_of_version}
 use Rattle.cc_names.specs.Formed.{Plain}
-use Rattle.cc_names.specs.Versions.{element_of_branch}
 use Rattle.cc_names.specs.declared.changes.TreeChange.TheVariants.{VersionMade}
 use Rattle.cc_names.specs.declared.rows.Deed.{Deed}
 use Rattle.cc_names.specs.declared.rows.Deed.TheVariants as deeds
-use Rattle.cleartool.specs.Naming.{name_on}
 use Rattle.legal_history.specs.Base.Changes.{tree, tree_after, with_checkin, with_version}
 use Rattle.legal_history.specs.Base.Rows.{Base, size}
 use Rattle.legal_history.specs.Base.Views.{Checkout, out}
-use Rattle.legal_history.specs.Queries.VersionNames.{version_name}
 use Rattle.view_lookup.proofs.Growths.{rooted}
 use Rattle.view_lookup.specs.Effects.{plain_checkout}
 use Rattle.cleartool.proofs.NextNames.{branch_below, no_version, version_next}

@@ -1,5 +1,5 @@
 -- The last name that is left goes behind what is written.
-use Rattle.std.proofs.Common.{◌≡◌, ℕ, ◌<◌, List, [], ◌∷◌, ◌++◌, length, map, reverse, append-nil, append_assoc, refl, ap, sym, ◌∙◌, arith, Bor, vec_len, rules}
+use Rattle.std.proofs.Common.{◌≡◌, ℕ, ◌<◌, List, [], ◌∷◌, ◌++◌, length, map, reverse, append-nil, append_assoc, refl, ap, sym, ◌∙◌, arith, Bor, rules}
 use Rattle.legal_history.specs.Queries.VersionNames.{behind_slashes}
 use Rattle.cleartool.proofs.NamesBack.{one_more}
 use Rattle.cleartool.proofs.version_names.push_names.Goals as goal

@@ -1,5 +1,5 @@
 -- One branch after the other is added.
-use Rattle.std.proofs.Common.{◌≡◌, ℕ, ◌+◌, List, [], ◌∷◌, ◌++◌, drop, get_or, map, append-nil, append_assoc, ap, sym, ◌∙◌}
+use Rattle.std.proofs.Common.{ℕ, ◌+◌, List, [], ◌∷◌, ◌++◌, drop, get_or, map, append-nil, append_assoc, ap, sym, ◌∙◌}
 use Rattle.std.proofs.lemmas.List.{at_drop_all, at_drop_more}
 use Rattle.cleartool.specs.declared.version_trees.Part.{Part}
 use Rattle.cleartool.specs.declared.version_trees.Part.TheVariants.{Branch}

@@ -1,10 +1,8 @@
 -- The keys of one row after the other are added.
-use Rattle.std.proofs.Common.{◌≡◌, ℕ, ◌+◌, List, [], ◌∷◌, ◌++◌, drop, map, get_or, append-nil, append_assoc, reverse, refl, ap, sym, ◌∙◌}
+use Rattle.std.proofs.Common.{ℕ, ◌+◌, List, ◌++◌, drop, get_or, append-nil, append_assoc, reverse, ap, sym, ◌∙◌}
 use Rattle.std.proofs.lemmas.List.{at_drop_all, at_drop_more}
-use Rattle.std.specs.declared.random_state.RandomState.{RandomState}
 use Rattle.legal_history.specs.Base.Rows.{Base, deed_at}
 use Rattle.view_lookup.specs.Changed.{names_by, names_of_deed}
-use Rattle.view_lookup.specs.Subjects.{Altered, key}
 use Rattle.view_lookup.proofs.KeysAdded.{keys_of_names, names_parted}
 use Rattle.view_lookup.proofs.catalog_keys.push_altered.Goals as goal
 

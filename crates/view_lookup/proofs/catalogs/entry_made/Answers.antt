@@ -1,5 +1,5 @@
 -- The row that made a version says where its catalog comes from.
-use Rattle.std.proofs.Common.{◌≡◌, Some, None, List, sym, ap, ◌∙◌}
+use Rattle.std.proofs.Common.{◌≡◌, Some, sym, ap, ◌∙◌}
 use Rattle.std.specs.Option.{option_copied}
 use Rattle.legal_history.specs.Base.Catalogs.{catalog_source, named}
 use Rattle.legal_history.specs.Base.Rows.{deed_of, deed_at, first_rows}

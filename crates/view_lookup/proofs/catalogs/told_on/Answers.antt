@@ -1,5 +1,5 @@
 -- The rows up to the version, and the newest of them that alters the name.
-use Rattle.std.proofs.Common.{◌≡◌, ℕ, suc, ◌+◌, ◌≤◌, min, nat_lt, Bool, true, false, Option, Some, List, refl, sym, ap, ap₂, subst, ◌∙◌, arith}
+use Rattle.std.proofs.Common.{◌≡◌, ℕ, suc, ◌+◌, ◌≤◌, min, nat_lt, Bool, true, false, Option, List, refl, sym, ap, ◌∙◌, arith}
 use Rattle.std.proofs.lemmas.Bool.Decides.{nat_tests}
 use Rattle.legal_history.specs.Base.Rows.{Base, first_rows, size}
 use Rattle.legal_history.proofs.Bases.Stay.{all_rows}

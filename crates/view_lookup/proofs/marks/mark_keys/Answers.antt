@@ -1,8 +1,7 @@
 -- One key after the other is marked.
-use Rattle.std.proofs.Common.{◌≡◌, ◌+◌, ◌<◌, ◌==◌, nat_eq, ◌∷◌, drop, get_or, length, sym, ap, ◌∙◌, arith}
+use Rattle.std.proofs.Common.{◌+◌, nat_eq, drop, sym, ap, ◌∙◌, arith}
 use Rattle.std.proofs.lemmas.List.{at_drop_all, at_drop_more}
 use Rattle.std.specs.HashMap.{get}
-use Rattle.cc_names.specs.Versions.{put_if}
 use Rattle.view_lookup.specs.Marked.{rows_by, with_marks}
 use Rattle.view_lookup.proofs.marks.mark_keys.Goals as goal
 

@@ -1,5 +1,5 @@
 -- Each link on the way is one of the list.
-use Rattle.std.proofs.Common.{◌<◌, length, Some, None, IfSome, subst}
+use Rattle.std.proofs.Common.{◌<◌, length, None, IfSome, subst}
 use Rattle.view_lookup.specs.declared.marks.Link.{Link}
 use Rattle.view_lookup.proofs.FurtherBack.{link_in}
 use Rattle.view_lookup.proofs.skips.first_below.Goals as goal

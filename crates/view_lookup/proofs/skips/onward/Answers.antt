@@ -1,10 +1,9 @@
 -- The rows that are passed do not lie below the bound, since the one at which the link skips to does not.
-use Rattle.std.proofs.Common.{◌≡◌, ◌<◌, ◌∷◌, get_or, length, IfSome, rules, reverse, Some, None, sym, ap, subst, ◌∙◌, arith}
-use Rattle.view_lookup.specs.Marked.{IsEnd, LeadsOn, Sink, rows_below, rows_from}
+use Rattle.std.proofs.Common.{◌≡◌, ◌<◌, ◌∷◌, get_or, length, IfSome, rules, reverse, Some, None, sym, ap, subst, arith}
+use Rattle.view_lookup.specs.Marked.{IsEnd, rows_from}
 use Rattle.view_lookup.specs.declared.marks.Link.{Link}
-use Rattle.view_lookup.proofs.FurtherBack.{end_of, link_in, next_end, one_passed, sinks_from, skipped}
+use Rattle.view_lookup.proofs.FurtherBack.{end_of, link_in, next_end, sinks_from, skipped}
 use Rattle.view_lookup.proofs.skips.onward.Goals as goal
-use Rattle.std.proofs.Common.{refl}
 
 pub returns-then-bound-links : goal.returns-then-bound-links
 returns-then-bound-links c =

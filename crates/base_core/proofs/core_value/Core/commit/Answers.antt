@@ -1,21 +1,75 @@
 -- a row is committed, or the disk fails: what is kept then, and how the story went on
-use Rattle.std.proofs.Common.{◌≡◌, true, Some, None, ◌++◌, ◌∷◌, [], ap, ap₂, sym, subst, ◌∙◌}
+use Rattle.std.proofs.Common.{◌≡◌, ℕ, true, Option, Some, None, Ok, List, ◌++◌, ◌∷◌, [], ap, ap₂, sym, subst, ◌∙◌}
 use Rattle.cleartool.specs.Naming.{name_told}
+use Rattle.cc_names.specs.Formed.{Plain}
 use Rattle.cc_names.specs.declared.replies.Reply.TheVariants as replies
 use Rattle.cc_names.specs.declared.steps.Step.TheVariants as steps
+use Rattle.cc_names.specs.declared.steps.Told.{Told}
 use Rattle.cc_names.specs.declared.steps.Told.TheVariants as told
 use Rattle.legal_history.specs.Base.Fits.{fits}
+use Rattle.legal_history.specs.Commands.Decisions.{Makes}
+use Rattle.legal_history.specs.Stories.States.{decided}
 use Rattle.legal_history.specs.Stories.Steps.{state_of}
-use Rattle.base_core.specs.Keeping.Lanes.{with_reply}
-use Rattle.base_core.specs.Logging.Appending.{IsCommitted, IsFaulted, Appends, append_reply}
-use Rattle.base_core.specs.declared.logs.Appended.{Appended}
+use Rattle.base_core.specs.Calls.Acting.{Acts, IsRowToCommit}
 use Rattle.base_core.specs.Keeping.Kept.{IsCoreKept}
-use Rattle.base_core.specs.Logging.Logs.{with_row, with_step_on}
+use Rattle.base_core.specs.Keeping.Lanes.{LaneKept, with_reply}
+use Rattle.base_core.specs.Logging.Appending.{IsCommitted, IsFaulted, Appends, append_reply, append_done}
+use Rattle.base_core.specs.Logging.Logs.{Logged}
+use Rattle.base_core.specs.Story.Counted.{KeepsCount}
 use Rattle.base_core.specs.Story.Replying.{count_told, row_reply}
+use Rattle.base_core.specs.Story.Shown.{Shown}
+use Rattle.base_core.specs.declared.logs.Appended.{Appended}
+use Rattle.base_core.specs.declared.logs.Appended.TheVariants as appends
 use Rattle.base_core.proofs.Acting.Faulting.{kept_next_fault, next_faults}
 use Rattle.base_core.proofs.Acting.Finishing.{kept_next_row}
 use Rattle.base_core.proofs.Keeping.Rooms.{row_has_room}
+use Rattle.base_core.proofs.Story.Counts.{shown_of}
 use Rattle.base_core.proofs.core_value.Core.commit.Goals as goal
+
+-- what is kept, whatever became of the row
+kept_append : (log new : Logged) (lanes : List LaneKept) (now : ℕ) (story : List Told) (row : Plain) (lane : ℕ) (name : Option (List ℕ)) (count : Option ℕ) (appended : Appended) → log.story ≡ story → lane ≡ row.tag.lane → IsCoreKept log lanes now → IsRowToCommit (state_of story) row
+    → name_told (row ∷ log.base) row.deed ≡ name → count_told row.deed ≡ count → Appends log new row None appended → IsCoreKept new (with_reply lanes lane (append_reply appended name count)) now
+kept_append log new lanes now story row lane name count appends.Committed same at_lane h next named counted became =
+    let done : IsCommitted log new row = became in
+    subst (λ own. IsCoreKept own (with_reply lanes lane (row_reply name count)) now) (sym done.grows)
+    (kept_next_row log lanes now story row lane done.tick done.sight done.ticked same at_lane h next done.formed (row_reply name count) (next.finishes.reply (row ∷ log.base) ∙ ap Some (ap₂ row_reply named counted)))
+kept_append log new lanes now story row lane name count appends.Faulted same at_lane h next named counted became =
+    let done : IsFaulted log new row None = became in
+    subst (λ own. IsCoreKept own (with_reply lanes lane replies.DiskFault) now) (sym done.grows)
+    (kept_next_fault log lanes now story row lane done.left done.before done.faults done.tick done.sight done.rose done.later done.leaves done.ticked same at_lane h next done.formed)
+
+-- the story went on by a step of that kind
+acts_so : (log new : Logged) (story : List Told) (row : Plain) (appended : Appended) → log.story ≡ story → IsRowToCommit (state_of story) row → Appends log new row None appended → Acts story new.story row.tag.lane (append_done appended)
+acts_so log new story row appends.Committed same next became =
+    let done : IsCommitted log new row = became in
+    record {
+      step = told.Commit row done.tick;
+      grows = ap (λ (l : Logged). l.story) done.grows ∙ ap (λ t. t ++ told.Commit row done.tick ∷ []) same;
+      is = (next.of_next.next, next.at_moment, subst (λ t. decided (state_of story) t ≡ Some (Ok (Makes row.deed))) next.of_next.next next.made);
+    }
+acts_so log new story row appends.Faulted same next became =
+    let done : IsFaulted log new row None = became in
+    next_faults story new.story row done.left done.before done.faults done.tick
+    (ap (λ (l : Logged). l.story) done.grows ∙ ap (λ t. t ++ told.Other (steps.Fault row.tag done.left done.before done.faults done.tick) ∷ []) same) next
+
+-- and that step says what became of the disk's counts
+counts_so : (log new : Logged) (old : Shown) (row : Plain) (appended : Appended) → shown_of log ≡ old → Appends log new row None appended → KeepsCount old (shown_of new)
+counts_so log new old row appends.Committed view became =
+    let done : IsCommitted log new row = became in
+    subst (λ (shown : Shown). KeepsCount shown (shown_of new)) view
+    (record {
+      steps = told.Commit row done.tick ∷ [];
+      grows = ap (λ (l : Logged). l.story) done.grows;
+      counts = (done.sight, (done.at, done.spent, done.faults, done.fit, done.writes), ap (λ (l : Logged). l.sight) done.grows);
+    })
+counts_so log new old row appends.Faulted view became =
+    let done : IsFaulted log new row None = became in
+    subst (λ (shown : Shown). KeepsCount shown (shown_of new)) view
+    (record {
+      steps = told.Other (steps.Fault row.tag done.left done.before done.faults done.tick) ∷ [];
+      grows = ap (λ (l : Logged). l.story) done.grows;
+      counts = (done.sight, (done.counted, done.told, done.one, done.at, done.spent, done.fit, done.writes), ap (λ (l : Logged). l.sight) done.grows);
+    })
 
 pub append-requires-clause-fits : goal.append-requires-clause-fits
 append-requires-clause-fits g c =
@@ -24,34 +78,22 @@ append-requires-clause-fits g c =
 pub reply-requires-clause-room : goal.reply-requires-clause-room
 reply-requires-clause-room g c = (row_has_room c.self.inside.log c.self.inside.lanes c.self.inside.moment c.args.self.now.story c.args.row c.tag-lane.result.lane (ap (λ v. v.story) c.self.view_is) c.self.invariant (ap (λ t. t.lane) c.tag-lane.ensures) c.requires).room
 
-pub reply-requires-in-Faulted-clause-room : goal.reply-requires-in-Faulted-clause-room
-reply-requires-in-Faulted-clause-room g c = (row_has_room c.self.inside.log c.self.inside.lanes c.self.inside.moment c.args.self.now.story c.args.row c.tag-lane.result.lane (ap (λ v. v.story) c.self.view_is) c.self.invariant (ap (λ t. t.lane) c.tag-lane.ensures) c.requires).room
-
-pub invariant_of-self-in-Committed : goal.invariant_of-self-in-Committed
-invariant_of-self-in-Committed g c =
+pub invariant_of-self-2 : goal.invariant_of-self-2
+invariant_of-self-2 g c =
     let name = c.in_ok-name.name in
-    let told : name_told (c.args.row ∷ c.self.inside.log.base) c.args.row.deed ≡ name =
+    let named : name_told (c.args.row ∷ c.self.inside.log.base) c.args.row.deed ≡ name =
     ap₂ (λ b deed. name_told (c.args.row ∷ b) deed) (sym c.rows.ensures) (sym c.deed.ensures.deed) ∙ sym (c.in_ok-name.ensures c.args.row (sym c.deed.ensures.deed)) in
     let count = c.count_told-count.result in
     let counted : count_told c.args.row.deed ≡ count = ap count_told (sym c.deed-2.ensures.deed) ∙ sym c.count_told-count.ensures in
-    let replied : c.append_reply-reply.result ≡ row_reply name count = c.append_reply-reply.ensures ∙ ap (λ (appended : Appended). append_reply appended name count) c.in-Committed.is in
-    let done : IsCommitted c.self.inside.log c.append.new.self c.args.row = subst (Appends c.self.inside.log c.append.new.self c.args.row None) c.in-Committed.is c.in_ok-appended.ensures.ok in
-    subst (λ log. IsCoreKept log c.reply.new.self c.self.inside.moment) (sym done.grows)
-    (subst (λ lanes. IsCoreKept (with_row c.self.inside.log c.args.row done.tick done.sight) lanes c.self.inside.moment) (sym c.reply.ensures)
-    (kept_next_row c.self.inside.log c.self.inside.lanes c.self.inside.moment c.args.self.now.story c.args.row c.tag-lane.result.lane done.tick done.sight done.ticked (ap (λ v. v.story) c.self.view_is) (ap (λ t. t.lane) c.tag-lane.ensures) c.self.invariant c.requires done.formed c.append_reply-reply.result
-    (c.requires.finishes.reply (c.args.row ∷ c.self.inside.log.base) ∙ ap Some (ap₂ row_reply told counted ∙ sym replied))))
+    subst (λ lanes. IsCoreKept c.append.new.self lanes c.self.inside.moment)
+    (sym (c.reply.ensures ∙ ap (λ reply. with_reply c.self.inside.lanes c.tag-lane.result.lane reply) c.append_reply.ensures))
+    (kept_append c.self.inside.log c.append.new.self c.self.inside.lanes c.self.inside.moment c.args.self.now.story c.args.row c.tag-lane.result.lane name count c.in_ok-appended.appended
+    (ap (λ v. v.story) c.self.view_is) (ap (λ t. t.lane) c.tag-lane.ensures) c.self.invariant c.requires named counted c.in_ok-appended.ensures.ok)
 
-pub invariant_of-self-in-Faulted : goal.invariant_of-self-in-Faulted
-invariant_of-self-in-Faulted g c =
-    let replied : c.append_reply-reply.result ≡ replies.DiskFault = c.append_reply-reply.ensures ∙ ap (λ (appended : Appended). append_reply appended c.in_ok-name.name c.count_told-count.result) c.in-Faulted.is in
-    let done : IsFaulted c.self.inside.log c.append.new.self c.args.row None = subst (Appends c.self.inside.log c.append.new.self c.args.row None) c.in-Faulted.is c.in_ok-appended.ensures.ok in
-    subst (λ log. IsCoreKept log c.reply-in-Faulted.new.self c.self.inside.moment) (sym done.grows)
-    (subst (λ lanes. IsCoreKept (with_step_on c.self.inside.log (steps.Fault c.args.row.tag done.left done.before done.faults done.tick) done.sight) lanes c.self.inside.moment)
-    (sym (c.reply-in-Faulted.ensures ∙ ap (λ reply. with_reply c.self.inside.lanes c.tag-lane.result.lane reply) replied))
-    (kept_next_fault c.self.inside.log c.self.inside.lanes c.self.inside.moment c.args.self.now.story c.args.row c.tag-lane.result.lane done.left done.before done.faults done.tick done.sight done.rose done.later done.leaves done.ticked (ap (λ v. v.story) c.self.view_is) (ap (λ t. t.lane) c.tag-lane.ensures) c.self.invariant c.requires done.formed))
+pub returns-clause-ok : goal.returns-clause-ok
+returns-clause-ok g c =
+    subst (Acts c.args.self.now.story c.append.new.self.story c.args.row.tag.lane) (sym c.append_done.ensures)
+    (acts_so c.self.inside.log c.append.new.self c.args.self.now.story c.args.row c.in_ok-appended.appended (ap (λ v. v.story) c.self.view_is) c.requires c.in_ok-appended.ensures.ok)
 
-pub returns-in-Faulted-clause-ok : goal.returns-in-Faulted-clause-ok
-returns-in-Faulted-clause-ok g c =
-    let done : IsFaulted c.self.inside.log c.append.new.self c.args.row None = subst (Appends c.self.inside.log c.append.new.self c.args.row None) c.in-Faulted.is c.in_ok-appended.ensures.ok in
-    next_faults c.args.self.now.story c.append.new.self.story c.args.row done.left done.before done.faults done.tick
-    (ap (λ log. log.story) done.grows ∙ ap (λ v. v.story ++ told.Other (steps.Fault c.args.row.tag done.left done.before done.faults done.tick) ∷ []) c.self.view_is) c.requires
+pub returns-clause-counted : goal.returns-clause-counted
+returns-clause-counted g c = counts_so c.self.inside.log c.append.new.self c.args.self.now c.args.row c.in_ok-appended.appended c.self.view_is c.in_ok-appended.ensures.ok

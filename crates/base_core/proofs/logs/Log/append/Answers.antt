@@ -1,5 +1,5 @@
 -- a row is appended to the journal, and what became of it is told
-use Rattle.std.proofs.Common.{◌≡◌, true, ◌∷◌, [], ◌++◌, length, ap, sym, subst, ◌∙◌, cond, is_ok, arith}
+use Rattle.std.proofs.Common.{◌≡◌, true, ◌∷◌, [], ◌++◌, length, ap, sym, subst, ◌∙◌, arith}
 use Rattle.std.specs.Option.{option_to_list}
 use Rattle.cc_names.specs.declared.steps.Step.TheVariants as steps
 use Rattle.disk_model.specs.Told.{IfTold}
@@ -18,9 +18,9 @@ use Rattle.base_core.proofs.logs.Log.append.Goals.{in-Nothing, in-Earlier, in-In
 pub invariant_of-self-in-Ok : goal.invariant_of-self-in-Ok
 invariant_of-self-in-Ok g c =
     let commit = steps.Commit c.tag-tag.result c.size-number.result c.in-Ok.tick in
-    let kept : c.push.new.self.items ≡ c.self.inside.steps.items ++ commit ∷ [] = c.push.ensures.items ∙ ap (λ r. cond (is_ok r) (c.reserve-2.new.self.items ++ commit ∷ []) c.reserve-2.new.self.items) c.unwrap.ensures ∙ ap (λ xs. xs ++ commit ∷ []) c.reserve-2.ensures.items in
-    let rows : c.push-in-Ok.new.self.base ≡ c.args.row ∷ c.self.inside.rows.base = c.push-in-Ok.ensures ∙ ap (λ b. c.args.row ∷ b) c.reserve.ensures.same in
-    logged_row (handed_in c.self.inside.handed g.D.Disk.tells) c.self.inside.steps.items c.push.new.self.items c.self.inside.rows.base c.push-in-Ok.new.self.base c.self.inside.phases.items c.tag-tag.result c.size-number.result c.in-Ok.tick c.args.row
+    let kept : c.push_reserved.new.self.items ≡ c.self.inside.steps.items ++ commit ∷ [] = c.push_reserved.ensures.items ∙ ap (λ xs. xs ++ commit ∷ []) c.reserve-2.ensures.items in
+    let rows : c.push.new.self.base ≡ c.args.row ∷ c.self.inside.rows.base = c.push.ensures ∙ ap (λ b. c.args.row ∷ b) c.reserve.ensures.same in
+    logged_row (handed_in c.self.inside.handed g.D.Disk.tells) c.self.inside.steps.items c.push_reserved.new.self.items c.self.inside.rows.base c.push.new.self.base c.self.inside.phases.items c.tag-tag.result c.size-number.result c.in-Ok.tick c.args.row
     (g.D.Disk.sight c.self.inside.journal.disk) (g.D.Disk.sight c.append.new.self.disk) c.self.inside.journal.list c.self.inside.journal.loose c.append.new.self.list c.append.new.self.loose c.self.inside.journal.ended c.append.new.self.ended c.self.inside.journal.left c.append.new.self.left c.self.inside.journal.settled c.append.new.self.settled
     c.self.invariant kept rows (sym c.tag-tag.ensures) (omega (arith, c.size-number.ensures.size, ap length c.all.ensures, ap length c.reserve.ensures.same)) c.in-Ok.ensures.moves
     (subst (λ f. IfTold (g.D.Disk.sight c.self.inside.journal.disk).told (λ _. (c.append.new.self.list ≡ c.self.inside.journal.list ++ f ∷ []) × (c.append.new.self.loose ≡ []))) c.in_ok-frame.ensures c.in-Ok.ensures.ok)
@@ -29,10 +29,10 @@ invariant_of-self-in-Ok g c =
 pub returns-in-Ok-clause-ok : goal.returns-in-Ok-clause-ok
 returns-in-Ok-clause-ok g c =
     let commit = steps.Commit c.tag-tag.result c.size-number.result c.in-Ok.tick in
-    let kept : c.push.new.self.items ≡ c.self.inside.steps.items ++ commit ∷ [] = c.push.ensures.items ∙ ap (λ r. cond (is_ok r) (c.reserve-2.new.self.items ++ commit ∷ []) c.reserve-2.new.self.items) c.unwrap.ensures ∙ ap (λ xs. xs ++ commit ∷ []) c.reserve-2.ensures.items in
-    let rows : c.push-in-Ok.new.self.base ≡ c.args.row ∷ c.self.inside.rows.base = c.push-in-Ok.ensures ∙ ap (λ b. c.args.row ∷ b) c.reserve.ensures.same in
-    subst (λ old. IsCommitted old (shown (handed_in c.self.inside.handed g.D.Disk.tells) c.push.new.self.items c.push-in-Ok.new.self.base c.self.inside.phases.items (g.D.Disk.sight c.append.new.self.disk)) c.args.row) c.self.view_is
-    (is_committed (handed_in c.self.inside.handed g.D.Disk.tells) c.self.inside.steps.items c.push.new.self.items c.self.inside.rows.base c.push-in-Ok.new.self.base c.self.inside.phases.items c.tag-tag.result c.size-number.result c.in-Ok.tick _ c.args.row
+    let kept : c.push_reserved.new.self.items ≡ c.self.inside.steps.items ++ commit ∷ [] = c.push_reserved.ensures.items ∙ ap (λ xs. xs ++ commit ∷ []) c.reserve-2.ensures.items in
+    let rows : c.push.new.self.base ≡ c.args.row ∷ c.self.inside.rows.base = c.push.ensures ∙ ap (λ b. c.args.row ∷ b) c.reserve.ensures.same in
+    subst (λ old. IsCommitted old (shown (handed_in c.self.inside.handed g.D.Disk.tells) c.push_reserved.new.self.items c.push.new.self.base c.self.inside.phases.items (g.D.Disk.sight c.append.new.self.disk)) c.args.row) c.self.view_is
+    (is_committed (handed_in c.self.inside.handed g.D.Disk.tells) c.self.inside.steps.items c.push_reserved.new.self.items c.self.inside.rows.base c.push.new.self.base c.self.inside.phases.items c.tag-tag.result c.size-number.result c.in-Ok.tick _ c.args.row
     (g.D.Disk.sight c.self.inside.journal.disk) (g.D.Disk.sight c.append.new.self.disk) c.self.inside.journal.list c.self.inside.journal.loose c.self.inside.journal.ended c.self.inside.journal.left c.self.inside.journal.settled c.self.invariant kept rows c.in-Ok.ensures.tick c.in-Ok.ensures.costs.0 (some_calls c.self.inside.journal.settled) c.in-Ok.ensures.costs.1 c.deed.ensures.formed (g.met.D.Disk.counted c.append.new.self.disk) c.in-Ok.ensures.writes)
 
 pub invariant_of-self : goal.invariant_of-self
@@ -71,6 +71,6 @@ returns-clause-ok g c =
     c.tag-tag.ensures c.requires.ending c.self.invariant kept (c.in_ok-earlier.ensures ∙ ap left_in c.as_slice.ensures.value) left c.counts-counts.ensures.ticks c.counts-counts.ensures.faults c.counts-before.ensures.faults c.in_default.ensures.costs.0 c.in_default.ensures.costs.2
     (g.met.D.Disk.counted c.self.inside.journal.disk) (g.met.D.Disk.counted c.append.new.self.disk) c.deed.ensures.formed c.in_default.ensures.writes))
 
-pub push-requires-in-Ok-clause-fits : goal.push-requires-in-Ok-clause-fits
-push-requires-in-Ok-clause-fits g c =
+pub push-requires-clause-fits : goal.push-requires-clause-fits
+push-requires-clause-fits g c =
     subst (λ b. fits b c.args.row.deed ≡ true) (ap (λ log. log.base) (sym c.self.view_is) ∙ sym c.reserve.ensures.same) c.requires.fits

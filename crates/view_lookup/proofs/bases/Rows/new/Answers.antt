@@ -1,5 +1,5 @@
 -- A base with no row has no objects.
-use Rattle.std.proofs.Common.{◌≡◌, None, rules, List, reverse, nat_eq, ap, sym, ◌∙◌}
+use Rattle.std.proofs.Common.{rules, List, reverse, nat_eq, ap, sym, ◌∙◌}
 use Rattle.std.specs.FinMap.Entries.{find}
 use Rattle.std.specs.Map.{lookup}
 use Rattle.std.specs.Str.{bytes_eq}

@@ -1,5 +1,5 @@
 -- The row's marks, its changes of the trees and of the labels, its config spec and what its record lists are those of the row.
-use Rattle.std.proofs.Common.{◌≡◌, ℕ, ◌+◌, ◌≤◌, ◌==◌, ◌&&◌, true, refl, Option, List, [], ◌∷◌, ◌++◌, length, map, reverse, nat_eq, nat_lt, sym, ap, ap₂, subst, ◌∙◌, arith, rules}
+use Rattle.std.proofs.Common.{◌≡◌, ℕ, ◌+◌, ◌≤◌, ◌==◌, ◌&&◌, true, refl, Option, List, [], ◌∷◌, ◌++◌, length, map, reverse, nat_eq, nat_lt, sym, ap, ap₂, subst, ◌∙◌, arith}
 use Rattle.std.proofs.lemmas.Grind.{common_steps}
 use Rattle.std.proofs.lemmas.List.{length-reverse, reverse-append}
 use Rattle.std.specs.HashMap.{get}
@@ -120,8 +120,7 @@ invariant_of-self c =
     let base_is : older ≡ c.args.self.now.base = ap (λ (shown : Shown). shown.base) c.self.view_is in
     let len : c.len.result ≡ length older = grind (arith, common_steps, length-reverse c.self.inside.rows.items) in
     let number : c.len.result + 1 ≡ size older = omega arith in
-    let items : c.push.new.self.items ≡ c.self.inside.rows.items ++ row ∷ [] = first_of (search rules, grind (arith, common_steps)) in
-    let back : reverse c.push.new.self.items ≡ row ∷ older = ap reverse items ∙ reverse-append c.self.inside.rows.items (row ∷ []) in
+    let back : reverse c.push_reserved.new.self.items ≡ row ∷ older = ap reverse c.push_reserved.ensures.items ∙ reverse-append c.self.inside.rows.items (row ∷ []) in
     let fitting : fits older row.deed ≡ true = subst (λ (b : Base). fits b row.deed ≡ true) (sym base_is) c.requires.fits in
     let known : IsKnown (row ∷ older) = record {
       fitting = ap₂ (λ one two. one && two) fitting c.self.invariant.known.fitting;

@@ -1,5 +1,5 @@
 -- Each part of the room is kept by what makes the next ones.
-use Rattle.std.proofs.Common.{◌≡◌, ◌≤◌, length, subst, sym, ◌∙◌, arith}
+use Rattle.std.proofs.Common.{◌≡◌, ◌≤◌, subst, sym, ◌∙◌}
 use Rattle.cc_names.specs.declared.rows.Deed.{Deed}
 use Rattle.label_book.specs.Marks.{Marks}
 use Rattle.legal_history.specs.Base.Rows.{Base}

@@ -1,0 +1,5 @@
+use mathlib.Core.List.{IsPrefix}
+use Rattle.clearmake.proofs.before_threads.act_before_threads.Given as goal
+
+abbrev pub invariant-loop : goal.invariant-loop
+invariant-loop g l = IsPrefix (g.T.Storied.story l.initial.desk) (g.T.Storied.story l.desk)

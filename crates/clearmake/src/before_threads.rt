@@ -1,0 +1,107 @@
+// What a phase does before it starts threads: until a lane's turn comes to a build, this thread carries out the commands of all
+// lanes. Others would gain nothing, since one thread at a time has the desk, and what a turn looks up would mostly have been
+// written last on another processor.
+
+ghost use Rattle.std.specs.Prelude.{◌≡◌, ◌≤◌};
+ghost use Rattle.std.specs.Bool.{OnTrue};
+ghost use mathlib.Core.List.{IsPrefix};
+ghost use Rattle.clearmake.specs.Passes.{AreLanesDone};
+
+use crate::desks::PhaseDesk;
+use crate::lanes::{LaneTurn, take_turn_at};
+use cc_names::desks::Next;
+use std::alloc::Global;
+
+/// How many lanes a phase has at most.
+const LANES: usize = 64;
+
+/// What a round came to.
+#[derive(Drop)]
+enum Round {
+    /// Commands were carried out, and there may be more.
+    Acted,
+    /// No lane that took its turn carried out as many commands as one turn has.
+    Spent,
+    /// A lane's next command builds.
+    Builds,
+}
+
+/// Whether the next command of some lane builds that is not set aside.
+fn any_builds<T: PhaseDesk>(desk: &T, lanes: u32, aside: &[bool; LANES]) -> bool
+    requires { lanes ≤ 64 }
+{
+    for index in 0..lanes {
+        if !aside[index as usize] {
+            if let Next::Build(_) = desk.next(index + 1) {
+                return true;
+            }
+        }
+    }
+    false
+}
+
+/// Whether no lane has anything left to do.
+fn are_done<T: PhaseDesk>(desk: &T, lanes: u32) -> bool
+    requires { lanes ≤ 64 }
+    ensures { OnTrue result (AreLanesDone (T.story desk.now) 1 lanes T.number) }
+{
+    desk.legal();
+    desk.in_phase();
+    for index in 0..lanes {
+        match desk.next(index + 1) {
+            Next::Done => {}
+            _ => return false,
+        }
+    }
+    true
+}
+
+/// A round: each lane that is not set aside takes its turn, until one comes to a build. A lane is set aside that has nothing
+/// left to do, since to look behind its last command again and again may take long, and one for which memory ran out.
+fn take_round<T: PhaseDesk>(
+    desk: &mut T,
+    alloc: Global,
+    lanes: u32,
+    aside: &mut [bool; LANES],
+) -> Round
+    requires { lanes ≤ 64 }
+    ensures { IsPrefix (T.story desk.old) (T.story desk.new) }
+{
+    let mut round = Round::Spent;
+    for index in 0..lanes {
+        if !aside[index as usize] {
+            match take_turn_at(desk, alloc, index + 1) {
+                LaneTurn::Acted => round = Round::Acted,
+                LaneTurn::Done | LaneTurn::OutOfMemory => aside[index as usize] = true,
+                LaneTurn::Build(_, _) => return Round::Builds,
+            }
+        }
+    }
+    round
+}
+
+/// Carries out the commands of so many lanes in at most so many rounds, until a lane comes to a build. True where nothing is
+/// left to do in any; else there is a build ahead, or memory or the rounds ran out.
+pub(crate) fn act_before_threads<T: PhaseDesk>(
+    desk: &mut T,
+    alloc: Global,
+    lanes: u32,
+    rounds: u32,
+) -> bool
+    requires { lanes ≤ 64 }
+    ensures begins { IsPrefix (T.story desk.old) (T.story desk.new) }
+    ensures finished { OnTrue result (AreLanesDone (T.story desk.new) 1 lanes T.number) }
+{
+    let mut aside = [false; LANES];
+    for _ in 0..rounds {
+        if any_builds(desk, lanes, &aside) {
+            return false;
+        }
+        match take_round(desk, alloc, lanes, &mut aside) {
+            Round::Acted => {}
+            Round::Spent => return are_done(desk, lanes),
+            Round::Builds => return false,
+        }
+    }
+    false
+}
