@@ -9,8 +9,9 @@ CCBASE is the built program: `rt run` in crates/ccbase makes it, as out/ccbase t
 - two programs at once on one base: whoever comes second is told so, and every acknowledged row is there afterwards;
 - a session that is still being written: the base is not held meanwhile;
 - foreign bytes in FILE: they are told before the first row is written over them, and not told where no row can be;
-- a FILE that cannot be opened, words of no form, a text that is no session, an input that cannot be read: one line says why, and no
-  file is made.
+- a damaged FILE: the frame is told, and no file is touched;
+- a FILE that cannot be opened, words of no form, a text that is no session or too long, an input that cannot be read: one line says
+  why, and no file is made.
 
 Prints a line for each check that passed, and ends with 1 at the first thing that is wrong.
 """
@@ -219,6 +220,24 @@ def no_session(edge):
     same("a foreign file", edge.read("b"), b"hello, world\n")
 
 
+def damaged_base(edge):
+    text, _ = session(1, 3)
+    edge.has(["b", "run"], text, (0, transcript(3), b""))
+    whole = edge.read("b")
+    payloads = frames(whole)
+    start = sum(5 + len(payload) for payload in payloads[:2]) + 5
+    damaged = whole[:start] + b"\xff" + whole[start + 1 :]
+    edge.write("b", damaged)
+    edge.has(["b", "run"], text, (4, b"damaged 3\n", b"ccbase: b: damaged at frame 3\n"))
+    same("a damaged base", edge.read("b"), damaged)
+
+
+def too_long_a_session(edge):
+    wanted = (9, b"too long\n", b"ccbase: standard input: it has more than 16,777,216 bytes\n")
+    edge.has(["b", "run"], b"#" * 16_777_217, wanted)
+    edge.has_none_but([])
+
+
 CHECKS = [
     closed_output,
     closed_errors_and_foreign_bytes,
@@ -231,6 +250,8 @@ CHECKS = [
     words_of_no_form,
     input_that_cannot_be_read,
     no_session,
+    damaged_base,
+    too_long_a_session,
 ]
 
 

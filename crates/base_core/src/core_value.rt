@@ -1,4 +1,4 @@
-// A base with its story, kept on a disk: what a core is, and how it opens, begins phases and is taken apart.
+//! A base with its story, kept on a disk: what a core is, and how it opens, begins phases and is taken apart.
 
 mod acting;
 mod builders;
@@ -43,7 +43,7 @@ impl<D: Disk> Model for Core<D> {
 
 impl<D: Disk> Core<D> {
     ghost use Rattle.std.specs.Prelude.{◌≡◌, ◌≤◌, ◌<◌, ◌^◌, ◌+◌, ◌∷◌, [], ◌++◌, true, false, OnOk, OnErr, IfOk, IfErr, MatchResult, length};
-    ghost use Rattle.cc_names.specs.declared.steps.Told.TheVariants as told;
+    ghost use Rattle.cc_names.specs.declared.steps.StoryStep.TheVariants as story_steps;
     ghost use Rattle.session_text.specs.Formed.{IsPhase};
     ghost use Rattle.carried_out.specs.CarriedOut.{AreCarriedOut};
     ghost use Rattle.legal_history.specs.Stories.States.{all_done, faults_of};
@@ -95,12 +95,12 @@ impl<D: Disk> Core<D> {
         requires carried_out { AreCarriedOut phase }
         requires few { (state_of self.old.story).number + 1 < 2 ^ 32 }
         requires in_time { moment ≤ last_moment }
-        ensures ok { OnOk result (self.new.story ≡ self.old.story ++ told.Plan phase moment ∷ []) }
+        ensures ok { OnOk result (self.new.story ≡ self.old.story ++ story_steps.PhaseBegun phase moment ∷ []) }
         ensures err { OnErr result (self.new ≡ self.old) }
         ensures counted { KeepsCount self.old self.new }
     {
         let lanes = Lanes::begin(alloc, &phase)?;
-        self.log.plan(phase, moment)?;
+        self.log.begin_phase(phase, moment)?;
         self.lanes = lanes;
         self.moment = moment;
         Ok(())

@@ -1,4 +1,4 @@
-// What a session leaves: the rows, the phases and the steps of its story.
+//! What a session leaves: the rows, the phases and the steps of its story.
 
 ghost use Rattle.std.specs.Prelude.{◌≡◌, []};
 
@@ -10,7 +10,7 @@ use std::alloc::Global;
 use std::marker::{Model, PhantomData};
 
 /// The story of a session with the rows and phases that it names, the phases kept as their text. Contracts see it as the story,
-/// each commit told with its row and each plan with its phase. A session that opened no base has the empty story. Whether the
+/// each commit told with its row and each beginning of a phase with that phase. A session that opened no base has the empty story. Whether the
 /// disk told its device is a part of the story, and known by the disk's type alone.
 #[derive(Drop)]
 pub struct History<D: Disk> {
@@ -23,11 +23,11 @@ pub struct History<D: Disk> {
 
 impl<D: Disk> Model for History<D> {
     ghost use Rattle.std.specs.Prelude.{List};
-    ghost use Rattle.cc_names.specs.declared.steps.Told.{Told};
+    ghost use Rattle.cc_names.specs.declared.steps.StoryStep.{StoryStep};
     ghost use Rattle.base_core.specs.Story.Handed.{handed_in};
     ghost use Rattle.base_core.specs.Story.Telling.{story_of, AreTold};
 
-    ghost Value = { List Told };
+    ghost Value = { List StoryStep };
 
     ghost view = { λ h.
         story_of (handed_in h.handed D.tells) h.steps.items h.rows.items h.phases.items };

@@ -1,5 +1,5 @@
-// What is kept for the lanes of a phase: the commands that are left, the replies to those that are finished, and the active
-// builds.
+//! What is kept for the lanes of a phase: the commands that are left, the replies to those that are finished, and the active
+//! builds.
 
 ghost use Rattle.std.specs.Prelude.{◌≡◌, ◌≤◌, IfOk};
 ghost use Rattle.build_core.specs.Slots.{numbered};

@@ -1,4 +1,4 @@
-// The laws of stops and of journals.
+//! The laws of stops and of journals.
 
 ghost use Rattle.base_core.specs.Bases.Damages.{BaseIsUndamaged, JournalIsDamagedOnce, JournalIsOfOneBase};
 ghost use Rattle.base_core.specs.Stopping.Founds.{FoundBaseIsSound, StopLeavesABase, StopOpensAgain};

@@ -1,4 +1,4 @@
-// The story of a core, with the rows and the phases that it names, and the journal that keeps the rows.
+//! The story of a core, with the rows and the phases that it names, and the journal that keeps the rows.
 
 ghost use Rattle.std.specs.Prelude.{◌≡◌, ◌+◌, ◌<◌, ◌≤◌, ◌^◌, ◌++◌, ◌∷◌, [], length, true, false, IfOk, OnOk, OnErr, option_copied};
 ghost use Rattle.row_form.specs.Spelled.{spelled};
@@ -120,7 +120,7 @@ fn push_step(steps: &mut Vec<Step>, step: Step) -> Result<(), NoMemory>
 
 impl<D: Disk> Log<D> {
     ghost use Rattle.std.specs.Prelude.{◌≡◌, ◌+◌, ◌<◌, ◌^◌, ◌++◌, ◌∷◌, [], length, true, false, IfOk, IfErr, IfSome, OnOk, OnErr, MatchResult};
-    ghost use Rattle.cc_names.specs.declared.steps.Told.TheVariants as told;
+    ghost use Rattle.cc_names.specs.declared.steps.StoryStep.TheVariants as story_steps;
     ghost use Rattle.disk_model.specs.Counting.{next_count};
     ghost use Rattle.disk_model.specs.Told.{IfTold};
     ghost use Rattle.legal_history.specs.Stories.States.{faults_of};
@@ -145,7 +145,7 @@ impl<D: Disk> Log<D> {
         handed: Counts,
         journal: Journal<D>,
     ) -> Result<Log<D>, Journal<D>>
-        requires { IsBacked (state_of (told.Opened (oldest_first rows.base) handed D.tells ∷ []))
+        requires { IsBacked (state_of (story_steps.Opened (oldest_first rows.base) handed D.tells ∷ []))
             (D.sight journal.disk) journal.list journal.loose journal.ended journal.left
             journal.settled }
         ensures ok { IfOk result
@@ -169,7 +169,7 @@ impl<D: Disk> Log<D> {
     }
 
     /// Tells that a phase began. An `Err` changes nothing.
-    pub(crate) fn plan(&mut self, phase: PhaseText, moment: u64) -> Result<(), NoMemory>
+    pub(crate) fn begin_phase(&mut self, phase: PhaseText, moment: u64) -> Result<(), NoMemory>
         requires few { length self.old.phases + 1 < 2 ^ 32 }
         ensures ok { OnOk result (self.new ≡ with_phase self.old phase moment) }
         ensures err { OnErr result (self.new ≡ self.old) }
@@ -178,7 +178,7 @@ impl<D: Disk> Log<D> {
         let number = self.phases.len() as u32 + 1;
         push_step(
             &mut self.steps,
-            Step::Plan {
+            Step::PhaseBegun {
                 phase: number,
                 moment,
             },
@@ -234,7 +234,7 @@ impl<D: Disk> Log<D> {
     /// Tells a step that names no row and no phase, and is no fault of the disk. An `Err` changes nothing.
     pub(crate) fn tell(&mut self, step: Step) -> Result<(), NoMemory>
         requires alone { stands_alone step ≡ true }
-        requires sound { is_fault (told.Other step) ≡ false }
+        requires sound { is_fault (story_steps.Other step) ≡ false }
         ensures ok { OnOk result (self.new ≡ with_step self.old step) }
         ensures err { OnErr result (self.new ≡ self.old) }
     {

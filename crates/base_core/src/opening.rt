@@ -1,4 +1,4 @@
-// How a base is opened: the rows of its journal are read one by one, and each has to fit those before it.
+//! How a base is opened: the rows of its journal are read one by one, and each has to fit those before it.
 
 ghost use Rattle.std.specs.Prelude.{◌≡◌, ◌&&◌, [], ◌∷◌, true, IfOk, IfErr, OnOk};
 ghost use Rattle.carried_out.specs.CarriedOut.{is_made};

@@ -1,4 +1,4 @@
-// The phase that began last.
+//! The phase that began last.
 
 ghost use Rattle.std.specs.Prelude.{◌≡◌, ◌<◌, length};
 ghost use Rattle.base_core.specs.Keeping.Kept.{last_phase};

@@ -4,9 +4,10 @@ use Rattle.std.specs.Prelude.{slice_get}
 use Rattle.std.specs.List.{list_any}
 use Rattle.std.specs.Option.{option_or, option_and_then}
 use Rattle.std.proofs.lemmas.Option.{slice_get-get_or, slice_get_within, get_or_from_slice_get}
+use Rattle.cc_names.specs.Versions.{is_number}
 use Rattle.cc_names.specs.declared.units.Unit.{Unit}
 use Rattle.cc_names.specs.declared.units.UnitScript.TheVariants.{Bare}
-use Rattle.make_graph.specs.Waits.{unit_of, is_unit, makes_one, prerequisites_of, prerequisites_at, needed, closure_of, is_in, is_marked}
+use Rattle.make_graph.specs.Waits.{unit_of, makes_one, prerequisites_of, prerequisites_at, needed, closure_of, is_in, is_marked}
 use Rattle.make_graph.proofs.NeedLemmas.{same_number as same_count, itself}
 use Rattle.make_graph.proofs.StandingLaws.{when_made, when_not}
 use Rattle.legal_history.specs.Base.Rows.{only_where}
@@ -51,7 +52,7 @@ has_number k path (first ∷ units) (suc i) unit h at = by (is_among path first.
         let count : k + suc i ≡ (k + 1) + i = omega arith in
         rest (h ∙ ap Some count) at
 
-makes_same : (units : List Unit) → InOrder units → (k : ℕ) (unit : Unit) (path : List ℕ) → slice_get units k ≡ Some unit → makes path unit ≡ is_unit k (unit_of units path)
+makes_same : (units : List Unit) → InOrder units → (k : ℕ) (unit : Unit) (path : List ℕ) → slice_get units k ≡ Some unit → makes path unit ≡ is_number k (unit_of units path)
 makes_same units order k unit path at = by (makes path unit) refl
   where
     split : (j : ℕ) → number_from 0 path units ≡ Some j → makes path unit ≡ false → ((k == j) ≡ true) ⊎ ((k == j) ≡ false) → false ≡ (k == j)
@@ -62,21 +63,21 @@ makes_same units order k unit path at = by (makes path unit) refl
         let made = has_number 0 path units j unit (is ∙ ap Some count) at_j in
         absurd (let both : true ≡ false = sym made ∙ not in cc)
 
-    found : (o : Option ℕ) → number_from 0 path units ≡ o → makes path unit ≡ false → false ≡ is_unit k o
+    found : (o : Option ℕ) → number_from 0 path units ≡ o → makes path unit ≡ false → false ≡ is_number k o
     found None is not = refl
     found (Some j) is not = split j is not (true_or_false (k == j))
 
-    by : (t : Bool) → makes path unit ≡ t → t ≡ is_unit k (unit_of units path)
+    by : (t : Bool) → makes path unit ≡ t → t ≡ is_number k (unit_of units path)
     by true made =
-        sym (ap (is_unit k) (sym (same_number 0 path units) ∙ order.one k unit path at made) ∙ itself k k refl)
-    by false not = found (number_from 0 path units) refl not ∙ ap (is_unit k) (same_number 0 path units)
+        sym (ap (is_number k) (sym (same_number 0 path units) ∙ order.one k unit path at made) ∙ itself k k refl)
+    by false not = found (number_from 0 path units) refl not ∙ ap (is_number k) (same_number 0 path units)
 
 makes_any_same : (units : List Unit) → InOrder units → (k : ℕ) (unit : Unit) → slice_get units k ≡ Some unit → (paths : List (List ℕ)) →
     list_any (λ path. makes path unit) paths ≡ makes_one units paths k
 makes_any_same units order k unit at [] = refl
 makes_any_same units order k unit at (path ∷ paths) =
     ap (λ t. t || list_any (λ p. makes p unit) paths) (makes_same units order k unit path at)
-    ∙ ap (λ t. is_unit k (unit_of units path) || t) (makes_any_same units order k unit at paths)
+    ∙ ap (λ t. is_number k (unit_of units path) || t) (makes_any_same units order k unit at paths)
 
 -- ---- what is found among the units that are needed
 
@@ -95,7 +96,7 @@ or_itself true (Some n) = refl
 or_itself false o = or_nothing o
 
 one_more : (build : Build) (k : ℕ) (numbers : List ℕ) (place : Option ℕ) →
-    option_or (only_where (is_unit k place) (object_of (came_to build k))) (at_place build numbers place) ≡ at_place build (k ∷ numbers) place
+    option_or (only_where (is_number k place) (object_of (came_to build k))) (at_place build numbers place) ≡ at_place build (k ∷ numbers) place
 one_more build k numbers None = refl
 one_more build k numbers (Some m) = by (true_or_false (k == m))
   where
@@ -134,8 +135,8 @@ found_at build order path (suc k) within paths =
           ap (λ n. object_before build paths n path) (sym (add-one k))
           ∙ (taken build paths k path unit lt is (makes_any_same build.units order k unit at paths ∙ made)
           ∙ (ap (λ t. option_or (only_where t (object_of (came_to build k))) (object_before build (paths ++ unit.prerequisites) k path)) (makes_same build.units order k unit path at)
-          ∙ (ap (λ more. option_or (only_where (is_unit k place) (object_of (came_to build k))) (object_before build (paths ++ more) k path)) (sym (ap prerequisites_of at))
-          ∙ (ap (option_or (only_where (is_unit k place) (object_of (came_to build k)))) (found_at build order path k (omega (arith, within)) (paths ++ prerequisites_at build.units k))
+          ∙ (ap (λ more. option_or (only_where (is_number k place) (object_of (came_to build k))) (object_before build (paths ++ more) k path)) (sym (ap prerequisites_of at))
+          ∙ (ap (option_or (only_where (is_number k place) (object_of (came_to build k)))) (found_at build order path k (omega (arith, within)) (paths ++ prerequisites_at build.units k))
           ∙ (one_more build k (needed build.units k (paths ++ prerequisites_at build.units k)) place
           ∙ sym (ap (λ l. at_place build l place) (when_made build.units k paths made)))))))
       | inr not ↦

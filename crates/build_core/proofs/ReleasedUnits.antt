@@ -3,8 +3,9 @@ use Rattle.std.proofs.Common.{◌≡◌, ℕ, ◌==◌, Bool, true, false, not, 
 use Rattle.std.specs.Prelude.{unwrap_or, option_map}
 use Rattle.std.specs.List.{filter, list_any, range_with_len}
 use Rattle.std.proofs.lemmas.Bool.Decides.{nat_tests}
+use Rattle.cc_names.specs.Versions.{is_number}
 use Rattle.cc_names.specs.declared.units.Unit.{Unit}
-use Rattle.make_graph.specs.Waits.{is_unit, makes_one, prerequisites_of, prerequisites_at, dependants_of}
+use Rattle.make_graph.specs.Waits.{makes_one, prerequisites_of, prerequisites_at, dependants_of}
 use Rattle.legal_history.specs.Builds.Active.{Build, came_to, is_outcome, unit_at, unit_with}
 use Rattle.legal_history.specs.Builds.Turns.{is_ready}
 use Rattle.legal_history.proofs.Builds.OrderedUnits.{same_number}
@@ -33,14 +34,14 @@ filter_both one two both same (a ∷ list) = by (filter_both one two both same l
         ∙ sym (ap (λ b. cond b (a ∷ filter both list) (filter both list)) (sym (same a) ∙ ap (λ b. b && two a) is))
 
 -- a unit makes a path alike in both words
-is_maker : (n : ℕ) (maker : Option ℕ) → is_unit n maker ≡ unwrap_or (option_map (λ m. m == n) maker) false
+is_maker : (n : ℕ) (maker : Option ℕ) → is_number n maker ≡ unwrap_or (option_map (λ m. m == n) maker) false
 is_maker n None = refl
 is_maker n (Some m) = grind (arith, nat_tests)
 
 needs_by_paths : (build : Build) (n : ℕ) (paths : List (List ℕ)) → makes_one build.units paths n ≡ list_any (λ path. unwrap_or (option_map (λ m. m == n) (unit_with build path)) false) paths
 needs_by_paths build n [] = refl
 needs_by_paths build n (path ∷ paths) =
-    ap₂ ◌||◌ (ap (is_unit n) (sym (same_number 0 path build.units)) ∙ is_maker n (unit_with build path)) (needs_by_paths build n paths)
+    ap₂ ◌||◌ (ap (is_number n) (sym (same_number 0 path build.units)) ∙ is_maker n (unit_with build path)) (needs_by_paths build n paths)
 
 -- of the units that need it, those that can be driven are released
 needs_and_driven : (needed over ready : Bool) → (needed && (not over && ready)) ≡ (not over && (needed && ready))

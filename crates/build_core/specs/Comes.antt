@@ -3,12 +3,12 @@ use Rattle.std.specs.Prelude.{ℕ, Option, option_map, List, map}
 use Rattle.legal_history.specs.Builds.Active as model
 use Rattle.build_core.specs.Slots.{numbered}
 use Rattle.build_core.specs.declared.active.Came.{Came}
-use Rattle.build_core.specs.declared.active.Came.TheVariants.{Started, Ended, Given}
+use Rattle.build_core.specs.declared.active.Came.TheVariants.{Started, Concluded, Given}
 
 -- what a unit has come to
 abbrev pub came_of : Came → model.Came
 came_of Started = model.Started
-came_of (Ended end) = model.Ended end
+came_of (Concluded end) = model.Concluded end
 came_of (Given id) = model.Given id
 
 -- what each unit has come to, if to anything

@@ -1,5 +1,6 @@
 pub mod BuildForms
 pub mod Comes
+pub mod Laws
 pub mod Plans
 pub mod Publishing
 pub mod Releasing

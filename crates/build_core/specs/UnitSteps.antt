@@ -76,7 +76,7 @@ pub record IsUnreadable (b : Base) (build : Build) (n : ℕ) (unit : Unit) (faul
 
 -- what comes next for unit n, which has no outcome
 abbrev pub IsNext : Base → Build → ℕ → Unit → UnitStep → Type 0
-IsNext b build n unit next.Settled = ⊥
+IsNext b build n unit next.Concluded = ⊥
 IsNext b build n unit (next.NotReady m) = Awaits build unit m
 IsNext b build n unit (next.Settle end) = EndsEarly (first_rows build.rows b) build unit end
 IsNext b build n unit (next.Keep id) = Keeps b build n unit id
@@ -93,5 +93,5 @@ pub record Waits (b : Base) (build : Build) (n : ℕ) (step : UnitStep) : Type 0
 
 -- What comes next for unit n of a build: nothing where it has its outcome.
 abbrev pub IsStep : Base → Build → ℕ → UnitStep → Type 0
-IsStep b build n next.Settled = is_outcome (came_to build n) ≡ true
+IsStep b build n next.Concluded = is_outcome (came_to build n) ≡ true
 IsStep b build n step = Waits b build n step

@@ -1,4 +1,4 @@
-// The active builds: which units a build has, and what they have come to.
+//! The active builds: which units a build has, and what they have come to.
 
 ghost use Rattle.std.specs.Prelude.{◌≡◌, ◌<◌, [], true, false, Some, length, option_copied, option_map, IfOk, IfSome};
 ghost use Rattle.legal_history.specs.Builds.Active.{came_to, is_outcome, object_of, unit_with};
@@ -25,7 +25,7 @@ pub enum Came {
     /// Its script was started.
     Started,
     /// It ended without a row.
-    Ended(UnitEnd),
+    Concluded(UnitEnd),
     /// It was given the object of this row.
     Given(u64),
 }
@@ -200,7 +200,10 @@ impl ActiveBuild {
     pub(crate) fn is_over(&self, index: usize) -> bool
         ensures { result ≡ is_outcome (came_to self.now index) }
     {
-        matches!(self.came_at(index), Some(Came::Ended(_) | Came::Given(_)))
+        matches!(
+            self.came_at(index),
+            Some(Came::Concluded(_) | Came::Given(_))
+        )
     }
 
     /// Whether a unit has its outcome.
@@ -216,7 +219,7 @@ impl ActiveBuild {
     {
         match self.came_at(index)? {
             Came::Given(id) => Some(*id),
-            Came::Ended(UnitEnd::Kept(id)) => Some(*id),
+            Came::Concluded(UnitEnd::Kept(id)) => Some(*id),
             _ => None,
         }
     }

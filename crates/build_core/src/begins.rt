@@ -1,6 +1,6 @@
-// The decision on a clearmake: the build that begins, or its first refusal.
+//! The decision on a clearmake: the build that begins, or its first refusal.
 
-ghost use Rattle.std.specs.Prelude.{◌≡◌, ℕ, ◌+◌, ◌∷◌, [], ◌<◌, ◌≤◌, ◌^◌, length, true, option_copied, IsSome, IfOk, IfNone};
+ghost use Rattle.std.specs.Prelude.{◌≡◌, ℕ, ◌+◌, ◌∷◌, [], ◌<◌, ◌≤◌, ◌^◌, length, true, option_copied, IfOk, IfNone};
 ghost use Rattle.legal_history.specs.Base.Fits.{row_limit};
 ghost use Rattle.cc_names.specs.Answers.{Gives};
 ghost use Rattle.cc_names.specs.Commands.{builds, view_of};
@@ -11,7 +11,6 @@ ghost use Rattle.legal_history.specs.Commands.Decisions.{Scene, first_refusal, n
 ghost use Rattle.legal_history.specs.Builds.Consistency.{InOrder};
 ghost use Rattle.legal_history.specs.Builds.Fresh.{texts};
 ghost use Rattle.legal_history.specs.Commands.ObjectLines.{clearmake, clearmake_tests};
-ghost use Rattle.legal_history.specs.Base.Views.{view_row};
 ghost use Rattle.make_text.specs.Graphs.{units};
 ghost use Rattle.build_core.specs.BuildForms.{IsBuildFormed};
 ghost use Rattle.build_core.specs.Plans.{Meets, AreUnits, Begun, Plans};
@@ -31,12 +30,11 @@ use std::alloc::Global;
 use std::hash::RandomState;
 use view_lookup::{FirstRows, ROW_LIMIT, text_at, view_row};
 
-// The texts of the files of a view that there is.
+// The texts of the files of a view.
 #[derive(Drop)]
 struct ViewTexts<'a> {
     rows: &'a FirstRows<'a>,
     owner: &'a Name,
-    ghost there: { IsSome (view_row rows.now owner.now) },
 }
 
 impl Texts for ViewTexts<'_> {
@@ -50,7 +48,7 @@ impl Texts for ViewTexts<'_> {
     }
 }
 
-/// The units of a build in a view that there is, over the view's files.
+/// The units of a build in a view, over the view's files.
 fn units_in(
     alloc: Global,
     hashing: RandomState,
@@ -60,7 +58,6 @@ fn units_in(
     macros: &[Macro],
     goals: &[Path],
 ) -> Result<Graph, Or<Refusal>>
-    requires view { IsSome (view_row rows.now view.now) }
     ensures { Gives result
         (units (texts rows.now view.now) (option_copied file.entry) macros.now goals.now) }
 {
@@ -74,7 +71,6 @@ fn refusal_of_view(rows: &FirstRows<'_>, view: &Name, busy: Option<Tag>) -> Opti
         → scene.base ≡ rows.now
         → building scene.active view.now ≡ busy
         → result ≡ first_refusal (clearmake_tests scene view.now) }
-    ensures view { IfNone result (IsSome (view_row rows.now view.now)) }
 {
     if view_row(rows, view).is_none() {
         return Some(Refusal::NoView);
@@ -120,7 +116,6 @@ fn begun(
         (clearmake scene view.now (option_copied file.entry) macros.now goals.now) }
     ensures formed { IfOk result AreUnits }
     ensures in_order { IfOk result InOrder }
-    ensures view { IfOk result (λ units. IsSome (view_row rows.now view.now)) }
     ensures room { IfOk result (λ units. taken + length units ≤ row_limit) }
 {
     if let Some(refusal) = refusal_of_view(rows, view, busy) {
@@ -150,7 +145,6 @@ pub fn plan_build(
     ensures planned { (scene : Scene)
         → Meets scene rows.now (view_of command.now) occasion.busy occasion.taken
         → Plans occasion.tag scene command.now result }
-    ensures view { IfOk result (λ build. IsSome (view_row rows.now build.view)) }
     ensures formed { IfOk result (λ build. IsBuildFormed build) }
     ensures room { IfOk result (λ build. occasion.taken + length build.units ≤ row_limit) }
 {

@@ -1,12 +1,11 @@
-// What a unit of a build comes to without a run.
+//! What a unit of a build comes to without a run.
 
-ghost use Rattle.std.specs.Prelude.{◌≡◌, ◌<◌, ◌^◌, Bool, true, length, find, option_copied, IfOk, IfSome, IsSome};
+ghost use Rattle.std.specs.Prelude.{◌≡◌, ◌<◌, ◌^◌, Bool, true, length, find, option_copied, IfOk, IfSome};
 ghost use Rattle.make_text.specs.Graphs.{first_target};
 ghost use Rattle.legal_history.specs.Commands.FileLines.{parent};
 ghost use Rattle.legal_history.specs.Builds.Fresh.{sees_directory, sees_file};
 ghost use Rattle.legal_history.specs.Builds.Serials.{is_missing, is_bad, standing_or_file, no_directory, no_script, outside};
 ghost use Rattle.legal_history.specs.Builds.Turns.{standing_of_unit, early_in};
-ghost use Rattle.legal_history.specs.Base.Views.{view_row};
 
 use crate::active::{ActiveBuild, Came};
 use cc_names::memory::NoMemory;
@@ -19,7 +18,6 @@ use view_lookup::{FirstRows, file_at, is_directory};
 
 /// Whether a path is neither a unit's nor a file.
 fn is_missing(rows: &FirstRows<'_>, build: &ActiveBuild, path: &Path) -> bool
-    requires view { IsSome (view_row rows.now build.now.view) }
     ensures { result
         ≡ is_missing
         (standing_or_file (sees_file rows.now build.now.view path.now)
@@ -38,7 +36,7 @@ fn is_bad(build: &ActiveBuild, path: &Path) -> bool
     };
     matches!(
         build.came_to(number),
-        Some(Came::Ended(UnitEnd::Failed(_) | UnitEnd::Blocked(_)))
+        Some(Came::Concluded(UnitEnd::Failed(_) | UnitEnd::Blocked(_)))
     )
 }
 
@@ -47,7 +45,6 @@ fn first_missing<'a>(
     build: &ActiveBuild,
     paths: &'a [Path],
 ) -> Option<&'a Path>
-    requires view { IsSome (view_row rows.now build.now.view) }
     ensures { option_copied result
         ≡ find
         (λ path.
@@ -96,7 +93,6 @@ fn outside(
     build: &ActiveBuild,
     paths: &[Path],
 ) -> Result<Option<Path>, NoMemory>
-    requires { IsSome (view_row rows.now build.now.view) }
     ensures { IfOk result
         (λ found. found ≡ outside (sees_directory rows.now build.now.view) paths.now) }
 {
@@ -115,7 +111,6 @@ fn no_directory(
     build: &ActiveBuild,
     unit: &Unit,
 ) -> Result<Option<UnitEnd>, NoMemory>
-    requires { IsSome (view_row rows.now build.now.view) }
     ensures { IfOk result
         (λ end.
         end
@@ -160,7 +155,6 @@ pub(crate) fn early(
     build: &ActiveBuild,
     unit: &Unit,
 ) -> Result<Option<UnitEnd>, NoMemory>
-    requires view { IsSome (view_row rows.now build.now.view) }
     ensures { IfOk result (λ end. end ≡ early_in rows.now build.now unit.now) }
 {
     if let Some(end) = no_directory(alloc, rows, build, unit)? {

@@ -1,22 +1,22 @@
-// Builds: from a clearmake command to the units that it runs, and what comes next for each of them.
-//
-// What it is for: `plan_build` decides a clearmake: `graph` says which units its build has, over the files of its view, or
-// why it is refused. An `ActiveBuild` keeps what its units have come to; `step` says what comes next for a unit, `run_unit`
-// runs its script over what the unit sees, of which `fetch_for_unit` answers one path, `released` says which units can be
-// driven once it has its outcome, `reusable` says which object it may reuse in place of a run, `publish_row` makes the row
-// of what the run gave, `wink_row` that by which the view winks an object in, and `reply_of` says what a build that has
-// ended is replied.
-//
-// What it promises: a clearmake is decided as the model decides it, and what it begins is formed. The units, or the refusal
-// in their place, are those of the definition of the units of a build, for any files, makefile, macros and goals. An active
-// build is the model's, each step is one that the model lets the unit take, what a script finds is what the model lets the
-// unit see, and a run and its row, and the object that it may reuse, are those that the model has for the unit. A reply is
-// the model's.
-//
-// What it stands on: `clearmake` for what builders on threads ask of a build, `make_text` for makefiles and the definition
-// of units, `make_graph` for the units of a makefile that was read, `view_lookup` for what a view sees, `build_script` for
-// scripts, `session_text` for the form of commands, `carried_out` for the deeds of its rows, `reply_text` for digests,
-// `legal_history` for the model of builds and of their replies, `cc_names` for paths, units and refusals.
+//! Builds: from a clearmake command to the units that it runs, and what comes next for each of them.
+//!
+//! What it is for: `plan_build` decides a clearmake: `graph` says which units its build has, over the files of its view, or
+//! why it is refused. An `ActiveBuild` keeps what its units have come to; `step` says what comes next for a unit, `run_unit`
+//! runs its script over what the unit sees, of which `fetch_for_unit` answers one path, `released` says which units can be
+//! driven once it has its outcome, `reusable` says which object it may reuse in place of a run, `publish_row` makes the row
+//! of what the run gave, `wink_row` that by which the view winks an object in, and `reply_of` says what a build that has
+//! ended is replied.
+//!
+//! What it promises: a clearmake is decided as the model decides it, and what it begins is formed. The units, or the refusal
+//! in their place, are those of the definition of the units of a build, for any files, makefile, macros and goals. An active
+//! build is the model's, each step is one that the model lets the unit take, what a script finds is what the model lets the
+//! unit see, and a run and its row, and the object that it may reuse, are those that the model has for the unit. A reply is
+//! the model's.
+//!
+//! What it stands on: `clearmake` for what builders on threads ask of a build, `make_text` for makefiles and the definition
+//! of units, `make_graph` for the units of a makefile that was read, `view_lookup` for what a view sees, `build_script` for
+//! scripts, `session_text` for the form of commands, `carried_out` for the deeds of its rows, `reply_text` for digests,
+//! `legal_history` for the model of builds and of their replies, `cc_names` for paths, units and refusals.
 #![tactic(auto)]
 
 mod active;

@@ -1,4 +1,4 @@
-// The units of a build, from its command and the files of its view.
+//! The units of a build, from its command and the files of its view.
 
 ghost use Rattle.std.specs.Prelude.{◌≡◌, Ok, is_some, option_copied, IfOk};
 ghost use Rattle.cc_names.specs.Answers.{Gives};

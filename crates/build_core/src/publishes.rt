@@ -1,13 +1,11 @@
-// The row that the run of a unit's script publishes.
+//! The row that the run of a unit's script publishes.
 
-ghost use Rattle.std.specs.Prelude.{◌≡◌, ◌<◌, ◌≤◌, ◌^◌, true, Some, length, map, IfOk, IsSome};
+ghost use Rattle.std.specs.Prelude.{◌≡◌, ◌<◌, ◌≤◌, ◌^◌, true, Some, length, map, IfOk};
 ghost use Rattle.legal_history.specs.Stories.Lawful.{last_moment};
 ghost use Rattle.carried_out.specs.CarriedOut.{is_made};
 ghost use Rattle.cc_names.specs.declared.units.Unit as units;
-ghost use Rattle.legal_history.specs.Base.Rows.{first_rows};
 ghost use Rattle.legal_history.specs.Builds.Active.{unit_at};
 ghost use Rattle.legal_history.specs.Builds.Choices.{as_entry, in_order, visible};
-ghost use Rattle.legal_history.specs.Base.Views.{view_row};
 ghost use Rattle.build_core.specs.Publishing.{CanPublish, RunGave, IsPublishOf};
 
 use crate::active::ActiveBuild;
@@ -32,7 +30,6 @@ fn rows_read(
     reads: &[Path],
 ) -> Result<BTreeMap<Path, u64>, NoMemory>
     requires unit { unit < length build.now.units }
-    requires view { IsSome (view_row (first_rows build.now.rows rows.now) build.now.view) }
     ensures { (it : units.Unit)
         → unit_at build.now unit ≡ Some it
         → IfOk result
@@ -74,7 +71,6 @@ pub fn publish_row(
     reads: &[Path],
 ) -> Result<Row, NoMemory>
     requires unit { unit < length build.now.units }
-    requires view { IsSome (view_row (first_rows build.now.rows rows.now) build.now.view) }
     requires moment { moment ≤ last_moment }
     requires formed { (it : units.Unit)
         → unit_at build.now unit ≡ Some it

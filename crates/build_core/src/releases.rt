@@ -1,4 +1,4 @@
-// Which units a unit of an active build has released.
+//! Which units a unit of an active build has released.
 
 ghost use Rattle.std.specs.Prelude.{◌≡◌, ◌<◌, IfOk, filter, length};
 ghost use Rattle.std.specs.List.{list_all, range_with_len};

@@ -1,4 +1,4 @@
-// The reply of a build that has ended: its units with objects at each of their targets, the others at their first.
+//! The reply of a build that has ended: its units with objects at each of their targets, the others at their first.
 
 ghost use Rattle.std.specs.Prelude.{◌≡◌, ◌++◌, ◌<◌, ◌^◌, [], true, Some, length, option_copied, IfOk, OnOk};
 ghost use Rattle.legal_history.specs.Builds.Replied.{digest_at, is_of_tag, is_own, word_of_object, word_of_end, word_of_came, told_targets, line_before, lines_of, lines_from, reply_of};
@@ -94,7 +94,7 @@ fn word_of(
 {
     match build.came_to(unit) {
         None | Some(Came::Started) => Ok(None),
-        Some(Came::Ended(end)) => Ok(Some(word_of_end(alloc, rows, path, end)?)),
+        Some(Came::Concluded(end)) => Ok(Some(word_of_end(alloc, rows, path, end)?)),
         Some(Came::Given(id)) => Ok(Some(word_of_given(rows, build, path, *id))),
     }
 }

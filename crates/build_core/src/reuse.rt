@@ -1,10 +1,8 @@
-// Which object a unit of a build may reuse in place of a run of its script.
+//! Which object a unit of a build may reuse in place of a run of its script.
 
-ghost use Rattle.std.specs.Prelude.{◌≡◌, ◌<◌, false, Some, length, IfOk, IsSome};
+ghost use Rattle.std.specs.Prelude.{◌≡◌, ◌<◌, false, Some, length, IfOk};
 ghost use Rattle.std.specs.List.{list_all};
 ghost use Rattle.cc_names.specs.declared.units.Unit as units;
-ghost use Rattle.legal_history.specs.Base.Rows.{first_rows};
-ghost use Rattle.legal_history.specs.Base.Views.{view_row};
 ghost use Rattle.legal_history.specs.Builds.Active.{unit_at};
 ghost use Rattle.legal_history.specs.Builds.Choices.{visible};
 ghost use Rattle.legal_history.specs.Builds.Reuse.{agrees, entry_agrees, held_at_all, if_matches, matches, newest_match, reusable};
@@ -54,7 +52,6 @@ struct Compared<'a> {
     closure: &'a Closure,
     ghost is: { unit_at build.now number ≡ Some unit.now },
     ghost needs: { AreNeeds build.now number closure.now },
-    ghost view: { IsSome (view_row (first_rows build.now.rows rows.now) build.now.view) },
 }
 
 impl RecordTest for Compared<'_> {
@@ -175,7 +172,6 @@ pub(crate) fn choose(
     unit: u32,
 ) -> Result<Chosen, NoMemory>
     requires unit { unit < length build.now.units }
-    requires view { IsSome (view_row (first_rows build.now.rows rows.now) build.now.view) }
     ensures { (it : units.Unit)
         → unit_at build.now unit ≡ Some it
         → IfOk result (IsChosen rows.now build.now unit it) }
@@ -209,7 +205,6 @@ pub fn reusable(
     unit: u32,
 ) -> Result<Option<u64>, NoMemory>
     requires unit { unit < length build.now.units }
-    requires view { IsSome (view_row (first_rows build.now.rows rows.now) build.now.view) }
     ensures { (it : units.Unit)
         → unit_at build.now unit ≡ Some it
         → IfOk result (λ found. found ≡ reusable rows.now build.now unit it) }

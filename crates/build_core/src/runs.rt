@@ -1,14 +1,12 @@
-// The run of a unit's script, over the files that the unit sees.
+//! The run of a unit's script, over the files that the unit sees.
 
-ghost use Rattle.std.specs.Prelude.{◌≡◌, ◌<◌, ◌^◌, true, Some, Ok, length, IfOk, IsSome};
+ghost use Rattle.std.specs.Prelude.{◌≡◌, ◌<◌, ◌^◌, true, Some, Ok, length, IfOk};
 ghost use Rattle.cc_names.specs.declared.units.Unit as units;
 ghost use Rattle.build_script.specs.Ended.{ran_of};
 ghost use Rattle.build_script.specs.Lines.{script_of};
-ghost use Rattle.legal_history.specs.Base.Rows.{first_rows};
 ghost use Rattle.legal_history.specs.Builds.Active.{unit_at};
 ghost use Rattle.legal_history.specs.Builds.Choices.{here};
 ghost use Rattle.legal_history.specs.Builds.Fresh.{script_text};
-ghost use Rattle.legal_history.specs.Base.Views.{view_row};
 ghost use Rattle.build_core.specs.Sights.{AreNeeds};
 
 use crate::active::ActiveBuild;
@@ -34,7 +32,6 @@ struct UnitFiles<'a> {
     closure: &'a Closure,
     ghost within: { unit < length build.now.units },
     ghost needs: { AreNeeds build.now unit closure.now },
-    ghost view: { IsSome (view_row (first_rows build.now.rows rows.now) build.now.view) },
 }
 
 impl Files for UnitFiles<'_> {
@@ -76,7 +73,6 @@ pub fn run_unit(
     targets: &[Path],
 ) -> Result<Ended, NoMemory>
     requires unit { unit < length build.now.units }
-    requires view { IsSome (view_row (first_rows build.now.rows rows.now) build.now.view) }
     requires script { (it : units.Unit)
         → unit_at build.now unit ≡ Some it
         → script_of (script_text it.script) ≡ Ok script.now }

@@ -1,12 +1,11 @@
-// What the script of a unit sees.
+//! What the script of a unit sees.
 
-ghost use Rattle.std.specs.Prelude.{◌≡◌, ◌<◌, Some, length, option_and_then, option_copied, IsSome};
+ghost use Rattle.std.specs.Prelude.{◌≡◌, ◌<◌, Some, length, option_and_then, option_copied};
 ghost use Rattle.cc_names.specs.declared.units.Unit as units;
 ghost use Rattle.legal_history.specs.Base.Rows.{first_rows};
 ghost use Rattle.legal_history.specs.Base.Seen.{file_at};
 ghost use Rattle.legal_history.specs.Builds.Active.{unit_at};
 ghost use Rattle.legal_history.specs.Builds.Choices.{visible};
-ghost use Rattle.legal_history.specs.Base.Views.{view_row};
 ghost use Rattle.clearmake.specs.Sights.{IsFetched, standing_at, standing_of, stands};
 ghost use Rattle.build_core.specs.Sights.{object_marked, AreNeeds};
 
@@ -34,7 +33,6 @@ fn object_in(build: &ActiveBuild, closure: &Closure, path: &Path) -> Option<u64>
 
 /// The file of the view at a path as the build began.
 fn file_in(rows: &FirstRows<'_>, build: &ActiveBuild, path: &Path) -> Option<u64>
-    requires { IsSome (view_row (first_rows build.now.rows rows.now) build.now.view) }
     ensures { result ≡ file_at (first_rows build.now.rows rows.now) build.now.view path.now }
 {
     let rows = first_rows(rows, build.rows());
@@ -54,7 +52,6 @@ pub(crate) fn visible(
     closure: &Closure,
     path: &Path,
 ) -> Option<u64>
-    requires view { IsSome (view_row (first_rows build.now.rows rows.now) build.now.view) }
     requires needs { AreNeeds build.now unit closure.now }
     ensures { (it : units.Unit)
         → unit_at build.now unit ≡ Some it
@@ -90,7 +87,6 @@ pub(crate) fn fetch(
     closure: &Closure,
     path: &Path,
 ) -> Got
-    requires view { IsSome (view_row (first_rows build.now.rows rows.now) build.now.view) }
     requires needs { AreNeeds build.now unit closure.now }
     ensures { (it : units.Unit)
         → unit_at build.now unit ≡ Some it
@@ -111,7 +107,6 @@ pub fn fetch_for_unit(
     path: &Path,
 ) -> Got
     requires unit { unit < length build.now.units }
-    requires view { IsSome (view_row (first_rows build.now.rows rows.now) build.now.view) }
     ensures { IsFetched result (standing_at rows.now build.now unit path.now) }
 {
     match build.needs(alloc, unit) {

@@ -1,13 +1,12 @@
-// What comes next for a unit of an active build.
+//! What comes next for a unit of an active build.
 
-ghost use Rattle.std.specs.Prelude.{◌≡◌, ◌<◌, ◌^◌, ℕ, true, false, Some, length, IfOk, IfSome, IsSome};
+ghost use Rattle.std.specs.Prelude.{◌≡◌, ◌<◌, ◌^◌, ℕ, true, false, Some, length, IfOk, IfSome};
 ghost use Rattle.cc_names.specs.Answers.{Gives};
 ghost use Rattle.build_script.specs.Lines.{script_of};
 ghost use Rattle.legal_history.specs.Base.Rows.{Base, first_rows};
 ghost use Rattle.legal_history.specs.Builds.Active.{Build, came_to, is_outcome, unit_at};
 ghost use Rattle.legal_history.specs.Builds.Fresh.{script_text};
 ghost use Rattle.legal_history.specs.Builds.Turns.{early_in};
-ghost use Rattle.legal_history.specs.Base.Views.{view_row};
 ghost use Rattle.build_core.specs.UnitSteps.{first_awaited, IsNext, IsOpen, IsStep, IsToRun};
 
 use crate::active::ActiveBuild;
@@ -28,7 +27,7 @@ use view_lookup::{FirstRows, first_rows};
 #[derive(Drop)]
 pub enum UnitStep {
     /// The unit has its outcome.
-    Settled,
+    Concluded,
     /// It waits for this unit, the first of those that make its prerequisites and have no outcome.
     NotReady(u32),
     /// It ends without a run and without an object.
@@ -106,7 +105,6 @@ fn reuse_or_start(
     unit: &Unit,
 ) -> Result<UnitStep, NoMemory>
     requires unit { unit_at build.now number ≡ Some unit.now }
-    requires view { IsSome (view_row (first_rows build.now.rows rows.now) build.now.view) }
     requires open_unit { IsOpen (first_rows build.now.rows rows.now) build.now unit.now }
     ensures { IfOk result (λ step. IsNext rows.now build.now number unit.now step) }
 {
@@ -124,7 +122,6 @@ fn end_without_run(
     build: &ActiveBuild,
     unit: &Unit,
 ) -> Result<Option<UnitEnd>, NoMemory>
-    requires { IsSome (view_row (first_rows build.now.rows rows.now) build.now.view) }
     ensures { IfOk result
         (λ end.
         end
@@ -144,7 +141,6 @@ fn next(
 ) -> Result<UnitStep, NoMemory>
     requires unit { unit_at build.now number ≡ Some unit.now }
     requires few { length build.now.units < 2 ^ 32 }
-    requires view { IsSome (view_row (first_rows build.now.rows rows.now) build.now.view) }
     ensures { IfOk result (λ step. IsNext rows.now build.now number unit.now step) }
 {
     if let Some(other) = first_awaited(build, unit.prerequisites.as_slice()) {
@@ -170,11 +166,10 @@ pub fn step(
 ) -> Result<UnitStep, NoMemory>
     requires unit { unit < length build.now.units }
     requires few { length build.now.units < 2 ^ 32 }
-    requires view { IsSome (view_row (first_rows build.now.rows rows.now) build.now.view) }
     ensures { IfOk result (λ step. IsStep rows.now build.now unit step) }
 {
     if build.has_outcome(unit) {
-        return Ok(UnitStep::Settled);
+        return Ok(UnitStep::Concluded);
     }
     next(alloc, rows, build, unit, &build.units()[unit as usize])
 }

@@ -1,4 +1,4 @@
-// The row by which the view of a build winks in an object.
+//! The row by which the view of a build winks in an object.
 
 ghost use Rattle.std.specs.Prelude.{◌≡◌, ◌≤◌, true, IfOk};
 ghost use Rattle.cc_names.specs.declared.rows.Deed.TheVariants as deeds;

@@ -1,4 +1,4 @@
-// Builds over a view of one file.
+//! Builds over a view of one file.
 
 ghost use Rattle.std.specs.Prelude.{Some, None, if◌then◌else◌};
 ghost use Rattle.std.specs.Str.{bytes_eq};

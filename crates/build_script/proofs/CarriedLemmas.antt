@@ -1,11 +1,12 @@
 -- How parts of a run that were carried out follow each other.
-use Rattle.std.proofs.Common.{◌≡◌, true, ℕ, Option, Some, None, Bool, Result, Ok, Err, List, [], ◌∷◌, refl, ap, sym, ◌∙◌, ◌<◌, ◌≤◌, subst, inl, inr, arith}
+use Rattle.std.proofs.Common.{◌≡◌, true, ℕ, Option, Some, None, Bool, Result, Ok, Err, List, [], ◌∷◌, refl, ap, sym, ◌∙◌, ◌<◌, ◌≤◌, subst, arith}
 use Rattle.std.specs.List.{AllByRecursion}
+use Rattle.cc_names.specs.Counts.{Rose}
 use Rattle.cc_names.specs.Files.{Files}
 use Rattle.cc_names.specs.declared.refusals.ScriptFault.{ScriptFault}
 use Rattle.build_script.specs.Run.{Asking, Done, Asks, Traced, traced, noted, and_then, unless_fault, see}
-use Rattle.build_script.specs.Parts.{Halted, Went, Carried, Gave, gives}
-use Rattle.build_script.specs.Standings.{Standing, Stays, HasBroken, AreAmong, IsAmong, texts}
+use Rattle.build_script.specs.Parts.{Halted, Went, Performed, Gave, gives}
+use Rattle.build_script.specs.Standings.{Standing, Stays, AreAmong, IsAmong, texts}
 use Rattle.build_script.specs.declared.files.GivenUp.TheVariants.{Broken}
 use Rattle.build_script.specs.declared.halts.Halt.{Halt}
 use Rattle.build_script.specs.declared.halts.Halt.TheVariants.{Fault, GivenUp, NoMemory}
@@ -18,9 +19,8 @@ traced-and_then files reads (Done a) next = refl
 traced-and_then files reads (Asks path more) next = traced-and_then files (noted reads path) (more (files path)) next
 
 -- answers that were `Broken` behind a count were so behind a lower one
-broken_from : (lower old new : ℕ) → lower ≤ old → HasBroken old new → HasBroken lower new
-broken_from lower old new h (inl rose) = inl (omega arith)
-broken_from lower old new h (inr last) = inr last
+broken_from : (lower old new : ℕ) → lower ≤ old → Rose old new → Rose lower new
+broken_from lower old new h rose = λ below. omega (arith, h, rose below)
 
 -- what ended early did so from where it is traced the same, and from a lower count
 halted_along : {A : Type 0} (files : Files) (before middle after : List (List ℕ)) (whole rest : Asking (Result A ScriptFault)) (halt : Halt) (lower old new : ℕ) →
@@ -54,7 +54,7 @@ first_among {B = B} files before paths first next h =
 module _ {F : Type 0} (stands : F → List ℕ → Option Standing) (broken : F → ℕ) (follows : List (List ℕ) → F → F → Type 0) where
   -- nothing done yet
   pub carried_here : {X A : Type 0} (reflexive : (paths : List (List ℕ)) (files : F) → follows paths files files) (reads : List (List ℕ)) (asking : X → Asking (Result A ScriptFault)) (x : X) (files : F) →
-      Carried stands broken follows reads (asking x) asking (Ok x) reads files files
+      Performed stands broken follows reads (asking x) asking (Ok x) reads files files
   carried_here reflexive reads asking x files = record {
     stays = record { meaning = refl; count = omega arith };
     asked = λ paths among. reflexive paths files;
@@ -64,8 +64,8 @@ module _ {F : Type 0} (stands : F → List ℕ → Option Standing) (broken : F 
   -- one part after another
   pub carried_on : {X Y A : Type 0} (transitive : (paths : List (List ℕ)) (one two three : F) → follows paths one two → follows paths two three → follows paths one three)
       (before middle after : List (List ℕ)) (asking : Asking (Result A ScriptFault)) (next : X → Asking (Result A ScriptFault)) (x : X) (then : Y → Asking (Result A ScriptFault)) (result : Result Y Halt) (old mid new : F) →
-      Carried stands broken follows before asking next (Ok x) middle old mid → Carried stands broken follows middle (next x) then result after mid new →
-      Carried stands broken follows before asking then result after old new
+      Performed stands broken follows before asking next (Ok x) middle old mid → Performed stands broken follows middle (next x) then result after mid new →
+      Performed stands broken follows before asking then result after old new
   carried_on transitive before middle after asking next x then result old mid new one two = record {
     stays = record { meaning = two.stays.meaning ∙ one.stays.meaning; count = omega (arith, one.stays.count, two.stays.count) };
     asked = λ paths among. transitive paths old mid new (one.asked paths among)
@@ -78,8 +78,8 @@ module _ {F : Type 0} (stands : F → List ℕ → Option Standing) (broken : F 
 
   -- a part as the first of two
   pub carried_lifted : {X A B : Type 0} (before after : List (List ℕ)) (first : Asking (Result A ScriptFault)) (next : X → Asking (Result A ScriptFault)) (more : A → Asking (Result B ScriptFault)) (result : Result X Halt) (old new : F) →
-      Carried stands broken follows before first next result after old new →
-      Carried stands broken follows before (and_then first (unless_fault more)) (λ x. and_then (next x) (unless_fault more)) result after old new
+      Performed stands broken follows before first next result after old new →
+      Performed stands broken follows before (and_then first (unless_fault more)) (λ x. and_then (next x) (unless_fault more)) result after old new
   carried_lifted before after first next more result old new one = record {
     stays = one.stays;
     asked = λ paths among. one.asked paths (first_among (texts (stands old)) before paths first (unless_fault more) among);
@@ -88,7 +88,7 @@ module _ {F : Type 0} (stands : F → List ℕ → Option Standing) (broken : F 
 
   -- a part that asks for nothing
   pub carried_pure : {X A : Type 0} (reflexive : (paths : List (List ℕ)) (files : F) → follows paths files files) (reads : List (List ℕ)) (value : Result A ScriptFault) (shown : X → A) (result : Result X Halt) (files : F) →
-      Gave value shown result → Carried stands broken follows reads (Done value) (gives shown) result reads files files
+      Gave value shown result → Performed stands broken follows reads (Done value) (gives shown) result reads files files
   carried_pure {X = X} {A = A} reflexive reads value shown result files gave = record {
     stays = record { meaning = refl; count = omega arith };
     asked = λ paths among. reflexive paths files;
@@ -103,7 +103,7 @@ module _ {F : Type 0} (stands : F → List ℕ → Option Standing) (broken : F 
 
   -- a part that is given up for want of memory before it asks
   pub carried_given_up : {X A : Type 0} (reflexive : (paths : List (List ℕ)) (files : F) → follows paths files files) (reads : List (List ℕ)) (asking : Asking (Result A ScriptFault)) (next : X → Asking (Result A ScriptFault)) (files : F) →
-      Carried stands broken follows reads asking next (Err NoMemory) reads files files
+      Performed stands broken follows reads asking next (Err NoMemory) reads files files
   carried_given_up reflexive reads asking next files = record {
     stays = record { meaning = refl; count = omega arith };
     asked = λ paths among. reflexive paths files;
@@ -112,14 +112,14 @@ module _ {F : Type 0} (stands : F → List ℕ → Option Standing) (broken : F 
 
   -- a part that ended early, wherever it would have gone on
   pub carried_early : {X Y A : Type 0} (before after : List (List ℕ)) (asking : Asking (Result A ScriptFault)) (next : X → Asking (Result A ScriptFault)) (then : Y → Asking (Result A ScriptFault)) (halt : Halt) (old new : F) →
-      Carried stands broken follows before asking next (Err halt) after old new → Carried stands broken follows before asking then (Err halt) after old new
+      Performed stands broken follows before asking next (Err halt) after old new → Performed stands broken follows before asking then (Err halt) after old new
   carried_early before after asking next then halt old new one = record { stays = one.stays; asked = one.asked; went = one.went }
 
   -- one path that is asked for
   pub carried_ask : {A : Type 0} (reads : List (List ℕ)) (path : List ℕ) (next : Option (List ℕ) → Asking (Result A ScriptFault)) {X : Type 0} (then : X → Asking (Result A ScriptFault)) (result : Result X Halt) (old new : F) →
       Stays stands broken old new → ((paths : List (List ℕ)) → IsAmong path paths → follows paths old new) →
       Went (texts (stands old)) reads (Asks path next) then result (noted reads path) (broken old) (broken new) →
-      Carried stands broken follows reads (Asks path next) then result (noted reads path) old new
+      Performed stands broken follows reads (Asks path next) then result (noted reads path) old new
   carried_ask reads path next then result old new stays asked went = record {
     stays = stays;
     asked = λ paths among. asked paths
@@ -132,8 +132,8 @@ pub carried_then : {F X Y A B : Type 0} {stands : F → List ℕ → Option Stan
     {before middle after : List (List ℕ)} {first : Asking (Result A ScriptFault)} {next : X → Asking (Result A ScriptFault)} {x : X} {then : Y → Asking (Result B ScriptFault)} {result : Result Y Halt} {old mid new : F}
     (transitive : (paths : List (List ℕ)) (one two three : F) → follows paths one two → follows paths two three → follows paths one three)
     (more : A → Asking (Result B ScriptFault)) →
-    Carried stands broken follows before first next (Ok x) middle old mid → Carried stands broken follows middle (and_then (next x) (unless_fault more)) then result after mid new →
-    Carried stands broken follows before (and_then first (unless_fault more)) then result after old new
+    Performed stands broken follows before first next (Ok x) middle old mid → Performed stands broken follows middle (and_then (next x) (unless_fault more)) then result after mid new →
+    Performed stands broken follows before (and_then first (unless_fault more)) then result after old new
 carried_then {stands = stands} {broken = broken} {follows = follows} {before = before} {middle = middle} {after = after} {first = first} {next = next} {x = x} {then = then} {result = result} {old = old} {mid = mid} {new = new} transitive more one two =
     carried_on stands broken follows transitive before middle after (and_then first (unless_fault more)) (λ x. and_then (next x) (unless_fault more)) x then result old mid new
     (carried_lifted stands broken follows before middle first next more (Ok x) old mid one) two
@@ -142,8 +142,8 @@ carried_then {stands = stands} {broken = broken} {follows = follows} {before = b
 pub carried_failed : {F X Y A B : Type 0} {stands : F → List ℕ → Option Standing} {broken : F → ℕ} {follows : List (List ℕ) → F → F → Type 0}
     {before after : List (List ℕ)} {first : Asking (Result A ScriptFault)} {next : X → Asking (Result A ScriptFault)} {halt : Halt} {old new : F}
     (more : A → Asking (Result B ScriptFault)) (then : Y → Asking (Result B ScriptFault)) →
-    Carried stands broken follows before first next (Err halt) after old new →
-    Carried stands broken follows before (and_then first (unless_fault more)) then (Err halt) after old new
+    Performed stands broken follows before first next (Err halt) after old new →
+    Performed stands broken follows before (and_then first (unless_fault more)) then (Err halt) after old new
 carried_failed {stands = stands} {broken = broken} {follows = follows} {before = before} {after = after} {first = first} {next = next} {halt = halt} {old = old} {new = new} more then one =
     carried_early stands broken follows before after (and_then first (unless_fault more)) (λ x. and_then (next x) (unless_fault more)) then halt old new
     (carried_lifted stands broken follows before after first next more (Err halt) old new one)
@@ -151,9 +151,9 @@ carried_failed {stands = stands} {broken = broken} {follows = follows} {before =
 -- the same by another name
 pub carried_as : {F X A : Type 0} {stands : F → List ℕ → Option Standing} {broken : F → ℕ} {follows : List (List ℕ) → F → F → Type 0}
     {before after : List (List ℕ)} {one other : Asking (Result A ScriptFault)} {next : X → Asking (Result A ScriptFault)} {result : Result X Halt} {old new : F} →
-    one ≡ other → Carried stands broken follows before one next result after old new → Carried stands broken follows before other next result after old new
+    one ≡ other → Performed stands broken follows before one next result after old new → Performed stands broken follows before other next result after old new
 carried_as {stands = stands} {broken = broken} {follows = follows} {before = before} {after = after} {next = next} {result = result} {old = old} {new = new} e carried =
-    subst (λ asking. Carried stands broken follows before asking next result after old new) e carried
+    subst (λ asking. Performed stands broken follows before asking next result after old new) e carried
 
 -- a text that is seen and then made something of
 pub seen_then : {A : Type 0} (own : Option (List ℕ)) (path : List ℕ) (more : Option (List ℕ) → Asking (Result A ScriptFault)) →
@@ -166,14 +166,14 @@ pub carried_step : {F X Y A B : Type 0} {stands : F → List ℕ → Option Stan
     {before middle after : List (List ℕ)} {whole : Asking (Result B ScriptFault)} {goes_on : Y → Asking (Result B ScriptFault)} {y : Y} {first : Asking (Result A ScriptFault)} {next : X → Asking (Result A ScriptFault)} {x : X} {old mid new : F}
     (transitive : (paths : List (List ℕ)) (one two three : F) → follows paths one two → follows paths two three → follows paths one three)
     (more : A → Asking (Result B ScriptFault)) →
-    Carried stands broken follows before whole goes_on (Ok y) middle old mid → goes_on y ≡ and_then first (unless_fault more) → Carried stands broken follows middle first next (Ok x) after mid new →
-    Carried stands broken follows before whole (λ (u : Unit {0}). and_then (next x) (unless_fault more)) (Ok tt) after old new
+    Performed stands broken follows before whole goes_on (Ok y) middle old mid → goes_on y ≡ and_then first (unless_fault more) → Performed stands broken follows middle first next (Ok x) after mid new →
+    Performed stands broken follows before whole (λ (u : Unit {0}). and_then (next x) (unless_fault more)) (Ok tt) after old new
 carried_step {stands = stands} {broken = broken} {follows = follows} {before = before} {middle = middle} {after = after} {whole = whole} {goes_on = goes_on} {y = y} {first = first} {next = next} {x = x} {old = old} {mid = mid} {new = new} transitive more one e two =
     carried_on stands broken follows transitive before middle after whole goes_on y (λ (u : Unit {0}). and_then (next x) (unless_fault more)) (Ok tt) old mid new one
     (carried_as (sym e) (passes (carried_lifted stands broken follows middle after first next more (Ok x) mid new two)))
   where
-    passes : Carried stands broken follows middle (and_then first (unless_fault more)) (λ z. and_then (next z) (unless_fault more)) (Ok x) after mid new →
-        Carried stands broken follows middle (and_then first (unless_fault more)) (λ (u : Unit {0}). and_then (next x) (unless_fault more)) (Ok tt) after mid new
+    passes : Performed stands broken follows middle (and_then first (unless_fault more)) (λ z. and_then (next z) (unless_fault more)) (Ok x) after mid new →
+        Performed stands broken follows middle (and_then first (unless_fault more)) (λ (u : Unit {0}). and_then (next x) (unless_fault more)) (Ok tt) after mid new
     passes c = record { stays = c.stays; asked = c.asked; went = c.went }
 
 -- one item that ended early, after those before it
@@ -181,8 +181,8 @@ pub carried_halt : {F X Y Z A B : Type 0} {stands : F → List ℕ → Option St
     {before middle after : List (List ℕ)} {whole : Asking (Result B ScriptFault)} {goes_on : Y → Asking (Result B ScriptFault)} {y : Y} {first : Asking (Result A ScriptFault)} {next : X → Asking (Result A ScriptFault)} {halt : Halt} {old mid new : F}
     (transitive : (paths : List (List ℕ)) (one two three : F) → follows paths one two → follows paths two three → follows paths one three)
     (more : A → Asking (Result B ScriptFault)) (then : Z → Asking (Result B ScriptFault)) →
-    Carried stands broken follows before whole goes_on (Ok y) middle old mid → goes_on y ≡ and_then first (unless_fault more) → Carried stands broken follows middle first next (Err halt) after mid new →
-    Carried stands broken follows before whole then (Err halt) after old new
+    Performed stands broken follows before whole goes_on (Ok y) middle old mid → goes_on y ≡ and_then first (unless_fault more) → Performed stands broken follows middle first next (Err halt) after mid new →
+    Performed stands broken follows before whole then (Err halt) after old new
 carried_halt {stands = stands} {broken = broken} {follows = follows} {before = before} {middle = middle} {after = after} {whole = whole} {goes_on = goes_on} {y = y} {first = first} {next = next} {halt = halt} {old = old} {mid = mid} {new = new} transitive more then one e two =
     carried_on stands broken follows transitive before middle after whole goes_on y then (Err halt) old mid new one (carried_as (sym e) (carried_failed more then two))
 
@@ -190,8 +190,8 @@ carried_halt {stands = stands} {broken = broken} {follows = follows} {before = b
 pub carried_over : {F X Y A : Type 0} {stands : F → List ℕ → Option Standing} {broken : F → ℕ} {follows : List (List ℕ) → F → F → Type 0}
     {before middle after : List (List ℕ)} {asking : Asking (Result A ScriptFault)} {next : X → Asking (Result A ScriptFault)} {x : X} {then : Y → Asking (Result A ScriptFault)} {result : Result Y Halt} {old mid new : F}
     (transitive : (paths : List (List ℕ)) (one two three : F) → follows paths one two → follows paths two three → follows paths one three) →
-    Carried stands broken follows before asking next (Ok x) middle old mid → Carried stands broken follows middle (next x) then result after mid new →
-    Carried stands broken follows before asking then result after old new
+    Performed stands broken follows before asking next (Ok x) middle old mid → Performed stands broken follows middle (next x) then result after mid new →
+    Performed stands broken follows before asking then result after old new
 carried_over {stands = stands} {broken = broken} {follows = follows} {before = before} {middle = middle} {after = after} {asking = asking} {next = next} {x = x} {then = then} {result = result} {old = old} {mid = mid} {new = new} transitive one two =
     carried_on stands broken follows transitive before middle after asking next x then result old mid new one two
 

@@ -9,13 +9,13 @@ use Rattle.cc_names.specs.Paths.{is_root}
 use Rattle.build_script.specs.Includes.{include_of, under}
 use Rattle.build_script.specs.Lines.{path_in}
 use Rattle.build_script.specs.Making.{includes, resumed}
-use Rattle.build_script.specs.Opens.{rest_of, rests_of}
-use Rattle.build_script.specs.Parts.{Carried, Gave, Halted}
+use Rattle.build_script.specs.OpenTexts.{rest_of, rests_of}
+use Rattle.build_script.specs.Parts.{Performed, Gave, Halted}
 use Rattle.build_script.specs.Run.{Asking, Done, Asks, and_then, unless_fault, Made, Output, Preprocessing, expanded, lines_expanded, line_expanded, included, said, depth_limit, traced}
 use Rattle.build_script.specs.Standings.{Standing, texts}
 use Rattle.build_script.specs.declared.halts.Halt.{Halt}
 use Rattle.build_script.specs.declared.halts.Halt.TheVariants.{Fault, GivenUp, NoMemory}
-use Rattle.build_script.specs.declared.opens.OpenText.{OpenText}
+use Rattle.build_script.specs.declared.open_texts.OpenText.{OpenText}
 use Rattle.build_script.proofs.CarriedLemmas.{carried_lifted, and_then-assoc, and_then-done}
 
 pub lt_true : (m n : ℕ) → m < n → nat_lt m n ≡ true
@@ -46,8 +46,8 @@ all_dropped (x ∷ items) (suc n) low = all_dropped items n (omega arith)
 pub carried_shown : {F X A B : Type 0} {stands : F → List ℕ → Option Standing} {broken : F → ℕ} {follows : List (List ℕ) → F → F → Type 0}
     {before after : List (List ℕ)} {first : Asking (Result A ScriptFault)} {next : X → Asking (Result A ScriptFault)} {result : Result X Halt} {old new : F}
     (more : A → Asking (Result B ScriptFault)) →
-    Carried stands broken follows before first next result after old new →
-    Carried stands broken follows before (and_then first (unless_fault more)) (λ x. and_then (next x) (unless_fault more)) result after old new
+    Performed stands broken follows before first next result after old new →
+    Performed stands broken follows before (and_then first (unless_fault more)) (λ x. and_then (next x) (unless_fault more)) result after old new
 carried_shown {stands = stands} {broken = broken} {follows = follows} {before = before} {after = after} {first = first} {next = next} {result = result} {old = old} {new = new} more one =
     carried_lifted stands broken follows before after first next more result old new one
 
@@ -60,14 +60,14 @@ expanded-lines (suc levels) pp text = refl
 pub carried_ended : {F X Y A : Type 0} {stands : F → List ℕ → Option Standing} {broken : F → ℕ} {follows : List (List ℕ) → F → F → Type 0}
     {before after : List (List ℕ)} {asking : Asking (Result A ScriptFault)} {next : X → Asking (Result A ScriptFault)} {halt : Halt} {old new : F}
     (then : Y → Asking (Result A ScriptFault)) →
-    Carried stands broken follows before asking next (Err halt) after old new → Carried stands broken follows before asking then (Err halt) after old new
+    Performed stands broken follows before asking next (Err halt) after old new → Performed stands broken follows before asking then (Err halt) after old new
 carried_ended then one = record { stays = one.stays; asked = one.asked; went = one.went }
 
 -- a part that passed, by another name for where it goes on
 pub carried_passed : {F X Y A : Type 0} {stands : F → List ℕ → Option Standing} {broken : F → ℕ} {follows : List (List ℕ) → F → F → Type 0}
     {before after : List (List ℕ)} {asking : Asking (Result A ScriptFault)} {next : X → Asking (Result A ScriptFault)} {x : X} {old new : F}
     (then : Y → Asking (Result A ScriptFault)) (y : Y) → next x ≡ then y →
-    Carried stands broken follows before asking next (Ok x) after old new → Carried stands broken follows before asking then (Ok y) after old new
+    Performed stands broken follows before asking next (Ok x) after old new → Performed stands broken follows before asking then (Ok y) after old new
 carried_passed {stands = stands} {after = after} {old = old} then y e one =
     record { stays = one.stays; asked = one.asked; went = one.went ∙ ap (traced (texts (stands old)) after) e }
 
@@ -117,7 +117,7 @@ pub carried_unsaid : {F X Y A B : Type 0} {stands : F → List ℕ → Option St
     {asking : Asking (Result A ScriptFault)} {value : Result B ScriptFault} {halt : Halt} {reads : List (List ℕ)} {files : F}
     (reflexive : (paths : List (List ℕ)) (files : F) → follows paths files files) (shown : Y → B) (then : X → Asking (Result A ScriptFault)) →
     ((fault : ScriptFault) → value ≡ Err fault → asking ≡ Done (Err fault)) → Gave value shown (Err halt) →
-    Carried stands broken follows reads asking then (Err halt) reads files files
+    Performed stands broken follows reads asking then (Err halt) reads files files
 carried_unsaid {stands = stands} {broken = broken} {asking = asking} {value = value} {halt = halt} {reads = reads} {files = files} reflexive shown then faults gave = record {
   stays = record { meaning = refl; count = omega arith };
   asked = λ paths among. reflexive paths files;

@@ -6,11 +6,11 @@ use Rattle.cc_names.specs.declared.refusals.ScriptFault.{ScriptFault}
 use Rattle.build_script.specs.Run.{Ran}
 use Rattle.build_script.specs.Parts.{IsGivenUpFor}
 use Rattle.build_script.specs.declared.files.GivenUp.{GivenUp}
-use Rattle.build_script.specs.declared.outcomes.Outcome.{Outcome}
+use Rattle.build_script.specs.declared.outcomes.Written.{Written}
 use Rattle.build_script.specs.declared.outcomes.Ended.{Ended}
 
 -- the outputs of a run, or its fault
-abbrev pub outputs_in : Result Outcome ScriptFault → Result (List (List ℕ)) ScriptFault
+abbrev pub outputs_in : Result Written ScriptFault → Result (List (List ℕ)) ScriptFault
 outputs_in (Ok outcome) = Ok outcome.outputs
 outputs_in (Err fault) = Err fault
 

@@ -6,7 +6,7 @@ pub mod Includes
 pub mod Lines
 pub mod MadeOf
 pub mod Making
-pub mod Opens
+pub mod OpenTexts
 pub mod Parts
 pub mod Progress
 pub mod Run

@@ -2,10 +2,11 @@
 use Rattle.std.specs.Prelude.{◌≡◌, ℕ, Option, Result, Ok, Err, List, Vec, option_map}
 use Rattle.std.specs.Str.{bytes_eq}
 use Rattle.std.specs.HashMap.{HashMap, get}
+use Rattle.cc_names.specs.Counts.{Rose}
 use Rattle.cc_names.specs.Files.{Files}
 use Rattle.cc_names.specs.declared.refusals.ScriptFault.{ScriptFault}
 use Rattle.build_script.specs.Run.{Asking, Done, traced}
-use Rattle.build_script.specs.Standings.{Standing, HasBroken, Stays, AreAmong, texts}
+use Rattle.build_script.specs.Standings.{Standing, Stays, AreAmong, texts}
 use Rattle.build_script.specs.declared.files.GivenUp.{GivenUp}
 use Rattle.build_script.specs.declared.files.GivenUp.TheVariants.{Broken}
 use Rattle.build_script.specs.declared.halts.Halt.{Halt}
@@ -13,7 +14,7 @@ use Rattle.build_script.specs.declared.halts.Halt.TheVariants as halts
 
 -- a run is given up for a cause only where there is that cause
 abbrev pub IsGivenUpFor : GivenUp → ℕ → ℕ → Type 0
-IsGivenUpFor Broken old new = HasBroken old new
+IsGivenUpFor Broken old new = Rose old new
 
 -- A part of a run, from these reads on, that ended early: by a fault of the script, and the fault and the reads by then
 -- are what it traces; or given up.
@@ -29,7 +30,7 @@ Went files before asking next (Err halt) after old new = Halted files before ask
 
 -- A part of a run that was carried out over files: the files stay as they are, were asked for nothing but what it asks
 -- for, and it ended early or passed.
-pub record Carried {F X A : Type 0} (stands : F → List ℕ → Option Standing) (broken : F → ℕ) (follows : List (List ℕ) → F → F → Type 0)
+pub record Performed {F X A : Type 0} (stands : F → List ℕ → Option Standing) (broken : F → ℕ) (follows : List (List ℕ) → F → F → Type 0)
     (before : List (List ℕ)) (asking : Asking (Result A ScriptFault)) (next : X → Asking (Result A ScriptFault)) (result : Result X Halt) (after : List (List ℕ)) (old new : F) : Type 0 where
   pub stays : Stays stands broken old new
   pub asked : (paths : List (List ℕ)) → AreAmong (traced (texts (stands old)) before asking).reads paths → follows paths old new

@@ -1,5 +1,5 @@
 -- What the files of a run mean, and what they were asked for.
-use Rattle.std.specs.Prelude.{◌≡◌, true, ℕ, ◌<◌, ◌≤◌, ◌⊎◌, Option, List, option_map}
+use Rattle.std.specs.Prelude.{◌≡◌, true, ℕ, ◌≤◌, Option, List, option_map}
 use Rattle.std.specs.List.{AllByRecursion, list_any}
 use Rattle.std.specs.Str.{bytes_eq}
 use Rattle.cc_names.specs.Files.{Files}
@@ -16,10 +16,6 @@ text_of standing = standing.text
 -- the texts alone
 abbrev pub texts : (List ℕ → Option Standing) → Files
 texts stands path = option_map text_of (stands path)
-
--- answers were `Broken`: their count rose, or stands at its last number
-abbrev pub HasBroken : ℕ → ℕ → Type 0
-HasBroken old new = (old < new) ⊎ (new ≡ 18446744073709551615)
 
 -- a path is one of these
 abbrev pub IsAmong : List ℕ → List (List ℕ) → Type 0

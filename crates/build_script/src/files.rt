@@ -1,4 +1,4 @@
-// The files that a run reads.
+//! The files that a run reads.
 
 ghost use Rattle.std.specs.Prelude.{◌≡◌, ℕ, Option, List};
 ghost use Rattle.build_script.specs.Standings.{Standing, Stays, IsAmong};

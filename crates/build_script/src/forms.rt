@@ -1,4 +1,4 @@
-// What commands make of a text.
+//! What commands make of a text.
 
 ghost use Rattle.std.specs.Prelude.{◌≡◌, ◌+◌, ◌<◌, ◌++◌, ◌∷◌, [], IfOk, MatchOption, length, take};
 ghost use Rattle.build_script.specs.Forms.{lines_in, first_lines, digest_line, linked_text};

@@ -1,4 +1,4 @@
-// A law of runs.
+//! A law of runs.
 
 ghost use Rattle.std.specs.Prelude.{ℕ, List};
 ghost use Rattle.build_script.specs.Frame.{IsFramed};

@@ -1,4 +1,4 @@
-// Why a part of a run ends early.
+//! Why a part of a run ends early.
 
 use crate::files::GivenUp;
 use cc_names::memory::NoMemory;

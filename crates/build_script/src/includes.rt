@@ -1,4 +1,4 @@
-// Which lines include a file, and where it is looked for.
+//! Which lines include a file, and where it is looked for.
 
 ghost use Rattle.std.specs.Prelude.{◌≡◌, ◌++◌, ◌∷◌, IfOk};
 ghost use Rattle.build_script.specs.Includes.{without_newline, quoted, include_of, under};

@@ -1,4 +1,4 @@
-// What the lines of a script say.
+//! What the lines of a script say.
 
 ghost use Rattle.std.specs.Prelude.{◌≡◌, ◌+◌, ◌≤◌, ◌^◌, IfOk, length, map, reverse};
 ghost use Rattle.build_script.specs.Lines.{path_in, paths_of, cat_of, link_of, directory_of, directories_of, preprocess_of, preprocess_of_reversed, only_path, substitute_of, head_by, head_of, digest_of, work_of, appends_of, makes, fail_of, line_of_reversed, line_of};

@@ -1,11 +1,11 @@
-// How the output of a line is made: the parts of its work, one behind the other.
+//! How the output of a line is made: the parts of its work, one behind the other.
 
 ghost use Rattle.std.specs.Prelude.{◌≡◌, ◌+◌, ◌++◌, ◌∷◌, [], ℕ, List, Ok, IfOk, OnOk, length, map, nat_lt};
 ghost use Rattle.std.specs.List.{flat_map, join_with_byte};
 ghost use Rattle.build_script.specs.Run.{Done, Asks, TextOf, and_then, see, present, text_at, noted, said, with_part, with_parts, parts_of, output_limit};
 ghost use Rattle.build_script.specs.Forms.{replaced};
 ghost use Rattle.build_script.specs.Making.{form_of, made_with, output_at};
-ghost use Rattle.build_script.specs.Parts.{Carried, Gave, gives, own_of};
+ghost use Rattle.build_script.specs.Parts.{Performed, Gave, gives, own_of};
 ghost use Rattle.build_script.specs.MadeOf.{made_of};
 
 use crate::files::{Files, GivenUp, Got};
@@ -80,7 +80,7 @@ fn ask<F: Files>(
     files: &mut F,
     path: &Path,
 ) -> Result<Option<Text>, Halt>
-    ensures { Carried F.stands F.broken F.follows reads.old.keys
+    ensures { Performed F.stands F.broken F.follows reads.old.keys
         (Asks path.now (λ found. Done (Ok found))) (gives (λ found. found)) result reads.new.keys
         files.old files.new }
 {
@@ -100,7 +100,7 @@ pub(crate) fn see<F: Files>(
     files: &mut F,
     path: &Path,
 ) -> Result<Option<Text>, Halt>
-    ensures { Carried F.stands F.broken F.follows reads.old.keys
+    ensures { Performed F.stands F.broken F.follows reads.old.keys
         (and_then (see (own_of making.entry.written.now path.now) path.now)
         (λ found. Done (Ok found))) (gives (λ found. found)) result reads.new.keys files.old
         files.new }
@@ -128,7 +128,7 @@ pub(crate) fn text_at<F: Files>(
     files: &mut F,
     path: &Path,
 ) -> Result<Text, Halt>
-    ensures { Carried F.stands F.broken F.follows reads.old.keys
+    ensures { Performed F.stands F.broken F.follows reads.old.keys
         (text_at (own_of making.entry.written.now) path.now) (gives (λ text. text)) result
         reads.new.keys files.old files.new }
 {
@@ -220,7 +220,7 @@ fn pour<F: Files>(
     form: Form<'_>,
     path: &Path,
 ) -> Result<(), Halt>
-    ensures { Carried F.stands F.broken F.follows reads.old.keys
+    ensures { Performed F.stands F.broken F.follows reads.old.keys
         (with_part (own_of making.entry.written.now)
         (output_at making.entry.path.now making.entry.before)
         (TextOf (form_of form.entry path.now) path.now) (made_of made.old))
@@ -239,7 +239,7 @@ fn pour_all<F: Files>(
     form: Form<'_>,
     paths: &[Path],
 ) -> Result<(), Halt>
-    ensures { Carried F.stands F.broken F.follows reads.old.keys
+    ensures { Performed F.stands F.broken F.follows reads.old.keys
         (with_parts (own_of making.entry.written.now)
         (output_at making.entry.path.now making.entry.before)
         (map (λ path. TextOf (form_of form.entry path) path) paths.now) (made_of made.old))
@@ -295,7 +295,7 @@ pub(crate) fn make<F: Files>(
     made: &mut Made,
     work: &Work,
 ) -> Result<(), Halt>
-    ensures { Carried F.stands F.broken F.follows reads.old.keys
+    ensures { Performed F.stands F.broken F.follows reads.old.keys
         (with_parts (own_of making.entry.written.now)
         (output_at making.entry.path.now making.entry.before) (parts_of work.now)
         (made_of made.old)) (gives (λ _. made_of made.new)) result reads.new.keys files.old

@@ -1,4 +1,4 @@
-// What a run comes to.
+//! What a run comes to.
 
 use cc_names::lists::List;
 use cc_names::paths::Path;
@@ -7,7 +7,7 @@ use cc_names::texts::Text;
 
 /// What a run without a fault wrote: an output for each target, in their order.
 #[derive(Debug, Drop)]
-pub struct Outcome {
+pub struct Written {
     pub outputs: List<Text>,
 }
 
@@ -15,6 +15,6 @@ pub struct Outcome {
 /// asking.
 #[derive(Debug, Drop)]
 pub struct Ended {
-    pub result: Result<Outcome, ScriptFault>,
+    pub result: Result<Written, ScriptFault>,
     pub reads: List<Path>,
 }

@@ -1,4 +1,4 @@
-// `pp`: a text with each include line replaced by the text that it includes.
+//! `pp`: a text with each include line replaced by the text that it includes.
 
 ghost use Rattle.std.specs.Prelude.{◌≡◌, ◌+◌, ◌-◌, ◌<◌, ◌≤◌, ◌∷◌, ℕ, List, Err, IfOk, OnOk, OnSome, length};
 ghost use Rattle.build_script.specs.Run.{Preprocessed, probed, found_or, expanded, with_part, depth_limit};
@@ -6,8 +6,8 @@ ghost use Rattle.std.specs.List.{filter_map};
 ghost use Rattle.cc_names.specs.declared.refusals.ScriptFault.TheVariants.{Absent};
 ghost use Rattle.build_script.specs.Includes.{probes_of, under};
 ghost use Rattle.build_script.specs.Making.{output_at, resumed, left_of, includes, preprocessing, made_with, found_with};
-ghost use Rattle.build_script.specs.Opens.{rest_of, rests_of};
-ghost use Rattle.build_script.specs.Parts.{Carried, Gave, gives, own_of};
+ghost use Rattle.build_script.specs.OpenTexts.{rest_of, rests_of};
+ghost use Rattle.build_script.specs.Parts.{Performed, Gave, gives, own_of};
 ghost use Rattle.build_script.specs.MadeOf.{made_of};
 
 use crate::files::Files;
@@ -15,7 +15,7 @@ use crate::forms::split_first_line;
 use crate::halts::Halt;
 use crate::includes::{include_of, under};
 use crate::making::{Made, Making, say, see, text_at};
-use crate::opens::OpenText;
+use crate::open_texts::OpenText;
 use cc_names::memory::NoMemory;
 use cc_names::paths::Path;
 use cc_names::refusals::ScriptFault;
@@ -40,7 +40,7 @@ fn probe<F: Files>(
     place: &Path,
 ) -> Result<Option<Text>, Halt>
     ensures went { (more : List (List ℕ))
-        → Carried F.stands F.broken F.follows reads.old.keys
+        → Performed F.stands F.broken F.follows reads.old.keys
         (probed (own_of making.entry.written.now) include.now (place.now ∷ more) probes.old)
         (found_or (probed (own_of making.entry.written.now) include.now more probes.new)
         probes.new) result reads.new.keys files.old files.new }
@@ -75,7 +75,7 @@ fn probe_under<F: Files>(
     directory: &Path,
 ) -> Result<Option<Text>, Halt>
     ensures went { (more : List (List ℕ))
-        → Carried F.stands F.broken F.follows reads.old.keys
+        → Performed F.stands F.broken F.follows reads.old.keys
         (probed (own_of making.entry.written.now) path.now
         (filter_map (under path.now) (directory.now ∷ more)) probes.old)
         (found_or
@@ -100,7 +100,7 @@ fn find_under<F: Files>(
     directories: &[Path],
     path: &Path,
 ) -> Result<Text, Halt>
-    ensures went { Carried F.stands F.broken F.follows reads.old.keys
+    ensures went { Performed F.stands F.broken F.follows reads.old.keys
         (probed (own_of making.entry.written.now) path.now
         (filter_map (under path.now) directories.now) probes.old)
         (gives (found_with probes.new)) result reads.new.keys files.old files.new }
@@ -125,7 +125,7 @@ fn find<F: Files>(
     directories: &[Path],
     path: &Path,
 ) -> Result<Text, Halt>
-    ensures went { Carried F.stands F.broken F.follows reads.old.keys
+    ensures went { Performed F.stands F.broken F.follows reads.old.keys
         (probed (own_of making.entry.written.now) path.now (probes_of directories.now path.now)
         probes.old) (gives (found_with probes.new)) result reads.new.keys files.old files.new }
     ensures counted { OnOk result (probes.old < probes.new) }
@@ -152,7 +152,7 @@ fn include<F: Files>(
     path: &Path,
 ) -> Result<Text, Halt>
     ensures went { (bytes : List ℕ)
-        → Carried F.stands F.broken F.follows reads.old.keys
+        → Performed F.stands F.broken F.follows reads.old.keys
         (includes (depth_limit - inside)
         (preprocessing (own_of making.entry.written.now) directories.now
         (output_at making.entry.path.now making.entry.before)) path.now
@@ -203,7 +203,7 @@ fn step<F: Files>(
     inside: &mut Vec<OpenText>,
     innermost: OpenText,
 ) -> Result<(), Halt>
-    ensures went { Carried F.stands F.broken F.follows reads.old.keys
+    ensures went { Performed F.stands F.broken F.follows reads.old.keys
         (resumed
         (preprocessing (own_of making.entry.written.now) directories.now
         (output_at making.entry.path.now making.entry.before))
@@ -250,7 +250,7 @@ fn expand<F: Files>(
     directories: &[Path],
     text: Text,
 ) -> Result<(), Halt>
-    ensures { Carried F.stands F.broken F.follows reads.old.keys
+    ensures { Performed F.stands F.broken F.follows reads.old.keys
         (expanded depth_limit
         (preprocessing (own_of making.entry.written.now) directories.now
         (output_at making.entry.path.now making.entry.before)) text (made_of made.old))
@@ -282,7 +282,7 @@ pub(crate) fn preprocess<F: Files>(
     directories: &[Path],
     path: &Path,
 ) -> Result<(), Halt>
-    ensures { Carried F.stands F.broken F.follows reads.old.keys
+    ensures { Performed F.stands F.broken F.follows reads.old.keys
         (with_part (own_of making.entry.written.now)
         (output_at making.entry.path.now making.entry.before)
         (Preprocessed directories.now path.now) (made_of made.old))

@@ -1,10 +1,10 @@
-// How far a run has come: line by line, and the outputs at its end.
+//! How far a run has come: line by line, and the outputs at its end.
 
 ghost use Rattle.std.specs.Prelude.{◌≡◌, ◌++◌, [], ℕ, List, Ok, IfOk, OnOk, length};
 ghost use Rattle.std.specs.List.{list_any};
 ghost use Rattle.std.specs.Str.{bytes_eq};
 ghost use Rattle.build_script.specs.Run.{begun, wrote, write_output, after_line, outputs_of, nothing_written};
-ghost use Rattle.build_script.specs.Parts.{Carried, Gave, gives, own_of};
+ghost use Rattle.build_script.specs.Parts.{Performed, Gave, gives, own_of};
 ghost use Rattle.build_script.specs.Progress.{state_of};
 
 use crate::files::Files;
@@ -85,7 +85,7 @@ impl Progress {
         appends: bool,
         path: &Path,
     ) -> Result<(), Halt>
-        ensures { Carried F.stands F.broken F.follows self.old.reads.keys
+        ensures { Performed F.stands F.broken F.follows self.old.reads.keys
             (write_output (state_of self.old) work.now appends path.now)
             (gives (λ _. state_of self.new)) result self.new.reads.keys files.old files.new }
     {
@@ -110,7 +110,7 @@ impl Progress {
         targets: &IndexSet<Path, RandomState>,
         line: &Line,
     ) -> Result<(), Halt>
-        ensures { Carried F.stands F.broken F.follows self.old.reads.keys
+        ensures { Performed F.stands F.broken F.follows self.old.reads.keys
             (after_line targets.now.keys (state_of self.old) line.now)
             (gives (λ _. state_of self.new)) result self.new.reads.keys files.old files.new }
     {

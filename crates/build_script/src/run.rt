@@ -1,9 +1,9 @@
-// A run of a script.
+//! A run of a script.
 
 ghost use Rattle.std.specs.Prelude.{◌≡◌, ℕ, List, IfOk, IfErr};
 ghost use Rattle.build_script.specs.Run.{after_lines, run_from, run_of_lines, carried_out};
 ghost use Rattle.build_script.specs.Standings.{Stays, texts};
-ghost use Rattle.build_script.specs.Parts.{Carried, gives};
+ghost use Rattle.build_script.specs.Parts.{Performed, gives};
 ghost use Rattle.build_script.specs.Progress.{state_of, HoldsEach};
 ghost use Rattle.build_script.specs.Ended.{ran_of, IsGivenUp};
 
@@ -11,7 +11,7 @@ use crate::files::{Files, GivenUp};
 use crate::halts::Halt;
 use crate::lines::Line;
 use crate::making::note;
-use crate::outcomes::{Ended, Outcome};
+use crate::outcomes::{Ended, Written};
 use crate::progress::{Progress, outputs};
 use crate::scripts::Script;
 use cc_names::lists::List;
@@ -45,7 +45,7 @@ fn run_lines<F: Files>(
     targets: &IndexSet<Path, RandomState>,
     lines: &[Line],
 ) -> Result<(), Halt>
-    ensures { Carried F.stands F.broken F.follows progress.old.reads.keys
+    ensures { Performed F.stands F.broken F.follows progress.old.reads.keys
         (after_lines targets.now.keys lines.now (state_of progress.old))
         (gives (λ _. state_of progress.new)) result progress.new.reads.keys files.old files.new }
 {
@@ -64,7 +64,7 @@ fn run_whole<F: Files>(
     targets: &[Path],
     lines: &[Line],
 ) -> Result<List<Text>, Halt>
-    ensures { Carried F.stands F.broken F.follows progress.old.reads.keys
+    ensures { Performed F.stands F.broken F.follows progress.old.reads.keys
         (run_from targets.now lines.now (state_of progress.old)) (gives (λ outputs. outputs)) result
         progress.new.reads.keys files.old files.new }
 {
@@ -111,7 +111,7 @@ pub fn run<F: Files>(
         targets,
         script.lines(),
     ) {
-        Ok(outputs) => Ok(Outcome { outputs }),
+        Ok(outputs) => Ok(Written { outputs }),
         Err(Halt::Fault(fault)) => Err(fault),
         Err(Halt::GivenUp(cause)) => return Err(Or::Is(cause)),
         Err(Halt::NoMemory) => return Err(Or::NoMemory),

@@ -1,4 +1,4 @@
-// Scripts, read from their texts.
+//! Scripts, read from their texts.
 
 ghost use Rattle.std.specs.Prelude.{◌≡◌, ◌+◌, ◌<◌, ◌^◌, ◌∷◌, length, option_copied};
 ghost use Rattle.std.specs.List.{slice_split};

@@ -1,4 +1,4 @@
-// The words of a line.
+//! The words of a line.
 
 ghost use Rattle.std.specs.Prelude.{◌≡◌, ◌+◌, ◌++◌, IfOk, OnOk, map};
 ghost use Rattle.build_script.specs.Words.{is_arrow, is_alike, arrows, words_of_run, words, without_at};

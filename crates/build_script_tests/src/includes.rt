@@ -1,4 +1,4 @@
-// The files that include lines find, the paths that they look for, absent ones too, and the limits of both.
+//! The files that include lines find, the paths that they look for, absent ones too, and the limits of both.
 
 use crate::running::{SomeFiles, files_of, run_text};
 use crate::runs::repeated;

@@ -1,4 +1,4 @@
-// Texts that are no scripts.
+//! Texts that are no scripts.
 
 use crate::running::words_of_fault;
 use build_script::scripts::Script;

@@ -1,4 +1,4 @@
-// The limit of an output, and what is asked for before it is passed.
+//! The limit of an output, and what is asked for before it is passed.
 
 use crate::running::{SomeFiles, files_of, run_text};
 use crate::runs::repeated;

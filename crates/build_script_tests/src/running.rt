@@ -1,4 +1,4 @@
-// Runs over files in memory, and what they came to in words.
+//! Runs over files in memory, and what they came to in words.
 
 ghost use Rattle.std.specs.Prelude.{◌<◌, ◌^◌, Some, length, option_map};
 ghost use Rattle.std.specs.Str.{bytes_eq};

@@ -1,4 +1,4 @@
-// What runs come to: outputs or the first fault, and their reads.
+//! What runs come to: outputs or the first fault, and their reads.
 
 use crate::running::{files_of, run_text};
 use std::alloc::{AllocError, Global};

@@ -1,12 +1,12 @@
-// What the program carries out so far.
-//
-// What it is for: the one place that says which commands are carried out, and which deeds the rows that commands make have.
-// The reader of sessions answers the other commands as not built, and a base takes no row of another deed. Where a command
-// comes, it gets its line here.
-//
-// What it promises: each function is its definition in `specs/`.
-//
-// What it stands on: `cc_names` for the commands and the deeds.
+//! What the program carries out so far.
+//!
+//! What it is for: the one place that says which commands are carried out, and which deeds the rows that commands make have.
+//! The reader of sessions answers the other commands as not built, and a base takes no row of another deed. Where a command
+//! comes, it gets its line here.
+//!
+//! What it promises: each function is its definition in `specs/`.
+//!
+//! What it stands on: `cc_names` for the commands and the deeds.
 #![tactic(auto)]
 
 ghost use Rattle.std.specs.Prelude.{◌≡◌};

@@ -1,4 +1,4 @@
-// Look-ups by halving in lists whose items are in order of the rows that made them.
+//! Look-ups by halving in lists whose items are in order of the rows that made them.
 
 ghost use Rattle.std.specs.Prelude.{ℕ, ◌≡◌, ◌==◌, ◌<◌, ◌≤◌, length, map, reverse, nat_lt, true, false, find, slice_get, IfSome, option_and_then, option_copied};
 ghost use Rattle.std.specs.List.Sorted.{IsPartitionPoint};

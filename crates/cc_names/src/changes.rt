@@ -1,5 +1,5 @@
-// The three kinds of change that the indexes of a base keep, each with the number of the row that made it; and what the
-// trees of versions answer.
+//! The three kinds of change that the indexes of a base keep, each with the number of the row that made it; and what the
+//! trees of versions answer.
 
 use crate::lists::List;
 use crate::names::Name;

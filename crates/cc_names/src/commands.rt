@@ -1,4 +1,4 @@
-// The commands of a session, and the session that they stand in.
+//! The commands of a session, and the session that they stand in.
 
 use crate::lists::List;
 use crate::names::Name;

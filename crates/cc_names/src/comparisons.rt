@@ -1,4 +1,4 @@
-// Texts, names and paths compare, hash and print as their bytes, so that they can be keys of maps.
+//! Texts, names and paths compare, hash and print as their bytes, so that they can be keys of maps.
 
 ghost use Rattle.std.specs.Prelude.{Some, refl, bytes_eq};
 ghost use Rattle.std.specs.Ordering.{nat_cmp};

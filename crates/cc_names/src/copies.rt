@@ -1,4 +1,4 @@
-// Copies of plain data, each equal to what it was made of.
+//! Copies of plain data, each equal to what it was made of.
 
 ghost use Rattle.std.specs.Prelude.{◌≡◌, ◌++◌, IfOk, OnOk};
 

@@ -1,4 +1,4 @@
-// Where a text is cut into lines, and a line into words.
+//! Where a text is cut into lines, and a line into words.
 
 ghost use Rattle.std.specs.Prelude.{◌≡◌, ◌<◌, [], ◌∷◌, MatchOption, IfSome, true, ◌⊎◌, length};
 ghost use Rattle.std.specs.List.{position};

@@ -1,4 +1,4 @@
-// Copies of deeds. A variant with two owned parts or more has a function of its own, which keeps the proof of the whole short.
+//! Copies of deeds. A variant with two owned parts or more has a function of its own, which keeps the proof of the whole short.
 
 ghost use Rattle.std.specs.Prelude.{◌≡◌, IfOk};
 ghost use Rattle.cc_names.specs.declared.rows.Deed.TheVariants as deeds;

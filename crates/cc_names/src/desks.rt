@@ -1,4 +1,4 @@
-// What a lane is told of its next command, on what occasion it is decided, and what became of it.
+//! What a lane is told of its next command, on what occasion it is decided, and what became of it.
 
 use crate::rows::Tag;
 

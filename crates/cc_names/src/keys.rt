@@ -1,5 +1,5 @@
-// One number for names, by which hash maps look them up without a copy of the names. The hash is keyed: whoever chooses the
-// names does not know the key, so cannot choose names whose numbers are the same.
+//! One number for names, by which hash maps look them up without a copy of the names. The hash is keyed: whoever chooses the
+//! names does not know the key, so cannot choose names whose numbers are the same.
 
 ghost use Rattle.std.specs.Prelude.{◌≡◌};
 ghost use Rattle.cc_names.specs.Keys.{key_at, key_of};

@@ -1,16 +1,16 @@
-// The names, texts and plain data that every other crate speaks of.
-//
-// What it is for: one place for the types that cross crate borders, for how a text is cut into lines and a line into
-// words, for how a number and the name of a type are read, and for the keys by which hash maps look things up. A `Text`,
-// a `Name` and a `Path` are seen by contracts as their bytes, a `List` as its items, what is left of a text or a line as
-// the list of its lines or words; everything else here is plain data, whole from the first day: the rows of a base and
-// their deeds, the commands of a session, refusals and causes, replies, the steps of a story, the units of a build, and
-// the three kinds of change that the indexes above keep.
-//
-// What it promises: a `Name` or a `Path` is exactly bytes that meet the rule of names, and the reader of each answers
-// the first fault from the left; a `Row` keeps its form by its type; a copy equals what it was made of.
-//
-// What it stands on: the standard library alone.
+//! The names, texts and plain data that every other crate speaks of.
+//!
+//! What it is for: one place for the types that cross crate borders, for how a text is cut into lines and a line into
+//! words, for how a number and the name of a type are read, and for the keys by which hash maps look things up. A `Text`,
+//! a `Name` and a `Path` are seen by contracts as their bytes, a `List` as its items, what is left of a text or a line as
+//! the list of its lines or words; everything else here is plain data, whole from the first day: the rows of a base and
+//! their deeds, the commands of a session, refusals and causes, replies, the steps of a story, the units of a build, and
+//! the three kinds of change that the indexes above keep.
+//!
+//! What it promises: a `Name` or a `Path` is exactly bytes that meet the rule of names, and the reader of each answers
+//! the first fault from the left; a `Row` keeps its form by its type; a copy equals what it was made of.
+//!
+//! What it stands on: the standard library alone.
 #![tactic(auto)]
 
 pub mod by_row;

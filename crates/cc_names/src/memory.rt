@@ -1,4 +1,4 @@
-// What a call answers when there is no memory for it.
+//! What a call answers when there is no memory for it.
 
 ghost use Rattle.std.specs.Prelude.{◌≡◌};
 

@@ -1,4 +1,4 @@
-// The rule of names, and a name that meets it.
+//! The rule of names, and a name that meets it.
 
 ghost use Rattle.std.specs.Prelude.{◌≡◌, ◌+◌, ◌<◌, ◌^◌, IfOk, IfSome, not, slice_get, length};
 ghost use Rattle.std.specs.List.{list_all, position};

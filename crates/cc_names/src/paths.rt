@@ -1,4 +1,4 @@
-// The rule of paths, and a path that meets it.
+//! The rule of paths, and a path that meets it.
 
 ghost use Rattle.std.specs.Prelude.{◌≡◌, ◌+◌, ◌<◌, ◌^◌, false, IfOk, IfSome, MatchOption, length, take, drop};
 ghost use Rattle.std.specs.List.{position, slice_split};

@@ -1,4 +1,4 @@
-// Copies of refusals.
+//! Copies of refusals.
 
 use crate::copies::Copied;
 use crate::memory::NoMemory;

@@ -1,4 +1,4 @@
-// Why a command, a unit or a reader says no.
+//! Why a command, a unit or a reader says no.
 
 use crate::names::Name;
 use crate::paths::Path;

@@ -1,4 +1,4 @@
-// What a command is answered.
+//! What a command is answered.
 
 use crate::lists::List;
 use crate::paths::Path;

@@ -1,4 +1,4 @@
-// The rows of a base: who made one, when, and what it did.
+//! The rows of a base: who made one, when, and what it did.
 
 use crate::lists::List;
 use crate::names::Name;

@@ -1,4 +1,4 @@
-// What a config spec selects, and what stands at a path.
+//! What a config spec selects, and what stands at a path.
 
 use crate::lists::List;
 use crate::names::Name;

@@ -1,4 +1,4 @@
-// A text that is short enough to stand in the value itself.
+//! A text that is short enough to stand in the value itself.
 
 ghost use Rattle.std.specs.Prelude.{◌≡◌, ◌≤◌, length};
 

@@ -1,4 +1,4 @@
-// The steps of a story: what happened of the base, one event after the other.
+//! The steps of a story: what happened of the base, one event after the other.
 
 use crate::commands::Phase;
 use crate::lists::List;
@@ -37,7 +37,7 @@ pub enum Step {
         rows: u64,
     },
     /// A phase began.
-    Plan {
+    PhaseBegun {
         phase: u32,
         moment: u64,
     },
@@ -69,7 +69,7 @@ pub enum Step {
         unit: u32,
     },
     /// A unit came to its outcome without a row.
-    Settled {
+    Concluded {
         tag: Tag,
         unit: u32,
         outcome: UnitEnd,
@@ -90,7 +90,7 @@ pub enum Step {
 
 /// One step as contracts see it in a story: with the rows and the phase themselves.
 #[derive(Drop)]
-pub enum Told {
+pub enum StoryStep {
     /// The opened rows, from row 1 on; the disk's counts as it was handed in; and whether it tells its content.
     Opened {
         rows: List<Row>,
@@ -98,7 +98,7 @@ pub enum Told {
         tells: bool,
     },
     /// A phase began, at this moment.
-    Plan {
+    PhaseBegun {
         phase: Phase,
         moment: u64,
     },

@@ -1,4 +1,4 @@
-// Bytes without a rule.
+//! Bytes without a rule.
 
 ghost use Rattle.std.specs.Prelude.{◌≡◌, IfOk};
 

@@ -1,4 +1,4 @@
-// The units of a build.
+//! The units of a build.
 
 use crate::lists::List;
 use crate::paths::Path;

@@ -1,4 +1,4 @@
-// The moments at which things happen.
+//! The moments at which things happen.
 
 ghost use Rattle.std.specs.Prelude.{◌≡◌};
 ghost use Rattle.cc_names.specs.Counts.{raised};

@@ -1,4 +1,4 @@
-// What runs of scripts ask before and after.
+//! What runs of scripts ask before and after.
 
 use cc_names::paths::Path;
 

@@ -1,4 +1,4 @@
-// A clock that tells a list.
+//! A clock that tells a list.
 
 ghost use Rattle.std.specs.Prelude.{◌≡◌, ◌<◌, IfOk, IfSome, length, Some};
 ghost use Rattle.cc_names.specs.Counts.{raised};

@@ -1,4 +1,4 @@
-// A sink in memory, whose calls fail by plan.
+//! A sink in memory, whose calls fail by plan.
 
 ghost use Rattle.std.specs.Prelude.{◌≡◌, ◌≤◌, ◌<◌, IfOk, OnErr, IsErr, length, Some, true};
 ghost use Rattle.cc_names.specs.Counts.{raised, Rose};

@@ -1,4 +1,4 @@
-// A source in memory, whose calls fail by plan.
+//! A source in memory, whose calls fail by plan.
 
 ghost use Rattle.std.specs.Prelude.{◌≡◌, ◌≤◌, IfOk, OnErr, length, Some};
 ghost use Rattle.std.specs.Io.KnownBytes.{ReadConsumes};

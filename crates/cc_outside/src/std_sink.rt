@@ -1,4 +1,4 @@
-// A sink over a writer of the standard library.
+//! A sink over a writer of the standard library.
 
 ghost use Rattle.std.specs.Prelude.{◌≡◌, None};
 

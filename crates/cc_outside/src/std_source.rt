@@ -1,4 +1,4 @@
-// A source over a reader of the standard library.
+//! A source over a reader of the standard library.
 
 ghost use Rattle.std.specs.Prelude.{◌≡◌, None};
 

@@ -1,4 +1,4 @@
-// The system's clock.
+//! The system's clock.
 
 ghost use Rattle.std.specs.Prelude.{◌≡◌, None};
 

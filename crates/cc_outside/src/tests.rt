@@ -1,4 +1,4 @@
-// What sources, sinks and clocks give and keep, by concrete values.
+//! What sources, sinks and clocks give and keep, by concrete values.
 
 ghost use Rattle.std.specs.Prelude.{◌<◌, ◌^◌};
 

@@ -1,4 +1,4 @@
-// A disk that looks into the journal before its first use.
+//! A disk that looks into the journal before its first use.
 
 use disk_model::{Counts, Disk, DiskFault, FileDisk};
 use std::io;

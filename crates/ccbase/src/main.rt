@@ -1,14 +1,14 @@
-// The program.
-//
-// What it is for: `ccbase FILE run` reads a session from standard input, runs it on the base that the files FILE and FILE.objects
-// keep, and writes its replies to standard output.
-//
-// What it promises: it adds nothing to `session_run::run_words` but the streams of the process, its clock, its threads, its two
-// files, the two words `--help` and `--version`, and lines on standard error: what of FILE is no base, and why a session was not
-// carried out. The gate round scripts is open.
-//
-// What it stands on: `session_run`, `disk_model` and `vob_journal` for the files, `cc_outside` for the streams and the clock, and
-// `cc_names` for words.
+//! The program.
+//!
+//! What it is for: `ccbase FILE run` reads a session from standard input, runs it on the base that the files FILE and
+//! FILE.objects keep, and writes its replies to standard output.
+//!
+//! What it promises: it adds nothing to `session_run::run_words` but the streams of the process, its clock, its threads, its two
+//! files, the two words `--help` and `--version`, and lines on standard error: what of FILE is no base, and why a session was not
+//! carried out. The gate round scripts is open.
+//!
+//! What it stands on: `session_run`, `disk_model` and `vob_journal` for the files, `cc_outside` for the streams and the clock,
+//! and `cc_names` for words.
 #![tactic(auto)]
 
 mod looking;
@@ -40,7 +40,7 @@ Ends with the status
   1  a command was refused, or a unit of a build failed or was blocked
   2  the words are none of the forms
   3  the text is no session
-  4  the journal is damaged: FILE has a frame that is no row, or whose row does not fit
+  4  the journal is damaged: FILE has a frame that is no row, or whose row does not fit or is of a deed not made yet
   5  the input failed
   6  the output failed
   7  the disk failed
@@ -96,7 +96,7 @@ fn tell_cause(
         Status::Good | Status::SomeFailed | Status::NoMemory => Ok(()),
         Status::BadWords => eprintln!(rt; "usage: ccbase FILE run"),
         Status::BadSession => eprintln!(rt; "ccbase: standard input: it is no session"),
-        Status::Damaged(row) => eprintln!(rt; "ccbase: {file}: damaged at row {row}"),
+        Status::Damaged(row) => eprintln!(rt; "ccbase: {file}: damaged at frame {row}"),
         Status::ReadFault => eprintln!(rt; "ccbase: standard input: a read failed"),
         Status::WriteFault => eprintln!(rt; "ccbase: standard output: a write failed"),
         Status::DiskFault => match disk.trouble() {

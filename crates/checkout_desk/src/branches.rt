@@ -1,4 +1,4 @@
-// Making branches.
+//! Making branches.
 
 ghost use Rattle.std.specs.Prelude.{◌≡◌, ℕ, ◌<◌, ◌≤◌, OnOk, true, IfOk};
 ghost use Rattle.legal_history.specs.Stories.Lawful.{last_moment};

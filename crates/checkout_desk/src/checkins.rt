@@ -1,4 +1,4 @@
-// Ending checkouts, with a version or without.
+//! Ending checkouts, with a version or without.
 
 ghost use Rattle.std.specs.Prelude.{◌≡◌, ℕ, ◌<◌, ◌≤◌, OnOk, option_map, true, IfOk};
 ghost use Rattle.legal_history.specs.Stories.Lawful.{last_moment};

@@ -1,9 +1,10 @@
-// What commands need of checkouts and of the versions that they end or begin with, each a test of its own.
+//! What commands need of checkouts and of the versions that they end or begin with, each a test of its own.
 
 ghost use Rattle.std.specs.Prelude.{◌≡◌, option_map};
 ghost use Rattle.std.specs.Option.{option_copied};
+ghost use Rattle.legal_history.specs.Base.Texts.{text_of_row};
 ghost use Rattle.legal_history.specs.Base.Views.{making};
-ghost use Rattle.legal_history.specs.Commands.CheckoutTests.{is_same_text, needs_change, needs_checkout_rule, needs_latest, needs_latest_origin, needs_no_other, needs_not_out, needs_out, needs_unreserved, text_of};
+ghost use Rattle.legal_history.specs.Commands.CheckoutTests.{is_same_text, needs_change, needs_checkout_rule, needs_latest, needs_latest_origin, needs_no_other, needs_not_out, needs_out, needs_unreserved};
 ghost use Rattle.view_lookup.specs.Effects.{plain_checkout};
 ghost use Rattle.checkout_desk.specs.Deciding.{Tests};
 
@@ -111,7 +112,7 @@ fn is_same_text(one: Option<&[u8]>, two: Option<&[u8]>) -> bool
 /// The text of the view's checkout of an element.
 fn own_text<'a>(rows: &FirstRows<'a>, view: &Name, path: &Path, element: u64) -> Option<&'a [u8]>
     ensures { option_copied result
-        ≡ text_of rows.now path.now (making rows.now view.now element) }
+        ≡ text_of_row rows.now path.now (making rows.now view.now element) }
 {
     text_of(rows, making(rows, view, element)?, path)
 }

@@ -1,4 +1,4 @@
-// Checking elements out.
+//! Checking elements out.
 
 ghost use Rattle.std.specs.Prelude.{◌≡◌, ℕ, ◌<◌, ◌≤◌, ◌∷◌, [], OnOk, IfOk, IfSome, true};
 ghost use Rattle.std.specs.Option.{option_copied};

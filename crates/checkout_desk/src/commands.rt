@@ -1,4 +1,4 @@
-// What commands name.
+//! What commands name.
 
 ghost use Rattle.std.specs.Prelude.{◌≡◌};
 ghost use Rattle.cc_names.specs.Commands.{view_of};

@@ -1,4 +1,4 @@
-// Setting the config spec of a view.
+//! Setting the config spec of a view.
 
 ghost use Rattle.std.specs.Prelude.{◌≡◌, ℕ, ◌<◌, ◌≤◌, length, OnOk, true, IfOk};
 ghost use Rattle.legal_history.specs.Stories.Lawful.{last_moment};

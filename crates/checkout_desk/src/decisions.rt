@@ -1,4 +1,4 @@
-// The decision on a command.
+//! The decision on a command.
 
 ghost use Rattle.std.specs.Prelude.{◌≡◌, ℕ, ◌<◌, ◌≤◌, ◌^◌, length, true, false, None, is_some, IfOk, OnOk};
 ghost use Rattle.cc_names.specs.Commands.{builds, scrub_age, view_of};

@@ -1,4 +1,4 @@
-// Making elements.
+//! Making elements.
 
 ghost use Rattle.std.specs.Prelude.{◌≡◌, ℕ, ◌<◌, ◌≤◌, OnOk, true, IfOk};
 ghost use Rattle.legal_history.specs.Stories.Lawful.{last_moment};

@@ -1,4 +1,4 @@
-// Tests that find something and hand it on to the rest of a command; where it is not there, they refuse.
+//! Tests that find something and hand it on to the rest of a command; where it is not there, they refuse.
 
 ghost use Rattle.std.specs.Prelude.{◌≡◌, ℕ, IfOk, ◌∷◌, []};
 ghost use Rattle.cc_names.specs.Formed.{IsBelowRoot};

@@ -1,4 +1,4 @@
-// Putting labels on versions, and taking them off.
+//! Putting labels on versions, and taking them off.
 
 ghost use Rattle.std.specs.Prelude.{◌≡◌, ℕ, Option, List, ◌<◌, ◌≤◌, OnOk, ◌∷◌, [], option_map, true, IfOk};
 ghost use Rattle.legal_history.specs.Stories.Lawful.{last_moment};

@@ -1,4 +1,4 @@
-// The names of elements in their directories.
+//! The names of elements in their directories.
 
 ghost use Rattle.std.specs.Prelude.{◌≡◌, ℕ, Option, ◌∷◌, [], ◌++◌, ◌<◌, ◌≤◌, OnOk, IfOk, option_and_then, option_map, true};
 ghost use Rattle.legal_history.specs.Stories.Lawful.{last_moment};

@@ -1,4 +1,4 @@
-// What commands need of the base, each a test of its own: passed, or the refusal where the need is not met.
+//! What commands need of the base, each a test of its own: passed, or the refusal where the need is not met.
 
 ghost use Rattle.std.specs.Prelude.{◌≡◌, ℕ, List};
 ghost use Rattle.legal_history.specs.Builds.Active.{building};

@@ -1,4 +1,4 @@
-// Letting go of the objects that a view holds.
+//! Letting go of the objects that a view holds.
 
 ghost use Rattle.std.specs.Prelude.{◌≡◌, ℕ, ◌<◌, ◌≤◌, true, IfOk, OnOk};
 ghost use Rattle.legal_history.specs.Stories.Lawful.{last_moment};

@@ -1,4 +1,4 @@
-// Taking private files away.
+//! Taking private files away.
 
 ghost use Rattle.std.specs.Prelude.{◌≡◌, ℕ, ◌<◌, ◌≤◌, true, IfOk, OnOk};
 ghost use Rattle.legal_history.specs.Stories.Lawful.{last_moment};

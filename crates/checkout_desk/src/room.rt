@@ -1,4 +1,4 @@
-// Room for one more row.
+//! Room for one more row.
 
 ghost use Rattle.std.specs.Prelude.{◌≡◌, ◌<◌, ◌+◌, OnOk};
 ghost use Rattle.legal_history.specs.Commands.Decisions.{Scene, needs_room};

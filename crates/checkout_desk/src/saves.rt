@@ -1,4 +1,4 @@
-// Saving the text of a file.
+//! Saving the text of a file.
 
 ghost use Rattle.std.specs.Prelude.{◌≡◌, ℕ, ◌<◌, ◌≤◌, length, IfOk, OnOk, ◌++◌, ◌∷◌, [], true};
 ghost use Rattle.legal_history.specs.Stories.Lawful.{last_moment};

@@ -1,4 +1,4 @@
-// Scrubbing the objects that are due: those that no view holds any more, and that were published long enough ago.
+//! Scrubbing the objects that are due: those that no view holds any more, and that were published long enough ago.
 
 ghost use Rattle.std.specs.Prelude.{◌≡◌, ℕ, ◌<◌, ◌≤◌, ◌+◌, ◌&&◌, nat_le, true, Some, IfOk, List};
 ghost use Rattle.std.specs.List.Sorted.{IsStrictlySortedBy};

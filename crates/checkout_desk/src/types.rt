@@ -1,4 +1,4 @@
-// The types of labels and of branches.
+//! The types of labels and of branches.
 
 ghost use Rattle.std.specs.Prelude.{◌≡◌, ℕ, Option, List, ◌<◌, ◌≤◌, true, IfOk, OnOk};
 ghost use Rattle.legal_history.specs.Stories.Lawful.{last_moment};

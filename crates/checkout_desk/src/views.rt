@@ -1,4 +1,4 @@
-// The commands on views.
+//! The commands on views.
 
 ghost use Rattle.std.specs.Prelude.{◌≡◌, ℕ, List, Option, ◌<◌, ◌≤◌, IfOk, OnOk, true};
 ghost use Rattle.legal_history.specs.Stories.Lawful.{last_moment};

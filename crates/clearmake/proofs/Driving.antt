@@ -8,7 +8,7 @@ use Rattle.cc_names.specs.declared.desks.Begun.TheVariants as begins
 use Rattle.cc_names.specs.declared.desks.Next.TheVariants as nexts
 use Rattle.cc_names.specs.declared.memory.NoMemory.{NoMemory}
 use Rattle.cc_names.specs.declared.rows.Tag.{Tag}
-use Rattle.cc_names.specs.declared.steps.Told.{Told}
+use Rattle.cc_names.specs.declared.steps.StoryStep.{StoryStep}
 use Rattle.build_script.specs.Run.{Ran}
 use Rattle.legal_history.specs.Stories.Lawful.{Legal}
 use Rattle.legal_history.specs.Stories.Steps.{state_of}
@@ -26,50 +26,50 @@ use Rattle.clearmake.proofs.Later.{run_stays}
 use Rattle.clearmake.proofs.Steps.{builds_on, done_later, done_more, finished_past, finishes_begins, goes_begins, is_over, next_goes_on, same_begins, waits_for_none}
 
 -- a desk's answer to a try
-pub tries_so : (old new : List Told) (tag : Tag) (count n : ℕ) (result : Result UnitTurn NoMemory) → Builds old tag count → IfOk result (λ turn. Tries old new tag.lane n turn) → OnErr result (new ≡ old) → Legal new →
+pub tries_so : (old new : List StoryStep) (tag : Tag) (count n : ℕ) (result : Result UnitTurn NoMemory) → Builds old tag count → IfOk result (λ turn. Tries old new tag.lane n turn) → OnErr result (new ≡ old) → Legal new →
     IsPrefix old new × IsTried (tried_of result) new tag count n
-tries_so old new tag count n (Ok turns.Settled) h ok err legal = (goes_begins old new tag.lane ok.0, (legal, builds_on old new tag count h ok.0, ok.1))
+tries_so old new tag count n (Ok turns.Concluded) h ok err legal = (goes_begins old new tag.lane ok.0, (legal, builds_on old new tag count h ok.0, ok.1))
 tries_so old new tag count n (Ok (turns.NotReady m)) h ok err legal = (
   same_begins old new ok.0,
-  (legal, subst (λ t. Builds t tag count) (sym ok.0) h, subst (λ (t : List Told). WaitsFor (state_of t) tag.lane n m) (sym ok.0) ok.1),
+  (legal, subst (λ t. Builds t tag count) (sym ok.0) h, subst (λ (t : List StoryStep). WaitsFor (state_of t) tag.lane n m) (sym ok.0) ok.1),
 )
 tries_so old new tag count n (Ok (turns.Run script targets)) h ok err legal = (goes_begins old new tag.lane ok.0, (builds_on old new tag count h ok.0, ok.1))
 tries_so old new tag count n (Ok turns.Faulted) h ok err legal = (finishes_begins old new tag.lane ok, finished_past old new tag h.next ok)
 tries_so old new tag count n (Err error) h ok err legal = (same_begins old new err, tt)
 
 -- a desk's answer to a finish
-pub finishes_so : (old new : List Told) (tag : Tag) (count n : ℕ) (result : Result Carried NoMemory) → Builds old tag count → IfOk result (λ done. IsCarried old new tag.lane n done) → OnErr result (new ≡ old) → Legal new →
+pub finishes_so : (old new : List StoryStep) (tag : Tag) (count n : ℕ) (result : Result Carried NoMemory) → Builds old tag count → IfOk result (λ done. IsCarried old new tag.lane n done) → OnErr result (new ≡ old) → Legal new →
     IsPrefix old new × IsDriven (driven_of result) new tag count n
-finishes_so old new tag count n (Ok carried.Settled) h ok err legal = (goes_begins old new tag.lane ok.0, (legal, builds_on old new tag count h ok.0, ok.1))
+finishes_so old new tag count n (Ok carried.Concluded) h ok err legal = (goes_begins old new tag.lane ok.0, (legal, builds_on old new tag count h ok.0, ok.1))
 finishes_so old new tag count n (Ok carried.Faulted) h ok err legal = (finishes_begins old new tag.lane ok, finished_past old new tag h.next ok)
 finishes_so old new tag count n (Err error) h ok err legal = (same_begins old new err, tt)
 
 -- the run of a unit as it began is its run now
-pub run_now : (start story : List Told) (tag : Tag) (count n : ℕ) (ran : Ran) → Builds start tag count → IsRunOfUnit (state_of start) tag.lane n ran → IsPrefix start story → Legal story →
+pub run_now : (start story : List StoryStep) (tag : Tag) (count n : ℕ) (ran : Ran) → Builds start tag count → IsRunOfUnit (state_of start) tag.lane n ran → IsPrefix start story → Legal story →
     Builds story tag count → IsRunOfUnit (state_of story) tag.lane n ran
 run_now start story tag count n ran h run p legal still = run_stays start story tag n ran h.next p legal still.next run
 
 -- what holds of the first units after one more was driven: where it has its outcome they are one more, and it waits for none
-pub one_more : (was now : List Told) (tag : Tag) (count n : ℕ) → AreDone was tag count n → IsPrefix was now → Legal now × Builds now tag count × HasOutcome (state_of now) tag.lane n → AreDone now tag count (n + 1)
+pub one_more : (was now : List StoryStep) (tag : Tag) (count n : ℕ) → AreDone was tag count n → IsPrefix was now → Legal now × Builds now tag count × HasOutcome (state_of now) tag.lane n → AreDone now tag count (n + 1)
 one_more was now tag count n h p settled = done_more now tag count n (done_later was now tag count n h p settled.0 settled.1.next) settled.1 settled.2
 
-pub none_waits : (was now : List Told) (tag : Tag) (count n m : ℕ) → AreDone was tag count n → IsPrefix was now → Legal now × Builds now tag count × WaitsFor (state_of now) tag.lane n m → ⊥
+pub none_waits : (was now : List StoryStep) (tag : Tag) (count n m : ℕ) → AreDone was tag count n → IsPrefix was now → Legal now × Builds now tag count × WaitsFor (state_of now) tag.lane n m → ⊥
 none_waits was now tag count n m h p waits =
     waits_for_none (state_of now) tag.lane n m waits.2 (done_later was now tag count n h p waits.0 waits.1.next m waits.2.earlier).1
 
 -- a desk's answer to the begin of a build
-pub begins_so : (old new : List Told) (tag : Tag) (result : Result Begun NoMemory) → next_of (state_of old) tag.lane ≡ nexts.Build tag → IfOk result (λ begun. Begins old new tag.lane begun) → OnErr result (new ≡ old) →
+pub begins_so : (old new : List StoryStep) (tag : Tag) (result : Result Begun NoMemory) → next_of (state_of old) tag.lane ≡ nexts.Build tag → IfOk result (λ begun. Begins old new tag.lane begun) → OnErr result (new ≡ old) →
     IsPrefix old new × IsOpened (opened_of result) new tag
 begins_so old new tag (Ok (begins.Units count)) next ok err = (goes_begins old new tag.lane ok.0, record { next = next_goes_on old new tag.lane ok.0 ∙ next; building = ok.1 })
 begins_so old new tag (Ok begins.Refused) next ok err = (finishes_begins old new tag.lane ok, finished_past old new tag next ok)
 begins_so old new tag (Err error) next ok err = (same_begins old new err, tt)
 
 -- a desk's answer to the end of a build
-pub ends_so : (old new : List Told) (tag : Tag) (count : ℕ) (result : Result Prim.Unit NoMemory) → Builds old tag count → OnOk result (Finishes old new tag.lane) → OnErr result (new ≡ old) →
+pub ends_so : (old new : List StoryStep) (tag : Tag) (count : ℕ) (result : Result Prim.Unit NoMemory) → Builds old tag count → OnOk result (Finishes old new tag.lane) → OnErr result (new ≡ old) →
     IsPrefix old new × OnTrue (is_ok result) (IsPast (state_of new) tag)
 ends_so old new tag count (Ok done) h ok err = (finishes_begins old new tag.lane ok, finished_past old new tag h.next ok)
 ends_so old new tag count (Err error) h ok err = (same_begins old new err, tt)
 
 -- a build whose units all had their outcomes is over, as long as it goes on
-pub over_now : (seen story : List Told) (tag : Tag) (count : ℕ) → AreDone seen tag count count → IsPrefix seen story → Legal story → Builds story tag count → IsOver (state_of story) tag.lane
+pub over_now : (seen story : List StoryStep) (tag : Tag) (count : ℕ) → AreDone seen tag count count → IsPrefix seen story → Legal story → Builds story tag count → IsOver (state_of story) tag.lane
 over_now seen story tag count done p legal h = is_over story tag count h (done_later seen story tag count count done p legal h.next)

@@ -6,7 +6,7 @@ use mathlib.Core.Logic.{dite}
 use mathlib.Core.List.{IsPrefix}
 use Rattle.cc_names.specs.declared.desks.Next.TheVariants as nexts
 use Rattle.cc_names.specs.declared.rows.Tag.{Tag}
-use Rattle.cc_names.specs.declared.steps.Told.{Told}
+use Rattle.cc_names.specs.declared.steps.StoryStep.{StoryStep}
 use Rattle.legal_history.specs.Stories.Lawful.{Legal}
 use Rattle.legal_history.specs.Stories.States.{State, next_tag}
 use Rattle.legal_history.specs.Stories.Steps.{state_of}
@@ -25,14 +25,14 @@ pub builds_by_tag : (s : State) (lane : ℕ) (tag : Tag) → next_of s lane ≡ 
 builds_by_tag s lane tag e = subst (λ n. next_of s n ≡ nexts.Build tag) (ap (λ (t : Tag). t.lane) (tag_is_next s lane tag e)) e
 
 -- the phase of a story in which some lanes are done
-abbrev InPhase : ℕ → List Told → Type 0
+abbrev InPhase : ℕ → List StoryStep → Type 0
 InPhase number story = Legal story × ((state_of story).number ≡ number)
 
-in_phase : (story : List Told) (first lanes number : ℕ) → 1 ≤ lanes → AreLanesDone story first lanes number → InPhase number story
+in_phase : (story : List StoryStep) (first lanes number : ℕ) → 1 ≤ lanes → AreLanesDone story first lanes number → InPhase number story
 in_phase story first lanes number some h = let one = h first (omega arith) (omega arith) in (one.legal, one.of_phase)
 
 -- two groups of lanes, one behind the other, that are done in two stories are done in the longer
-pub lanes_joined : (first here others lanes number : ℕ) (one two joined : List Told) → 1 ≤ here → 1 ≤ others → here + others ≡ lanes →
+pub lanes_joined : (first here others lanes number : ℕ) (one two joined : List StoryStep) → 1 ≤ here → 1 ≤ others → here + others ≡ lanes →
     AreLanesDone one first here number → AreLanesDone two (first + here) others number → IsLongerOf one two joined → AreLanesDone joined first lanes number
 lanes_joined first here others lanes number one two joined some more sum h g longer lane low high =
     let begin = both_begin one two joined longer in

@@ -6,7 +6,7 @@ use mathlib.Core.Logic.{dite}
 use mathlib.Core.List.{IsPrefix}
 use Rattle.cc_names.specs.declared.desks.Next.TheVariants as nexts
 use Rattle.cc_names.specs.declared.rows.Tag.{Tag}
-use Rattle.cc_names.specs.declared.steps.Told.{Told}
+use Rattle.cc_names.specs.declared.steps.StoryStep.{StoryStep}
 use Rattle.cc_names.specs.declared.units.Unit.{Unit}
 use Rattle.build_script.specs.Run.{Ran}
 use Rattle.build_script.specs.Standings.{Standing}
@@ -30,14 +30,14 @@ use Rattle.clearmake.specs.Passes.{Builds, IsLaneDone, IsPast}
 use Rattle.clearmake.specs.Sights.{sees, standing_at, standing_of, stands}
 use Rattle.clearmake.proofs.Nexts.{done_stays, next_stays, tag_is_next}
 
-later : (old new : List Told) → IsPrefix old new → Legal new → GoesLater (state_of old) (state_of new)
+later : (old new : List StoryStep) → IsPrefix old new → Legal new → GoesLater (state_of old) (state_of new)
 later old new p legal = subst (λ t. GoesLater (state_of old) (state_of t)) p.1 (story_later old p.0 (subst Legal (sym p.1) legal))
 
 no_more : (m n : ℕ) → m + 1 ≡ n + 1 → m ≡ n
 no_more m n h = omega (arith, h)
 
 -- the build of a command that is still its lane's next goes on
-pub goes_on : (old new : List Told) (tag : Tag) (build : Build) → next_of (state_of old) tag.lane ≡ nexts.Build tag → IsPrefix old new → Legal new →
+pub goes_on : (old new : List StoryStep) (tag : Tag) (build : Build) → next_of (state_of old) tag.lane ≡ nexts.Build tag → IsPrefix old new → Legal new →
     next_of (state_of new) tag.lane ≡ nexts.Build tag → build_of (state_of old).active tag.lane ≡ Some build → StillBuilds build (build_of (state_of new).active tag.lane)
 goes_on old new tag build next p legal still active =
     let s : State = state_of old in
@@ -46,21 +46,21 @@ goes_on old new tag build next p legal still active =
     (later old new p legal).builds (ap (λ (tag : Tag). tag.phase) tags) tag.lane build active
     (no_more (done_of t.done tag.lane) (done_of s.done tag.lane) (ap (λ (tag : Tag). tag.command) tags))
 
-pub still_builds : (old new : List Told) (tag : Tag) (count : ℕ) → Builds old tag count → IsPrefix old new → Legal new →
+pub still_builds : (old new : List StoryStep) (tag : Tag) (count : ℕ) → Builds old tag count → IsPrefix old new → Legal new →
     next_of (state_of new) tag.lane ≡ nexts.Build tag → Builds new tag count
 still_builds old new tag count h p legal still =
     let on = goes_on old new tag h.building.build h.next p legal still h.building.active in
     record { next = still; building = record { build = on.build; active = on.is; of_units = ap (λ us. length us) on.on.units ∙ h.building.of_units; few = h.building.few } }
 
 -- what has its outcome has it still
-pub outcome_stays : (old new : List Told) (tag : Tag) (n : ℕ) → next_of (state_of old) tag.lane ≡ nexts.Build tag → IsPrefix old new → Legal new →
+pub outcome_stays : (old new : List StoryStep) (tag : Tag) (n : ℕ) → next_of (state_of old) tag.lane ≡ nexts.Build tag → IsPrefix old new → Legal new →
     next_of (state_of new) tag.lane ≡ nexts.Build tag → HasOutcome (state_of old) tag.lane n → HasOutcome (state_of new) tag.lane n
 outcome_stays old new tag n next p legal still h =
     let on = goes_on old new tag h.build next p legal still h.active in
     record { build = on.build; active = on.is; outcome = subst (λ came. is_outcome came ≡ true) (sym (on.on.outcomes n h.outcome)) h.outcome }
 
 -- what was started was started
-pub started_stays : (old new : List Told) (tag : Tag) (n : ℕ) → next_of (state_of old) tag.lane ≡ nexts.Build tag → IsPrefix old new → Legal new →
+pub started_stays : (old new : List StoryStep) (tag : Tag) (n : ℕ) → next_of (state_of old) tag.lane ≡ nexts.Build tag → IsPrefix old new → Legal new →
     next_of (state_of new) tag.lane ≡ nexts.Build tag → WasStarted (state_of old) tag.lane n → WasStarted (state_of new) tag.lane n
 started_stays old new tag n next p legal still h =
     let on = goes_on old new tag h.build next p legal still h.active in
@@ -74,7 +74,7 @@ record IsGoneOn (s t : State) (lane n : ℕ) (h : WasStarted s lane n) : Type 0 
   started : is_some (came_to build n) ≡ true
   so : GoesOnSo s.base t.base h.build build h.unit
 
-gone_on : (old new : List Told) (tag : Tag) (n : ℕ) → next_of (state_of old) tag.lane ≡ nexts.Build tag → IsPrefix old new → Legal new →
+gone_on : (old new : List StoryStep) (tag : Tag) (n : ℕ) → next_of (state_of old) tag.lane ≡ nexts.Build tag → IsPrefix old new → Legal new →
     next_of (state_of new) tag.lane ≡ nexts.Build tag → (h : WasStarted (state_of old) tag.lane n) → IsGoneOn (state_of old) (state_of new) tag.lane n h
 gone_on old new tag n next p legal still h =
     let on = goes_on old new tag h.build next p legal still h.active in
@@ -98,7 +98,7 @@ stands_so s lane n build unit path active is =
     ap (option_and_then (λ b. standing_at s.base b n path)) active ∙ ap (option_and_then (λ u. stands s.base build n u path)) is
 
 -- a started unit finds the same at each path
-pub sees_same : (old new : List Told) (tag : Tag) (n : ℕ) (path : List ℕ) → next_of (state_of old) tag.lane ≡ nexts.Build tag → IsPrefix old new → Legal new →
+pub sees_same : (old new : List StoryStep) (tag : Tag) (n : ℕ) (path : List ℕ) → next_of (state_of old) tag.lane ≡ nexts.Build tag → IsPrefix old new → Legal new →
     next_of (state_of new) tag.lane ≡ nexts.Build tag → WasStarted (state_of old) tag.lane n → sees (state_of new) tag.lane n path ≡ sees (state_of old) tag.lane n path
 sees_same old new tag n path next p legal still h =
     let s : State = state_of old in
@@ -112,7 +112,7 @@ sees_same old new tag n path next p legal still h =
     ∙ sym (stands_so s tag.lane n h.build h.unit path h.active h.is_unit)))
 
 -- the run of a unit is its run still
-pub run_stays : (old new : List Told) (tag : Tag) (n : ℕ) (ran : Ran) → next_of (state_of old) tag.lane ≡ nexts.Build tag → IsPrefix old new → Legal new →
+pub run_stays : (old new : List StoryStep) (tag : Tag) (n : ℕ) (ran : Ran) → next_of (state_of old) tag.lane ≡ nexts.Build tag → IsPrefix old new → Legal new →
     next_of (state_of new) tag.lane ≡ nexts.Build tag → IsRunOfUnit (state_of old) tag.lane n ran → IsRunOfUnit (state_of new) tag.lane n ran
 run_stays old new tag n ran next p legal still h =
     let was : WasStarted (state_of old) tag.lane n = record { build = h.build; active = h.active; unit = h.unit; is_unit = h.is_unit; started = h.started } in
@@ -127,7 +127,7 @@ run_stays old new tag n ran next p legal still h =
     }
 
 -- a command that built and is its lane's next no more is finished
-pub is_past : (old new : List Told) (tag : Tag) → next_of (state_of old) tag.lane ≡ nexts.Build tag → IsPrefix old new → Legal new →
+pub is_past : (old new : List StoryStep) (tag : Tag) → next_of (state_of old) tag.lane ≡ nexts.Build tag → IsPrefix old new → Legal new →
     next_of (state_of new) tag.lane ≢ nexts.Build tag → IsPast (state_of new) tag
 is_past old new tag next p legal gone =
     let s : State = state_of old in
@@ -146,7 +146,7 @@ is_past old new tag next p legal gone =
         (λ no. absurd (let here : done_of t.done tag.lane ≡ done_of s.done tag.lane = omega arith in gone (next_stays s t tag.lane same (h.phase same) here ∙ next)))
 
 -- what is finished is finished later on
-pub past_stays : (old new : List Told) (tag : Tag) → IsPrefix old new → Legal new → IsPast (state_of old) tag → IsPast (state_of new) tag
+pub past_stays : (old new : List StoryStep) (tag : Tag) → IsPrefix old new → Legal new → IsPast (state_of old) tag → IsPast (state_of new) tag
 past_stays old new tag p legal past =
     let s : State = state_of old in
     let t : State = state_of new in
@@ -161,7 +161,7 @@ past_stays old new tag p legal past =
     past
 
 -- a lane that has finished its commands of a phase has finished them still
-pub finished_stays : (old new : List Told) (lane number : ℕ) → IsPrefix old new → Legal new → (state_of new).number ≡ number → IsLaneDone old lane number → IsLaneDone new lane number
+pub finished_stays : (old new : List StoryStep) (lane number : ℕ) → IsPrefix old new → Legal new → (state_of new).number ≡ number → IsLaneDone old lane number → IsLaneDone new lane number
 finished_stays old new lane number p legal same h =
     let l = later old new p legal in
     let still : (state_of new).number ≡ (state_of old).number = same ∙ sym h.of_phase in

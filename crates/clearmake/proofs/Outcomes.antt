@@ -1,10 +1,12 @@
 -- What came of a run outside the lock.
 use Rattle.std.proofs.Common.{◌≡◌, refl, ap, sym, ◌∙◌, ℕ, ◌<◌, inl, inr, Option, Some, None, Result, Ok, Err, List, arith}
+use Rattle.std.proofs.lemmas.Bool.{cases_lt}
 use Rattle.std.specs.Prelude.{IfErr, IfOk, option_and_then, option_map}
+use Rattle.cc_names.specs.Counts.{last_count}
 use Rattle.cc_names.specs.declared.memory.Or.{Or}
 use Rattle.cc_names.specs.declared.memory.Or.TheVariants.{NoMemory, Is}
 use Rattle.cc_names.specs.declared.rows.Tag.{Tag}
-use Rattle.cc_names.specs.declared.steps.Told.{Told}
+use Rattle.cc_names.specs.declared.steps.StoryStep.{StoryStep}
 use Rattle.build_script.specs.Ended.{IsGivenUp, ran_of}
 use Rattle.build_script.specs.Run.{Ran, carried_out, run_of, run_of_lines}
 use Rattle.build_script.specs.Standings.{Standing, text_of, texts}
@@ -49,9 +51,10 @@ run_is s lane n script targets ran h e = record {
     seen : (path : List ℕ) → texts (sees s lane n) path ≡ text_of_row s.base path (visible s.base h.has.build n h.has.unit path)
     seen path = ap (option_map text_of) (stands_so s lane n h.has.build h.has.unit path h.has.active h.has.is_unit) ∙ of_row s.base path (visible s.base h.has.build n h.has.unit path)
 
-pub ran_so : (result : Result Ended (Or GivenUp)) (s : State) (tag : Tag) (n broken : ℕ) (script : List Line) (targets : List (List ℕ)) (story : List Told) → IsStarted s tag.lane n script targets →
+pub ran_so : (result : Result Ended (Or GivenUp)) (s : State) (tag : Tag) (n broken : ℕ) (script : List Line) (targets : List (List ℕ)) (story : List StoryStep) → IsStarted s tag.lane n script targets →
     IfOk result (λ ended. ran_of ended ≡ carried_out (texts (sees s tag.lane n)) (run_of_lines targets script)) → IfErr result (λ cause. IsGivenUp cause 0 broken) →
     (0 < broken → IsPast (state_of story) tag) → RanSo result s tag n story
 ran_so (Ok ended) s tag n broken script targets story h ran given past = run_is s tag.lane n script targets (ran_of ended) h ran
 ran_so (Err NoMemory) s tag n broken script targets story h ran given past = tt
-ran_so (Err (Is Broken)) s tag n broken script targets story h ran given past = elim given [ inl some ↦ past some | inr all ↦ past (omega arith) ]
+ran_so (Err (Is Broken)) s tag n broken script targets story h ran given past =
+    elim (cases_lt broken last_count) [ inl below ↦ past (given below) | inr at_end ↦ past (omega (arith, at_end)) ]

@@ -6,7 +6,7 @@ use mathlib.Core.List.{IsPrefix}
 use Rattle.turn_lock.proofs.Prefixes.{begins_itself}
 use Rattle.cc_names.specs.declared.desks.Next.TheVariants as nexts
 use Rattle.cc_names.specs.declared.rows.Tag.{Tag}
-use Rattle.cc_names.specs.declared.steps.Told.{Told}
+use Rattle.cc_names.specs.declared.steps.StoryStep.{StoryStep}
 use Rattle.cc_names.specs.declared.units.Unit as units
 use Rattle.legal_history.specs.Builds.Active.{Build, build_of, came_to, is_outcome}
 use Rattle.legal_history.specs.Builds.Turns.{all_over}
@@ -20,20 +20,20 @@ use Rattle.clearmake.specs.Passes.{AreDone, Builds, IsPast}
 use Rattle.clearmake.proofs.Later.{outcome_stays, still_builds}
 use Rattle.clearmake.proofs.Nexts.{next_stays, tag_is_next}
 
-pub goes_begins : (old new : List Told) (lane : ℕ) → GoesOn old new lane → IsPrefix old new
+pub goes_begins : (old new : List StoryStep) (lane : ℕ) → GoesOn old new lane → IsPrefix old new
 goes_begins old new lane h = (h.steps, sym h.grows)
 
-pub finishes_begins : (old new : List Told) (lane : ℕ) → Finishes old new lane → IsPrefix old new
+pub finishes_begins : (old new : List StoryStep) (lane : ℕ) → Finishes old new lane → IsPrefix old new
 finishes_begins old new lane h = (h.steps, sym h.grows)
 
-pub same_begins : (old new : List Told) → new ≡ old → IsPrefix old new
+pub same_begins : (old new : List StoryStep) → new ≡ old → IsPrefix old new
 same_begins old new e = subst (IsPrefix old) (sym e) (begins_itself old)
 
 -- while a build goes on its command is the lane's next
-pub next_goes_on : (old new : List Told) (lane : ℕ) → GoesOn old new lane → next_of (state_of new) lane ≡ next_of (state_of old) lane
+pub next_goes_on : (old new : List StoryStep) (lane : ℕ) → GoesOn old new lane → next_of (state_of new) lane ≡ next_of (state_of old) lane
 next_goes_on old new lane h = next_stays (state_of old) (state_of new) lane h.phase.number h.phase.phase (ap (λ done. done_of done lane) h.done)
 
-pub builds_on : (old new : List Told) (tag : Tag) (count : ℕ) → Builds old tag count → GoesOn old new tag.lane → Builds new tag count
+pub builds_on : (old new : List StoryStep) (tag : Tag) (count : ℕ) → Builds old tag count → GoesOn old new tag.lane → Builds new tag count
 builds_on old new tag count h on =
     let still = on.still h.building.build h.building.active in
     record {
@@ -42,19 +42,19 @@ builds_on old new tag count h on =
     }
 
 -- a command that is finished is past
-pub finished_past : (old new : List Told) (tag : Tag) → next_of (state_of old) tag.lane ≡ nexts.Build tag → Finishes old new tag.lane → IsPast (state_of new) tag
+pub finished_past : (old new : List StoryStep) (tag : Tag) → next_of (state_of old) tag.lane ≡ nexts.Build tag → Finishes old new tag.lane → IsPast (state_of new) tag
 finished_past old new tag next h =
     let tags : next_tag (state_of old) tag.lane ≡ tag = tag_is_next (state_of old) tag.lane tag next in
     inr (sym (ap (λ (t : Tag). t.phase) tags) ∙ sym h.phase.number, (let more = h.done in let command : done_of (state_of old).done tag.lane + 1 ≡ tag.command = ap (λ (t : Tag). t.command) tags in omega arith))
 
 -- the first units that have their outcomes have them later on
-pub done_later : (old new : List Told) (tag : Tag) (count n : ℕ) → AreDone old tag count n → IsPrefix old new → Legal new →
+pub done_later : (old new : List StoryStep) (tag : Tag) (count n : ℕ) → AreDone old tag count n → IsPrefix old new → Legal new →
     next_of (state_of new) tag.lane ≡ nexts.Build tag → AreDone new tag count n
 done_later old new tag count n h p legal still m below =
     let was = h m below in (still_builds old new tag count was.0 p legal still, outcome_stays old new tag m was.0.next p legal still was.1)
 
 -- with the next unit there is one more
-pub done_more : (new : List Told) (tag : Tag) (count n : ℕ) → AreDone new tag count n → Builds new tag count → HasOutcome (state_of new) tag.lane n → AreDone new tag count (n + 1)
+pub done_more : (new : List StoryStep) (tag : Tag) (count n : ℕ) → AreDone new tag count n → Builds new tag count → HasOutcome (state_of new) tag.lane n → AreDone new tag count (n + 1)
 done_more new tag count n h builds outcome m below =
     dite (dec_le (m + 1) n) (λ earlier. h m (omega arith)) (λ no. let last : m ≡ n = omega arith in (builds, subst (λ k. HasOutcome (state_of new) tag.lane k) (sym last) outcome))
 
@@ -78,7 +78,7 @@ over_from build n (unit ∷ us) h = both (is_outcome (came_to build n)) (all_ove
     both false b e f = e
 
 -- a build of so many units that all have their outcomes is over
-pub is_over : (seen : List Told) (tag : Tag) (count : ℕ) → Builds seen tag count → AreDone seen tag count count → IsOver (state_of seen) tag.lane
+pub is_over : (seen : List StoryStep) (tag : Tag) (count : ℕ) → Builds seen tag count → AreDone seen tag count count → IsOver (state_of seen) tag.lane
 is_over seen tag count h done =
     let b = h.building in
     record {
@@ -88,5 +88,5 @@ is_over seen tag count h done =
     }
 
 -- what is given back begins with what was taken
-pub taken_grown : (held old new : List Told) → held ≡ old → IsPrefix old new → IsPrefix held new
-taken_grown held old new same p = subst (λ (t : List Told). IsPrefix t new) (sym same) p
+pub taken_grown : (held old new : List StoryStep) → held ≡ old → IsPrefix old new → IsPrefix held new
+taken_grown held old new same p = subst (λ (t : List StoryStep). IsPrefix t new) (sym same) p

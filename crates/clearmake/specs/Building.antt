@@ -4,7 +4,7 @@ use Rattle.cc_names.specs.declared.desks.Begun.{Begun}
 use Rattle.cc_names.specs.declared.desks.Begun.TheVariants as begins
 use Rattle.cc_names.specs.declared.memory.NoMemory.{NoMemory}
 use Rattle.cc_names.specs.declared.rows.Tag.{Tag}
-use Rattle.cc_names.specs.declared.steps.Told.{Told}
+use Rattle.cc_names.specs.declared.steps.StoryStep.{StoryStep}
 use Rattle.legal_history.specs.Stories.Steps.{state_of}
 use Rattle.clearmake.specs.Passes.{AreDone, Builds, IsPast}
 use Rattle.clearmake.specs.declared.builds.Opened.{Opened}
@@ -13,7 +13,7 @@ use Rattle.clearmake.specs.declared.sweeps.Swept.{Swept}
 use Rattle.clearmake.specs.declared.sweeps.Swept.TheVariants as swept
 
 -- the units of a build were driven: in this story the command is past, or they all have their outcomes, or memory ran out
-abbrev pub IsSwept : Swept → List Told → Tag → ℕ → Type 0
+abbrev pub IsSwept : Swept → List StoryStep → Tag → ℕ → Type 0
 IsSwept swept.Over story tag count = IsPast (state_of story) tag
 IsSwept swept.Complete story tag count = AreDone story tag count count
 IsSwept swept.OutOfMemory story tag count = Unit {0}
@@ -25,7 +25,7 @@ opened_of (Ok begins.Refused) = opened.Over
 opened_of (Err error) = opened.OutOfMemory
 
 -- a build was to begin: in this story the command is past, or it builds so many units, or memory ran out
-abbrev pub IsOpened : Opened → List Told → Tag → Type 0
+abbrev pub IsOpened : Opened → List StoryStep → Tag → Type 0
 IsOpened opened.Over story tag = IsPast (state_of story) tag
 IsOpened (opened.Units count) story tag = Builds story tag count
 IsOpened opened.OutOfMemory story tag = Unit {0}

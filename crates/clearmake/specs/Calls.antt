@@ -3,7 +3,7 @@ use Rattle.std.specs.Prelude.{◌≡◌, ℕ, ◌<◌, ◌^◌, ◌&&◌, ◌==�
 use Rattle.std.specs.List.{list_any, range_with_len}
 use Rattle.cc_names.specs.declared.desks.Begun.{Begun}
 use Rattle.cc_names.specs.declared.desks.Begun.TheVariants as begins
-use Rattle.cc_names.specs.declared.steps.Told.{Told}
+use Rattle.cc_names.specs.declared.steps.StoryStep.{StoryStep}
 use Rattle.cc_names.specs.declared.units.Unit.{Unit}
 use Rattle.build_script.specs.Lines.{script_of}
 use Rattle.build_script.specs.Run.{Ran}
@@ -28,7 +28,7 @@ pub record IsBuilding (s : State) (lane count : ℕ) : Type 0 where
   pub few : count < 2 ^ 32
 
 -- a build of so many units began, or goes on; or its command was refused
-abbrev pub Begins : List Told → List Told → ℕ → Begun → Type 0
+abbrev pub Begins : List StoryStep → List StoryStep → ℕ → Begun → Type 0
 Begins old new lane (begins.Units count) = GoesOn old new lane × IsBuilding (state_of new) lane count
 Begins old new lane begins.Refused = Finishes old new lane
 
@@ -84,20 +84,20 @@ pub record IsOver (s : State) (lane : ℕ) : Type 0 where
   pub complete : is_complete build ≡ true
 
 -- a unit of a lane's build has its outcome, and the story went on
-abbrev pub Settled : List Told → List Told → ℕ → ℕ → Type 0
-Settled old new lane n = GoesOn old new lane × HasOutcome (state_of new) lane n
+abbrev pub Concludes : List StoryStep → List StoryStep → ℕ → ℕ → Type 0
+Concludes old new lane n = GoesOn old new lane × HasOutcome (state_of new) lane n
 
 -- what became of a unit that was tried: it has its outcome, it waits for another and nothing changed, or its script was started;
 -- or the disk failed and its lane's command is finished
-abbrev pub Tries : List Told → List Told → ℕ → ℕ → UnitTurn → Type 0
-Tries old new lane n turns.Settled = Settled old new lane n
+abbrev pub Tries : List StoryStep → List StoryStep → ℕ → ℕ → UnitTurn → Type 0
+Tries old new lane n turns.Concluded = Concludes old new lane n
 Tries old new lane n (turns.NotReady m) = (new ≡ old) × WaitsFor (state_of old) lane n m
 Tries old new lane n (turns.Run script targets) = GoesOn old new lane × IsStarted (state_of new) lane n script targets
 Tries old new lane n turns.Faulted = Finishes old new lane
 
 -- what became of a unit that was given its outcome: it has it, or the disk failed and its lane's command is finished
-abbrev pub IsCarried : List Told → List Told → ℕ → ℕ → Carried → Type 0
-IsCarried old new lane n carried.Settled = Settled old new lane n
+abbrev pub IsCarried : List StoryStep → List StoryStep → ℕ → ℕ → Carried → Type 0
+IsCarried old new lane n carried.Concluded = Concludes old new lane n
 IsCarried old new lane n carried.Faulted = Finishes old new lane
 
 -- whether a unit waits for unit n no more, and for no other: it has no outcome, and each unit that it needs has one

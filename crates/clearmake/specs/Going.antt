@@ -1,6 +1,6 @@
 -- How a story goes on while a lane builds.
 use Rattle.std.specs.Prelude.{◌≡◌, ℕ, ◌+◌, true, Some, List, ◌++◌, ◌≢◌}
-use Rattle.cc_names.specs.declared.steps.Told.{Told}
+use Rattle.cc_names.specs.declared.steps.StoryStep.{StoryStep}
 use Rattle.legal_history.specs.Builds.Active.{Build, build_of, came_to, is_outcome}
 use Rattle.legal_history.specs.Stories.States.{State, done_of}
 use Rattle.legal_history.specs.Stories.Steps.{state_of}
@@ -19,8 +19,8 @@ pub record BuildsOn (new : State) (lane : ℕ) (before : Build) : Type 0 where
   pub outcomes : (n : ℕ) → is_outcome (came_to before n) ≡ true → is_outcome (came_to build n) ≡ true
 
 -- A story goes on by steps of a lane's build, which is not over: no lane has finished a command.
-pub record GoesOn (old new : List Told) (lane : ℕ) : Type 0 where
-  pub steps : List Told
+pub record GoesOn (old new : List StoryStep) (lane : ℕ) : Type 0 where
+  pub steps : List StoryStep
   pub grows : new ≡ old ++ steps
   pub phase : SamePhase (state_of old) (state_of new)
   pub done : (state_of new).done ≡ (state_of old).done
@@ -33,8 +33,8 @@ pub record HasOutcome (s : State) (lane n : ℕ) : Type 0 where
   pub outcome : is_outcome (came_to build n) ≡ true
 
 -- A lane's next command is finished, by steps of its own; the other lanes are where they were.
-pub record Finishes (old new : List Told) (lane : ℕ) : Type 0 where
-  pub steps : List Told
+pub record Finishes (old new : List StoryStep) (lane : ℕ) : Type 0 where
+  pub steps : List StoryStep
   pub grows : new ≡ old ++ steps
   pub phase : SamePhase (state_of old) (state_of new)
   pub done : done_of (state_of new).done lane ≡ done_of (state_of old).done lane + 1

@@ -1,16 +1,12 @@
 -- What a lane has to do next.
-use Rattle.std.specs.Prelude.{ℕ, Option, Some, None, option_and_then}
-use Rattle.cc_names.specs.Commands.{lane_at}
+use Rattle.std.specs.Prelude.{ℕ, Option, Some, None}
 use Rattle.cc_names.specs.declared.commands.Command.{Command}
 use Rattle.cc_names.specs.declared.commands.Command.TheVariants as commands
 use Rattle.cc_names.specs.declared.desks.Next.{Next}
 use Rattle.cc_names.specs.declared.desks.Next.TheVariants.{Act, Build, Done}
 use Rattle.cc_names.specs.declared.rows.Tag.{Tag}
-use Rattle.legal_history.specs.Stories.States.{State, done_of, command_behind, next_tag}
-
--- the first command of a lane that is not finished
-abbrev pub waiting : State → ℕ → Option Command
-waiting s lane = option_and_then (command_behind (done_of s.done lane)) (lane_at s.phase lane)
+use Rattle.legal_history.specs.Stories.Commanded.{command_of}
+use Rattle.legal_history.specs.Stories.States.{State, next_tag}
 
 -- a command builds or acts; without a command the lane is done
 abbrev pub next_by : Option Command → Tag → Next
@@ -20,7 +16,7 @@ next_by (Some command) tag = Act
 
 -- What the lane has to do next. A build that began is active as long as its command is the one to build.
 abbrev pub next_of : State → ℕ → Next
-next_of s lane = next_by (waiting s lane) (next_tag s lane)
+next_of s lane = next_by (command_of s lane) (next_tag s lane)
 
 -- how many units at once a command asks to have built
 abbrev pub jobs_of : Option Command → Option ℕ

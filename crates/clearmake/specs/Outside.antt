@@ -4,7 +4,7 @@ use mathlib.Core.List.{IsPrefix}
 use Rattle.cc_names.specs.declared.memory.Or.{Or}
 use Rattle.cc_names.specs.declared.memory.Or.TheVariants.{NoMemory, Is}
 use Rattle.cc_names.specs.declared.rows.Tag.{Tag}
-use Rattle.cc_names.specs.declared.steps.Told.{Told}
+use Rattle.cc_names.specs.declared.steps.StoryStep.{StoryStep}
 use Rattle.build_script.specs.Ended.{ran_of}
 use Rattle.build_script.specs.Standings.{Standing}
 use Rattle.build_script.specs.declared.files.Got.{Got}
@@ -20,21 +20,21 @@ use Rattle.clearmake.specs.Passes.{Builds, IsLater, IsPast, Knows}
 -- files that are read through a lock: the pass, the story that it had seen as the run began, the build's command and its number
 -- of units, the unit that is run, and how many reads found the build over
 pub record Reading : Type 0 where
-  pub pass : Sight Told
-  pub start : List Told
+  pub pass : Sight StoryStep
+  pub start : List StoryStep
   pub tag : Tag
   pub count : ℕ
   pub unit : ℕ
   pub broken : ℕ
 
 -- the pass, where it is there
-abbrev pub sight_or : LockId → Option (Sight Told) → Sight Told
+abbrev pub sight_or : LockId → Option (Sight StoryStep) → Sight StoryStep
 sight_or lock None = record { lock = lock; seen = []; weight = 0 }
 sight_or lock (Some pass) = pass
 
 -- The pass is one of the lock, and has seen no less than as the run began, when the unit had been started in a build found begun
 -- earlier. Where a read found the build over, its command is past.
-pub record IsReading (lock : LockId) (begun : List Told) (pass : Option (Sight Told)) (r : Reading) : Type 0 where
+pub record IsReading (lock : LockId) (begun : List StoryStep) (pass : Option (Sight StoryStep)) (r : Reading) : Type 0 where
   pub there : pass ≡ Some r.pass
   pub own : r.pass.lock ≡ lock
   pub knows : Knows begun r.start r.tag r.count
@@ -52,7 +52,7 @@ pub record Follows (old new : Reading) : Type 0 where
   pub unit : new.unit ≡ old.unit
 
 -- a read's answer is what stands there, or the build's command is past in this story, or memory ran out
-abbrev pub IsRead : Got → Option Standing → List Told → Tag → Type 0
+abbrev pub IsRead : Got → Option Standing → List StoryStep → Tag → Type 0
 IsRead (gots.Found row bytes) standing story tag = standing ≡ Some (record { row = row; text = bytes })
 IsRead gots.Absent standing story tag = standing ≡ None
 IsRead gots.Broken standing story tag = IsPast (state_of story) tag
@@ -60,7 +60,7 @@ IsRead gots.NoMemory standing story tag = Unit {0}
 
 -- What came of a run outside the lock: it is the run of the unit in the state as it began; or it was given up, for want of memory
 -- or since the build's command is past in this story.
-abbrev pub RanSo : Result Ended (Or GivenUp) → State → Tag → ℕ → List Told → Type 0
+abbrev pub RanSo : Result Ended (Or GivenUp) → State → Tag → ℕ → List StoryStep → Type 0
 RanSo (Ok ended) start tag n story = IsRunOfUnit start tag.lane n (ran_of ended)
 RanSo (Err NoMemory) start tag n story = Unit {0}
 RanSo (Err (Is cause)) start tag n story = IsPast (state_of story) tag

@@ -3,7 +3,7 @@ use Rattle.std.specs.Prelude.{◌≡◌, ◌⊎◌, ℕ, ◌+◌, ◌<◌, ◌�
 use mathlib.Core.List.{IsPrefix}
 use Rattle.cc_names.specs.declared.desks.Next.TheVariants as nexts
 use Rattle.cc_names.specs.declared.rows.Tag.{Tag}
-use Rattle.cc_names.specs.declared.steps.Told.{Told}
+use Rattle.cc_names.specs.declared.steps.StoryStep.{StoryStep}
 use Rattle.legal_history.specs.Stories.Lawful.{Legal}
 use Rattle.legal_history.specs.Stories.States.{State, done_of}
 use Rattle.legal_history.specs.Stories.Steps.{state_of}
@@ -13,12 +13,12 @@ use Rattle.clearmake.specs.Going.{HasOutcome}
 use Rattle.clearmake.specs.Nexts.{next_of}
 
 -- the command of this tag is its lane's next, and builds so many units
-pub record Builds (story : List Told) (tag : Tag) (count : ℕ) : Type 0 where
+pub record Builds (story : List StoryStep) (tag : Tag) (count : ℕ) : Type 0 where
   pub next : next_of (state_of story) tag.lane ≡ nexts.Build tag
   pub building : IsBuilding (state_of story) tag.lane count
 
 -- a story that begins with one in which the build had been found begun
-pub record Knows (begun story : List Told) (tag : Tag) (count : ℕ) : Type 0 where
+pub record Knows (begun story : List StoryStep) (tag : Tag) (count : ℕ) : Type 0 where
   pub begins : IsPrefix begun story
   pub builds : Builds begun tag count
 
@@ -27,13 +27,13 @@ abbrev pub IsPast : State → Tag → Type 0
 IsPast s tag = (tag.phase < s.number) ⊎ ((tag.phase ≡ s.number) × (tag.command ≤ done_of s.done tag.lane))
 
 -- a later pass of the same lock, of the same weight, which has seen a longer story or the same
-pub record IsLater (old new : Sight Told) : Type 0 where
+pub record IsLater (old new : Sight StoryStep) : Type 0 where
   pub lock : new.lock ≡ old.lock
   pub weight : new.weight ≡ old.weight
   pub begins : IsPrefix old.seen new.seen
 
 -- the first n units of the build all have their outcomes
-abbrev pub AreDone : List Told → Tag → ℕ → ℕ → Type 0
+abbrev pub AreDone : List StoryStep → Tag → ℕ → ℕ → Type 0
 AreDone seen tag count n = (m : ℕ) → m < n → Builds seen tag count × HasOutcome (state_of seen) tag.lane m
 
 -- a lane has nothing left to do
@@ -41,11 +41,11 @@ abbrev pub HasNothingLeft : State → ℕ → Type 0
 HasNothingLeft s lane = next_of s lane ≡ nexts.Done
 
 -- a lane has finished all of its commands of the phase of this number
-pub record IsLaneDone (seen : List Told) (lane number : ℕ) : Type 0 where
+pub record IsLaneDone (seen : List StoryStep) (lane number : ℕ) : Type 0 where
   pub legal : Legal seen
   pub of_phase : (state_of seen).number ≡ number
   pub finished : HasNothingLeft (state_of seen) lane
 
 -- so have all of some lanes, from the first on
-abbrev pub AreLanesDone : List Told → ℕ → ℕ → ℕ → Type 0
+abbrev pub AreLanesDone : List StoryStep → ℕ → ℕ → ℕ → Type 0
 AreLanesDone seen first lanes number = (lane : ℕ) → first ≤ lane → lane < first + lanes → IsLaneDone seen lane number

@@ -1,6 +1,6 @@
-// What a phase does before it starts threads: until a lane's turn comes to a build, this thread carries out the commands of all
-// lanes. Others would gain nothing, since one thread at a time has the desk, and what a turn looks up would mostly have been
-// written last on another processor.
+//! What a phase does before it starts threads: until a lane's turn comes to a build, this thread carries out the commands of all
+//! lanes. Others would gain nothing, since one thread at a time has the desk, and what a turn looks up would mostly have been
+//! written last on another processor.
 
 ghost use Rattle.std.specs.Prelude.{◌≡◌, ◌≤◌};
 ghost use Rattle.std.specs.Bool.{OnTrue};
@@ -26,7 +26,7 @@ enum Round {
     Builds,
 }
 
-/// Whether the next command of some lane builds that is not set aside.
+/// Whether a lane that is not set aside has a command next that builds.
 fn any_builds<T: PhaseDesk>(desk: &T, lanes: u32, aside: &[bool; LANES]) -> bool
     requires { lanes ≤ 64 }
 {
@@ -42,7 +42,6 @@ fn any_builds<T: PhaseDesk>(desk: &T, lanes: u32, aside: &[bool; LANES]) -> bool
 
 /// Whether no lane has anything left to do.
 fn are_done<T: PhaseDesk>(desk: &T, lanes: u32) -> bool
-    requires { lanes ≤ 64 }
     ensures { OnTrue result (AreLanesDone (T.story desk.now) 1 lanes T.number) }
 {
     desk.legal();
@@ -58,7 +57,7 @@ fn are_done<T: PhaseDesk>(desk: &T, lanes: u32) -> bool
 
 /// A round: each lane that is not set aside takes its turn, until one comes to a build. A lane is set aside that has nothing
 /// left to do, since to look behind its last command again and again may take long, and one for which memory ran out.
-fn take_round<T: PhaseDesk>(
+fn take_turns<T: PhaseDesk>(
     desk: &mut T,
     alloc: Global,
     lanes: u32,
@@ -97,7 +96,7 @@ pub(crate) fn act_before_threads<T: PhaseDesk>(
         if any_builds(desk, lanes, &aside) {
             return false;
         }
-        match take_round(desk, alloc, lanes, &mut aside) {
+        match take_turns(desk, alloc, lanes, &mut aside) {
             Round::Acted => {}
             Round::Spent => return are_done(desk, lanes),
             Round::Builds => return false,

@@ -1,4 +1,4 @@
-// The builders of a build, on threads.
+//! The builders of a build, on threads.
 
 ghost use Rattle.std.specs.Prelude.{◌≡◌, ◌≤◌, length};
 ghost use Rattle.std.specs.Thread.{IsSync};

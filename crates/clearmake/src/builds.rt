@@ -1,4 +1,4 @@
-// A build, from its begin to its end.
+//! A build, from its begin to its end.
 
 ghost use Rattle.std.specs.Prelude.{◌≡◌, ◌≤◌};
 ghost use Rattle.std.specs.Bool.{OnTrue};
@@ -10,7 +10,7 @@ ghost use Rattle.clearmake.specs.Nexts.{next_of};
 ghost use Rattle.clearmake.specs.Passes.{AreDone, IsLater, IsPast, Knows};
 
 use crate::builders::build_units;
-use crate::contexts::{BuildContext, is_next};
+use crate::contexts::{BuildContext, PhaseContext, is_next};
 use crate::desks::BuildDesk;
 use crate::sweeps::{Swept, sweep};
 use cc_names::desks::Begun;
@@ -18,17 +18,16 @@ use cc_names::memory::NoMemory;
 use cc_names::rows::Tag;
 use cc_outside::Gate;
 use std::alloc::Global;
-use std::hash::RandomState;
 use std::snapshot::Snapshot;
 use std::sync::Wait;
 use std::thread::Threads;
-use turn_lock::{Pass, Storied, TurnLock};
+use turn_lock::{Pass, Storied};
 
 /// What a build came to: a later pass of the lock, and whether its command is finished. Else memory ran out.
 #[derive(Drop)]
-pub struct Built<T: Storied> {
-    pub pass: Pass<T>,
-    pub done: bool,
+pub(crate) struct Built<T: Storied> {
+    pub(crate) pass: Pass<T>,
+    pub(crate) done: bool,
 }
 
 /// What became of the begin of a build.
@@ -67,22 +66,20 @@ fn begin_at<T: BuildDesk>(desk: &mut T, alloc: Global, seen: &Snapshot<Pass<T>>,
 
 /// Takes a turn to begin the build of a command that was found to be built.
 #[tactic(auto, using(crate::proofs::Steps::taken_grown))]
-fn begin_once<R: Wait, T: BuildDesk>(
-    rt: &R,
-    alloc: Global,
-    lock: &TurnLock<T>,
+fn begin_once<R: Wait, T: BuildDesk, G: Gate>(
+    context: &PhaseContext<'_, R, T, G>,
     pass: Pass<T>,
     tag: Tag,
 ) -> (Pass<T>, Opened)
-    requires own { pass.lock ≡ lock.now.id }
+    requires own { pass.lock ≡ context.now.lock.now.id }
     requires next { next_of (state_of pass.seen) tag.lane ≡ nexts.Build tag }
     ensures pass { IsLater pass result.0 }
     ensures opened { IsOpened result.1 result.0.seen tag }
 {
     let seen = Snapshot::of(&pass);
-    let (held, mut desk) = lock.take(rt, pass);
-    let opened = begin_at(&mut desk, alloc, &seen, tag);
-    (lock.give(held, desk), opened)
+    let (held, mut desk) = context.lock.take(context.rt, pass);
+    let opened = begin_at(&mut desk, context.alloc, &seen, tag);
+    (context.lock.give(held, desk), opened)
 }
 
 /// Ends a build whose units all had their outcomes, in a turn at the desk. False where memory ran out.
@@ -156,34 +153,30 @@ fn build_begun<R: Threads + Wait + Sync, T: BuildDesk + Send, G: Gate + Sync>(
 ///
 /// The gate is asked outside the lock, before and after each run of a script and before each of its reads. Names are found
 /// by the hashing.
-pub fn build<R: Threads + Wait + Sync, T: BuildDesk + Send, G: Gate + Sync>(
-    rt: &R,
-    alloc: Global,
-    hashing: RandomState,
-    lock: &TurnLock<T>,
-    gate: &G,
+pub(crate) fn build<R: Threads + Wait + Sync, T: BuildDesk + Send, G: Gate + Sync>(
+    context: &PhaseContext<'_, R, T, G>,
     pass: Pass<T>,
     tag: Tag,
     jobs: u32,
 ) -> Built<T>
-    requires own { pass.lock ≡ lock.now.id }
+    requires own { pass.lock ≡ context.now.lock.now.id }
     requires next { next_of (state_of pass.seen) tag.lane ≡ nexts.Build tag }
     requires jobs { (1 ≤ jobs) × (jobs ≤ pass.weight) }
     ensures pass { IsLater pass result.pass }
     ensures built { OnTrue result.done (IsPast (state_of result.pass.seen) tag) }
 {
-    let (pass, opened) = begin_once(rt, alloc, lock, pass, tag);
+    let (pass, opened) = begin_once(context, pass, tag);
     match opened {
         Opened::Over => Built { pass, done: true },
         Opened::OutOfMemory => Built { pass, done: false },
         Opened::Units(count) => {
             let begun = Snapshot::of(&pass);
             let context = BuildContext {
-                rt,
-                alloc,
-                hashing,
-                lock,
-                gate,
+                rt: context.rt,
+                alloc: context.alloc,
+                hashing: context.hashing,
+                lock: context.lock,
+                gate: context.gate,
                 begun: &begun,
                 tag,
                 count,

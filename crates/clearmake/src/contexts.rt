@@ -1,4 +1,4 @@
-// What the builders of a build share.
+//! What the lanes of a phase share, and the builders of a build.
 
 ghost use Rattle.std.specs.Prelude.{◌≡◌};
 ghost use Rattle.std.specs.Bool.{OnTrue, OnFalse};
@@ -15,7 +15,18 @@ use cc_names::rows::Tag;
 use std::alloc::Global;
 use std::hash::RandomState;
 use std::snapshot::Snapshot;
-use turn_lock::{Pass, TurnLock};
+use turn_lock::{Pass, Storied, TurnLock};
+
+/// What the lanes of a phase share: the lock round the desk, the gate, and how many turns each lane takes at most.
+#[derive(Drop)]
+pub(crate) struct PhaseContext<'a, R, T: Storied, G> {
+    pub(crate) rt: &'a R,
+    pub(crate) alloc: Global,
+    pub(crate) hashing: RandomState,
+    pub(crate) lock: &'a TurnLock<T>,
+    pub(crate) gate: &'a G,
+    pub(crate) turns: u32,
+}
 
 /// What the builders of a build share: the lock round the desk, the gate, and the build, whose command is the one of this
 /// tag, with its number of units. All that is known of the build is what a pass had seen when it was found begun.

@@ -1,14 +1,15 @@
-// What builders and lanes ask of the base, which stands behind a lock as soon as threads are started.
+//! What builders and lanes ask of the base, which stands behind a lock as soon as threads are started.
 
 ghost use Rattle.std.specs.Prelude.{◌≡◌, ◌<◌, ◌≤◌, ℕ, Some, IfOk, OnOk, OnErr};
 ghost use Rattle.build_script.specs.Ended.{ran_of};
 ghost use Rattle.cc_names.specs.declared.desks.Next.TheVariants as nexts;
+ghost use Rattle.legal_history.specs.Stories.Commanded.{command_of};
 ghost use Rattle.legal_history.specs.Stories.Lawful.{Legal};
 ghost use Rattle.legal_history.specs.Stories.States.{next_tag};
 ghost use Rattle.legal_history.specs.Stories.Steps.{state_of};
 ghost use Rattle.clearmake.specs.Calls.{Begins, IsBuilding, IsCarried, IsOver, IsRunOfUnit, Tries, WasStarted, released};
 ghost use Rattle.clearmake.specs.Going.{Finishes};
-ghost use Rattle.clearmake.specs.Nexts.{jobs_of, next_of, waiting};
+ghost use Rattle.clearmake.specs.Nexts.{jobs_of, next_of};
 ghost use Rattle.clearmake.specs.Sights.{IsFetched, sees};
 
 use crate::turns::{Carried, UnitTurn};
@@ -17,14 +18,14 @@ use build_script::outcomes::Ended;
 use cc_names::desks::{Begun, Next};
 use cc_names::memory::NoMemory;
 use cc_names::paths::Path;
-use cc_names::steps::Told;
+use cc_names::steps::StoryStep;
 use std::alloc::Global;
 use turn_lock::Storied;
 
 /// A base with its story, by whose calls the commands of lanes are carried out. Each call is made within a turn at the value:
 /// what it asks may have been found out at an earlier turn, and other threads take turns between any two turns of a thread.
-pub trait BuildDesk: Storied<Told = Told> {
-    /// The story is legal, at every moment.
+pub trait BuildDesk: Storied<Step = StoryStep> {
+    /// The story is legal, at every moment. A call does nothing: it is made for this promise.
     fn legal(&self)
         ensures { Legal (Self.story self.now) };
 
@@ -43,7 +44,7 @@ pub trait BuildDesk: Storied<Told = Told> {
         requires { next_of (state_of (Self.story self.now)) lane
             ≡ nexts.Build (next_tag (state_of (Self.story self.now)) lane) }
         ensures asked { IfOk result
-            (λ jobs. jobs_of (waiting (state_of (Self.story self.now)) lane) ≡ Some jobs) }
+            (λ jobs. jobs_of (command_of (state_of (Self.story self.now)) lane) ≡ Some jobs) }
         ensures within { IfOk result (λ jobs. (1 ≤ jobs) × (jobs ≤ 64)) };
 
     /// Begins the build of a lane's next command and answers how many units it has, or refuses the command. A build that

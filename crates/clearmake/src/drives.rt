@@ -1,4 +1,4 @@
-// A unit of a build is driven to its outcome: a turn at the desk to try it, its run outside the lock, and a turn to finish it.
+//! A unit of a build is driven to its outcome: a turn at the desk to try it, its run outside the lock, and a turn to finish it.
 
 ghost use Rattle.std.specs.Prelude.{◌≡◌, ◌<◌};
 ghost use mathlib.Core.List.{IsPrefix};
@@ -30,7 +30,7 @@ pub(crate) enum Tried {
     /// The build is over, and its command finished.
     Over,
     /// The unit has its outcome.
-    Settled,
+    Concluded,
     /// It waits for this earlier unit.
     NotReady(u32),
     /// Its script was started: the script, and the targets that a run is to write.
@@ -45,7 +45,7 @@ pub(crate) enum Driven {
     /// The build is over, and its command finished.
     Over,
     /// The unit has its outcome.
-    Settled,
+    Concluded,
     /// It waits for this earlier unit.
     NotReady(u32),
     /// Memory ran out.
@@ -57,7 +57,7 @@ fn tried_of(turn: Result<UnitTurn, NoMemory>) -> Tried
     ensures { result ≡ tried_of turn }
 {
     match turn {
-        Ok(UnitTurn::Settled) => Tried::Settled,
+        Ok(UnitTurn::Concluded) => Tried::Concluded,
         Ok(UnitTurn::NotReady(earlier)) => Tried::NotReady(earlier),
         Ok(UnitTurn::Run(script, targets)) => Tried::Run(script, targets),
         Ok(UnitTurn::Faulted) => Tried::Over,
@@ -70,7 +70,7 @@ fn driven_of(carried: Result<Carried, NoMemory>) -> Driven
     ensures { result ≡ driven_of carried }
 {
     match carried {
-        Ok(Carried::Settled) => Driven::Settled,
+        Ok(Carried::Concluded) => Driven::Concluded,
         Ok(Carried::Faulted) => Driven::Over,
         Err(NoMemory) => Driven::OutOfMemory,
     }
@@ -216,7 +216,7 @@ pub(crate) fn drive<R: Wait, T: BuildDesk, G: Gate>(
             None,
         ),
         Tried::Over => (pass, Driven::Over),
-        Tried::Settled => (pass, Driven::Settled),
+        Tried::Concluded => (pass, Driven::Concluded),
         Tried::NotReady(earlier) => (pass, Driven::NotReady(earlier)),
         Tried::OutOfMemory => (pass, Driven::OutOfMemory),
     }

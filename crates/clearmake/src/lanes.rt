@@ -1,4 +1,4 @@
-// The lanes of a phase, on threads.
+//! The lanes of a phase, on threads.
 
 ghost use Rattle.std.specs.Prelude.{◌≡◌, ◌<◌, ◌≤◌, ◌+◌, ◌-◌, ◌*◌, ◌^◌};
 ghost use Rattle.std.specs.Bool.{OnTrue};
@@ -8,30 +8,20 @@ ghost use Rattle.clearmake.specs.Laning.{IsLaneTurn};
 ghost use Rattle.clearmake.specs.Passes.{AreLanesDone, IsLaneDone, IsLater};
 
 use crate::builds::build;
+use crate::contexts::PhaseContext;
 use crate::desks::PhaseDesk;
 use cc_names::desks::Next;
+use cc_names::memory::NoMemory;
 use cc_names::rows::Tag;
 use cc_outside::Gate;
 use std::alloc::Global;
-use std::hash::RandomState;
 use std::sync::Wait;
 use std::thread::{Threads, join};
-use turn_lock::{Pass, Storied, TurnLock};
+use turn_lock::Pass;
 
 /// How many commands that build nothing a lane carries out in one turn at most. Where others wait, a turn costs more than a
 /// save without its syncs, and so many share that; the desk is held meanwhile, their syncs included.
 const COMMANDS_A_TURN: u32 = 64;
-
-/// What the lanes of a phase share: the lock round the desk, the gate, and how many turns each lane takes at most.
-#[derive(Drop)]
-pub(crate) struct PhaseContext<'a, R, T: Storied, G> {
-    pub(crate) rt: &'a R,
-    pub(crate) alloc: Global,
-    pub(crate) hashing: RandomState,
-    pub(crate) lock: &'a TurnLock<T>,
-    pub(crate) gate: &'a G,
-    pub(crate) turns: u32,
-}
 
 /// What became of a lane's turn.
 pub(crate) enum LaneTurn {
@@ -59,12 +49,12 @@ pub(crate) fn take_turn_at<T: PhaseDesk>(desk: &mut T, alloc: Global, lane: u32)
             Next::Build(tag) => {
                 return match desk.jobs(alloc, lane) {
                     Ok(jobs) => LaneTurn::Build(tag, jobs),
-                    Err(_) => LaneTurn::OutOfMemory,
+                    Err(NoMemory) => LaneTurn::OutOfMemory,
                 };
             }
             Next::Act => match desk.act(alloc, lane) {
                 Ok(()) => {}
-                Err(_) => return LaneTurn::OutOfMemory,
+                Err(NoMemory) => return LaneTurn::OutOfMemory,
             },
         }
     }
@@ -108,16 +98,7 @@ fn run_lane<R: Threads + Wait + Sync, T: PhaseDesk + Send, G: Gate + Sync>(
             LaneTurn::Done => return (pass, true),
             LaneTurn::OutOfMemory => return (pass, false),
             LaneTurn::Build(tag, jobs) => {
-                let built = build(
-                    context.rt,
-                    context.alloc,
-                    context.hashing,
-                    context.lock,
-                    context.gate,
-                    pass,
-                    tag,
-                    jobs,
-                );
+                let built = build(context, pass, tag, jobs);
                 pass = built.pass;
                 if !built.done {
                     return (pass, false);

@@ -1,17 +1,16 @@
-// The builders of a build and the lanes of a phase, on threads over a lock.
-//
-// What it is for: a base stands behind a lock, and threads take turns at it. `run_phase` carries out the commands of the lanes
-// of a phase, on a thread for each lane once one of them builds; `build` carries out one command that builds, by so many
-// builders at once. A script runs outside the lock, and each of its reads is a turn of its own. `BuildDesk` is what the base is
-// asked.
-//
-// What it promises: the story that comes back begins with the one handed in. A build's command is finished in it, and each lane
-// of a phase has nothing left to do, unless the call says that memory or turns ran out. What a run reads is what its unit saw
-// when it began, whatever other threads did meanwhile, and each unit is finished by the run of its own script. It is not
-// promised that threads get on, nor which of them does what.
-//
-// What it stands on: `turn_lock` for the lock, `legal_history` for stories and their laws, `build_script` for runs,
-// `cc_outside` for the gate, `cc_names` for plain data, and `crossbeam_deque`.
+//! The builders of a build and the lanes of a phase, on threads over a lock.
+//!
+//! What it is for: a base stands behind a lock, and threads take turns at it. `run_phase` carries out the commands of the lanes
+//! of a phase, on a thread for each lane once one of them builds; a command that builds has so many builders at once. A script
+//! runs outside the lock, and each of its reads is a turn of its own. `BuildDesk` is what the base is asked.
+//!
+//! What it promises: the story that comes back begins with the one handed in. A build's command is finished in it, and each lane
+//! of a phase has nothing left to do, unless the call says that memory or turns ran out. What a run reads is what its unit saw
+//! when it began, whatever other threads did meanwhile, and each unit is finished by the run of its own script. It is not
+//! promised that threads get on, nor which of them does what.
+//!
+//! What it stands on: `turn_lock` for the lock, `legal_history` for stories and their laws, `build_script` for runs,
+//! `cc_outside` for the gate, `cc_names` for plain data, and `crossbeam_deque`.
 #![tactic(auto)]
 
 mod before_threads;
@@ -30,7 +29,6 @@ mod task_queues;
 mod tasks;
 mod turns;
 
-pub use builds::{Built, build};
 pub use desks::{BuildDesk, PhaseDesk};
 pub use phases::run_phase;
 pub use turns::{Carried, UnitTurn};

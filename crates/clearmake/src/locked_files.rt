@@ -1,4 +1,4 @@
-// The files of a run, read through the lock.
+//! The files of a run, read through the lock.
 
 ghost use Rattle.std.specs.Prelude.{◌≡◌};
 ghost use mathlib.Core.List.{IsPrefix};

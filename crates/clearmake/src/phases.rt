@@ -1,4 +1,4 @@
-// A phase, from its first command to its last.
+//! A phase, from its first command to its last.
 
 ghost use Rattle.std.specs.Prelude.{◌≤◌};
 ghost use Rattle.std.specs.Bool.{OnTrue};
@@ -6,8 +6,9 @@ ghost use mathlib.Core.List.{IsPrefix};
 ghost use Rattle.clearmake.specs.Passes.{AreLanesDone};
 
 use crate::before_threads::act_before_threads;
+use crate::contexts::PhaseContext;
 use crate::desks::PhaseDesk;
-use crate::lanes::{PhaseContext, run_lanes};
+use crate::lanes::run_lanes;
 use cc_outside::Gate;
 use std::alloc::Global;
 use std::hash::RandomState;

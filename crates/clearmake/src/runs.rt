@@ -1,4 +1,4 @@
-// The run of a unit's script, outside the lock.
+//! The run of a unit's script, outside the lock.
 
 ghost use Rattle.std.specs.Prelude.{◌≡◌};
 ghost use mathlib.Core.List.{IsPrefix};

@@ -1,4 +1,4 @@
-// Whether a builder is at a script, as the other builders see it.
+//! Whether a builder is at a script, as the other builders see it.
 
 use std::sync::atomic::{AtomicU64, Ordering};
 
@@ -23,11 +23,7 @@ impl ScriptRuns {
     /// The run that the builder is at, where it is at one.
     pub(crate) fn current(&self) -> Option<u64> {
         let changes = self.changes.load(Ordering::SeqCst);
-        if changes % 2 == 1 {
-            Some(changes)
-        } else {
-            None
-        }
+        (changes % 2 == 1).then_some(changes)
     }
 
     /// Whether a run was found to be long.

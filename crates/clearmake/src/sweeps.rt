@@ -1,4 +1,4 @@
-// The units of a build one after the other, each driven to its outcome.
+//! The units of a build one after the other, each driven to its outcome.
 
 ghost use Rattle.std.specs.Prelude.{◌≡◌};
 ghost use Rattle.clearmake.specs.Passes.{IsLater, Knows};
@@ -37,7 +37,7 @@ pub(crate) fn sweep<R: Wait, T: BuildDesk, G: Gate>(
         let (next, driven) = drive(context, pass, unit);
         pass = next;
         match driven {
-            Driven::Settled => {}
+            Driven::Concluded => {}
             Driven::Over => return (pass, Swept::Over),
             Driven::OutOfMemory => return (pass, Swept::OutOfMemory),
             Driven::NotReady(_) => unreachable!(),

@@ -1,7 +1,7 @@
-// The tasks of a build: which units are to be driven, as builders share them.
-//
-// A task is the number of a unit. Nothing is proved of which tasks there are: whoever takes one tries its unit, and what
-// nobody drives is driven at the end.
+//! The tasks of a build: which units are to be driven, as builders share them.
+//!
+//! A task is the number of a unit. Nothing is proved of which tasks there are: whoever takes one tries its unit, and what
+//! nobody drives is driven at the end.
 
 ghost use Rattle.std.specs.Prelude.{◌≡◌, ◌<◌, ◌≤◌, IfOk, length, vec_len};
 
@@ -53,8 +53,10 @@ pub(crate) struct TaskQueues {
     claimed: Vec<AtomicBool>,
     // How many tasks lie in deques or are being done.
     pending: AtomicU64,
-    // 1 once the last task is done. Builders that find none sleep here.
+    // 1 once the last task is done. Here a builder sleeps that watches a script, and nothing else ends its sleep early.
     over: AtomicU64,
+    // The same. Here builders sleep that find no task, and they are woken where a script is found to be long.
+    idle: AtomicU64,
 }
 
 /// So many builders. Each takes its own tasks in the order in which they came.
@@ -94,6 +96,17 @@ fn make_claims(alloc: Global, units: u32) -> Result<Vec<AtomicBool>, NoMemory> {
     Ok(claimed)
 }
 
+/// Sleeps for so many microseconds, at most until this word is 1 or whoever sleeps there is woken.
+fn sleep_at<R: Wait>(word: &AtomicU64, rt: &R, micros: u64) {
+    word.park_timeout(rt, 0, Duration::from_micros(micros));
+}
+
+/// Wakes whoever sleeps at a word, where nobody sleeps from then on.
+fn end_sleep(word: &AtomicU64) {
+    word.store(1, Ordering::SeqCst);
+    word.wake_all();
+}
+
 /// A task from a deque, where there is one to be had.
 fn steal_from(stealer: &Stealer<u32>) -> Option<u32> {
     for _ in 0..TRIES {
@@ -118,26 +131,23 @@ impl TaskQueues {
             claimed: make_claims(alloc, units)?,
             pending: AtomicU64::new(0),
             over: AtomicU64::new(0),
+            idle: AtomicU64::new(0),
         })
     }
 
     /// The runs of scripts of a builder, as the others see them.
     pub(crate) fn runs_of(&self, builder: &Builder) -> Option<&ScriptRuns> {
-        match self.fellows.get(builder.number) {
-            Some(fellow) => Some(&fellow.runs),
-            None => None,
-        }
+        self.fellows.get(builder.number).map(|fellow| &fellow.runs)
     }
 
     /// Whether a builder has claimed a unit.
     pub(crate) fn is_claimed(&self, unit: u32) -> bool {
-        match self.claimed.get(unit as usize) {
-            Some(flag) => flag.load(Ordering::SeqCst),
-            None => false,
-        }
+        self.claimed
+            .get(unit as usize)
+            .is_some_and(|flag| flag.load(Ordering::SeqCst))
     }
 
-    /// Claims a unit, in the turn at the desk in which it was found settled or its script was started: so one builder runs
+    /// Claims a unit, in the turn at the desk in which it was found concluded or its script was started: so one builder runs
     /// the script, and one has what the unit releases done.
     pub(crate) fn claim(&self, unit: u32) {
         if let Some(flag) = self.claimed.get(unit as usize) {
@@ -156,8 +166,8 @@ impl TaskQueues {
     /// Notes that a task is done, and what came of it lies in a deque.
     pub(crate) fn end_task(&self) {
         if self.pending.fetch_sub(1, Ordering::SeqCst) == 1 {
-            self.over.store(1, Ordering::SeqCst);
-            self.over.wake_all();
+            end_sleep(&self.over);
+            end_sleep(&self.idle);
         }
     }
 
@@ -180,22 +190,17 @@ impl TaskQueues {
         None
     }
 
-    /// Sleeps for so many microseconds, or until no task is left or a script was found to be long.
-    fn sleep<R: Wait>(&self, rt: &R, micros: u64) {
-        self.over.park_timeout(rt, 0, Duration::from_micros(micros));
-    }
-
     /// A task of a builder, where its script goes on while this one sleeps for a while, or was found to be long before.
     fn steal_at<R: Wait>(&self, rt: &R, number: usize) -> Option<u32> {
         let fellow = self.fellows.get(number)?;
         let run = fellow.runs.current()?;
         if !fellow.runs.is_long(run) {
-            self.sleep(rt, LONG);
+            sleep_at(&self.over, rt, LONG);
             if fellow.runs.current() != Some(run) {
                 return None;
             }
             fellow.runs.note_long(run);
-            self.over.wake_all();
+            self.idle.wake_all();
         }
         steal_from(&fellow.stealer)
     }
@@ -210,7 +215,7 @@ impl TaskQueues {
             }
             builder.first = number.wrapping_add(1);
         }
-        self.sleep(rt, builder.sleep);
+        sleep_at(&self.idle, rt, builder.sleep);
         let longest = LONGEST_SLEEP.saturating_mul(self.fellows.len() as u64);
         builder.sleep = builder.sleep.saturating_mul(2).min(longest);
         None

@@ -1,4 +1,4 @@
-// The tasks of a builder: a unit is driven, and those that it releases become tasks.
+//! The tasks of a builder: a unit is driven, and those that it releases become tasks.
 
 ghost use Rattle.std.specs.Prelude.{◌≡◌, ◌<◌, IfSome};
 ghost use mathlib.Core.List.{IsPrefix};
@@ -75,7 +75,7 @@ fn push_released<R: Wait, T: BuildDesk, G: Gate>(
     pass
 }
 
-/// Tries a unit that nobody has claimed, in a turn at the desk. Whoever finds it settled, or starts its script, claims it.
+/// Tries a unit that nobody has claimed, in a turn at the desk. Whoever finds it concluded, or starts its script, claims it.
 fn try_unclaimed_at<R, T: BuildDesk, G>(
     context: &BuildContext<'_, R, T, G>,
     queues: &TaskQueues,
@@ -93,7 +93,7 @@ fn try_unclaimed_at<R, T: BuildDesk, G>(
         return None;
     }
     let tried = try_at(context, desk, unit);
-    if matches!(tried, Tried::Settled | Tried::Run(_, _)) {
+    if matches!(tried, Tried::Concluded | Tried::Run(_, _)) {
         queues.claim(unit);
     }
     Some(tried)
@@ -120,7 +120,7 @@ fn try_unclaimed<R: Wait, T: BuildDesk, G: Gate>(
     (context.lock.give(held, desk), tried)
 }
 
-/// Drives a unit that nobody has claimed. True where this builder saw it settled first, and has what it releases done.
+/// Drives a unit that nobody has claimed. True where this builder saw it concluded first, and has what it releases done.
 fn take_up<R: Wait, T: BuildDesk, G: Gate>(
     context: &BuildContext<'_, R, T, G>,
     queues: &TaskQueues,
@@ -136,7 +136,7 @@ fn take_up<R: Wait, T: BuildDesk, G: Gate>(
 {
     let (pass, tried) = try_unclaimed(context, queues, pass, unit);
     match tried {
-        Some(Tried::Settled) => (pass, true),
+        Some(Tried::Concluded) => (pass, true),
         Some(Tried::Run(script, targets)) => {
             let runs = queues.runs_of(builder);
             let (pass, driven) = run_started(
@@ -148,7 +148,7 @@ fn take_up<R: Wait, T: BuildDesk, G: Gate>(
                 runs,
             );
             match driven {
-                Driven::Settled => (pass, true),
+                Driven::Concluded => (pass, true),
                 Driven::Over | Driven::NotReady(_) | Driven::OutOfMemory => (pass, false),
             }
         }
@@ -172,8 +172,8 @@ pub(crate) fn do_task<R: Wait, T: BuildDesk, G: Gate>(
     if unit >= context.count || queues.is_claimed(unit) {
         return pass;
     }
-    let (pass, settled) = take_up(context, queues, builder, pass, unit);
-    if settled {
+    let (pass, concluded) = take_up(context, queues, builder, pass, unit);
+    if concluded {
         push_released(context, queues, builder, pass, unit)
     } else {
         pass

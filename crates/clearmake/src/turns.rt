@@ -1,4 +1,4 @@
-// What became of a unit's turn.
+//! What became of a unit's turn.
 
 use build_script::scripts::Script;
 use cc_names::lists::List;
@@ -8,7 +8,7 @@ use cc_names::paths::Path;
 #[derive(Drop)]
 pub enum UnitTurn {
     /// The unit has its outcome.
-    Settled,
+    Concluded,
     /// It waits for this earlier unit, which makes one of its prerequisites.
     NotReady(u32),
     /// Its script was started: the script, and the targets that a run is to write.
@@ -21,7 +21,7 @@ pub enum UnitTurn {
 #[derive(Drop)]
 pub enum Carried {
     /// The unit has its outcome.
-    Settled,
+    Concluded,
     /// The disk failed under its build, which is over.
     Faulted,
 }

@@ -27,7 +27,7 @@ use Rattle.legal_history.proofs.Bases.HeldObjects.{held_in_order}
 use Rattle.view_lookup.specs.Made.{is_target}
 use Rattle.view_lookup.specs.LookUps.{last_of}
 use Rattle.view_lookup.specs.Owned.{gives_view, paths_given, was_given}
-use Rattle.view_lookup.specs.Ended.{ended_or}
+use Rattle.view_lookup.specs.Lifetimes.{ended_or}
 use Rattle.view_lookup.proofs.GivenRows.{AreDeeds, deeds_below}
 use Rattle.view_lookup.proofs.Holdings.{held_by_last, held_effect, same_view_path}
 use Rattle.view_lookup.proofs.Newest.{no_later}

@@ -1,4 +1,4 @@
-// The answer to a query.
+//! The answer to a query.
 
 ghost use Rattle.std.specs.Prelude.{◌≡◌, true};
 ghost use Rattle.carried_out.specs.CarriedOut.{is_carried_out};

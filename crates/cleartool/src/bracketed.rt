@@ -1,4 +1,4 @@
-// Labels in brackets.
+//! Labels in brackets.
 
 ghost use Rattle.std.specs.Prelude.{◌≡◌, ◌++◌, OnOk, map};
 ghost use Rattle.std.specs.List.{concat};

@@ -1,4 +1,4 @@
-// The query for a view's config spec.
+//! The query for a view's config spec.
 
 ghost use Rattle.std.specs.Prelude.{◌≡◌};
 ghost use Rattle.legal_history.specs.Commands.Decisions.{Scene};

@@ -1,9 +1,7 @@
-// The query whether what a view sees covers the record of an object that a view holds.
+//! The query whether what a view sees covers the record of an object that a view holds.
 
-ghost use Rattle.std.specs.Prelude.{◌≡◌, ◌≤◌, max, suc, IsSome, IfOk};
+ghost use Rattle.std.specs.Prelude.{◌≡◌, ◌≤◌, max, suc, IfOk};
 ghost use Rattle.std.specs.Option.{option_copied};
-ghost use Rattle.legal_history.specs.Base.Closures.{is_publish};
-ghost use Rattle.legal_history.specs.Base.Views.{view_row};
 ghost use Rattle.legal_history.specs.Builds.Reuse.{agrees};
 ghost use Rattle.legal_history.specs.Commands.Decisions.{Scene};
 ghost use Rattle.legal_history.specs.Queries.QueryLines.{covers};
@@ -18,11 +16,11 @@ use cc_names::memory::{NoMemory, Or};
 use cc_names::names::Name;
 use cc_names::paths::Path;
 use cc_names::refusals::Refusal;
-use cc_names::rows::{Deed, ReadOf};
+use cc_names::rows::ReadOf;
 use cc_names::texts::Text;
 use std::alloc::Global;
 use std::collections::BTreeSet;
-use view_lookup::{FirstRows, file_at, row_at, view_row};
+use view_lookup::{FirstRows, file_at, is_publish, view_row};
 
 /// Whether a row is the one that was found; row 0 says that nothing was there.
 fn agrees(row: u64, found: Option<u64>) -> bool
@@ -31,16 +29,6 @@ fn agrees(row: u64, found: Option<u64>) -> bool
     match found {
         None => row == 0,
         Some(found) => row != 0 && row == found,
-    }
-}
-
-/// Whether the row of this number published an object. Takes constant time.
-fn is_publish(rows: &FirstRows<'_>, row: u64) -> bool
-    ensures { result ≡ is_publish rows.now row }
-{
-    match row_at(rows, row) {
-        None => false,
-        Some(row) => matches!(row.deed(), Deed::Publish { .. }),
     }
 }
 
@@ -63,7 +51,6 @@ fn add_entry<'a>(
     least: Option<&'a Path>,
     entry: &'a ReadOf,
 ) -> Result<Option<&'a Path>, NoMemory>
-    requires { IsSome (view_row rows.now view.now) }
     ensures least { IfOk result
         (λ found. lesser (option_copied found) (least_of_all rows.now view.now left.new.keys)
         ≡ lesser (least_of_entry rows.now view.now entry.now)
@@ -89,7 +76,6 @@ fn add_entries<'a>(
     least: Option<&'a Path>,
     entries: &'a [ReadOf],
 ) -> Result<Option<&'a Path>, NoMemory>
-    requires { IsSome (view_row rows.now view.now) }
     ensures least { IfOk result
         (λ found. lesser (option_copied found) (least_of_all rows.now view.now left.new.keys)
         ≡ lesser (least_of_entries rows.now view.now entries.now)
@@ -112,7 +98,6 @@ fn uncovered<'a>(
     view: &Name,
     object: u64,
 ) -> Result<Option<&'a Path>, NoMemory>
-    requires { IsSome (view_row rows.now view.now) }
     ensures { IfOk result (λ path. option_copied path ≡ uncovered rows.now view.now object) }
 {
     rows.size();

@@ -1,4 +1,4 @@
-// The query for what is selected of an element.
+//! The query for what is selected of an element.
 
 ghost use Rattle.std.specs.Prelude.{◌≡◌, ◌++◌, IfOk, OnOk, map};
 ghost use Rattle.std.specs.List.{concat};

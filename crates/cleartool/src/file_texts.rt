@@ -1,8 +1,7 @@
-// The query for the text of a file, or of an object.
+//! The query for the text of a file, or of an object.
 
-ghost use Rattle.std.specs.Prelude.{◌≡◌, ◌∷◌, [], None, IsSome, IfOk};
+ghost use Rattle.std.specs.Prelude.{◌≡◌, ◌∷◌, [], None, IfOk};
 ghost use Rattle.legal_history.specs.Base.Seen.{at};
-ghost use Rattle.legal_history.specs.Base.Views.{view_row};
 ghost use Rattle.legal_history.specs.Commands.Decisions.{Scene, first_refusal};
 ghost use Rattle.legal_history.specs.Commands.Tests.{needs_no_directory};
 ghost use Rattle.legal_history.specs.Queries.QueryLines.{cat, needs_text, text_at, text_row};
@@ -18,7 +17,7 @@ use cc_names::texts::Text;
 use std::alloc::Global;
 use view_lookup::{FirstRows, at, file_at, held, kind_of, text_of, view_row};
 
-/// The refusal of a path at which a view that there is sees no text: nothing is selected there and it holds no object, or
+/// The refusal of a path at which a view sees no text: nothing is selected there and it holds no object, or
 /// there is a directory.
 fn needs_text(
     alloc: Global,
@@ -26,7 +25,6 @@ fn needs_text(
     view: &Name,
     path: &Path,
 ) -> Result<Option<Refusal>, NoMemory>
-    requires { IsSome (view_row rows.now view.now) }
     ensures { IfOk result
         (λ refusal.
         let seen = at rows.now view.now path.now in
@@ -53,7 +51,6 @@ fn needs_text(
 
 /// The row that makes the text at a path: of the file there, or, where nothing stands, of the object that the view holds.
 fn text_row(rows: &FirstRows<'_>, view: &Name, path: &Path) -> Option<u64>
-    requires { IsSome (view_row rows.now view.now) }
     ensures { result
         ≡ text_row rows.now view.now path.now (at rows.now view.now path.now) }
 {

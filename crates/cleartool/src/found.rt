@@ -1,4 +1,4 @@
-// What a query asks about: an element, or an object.
+//! What a query asks about: an element, or an object.
 
 ghost use Rattle.std.specs.Prelude.{◌≡◌};
 ghost use Rattle.cc_names.specs.References.{held_at};

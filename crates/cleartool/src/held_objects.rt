@@ -1,4 +1,4 @@
-// The query for the objects that a view holds.
+//! The query for the objects that a view holds.
 
 ghost use Rattle.std.specs.Prelude.{◌≡◌, ◌++◌, IfOk, OnOk};
 ghost use Rattle.legal_history.specs.Commands.Decisions.{Scene};

@@ -1,4 +1,4 @@
-// The query for what was done to an element.
+//! The query for what was done to an element.
 
 ghost use Rattle.std.specs.Prelude.{◌≡◌, ◌≤◌, ◌++◌, map, IfOk, OnOk};
 ghost use Rattle.std.specs.List.{concat};

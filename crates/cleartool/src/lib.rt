@@ -1,12 +1,12 @@
-// The answers to queries, and the names of versions.
-//
-// What it is for: `is_query` tells which commands are queries, and `answer` answers a query's text, or its first refusal in
-// the order of the tests of its line. `version_name` and `name_told` give the names by which texts and replies speak of versions.
-//
-// What it promises: the answer is the model's decision on the query, and a name is the model's. A query makes no row.
-//
-// What it stands on: `carried_out` for which queries are carried out, `view_lookup` for what a view sees, `legal_history` for
-// the definitions, `date_text` for dates, and `cc_names` for plain data.
+//! The answers to queries, and the names of versions.
+//!
+//! What it is for: `is_query` tells which commands are queries, and `answer` answers a query's text, or its first refusal in the
+//! order of the tests of its line. `version_name` and `name_told` give the names by which texts and replies speak of versions.
+//!
+//! What it promises: the answer is the model's decision on the query, and a name is the model's. A query makes no row.
+//!
+//! What it stands on: `carried_out` for which queries are carried out, `view_lookup` for what a view sees, `legal_history` for
+//! the definitions, `date_text` for dates, and `cc_names` for plain data.
 #![tactic(auto)]
 
 mod answers;

@@ -1,4 +1,4 @@
-// What lines of several queries have.
+//! What lines of several queries have.
 
 ghost use Rattle.std.specs.Prelude.{◌≡◌, ◌++◌, OnOk, decimal};
 ghost use Rattle.legal_history.specs.Queries.VersionNames.{at_version, line};

@@ -1,4 +1,4 @@
-// The names that may stand in a directory.
+//! The names that may stand in a directory.
 
 ghost use Rattle.std.specs.Prelude.{◌≡◌, ◌||◌, ℕ, List, IfOk, OnOk};
 ghost use Rattle.cc_names.specs.Paths.{IsPath, last_of, parent_of};

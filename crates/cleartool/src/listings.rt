@@ -1,4 +1,4 @@
-// The query for the names of a directory.
+//! The query for the names of a directory.
 
 ghost use Rattle.std.specs.Prelude.{◌≡◌, ◌++◌, None, Some, IfOk, OnOk};
 ghost use Rattle.cc_names.specs.Names.{IsName};

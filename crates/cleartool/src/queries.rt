@@ -1,4 +1,4 @@
-// Which commands are queries.
+//! Which commands are queries.
 
 ghost use Rattle.std.specs.Prelude.{◌≡◌};
 ghost use Rattle.legal_history.specs.Queries.QueryLines.{is_query};

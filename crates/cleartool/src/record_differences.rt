@@ -1,4 +1,4 @@
-// The query for where the records of two objects differ.
+//! The query for where the records of two objects differ.
 
 ghost use Rattle.std.specs.Prelude.{◌≡◌, ◌++◌, ◌||◌, ℕ, List, IfOk, OnOk, map};
 ghost use Rattle.std.specs.BTreeMap.{get};

@@ -1,4 +1,4 @@
-// The query for what an object was made from.
+//! The query for what an object was made from.
 
 ghost use Rattle.std.specs.Prelude.{◌≡◌, ◌++◌, IfOk, OnOk, map};
 ghost use Rattle.std.specs.List.{concat};

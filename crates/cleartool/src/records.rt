@@ -1,4 +1,4 @@
-// What the records of objects say.
+//! What the records of objects say.
 
 ghost use Rattle.std.specs.Prelude.{◌≡◌};
 ghost use Rattle.legal_history.specs.Base.Changes.{targets_of};

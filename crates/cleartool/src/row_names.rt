@@ -1,5 +1,5 @@
-// The names of rows at a path, as records tell them: by the version that a row made, else as a checkout, a private file or an
-// object.
+//! The names of rows at a path, as records tell them: by the version that a row made, else as a checkout, a private file or an
+//! object.
 
 ghost use Rattle.std.specs.Prelude.{◌≡◌, ◌++◌, OnOk};
 ghost use Rattle.legal_history.specs.Base.Rows.{deed_at};

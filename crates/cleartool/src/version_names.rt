@@ -1,4 +1,4 @@
-// The names of versions, as `/main/fix/1`: the branches that lead to the version, from `main` on, and its number on the last.
+//! The names of versions, as `/main/fix/1`: the branches that lead to the version, from `main` on, and its number on the last.
 
 ghost use Rattle.std.specs.Prelude.{◌≡◌, codes, ◌<◌, ◌≤◌, ◌∷◌, [], ◌++◌, map, reverse, decimal, option_and_then, Some, IsSome, IfNone, IfOk, IfSome, OnOk};
 ghost use Rattle.cc_names.specs.Branches.{branch_of_version, names_of_branch, origin_of};

@@ -1,4 +1,4 @@
-// The query for the text of a version of an element.
+//! The query for the text of a version of an element.
 
 ghost use Rattle.std.specs.Prelude.{◌≡◌, Some, IfOk};
 ghost use Rattle.legal_history.specs.Commands.Decisions.{Scene};

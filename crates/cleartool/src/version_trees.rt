@@ -1,4 +1,4 @@
-// The query for an element's tree of versions.
+//! The query for an element's tree of versions.
 
 ghost use Rattle.std.specs.Prelude.{◌≡◌, ◌+◌, ◌<◌, ◌++◌, ℕ, IfOk, OnOk, map};
 ghost use Rattle.legal_history.specs.Base.Changes.{tree};

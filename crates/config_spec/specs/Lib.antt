@@ -1,4 +1,2 @@
 pub mod Children
-pub mod Laws
-pub mod Listing
-pub mod Sights
+pub mod Verdicts

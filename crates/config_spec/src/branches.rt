@@ -1,30 +1,14 @@
-// Branches of an element by the names that lead to them.
+//! Branches of an element by the names that lead to them.
 
 ghost use Rattle.std.specs.Prelude.{◌≡◌};
 ghost use Rattle.cc_names.specs.Branches.{branch_above, branch_behind, if_above, branch_named};
-ghost use Rattle.cc_names.specs.Versions.{of_first_rows};
 ghost use Rattle.config_spec.specs.Children.{child};
 
-use crate::sources::Sources;
+use crate::selectable::Selectable;
 use cc_names::names::Name;
-use version_tree::Tree;
-
-/// The branch on which a branch leaves its element's tree, in the first `rows` rows.
-pub(crate) fn branch_above(tree: &Tree, branch: u64, rows: u64) -> Option<u64>
-    ensures { result ≡ branch_above (of_first_rows rows tree.now.changes) branch }
-{
-    if branch >= rows {
-        return None;
-    }
-    let origin = tree.origin(branch)?;
-    if origin >= rows {
-        return None;
-    }
-    tree.branch(origin)
-}
 
 /// The element's branch of a name that leaves this branch.
-fn child<S: Sources>(sources: &S, element: u64, branch: u64, name: &Name) -> Option<u64>
+fn child<S: Selectable>(sources: &S, element: u64, branch: u64, name: &Name) -> Option<u64>
     ensures { result ≡ child (S.selectables sources.now).tree element branch name.now }
 {
     let next = sources.branch_named(element, name)?;
@@ -35,7 +19,7 @@ fn child<S: Sources>(sources: &S, element: u64, branch: u64, name: &Name) -> Opt
 }
 
 /// The element's branch whose names behind `main` are these.
-pub(crate) fn branch_behind<S: Sources>(sources: &S, element: u64, names: &[Name]) -> Option<u64>
+pub(crate) fn branch_behind<S: Selectable>(sources: &S, element: u64, names: &[Name]) -> Option<u64>
     ensures { result ≡ branch_behind (S.selectables sources.now).tree element names.now }
 {
     let mut branch = element;

@@ -1,22 +1,17 @@
-// What a rule finds, and the first rule that decides.
+//! What a rule finds, and the first rule that decides.
 
 ghost use Rattle.std.specs.Prelude.{◌≡◌};
 ghost use Rattle.cc_names.specs.Paths.{names_of};
 ghost use Rattle.spec_text.specs.Rules.{branch_of_type, latest_on, found_by, is_checkout, ends_scan, pick};
-ghost use Rattle.config_spec.specs.Sights.{sources_in, verdict};
+ghost use Rattle.config_spec.specs.Verdicts.{verdict};
 
 use crate::branches::branch_behind;
-use crate::rolls::Rolls;
-use crate::sights::Sight;
-use crate::sources::Sources;
+use crate::selectable::Selectable;
 use cc_names::names::Name;
-use cc_names::paths::Path;
 use cc_names::selection::{Picked, Rule, Selector};
-use label_book::Book;
 use spec_text::{Matches, Spec};
-use version_tree::Tree;
 
-fn branch_of_type<S: Sources>(sources: &S, element: u64, name: &Name) -> Option<u64>
+fn branch_of_type<S: Selectable>(sources: &S, element: u64, name: &Name) -> Option<u64>
     ensures { result ≡ branch_of_type (S.selectables sources.now) element name.now }
 {
     if name.as_bytes() == b"main".as_slice() {
@@ -25,14 +20,14 @@ fn branch_of_type<S: Sources>(sources: &S, element: u64, name: &Name) -> Option<
     sources.branch_named(element, name)
 }
 
-fn latest_on<S: Sources>(sources: &S, branch: Option<u64>, before: Option<u64>) -> Option<u64>
+fn latest_on<S: Selectable>(sources: &S, branch: Option<u64>, before: Option<u64>) -> Option<u64>
     ensures { result ≡ latest_on (S.selectables sources.now) before branch }
 {
     sources.latest(branch?, before)
 }
 
 /// The version that a rule's selector finds of an element.
-fn found_by<S: Sources>(sources: &S, element: u64, rule: &Rule) -> Option<u64>
+fn found_by<S: Selectable>(sources: &S, element: u64, rule: &Rule) -> Option<u64>
     ensures { result ≡ found_by (S.selectables sources.now) element rule.now }
 {
     match &rule.selector {
@@ -69,7 +64,7 @@ fn ends_scan(selector: &Selector) -> bool
 }
 
 /// What a rule picks at the path of these bytes, a version or none by `-none`, where it decides there.
-fn verdict<S: Sources>(
+fn verdict<S: Selectable>(
     sources: &S,
     element: u64,
     path: &[u8],
@@ -94,7 +89,12 @@ fn verdict<S: Sources>(
 /// Picks the version of an element at the path of these bytes from what there is: that of the first rule whose pattern matches
 /// the path and whose selector finds a version, or none where such a rule is `-none` first. Takes no memory, and for each rule
 /// tried the matching of the path and one query, for a rule that names a branch two for each of its names.
-pub fn pick_from<S: Sources>(sources: &S, spec: &Spec, element: u64, path: &[u8]) -> Option<Picked>
+pub fn pick_from<S: Selectable>(
+    sources: &S,
+    spec: &Spec,
+    element: u64,
+    path: &[u8],
+) -> Option<Picked>
     ensures { result
         ≡ pick (S.selectables sources.now) element (names_of path.now) spec.now }
 {
@@ -104,32 +104,4 @@ pub fn pick_from<S: Sources>(sources: &S, spec: &Spec, element: u64, path: &[u8]
         }
     }
     None
-}
-
-/// Picks the version of an element at a path in the first `rows` rows, as `pick_from` does. `out` is the row that makes the text
-/// of the view's checkout, where it has one. Takes no memory, and for each rule tried the matching of the path and the look-up of
-/// a version: logarithmic in the versions, but for a rule with a time linear in those that are not before it (`Tree::latest`),
-/// and for one of a record linear in what the record lists (`Rolls`).
-pub fn pick(
-    tree: &Tree,
-    labels: &Book,
-    spec: &Spec,
-    out: Option<u64>,
-    element: u64,
-    path: &Path,
-    rows: u64,
-    rolls: &Rolls,
-) -> Option<Picked>
-    ensures { result
-        ≡ pick (sources_in rows tree.now labels.now rolls.now out) element (names_of path.now)
-        spec.now }
-{
-    let sight = Sight {
-        tree,
-        labels,
-        rolls,
-        rows,
-        out,
-    };
-    pick_from(&sight, spec, element, path.as_bytes())
 }

@@ -1,4 +1,4 @@
-// The parts of a moment on the calendar and the clock.
+//! The parts of a moment on the calendar and the clock.
 
 ghost use Rattle.std.specs.Prelude.{◌≡◌, ◌≤◌, ◌<◌, ◌^◌, pos, ◌≤ℤ◌};
 ghost use Rattle.jiff_core.specs.Calendar.{days_in_month};

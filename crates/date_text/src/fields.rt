@@ -1,4 +1,4 @@
-// The fields of the form.
+//! The fields of the form.
 
 ghost use Rattle.std.specs.Prelude.{◌≡◌, ◌+◌, ◌<◌, ◌≤◌, ◌^◌, true, length, IfSome};
 ghost use Rattle.std.specs.Char.{is_ascii_digit};

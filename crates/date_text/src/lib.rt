@@ -1,12 +1,12 @@
-// The civil form of a moment: `d-Mmm-yyyy.hh:mm:ss` in UTC.
-//
-// What it is for: a moment is a number of seconds since the beginning of 1970. People write one as a date, in the rules
-// of a config spec, and read one as a date in listings.
-//
-// What it promises: `read` gives a moment exactly for the dates of the years 1970 to 9999, and else the place of the
-// first field that is wrong; `print` gives the one date of a moment. Neither takes memory.
-//
-// What it stands on: `jiff` and `jiff_core` for the calendar.
+//! The civil form of a moment: `d-Mmm-yyyy.hh:mm:ss` in UTC.
+//!
+//! What it is for: a moment is a number of seconds since the beginning of 1970. People write one as a date, in the rules
+//! of a config spec, and read one as a date in listings.
+//!
+//! What it promises: `read` gives a moment exactly for the dates of the years 1970 to 9999, and else the place of the
+//! first field that is wrong; `print` gives the one date of a moment. Neither takes memory.
+//!
+//! What it stands on: `jiff` and `jiff_core` for the calendar.
 #![tactic(auto)]
 
 mod civil;

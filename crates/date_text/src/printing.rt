@@ -1,4 +1,4 @@
-// Moments printed as dates.
+//! Moments printed as dates.
 
 ghost use Rattle.std.specs.Prelude.{◌≡◌, ◌+◌, ◌/◌, ◌%◌, ◌≤◌, ◌<◌, Ok};
 ghost use Rattle.std.specs.Int.{IsInRange};

@@ -1,4 +1,4 @@
-// Dates read as moments.
+//! Dates read as moments.
 
 ghost use Rattle.std.specs.Prelude.{◌≡◌, ◌^◌, ◌≤ℤ◌, ◌+◌, unwrap_or, ◌≤◌, ◌<◌, None, pos, length};
 ghost use Rattle.std.specs.Int.{IsInRange};

@@ -1,4 +1,4 @@
-// The trace of device calls that a disk in memory keeps.
+//! The trace of device calls that a disk in memory keeps.
 
 use cc_names::texts::Text;
 

@@ -1,4 +1,4 @@
-// The trait of disks.
+//! The trait of disks.
 
 ghost use Rattle.std.specs.Prelude.{◌≡◌, ◌≤◌, ◌+◌, ◌^◌, Bool, length, take, drop, is_some, IfOk, MatchResult};
 ghost use Rattle.disk_model.specs.Devices.{bytes_of, Measures, Fetches, Writes, Syncs, Idles, Tears};

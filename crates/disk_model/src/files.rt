@@ -1,4 +1,4 @@
-// A disk over two files of the system. What they hold is not told.
+//! A disk over two files of the system. What they hold is not told.
 
 ghost use Rattle.std.specs.Prelude.{◌≡◌, ◌≤◌, ◌<◌, ◌+◌, ◌-◌, ◌^◌, ◌↔◌, None, IfOk, IsTrue};
 ghost use Rattle.disk_model.specs.Counting.{next_count};

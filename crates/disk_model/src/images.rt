@@ -1,4 +1,4 @@
-// The images of a file that a stop may leave, made by going over the trace of calls.
+//! The images of a file that a stop may leave, made by going over the trace of calls.
 
 ghost use Rattle.std.specs.Prelude.{ℕ, List, ◌≡◌, ◌≤◌, ◌<◌, ◌+◌, length, take, IfOk, OnOk, OnErr, fold};
 ghost use Rattle.disk_model.specs.Files.{overwritten, IsImage};

@@ -1,4 +1,4 @@
-// A disk in memory, which tells all that was done to it.
+//! A disk in memory, which tells all that was done to it.
 
 ghost use Rattle.std.specs.Prelude.{◌≡◌, ◌⊎◌, ◌≤◌, ◌<◌, ◌+◌, ◌^◌, ◌-◌, List, Some, None, length, IfOk, OnOk, OnErr, MatchResult};
 ghost use Rattle.disk_model.specs.Records.{device_of};

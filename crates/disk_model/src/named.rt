@@ -1,4 +1,4 @@
-// A file of the system by its name, with its handle while it is open.
+//! A file of the system by its name, with its handle while it is open.
 
 use std::fs::{File, OpenOptions, TryLockError};
 use std::io::{self, Read, Seek, SeekFrom, Write};

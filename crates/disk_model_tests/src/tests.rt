@@ -1,4 +1,4 @@
-// What stops leave of a disk in memory, its record of calls, and what real files hold.
+//! What stops leave of a disk in memory, its record of calls, and what real files hold.
 
 ghost use Rattle.std.specs.Prelude.{◌≡◌, ◌≤◌, IfOk, length};
 

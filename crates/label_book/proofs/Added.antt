@@ -1,19 +1,15 @@
 -- What one change more of a label on an element adds to all changes.
-use Rattle.std.proofs.Common.{◌≡◌, ℕ, zero, suc, ◌<◌, true, false, ◌&&◌, eqb, List, [], ◌∷◌, ◌++◌, length, get_or, set, map, reverse, Option, None, refl, inl, inr, sym, ap, ◌∙◌, arith}
+use Rattle.std.proofs.Common.{◌≡◌, ◌≢◌, ℕ, zero, suc, ◌<◌, true, false, ◌&&◌, eqb, List, [], ◌∷◌, ◌++◌, length, get_or, set, map, reverse, Option, None, refl, inl, inr, sym, ap, ◌∙◌, arith}
 use Rattle.std.specs.Str.{bytes_eq}
 use Rattle.std.proofs.lemmas.List.{reverse-append, length-set, get_or-set_same, get_or-set_other, get_or_default}
 use Rattle.cc_names.specs.Falling.{IsAbove, Falls}
 use Rattle.cc_names.specs.Labels.{row_of_label_change, labels_of_first_rows, holder}
 use Rattle.label_book.specs.Marks.{is_about, of_pair, rows_of_pair}
-use Rattle.label_book.specs.Holding.{row_of_move, change_by, change_of_move, changes_held, all_changes, is_pair, IsPlaceOf, HasNoPlace}
-use Rattle.label_book.specs.BookFields.{InStep}
+use Rattle.label_book.specs.Holding.{Held, row_of_move, change_by, change_of_move, changes_by, changes_held, all_changes, is_pair, IsPlaceOf, HasNoPlace}
 use Rattle.label_book.specs.declared.held.Move.{Move}
-use Rattle.label_book.specs.declared.held.Held.{Held}
-use Rattle.label_book.proofs.Chain.{bool_cases, pair_is}
-use Rattle.label_book.proofs.InBook.{SameHead, others_fail}
+use Rattle.label_book.proofs.Entries.{SameHead}
 use Rattle.label_book.proofs.Newest.{row_by}
-use Rattle.label_book.proofs.Pairs.{holder_of_pair, about_by, of_pair_none, of_pair_at, of_pair_set_other}
-use Rattle.std.specs.declared.random_state.RandomState.{RandomState}
+use Rattle.label_book.proofs.Pairs.{bool_cases, pair_is, holder_of_pair, about_by, of_pair_none, of_pair_at, of_pair_set_other}
 
 -- the rows of moves, as changes or not
 rows_by : (l : List ℕ) (e : ℕ) (moves : List Move) → map row_of_label_change (map (change_of_move l e) moves) ≡ map row_of_move moves
@@ -32,29 +28,30 @@ changes_more old held move same more =
     ∙ ap (λ e. map (change_of_move old.label e) (reverse held.moves.items)) same.element
     ∙ ap (λ ms. map (change_of_move old.label old.element) ms) (ap reverse more ∙ reverse-append old.moves.items (move ∷ []))
 
-module _ {hashing : RandomState} (all : List Held) (heads : ℕ → Option ℕ) (step : InStep hashing all heads) (l : List ℕ) (e p : ℕ) (place : IsPlaceOf l e all p) where
+module _ (all : List Held) (l : List ℕ) (e p : ℕ) (place : IsPlaceOf l e all p) where
   -- the changes of the pair are those at its place
   pub pair_at : (d : Held) → of_pair l e (all_changes all) ≡ changes_held (get_or all p d)
-  pair_at d = of_pair_at l e all p d place.within (place.is d) (others_fail all heads step l e p place)
+  pair_at d = of_pair_at l e all p d place.within (place.is d) place.alone
 
-  -- its holder is told by those
-  pub holder_at : (rows : ℕ) (d : Held) → holder (labels_of_first_rows rows (all_changes all)) l e ≡ holder (labels_of_first_rows rows (changes_held (get_or all p d))) (get_or all p d).label (get_or all p d).element
-  holder_at rows d =
-      let (labels, elements) = pair_is l e (get_or all p d) (place.is d) in
-      holder_of_pair (all_changes all) rows l e
-      ∙ ap (λ cs. holder (labels_of_first_rows rows cs) l e) (pair_at d)
-      ∙ ap (λ k. holder (labels_of_first_rows rows (changes_held (get_or all p d))) k e) labels
-      ∙ ap (λ n. holder (labels_of_first_rows rows (changes_held (get_or all p d))) (get_or all p d).label n) elements
+  -- its holder is told by the moves there
+  pub holder_at : (rows : ℕ) (moves : List Move) (d : Held) → (get_or all p d).moves.items ≡ moves → holder (labels_of_first_rows rows (all_changes all)) l e ≡ holder (labels_of_first_rows rows (changes_by l e moves)) l e
+  holder_at rows moves d there =
+      let held = get_or all p d in
+      let (labels, elements) = pair_is l e held (place.is d) in
+      let changes : changes_held held ≡ changes_by l e moves =
+      ap (λ k. changes_by k held.element held.moves.items) (sym labels) ∙ ap (λ n. changes_by l n held.moves.items) (sym elements) ∙ ap (changes_by l e) there in
+      holder_of_pair (all_changes all) rows l e ∙ ap (λ cs. holder (labels_of_first_rows rows cs) l e) (pair_at d ∙ changes)
 
   -- a row above those of the pair is above those at its place
   pub above_at : (row : ℕ) (d : Held) → IsAbove row (rows_of_pair l e (all_changes all)) → IsAbove row (map row_of_move (reverse (get_or all p d).moves.items))
   above_at row d above = rw (ap (map row_of_label_change) (pair_at d) ∙ rows_by (get_or all p d).label (get_or all p d).element (reverse (get_or all p d).moves.items)) at above
 
-  -- with the change the moves at the place are in order
-  pub falls_more : (move : Move) (held : Held) (d : Held) → held.moves.items ≡ (get_or all p d).moves.items ++ move ∷ [] → IsAbove move.row (rows_of_pair l e (all_changes all))
-      → Falls (map row_of_move (reverse held.moves.items))
-  falls_more move held d more above =
-      rw (more, reverse-append (get_or all p d).moves.items (move ∷ [])) (above_at move.row d above, step.fall p d place.within)
+  -- with the change its moves are in order
+  pub falls_more : (move : Move) (older moves : List Move) (d : Held) → (get_or all p d).moves.items ≡ older → Falls (map row_of_move (reverse older)) → moves ≡ older ++ move ∷ []
+      → IsAbove move.row (rows_of_pair l e (all_changes all)) → Falls (map row_of_move (reverse moves))
+  falls_more move older moves d there falls more above =
+      let below : IsAbove move.row (map row_of_move (reverse older)) = rw there at (above_at move.row d above) in
+      rw (more, reverse-append older (move ∷ [])) (below, falls)
 
   -- a change of the pair is about what is at its place
   pub about_at : (row : ℕ) (version : Option ℕ) (k : List ℕ) (n : ℕ) (d : Held) → is_about k n (change_by l e row version) ≡ is_pair k n (get_or all p d)
@@ -72,13 +69,15 @@ module _ {hashing : RandomState} (all : List Held) (heads : ℕ → Option ℕ) 
       let at : (d : Held) → get_or all p d ≡ old = λ d. get_or_default all p d held place.within in
       elim (bool_cases (is_pair k n old)) [
         | inl is ↦
-            let here : IsPlaceOf k n all p = record { within = place.within; is = λ d. rw (at d) is } in
+            let (names, numbers) = pair_is k n old is in
+            let others : (i : ℕ) (f : Held) → i < length all → i ≢ p → is_pair k n (get_or all i f) ≡ false =
+            λ i f in_range apart. ap (λ x. is_pair x n (get_or all i f)) (names ∙ sym labels) ∙ ap (λ x. is_pair l x (get_or all i f)) (numbers ∙ sym elements) ∙ place.alone i f in_range apart in
             let there : get_or (set all p held) p held ≡ held = get_or-set_same all p held held place.within in
             let is_held : is_pair k n held ≡ true = same_pair k n held old (same held) ∙ is in
-            let before : of_pair k n (all_changes all) ≡ changes_held old = of_pair_at k n all p held place.within is (others_fail all heads step k n p here) in
+            let before : of_pair k n (all_changes all) ≡ changes_held old = of_pair_at k n all p held place.within is others in
             let after : of_pair k n (all_changes (set all p held)) ≡ changes_held (get_or (set all p held) p held) =
             of_pair_at k n (set all p held) p held (omega (arith, length-set {A = Held}, place.within)) (rw there is_held)
-            (λ i f in_range apart. rw (get_or-set_other all p i held f apart) (others_fail all heads step k n p here i f (omega (arith, length-set {A = Held})) apart)) in
+            (λ i f in_range apart. rw (get_or-set_other all p i held f apart) (others i f (omega (arith, length-set {A = Held})) apart)) in
             let change : change_of_move old.label old.element move ≡ change_by l e move.row move.version =
             ap (λ x. change_by x old.element move.row move.version) (sym labels) ∙ ap (λ x. change_by l x move.row move.version) (sym elements) in
             rw (about, is, before) (after ∙ ap changes_held there ∙ changes_more old held move (same held) (more held) ∙ ap (λ c. c ∷ changes_held old) change)

@@ -1,6 +1,7 @@
 mod Added
-mod Chain
-mod InBook
+mod Entries
+mod Found
+mod Kept
 mod Newest
 pub mod Pairs
 mod Ready

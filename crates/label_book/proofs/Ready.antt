@@ -3,8 +3,7 @@ use Rattle.std.proofs.Common.{◌≡◌, ◌≢◌, ℕ, zero, suc, ◌<◌, Boo
 use Rattle.std.specs.List.{list_any}
 use Rattle.cc_names.specs.Versions.{put_if}
 use Rattle.label_book.specs.Marks.{Pair, is_that}
-use Rattle.label_book.specs.Holding.{is_pair, ready_pairs}
-use Rattle.label_book.specs.declared.held.Held.{Held}
+use Rattle.label_book.specs.Holding.{Held, is_pair, ready_pairs}
 
 -- whether one has room
 abbrev pub has_room : Held → Bool

@@ -1,25 +1,26 @@
 -- The fields of a `Book`: what contracts see of them, and how they are in step.
-use Rattle.std.specs.Prelude.{◌≡◌, ℕ, ◌<◌, nat_eq, true, Option, List, length, map, reverse, slice_index_or}
-use Rattle.std.specs.HashMap.{get}
-use Rattle.std.specs.declared.random_state.RandomState.{RandomState}
+use Rattle.std.specs.Prelude.{ℕ, ◌<◌, List, length, map, reverse, slice_index_or}
+use Rattle.std.specs.Str.{bytes_eq}
+use Rattle.std.specs.List.{IsDistinct}
 use Rattle.cc_names.specs.Falling.{Falls}
 use Rattle.label_book.specs.Marks.{Marks}
-use Rattle.label_book.specs.Holding.{row_of_move, all_changes, is_pair, ready_pairs, newest_with, AreLinked}
-use Rattle.label_book.specs.declared.held.Held.{Held}
+use Rattle.label_book.specs.Holding.{MovesOn, Held, row_of_move, all_changes, all_held, ready_pairs, AreNamed}
 use Rattle.label_book.specs.declared.Book.TheInside.{Inside}
 
--- what contracts see
-abbrev pub marks_of : Inside → Marks
-marks_of inside = record { changes = all_changes inside.held.items; ready = ready_pairs inside.held.items }
+-- what contracts see of labels on elements
+abbrev pub marks_in : List Held → Marks
+marks_in all = record { changes = all_changes all; ready = ready_pairs all }
 
--- each label stands once on each element, its changes are in order of rows, and the links lead to all of one key
-pub record InStep (hashing : RandomState) (held : List Held) (heads : ℕ → Option ℕ) : Type 0 where
-  pub linked : AreLinked hashing (reverse held)
-  pub newest : (key : ℕ) → heads key ≡ newest_with hashing key (reverse held)
-  pub once : (p q : ℕ) (d : Held) → p < length held → q < length held
-      → is_pair (slice_index_or held p d).label (slice_index_or held p d).element (slice_index_or held q d) ≡ true → p ≡ q
-  pub fall : (p : ℕ) (d : Held) → p < length held → Falls (map row_of_move (reverse (slice_index_or held p d).moves.items))
+-- what contracts see of a book
+abbrev pub marks_of : Inside → Marks
+marks_of inside = marks_in (all_held inside.labels.keys inside.moves.entries)
+
+-- each name stands once, each label has one, and the changes of each label on each element are in order of rows
+pub record InStep (names : List (List ℕ)) (entries : List MovesOn) : Type 0 where
+  pub apart : IsDistinct bytes_eq names
+  pub named : AreNamed names entries
+  pub fall : (p : ℕ) (d : MovesOn) → p < length entries → Falls (map row_of_move (reverse (slice_index_or entries p d).1.items))
 
 -- the fields of a book are in step
 abbrev pub IsInStep : Inside → Type 0
-IsInStep inside = InStep inside.hashing inside.held.items (get nat_eq inside.newest)
+IsInStep inside = InStep inside.labels.keys inside.moves.entries

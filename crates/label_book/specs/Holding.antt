@@ -1,14 +1,23 @@
 -- The labels that a book keeps, each on one element with its changes.
-use Rattle.std.specs.Prelude.{◌≡◌, ℕ, ◌<◌, ◌==◌, ◌&&◌, nat_lt, Bool, true, false, cond, Option, Some, None, List, [], ◌∷◌, ◌++◌, length, map, reverse, slice_index_or, vec_len, vec_capacity}
+use Rattle.std.specs.Prelude.{◌≡◌, ◌≢◌, ℕ, ◌<◌, ◌≤◌, ◌==◌, ◌&&◌, nat_lt, Bool, true, false, Option, Some, None, List, [], ◌∷◌, ◌++◌, length, map, reverse, slice_index_or, Vec, vec_len, vec_capacity}
+use Rattle.std.specs.declared.alloc.Global.{Global}
 use Rattle.std.specs.Str.{bytes_eq}
-use Rattle.std.specs.declared.random_state.RandomState.{RandomState}
-use Rattle.cc_names.specs.Keys.{key_of}
 use Rattle.cc_names.specs.Versions.{put_if}
 use Rattle.cc_names.specs.declared.changes.LabelChange.{LabelChange}
 use Rattle.cc_names.specs.declared.changes.LabelChange.TheVariants.{Put, Taken}
 use Rattle.label_book.specs.Marks.{Pair}
 use Rattle.label_book.specs.declared.held.Move.{Move}
-use Rattle.label_book.specs.declared.held.Held.{Held}
+use Rattle.label_book.specs.declared.held.LabelOn.{LabelOn}
+
+-- moves of one label on one element, oldest first
+abbrev pub MoveList : Type 0
+MoveList = Vec Move Global
+
+-- a label on one element with its moves
+pub record Held : Type 0 where
+  pub label : List ℕ
+  pub element : ℕ
+  pub moves : MoveList
 
 -- the row of a move
 abbrev pub row_of_move : Move → ℕ
@@ -23,9 +32,13 @@ change_by l e row None = Taken row l e
 abbrev pub change_of_move : List ℕ → ℕ → Move → LabelChange
 change_of_move l e move = change_by l e move.row move.version
 
--- the changes of one label on one element, newest first
+-- the changes that moves of one label on one element were, newest first
+abbrev pub changes_by : List ℕ → ℕ → List Move → List LabelChange
+changes_by l e moves = map (change_of_move l e) (reverse moves)
+
+-- the changes of one label on one element
 abbrev pub changes_held : Held → List LabelChange
-changes_held held = map (change_of_move held.label held.element) (reverse held.moves.items)
+changes_held held = changes_by held.label held.element held.moves.items
 
 -- those of all of them
 abbrev pub all_changes : List Held → List LabelChange
@@ -42,25 +55,40 @@ ready_pairs [] = []
 ready_pairs (held ∷ others) =
     put_if (nat_lt (vec_len held.moves) (vec_capacity held.moves)) (record { label = held.label; element = held.element }) (ready_pairs others)
 
--- whether it has this key
-abbrev pub has_key : RandomState → ℕ → Held → Bool
-has_key hashing key held = key_of hashing held.element held.label == key
+-- whether two are the same label on the same element
+abbrev pub is_same : LabelOn → LabelOn → Bool
+is_same one two = (one.label == two.label) && (one.element == two.element)
 
--- the place, counted from the oldest, of the newest one with the key
-abbrev pub newest_with : RandomState → ℕ → List Held → Option ℕ
-newest_with hashing key [] = None
-newest_with hashing key (held ∷ older) = cond (has_key hashing key held) (Some (length older)) (newest_with hashing key older)
+-- a label on an element with its moves, where the label is told by its place
+abbrev pub MovesOn : Type 0
+MovesOn = LabelOn × MoveList
 
--- each names the place of the next older one with its key
-abbrev pub AreLinked : RandomState → List Held → Type 0
-AreLinked hashing [] = Unit {0}
-AreLinked hashing (held ∷ older) =
-    (held.namesake ≡ newest_with hashing (key_of hashing held.element held.label) older) × AreLinked hashing older
+-- the same by the label's name, among these names
+abbrev pub held_in : List (List ℕ) → MovesOn → Held
+held_in names entry = record { label = slice_index_or names entry.0.label []; element = entry.0.element; moves = entry.1 }
 
--- where a label on an element stands
+abbrev pub all_held : List (List ℕ) → List MovesOn → List Held
+all_held names entries = map (held_in names) entries
+
+-- each label has a name
+abbrev pub AreNamed : List (List ℕ) → List MovesOn → Type 0
+AreNamed names entries = (p : ℕ) (d : MovesOn) → p < length entries → (slice_index_or entries p d).0.label < length names
+
+-- each name keeps its place, and there may be more
+pub record HasGrown (old new : List (List ℕ)) : Type 0 where
+  pub more : length old ≤ length new
+  pub same : (n : ℕ) → n < length old → slice_index_or new n [] ≡ slice_index_or old n []
+
+-- where a label stands among the names
+pub record IsPlaceOfLabel (l : List ℕ) (names : List (List ℕ)) (n : ℕ) : Type 0 where
+  pub within : n < length names
+  pub is : slice_index_or names n [] ≡ l
+
+-- where a label on an element stands, and nowhere else
 pub record IsPlaceOf (l : List ℕ) (e : ℕ) (all : List Held) (p : ℕ) : Type 0 where
   pub within : p < length all
   pub is : (d : Held) → is_pair l e (slice_index_or all p d) ≡ true
+  pub alone : (k : ℕ) (d : Held) → k < length all → k ≢ p → is_pair l e (slice_index_or all k d) ≡ false
 
 -- the label stands nowhere on the element
 pub record HasNoPlace (l : List ℕ) (e : ℕ) (all : List Held) : Type 0 where

@@ -1,14 +1,17 @@
-// A label on one element with its changes, and how one is found among all.
+//! Labels on elements with their changes, and how one is found among all.
 
-ghost use Rattle.std.specs.Prelude.{◌≡◌, ℕ, nat_eq, IfSome, IfNone, find, map, option_map, reverse, None};
-ghost use Rattle.std.specs.HashMap.{get};
-ghost use Rattle.cc_names.specs.Keys.{key_of};
+ghost use Rattle.std.specs.Prelude.{◌≡◌, ◌++◌, ◌∷◌, [], ℕ, IfSome, IfNone, IfOk, OnOk, OnErr, List, None, map, reverse, bytes_eq};
+ghost use Rattle.std.specs.List.{IsDistinct};
+ghost use Rattle.indexmap.specs.IndexMap.{get};
 ghost use Rattle.cc_names.specs.Falling.{Falls};
+ghost use Rattle.cc_names.specs.Labels.{labels_of_first_rows, holder};
+ghost use Rattle.label_book.specs.Holding.{row_of_move, changes_by, is_same, all_held, AreNamed, HasGrown, IsPlaceOf, HasNoPlace, IsPlaceOfLabel};
 
 use cc_names::by_row::{ByRow, count_below};
-use cc_names::keys::key_of;
+use cc_names::memory::NoMemory;
 use cc_names::names::Name;
-use std::collections::HashMap;
+use indexmap::{IndexMap, IndexSet};
+use std::alloc::Global;
 use std::hash::RandomState;
 
 /// One change of a label on an element: the version on which it was put, or none where it was taken off.
@@ -26,64 +29,64 @@ impl ByRow for Move {
     }
 }
 
-/// A label on an element with its changes, in order of their rows; and the place of the next older one with the same key.
-#[derive(Debug, Drop)]
-pub struct Held {
-    pub label: Name,
+/// A label, by its place among the labels of a book, on an element.
+#[derive(Clone, Copy, Debug, PartialEq, Eq, Hash)]
+pub struct LabelOn {
+    pub label: usize,
     pub element: u64,
-    pub namesake: Option<usize>,
-    pub moves: Vec<Move>,
 }
 
-impl Held {
-    ghost use Rattle.label_book.specs.Holding.{row_of_move, is_pair, changes_held, newest_with, AreLinked, IsPlaceOf, HasNoPlace};
-    ghost use Rattle.cc_names.specs.Labels.{labels_of_first_rows, holder};
+/// The labels of a book. Each keeps its place.
+pub type Labels = IndexSet<Name, RandomState>;
 
-    /// Whether it is this label on this element.
-    pub fn is(&self, label: &Name, element: u64) -> bool
-        ensures { result ≡ is_pair label.now element self.now }
-    {
-        label.as_bytes() == self.label.as_bytes() && element == self.element
+/// The changes of each label on each element, in order of their rows.
+pub type Moves = IndexMap<LabelOn, Vec<Move>, RandomState>;
+
+/// The place of a label on an element among all. Takes time linear in the label's name.
+pub fn find(labels: &Labels, moves: &Moves, label: &Name, element: u64) -> Option<usize>
+    requires apart { IsDistinct bytes_eq labels.now.keys }
+    requires named { AreNamed labels.now.keys moves.now.entries }
+    ensures found { IfSome result
+        (IsPlaceOf label.now element (all_held labels.now.keys moves.now.entries)) }
+    ensures absent { IfNone result
+        (HasNoPlace label.now element (all_held labels.now.keys moves.now.entries)) }
+{
+    let label = labels.get_index_of(label)?;
+    moves.get_index_of(&LabelOn { label, element })
+}
+
+/// The place of a label, which is put last where it is new. Takes time linear in its name.
+pub fn place_of_label(alloc: Global, labels: &mut Labels, label: &Name) -> Result<usize, NoMemory>
+    requires apart { IsDistinct bytes_eq labels.old.keys }
+    ensures apart { IsDistinct bytes_eq labels.new.keys }
+    ensures grown { HasGrown labels.old.keys labels.new.keys }
+    ensures place { IfOk result (IsPlaceOfLabel label.now labels.new.keys) }
+{
+    if let Some(place) = labels.get_index_of(label) {
+        return Ok(place);
     }
+    let (place, _) = labels.insert_full(label.copy(alloc)?)?;
+    Ok(place)
+}
 
-    /// The version on which the label stood in the first `rows` rows. Takes time logarithmic in the changes.
-    pub fn at(&self, rows: u64) -> Option<u64>
-        requires { Falls (map row_of_move (reverse self.now.moves.items)) }
-        ensures { result
-            ≡ holder (labels_of_first_rows rows (changes_held self.now)) self.now.label
-            self.now.element }
-    {
-        match count_below(&self.moves, rows) {
-            0 => None,
-            count => self.moves[count - 1].version,
-        }
-    }
+/// Adds the changes of a label on an element behind all others, where it has none yet.
+pub fn put_last(moves: &mut Moves, on: LabelOn, changes: Vec<Move>) -> Result<(), NoMemory>
+    requires { get is_same moves.old on ≡ None }
+    ensures put { OnOk result (moves.new.entries ≡ moves.old.entries ++ (on, changes) ∷ []) }
+    ensures unchanged { OnErr result (moves.new.entries ≡ moves.old.entries) }
+{
+    moves.insert(on, changes)?;
+    Ok(())
+}
 
-    /// The place of a label on an element among all, where `newest` has the place of the newest one of each key. Takes time
-    /// linear in the label's name, at most once for each with its key, which mostly is this one alone.
-    pub fn find(
-        hashing: RandomState,
-        held: &[Held],
-        newest: &HashMap<u64, usize>,
-        label: &Name,
-        element: u64,
-    ) -> Option<usize>
-        requires linked { AreLinked hashing (reverse held.now) }
-        requires newest { (key : ℕ)
-            → get nat_eq newest.now key ≡ newest_with hashing key (reverse held.now) }
-        ensures found { IfSome result (IsPlaceOf label.now element held.now) }
-        ensures absent { IfNone result (HasNoPlace label.now element held.now) }
-    {
-        let mut older = held;
-        let mut next = newest.get(&key_of(hashing, element, label)).copied();
-        while let Some(place) = next {
-            let found = &older[place];
-            if found.is(label, element) {
-                return Some(place);
-            }
-            next = found.namesake;
-            older = &older[..place];
-        }
-        None
+/// The version on which a label stood in the first `rows` rows, by its changes. Takes time logarithmic in them.
+pub fn version_at(moves: &[Move], rows: u64) -> Option<u64>
+    requires { Falls (map row_of_move (reverse moves.now)) }
+    ensures { (l : List ℕ) (e : ℕ)
+        → result ≡ holder (labels_of_first_rows rows (changes_by l e moves.now)) l e }
+{
+    match count_below(moves, rows) {
+        0 => None,
+        count => moves[count - 1].version,
     }
 }

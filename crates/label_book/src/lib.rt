@@ -1,12 +1,12 @@
-// The holder of every label on every element, as it was at any number of rows.
-//
-// What it is for: a label stands on at most one version of an element, and may be moved, taken off and put again. The book
-// answers on which version it stood when the base had only its first `rows` rows.
-//
-// What it promises: each answer is that of the definition over the list of changes (`cc_names`, `Labels`), None exactly
-// where it finds nothing. Putting a label and taking it off take no memory, where room was reserved before.
-//
-// What it stands on: `cc_names`.
+//! The holder of every label on every element, as it was at any number of rows.
+//!
+//! What it is for: a label stands on at most one version of an element, and may be moved, taken off and put again. The book
+//! answers on which version it stood when the base had only its first `rows` rows.
+//!
+//! What it promises: each answer is that of the definition over the list of changes (`cc_names`, `Labels`), None exactly
+//! where it finds nothing. Putting a label and taking it off take no memory, where room was reserved before.
+//!
+//! What it stands on: `cc_names`, and `indexmap` of the kit, which finds a label by its name and then on an element.
 #![tactic(auto)]
 
 ghost use Rattle.std.specs.Prelude.{◌≡◌, ℕ, ◌<◌, ◌∷◌, [], IsTrue, IfOk, OnOk, length, slice_index};
@@ -20,22 +20,19 @@ pub mod laws;
 #[cfg(test)]
 mod tests;
 
-use cc_names::keys::key_of;
 use cc_names::memory::NoMemory;
 use cc_names::names::Name;
-use held::{Held, Move};
+use held::{LabelOn, Labels, Move, Moves, find, place_of_label, put_last, version_at};
+use indexmap::{IndexMap, IndexSet};
 use std::alloc::Global;
-use std::collections::HashMap;
 use std::hash::RandomState;
 use std::marker::Model;
 
 /// The labels of a base on its elements. Contracts see the list of changes.
 #[derive(Debug, Drop)]
 pub struct Book {
-    alloc: Global,
-    hashing: RandomState,
-    held: Vec<Held>,
-    newest: HashMap<u64, usize>,
+    labels: Labels,
+    moves: Moves,
 }
 
 impl Model for Book {
@@ -58,15 +55,13 @@ impl Book {
         ensures { IfOk result (λ book. book.changes ≡ []) }
     {
         Ok(Book {
-            alloc,
-            hashing,
-            held: Vec::new(alloc),
-            newest: HashMap::new(alloc),
+            labels: IndexSet::with_hasher(alloc, hashing),
+            moves: IndexMap::with_hasher(alloc, hashing),
         })
     }
 
     /// Makes room for one change of a label on each of these elements. Takes for each the time to find the label there, as
-    /// `at` does, and to copy its name where it is new there; a list that is full is doubled, in time linear in it.
+    /// `at` does, and to copy its name where it is new; a list that is full is doubled, in time linear in it.
     pub fn reserve(&mut self, alloc: Global, label: &Name, elements: &[u64]) -> Result<(), NoMemory>
         ensures kept { KeepsAll self.old self.new }
         ensures ready { OnOk result
@@ -85,32 +80,15 @@ impl Book {
         ensures kept { KeepsAll self.old self.new }
         ensures ready { OnOk result (IsTrue (has_room self.new label.now element)) }
     {
-        match Held::find(self.hashing, &self.held, &self.newest, label, element) {
-            Some(place) => {
-                let held = &mut self.held[place];
-                held.moves.reserve(1)?;
-            }
-            None => {
-                let label = label.copy(alloc)?;
-                // Most labels are put once and stay: the first change has room for itself alone.
-                let mut moves = Vec::new(alloc);
-                moves.reserve_exact(1)?;
-                self.newest.reserve(1)?;
-                let key = key_of(self.hashing, element, &label);
-                let namesake = self.newest.get(&key).copied();
-                let place = self.held.len();
-                self.held.push(Held {
-                    label,
-                    element,
-                    namesake,
-                    moves,
-                })?;
-                match self.newest.insert(key, place) {
-                    Ok(_) => {}
-                    Err(_) => unreachable!(),
-                }
-            }
+        if let Some(place) = find(&self.labels, &self.moves, label, element) {
+            let moves = &mut self.moves[place];
+            moves.reserve(1)?;
+            return Ok(());
         }
+        // Most labels are put once and stay: the first change has room for itself alone.
+        let moves = Vec::with_capacity(alloc, 1)?;
+        let label = place_of_label(alloc, &mut self.labels, label)?;
+        put_last(&mut self.moves, LabelOn { label, element }, moves)?;
         Ok(())
     }
 
@@ -148,22 +126,21 @@ impl Book {
         ensures { AddsChange self.old self.new
             (change_by label.now element change.row change.version) }
     {
-        match Held::find(self.hashing, &self.held, &self.newest, label, element) {
+        match find(&self.labels, &self.moves, label, element) {
             Some(place) => {
-                let held = &mut self.held[place];
-                held.moves.push_reserved(change);
+                let moves = &mut self.moves[place];
+                moves.push_reserved(change);
             }
             None => unreachable!(),
         }
     }
 
     /// The version of an element that held a label in the first `rows` rows. Takes time linear in the label's name to find the
-    /// label there - once for the key of both, and at most once for each label on an element with that key, which mostly is
-    /// this one alone - and time logarithmic in its changes there.
+    /// label there, and time logarithmic in its changes there.
     pub fn at(&self, label: &Name, element: u64, rows: u64) -> Option<u64>
         ensures { result ≡ holder (labels_of_first_rows rows self.now.changes) label.now element }
     {
-        let place = Held::find(self.hashing, &self.held, &self.newest, label, element)?;
-        self.held[place].at(rows)
+        let place = find(&self.labels, &self.moves, label, element)?;
+        version_at(&self.moves[place], rows)
     }
 }

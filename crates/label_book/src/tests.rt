@@ -1,5 +1,5 @@
-// Labels that are put, moved, taken off and put again, and labels that look random against the plain definition, written
-// as a slow program over a list of lines.
+//! Labels that are put, moved, taken off and put again, and labels that look random against the plain definition, written
+//! as a slow program over a list of lines.
 
 ghost use Rattle.std.specs.Prelude.{◌≡◌, ◌+◌, ◌≤◌, ◌≢◌, ℕ, List, OnOk, IfSome};
 ghost use Rattle.cc_names.specs.Falling.{IsAbove};

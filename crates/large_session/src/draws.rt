@@ -1,4 +1,4 @@
-// The numbers of the large session.
+//! The numbers of the large session.
 
 ghost use Rattle.std.specs.Prelude.{◌≡◌, ◌<◌, IfOk};
 ghost use Rattle.large_session.specs.Draws.{next_state, drawn, file_of, files_of};

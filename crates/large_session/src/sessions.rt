@@ -1,4 +1,4 @@
-// The text of the large session.
+//! The text of the large session.
 #![tactic(auto, using(std::proofs::lemmas::List::append_assoc))]
 
 ghost use Rattle.std.specs.Prelude.{◌≡◌, ◌++◌, IfOk, OnOk, codes};

@@ -1,4 +1,4 @@
-// Two small sessions, written out by hand from the rule, and the length of the greatest that the program is to run.
+//! Two small sessions, written out by hand from the rule, and the length of the greatest that the program is to run.
 
 use cc_names::memory::NoMemory;
 use large_session::make_session;

@@ -1,4 +1,4 @@
-// The laws that users of the model may rely on, by what they speak of.
+//! The laws that users of the model may rely on, by what they speak of.
 
 pub mod bases;
 pub mod builds;

@@ -8,9 +8,10 @@ use Rattle.std.proofs.lemmas.List.FromFn.{length-range_with_len, get_or-range_wi
 use Rattle.std.proofs.lemmas.Map.Views.{any-filter_same}
 use Rattle.std.proofs.lemmas.Option.{slice_get-get_or, slice_get_past}
 use Rattle.std.specs.List.{filter, range_with_len, slice_get}
+use Rattle.cc_names.specs.Versions.{is_number}
 use Rattle.cc_names.specs.declared.units.Unit.{Unit}
 use Rattle.make_graph.specs.Dependants.{is_last, with_last, named_if, Names}
-use Rattle.make_graph.specs.Waits.{is_unit, is_in, makes_one, makers_of, prerequisites_of, prerequisites_at, dependants_of}
+use Rattle.make_graph.specs.Waits.{is_in, makes_one, makers_of, prerequisites_of, prerequisites_at, dependants_of}
 use Rattle.make_graph.proofs.NeedLemmas.{same_number, itself}
 use Rattle.make_graph.proofs.MakerLemmas.{is_maker}
 
@@ -20,8 +21,8 @@ behind_is_last : (n : ℕ) (numbers : List ℕ) → is_last n (numbers ++ n ∷ 
 behind_is_last n numbers =
     let at : length (numbers ++ n ∷ []) - 1 ≡ length numbers = omega (arith, length_push numbers n) in
     let within : length numbers < length (numbers ++ n ∷ []) = omega (arith, length_push numbers n) in
-    ap (λ i. is_unit n (slice_get (numbers ++ n ∷ []) i)) at
-    ∙ (ap (is_unit n) (slice_get-get_or (numbers ++ n ∷ []) (length numbers) 0 within)
+    ap (λ i. is_number n (slice_get (numbers ++ n ∷ []) i)) at
+    ∙ (ap (is_number n) (slice_get-get_or (numbers ++ n ∷ []) (length numbers) 0 within)
     ∙ (ap (λ k. n == k) (get_or_at numbers n [] 0 (length numbers) refl)
     ∙ itself n n refl))
 
@@ -97,7 +98,7 @@ not_last p k = by (slice_get numbers (length numbers - 1)) refl
     numbers : List ℕ
     numbers = filter p (range_with_len 0 k)
 
-    by : (o : Option ℕ) → slice_get (filter p (range_with_len 0 k)) (length (filter p (range_with_len 0 k)) - 1) ≡ o → is_unit k o ≡ false
+    by : (o : Option ℕ) → slice_get (filter p (range_with_len 0 k)) (length (filter p (range_with_len 0 k)) - 1) ≡ o → is_number k o ≡ false
     by None h = refl
     by (Some x) h = ne_eqb k x (λ same. omega (arith, same, all_below p 0 k _ x h))
 

@@ -1,5 +1,5 @@
 mod WalkedLemmas
-mod FrameLemmas
+mod VisitLemmas
 mod ServingLemmas
 mod SuffixLemmas
 pub mod NeedLemmas

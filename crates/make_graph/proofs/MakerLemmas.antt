@@ -2,15 +2,16 @@
 use Rattle.std.proofs.Common.{◌≡◌, refl, ap, ℕ, Bool, ◌||◌, ◌&&◌, Option, Some, None, List, [], ◌∷◌, ◌==◌, map}
 use Rattle.std.proofs.Math.Path.{fun_ext}
 use Rattle.std.specs.List.{list_all, cons_option, filter_map}
+use Rattle.cc_names.specs.Versions.{is_number}
 use Rattle.cc_names.specs.declared.units.Unit.{Unit}
-use Rattle.make_graph.specs.Waits.{unit_of, is_unit, makes_one, makers_of, is_in, is_done, are_done}
+use Rattle.make_graph.specs.Waits.{unit_of, makes_one, makers_of, is_in, is_done, are_done}
 
 -- a number is one of theirs where its unit makes one of the paths
 pub is_maker : (units : List Unit) (paths : List (List ℕ)) (n : ℕ) → is_in (makers_of units paths) n ≡ makes_one units paths n
 is_maker units [] n = refl
 is_maker units (path ∷ paths) n = by (unit_of units path) (is_maker units paths n)
   where
-    by : (o : Option ℕ) → is_in (makers_of units paths) n ≡ makes_one units paths n → is_in (cons_option o (makers_of units paths)) n ≡ (is_unit n o || makes_one units paths n)
+    by : (o : Option ℕ) → is_in (makers_of units paths) n ≡ makes_one units paths n → is_in (cons_option o (makers_of units paths)) n ≡ (is_number n o || makes_one units paths n)
     by None rest = rest
     by (Some m) rest = ap (λ t. (n == m) || t) rest
 

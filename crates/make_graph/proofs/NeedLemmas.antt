@@ -2,8 +2,9 @@
 use Rattle.std.proofs.Common.{◌≡◌, ◌⊎◌, inl, inr, refl, sym, ◌∙◌, ℕ, suc, ◌==◌, Bool, true, false, ◌||◌, List, ◌++◌, arith}
 use Rattle.std.proofs.lemmas.Bool.Decides.{nat_tests}
 use Rattle.std.proofs.lemmas.List.Folds.{list_any-append}
+use Rattle.cc_names.specs.Versions.{is_number}
 use Rattle.cc_names.specs.declared.units.Unit.{Unit}
-use Rattle.make_graph.specs.Waits.{unit_of, is_unit, makes_one}
+use Rattle.make_graph.specs.Waits.{unit_of, makes_one}
 use Rattle.make_graph.specs.Standing.{Needs}
 use Rattle.make_graph.specs.Standing.Needs.{Directly, Through}
 
@@ -30,7 +31,7 @@ right_is true b h = refl
 right_is false b h = h
 
 pub makes_more : (units : List Unit) (ps qs : List (List ℕ)) (n : ℕ) → makes_one units (ps ++ qs) n ≡ (makes_one units ps n || makes_one units qs n)
-makes_more units ps qs n = list_any-append (λ path. is_unit n (unit_of units path)) ps qs
+makes_more units ps qs n = list_any-append (λ path. is_number n (unit_of units path)) ps qs
 
 -- ---- what is needed of more units, or by more paths
 

@@ -1,10 +1,10 @@
 -- The dependants of units, named one after the other.
 use Rattle.std.specs.Prelude.{◌≡◌, ◌-◌, ◌<◌, ℕ, true, false, Bool, List, [], ◌∷◌, ◌++◌, length, slice_get, slice_index_or}
-use Rattle.make_graph.specs.Waits.{is_unit}
+use Rattle.cc_names.specs.Versions.{is_number}
 
 -- whether a number is the last of these
 abbrev pub is_last : ℕ → List ℕ → Bool
-is_last n numbers = is_unit n (slice_get numbers (length numbers - 1))
+is_last n numbers = is_number n (slice_get numbers (length numbers - 1))
 
 -- these numbers, and behind them another, unless it is their last already
 abbrev pub with_last : ℕ → List ℕ → List ℕ

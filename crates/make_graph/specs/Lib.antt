@@ -2,7 +2,7 @@ pub mod Waits
 pub mod Marks
 pub mod Standing
 pub mod Numbered
-pub mod Frames
+pub mod Visits
 pub mod UnitNumbers
 pub mod Items
 pub mod NumberSets

@@ -1,6 +1,7 @@
 -- What the units of a build wait for.
 use Rattle.std.specs.Prelude.{ℕ, zero, suc, ◌==◌, Bool, true, false, List, [], ◌∷◌, ◌++◌, length, slice_get, filter, Option, Some, None, unwrap_or}
 use Rattle.std.specs.List.{list_any, list_all, filter_map, range_with_len}
+use Rattle.cc_names.specs.Versions.{is_number}
 use Rattle.cc_names.specs.declared.units.Unit.{Unit}
 use Rattle.make_text.specs.Numbers.{number_from}
 use Rattle.make_text.specs.UnitLaws.{made_by_unit}
@@ -13,14 +14,9 @@ unit_of units path = number_from made_by_unit 0 path units
 abbrev pub makers_of : List Unit → List (List ℕ) → List ℕ
 makers_of units paths = filter_map (unit_of units) paths
 
--- whether a unit is that of this number
-abbrev pub is_unit : ℕ → Option ℕ → Bool
-is_unit n None = false
-is_unit n (Some m) = n == m
-
 -- whether the unit of this number makes one of these paths
 abbrev pub makes_one : List Unit → List (List ℕ) → ℕ → Bool
-makes_one units paths n = list_any (λ path. is_unit n (unit_of units path)) paths
+makes_one units paths n = list_any (λ path. is_number n (unit_of units path)) paths
 
 -- the prerequisites of a unit, where there is one
 abbrev pub prerequisites_of : Option Unit → List (List ℕ)

@@ -1,4 +1,4 @@
-// The units that a unit stands on.
+//! The units that a unit stands on.
 
 ghost use Rattle.std.specs.Prelude.{◌≡◌, ◌≤◌, ◌<◌, ◌∷◌, [], ℕ, length, IfOk};
 ghost use Rattle.make_graph.specs.Standing.{ClosureStands};

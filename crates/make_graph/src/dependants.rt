@@ -1,4 +1,4 @@
-// Which units wait for each unit.
+//! Which units wait for each unit.
 
 ghost use Rattle.std.specs.Prelude.{◌≡◌, ◌==◌, ◌<◌, ◌^◌, [], ℕ, length, map, replicate, IfOk, OnOk};
 ghost use Rattle.std.specs.List.{range_with_len};

@@ -1,4 +1,4 @@
-// The default goal of a build, and the targets of its units that are sources.
+//! The default goal of a build, and the targets of its units that are sources.
 
 ghost use Rattle.std.specs.Prelude.{◌≡◌, ℕ, List, Bool, not, find, option_copied};
 ghost use Rattle.std.specs.List.{flat_map};

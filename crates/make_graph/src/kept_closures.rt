@@ -1,4 +1,4 @@
-// The closures of the first units of a build, each made of those of the units before it.
+//! The closures of the first units of a build, each made of those of the units before it.
 
 ghost use Rattle.std.specs.Prelude.{◌≡◌, ◌||◌, ℕ, length, map, IfOk};
 ghost use Rattle.std.specs.List.{list_any};

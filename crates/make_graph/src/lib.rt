@@ -1,15 +1,15 @@
-// The units of a build: which of them its goals want, in which order, and what waits for what.
-//
-// What it is for: `Graph::of` makes the units of a makefile that was read for the goals of a build, with suffix rules, groups
-// and cycles; `unit_of` finds one by a target, `closure` gives the units that a unit stands on, `dependants` those that wait
-// for it, and `ready` says whether it waits for one.
-//
-// What it promises: the units, or the fault in their place, are those of the definition of the units of a build;
-// `closure` gives the units that a unit stands on, by law all of them and no others, `dependants` those that have a
-// prerequisite of its making, and `ready` says whether those of its own prerequisites are done.
-//
-// What it stands on: `make_text` for makefiles and the definition of units, `cc_names` for paths, units and faults,
-// `indexmap` for paths without a rule in their order, each once.
+//! The units of a build: which of them its goals want, in which order, and what waits for what.
+//!
+//! What it is for: `Graph::of` makes the units of a makefile that was read for the goals of a build, with suffix rules, groups
+//! and cycles; `unit_of` finds one by a target, `closure` gives the units that a unit stands on, `dependants` those that wait
+//! for it, and `ready` says whether none of those that it waits for is left.
+//!
+//! What it promises: the units, or the fault in their place, are those of the definition of the units of a build;
+//! `closure` gives the units that a unit stands on, by law all of them and no others, `dependants` those that have a
+//! prerequisite of its making, and `ready` says whether those of its own prerequisites are done.
+//!
+//! What it stands on: `make_text` for makefiles and the definition of units, `cc_names` for paths, units and faults,
+//! `indexmap` for paths without a rule in their order, each once.
 #![tactic(auto)]
 
 pub mod closures;

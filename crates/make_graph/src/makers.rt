@@ -1,4 +1,4 @@
-// Which units make the prerequisites of each unit.
+//! Which units make the prerequisites of each unit.
 
 ghost use Rattle.std.specs.Prelude.{◌≡◌, IfOk, map};
 ghost use Rattle.std.specs.List.{filter_map};

@@ -1,4 +1,4 @@
-// Sets of numbers as bits.
+//! Sets of numbers as bits.
 
 ghost use Rattle.std.specs.Prelude.{◌≡◌, ◌≤◌, ◌<◌, ◌/◌, ◌↔◌, ◌==◌, ◌||◌, ◌≢◌, ℕ, length, slice_index_or, false, IfOk, IsTrue};
 ghost use Rattle.std.specs.Int.{bit_at};

@@ -1,3 +1,3 @@
-// What makes a path, by its number.
+//! What makes a path, by its number.
 
 pub(crate) use make_text::numbers::{Numbers, number, number_all};

@@ -1,4 +1,4 @@
-// All that may serve a build: rules, and what suffix rules make.
+//! All that may serve a build: rules, and what suffix rules make.
 
 ghost use Rattle.std.specs.Prelude.{◌≡◌, [], ◌∷◌, ◌++◌, IfOk, OnOk, not, map, filter, fold, option_copied};
 ghost use Rattle.std.specs.List.{filter_map};

@@ -1,4 +1,4 @@
-// The suffix rules of a makefile, found by the suffix of what they make.
+//! The suffix rules of a makefile, found by the suffix of what they make.
 
 ghost use Rattle.std.specs.Prelude.{◌≡◌, ◌<◌, ◌==◌, ℕ, List, Some, IfOk, OnOk, length, unwrap_or, if◌then◌else◌};
 ghost use Rattle.std.specs.HashMap.{get};

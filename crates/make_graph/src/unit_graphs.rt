@@ -1,4 +1,4 @@
-// The graph of a build over any makefile.
+//! The graph of a build over any makefile.
 
 ghost use Rattle.std.specs.Prelude.{◌≡◌, ◌<◌, ◌^◌, ℕ, IfOk, Some, length};
 ghost use Rattle.std.specs.List.{list_all};

@@ -1,4 +1,4 @@
-// The units that goals want, in their order.
+//! The units that goals want, in their order.
 
 ghost use Rattle.std.specs.Prelude.{◌≡◌, ◌<◌, ◌||◌, ◌∷◌, [], Ok, not, is_some, find, length, IfOk, option_copied, slice_get};
 ghost use Rattle.cc_names.specs.Answers.{Gives};
@@ -9,7 +9,7 @@ ghost use Rattle.make_graph.specs.Items.{result_items};
 ghost use Rattle.make_text.specs.Serving.{servings};
 ghost use Rattle.make_text.specs.Walks.{number_of, walk_of};
 ghost use Rattle.make_text.specs.Units.{script_of_unit};
-ghost use Rattle.make_graph.specs.Frames.{KnowsUnits, GivesWalk};
+ghost use Rattle.make_graph.specs.Visits.{KnowsUnits, GivesWalk};
 ghost use Rattle.make_graph.specs.Numbered.{KnowsRules};
 
 use crate::goals::{Exists, default_goal, first_source};

@@ -1,10 +1,10 @@
-// The walk over the goals of a build, which keeps its own stack.
+//! The walk over the goals of a build, which keeps its own stack.
 
 ghost use Rattle.std.specs.Prelude.{◌≡◌, ◌≤◌, ◌+◌, ◌<◌, ◌++◌, [], ◌∷◌, ℕ, OnOk, IfOk, IfSome, ◌^◌, length, slice_get, slice_set, option_copied, suc, replicate, Ok};
 ghost use Rattle.cc_names.specs.Answers.{Gives};
 ghost use Rattle.make_text.specs.Walks.{number_of, prerequisites_at, closed, take_path, walk_of};
 ghost use Rattle.make_text.specs.declared.walks.Mark.TheVariants.{New};
-ghost use Rattle.make_graph.specs.Frames.{KnowsUnits, meeting, entered, behind, next_of, resume, Goes, news};
+ghost use Rattle.make_graph.specs.Visits.{KnowsUnits, meeting, entered, behind, next_of, resume, Goes, news};
 
 use crate::numbers::{Numbers, number};
 use crate::serving::Serving;
@@ -33,7 +33,7 @@ impl Model for Walk {
 
 /// A unit that is open, its prerequisites, and the number of the one that comes next.
 #[derive(Drop)]
-pub(crate) struct Frame {
+pub(crate) struct Visit {
     unit: u32,
     paths: List<Path>,
     next: usize,
@@ -87,10 +87,10 @@ fn entered(
     hashing: RandomState,
     units: &[Serving],
     unit: u32,
-) -> Result<Frame, NoMemory>
-    ensures { IfOk result (λ frame. frame ≡ entered units.now unit) }
+) -> Result<Visit, NoMemory>
+    ensures { IfOk result (λ visit. visit ≡ entered units.now unit) }
 {
-    Ok(Frame {
+    Ok(Visit {
         unit,
         paths: prerequisites(alloc, hashing, units, unit)?,
         next: 0,
@@ -98,20 +98,20 @@ fn entered(
 }
 
 /// The prerequisite that comes next.
-fn next_path(frame: &Frame) -> Option<&Path>
-    ensures path { option_copied result ≡ next_of frame.now }
-    ensures within { IfSome result (λ _. frame.now.next < 2 ^ 63) }
+fn next_path(visit: &Visit) -> Option<&Path>
+    ensures path { option_copied result ≡ next_of visit.now }
+    ensures within { IfSome result (λ _. visit.now.next < 2 ^ 63) }
 {
-    frame.paths.as_slice().get(frame.next)
+    visit.paths.as_slice().get(visit.next)
 }
 
-/// A frame whose next prerequisite is past.
-fn behind(frame: Frame) -> Frame
-    requires { frame.next < 2 ^ 63 }
-    ensures { result ≡ behind frame }
+/// A visit whose next prerequisite is past.
+fn behind(visit: Visit) -> Visit
+    requires { visit.next < 2 ^ 63 }
+    ensures { result ≡ behind visit }
 {
-    let Frame { unit, paths, next } = frame;
-    Frame {
+    let Visit { unit, paths, next } = visit;
+    Visit {
         unit,
         paths,
         next: next + 1,
@@ -146,8 +146,8 @@ fn advance(
     units: &[Serving],
     numbers: &Numbers,
     walk: &mut Walk,
-    stack: &mut Vec<Frame>,
-    top: Frame,
+    stack: &mut Vec<Visit>,
+    top: Visit,
 ) -> Result<(), Or<Path>>
     requires known { KnowsUnits numbers.now units.now }
     requires room { length stack.old.items + 1 + news walk.old.marks ≤ length units.now }
@@ -164,9 +164,9 @@ fn advance(
         Meeting::Past => stack.push(behind(top))?,
         Meeting::Again => return Err(Or::Is(path.copy(alloc)?)),
         Meeting::Enter(unit) => {
-            let frame = entered(alloc, hashing, units, unit)?;
+            let visit = entered(alloc, hashing, units, unit)?;
             stack.push(behind(top))?;
-            stack.push(frame)?;
+            stack.push(visit)?;
             walk.mark(unit, Mark::Open);
         }
     }
@@ -180,7 +180,7 @@ fn run(
     units: &[Serving],
     numbers: &Numbers,
     walk: &mut Walk,
-    first: Frame,
+    first: Visit,
 ) -> Result<(), Or<Path>>
     requires known { KnowsUnits numbers.now units.now }
     requires room { 1 + news walk.old.marks ≤ length units.now }

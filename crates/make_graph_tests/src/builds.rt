@@ -1,4 +1,4 @@
-// Builds of several units, and the faults of their goals.
+//! Builds of several units, and the faults of their goals.
 
 use crate::makefiles::{graph_of, graph_without_files};
 use cc_names::memory::{NoMemory, Or};

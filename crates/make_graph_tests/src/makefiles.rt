@@ -1,4 +1,4 @@
-// The makefile of the tests, and the graphs of its builds.
+//! The makefile of the tests, and the graphs of its builds.
 
 ghost use Rattle.std.specs.Prelude.{ℕ, List, Bool, Option, Some};
 ghost use Rattle.std.specs.Str.{bytes_eq};

@@ -1,4 +1,4 @@
-// What each unit of a build stands on, which wait for it, and which are ready.
+//! What each unit of a build stands on, which wait for it, and which are ready.
 
 ghost use Rattle.std.specs.Prelude.{◌≡◌, length};
 

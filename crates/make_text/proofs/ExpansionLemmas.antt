@@ -10,7 +10,7 @@ use Rattle.std.specs.List.{position}
 use Rattle.make_text.specs.Lines.{is_dollar}
 use Rattle.make_text.proofs.PieceLemmas.{plain_all}
 use Rattle.make_text.specs.Macros.{Piece, Byte, Reference, Expansion, plain, loop, followed, expansion_of, pieces_of, piece_expansion, pieces_expansion, value_in, is_among}
-use Rattle.make_text.specs.Expanding.{Memo, Opened, names_of, refer, goes_on, left_of, still, Admits, Settled, Gives, AllGive}
+use Rattle.make_text.specs.Expanding.{Memo, Opened, names_of, refer, goes_on, left_of, still, Admits, AreKnown, Gives, AllGive}
 
 -- ---- expansions one after the other
 
@@ -152,14 +152,14 @@ module _ (macros : List Macro) (automatic : ℕ → List ℕ) where
       ∙ ap plain (append-nil written)
 
   -- a macro that came to its end has its result
-  pub settled_more : (memo : Memo) (size : ℕ) (name written : List ℕ) → Settled macros automatic memo size → Gives macros automatic memo size name written [] → Settled macros automatic (with_result name written memo) (size + 1)
+  pub settled_more : (memo : Memo) (size : ℕ) (name written : List ℕ) → AreKnown macros automatic memo size → Gives macros automatic memo size name written [] → AreKnown macros automatic (with_result name written memo) (size + 1)
   settled_more memo size name written s h x bytes k left begun a =
       one_of name written memo x bytes k
       (λ e w. ap (λ v. refer macros automatic left begun v) (sym e) ∙ finished memo size name written h left begun a ∙ ap plain w)
       (λ apart old. s x bytes old left begun (admits_fewer memo size left begun name written a))
 
   -- a reference to a macro that has a result
-  pub known_expansion : (memo : Memo) (size : ℕ) (name bytes : List ℕ) → Settled macros automatic memo size → memo name ≡ Some bytes → (left : ℕ) (begun : List (List ℕ)) → Admits macros automatic memo size left begun → goes_on macros automatic left begun (Reference name ∷ []) ≡ plain bytes
+  pub known_expansion : (memo : Memo) (size : ℕ) (name bytes : List ℕ) → AreKnown macros automatic memo size → memo name ≡ Some bytes → (left : ℕ) (begun : List (List ℕ)) → Admits macros automatic memo size left begun → goes_on macros automatic left begun (Reference name ∷ []) ≡ plain bytes
   known_expansion memo size name bytes s h left begun a =
       ap (λ v. followed v (plain [])) (s name bytes h left begun a) ∙ ap plain (append-nil bytes)
 
@@ -208,7 +208,7 @@ module _ (macros : List Macro) (automatic : ℕ → List ℕ) where
   )
 
   -- a macro whose expansion ends: it gave what was written since it was begun
-  pub all_finished : (memo : Memo) (size : ℕ) (written : List ℕ) (o : Opened) (opened : List Opened) → AllGive macros automatic memo size written [] [] (o ∷ opened) → Settled macros automatic memo size → AllGive macros automatic (with_result o.name (drop o.start written) memo) (size + 1) written [] o.outer opened × Settled macros automatic (with_result o.name (drop o.start written) memo) (size + 1)
+  pub all_finished : (memo : Memo) (size : ℕ) (written : List ℕ) (o : Opened) (opened : List Opened) → AllGive macros automatic memo size written [] [] (o ∷ opened) → AreKnown macros automatic memo size → AllGive macros automatic (with_result o.name (drop o.start written) memo) (size + 1) written [] o.outer opened × AreKnown macros automatic (with_result o.name (drop o.start written) memo) (size + 1)
   all_finished memo size written o opened h s =
       let whole : Gives macros automatic memo size o.name (drop o.start written) [] = h.0 in
       let settled = settled_more memo size o.name (drop o.start written) s whole in

@@ -45,8 +45,8 @@ module _ (macros : List Macro) (automatic : ℕ → List ℕ) where
     pub defined : (x : List ℕ) → value_in macros x ≡ None → is_among begun x ≡ false
 
   -- each result is what a reference gives, whichever other macros are being expanded
-  abbrev pub Settled : Memo → ℕ → Type 0
-  Settled memo size =
+  abbrev pub AreKnown : Memo → ℕ → Type 0
+  AreKnown memo size =
       (x bytes : List ℕ) → memo x ≡ Some bytes → (left : ℕ) (begun : List (List ℕ)) → Admits memo size left begun
       → refer left begun x ≡ plain bytes
 

@@ -3,7 +3,7 @@
 use Rattle.std.specs.Prelude.{◌≡◌, ℕ, ◌+◌, ◌*◌, ◌≤◌, ◌<◌, Bool, true, false, Option, Some, None, List, [], length, take, drop, sum_by, slice_index_or}
 use Rattle.cc_names.specs.declared.commands.Macro.{Macro}
 use Rattle.make_text.specs.Macros.{Piece, Expansion, plain, followed, value_in, is_among}
-use Rattle.make_text.specs.Expanding.{Memo, Opened, names_of, goes_on, left_of, still, Settled, AllGive}
+use Rattle.make_text.specs.Expanding.{Memo, Opened, names_of, goes_on, left_of, still, AreKnown, AllGive}
 use Rattle.make_text.specs.States.{state_at}
 use Rattle.make_text.specs.declared.states.State.{State}
 use Rattle.make_text.specs.declared.states.State.TheVariants.{Untouched, Begun, Expanded}
@@ -68,7 +68,7 @@ module _ (macros : List Macro) (automatic : ℕ → List ℕ) where
         (followed (goes_on macros automatic (left_of macros automatic opened) (names_of opened) pieces) (still macros automatic rest opened))
         ≡ total
     pub gives : AllGive macros automatic memo size written pieces rest opened
-    pub settled : Settled macros automatic memo size
+    pub settled : AreKnown macros automatic memo size
     pub known : length states ≡ length macros
     pub results : (i : ℕ) → i < length macros → memo (macro_at macros i).name ≡ result_in written (state_at states i)
     pub ends : (i : ℕ) → i < length macros → EndsIn written (state_at states i)

@@ -8,8 +8,8 @@ use Rattle.make_text.specs.States.{state_at}
 use Rattle.make_text.specs.declared.expansions.Automatic as automatics
 use Rattle.make_text.specs.declared.expansions.Expanding as expandings
 use Rattle.make_text.specs.declared.expansions.Opened as lent
-use Rattle.make_text.specs.declared.expansions.Outcome as outcomes
-use Rattle.make_text.specs.declared.expansions.Outcome.TheVariants.{TooLong, Loop, Bytes}
+use Rattle.make_text.specs.declared.expansions.ExpandedText as expanded_texts
+use Rattle.make_text.specs.declared.expansions.ExpandedText.TheVariants.{TooLong, Loop, Bytes}
 use Rattle.make_text.specs.declared.pieces.Part as parts
 use Rattle.make_text.specs.declared.pieces.Part.TheVariants as variants
 use Rattle.make_text.specs.declared.states.State.TheVariants.{Untouched, Begun, Expanded}
@@ -117,7 +117,7 @@ IsSomeRun macros automatic e = (total : Expansion) × IsRunning macros automatic
 -- ---- the outcome
 
 -- what an expansion gave: that it is too long, or its bytes, up to a loop where it met one
-abbrev pub IsOutcome : Expansion → outcomes.Outcome → Type 0
-IsOutcome total TooLong = is_too_long total ≡ true
-IsOutcome total (Loop bytes) = (is_too_long total ≡ false) × (total ≡ record { bytes = bytes.items; loops = true })
-IsOutcome total (Bytes bytes) = (is_too_long total ≡ false) × (total ≡ plain bytes.items)
+abbrev pub IsExpandedText : Expansion → expanded_texts.ExpandedText → Type 0
+IsExpandedText total TooLong = is_too_long total ≡ true
+IsExpandedText total (Loop bytes) = (is_too_long total ≡ false) × (total ≡ record { bytes = bytes.items; loops = true })
+IsExpandedText total (Bytes bytes) = (is_too_long total ≡ false) × (total ≡ plain bytes.items)

@@ -1,4 +1,4 @@
-// What a makefile says.
+//! What a makefile says.
 
 ghost use Rattle.std.specs.Prelude.{◌≡◌, ℕ, List, Option, IfOk, flat_map, option_copied, unwrap_or, []};
 ghost use Rattle.cc_names.specs.Answers.{Gives};
@@ -8,10 +8,10 @@ ghost use Rattle.make_text.specs.Serving.{prerequisites_of};
 ghost use Rattle.make_text.specs.Statements.{macros_of};
 ghost use Rattle.make_text.specs.WordPaths.{each_once};
 ghost use Rattle.make_text.specs.Macros.{Expansion, is_among, in_script};
-ghost use Rattle.make_text.specs.Steps.{automatic_of, IsOutcome};
+ghost use Rattle.make_text.specs.Steps.{automatic_of, IsExpandedText};
 
 use crate::endings::checked;
-use crate::expansions::{Automatic, Outcome, expand};
+use crate::expansions::{Automatic, ExpandedText, expand};
 use crate::including::read_all;
 use crate::macros::MacroTable;
 use crate::rules::{MakeRule, SuffixRule};
@@ -207,12 +207,12 @@ fn automatic_of<'a>(target: &'a Path, first: Option<&'a Path>, stem: &'a [u8]) -
 }
 
 /// What a script expands to, by what its expansion gave. A loop does not come in a makefile that was read.
-fn answer(outcome: Outcome) -> Expanded
-    ensures { (total : Expansion) → IsOutcome total outcome → result ≡ unless_too_long total }
+fn answer(outcome: ExpandedText) -> Expanded
+    ensures { (total : Expansion) → IsExpandedText total outcome → result ≡ unless_too_long total }
 {
     match outcome {
-        Outcome::TooLong => Expanded::TooLong,
-        Outcome::Loop(bytes) => Expanded::Lines(Text::of(bytes)),
-        Outcome::Bytes(bytes) => Expanded::Lines(Text::of(bytes)),
+        ExpandedText::TooLong => Expanded::TooLong,
+        ExpandedText::Loop(bytes) => Expanded::Lines(Text::of(bytes)),
+        ExpandedText::Bytes(bytes) => Expanded::Lines(Text::of(bytes)),
     }
 }

@@ -1,4 +1,4 @@
-// What is tested behind the last line of a makefile, and what it says then.
+//! What is tested behind the last line of a makefile, and what it says then.
 
 ghost use Rattle.std.specs.Prelude.{◌≡◌, IfOk, filter, flat_map, not, reverse};
 ghost use Rattle.cc_names.specs.Answers.{Gives};

@@ -1,11 +1,11 @@
-// What a text expands to, by the macros of a makefile.
+//! What a text expands to, by the macros of a makefile.
 
 ghost use Rattle.std.specs.Prelude.{◌≡◌, ◌<◌, IfOk, [], length, replicate};
 ghost use Rattle.make_text.specs.Macros.{Expansion, plain, expansion_of, is_too_long};
 ghost use Rattle.make_text.specs.Runs.{HasNamesApart, len_in};
 ghost use Rattle.make_text.specs.States.{state_at};
 ghost use Rattle.make_text.specs.Statements.{macros_of};
-ghost use Rattle.make_text.specs.Steps.{automatic_of, IsRunning, work_of, EndsSafely, MacroEnded, RefersSafely, Referred, Took, Went, FallsBelow, IsSomeRun, IsOutcome};
+ghost use Rattle.make_text.specs.Steps.{automatic_of, IsRunning, work_of, EndsSafely, MacroEnded, RefersSafely, Referred, Took, Went, FallsBelow, IsSomeRun, IsExpandedText};
 ghost use Rattle.make_text.specs.declared.states.State.TheVariants as variants;
 
 use crate::macros::MacroTable;
@@ -27,7 +27,7 @@ pub(crate) struct Automatic<'a> {
 
 /// What a text expands to.
 #[derive(Drop)]
-pub(crate) enum Outcome {
+pub(crate) enum ExpandedText {
     /// More bytes than a line may have.
     TooLong,
     /// These bytes, up to where the expansion meets a macro that is being expanded.
@@ -211,27 +211,27 @@ impl<'a> Expanding<'a> {
 }
 
 /// The bytes of an expansion, unless they are too many; a loop may have ended it.
-fn bounded(written: Vec<u8>, loops: bool) -> Outcome
-    ensures { IsOutcome (record { bytes = written.items; loops = loops }) result }
+fn bounded(written: Vec<u8>, loops: bool) -> ExpandedText
+    ensures { IsExpandedText (record { bytes = written.items; loops = loops }) result }
 {
     if written.len() > EXPANSION_LIMIT {
-        return Outcome::TooLong;
+        return ExpandedText::TooLong;
     }
     if loops {
-        Outcome::Loop(written)
+        ExpandedText::Loop(written)
     } else {
-        Outcome::Bytes(written)
+        ExpandedText::Bytes(written)
     }
 }
 
 /// The bytes of a text that has no reference, unless they are too many.
-fn plain_outcome(alloc: Global, text: &[u8]) -> Result<Outcome, NoMemory>
-    ensures { IfOk result (λ outcome. IsOutcome (plain text.now) outcome) }
+fn plain_outcome(alloc: Global, text: &[u8]) -> Result<ExpandedText, NoMemory>
+    ensures { IfOk result (λ outcome. IsExpandedText (plain text.now) outcome) }
 {
     if text.len() > EXPANSION_LIMIT {
-        return Ok(Outcome::TooLong);
+        return Ok(ExpandedText::TooLong);
     }
-    Ok(Outcome::Bytes(Vec::from_slice(alloc, text)?))
+    Ok(ExpandedText::Bytes(Vec::from_slice(alloc, text)?))
 }
 
 /// Expands a text. Takes time linear in the text, in the values of the macros that it reaches, each once, and in what it
@@ -242,10 +242,10 @@ pub(crate) fn expand<'a>(
     macros: &'a MacroTable,
     automatic: &Automatic<'a>,
     text: &'a [u8],
-) -> Result<Outcome, NoMemory>
+) -> Result<ExpandedText, NoMemory>
     ensures { IfOk result
         (λ outcome.
-        IsOutcome (expansion_of (macros_of macros.now) (automatic_of automatic.now) text.now)
+        IsExpandedText (expansion_of (macros_of macros.now) (automatic_of automatic.now) text.now)
         outcome) }
 {
     if first_dollar(text).is_none() {
@@ -260,7 +260,7 @@ pub(crate) fn expand<'a>(
             Step::Loops => return Ok(bounded(expanding.written, true)),
         }
         if expanding.written.len() > EXPANSION_LIMIT {
-            return Ok(Outcome::TooLong);
+            return Ok(ExpandedText::TooLong);
         }
     }
 }

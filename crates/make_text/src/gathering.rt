@@ -1,4 +1,4 @@
-// All that rules are made of, each once.
+//! All that rules are made of, each once.
 
 ghost use Rattle.std.specs.Prelude.{◌≡◌, true, false, IfOk, OnOk, flat_map, fold, slice_get, slice_set, unwrap_or};
 ghost use Rattle.make_text.specs.Gathering.{prerequisites_at, HasPut};

@@ -1,4 +1,4 @@
-// The lines of a makefile one after the other, with the files that it includes read in place.
+//! The lines of a makefile one after the other, with the files that it includes read in place.
 
 ghost use Rattle.std.specs.Prelude.{◌≡◌, OnOk};
 ghost use Rattle.cc_names.specs.Answers.{Gives};

@@ -1,4 +1,4 @@
-// The rules that rule lines are joined to.
+//! The rules that rule lines are joined to.
 
 ghost use Rattle.std.specs.Prelude.{◌≡◌, ◌<◌, ◌^◌, ◌-◌, ◌∷◌, [], Some, true, IfOk, OnOk, find, length, option_copied, slice_get};
 ghost use Rattle.make_text.specs.Contents.{groups_of, made_with, with_rule_line, joined_rules};

@@ -1,4 +1,4 @@
-// The rule lines that were read.
+//! The rule lines that were read.
 
 ghost use Rattle.std.specs.Prelude.{◌≡◌, ◌&&◌, [], ◌∷◌, ◌++◌, drop, None, IfOk, OnOk, is_some, option_copied, option_map, unwrap_or};
 ghost use Rattle.make_text.specs.Statements.{with_script_line};

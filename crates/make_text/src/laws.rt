@@ -1,4 +1,4 @@
-// Laws on makefiles that are read, and on the units of a build.
+//! Laws on makefiles that are read, and on the units of a build.
 
 ghost use Rattle.make_text.specs.UnitLaws.{UnitsInOrder, UnitsFormed, MakefilesAreFormed};
 

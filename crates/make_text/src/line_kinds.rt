@@ -1,4 +1,4 @@
-// What a line of a makefile is, where it is no line of a script.
+//! What a line of a makefile is, where it is no line of a script.
 
 ghost use Rattle.std.specs.Prelude.{◌≡◌, ◌<◌, ◌+◌, [], option_copied, IfSome, length, take, drop, slice_index};
 ghost use Rattle.std.specs.List.{position};

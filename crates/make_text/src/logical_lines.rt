@@ -1,4 +1,4 @@
-// The lines of a makefile as make reads them.
+//! The lines of a makefile as make reads them.
 
 ghost use Rattle.std.specs.Prelude.{◌≡◌, ◌<◌, ◌∷◌, [], IfOk, MatchOption, Some, true, false, length};
 ghost use Rattle.std.specs.List.{slice_split};

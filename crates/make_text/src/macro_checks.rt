@@ -1,4 +1,4 @@
-// What is tested of each macro behind the last line: whether its expansion is too long, or meets itself.
+//! What is tested of each macro behind the last line: whether its expansion is too long, or meets itself.
 
 ghost use Rattle.std.specs.Prelude.{◌≡◌, ◌<◌, ◌-◌, [], IfOk, length};
 ghost use Rattle.make_text.specs.Grammar.{macros_fault};

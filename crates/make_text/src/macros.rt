@@ -1,4 +1,4 @@
-// The macros of a makefile, by their names.
+//! The macros of a makefile, by their names.
 
 ghost use Rattle.std.specs.Prelude.{◌≡◌, ◌<◌, ◌&&◌, not, IfOk, OnOk, [], length};
 ghost use Rattle.make_text.specs.MacroChecks.{definition_at};

@@ -1,4 +1,4 @@
-// What makes a path, by its number.
+//! What makes a path, by its number.
 
 ghost use Rattle.std.specs.Prelude.{◌≡◌, ◌<◌, ◌^◌, ℕ, List, OnOk, IfOk, length};
 ghost use Rattle.std.specs.HashMap.{get};

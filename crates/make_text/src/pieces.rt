@@ -1,4 +1,4 @@
-// The macro references in a text.
+//! The macro references in a text.
 
 ghost use Rattle.std.specs.Prelude.{◌≡◌, ◌<◌, ◌==◌, ◌∷◌, [], IfSome, length, slice_index};
 ghost use Rattle.std.specs.List.{list_all, position};

@@ -1,4 +1,4 @@
-// A makefile that is being read, and the lines that include no file.
+//! A makefile that is being read, and the lines that include no file.
 
 ghost use Rattle.std.specs.Prelude.{◌≡◌, ℕ, List, IfOk, OnOk, Some, true};
 ghost use Rattle.make_text.specs.Grammar.{nothing_read, with_overrides};

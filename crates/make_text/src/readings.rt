@@ -1,4 +1,4 @@
-// What was read so far of a makefile and the files that it includes.
+//! What was read so far of a makefile and the files that it includes.
 
 ghost use Rattle.std.specs.Prelude.{◌≡◌, ◌+◌, IfOk, OnOk, option_copied, reverse, slice_get};
 ghost use Rattle.cc_names.specs.Answers.{FaultIs};

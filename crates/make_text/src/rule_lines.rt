@@ -1,4 +1,4 @@
-// Rule lines and include lines, and their faults in the order in which they are tested.
+//! Rule lines and include lines, and their faults in the order in which they are tested.
 
 ghost use Rattle.std.specs.Prelude.{◌≡◌, ◌+◌, ◌||◌, IfOk, map, nat_lt, not, slice_get};
 ghost use Rattle.std.specs.List.{list_any, list_all};
@@ -8,11 +8,11 @@ ghost use Rattle.cc_names.specs.Cuts.{words_of};
 ghost use Rattle.cc_names.specs.declared.refusals.MakeCause.TheVariants as causes;
 ghost use Rattle.make_text.specs.Lines.{is_byte};
 ghost use Rattle.make_text.specs.Macros.{Expansion, followed, plain, is_among, is_macro_name, has_bad_dollar, expansion_of, no_automatic};
-ghost use Rattle.make_text.specs.Steps.{IsOutcome};
+ghost use Rattle.make_text.specs.Steps.{IsExpandedText};
 ghost use Rattle.make_text.specs.Statements.{macros_of, expanded_by, or_cause, where_so, macro_fault, expansion_fault, is_special, suffixes_name, is_suffix_byte, is_suffix, is_grouped, before_mark, mark_of, is_semicolon, rule_bytes_fault, line_words_fault, rule_words, include_words_fault, include_words};
 ghost use Rattle.make_text.specs.RuleLines.{below_root, rule_of_paths, rule_of_words, rule_of_sides, expanded_sides};
 
-use crate::expansions::{Automatic, EXPANSION_LIMIT, Outcome, expand};
+use crate::expansions::{Automatic, EXPANSION_LIMIT, ExpandedText, expand};
 use crate::macros::MacroTable;
 use crate::pieces::{has_bad_dollar, is_macro_name};
 use crate::word_paths::read_paths;
@@ -221,9 +221,9 @@ fn rule_of_sides(
 }
 
 /// A text expanded outside scripts.
-fn expand_line(alloc: Global, macros: &MacroTable, text: &[u8]) -> Result<Outcome, NoMemory>
+fn expand_line(alloc: Global, macros: &MacroTable, text: &[u8]) -> Result<ExpandedText, NoMemory>
     ensures { IfOk result
-        (λ outcome. IsOutcome (expanded_by (macros_of macros.now) text.now) outcome) }
+        (λ outcome. IsExpandedText (expanded_by (macros_of macros.now) text.now) outcome) }
 {
     let automatic = Automatic {
         target: &[],
@@ -234,15 +234,15 @@ fn expand_line(alloc: Global, macros: &MacroTable, text: &[u8]) -> Result<Outcom
 }
 
 /// The bytes of an expansion that has no fault.
-fn only_bytes(outcome: Outcome) -> Result<Text, MakeCause>
+fn only_bytes(outcome: ExpandedText) -> Result<Text, MakeCause>
     ensures { (total : Expansion)
-        → IsOutcome total outcome
+        → IsExpandedText total outcome
         → result ≡ or_cause (expansion_fault total) total.bytes }
 {
     match outcome {
-        Outcome::TooLong => Err(MakeCause::LineTooLong),
-        Outcome::Loop(_) => Err(MakeCause::MacroLoop),
-        Outcome::Bytes(bytes) => Ok(Text::of(bytes)),
+        ExpandedText::TooLong => Err(MakeCause::LineTooLong),
+        ExpandedText::Loop(_) => Err(MakeCause::MacroLoop),
+        ExpandedText::Bytes(bytes) => Ok(Text::of(bytes)),
     }
 }
 
@@ -254,9 +254,9 @@ fn fits(before: usize, mark: usize, behind: usize) -> bool
 }
 
 /// The bytes of an expansion that has no fault and is not too long behind what stands before it and a mark.
-fn bytes_behind(before: &Text, mark: &[u8], outcome: Outcome) -> Result<Text, MakeCause>
+fn bytes_behind(before: &Text, mark: &[u8], outcome: ExpandedText) -> Result<Text, MakeCause>
     ensures { (total : Expansion)
-        → IsOutcome total outcome
+        → IsExpandedText total outcome
         → result
         ≡ or_cause
         (expansion_fault (followed (plain before.now) (followed (plain mark.now) total)))
@@ -264,9 +264,9 @@ fn bytes_behind(before: &Text, mark: &[u8], outcome: Outcome) -> Result<Text, Ma
 {
     let (before, mark) = (before.as_bytes().len(), mark.len());
     match outcome {
-        Outcome::TooLong => Err(MakeCause::LineTooLong),
-        Outcome::Loop(bytes) if fits(before, mark, bytes.len()) => Err(MakeCause::MacroLoop),
-        Outcome::Bytes(bytes) if fits(before, mark, bytes.len()) => Ok(Text::of(bytes)),
+        ExpandedText::TooLong => Err(MakeCause::LineTooLong),
+        ExpandedText::Loop(bytes) if fits(before, mark, bytes.len()) => Err(MakeCause::MacroLoop),
+        ExpandedText::Bytes(bytes) if fits(before, mark, bytes.len()) => Ok(Text::of(bytes)),
         _ => Err(MakeCause::LineTooLong),
     }
 }
@@ -295,9 +295,9 @@ fn mark_of(before: &[u8]) -> &'static [u8]
 }
 
 /// Both sides of a rule line expanded, by the first and by what the second gave.
-fn both_sides(first: Text, mark: &[u8], outcome: Outcome) -> Result<(Text, Text), MakeCause>
+fn both_sides(first: Text, mark: &[u8], outcome: ExpandedText) -> Result<(Text, Text), MakeCause>
     ensures { (total : Expansion)
-        → IsOutcome total outcome
+        → IsExpandedText total outcome
         → result
         ≡ or_cause (expansion_fault (followed (plain first) (followed (plain mark.now) total)))
         (first, total.bytes) }

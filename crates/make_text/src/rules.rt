@@ -1,4 +1,4 @@
-// The rules of a makefile.
+//! The rules of a makefile.
 
 ghost use Rattle.std.specs.Prelude.{◌≡◌, ◌==◌, ◌&&◌, [], IfOk, OnOk, is_some, length, option_copied, option_map};
 ghost use Rattle.make_text.specs.Contents.{rule_without, with_line};

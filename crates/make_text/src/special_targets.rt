@@ -1,4 +1,4 @@
-// The targets of rule lines, special ones and others, and what special targets say.
+//! The targets of rule lines, special ones and others, and what special targets say.
 
 ghost use Rattle.std.specs.Prelude.{◌≡◌, IfOk, OnOk, fold, filter, not};
 ghost use Rattle.std.specs.List.{list_any};

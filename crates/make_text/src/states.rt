@@ -1,4 +1,4 @@
-// What is known of each macro while a text is expanded.
+//! What is known of each macro while a text is expanded.
 
 ghost use Rattle.std.specs.Prelude.{◌≡◌, ◌<◌, OnOk, length, replicate, slice_set};
 ghost use Rattle.make_text.specs.States.{state_at};

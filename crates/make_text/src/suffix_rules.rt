@@ -1,4 +1,4 @@
-// The suffix rules among the rules of a makefile.
+//! The suffix rules among the rules of a makefile.
 
 ghost use Rattle.std.specs.Prelude.{◌≡◌, ◌++◌, [], IfOk, OnOk, filter, flat_map, map, option_copied, unwrap_or};
 ghost use Rattle.std.specs.List.{list_any};

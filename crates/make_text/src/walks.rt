@@ -1,4 +1,4 @@
-// How far a walk over the units has come with each of them.
+//! How far a walk over the units has come with each of them.
 
 /// How far a walk over the units has come with one of them.
 #[derive(Clone, Copy, Debug, Drop)]

@@ -1,4 +1,4 @@
-// Words as paths.
+//! Words as paths.
 
 ghost use Rattle.std.specs.Prelude.{◌≡◌, IfOk, map, option_map};
 ghost use Rattle.make_text.specs.WordPaths.{path_in, paths_of, each_once};

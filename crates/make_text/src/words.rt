@@ -1,4 +1,4 @@
-// The words of a line, and what a line is by its first bytes.
+//! The words of a line, and what a line is by its first bytes.
 
 ghost use Rattle.std.specs.Prelude.{◌≡◌, IfOk, map};
 ghost use Rattle.cc_names.specs.Cuts.{is_blank, words_of};

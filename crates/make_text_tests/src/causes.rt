@@ -1,4 +1,4 @@
-// The first line of a makefile that fails, and why.
+//! The first line of a makefile that fails, and why.
 
 use crate::files::assert_faults;
 use std::test::Fail;

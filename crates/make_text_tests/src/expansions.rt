@@ -1,4 +1,4 @@
-// What scripts expand to.
+//! What scripts expand to.
 
 use crate::files::{TwoTexts, read};
 use cc_names::commands::Macro;

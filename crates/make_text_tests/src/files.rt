@@ -1,7 +1,7 @@
-// A view of two files, the makefile that is read from it, and tables of such views.
-//
-// A table is one text. A case of it is a line of `=> ` and what is wanted, and then a makefile. Where there is a file `a.mk`
-// beside it, that stands behind a line `-- a.mk`.
+//! A view of two files, the makefile that is read from it, and tables of such views.
+//!
+//! A table is one text. A case of it is a line of `=> ` and what is wanted, and then a makefile. Where there is a file `a.mk`
+//! beside it, that stands behind a line `-- a.mk`.
 
 ghost use Rattle.std.specs.Prelude.{Some, None, if◌then◌else◌, codes};
 ghost use Rattle.std.specs.Str.{bytes_eq};

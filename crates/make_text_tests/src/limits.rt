@@ -1,4 +1,4 @@
-// The limits of makefiles: of lines, targets and files, and of what lines, macros and scripts expand to.
+//! The limits of makefiles: of lines, targets and files, and of what lines, macros and scripts expand to.
 
 use crate::files::{TwoTexts, assert_faults, fault_of};
 use cc_names::memory::NoMemory;

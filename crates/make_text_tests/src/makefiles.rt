@@ -1,4 +1,4 @@
-// What makefiles say.
+//! What makefiles say.
 
 use crate::files::{TwoTexts, read};
 use cc_names::memory::NoMemory;

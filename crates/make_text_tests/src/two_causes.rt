@@ -1,4 +1,4 @@
-// Which cause a makefile is refused for, where there are two at one place.
+//! Which cause a makefile is refused for, where there are two at one place.
 
 use crate::files::assert_faults;
 use std::test::Fail;

@@ -1,13 +1,13 @@
-// Two runs on the same two real files, one after the other, as two calls of `ccbase` make them.
-//
-// What it is for: the gate sees that the second finds what the first wrote. The first builds on new files; the second is refused
-// the view that is there by now, and keeps the object that the first built from the makefile and the source that it saved.
-//
-// What it promises: nothing beside `session_run::run_words`. It is a program whose printed text the gate compares, since no
-// contract speaks of what real files hold.
-//
-// What it stands on: `session_run`, `disk_model` for the files, `cc_outside` for the streams and the clock, and `cc_names` for
-// words.
+//! Two runs on the same two real files, one after the other, as two calls of `ccbase` make them.
+//!
+//! What it is for: the gate sees that the second finds what the first wrote. The first builds on new files; the second is refused
+//! the view that is there by now, and keeps the object that the first built from the makefile and the source that it saved.
+//!
+//! What it promises: nothing beside `session_run::run_words`. It is a program whose printed text the gate compares, since no
+//! contract speaks of what real files hold.
+//!
+//! What it stands on: `session_run`, `disk_model` for the files, `cc_outside` for the streams and the clock, and `cc_names` for
+//! words.
 #![tactic(auto)]
 
 use cc_names::memory::NoMemory;

@@ -1,4 +1,4 @@
-// The digests of outputs.
+//! The digests of outputs.
 
 ghost use Rattle.std.specs.Prelude.{◌≡◌};
 ghost use Rattle.sha2.specs.Sha256.{sha256};

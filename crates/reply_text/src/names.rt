@@ -1,4 +1,4 @@
-// The words that are printed for commands, refusals and causes.
+//! The words that are printed for commands, refusals and causes.
 
 ghost use Rattle.std.specs.Prelude.{◌≡◌};
 ghost use Rattle.reply_text.specs.Words.{word_of};

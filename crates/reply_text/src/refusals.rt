@@ -1,4 +1,4 @@
-// Refusals and faults, as words behind others.
+//! Refusals and faults, as words behind others.
 
 ghost use Rattle.std.specs.Prelude.{◌≡◌, ◌++◌, ◌∷◌, [], OnOk, MatchOption, Some, None};
 ghost use Rattle.std.specs.Fmt.{decimal};

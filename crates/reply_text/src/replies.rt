@@ -1,4 +1,4 @@
-// Replies and the lines of a lane.
+//! Replies and the lines of a lane.
 
 ghost use Rattle.std.specs.Prelude.{◌≡◌, ◌++◌, ◌∷◌, [], OnOk, IfOk, Some};
 ghost use Rattle.std.specs.List.{flat_map, list_all};

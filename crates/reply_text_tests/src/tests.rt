@@ -1,4 +1,4 @@
-// The printed lines of replies, and digests.
+//! The printed lines of replies, and digests.
 
 use cc_names::commands::{Command, Lane, Phase};
 use cc_names::lists::List;

@@ -1,4 +1,4 @@
-// The bytes of a row that are still to be read.
+//! The bytes of a row that are still to be read.
 
 ghost use Rattle.std.specs.Prelude.{◌≡◌, List, ℕ, length};
 ghost use Rattle.row_form.specs.Answers.{Answers, AnswersSlice};

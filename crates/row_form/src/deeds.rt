@@ -1,4 +1,4 @@
-// How a deed is read. A deed has its reader, and a line in `read_plain`.
+//! How a deed is read. A deed has its reader, and a line in `read_plain`.
 
 ghost use Rattle.std.specs.Prelude.{◌≡◌, List, ℕ, length};
 ghost use Rattle.std.specs.List.{list_any};

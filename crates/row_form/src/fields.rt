@@ -1,4 +1,4 @@
-// What a row is made of, field by field.
+//! What a row is made of, field by field.
 
 ghost use Rattle.std.specs.Prelude.{◌≡◌, ◌<◌, ◌^◌, List, ℕ, Result};
 ghost use Rattle.cc_names.specs.Formed.{begins_with_letter};

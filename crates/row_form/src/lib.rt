@@ -1,13 +1,13 @@
-// The spelling of a row, as a frame of the journal holds it.
-//
-// What it is for: `spell` writes a row of any deed, `read` gives it back.
-//
-// What it promises: each row has one spelling, and `read` gives a row exactly where the bytes are the spelling of a row that
-// keeps its form. Where they spell none, the fault names the place of the first field that cannot be read, or of the first
-// byte left over (`fault_of`, `specs/RowReader.antt`). Reading takes time linear in the bytes, and a list takes memory as its
-// members are read, never by a count that the bytes left cannot hold.
-//
-// What it stands on: cc_names, which has the row itself; it is brought out again here.
+//! The spelling of a row, as a frame of the journal holds it.
+//!
+//! What it is for: `spell` writes a row of any deed, `read` gives it back.
+//!
+//! What it promises: each row has one spelling, and `read` gives a row exactly where the bytes are the spelling of a row that
+//! keeps its form. Where they spell none, the fault names the place of the first field that cannot be read, or of the first
+//! byte left over (`fault_of`, `specs/RowReader.antt`). Reading takes time linear in the bytes, and a list takes memory as its
+//! members are read, never by a count that the bytes left cannot hold.
+//!
+//! What it stands on: cc_names, which has the row itself; it is brought out again here.
 #![tactic(auto)]
 
 mod cursor;

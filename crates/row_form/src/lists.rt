@@ -1,4 +1,4 @@
-// The lists of a row.
+//! The lists of a row.
 
 ghost use Rattle.std.specs.Prelude.{◌≡◌, ◌&&◌, IfOk, List, ℕ, length};
 ghost use Rattle.std.specs.declared.cmp.Ordering.{Ordering as Compared};

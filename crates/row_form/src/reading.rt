@@ -1,4 +1,4 @@
-// How a row is read.
+//! How a row is read.
 
 ghost use Rattle.std.specs.Prelude.{◌≡◌, [], ℕ};
 ghost use Rattle.row_form.specs.Answers.{Answers};

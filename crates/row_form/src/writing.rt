@@ -1,4 +1,4 @@
-// How a row is spelled.
+//! How a row is spelled.
 #![tactic(auto, using(std::proofs::lemmas::List::append_assoc))]
 
 ghost use Rattle.std.specs.Prelude.{◌≡◌, ◌<◌, ◌^◌, ◌∷◌, [], ◌++◌, List, ℕ, length, IfOk, OnOk};

@@ -1,4 +1,4 @@
-// Rows that are spelled by hand, each read and spelled again, each cut short, and each with a field that is wrong.
+//! Rows that are spelled by hand, each read and spelled again, each cut short, and each with a field that is wrong.
 
 mod faults;
 mod list_faults;

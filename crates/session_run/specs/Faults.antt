@@ -1,4 +1,4 @@
--- The disk of a session: which command met which fault, and what a stop finds.
+-- The disk of a session: between which two ends each failed call lies, and what a stop finds.
 pub mod Accounted
 pub mod Blamed
 pub mod Stopped

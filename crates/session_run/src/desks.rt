@@ -1,4 +1,4 @@
-// A core behind a lock, at which the threads of a phase take turns.
+//! A core in one phase, as lanes and builders ask it; behind a lock once a lane builds.
 
 use base_core::Core;
 use build_script::files::Got;
@@ -6,7 +6,7 @@ use build_script::outcomes::Ended;
 use cc_names::desks::{Begun, Next};
 use cc_names::memory::NoMemory;
 use cc_names::paths::Path;
-use cc_names::steps::Told;
+use cc_names::steps::StoryStep;
 use clearmake::{BuildDesk, Carried, PhaseDesk, UnitTurn};
 use disk_model::Disk;
 use std::alloc::Global;
@@ -46,7 +46,7 @@ impl<D: Disk, P: Beginning> Model for PhaseCore<D, P> {
 }
 
 impl<D: Disk, P: Beginning> Storied for PhaseCore<D, P> {
-    type Told = Told;
+    type Step = StoryStep;
 
     ghost story = { λ desk. desk.story };
 }

@@ -1,4 +1,4 @@
-// Whether a command of a phase failed.
+//! Whether a command of a phase failed.
 
 ghost use Rattle.std.specs.Prelude.{◌≡◌, ◌≤◌, length};
 ghost use Rattle.std.specs.List.{list_any, list_all};

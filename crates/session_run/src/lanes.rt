@@ -1,4 +1,4 @@
-// What is left of a phase, on one thread. The lanes take turns: in each round every lane makes one call of the core.
+//! What is left of a phase, on one thread. The lanes take turns: in each round every lane makes one call of the core.
 
 ghost use Rattle.std.specs.Prelude.{◌≡◌, ℕ, ◌≤◌, ◌<◌, IfOk, OnOk, length, true};
 ghost use Rattle.carried_out.specs.CarriedOut.{AreCarriedOut};

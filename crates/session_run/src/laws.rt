@@ -1,4 +1,4 @@
-// What the headline says of each legal history, and what the promises of one call say of the next.
+//! What the headline says of each legal history, and what the promises of one call say of the next.
 
 ghost use Rattle.legal_history.specs.Base.Values.{IsSound};
 ghost use Rattle.legal_history.specs.Stories.Steps.{state_of};

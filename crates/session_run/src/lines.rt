@@ -1,4 +1,4 @@
-// The line that is written where no base is opened. It is made without memory, so that memory that runs out never hides a cause.
+//! The line that is written where no base is opened. It is made without memory, so that memory that runs out never hides a cause.
 
 ghost use Rattle.std.specs.Prelude.{◌≡◌, ◌≤◌, length};
 ghost use Rattle.base_core.specs.declared.opening.OpenCause.TheVariants as opens;
@@ -95,7 +95,7 @@ fn line_of(unstarted: Unstarted) -> ArrayString<80>
 
 /// Writes the line that says why no session was started, and answers the status. Takes no memory.
 #[tactic(auto, using(crate::proofs::Calls::UnstartedStatuses::only_memory))]
-pub(crate) fn refuse<K: Sink>(unstarted: Unstarted, sink: &mut K) -> Status
+pub(crate) fn write_unstarted<K: Sink>(unstarted: Unstarted, sink: &mut K) -> Status
     ensures { WritesUnstarted unstarted result (K.sight sink.old).held (K.sight sink.new).held
         (sink_faults (K.sight sink.old) (K.sight sink.new)) }
 {

@@ -1,4 +1,4 @@
-// What a lane does in its turn: one call of the core.
+//! What a lane does in its turn: one call of the core.
 
 ghost use Rattle.std.specs.Prelude.{◌≡◌, ◌<◌, IfOk, OnErr};
 ghost use Rattle.build_script.specs.Ended.{ran_of};
@@ -9,10 +9,10 @@ ghost use Rattle.clearmake.specs.Nexts.{next_of};
 ghost use Rattle.base_core.specs.Story.Counted.{KeepsCount};
 ghost use Rattle.legal_history.specs.Stories.States.{next_tag};
 ghost use Rattle.legal_history.specs.Stories.Steps.{state_of};
-ghost use Rattle.session_run.specs.Running.Turns.{HasBuilt, HasUnitLeft, Moves, MovesTo, StandsAt};
-ghost use Rattle.session_run.specs.declared.turns.LaneTurn.TheVariants as lane_turns;
+ghost use Rattle.session_run.specs.Running.Turns.{HasBuilt, HasUnitLeft, MovesOn, MovesTo, StandsAt};
+ghost use Rattle.session_run.specs.declared.turns.LaneProgress.TheVariants as lane_progress;
 
-use crate::turns::LaneTurn;
+use crate::turns::LaneProgress;
 use base_core::Core;
 use build_script::outcomes::Ended;
 use build_script::scripts::Script;
@@ -24,17 +24,17 @@ use disk_model::Disk;
 use std::alloc::Global;
 
 /// Begins the build of a lane's next command; one that is active goes on at its first unit.
-fn begin<D: Disk>(alloc: Global, core: &mut Core<D>, lane: u32) -> Result<LaneTurn, NoMemory>
+fn begin<D: Disk>(alloc: Global, core: &mut Core<D>, lane: u32) -> Result<LaneProgress, NoMemory>
     requires { next_of (state_of core.old.story) lane
         ≡ nexts.Build (next_tag (state_of core.old.story) lane) }
     ensures ok { IfOk result
-        (λ next. Moves core.old.story core.new.story lane lane_turns.Command next) }
+        (λ next. MovesOn core.old.story core.new.story lane lane_progress.Command next) }
     ensures err { OnErr result (core.new ≡ core.old) }
     ensures counted { KeepsCount core.old core.new }
 {
     match core.begin(alloc, lane)? {
-        Begun::Units(count) => Ok(LaneTurn::Unit { unit: 0, count }),
-        Begun::Refused => Ok(LaneTurn::Command),
+        Begun::Units(count) => Ok(LaneProgress::Unit { unit: 0, count }),
+        Begun::Refused => Ok(LaneProgress::Command),
     }
 }
 
@@ -43,17 +43,17 @@ fn take_up<D: Disk>(
     alloc: Global,
     core: &mut Core<D>,
     lane: u32,
-) -> Result<Option<LaneTurn>, NoMemory>
+) -> Result<Option<LaneProgress>, NoMemory>
     requires { AreCarriedOut (state_of core.old.story).phase }
     ensures ok { IfOk result
-        (λ next. MovesTo core.old.story core.new.story lane lane_turns.Command next) }
+        (λ next. MovesTo core.old.story core.new.story lane lane_progress.Command next) }
     ensures err { OnErr result (core.new ≡ core.old) }
     ensures counted { KeepsCount core.old core.new }
 {
     match core.next(lane) {
         Next::Act => {
             core.act(alloc, lane)?;
-            Ok(Some(LaneTurn::Command))
+            Ok(Some(LaneProgress::Command))
         }
         Next::Build(_) => Ok(Some(begin(alloc, core, lane)?)),
         Next::Done => Ok(None),
@@ -67,25 +67,25 @@ fn try_unit<D: Disk>(
     lane: u32,
     unit: u32,
     count: u32,
-) -> Result<LaneTurn, NoMemory>
+) -> Result<LaneProgress, NoMemory>
     requires { HasUnitLeft (state_of core.old.story) lane unit count }
     ensures ok { IfOk result
-        (λ next. Moves core.old.story core.new.story lane (lane_turns.Unit unit count) next) }
+        (λ next. MovesOn core.old.story core.new.story lane (lane_progress.Unit unit count) next) }
     ensures err { OnErr result (core.new ≡ core.old) }
     ensures counted { KeepsCount core.old core.new }
 {
     match core.try_unit(alloc, lane, unit)? {
-        UnitTurn::Settled => Ok(LaneTurn::Unit {
+        UnitTurn::Concluded => Ok(LaneProgress::Unit {
             unit: unit + 1,
             count,
         }),
-        UnitTurn::Run(script, targets) => Ok(LaneTurn::Started {
+        UnitTurn::Run(script, targets) => Ok(LaneProgress::Started {
             unit,
             count,
             script,
             targets,
         }),
-        UnitTurn::Faulted => Ok(LaneTurn::Command),
+        UnitTurn::Faulted => Ok(LaneProgress::Command),
         UnitTurn::NotReady(_) => unreachable!(),
     }
 }
@@ -99,16 +99,16 @@ fn run<D: Disk>(
     count: u32,
     script: &Script,
     targets: &[Path],
-) -> Result<LaneTurn, NoMemory>
+) -> Result<LaneProgress, NoMemory>
     requires stands { HasUnitLeft (state_of core.now.story) lane unit count }
     requires started { IsStarted (state_of core.now.story) lane unit script.now targets.now }
     ensures { IfOk result
         (λ next.
-        Moves core.now.story core.now.story lane
-        (lane_turns.Started unit count script.now targets.now) next) }
+        MovesOn core.now.story core.now.story lane
+        (lane_progress.Started unit count script.now targets.now) next) }
 {
     let ended = core.run(alloc, lane, unit, script, targets)?;
-    Ok(LaneTurn::Ran { unit, count, ended })
+    Ok(LaneProgress::Ran { unit, count, ended })
 }
 
 /// Finishes a unit of a lane's build whose script was run.
@@ -119,20 +119,20 @@ fn finish<D: Disk>(
     unit: u32,
     count: u32,
     ended: Ended,
-) -> Result<LaneTurn, NoMemory>
+) -> Result<LaneProgress, NoMemory>
     requires stands { HasUnitLeft (state_of core.old.story) lane unit count }
     requires ran { IsRunOfUnit (state_of core.old.story) lane unit (ran_of ended) }
     ensures ok { IfOk result
-        (λ next. Moves core.old.story core.new.story lane (lane_turns.Ran unit count ended) next) }
+        (λ next. MovesOn core.old.story core.new.story lane (lane_progress.Ran unit count ended) next) }
     ensures err { OnErr result (core.new ≡ core.old) }
     ensures counted { KeepsCount core.old core.new }
 {
     match core.finish_unit(alloc, lane, unit, ended)? {
-        Carried::Settled => Ok(LaneTurn::Unit {
+        Carried::Concluded => Ok(LaneProgress::Unit {
             unit: unit + 1,
             count,
         }),
-        Carried::Faulted => Ok(LaneTurn::Command),
+        Carried::Faulted => Ok(LaneProgress::Command),
     }
 }
 
@@ -143,10 +143,10 @@ fn go_on<D: Disk>(
     lane: u32,
     unit: u32,
     count: u32,
-) -> Result<LaneTurn, NoMemory>
+) -> Result<LaneProgress, NoMemory>
     requires { HasBuilt (state_of core.old.story) lane unit count }
     ensures ok { IfOk result
-        (λ next. Moves core.old.story core.new.story lane (lane_turns.Unit unit count) next) }
+        (λ next. MovesOn core.old.story core.new.story lane (lane_progress.Unit unit count) next) }
     ensures err { OnErr result (core.new ≡ core.old) }
     ensures counted { KeepsCount core.old core.new }
 {
@@ -154,7 +154,7 @@ fn go_on<D: Disk>(
         return try_unit(alloc, core, lane, unit, count);
     }
     core.end(alloc, lane)?;
-    Ok(LaneTurn::Command)
+    Ok(LaneProgress::Command)
 }
 
 /// Carries out what a lane's turn is, by one call of the core, and answers where the lane stands then; nowhere if no command
@@ -163,8 +163,8 @@ pub(crate) fn move_on<D: Disk>(
     alloc: Global,
     core: &mut Core<D>,
     lane: u32,
-    turn: LaneTurn,
-) -> Result<Option<LaneTurn>, NoMemory>
+    turn: LaneProgress,
+) -> Result<Option<LaneProgress>, NoMemory>
     requires carried_out { AreCarriedOut (state_of core.old.story).phase }
     requires stands { StandsAt (state_of core.old.story) lane turn }
     ensures ok { IfOk result (λ next. MovesTo core.old.story core.new.story lane turn next) }
@@ -172,15 +172,15 @@ pub(crate) fn move_on<D: Disk>(
     ensures counted { KeepsCount core.old core.new }
 {
     match turn {
-        LaneTurn::Command => take_up(alloc, core, lane),
-        LaneTurn::Unit { unit, count } => Ok(Some(go_on(alloc, core, lane, unit, count)?)),
-        LaneTurn::Started {
+        LaneProgress::Command => take_up(alloc, core, lane),
+        LaneProgress::Unit { unit, count } => Ok(Some(go_on(alloc, core, lane, unit, count)?)),
+        LaneProgress::Started {
             unit,
             count,
             script,
             targets,
         } => Ok(Some(run(alloc, core, lane, unit, count, &script, targets.as_slice())?)),
-        LaneTurn::Ran { unit, count, ended } => {
+        LaneProgress::Ran { unit, count, ended } => {
             Ok(Some(finish(alloc, core, lane, unit, count, ended)?))
         }
     }

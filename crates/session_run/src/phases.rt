@@ -1,4 +1,4 @@
-// The phases of a session, one after the other.
+//! The phases of a session, one after the other.
 
 ghost use Rattle.std.specs.Prelude.{◌≡◌, ◌≤◌, ◌<◌, ◌+◌, ◌^◌, ℕ, IfOk, IfErr, IfSome, OnOk, OnErr, length, true, min, Bool};
 ghost use Rattle.std.specs.Io.KnownBytes.{Appends};

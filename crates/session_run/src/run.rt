@@ -1,4 +1,4 @@
-// The top call.
+//! The top call.
 
 ghost use Rattle.std.specs.Prelude.{◌≡◌, true};
 ghost use Rattle.legal_history.specs.Base.Values.{IsSound};
@@ -8,7 +8,7 @@ ghost use Rattle.cc_names.specs.Counts.{rises};
 ghost use Rattle.disk_model.specs.Told.{IfTold, IsCounted};
 ghost use Rattle.disk_model.specs.Devices.{file_of, bytes_of};
 ghost use Rattle.disk_model.specs.Files.{stable};
-ghost use Rattle.session_run.specs.Calls.Causes.{intake_of, sink_faults, FindsDamage, HasCause, LeavesAlone, TakesNoMore};
+ghost use Rattle.session_run.specs.Calls.Causes.{disk_sights, intake_of, sink_faults, FindsDamage, HasCause, LeavesAlone, TakesNoMore};
 ghost use Rattle.session_run.specs.Faults.Accounted.{IsAccountedFor, KeepsFiles, Settles};
 ghost use Rattle.session_run.specs.Faults.Stopped.{IsHandedIn, IsMended, IsStopped};
 ghost use Rattle.session_run.specs.Promises.Headline.{clock_readings, IsSession, IsOneHistory, AreOfTheirCommands, AreFromNothing, ArePrinted};
@@ -20,7 +20,7 @@ ghost use Rattle.session_run.specs.Running.Unstarted.{of_unopened};
 ghost use Rattle.session_run.specs.Story.Begun.{first_step, is_opened};
 
 use crate::laws::{builds_are_as_from_nothing, objects_are_reused_well, objects_are_scrubbed_well};
-use crate::lines::refuse;
+use crate::lines::write_unstarted;
 use crate::phases::run_phases;
 use crate::sessions::{Unstarted, session_given};
 use crate::statuses::Status;
@@ -104,7 +104,7 @@ fn run_opened<R: Threads + Wait + Sync, G: Gate + Sync, K: Sink, D: Disk + Send,
     requires opened { IsJustOpened core.story }
     requires runnable { IsRunnable phases.items }
     ensures { RunsOpened phases.items result.status (first_step core.story) result.history before
-        (record { before = core.sight; after = D.sight result.disk })
+        (disk_sights core.sight (D.sight result.disk))
         (outside_of (K.sight sink.old) (K.sight sink.new) (C.sight clock.old) (C.sight clock.new))
         (sink_faults (K.sight sink.old) (K.sight sink.new)) }
 {
@@ -134,7 +134,7 @@ fn run_session<R: Threads + Wait + Sync, G: Gate + Sync, K: Sink, D: Disk + Send
     ensures { RunsSession phases.items result.status result.history
         (outside_of (K.sight sink.old) (K.sight sink.new) (C.sight clock.old) (C.sight clock.new))
         (sink_faults (K.sight sink.old) (K.sight sink.new))
-        (record { before = D.sight disk; after = D.sight result.disk }) }
+        (disk_sights (D.sight disk) (D.sight result.disk)) }
 {
     let before = disk.counts().faults;
     match Core::open(host.alloc, host.hashing, disk) {
@@ -142,7 +142,7 @@ fn run_session<R: Threads + Wait + Sync, G: Gate + Sync, K: Sink, D: Disk + Send
         Err(OpenFault { cause, disk }) => {
             let unstarted = of_unopened(cause, has_risen(before, disk.counts().faults));
             SessionResult {
-                status: refuse(unstarted, sink),
+                status: write_unstarted(unstarted, sink),
                 disk,
                 history: History::empty(host.alloc),
             }
@@ -202,23 +202,21 @@ pub fn run_words<
     ensures printed { ArePrinted result.status result.history
         (intake_of words.now (S.sight source.old) (S.sight source.new))
         (sink_faults (K.sight sink.old) (K.sight sink.new))
-        (record { before = D.sight disk; after = D.sight result.disk }) (K.sight sink.old).held
+        (disk_sights (D.sight disk) (D.sight result.disk)) (K.sight sink.old).held
         (K.sight sink.new).held }
     ensures stopped { IsStopped (D.sight disk) (D.sight result.disk) result.history }
     ensures cause { HasCause result.status
         (intake_of words.now (S.sight source.old) (S.sight source.new))
         (sink_faults (K.sight sink.old) (K.sight sink.new))
-        (record { before = D.sight disk; after = D.sight result.disk }) result.history }
+        (disk_sights (D.sight disk) (D.sight result.disk)) result.history }
     ensures accounted { is_opened result.history ≡ true
-        → IsAccountedFor (record { before = D.sight disk; after = D.sight result.disk })
-        result.history }
-    ensures files { KeepsFiles (record { before = D.sight disk; after = D.sight result.disk })
-        result.history }
+        → IsAccountedFor (disk_sights (D.sight disk) (D.sight result.disk)) result.history }
+    ensures files { KeepsFiles (disk_sights (D.sight disk) (D.sight result.disk)) result.history }
     ensures damaged { FindsDamage result.status
         (intake_of words.now (S.sight source.old) (S.sight source.new))
-        (record { before = D.sight disk; after = D.sight result.disk }) }
+        (disk_sights (D.sight disk) (D.sight result.disk)) }
     ensures untouched { LeavesAlone (intake_of words.now (S.sight source.old) (S.sight source.new))
-        (record { before = D.sight disk; after = D.sight result.disk }) result.history }
+        (disk_sights (D.sight disk) (D.sight result.disk)) result.history }
     ensures taken { TakesNoMore (intake_of words.now (S.sight source.old) (S.sight source.new)) }
 {
     builds_are_as_from_nothing();
@@ -236,7 +234,7 @@ pub fn run_words<
             run_session(&host, phases, sink, disk, clock)
         }
         Err(unstarted) => SessionResult {
-            status: refuse(unstarted, sink),
+            status: write_unstarted(unstarted, sink),
             disk,
             history: History::empty(alloc),
         },

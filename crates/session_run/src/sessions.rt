@@ -1,4 +1,4 @@
-// The session that the source gives.
+//! The session that the source gives.
 
 ghost use Rattle.std.specs.Prelude.{◌≡◌, IfOk, IfErr};
 ghost use Rattle.session_run.specs.Calls.Causes.{intake_of, TakesNoMore};

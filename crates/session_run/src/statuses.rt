@@ -1,4 +1,4 @@
-// How a call ends.
+//! How a call ends.
 
 ghost use Rattle.std.specs.Prelude.{◌≡◌};
 ghost use Rattle.session_run.specs.Calls.Statuses.{number_of};

@@ -1,4 +1,4 @@
-// The lanes of a phase, on threads once one of them builds.
+//! The lanes of a phase, on threads once one of them builds.
 
 ghost use Rattle.std.specs.Prelude.{◌≡◌, ◌≤◌, ℕ, true, length};
 ghost use Rattle.std.specs.Bool.{OnTrue};

@@ -1,4 +1,4 @@
-// The transcript of a phase.
+//! The transcript of a phase.
 
 ghost use Rattle.std.specs.Prelude.{◌≡◌, ◌≤◌, ◌<◌, ◌++◌, IfOk, OnOk, length};
 ghost use Rattle.legal_history.specs.Stories.Steps.{state_of};

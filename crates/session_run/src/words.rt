@@ -1,4 +1,4 @@
-// The forms of words.
+//! The forms of words.
 
 ghost use Rattle.std.specs.Prelude.{◌≡◌};
 ghost use Rattle.session_run.specs.Calls.Asked.{is_run};

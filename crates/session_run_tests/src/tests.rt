@@ -1,4 +1,4 @@
-// What all tests share: a session is run on doubles of the outside and of the disk, and what it came to is kept.
+//! What all tests share: a session is run on doubles of the outside and of the disk, and what it came to is kept.
 
 ghost use Rattle.std.specs.Prelude.{◌<◌, IfOk, length};
 ghost use Rattle.disk_model.specs.MemoryDisks.{sight_of};

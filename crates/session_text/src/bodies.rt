@@ -1,4 +1,4 @@
-// The text of body lines.
+//! The text of body lines.
 
 ghost use Rattle.std.specs.Prelude.{◌≡◌, IfOk};
 ghost use Rattle.session_text.specs.Kinds.{kinds_of};

@@ -1,4 +1,4 @@
-// What the words of `clearmake V ..` say, in any order.
+//! What the words of `clearmake V ..` say, in any order.
 
 ghost use Rattle.std.specs.Prelude.{◌≡◌, ◌<◌, [], OnOk, IfSome, IfOk, None, length};
 ghost use Rattle.std.specs.List.{list_all, position};

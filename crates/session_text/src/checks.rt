@@ -1,4 +1,4 @@
-// Whether each line of a text stands right, below the lines above it, and is carried out.
+//! Whether each line of a text stands right, below the lines above it, and is carried out.
 
 ghost use Rattle.std.specs.Prelude.{◌≡◌, ◌<◌, ◌^◌, [], None, Ok, OnOk, IfErr, length};
 ghost use Rattle.std.specs.List.{list_any};

@@ -1,5 +1,5 @@
-// The commands: the word of each, the words behind it, and what they say. Where a command comes, it gets a function and an
-// arm of `command_of`, `said_of_types_on` or `said_of_queries` here.
+//! The commands: the word of each, the words behind it, and what they say. Where a command comes, it gets a function and an
+//! arm of `command_of`, `said_of_types_on` or `said_of_queries` here.
 
 ghost use Rattle.std.specs.Prelude.{◌≡◌, [], IfOk};
 ghost use Rattle.std.specs.Str.{bytes_eq};

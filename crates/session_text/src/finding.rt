@@ -1,4 +1,4 @@
-// Where the next line of a kind stands.
+//! Where the next line of a kind stands.
 
 ghost use Rattle.std.specs.Prelude.{◌≡◌, [], MatchOption};
 ghost use Rattle.session_text.specs.Reading.{FindsPhase, FindsLane, FindsCommand, IsPast, PassesCommand};

@@ -1,4 +1,4 @@
-// The kinds of lines, and the lines that are left of a text.
+//! The kinds of lines, and the lines that are left of a text.
 
 ghost use Rattle.std.specs.Prelude.{◌≡◌, ◌<◌, ◌^◌, ◌∷◌, length, MatchOption};
 ghost use Rattle.cc_names.specs.Cuts.{lines_of, words_of};

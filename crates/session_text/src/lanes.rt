@@ -1,4 +1,4 @@
-// A lane, kept as its text, and its commands.
+//! A lane, kept as its text, and its commands.
 
 ghost use Rattle.std.specs.Prelude.{◌≡◌, Ok, IfOk, length};
 ghost use Rattle.session_text.specs.Ahead.{ahead_by};

@@ -1,4 +1,4 @@
-// A phase, kept as its text, and its lanes.
+//! A phase, kept as its text, and its lanes.
 
 ghost use Rattle.std.specs.Prelude.{◌≡◌, Ok, IfOk};
 ghost use Rattle.session_text.specs.Reading.{Names};

@@ -1,4 +1,4 @@
-// Places in the text of a session.
+//! Places in the text of a session.
 
 ghost use Rattle.std.specs.Prelude.{◌≡◌, ◌<◌, ◌^◌, None, IfOk, length};
 ghost use Rattle.session_text.specs.Kinds.{kinds_of};

@@ -1,4 +1,4 @@
-// Sessions, read from text and kept as it.
+//! Sessions, read from text and kept as it.
 
 ghost use Rattle.std.specs.Prelude.{◌≡◌, ◌<◌, ◌^◌, IfOk, length};
 ghost use Rattle.carried_out.specs.CarriedOut.{IsSessionCarriedOut};

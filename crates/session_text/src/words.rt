@@ -1,4 +1,4 @@
-// What single words say.
+//! What single words say.
 
 ghost use Rattle.std.specs.Prelude.{◌≡◌, ◌<◌, ◌+◌, [], length, IfSome, MatchOption, true};
 ghost use Rattle.std.specs.List.{position, slice_split};

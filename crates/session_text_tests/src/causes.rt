@@ -1,4 +1,4 @@
-// Why lines stand wrong, at each kind of line and in order.
+//! Why lines stand wrong, at each kind of line and in order.
 
 use crate::reading::read_bytes;
 use cc_names::memory::Or;

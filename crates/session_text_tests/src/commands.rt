@@ -1,5 +1,5 @@
-// The line of each command, right and wrong. A right line of a command that is not carried out yet is answered as not
-// built, which is tested last.
+//! The line of each command, right and wrong. A right line of a command that is not carried out yet is answered as not
+//! built, which is tested last.
 
 ghost use Rattle.std.specs.Prelude.{◌<◌, ◌^◌, length};
 

@@ -1,4 +1,4 @@
-// How the tests read a text.
+//! How the tests read a text.
 
 ghost use Rattle.std.specs.Prelude.{◌<◌, ◌^◌, length};
 

@@ -1,4 +1,4 @@
-// Sessions of many phases, lanes and commands, and of the greatest size.
+//! Sessions of many phases, lanes and commands, and of the greatest size.
 
 use crate::reading::phases_in;
 use cc_names::commands::{Command, Phase};

@@ -1,4 +1,4 @@
-// The commands of a lane that are left: what the next one asks for, and going past it.
+//! The commands of a lane that are left: what the next one asks for, and going past it.
 
 use crate::reading::read_bytes;
 use cc_names::memory::NoMemory;

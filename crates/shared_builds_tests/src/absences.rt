@@ -1,4 +1,4 @@
-// What a script looked for and did not find is part of its record: it is built again where such a path comes to exist.
+//! What a script looked for and did not find is part of its record: it is built again where such a path comes to exist.
 
 use crate::sessions::{Front, IN_A_LANE, assert_sessions};
 use std::test::Fail;

@@ -1,4 +1,4 @@
-// Units that failed: they are tried again with each build, and the object of before is held on meanwhile.
+//! Units that failed: they are tried again with each build, and the object of before is held on meanwhile.
 
 use crate::fronts::{ONE_FILE, PROGRAM};
 use crate::sessions::{IN_A_LANE, assert_sessions};

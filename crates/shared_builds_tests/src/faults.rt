@@ -1,4 +1,4 @@
-// Disks that fail under a build of several builders.
+//! Disks that fail under a build of several builders.
 
 ghost use Rattle.std.specs.Prelude.{IfOk};
 ghost use Rattle.disk_model.specs.MemoryDisks.{sight_of};

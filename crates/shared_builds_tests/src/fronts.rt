@@ -1,4 +1,4 @@
-// What the sessions of several tables begin with. No row is refused in them, so command N makes row N.
+//! What the sessions of several tables begin with. No row is refused in them, so command N makes row N.
 
 use crate::sessions::Front;
 

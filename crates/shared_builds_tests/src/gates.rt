@@ -1,4 +1,4 @@
-// Gates that hold runs of scripts until others have come or ended, and gates that count.
+//! Gates that hold runs of scripts until others have come or ended, and gates that count.
 
 use cc_names::paths::Path;
 use cc_outside::Gate;

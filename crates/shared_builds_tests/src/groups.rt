@@ -1,4 +1,4 @@
-// Units with several targets: one object, told by a line for each of them, and reused at all of them or at none.
+//! Units with several targets: one object, told by a line for each of them, and reused at all of them or at none.
 
 use crate::sessions::{Front, assert_sessions};
 use std::test::Fail;

@@ -1,5 +1,5 @@
-// Builds in several lanes at once. A unit that several of them have from the same rows is built by one, and winked in by the
-// others: also by those whose script was run beside the first, since each looks once more before it publishes.
+//! Builds in several lanes at once. A unit that several of them have from the same rows is built by one, and winked in by the
+//! others: also by those whose script was run beside the first, since each looks once more before it publishes.
 
 use crate::fronts::PROGRAM;
 use crate::sessions::assert_sessions;

@@ -1,5 +1,5 @@
-// Lanes and builders on threads: scripts of several lanes and of one build run at once and outside the lock, and what they come
-// to is what it is in any order.
+//! Lanes and builders on threads: scripts of several lanes and of one build run at once and outside the lock, and what they come
+//! to is what it is in any order.
 
 mod counts;
 mod meetings;

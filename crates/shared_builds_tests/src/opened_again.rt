@@ -1,4 +1,4 @@
-// A base that is opened again: what was built and winked in before is reused as within one run.
+//! A base that is opened again: what was built and winked in before is reused as within one run.
 
 use crate::fronts::ONE_FILE;
 use crate::sessions::{Front, IN_A_LANE, Outcome, Runtime, outcome_on, parts_of};

@@ -1,4 +1,4 @@
-// The options of a build: `-u` reuses nothing, and `-V` looks at the view's own objects alone.
+//! The options of a build: `-u` reuses nothing, and `-V` looks at the view's own objects alone.
 
 use crate::fronts::{ONE_FILE, PROGRAM};
 use crate::sessions::assert_sessions;

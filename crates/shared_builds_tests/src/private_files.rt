@@ -1,4 +1,4 @@
-// Private files against versions: each save is a row of its own, so equal bytes are no match.
+//! Private files against versions: each save is a row of its own, so equal bytes are no match.
 
 use crate::sessions::{IN_A_LANE, assert_sessions};
 use std::test::Fail;

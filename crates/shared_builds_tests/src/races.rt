@@ -1,6 +1,6 @@
-// Eight lanes that race for one label, one branch and one target, again and again. Which of them comes first is open: the
-// rows of the base tell, and what each lane is replied follows from that. The row from which it follows stands before the
-// lane's next.
+//! Eight lanes that race for one label, one branch and one target, again and again. Which of them comes first is open: the
+//! rows of the base tell, and what each lane is replied follows from that. The row from which it follows stands before the
+//! lane's next.
 
 use crate::sessions::{IN_A_LANE, Runtime, outcome_on, outside_of, run_in, told_of};
 use cc_names::rows::{Deed, Row, Tag};

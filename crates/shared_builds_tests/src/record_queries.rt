@@ -1,4 +1,5 @@
-// What the records of objects tell: what an object was made from, where two differ, and whether a view sees all that it rests on.
+//! What the records of objects tell: what an object was made from, where two differ, and whether a view sees all that it rests
+//! on.
 
 use crate::absences::INCLUDED;
 use crate::fronts::{ONE_FILE, PROGRAM};

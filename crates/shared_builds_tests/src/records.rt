@@ -1,4 +1,4 @@
-// What a view sees that selects by the record of an object, and what it reuses.
+//! What a view sees that selects by the record of an object, and what it reuses.
 
 use crate::fronts::ONE_FILE;
 use crate::sessions::assert_sessions;

@@ -1,5 +1,5 @@
-// What is reused as makefiles change: the expanded script counts, and neither the makefile's text nor the prerequisites that are
-// not read.
+//! What is reused as makefiles change: the expanded script counts, and neither the makefile's text nor the prerequisites that are
+//! not read.
 
 use crate::fronts::PROGRAM;
 use crate::sessions::{IN_A_LANE, assert_sessions};

@@ -1,4 +1,4 @@
-// Objects that views let go of, and scrubs of those that are due.
+//! Objects that views let go of, and scrubs of those that are due.
 
 use crate::fronts::ONE_FILE;
 use crate::sessions::{IN_A_LANE, assert_sessions};

@@ -1,4 +1,4 @@
-// What is reused as views select other versions: by a label that moves, by another config spec, and as views end.
+//! What is reused as views select other versions: by a label that moves, by another config spec, and as views end.
 
 use crate::fronts::PROGRAM;
 use crate::sessions::assert_sessions;

@@ -1,11 +1,11 @@
-// Sessions on a base in memory, in tables that are texts.
-//
-// A table has its cases one behind the other, parted by lines `====`. A case is a session, the line `----`, what the session
-// writes, and a last line of its status and the rows of its base. A line that begins with `#` in a session is a note.
-//
-// The lanes of a phase run at once. Where several of them build the same, one of them has it built and the others wink it in,
-// whichever comes first: such a line has the word `shared`, and of the lines with the same text one is written with `built` and
-// the others with `winked`.
+//! Sessions on a base in memory, in tables that are texts.
+//!
+//! A table has its cases one behind the other, parted by lines `====`. A case is a session, the line `----`, what the session
+//! writes, and a last line of its status and the rows of its base. A line that begins with `#` in a session is a note.
+//!
+//! The lanes of a phase run at once. Where several of them build the same, one of them has it built and the others wink it in,
+//! whichever comes first: such a line has the word `shared`, and of the lines with the same text one is written with `built` and
+//! the others with `winked`.
 
 ghost use Rattle.std.specs.Prelude.{IfOk};
 ghost use Rattle.disk_model.specs.MemoryDisks.{sight_of};

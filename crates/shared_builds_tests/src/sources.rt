@@ -1,4 +1,4 @@
-// What is reused as sources change: versions that are brought in, checkouts, and a build in another view behind them.
+//! What is reused as sources change: versions that are brought in, checkouts, and a build in another view behind them.
 
 use crate::fronts::PROGRAM;
 use crate::sessions::{IN_A_LANE, assert_sessions};

@@ -1,4 +1,4 @@
-// The worked sessions of reuse: an object is kept, winked in, and built again where what was read is another row.
+//! The worked sessions of reuse: an object is kept, winked in, and built again where what was read is another row.
 
 use crate::fronts::ONE_FILE;
 use crate::sessions::{ALONE, IN_A_LANE, assert_sessions};

@@ -10,7 +10,7 @@ use Rattle.spec_text.specs.Lines.{line_of}
 use Rattle.spec_text.specs.Reading.{State, nothing_read, after_line, after_read, at_line}
 use Rattle.spec_text.specs.Specs.{before_rules, with_line, rules_from}
 use Rattle.spec_text.specs.declared.lines.Line.{Line}
-use Rattle.spec_text.specs.declared.lines.Line.TheVariants.{Skipped, Opens, Closes, Gives}
+use Rattle.spec_text.specs.declared.lines.Line.TheVariants.{Skipped, BeginsBlock, EndsBlock, Gives}
 
 -- rules and those that follow them
 abbrev pub followed : List Rule → Result (List Rule) SpecError → Result (List Rule) SpecError
@@ -35,18 +35,18 @@ rest_at_first lines = by (rules_from lines 1 [])
 
 goes_by : (line : Line) (rules : List Rule) (blocks : List ℕ) (after : State) (number : ℕ) (behind : List ℕ → Result (List Rule) SpecError) → after_line line (record { rules = rules; blocks = blocks }) ≡ Ok after → followed rules (with_line number blocks (Ok line) behind) ≡ followed after.rules (behind after.blocks)
 goes_by Skipped rules blocks after number behind e = let same : record { rules = rules; blocks = blocks } ≡ after = cc in ap (λ (state : State). followed state.rules (behind state.blocks)) same
-goes_by (Opens moment) rules blocks after number behind e = let same : record { rules = rules; blocks = moment ∷ blocks } ≡ after = cc in ap (λ (state : State). followed state.rules (behind state.blocks)) same
-goes_by Closes rules [] after number behind e = cc
-goes_by Closes rules (innermost ∷ blocks) after number behind e = let same : record { rules = rules; blocks = blocks } ≡ after = cc in ap (λ (state : State). followed state.rules (behind state.blocks)) same
+goes_by (BeginsBlock moment) rules blocks after number behind e = let same : record { rules = rules; blocks = moment ∷ blocks } ≡ after = cc in ap (λ (state : State). followed state.rules (behind state.blocks)) same
+goes_by EndsBlock rules [] after number behind e = cc
+goes_by EndsBlock rules (innermost ∷ blocks) after number behind e = let same : record { rules = rules; blocks = blocks } ≡ after = cc in ap (λ (state : State). followed state.rules (behind state.blocks)) same
 goes_by (Gives rule) rules blocks after number behind e =
     let same : record { rules = rules ++ rule ∷ []; blocks = blocks } ≡ after = cc in
     followed_one rules rule (behind blocks) ∙ ap (λ (state : State). followed state.rules (behind state.blocks)) same
 
 ends_by : (line : Line) (rules : List Rule) (blocks : List ℕ) (cause : SpecCause) (number : ℕ) (behind : List ℕ → Result (List Rule) SpecError) → after_line line (record { rules = rules; blocks = blocks }) ≡ Err cause → followed rules (with_line number blocks (Ok line) behind) ≡ Err (record { line = number; cause = cause })
 ends_by Skipped rules blocks cause number behind e = cc
-ends_by (Opens moment) rules blocks cause number behind e = cc
-ends_by Closes rules [] cause number behind e = cc
-ends_by Closes rules (innermost ∷ blocks) cause number behind e = cc
+ends_by (BeginsBlock moment) rules blocks cause number behind e = cc
+ends_by EndsBlock rules [] cause number behind e = cc
+ends_by EndsBlock rules (innermost ∷ blocks) cause number behind e = cc
 ends_by (Gives rule) rules blocks cause number behind e = cc
 
 read_on : (said : Result Line SpecCause) (state after : State) (number : ℕ) (behind : List ℕ → Result (List Rule) SpecError) → after_read said state ≡ Ok after → followed state.rules (with_line number state.blocks said behind) ≡ followed after.rules (behind after.blocks)

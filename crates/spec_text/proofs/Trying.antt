@@ -4,7 +4,7 @@ use Rattle.std.specs.Option.{option_map, option_copied}
 use Rattle.spec_text.specs.Parts.{parts_left}
 use Rattle.std.proofs.lemmas.Bool.{and_parts, or_cases, or_left, or_right}
 use Rattle.std.specs.List.{list_any}
-use Rattle.spec_text.specs.Covers.{tails, first_fits, covers_from, cards_cover}
+use Rattle.spec_text.specs.WildCards.{tails, first_fits, matches_from, cards_match}
 
 or_nothing : (b : Bool) → b ≡ (b || false)
 or_nothing true = refl
@@ -40,7 +40,7 @@ any_fit fits behind (x ∷ xs) h =
 -- what trying the last wild card again could still cover: the cards behind it, and what stood there when it was met
 abbrev pub again_covers : {P A : Type 0} → (P → Bool) → (P → A → Bool) → Option (List P × List A) → Bool
 again_covers wild fits None = false
-again_covers wild fits (Some met) = list_any (cards_cover wild fits met.0) (later met.1)
+again_covers wild fits (Some met) = list_any (cards_match wild fits met.0) (later met.1)
 
 -- how many members were left when the last wild card was met, and how many cards stood behind it
 abbrev pub met_members : {P A : Type 0} → ℕ → Option (List P × List A) → ℕ
@@ -59,16 +59,16 @@ tries all (Some met) = length met.1
 -- The search keeps its answer: it is that of what is left, or of trying again. What trying again could cover, a later
 -- end of what is left would be covered by as well, so that the last wild card met is the only one to try.
 pub record Searches {P A : Type 0} (wild : P → Bool) (fits : P → A → Bool) (answer : Bool) (all_cards all : ℕ) (cards : List P) (left : List A) (again : Option (List P × List A)) : Type 0 where
-  pub same : answer ≡ (cards_cover wild fits cards left || again_covers wild fits again)
-  pub kept : again_covers wild fits again ≡ true → list_any (cards_cover wild fits cards) (later left) ≡ true
+  pub same : answer ≡ (cards_match wild fits cards left || again_covers wild fits again)
+  pub kept : again_covers wild fits again ≡ true → list_any (cards_match wild fits cards) (later left) ≡ true
   pub cards_fit : length cards ≤ all_cards
   pub met_fit : met_cards again ≤ all_cards
   pub left_fit : length left ≤ met_members all again
   pub tries_fit : met_members all again ≤ all
 
-pub begins : {P A : Type 0} (wild : P → Bool) (fits : P → A → Bool) (cards : List P) (left : List A) → Searches wild fits (cards_cover wild fits cards left) (length cards) (length left) cards left None
+pub begins : {P A : Type 0} (wild : P → Bool) (fits : P → A → Bool) (cards : List P) (left : List A) → Searches wild fits (cards_match wild fits cards left) (length cards) (length left) cards left None
 begins wild fits cards left = record {
-  same = or_nothing (cards_cover wild fits cards left);
+  same = or_nothing (cards_match wild fits cards left);
   kept = λ h. cc;
   cards_fit = omega arith;
   met_fit = omega arith;
@@ -77,9 +77,9 @@ begins wild fits cards left = record {
 }
 
 -- as behind a wild card: the cards may cover any end
-pub begins_anywhere : {P A : Type 0} (wild : P → Bool) (fits : P → A → Bool) (cards : List P) (left : List A) → Searches wild fits (list_any (cards_cover wild fits cards) (tails left)) (length cards) (length left) cards left (Some (cards, left))
+pub begins_anywhere : {P A : Type 0} (wild : P → Bool) (fits : P → A → Bool) (cards : List P) (left : List A) → Searches wild fits (list_any (cards_match wild fits cards) (tails left)) (length cards) (length left) cards left (Some (cards, left))
 begins_anywhere wild fits cards left = record {
-  same = ap (list_any (cards_cover wild fits cards)) (tails-later left);
+  same = ap (list_any (cards_match wild fits cards)) (tails-later left);
   kept = λ h. h;
   cards_fit = omega arith;
   met_fit = omega arith;
@@ -92,24 +92,24 @@ absorbed true b h = refl
 absorbed false true h = sym (h refl)
 absorbed false false h = refl
 
-wild_same : {A : Type 0} (wild : Bool) (fits : A → Bool) (behind : List A → Bool) (left : List A) (answer again : Bool) → wild ≡ true → answer ≡ (covers_from wild fits behind left || again) → (again ≡ true → list_any (covers_from wild fits behind) (later left) ≡ true) → answer ≡ (behind left || list_any behind (later left))
+wild_same : {A : Type 0} (wild : Bool) (fits : A → Bool) (behind : List A → Bool) (left : List A) (answer again : Bool) → wild ≡ true → answer ≡ (matches_from wild fits behind left || again) → (again ≡ true → list_any (matches_from wild fits behind) (later left) ≡ true) → answer ≡ (behind left || list_any behind (later left))
 wild_same true fits behind left answer again star e kept =
     let whole = ap (list_any behind) (tails-later left) in
     e ∙ absorbed (list_any behind (tails left)) again (λ h. rw tails-later (or_right (behind left) (list_any behind (later left)) (any_of_ends behind left (kept h)))) ∙ whole
 wild_same false fits behind left answer again star e kept = cc
 
-plain_same : {A : Type 0} (wild : Bool) (fits : A → Bool) (behind : List A → Bool) (x : A) (left : List A) (answer again : Bool) → wild ≡ false → fits x ≡ true → answer ≡ (covers_from wild fits behind (x ∷ left) || again) → answer ≡ (behind left || again)
+plain_same : {A : Type 0} (wild : Bool) (fits : A → Bool) (behind : List A → Bool) (x : A) (left : List A) (answer again : Bool) → wild ≡ false → fits x ≡ true → answer ≡ (matches_from wild fits behind (x ∷ left) || again) → answer ≡ (behind left || again)
 plain_same true fits behind x left answer again plain fit e = cc
 plain_same false fits behind x left answer again plain fit e = rw fit at e
 
-plain_kept : {A : Type 0} (wild : Bool) (fits : A → Bool) (behind : List A → Bool) (left : List A) → wild ≡ false → list_any (covers_from wild fits behind) (tails left) ≡ true → list_any behind (later left) ≡ true
+plain_kept : {A : Type 0} (wild : Bool) (fits : A → Bool) (behind : List A → Bool) (left : List A) → wild ≡ false → list_any (matches_from wild fits behind) (tails left) ≡ true → list_any behind (later left) ≡ true
 plain_kept true fits behind left plain h = cc
 plain_kept false fits behind left plain h = any_fit fits behind left h
 
 -- a wild card is met
 pub meets : {P A : Type 0} (wild : P → Bool) (fits : P → A → Bool) (answer : Bool) (all_cards all : ℕ) (cards : List P) (card : P) (behind : List P) (left : List A) (again : Option (List P × List A)) → cards ≡ card ∷ behind → wild card ≡ true → Searches wild fits answer all_cards all cards left again → Searches wild fits answer all_cards all behind left (Some (behind, left))
 meets wild fits answer all_cards all cards card behind left again front star known = let h = rw front at known in record {
-  same = wild_same (wild card) (fits card) (cards_cover wild fits behind) left answer (again_covers wild fits again) star h.same h.kept;
+  same = wild_same (wild card) (fits card) (cards_match wild fits behind) left answer (again_covers wild fits again) star h.same h.kept;
   kept = λ e. e;
   cards_fit = omega arith;
   met_fit = omega arith;
@@ -120,8 +120,8 @@ meets wild fits answer all_cards all cards card behind left again front star kno
 -- a card stands for a member
 pub stands : {P A : Type 0} (wild : P → Bool) (fits : P → A → Bool) (answer : Bool) (all_cards all : ℕ) (cards : List P) (card : P) (behind : List P) (left : List A) (x : A) (rest : List A) (again : Option (List P × List A)) → cards ≡ card ∷ behind → left ≡ x ∷ rest → wild card ≡ false → fits card x ≡ true → Searches wild fits answer all_cards all cards left again → Searches wild fits answer all_cards all behind rest again
 stands wild fits answer all_cards all cards card behind left x rest again front first plain fit known = let h = rw (front, first) at known in record {
-  same = plain_same (wild card) (fits card) (cards_cover wild fits behind) x rest answer (again_covers wild fits again) plain fit h.same;
-  kept = λ e. plain_kept (wild card) (fits card) (cards_cover wild fits behind) rest plain (h.kept e);
+  same = plain_same (wild card) (fits card) (cards_match wild fits behind) x rest answer (again_covers wild fits again) plain fit h.same;
+  kept = λ e. plain_kept (wild card) (fits card) (cards_match wild fits behind) rest plain (h.kept e);
   cards_fit = omega arith;
   met_fit = omega arith;
   left_fit = omega arith;
@@ -129,9 +129,9 @@ stands wild fits answer all_cards all cards card behind left x rest again front 
 }
 
 -- what is left is not covered, and there is a member more to take: the last wild card is tried again
-pub tries_again : {P A : Type 0} (wild : P → Bool) (fits : P → A → Bool) (answer : Bool) (all_cards all : ℕ) (cards : List P) (left : List A) (behind : List P) (x : A) (rest : List A) → cards_cover wild fits cards left ≡ false → Searches wild fits answer all_cards all cards left (Some (behind, x ∷ rest)) → Searches wild fits answer all_cards all behind rest (Some (behind, rest))
+pub tries_again : {P A : Type 0} (wild : P → Bool) (fits : P → A → Bool) (answer : Bool) (all_cards all : ℕ) (cards : List P) (left : List A) (behind : List P) (x : A) (rest : List A) → cards_match wild fits cards left ≡ false → Searches wild fits answer all_cards all cards left (Some (behind, x ∷ rest)) → Searches wild fits answer all_cards all behind rest (Some (behind, rest))
 tries_again wild fits answer all_cards all cards left behind x rest fails h = record {
-  same = rw fails at h.same ∙ ap (list_any (cards_cover wild fits behind)) (tails-later rest);
+  same = rw fails at h.same ∙ ap (list_any (cards_match wild fits behind)) (tails-later rest);
   kept = λ e. e;
   cards_fit = omega arith;
   met_fit = omega arith;
@@ -140,17 +140,17 @@ tries_again wild fits answer all_cards all cards left behind x rest fails h = re
 }
 
 -- what is left is not covered, and no wild card was met, or it can take no member more
-pub gives_up : {P A : Type 0} (wild : P → Bool) (fits : P → A → Bool) (answer : Bool) (all_cards all : ℕ) (cards : List P) (left : List A) → cards_cover wild fits cards left ≡ false → Searches wild fits answer all_cards all cards left None → answer ≡ false
+pub gives_up : {P A : Type 0} (wild : P → Bool) (fits : P → A → Bool) (answer : Bool) (all_cards all : ℕ) (cards : List P) (left : List A) → cards_match wild fits cards left ≡ false → Searches wild fits answer all_cards all cards left None → answer ≡ false
 gives_up wild fits answer all_cards all cards left fails h = rw fails at h.same
 
-pub gives_up_behind : {P A : Type 0} (wild : P → Bool) (fits : P → A → Bool) (answer : Bool) (all_cards all : ℕ) (cards : List P) (left : List A) (behind : List P) → cards_cover wild fits cards left ≡ false → Searches wild fits answer all_cards all cards left (Some (behind, [])) → answer ≡ false
+pub gives_up_behind : {P A : Type 0} (wild : P → Bool) (fits : P → A → Bool) (answer : Bool) (all_cards all : ℕ) (cards : List P) (left : List A) (behind : List P) → cards_match wild fits cards left ≡ false → Searches wild fits answer all_cards all cards left (Some (behind, [])) → answer ≡ false
 gives_up_behind wild fits answer all_cards all cards left behind fails h = rw fails at h.same
 
 -- why what is left is not covered
-pub none_for_card : {P A : Type 0} (wild : P → Bool) (fits : P → A → Bool) (card : P) (behind : List P) → wild card ≡ false → cards_cover wild fits (card ∷ behind) [] ≡ false
+pub none_for_card : {P A : Type 0} (wild : P → Bool) (fits : P → A → Bool) (card : P) (behind : List P) → wild card ≡ false → cards_match wild fits (card ∷ behind) [] ≡ false
 none_for_card wild fits card behind plain = rw plain refl
 
-pub no_fit : {P A : Type 0} (wild : P → Bool) (fits : P → A → Bool) (card : P) (behind : List P) (x : A) (left : List A) → wild card ≡ false → fits card x ≡ false → cards_cover wild fits (card ∷ behind) (x ∷ left) ≡ false
+pub no_fit : {P A : Type 0} (wild : P → Bool) (fits : P → A → Bool) (card : P) (behind : List P) (x : A) (left : List A) → wild card ≡ false → fits card x ≡ false → cards_match wild fits (card ∷ behind) (x ∷ left) ≡ false
 no_fit wild fits card behind x left plain fit = rw (plain, fit) refl
 
 -- the search is bounded by how often the last wild card may be tried again, and then by the cards

@@ -9,7 +9,7 @@ use Rattle.cc_names.specs.declared.selection.Pattern.{Pattern}
 use Rattle.cc_names.specs.declared.selection.Rule.{Rule}
 use Rattle.cc_names.specs.declared.selection.Segment.TheVariants.{OneName}
 use Rattle.spec_text.specs.Patterns.{is_star, is_question_mark, matches}
-use Rattle.spec_text.specs.Rules.{Selectables, sources_at, ends_scan, deciding, pick}
+use Rattle.spec_text.specs.Rules.{Selectables, selectables_at, ends_scan, deciding, pick}
 
 -- a name without wild cards
 abbrev pub is_plain : List ℕ → Bool
@@ -51,6 +51,6 @@ StaysAtRows =
     (rows : ℕ) (tree : List TreeChange) (labels : List LabelChange) (listed : ℕ → List ℕ → ℕ → Option ℕ) (out : Option ℕ)
     (element : ℕ) (names : List (List ℕ)) (rules : List Rule) →
     ((change : TreeChange) → rows ≤ row_of_change change →
-    pick (sources_at rows (change ∷ tree) labels listed out) element names rules ≡ pick (sources_at rows tree labels listed out) element names rules)
+    pick (selectables_at rows (change ∷ tree) labels listed out) element names rules ≡ pick (selectables_at rows tree labels listed out) element names rules)
     × ((change : LabelChange) → rows ≤ row_of_label_change change →
-    pick (sources_at rows tree (change ∷ labels) listed out) element names rules ≡ pick (sources_at rows tree labels listed out) element names rules)
+    pick (selectables_at rows tree (change ∷ labels) listed out) element names rules ≡ pick (selectables_at rows tree labels listed out) element names rules)

@@ -1,4 +1,4 @@
-pub mod Covers
+pub mod WildCards
 pub mod Patterns
 pub mod Steps
 pub mod Parts

@@ -12,7 +12,7 @@ use Rattle.spec_text.specs.declared.options.Named.{Named}
 use Rattle.spec_text.specs.declared.options.Named.TheVariants.{Time, NoCheckout, MkBranch, Unknown}
 use Rattle.spec_text.specs.declared.options.Options.{Options as OptionWords}
 use Rattle.spec_text.specs.declared.lines.Line.{Line}
-use Rattle.spec_text.specs.declared.lines.Line.TheVariants.{Skipped, Opens, Closes, Gives}
+use Rattle.spec_text.specs.declared.lines.Line.TheVariants.{Skipped, BeginsBlock, EndsBlock, Gives}
 
 infixl 10 ◌>>=◌
 -- the first cause, or what the next step makes of what was read
@@ -120,12 +120,12 @@ element_line line block _ = Err BadRule
 abbrev pub time_line : List (List ℕ) → Result Line SpecCause
 time_line (date ∷ []) = do
   moment ← moment_of_word date
-  Ok (Opens moment)
+  Ok (BeginsBlock moment)
 time_line _ = Err BadRule
 
 -- `end time` closes the innermost block
 abbrev pub end_line : List (List ℕ) → Result Line SpecCause
-end_line (word ∷ []) = if bytes_eq word (codes "time") then Ok Closes else Err BadRule
+end_line (word ∷ []) = if bytes_eq word (codes "time") then Ok EndsBlock else Err BadRule
 end_line _ = Err BadRule
 
 -- whether a word begins a comment

@@ -8,7 +8,7 @@ use Rattle.cc_names.specs.declared.refusals.SpecCause.TheVariants.{BadPattern}
 use Rattle.cc_names.specs.declared.selection.Pattern.{Pattern}
 use Rattle.cc_names.specs.declared.selection.Segment.{Segment}
 use Rattle.cc_names.specs.declared.selection.Segment.TheVariants.{AnyNames, OneName}
-use Rattle.spec_text.specs.Covers.{tails, has_none, cards_cover}
+use Rattle.spec_text.specs.WildCards.{tails, has_none, cards_match}
 
 -- whether a byte is `*`
 abbrev pub is_star : ℕ → Bool
@@ -24,7 +24,7 @@ fits_byte c b = is_question_mark c || (c == b)
 
 -- whether the bytes of a segment match a name: `*` stands for any bytes of it, `?` for one
 abbrev pub matches_name : List ℕ → List ℕ → Bool
-matches_name = cards_cover is_star fits_byte
+matches_name = cards_match is_star fits_byte
 
 -- whether a segment is `...`
 abbrev pub is_dots : Segment → Bool
@@ -38,7 +38,7 @@ fits_name (OneName bytes) name = matches_name bytes name
 
 -- whether segments match names, all of them: `...` stands for any names, each other segment for one
 abbrev pub matches_names : List Segment → List (List ℕ) → Bool
-matches_names = cards_cover is_dots fits_name
+matches_names = cards_match is_dots fits_name
 
 -- whether the segments are the one segment `*`
 abbrev pub is_lone_star : List Segment → Bool

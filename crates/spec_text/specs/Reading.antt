@@ -7,7 +7,7 @@ use Rattle.cc_names.specs.declared.refusals.SpecCause.TheVariants.{NoBlock}
 use Rattle.cc_names.specs.declared.refusals.SpecError.{SpecError}
 use Rattle.cc_names.specs.declared.selection.Rule.{Rule}
 use Rattle.spec_text.specs.declared.lines.Line.{Line}
-use Rattle.spec_text.specs.declared.lines.Line.TheVariants.{Skipped, Opens, Closes, Gives}
+use Rattle.spec_text.specs.declared.lines.Line.TheVariants.{Skipped, BeginsBlock, EndsBlock, Gives}
 
 -- the rules so far, and the times of the blocks that are open, the innermost first
 pub record State : Type 0 where
@@ -26,8 +26,8 @@ closed rules (innermost ∷ blocks) = Ok (record { rules = rules; blocks = block
 -- the state behind a line
 abbrev pub after_line : Line → State → Result State SpecCause
 after_line Skipped state = Ok state
-after_line (Opens moment) state = Ok (record { rules = state.rules; blocks = moment ∷ state.blocks })
-after_line Closes state = closed state.rules state.blocks
+after_line (BeginsBlock moment) state = Ok (record { rules = state.rules; blocks = moment ∷ state.blocks })
+after_line EndsBlock state = closed state.rules state.blocks
 after_line (Gives rule) state = Ok (record { rules = state.rules ++ rule ∷ []; blocks = state.blocks })
 
 -- the state behind what a line says, where it says something

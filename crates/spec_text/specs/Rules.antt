@@ -23,8 +23,8 @@ pub record Selectables : Type 0 where
   pub out : Option ℕ
 
 -- what there is to select from in the first rows of a base
-abbrev pub sources_at : ℕ → List TreeChange → List LabelChange → (ℕ → List ℕ → ℕ → Option ℕ) → Option ℕ → Selectables
-sources_at rows tree labels listed out =
+abbrev pub selectables_at : ℕ → List TreeChange → List LabelChange → (ℕ → List ℕ → ℕ → Option ℕ) → Option ℕ → Selectables
+selectables_at rows tree labels listed out =
     record { tree = of_first_rows rows tree; labels = labels_of_first_rows rows labels; listed = listed; out = out }
 
 -- no record lists any version

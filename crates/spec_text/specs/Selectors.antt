@@ -11,7 +11,7 @@ use Rattle.cc_names.specs.declared.refusals.SpecCause.{SpecCause}
 use Rattle.cc_names.specs.declared.refusals.SpecCause.TheVariants.{BadSelector, BadType}
 use Rattle.cc_names.specs.declared.selection.Selector.{Selector}
 use Rattle.cc_names.specs.declared.selection.Selector.TheVariants.{CheckedOut, Label, Latest, Wherever, Numbered, Config, Nothing}
-use Rattle.spec_text.specs.Covers.{has_none}
+use Rattle.spec_text.specs.WildCards.{has_none}
 
 -- the selector of the branch behind `main` by these names, by what stands behind them: LATEST or a number
 abbrev pub on_branch : List (List ℕ) → List ℕ → Option Selector

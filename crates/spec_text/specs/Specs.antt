@@ -7,7 +7,7 @@ use Rattle.cc_names.specs.declared.refusals.SpecError.{SpecError}
 use Rattle.cc_names.specs.declared.selection.Rule.{Rule}
 use Rattle.spec_text.specs.Lines.{line_of}
 use Rattle.spec_text.specs.declared.lines.Line.{Line}
-use Rattle.spec_text.specs.declared.lines.Line.TheVariants.{Skipped, Opens, Closes, Gives}
+use Rattle.spec_text.specs.declared.lines.Line.TheVariants.{Skipped, BeginsBlock, EndsBlock, Gives}
 
 -- a rule before those that follow it, where these can be read
 abbrev pub before_rules : Rule → Result (List Rule) SpecError → Result (List Rule) SpecError
@@ -22,9 +22,9 @@ fails line cause = Err (record { line = line; cause = cause })
 abbrev pub with_line : ℕ → List ℕ → Result Line SpecCause → (List ℕ → Result (List Rule) SpecError) → Result (List Rule) SpecError
 with_line line blocks (Err cause) behind = fails line cause
 with_line line blocks (Ok Skipped) behind = behind blocks
-with_line line blocks (Ok (Opens moment)) behind = behind (moment ∷ blocks)
-with_line line [] (Ok Closes) behind = fails line NoBlock
-with_line line (innermost ∷ blocks) (Ok Closes) behind = behind blocks
+with_line line blocks (Ok (BeginsBlock moment)) behind = behind (moment ∷ blocks)
+with_line line [] (Ok EndsBlock) behind = fails line NoBlock
+with_line line (innermost ∷ blocks) (Ok EndsBlock) behind = behind blocks
 with_line line blocks (Ok (Gives rule)) behind = before_rules rule (behind blocks)
 
 -- the rules on lines of which the first has this number, inside these blocks

@@ -1,4 +1,4 @@
-// What config specs keep to, whatever the program does. Each function does nothing; its contract is the law.
+//! What config specs keep to, whatever the program does. Each function does nothing; its contract is the law.
 
 ghost use Rattle.spec_text.specs.Laws.{MatchesOwnPath, MatchesEndsOfPaths, FirstDecides, PicksNothing, StaysAtRows};
 

@@ -1,4 +1,4 @@
-// What one line of a config spec says.
+//! What one line of a config spec says.
 
 ghost use Rattle.std.specs.Prelude.{◌≡◌, ◌<◌, ◌^◌, IfOk};
 ghost use Rattle.std.specs.Option.{option_copied};
@@ -20,9 +20,9 @@ pub(crate) enum Line {
     /// Nothing: the line is blank or a comment.
     Skipped,
     /// A block of rules with this time begins.
-    Opens(u64),
+    BeginsBlock(u64),
     /// The innermost open block ends.
-    Closes,
+    EndsBlock,
     /// A rule.
     Gives(Rule),
 }
@@ -137,7 +137,7 @@ fn time_line(mut words: Words<'_>) -> Result<Line, Or<SpecCause>>
     };
     match words.next() {
         Some(_) => Err(Or::Is(SpecCause::BadRule)),
-        None => Ok(Line::Opens(moment(date)?)),
+        None => Ok(Line::BeginsBlock(moment(date)?)),
     }
 }
 
@@ -148,7 +148,7 @@ fn end_line(mut words: Words<'_>) -> Result<Line, Or<SpecCause>>
         return Err(Or::Is(SpecCause::BadRule));
     };
     match words.next() {
-        None if word == b"time".as_slice() => Ok(Line::Closes),
+        None if word == b"time".as_slice() => Ok(Line::EndsBlock),
         _ => Err(Or::Is(SpecCause::BadRule)),
     }
 }

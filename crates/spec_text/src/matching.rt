@@ -1,8 +1,8 @@
-// Matching with wild cards in time of one list's length times the other's, without memory.
-//
-// The cards are compared with what they stand for from the front. A wild card stands for nothing at first; where the
-// comparison fails behind it, it takes one member more, and the comparison begins again behind it. Only the last wild
-// card met is ever tried again: what an earlier one could take, the last one can take too.
+//! Matching with wild cards in time of one list's length times the other's, without memory.
+//!
+//! The cards are compared with what they stand for from the front. A wild card stands for nothing at first; where the
+//! comparison fails behind it, it takes one member more, and the comparison begins again behind it. Only the last wild
+//! card met is ever tried again: what an earlier one could take, the last one can take too.
 
 ghost use Rattle.std.specs.Prelude.{◌≡◌};
 ghost use Rattle.std.specs.Option.{option_copied};

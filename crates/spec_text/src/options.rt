@@ -1,4 +1,4 @@
-// The options of a rule.
+//! The options of a rule.
 
 ghost use Rattle.std.specs.Prelude.{◌≡◌};
 ghost use Rattle.std.specs.Option.{option_map};

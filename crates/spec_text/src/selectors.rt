@@ -1,4 +1,4 @@
-// Selectors of config specs: which words spell them.
+//! Selectors of config specs: which words spell them.
 
 ghost use Rattle.std.specs.Prelude.{◌≡◌, IfOk, []};
 ghost use Rattle.std.specs.Option.{option_copied};

@@ -1,4 +1,4 @@
-// Whole config specs.
+//! Whole config specs.
 
 ghost use Rattle.std.specs.Prelude.{◌≡◌, ◌<◌, ◌^◌, length, slice_get};
 ghost use Rattle.cc_names.specs.Answers.{Gives};
@@ -76,8 +76,8 @@ impl Reader {
         } = self;
         match line {
             Line::Skipped => {}
-            Line::Opens(moment) => blocks.push(moment)?,
-            Line::Closes => {
+            Line::BeginsBlock(moment) => blocks.push(moment)?,
+            Line::EndsBlock => {
                 if blocks.pop().is_none() {
                     return Err(Or::Is(SpecCause::NoBlock));
                 }

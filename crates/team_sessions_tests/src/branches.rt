@@ -1,4 +1,4 @@
-// Sessions of branches: made by `mkbranch` and by rules, one leaving another, and rules by which nothing is checked out.
+//! Sessions of branches: made by `mkbranch` and by rules, one leaving another, and rules by which nothing is checked out.
 
 use crate::sessions::{BESIDE_A_FILE, assert_sessions};
 use std::test::Fail;

@@ -1,4 +1,4 @@
-// Sessions that build what views select: sources by a label, targets in directories and under the names of elements.
+//! Sessions that build what views select: sources by a label, targets in directories and under the names of elements.
 
 use crate::sessions::{BESIDE_A_FILE, assert_sessions};
 use std::test::Fail;

@@ -1,5 +1,5 @@
-// Why commands on checkouts and branches are refused: each reason once, in the order in which they are tested, mostly where a
-// later one holds too.
+//! Why commands on checkouts and branches are refused: each reason once, in the order in which they are tested, mostly where a
+//! later one holds too.
 
 use crate::sessions::{BESIDE_A_FILE, assert_sessions};
 use std::test::Fail;

@@ -1,4 +1,4 @@
-// Sessions of checkouts: two views on one branch, texts that did not change, and views that end with files out.
+//! Sessions of checkouts: two views on one branch, texts that did not change, and views that end with files out.
 
 use crate::sessions::{BESIDE_A_FILE, assert_sessions};
 use std::test::Fail;

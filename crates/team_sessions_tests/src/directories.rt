@@ -1,5 +1,5 @@
-// Sessions on directories: who sees which names, names taken out and changed, and what becomes of names that were never
-// brought in.
+//! Sessions on directories: who sees which names, names taken out and changed, and what becomes of names that were never
+//! brought in.
 
 use crate::sessions::{BESIDE_A_FILE, assert_sessions};
 use std::test::Fail;

@@ -1,4 +1,4 @@
-// Sessions of labels: moved, on several versions and elements, and taken off what a view does not select.
+//! Sessions of labels: moved, on several versions and elements, and taken off what a view does not select.
 
 use crate::sessions::{BESIDE_A_FILE, assert_sessions};
 use std::test::Fail;

@@ -1,4 +1,4 @@
-// Sessions of queries that list what is there: the names of a directory, and the objects that a view holds.
+//! Sessions of queries that list what is there: the names of a directory, and the objects that a view holds.
 
 use crate::sessions::{BESIDE_A_FILE, assert_sessions};
 use std::test::Fail;

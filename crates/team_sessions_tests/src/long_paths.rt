@@ -1,4 +1,4 @@
-// Directories that are renamed, so that paths below them grow to the limit of 1,024 bytes and past it.
+//! Directories that are renamed, so that paths below them grow to the limit of 1,024 bytes and past it.
 
 use crate::sessions::{Front, IN_A_LANE, NEVER_RUN, Runtime, assert_sessions};
 use std::alloc::Global;

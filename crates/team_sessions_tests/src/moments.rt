@@ -1,4 +1,4 @@
-// Sessions that select by time, under a clock that goes on and under one that goes back.
+//! Sessions that select by time, under a clock that goes on and under one that goes back.
 
 use crate::sessions::{Front, assert_sessions};
 use std::test::Fail;

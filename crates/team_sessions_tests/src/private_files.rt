@@ -1,4 +1,4 @@
-// Sessions in which private files hide elements.
+//! Sessions in which private files hide elements.
 
 use crate::sessions::{BESIDE_A_FILE, assert_sessions};
 use std::test::Fail;

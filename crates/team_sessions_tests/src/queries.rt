@@ -1,4 +1,4 @@
-// Sessions of queries on elements: the text of a version, what is selected of an element, its versions, and what was done to it.
+//! Sessions of queries on elements: the text of a version, what is selected of an element, its versions, and what was done to it.
 
 use crate::sessions::{BESIDE_A_FILE, assert_sessions};
 use std::test::Fail;

@@ -1,4 +1,4 @@
-// Sessions that select by patterns, branches, labels and numbers, or nothing.
+//! Sessions that select by patterns, branches, labels and numbers, or nothing.
 
 use crate::sessions::{AT_ONCE, Front, assert_sessions};
 use std::test::Fail;

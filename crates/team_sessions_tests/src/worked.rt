@@ -1,4 +1,4 @@
-// The worked sessions of a team's first days: two views on one base, a checkout by both, labels, a branch, a time.
+//! The worked sessions of a team's first days: two views on one base, a checkout by both, labels, a branch, a time.
 
 use crate::sessions::{ALONE, AT_ONCE, Front, NEVER_RUN, assert_sessions};
 use std::test::Fail;

@@ -13,11 +13,11 @@ use Rattle.turn_lock.specs.declared.rule.Stage.{Stage}
 use Rattle.turn_lock.specs.declared.rule.Stage.TheVariants.{Idle, Joined, Waits, Turn}
 use Rattle.turn_lock.specs.declared.rule.View.{View}
 use Rattle.turn_lock.specs.Stages.{ticket_of, noted_of, tickets_at, tickets_of, weight_of, idle, spent, at_stage, greater_half, lesser_half, longer, shorter, joined}
-use Rattle.turn_lock.specs.Rule.{in_word, Each, IsDue, HasNoTurn, IsCounted, Agrees, Knows, Homes, IsHome, IsOut, Kept}
+use Rattle.turn_lock.specs.Rule.{in_word, Each, IsInLine, HasNoTurn, IsCounted, Agrees, Knows, Homes, IsHome, IsOut, Kept}
 use Rattle.turn_lock.specs.Moves.{drew, looked, gave, settled}
 use Rattle.turn_lock.proofs.Prefixes.{begins_itself, begins_on, longer_begins, longer_whole_left, longer_whole_right}
 use Rattle.turn_lock.proofs.Totals.{at-le-sum_by, two-le-sum_by}
-use Rattle.turn_lock.proofs.Views.{here_set, each_set, each_snoc, counted_set, counted_free, counted_snoc, few, due_more, due_later, no_turn, due_below}
+use Rattle.turn_lock.proofs.Views.{here_set, each_set, each_snoc, counted_set, counted_free, counted_snoc, few, in_line_more, in_line_later, no_turn, in_line_below}
 
 abbrev size : ℕ
 size = 18446744073709551616
@@ -159,7 +159,7 @@ module _ {T D : Type 0} (story : T → List D) where
         count = refl;
         sum = omega arith;
         weighty = alone (λ v. v.weight ≡ 0 → v ≡ spent) first (λ none. absurd (omega arith));
-        due = alone (λ v. IsDue 0 0 v.stage) first tt;
+        in_line = alone (λ v. IsInLine 0 0 v.stage) first tt;
         apart = λ seat other v w at_v at_w ticket of_v of_w. absurd (alone (λ u. ticket_of u.stage ≡ Some ticket → ⊥) first (λ of. cc) seat v at_v of_v);
       };
       place = inl record {
@@ -190,8 +190,8 @@ module _ {T D : Type 0} (story : T → List D) where
             small = r.small;
             counted = counted_set r.served r.drawn whole r.served (r.drawn + 1) whole s.views id me.0 w at (omega arith) refl (λ weightless. absurd (omega arith))
                 (omega (arith, c.count), omega arith)
-                (λ seat u _ at_u. due_more r.served r.drawn u.stage (c.due seat u at_u))
-                (λ seat u ticket _ at_u of_w of_u. let same : r.drawn ≡ ticket = cc in let low : ticket < r.drawn = due_below r.served r.drawn ticket u.stage of_u (c.due seat u at_u) in omega arith)
+                (λ seat u _ at_u. in_line_more r.served r.drawn u.stage (c.in_line seat u at_u))
+                (λ seat u ticket _ at_u of_w of_u. let same : r.drawn ≡ ticket = cc in let low : ticket < r.drawn = in_line_below r.served r.drawn ticket u.stage of_u (c.in_line seat u at_u) in omega arith)
                 c;
             place = place_set r.served s.homes s.views id me.0 w at weight (subst HasNoTurn (sym resting) tt) tt refl
                 (λ l k. (k.0, tt)) r.place;
@@ -202,15 +202,15 @@ module _ {T D : Type 0} (story : T → List D) where
     -- the pass whose turn it is is the one with the ticket to be served
     turn_here : (served drawn ticket id : ℕ) (v : View D) (homes : Homes T) (views : List (View D)) → IsCounted served drawn whole views → get_elem? views id ≡ some v → ticket_of v.stage ≡ Some ticket → ticket ≡ served
         → (o : IsOut story served homes views) → v.stage ≡ Turn served o.kept
-    turn_here served drawn ticket id v homes views c at of due o =
+    turn_here served drawn ticket id v homes views c at of in_line o =
         let theirs : ticket_of o.holder.1.stage ≡ Some served = ap ticket_of o.holder.3 in
-        let mine : ticket_of v.stage ≡ Some served = of ∙ ap (λ (t : ℕ). Some t) due in
+        let mine : ticket_of v.stage ≡ Some served = of ∙ ap (λ (t : ℕ). Some t) in_line in
         let same : id ≡ o.holder.0 = c.apart id o.holder.0 v o.holder.1 at o.holder.2 served mine theirs in
         ap (λ (u : View D). u.stage) (one_view views id o.holder.0 v o.holder.1 same at o.holder.2) ∙ o.holder.3
 
-    -- a ticket that is due, and that the word has, is the ticket to be served
+    -- a ticket that is in_line, and that the word has, is the ticket to be served
     turn_comes : (served drawn ticket : ℕ) (views : List (View D)) → IsCounted served drawn whole views → whole < 2 ^ 64 → (served ≤ ticket) × (ticket < drawn) → in_word served ≡ in_word ticket → ticket ≡ served
-    turn_comes served drawn ticket views c small due same = sym (one_turn served ticket size due.0 (omega (arith, few served drawn whole views c)) same)
+    turn_comes served drawn ticket views c small in_line same = sym (one_turn served ticket size in_line.0 (omega (arith, few served drawn whole views c)) same)
 
     pub looks : (slots id ticket : ℕ) (me : Hand) → me.0.stage ≡ Waits ticket → me.1 ≡ [] → Allows Rule slots id me 1 (λ n. n) (looked story (step slots 1 0 0 none) me)
     looks slots id ticket me waits empty s r _ at _ = dite (ℕ_discrete (get_or s.words 1 0) (in_word ticket)) its_turn not_yet
@@ -230,14 +230,14 @@ module _ {T D : Type 0} (story : T → List D) where
           λ own waits'. let same : ticket ≡ own = cc in ((λ found. absurd (differs (found ∙ ap in_word (sym same)))), λ _. refl),
         )
 
-        due : (r.served ≤ ticket) × (ticket < r.drawn)
-        due = subst (IsDue r.served r.drawn) waits (c.due id me.0 at)
+        in_line : (r.served ≤ ticket) × (ticket < r.drawn)
+        in_line = subst (IsInLine r.served r.drawn) waits (c.in_line id me.0 at)
 
         its_turn : get_or s.words 1 0 ≡ in_word ticket → Looked
         its_turn found = ⊎_elim at_home (λ o. absurd (cc (waits, turn_here r.served r.drawn ticket id me.0 s.homes s.views c at (ap ticket_of waits) now o))) r.place
           where
             now : ticket ≡ r.served
-            now = turn_comes r.served r.drawn ticket s.views c r.small due (sym (ap (λ (ws : List ℕ). get_or ws 1 0) r.words) ∙ found)
+            now = turn_comes r.served r.drawn ticket s.views c r.small in_line (sym (ap (λ (ws : List ℕ). get_or ws 1 0) r.words) ∙ found)
 
             at_home : IsHome story s.homes s.views → Looked
             at_home h = let w : View D = at_stage (Turn ticket (story h.value)) me.0 in let seen : IsPrefix me.0.seen (story h.value) = (h.known id me.0 at).0 in (
@@ -249,8 +249,8 @@ module _ {T D : Type 0} (story : T → List D) where
                 drawn = r.drawn;
                 words = r.words;
                 small = r.small;
-                counted = counted_set r.served r.drawn whole r.served r.drawn whole s.views id me.0 w at (omega (arith, ap tickets_at waits)) refl (λ weightless. absurd (cc (waits, ap (λ (v : View D). v.stage) (c.weighty id me.0 at weightless)))) (now, due.1)
-                    (λ seat u _ at_u. c.due seat u at_u)
+                counted = counted_set r.served r.drawn whole r.served r.drawn whole s.views id me.0 w at (omega (arith, ap tickets_at waits)) refl (λ weightless. absurd (cc (waits, ap (λ (v : View D). v.stage) (c.weighty id me.0 at weightless)))) (now, in_line.1)
+                    (λ seat u _ at_u. c.in_line seat u at_u)
                     (λ seat u other apart at_u of_w of_u. apart (c.apart seat id u me.0 at_u at other of_u (ap ticket_of waits ∙ of_w)))
                     c;
                 place = inr record {
@@ -270,11 +270,11 @@ module _ {T D : Type 0} (story : T → List D) where
         c : IsCounted r.served r.drawn whole s.views
         c = r.counted
 
-        due : (turn.0 ≡ r.served) × (turn.0 < r.drawn)
-        due = subst (IsDue r.served r.drawn) turn.1 (c.due id me.0 at)
+        in_line : (turn.0 ≡ r.served) × (turn.0 < r.drawn)
+        in_line = subst (IsInLine r.served r.drawn) turn.1 (c.in_line id me.0 at)
 
         mine : ticket_of me.0.stage ≡ Some r.served
-        mine = ap ticket_of turn.1 ∙ ap (λ (t : ℕ). Some t) due.0
+        mine = ap ticket_of turn.1 ∙ ap (λ (t : ℕ). Some t) in_line.0
 
         others : (seat : ℕ) (u : View D) → seat ≢ id → get_elem? s.views seat ≡ some u → ticket_of u.stage ≡ Some r.served → ⊥
         others seat u apart at_u theirs = apart (c.apart seat id u me.0 at_u at r.served theirs mine)
@@ -283,7 +283,7 @@ module _ {T D : Type 0} (story : T → List D) where
             → (w : View D) × (a : Act (Option T)) × Valid s.homes me.1 a × Rule (stepped s 1 ((get_or s.words 1 0 + 1) % 2 ^ 64) id me.1 w a) × gave story (step slots 1 1 0 none) me (get_or s.words 1 0) (w, carried_after me.1 a)
         out o =
             let w : View D = idle (story value) me.0.weight in
-            let same : kept ≡ o.kept = cc (turn.1, turn_here r.served r.drawn turn.0 id me.0 s.homes s.views c at (ap ticket_of turn.1) due.0 o) in
+            let same : kept ≡ o.kept = cc (turn.1, turn_here r.served r.drawn turn.0 id me.0 s.homes s.views c at (ap ticket_of turn.1) in_line.0 o) in
             let now : (seat : ℕ) (u : View D) → seat ≢ id → get_elem? s.views seat ≡ some u → Knows (story value) u =
             λ seat u _ at_u. let k = o.known seat u at_u in let on : IsPrefix o.kept (story value) = subst (λ (l : List D). IsPrefix l (story value)) same longer_story in
             (begins_on u.seen o.kept (story value) k.0 on, k.1) in (
@@ -296,13 +296,13 @@ module _ {T D : Type 0} (story : T → List D) where
                 words = ap (λ (ws : List ℕ). set ws 1 ((get_or ws 1 0 + 1) % size)) r.words ∙ ap (λ (n : ℕ). in_word r.drawn ∷ n ∷ []) (mod-add-mod r.served size 1);
                 small = r.small;
                 counted = counted_set r.served r.drawn whole (r.served + 1) r.drawn whole s.views id me.0 w at (omega (arith, ap tickets_at turn.1)) refl (λ weightless. absurd (omega arith)) tt
-                    (λ seat u apart at_u. due_later r.served r.drawn u.stage (others seat u apart at_u) (c.due seat u at_u))
+                    (λ seat u apart at_u. in_line_later r.served r.drawn u.stage (others seat u apart at_u) (c.in_line seat u at_u))
                     (λ seat u ticket _ _ of_w _. absurd (cc of_w))
                     c;
                 place = inl record {
                   value = value;
                   home = ap (λ (x : Homes T × List (ℕ × Option T)). put_back x.0 x.1) (λ i. (o.away i, hand i));
-                  nobody = each_set (λ u. HasNoTurn u.stage) s.views id w tt (λ seat u apart at_u. no_turn r.served r.drawn u.stage (others seat u apart at_u) (c.due seat u at_u));
+                  nobody = each_set (λ u. HasNoTurn u.stage) s.views id w tt (λ seat u apart at_u. no_turn r.served r.drawn u.stage (others seat u apart at_u) (c.in_line seat u at_u));
                   known = each_set (Knows (story value)) s.views id w (begins_itself (story value), tt) now;
                   newest = (id, w, here_set s.views id me.0 w at, weight, refl);
                 };

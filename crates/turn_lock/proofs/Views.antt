@@ -8,7 +8,7 @@ use Rattle.turn_lock.specs.declared.rule.Stage.{Stage}
 use Rattle.turn_lock.specs.declared.rule.Stage.TheVariants.{Idle, Joined, Waits, Turn}
 use Rattle.turn_lock.specs.declared.rule.View.{View}
 use Rattle.turn_lock.specs.Stages.{ticket_of, tickets_at, tickets_of, weight_of, idle, spent}
-use Rattle.turn_lock.specs.Rule.{Each, IsDue, HasNoTurn, IsApart, IsCounted}
+use Rattle.turn_lock.specs.Rule.{Each, IsInLine, HasNoTurn, IsApart, IsCounted}
 use Rattle.turn_lock.proofs.Totals.{sum_by-at_set, sum_by-le_at}
 
 module _ {A : Type 0} where
@@ -46,23 +46,23 @@ module _ {D : Type 0} where
 
   -- one pass changes
   pub counted_set : (served drawn whole served' drawn' whole' : ℕ) (views : List (View D)) (id : ℕ) (v w : View D) → get_elem? views id ≡ some v
-      → served' + tickets_of w + drawn ≡ served + tickets_of v + drawn' → whole' + v.weight ≡ whole + w.weight → (w.weight ≡ 0 → w ≡ spent) → IsDue served' drawn' w.stage
-      → ((seat : ℕ) (u : View D) → seat ≢ id → get_elem? views seat ≡ some u → IsDue served' drawn' u.stage)
+      → served' + tickets_of w + drawn ≡ served + tickets_of v + drawn' → whole' + v.weight ≡ whole + w.weight → (w.weight ≡ 0 → w ≡ spent) → IsInLine served' drawn' w.stage
+      → ((seat : ℕ) (u : View D) → seat ≢ id → get_elem? views seat ≡ some u → IsInLine served' drawn' u.stage)
       → ((seat : ℕ) (u : View D) (ticket : ℕ) → seat ≢ id → get_elem? views seat ≡ some u → ticket_of w.stage ≡ Some ticket → ticket_of u.stage ≡ Some ticket → ⊥)
       → IsCounted served drawn whole views → IsCounted served' drawn' whole' (set views id w)
   counted_set served drawn whole served' drawn' whole' views id v w at counts weighs weighty mine others fresh c = record {
     count = omega (arith, sum_by-at_set tickets_of views id v w at, c.count);
     sum = omega (arith, sum_by-at_set weight_of views id v w at, c.sum);
     weighty = each_set (λ u. u.weight ≡ 0 → u ≡ spent) views id w weighty (λ seat u _ at_u. c.weighty seat u at_u);
-    due = each_set (λ u. IsDue served' drawn' u.stage) views id w mine others;
+    in_line = each_set (λ u. IsInLine served' drawn' u.stage) views id w mine others;
     apart = apart_set views id w c.apart fresh;
   }
 
   -- one pass changes, and has no ticket before or after
   pub counted_free : (served drawn whole whole' : ℕ) (views : List (View D)) (id : ℕ) (v w : View D) → get_elem? views id ≡ some v → tickets_of v ≡ 0 → tickets_of w ≡ 0 → ticket_of w.stage ≡ None
-      → IsDue served drawn w.stage → whole' + v.weight ≡ whole + w.weight → (w.weight ≡ 0 → w ≡ spent) → IsCounted served drawn whole views → IsCounted served drawn whole' (set views id w)
-  counted_free served drawn whole whole' views id v w at before after free due weighs weighty c =
-      counted_set served drawn whole served drawn whole' views id v w at (omega arith) weighs weighty due (λ seat u _ at_u. c.due seat u at_u)
+      → IsInLine served drawn w.stage → whole' + v.weight ≡ whole + w.weight → (w.weight ≡ 0 → w ≡ spent) → IsCounted served drawn whole views → IsCounted served drawn whole' (set views id w)
+  counted_free served drawn whole whole' views id v w at before after free in_line weighs weighty c =
+      counted_set served drawn whole served drawn whole' views id v w at (omega arith) weighs weighty in_line (λ seat u _ at_u. c.in_line seat u at_u)
       (λ seat u ticket _ _ of _. no_ticket w.stage free ticket of) c
 
   -- a new pass comes, which has no ticket
@@ -72,7 +72,7 @@ module _ {D : Type 0} where
     count = omega (arith, sum_by_push tickets_of views w, c.count);
     sum = omega (arith, sum_by_push weight_of views w, c.sum);
     weighty = each_snoc (λ u. u.weight ≡ 0 → u ≡ spent) views w (λ none. absurd (omega arith)) c.weighty;
-    due = each_snoc (λ u. IsDue served drawn u.stage) views w tt c.due;
+    in_line = each_snoc (λ u. IsInLine served drawn u.stage) views w tt c.in_line;
     apart = apart_snoc views w refl c.apart;
   }
     where
@@ -100,27 +100,27 @@ module _ {D : Type 0} where
   few served drawn whole views c = omega (arith, sum_by-le_at tickets_of weight_of views (λ seat v at. light v.stage v.seen v.weight (c.weighty seat v at)), c.count, c.sum)
 
   -- one more ticket is drawn
-  pub due_more : (served drawn : ℕ) (stage : Stage D) → IsDue served drawn stage → IsDue served (drawn + 1) stage
-  due_more served drawn Idle d = tt
-  due_more served drawn (Joined shorter) d = tt
-  due_more served drawn (Waits ticket) d = (d.0, omega arith)
-  due_more served drawn (Turn ticket story) d = (d.0, omega arith)
+  pub in_line_more : (served drawn : ℕ) (stage : Stage D) → IsInLine served drawn stage → IsInLine served (drawn + 1) stage
+  in_line_more served drawn Idle d = tt
+  in_line_more served drawn (Joined shorter) d = tt
+  in_line_more served drawn (Waits ticket) d = (d.0, omega arith)
+  in_line_more served drawn (Turn ticket story) d = (d.0, omega arith)
 
   -- the ticket served is another's
-  pub due_later : (served drawn : ℕ) (stage : Stage D) → (ticket_of stage ≡ Some served → ⊥) → IsDue served drawn stage → IsDue (served + 1) drawn stage
-  due_later served drawn Idle other d = tt
-  due_later served drawn (Joined shorter) other d = tt
-  due_later served drawn (Waits ticket) other d = let differ : ticket ≢ served = λ e. other (ap (λ (t : ℕ). Some t) e) in (omega arith, d.1)
-  due_later served drawn (Turn ticket story) other d = absurd (other (ap (λ (t : ℕ). Some t) d.0))
+  pub in_line_later : (served drawn : ℕ) (stage : Stage D) → (ticket_of stage ≡ Some served → ⊥) → IsInLine served drawn stage → IsInLine (served + 1) drawn stage
+  in_line_later served drawn Idle other d = tt
+  in_line_later served drawn (Joined shorter) other d = tt
+  in_line_later served drawn (Waits ticket) other d = let differ : ticket ≢ served = λ e. other (ap (λ (t : ℕ). Some t) e) in (omega arith, d.1)
+  in_line_later served drawn (Turn ticket story) other d = absurd (other (ap (λ (t : ℕ). Some t) d.0))
 
-  pub no_turn : (served drawn : ℕ) (stage : Stage D) → (ticket_of stage ≡ Some served → ⊥) → IsDue served drawn stage → HasNoTurn stage
+  pub no_turn : (served drawn : ℕ) (stage : Stage D) → (ticket_of stage ≡ Some served → ⊥) → IsInLine served drawn stage → HasNoTurn stage
   no_turn served drawn Idle other d = tt
   no_turn served drawn (Joined shorter) other d = tt
   no_turn served drawn (Waits ticket) other d = tt
   no_turn served drawn (Turn ticket story) other d = other (ap (λ (t : ℕ). Some t) d.0)
 
-  pub due_below : (served drawn ticket : ℕ) (stage : Stage D) → ticket_of stage ≡ Some ticket → IsDue served drawn stage → ticket < drawn
-  due_below served drawn ticket Idle of d = absurd (cc)
-  due_below served drawn ticket (Joined shorter) of d = absurd (cc)
-  due_below served drawn ticket (Waits own) of d = let e : own ≡ ticket = cc in omega arith
-  due_below served drawn ticket (Turn own story) of d = let e : own ≡ ticket = cc in omega arith
+  pub in_line_below : (served drawn ticket : ℕ) (stage : Stage D) → ticket_of stage ≡ Some ticket → IsInLine served drawn stage → ticket < drawn
+  in_line_below served drawn ticket Idle of d = absurd (cc)
+  in_line_below served drawn ticket (Joined shorter) of d = absurd (cc)
+  in_line_below served drawn ticket (Waits own) of d = let e : own ≡ ticket = cc in omega arith
+  in_line_below served drawn ticket (Turn own story) of d = let e : own ≡ ticket = cc in omega arith

@@ -20,11 +20,11 @@ module _ {D : Type 0} where
   Each P views = (seat : ℕ) (v : View D) → get_elem? views seat ≡ some v → P v
 
   -- a ticket is one of those drawn and not yet served; the one whose turn it is is the next to be served
-  abbrev pub IsDue : ℕ → ℕ → Stage D → Type 0
-  IsDue served drawn Idle = Unit {0}
-  IsDue served drawn (Joined shorter) = Unit {0}
-  IsDue served drawn (Waits ticket) = (served ≤ ticket) × (ticket < drawn)
-  IsDue served drawn (Turn ticket story) = (ticket ≡ served) × (ticket < drawn)
+  abbrev pub IsInLine : ℕ → ℕ → Stage D → Type 0
+  IsInLine served drawn Idle = Unit {0}
+  IsInLine served drawn (Joined shorter) = Unit {0}
+  IsInLine served drawn (Waits ticket) = (served ≤ ticket) × (ticket < drawn)
+  IsInLine served drawn (Turn ticket story) = (ticket ≡ served) × (ticket < drawn)
 
   -- the pass has not taken the value
   abbrev pub HasNoTurn : Stage D → Type 0
@@ -38,12 +38,12 @@ module _ {D : Type 0} where
   IsApart views = (seat other : ℕ) (v w : View D) → get_elem? views seat ≡ some v → get_elem? views other ≡ some w
       → (ticket : ℕ) → ticket_of v.stage ≡ Some ticket → ticket_of w.stage ≡ Some ticket → seat ≡ other
 
-  -- each pass that is not spent has a weight, and the weights add up; the tickets are counted, differ and are due
+  -- each pass that is not spent has a weight, and the weights add up; the tickets are counted, differ and are in_line
   pub record IsCounted (served drawn whole : ℕ) (views : List (View D)) : Type 0 where
     pub count : served + sum_by tickets_of views ≡ drawn
     pub sum : sum_by weight_of views ≡ whole
     pub weighty : Each (λ v. v.weight ≡ 0 → v ≡ spent) views
-    pub due : Each (λ v. IsDue served drawn v.stage) views
+    pub in_line : Each (λ v. IsInLine served drawn v.stage) views
     pub apart : IsApart views
 
   -- of two passes joined, the story that the one had seen begins what the other had

@@ -61,7 +61,7 @@ impl<T: Storied> Model for Pass<T> {
     ghost use Rattle.turn_lock.specs.Sight.{Sight};
     ghost use Rattle.turn_lock.specs.declared.rule.Stage.TheVariants.{Idle};
 
-    ghost Value = { Sight T.Told };
+    ghost Value = { Sight T.Step };
 
     ghost view = { λ p.
         record { lock = p.seat.table_id; seen = p.seat.me.0.seen; weight = p.seat.me.0.weight } };
@@ -83,7 +83,7 @@ impl<T: Storied> Model for Held<T> {
     ghost use Rattle.turn_lock.specs.Stages.{noted_of};
     ghost use Rattle.turn_lock.specs.declared.rule.Stage.TheVariants.{Turn};
 
-    ghost Value = { Hold T.Told };
+    ghost Value = { Hold T.Step };
 
     ghost view = { λ h.
         record {

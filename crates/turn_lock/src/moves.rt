@@ -19,7 +19,7 @@ pub(crate) struct Look<T> {
     value: PhantomData<T>,
 }
 
-impl<T: Storied> Play<Option<T>, View<T::Told>> for Look<T> {
+impl<T: Storied> Play<Option<T>, View<T::Step>> for Look<T> {
     ghost then = { looked T.story };
 }
 
@@ -28,7 +28,7 @@ pub(crate) struct Give<T> {
     value: PhantomData<T>,
 }
 
-impl<T: Storied> Play<Option<T>, View<T::Told>> for Give<T> {
+impl<T: Storied> Play<Option<T>, View<T::Step>> for Give<T> {
     ghost then = { gave T.story };
 }
 

@@ -45,7 +45,7 @@ pub struct Turns<T> {
     value: PhantomData<T>,
 }
 
-impl<T: Storied> TableRule<Option<T>, View<T::Told>, Opening<T>> for Turns<T> {
+impl<T: Storied> TableRule<Option<T>, View<T::Step>, Opening<T>> for Turns<T> {
     ghost use Rattle.turn_lock.specs.Stages.{idle};
     ghost use Rattle.turn_lock.specs.Rule.{Kept};
 
@@ -57,7 +57,7 @@ impl<T: Storied> TableRule<Option<T>, View<T::Told>, Opening<T>> for Turns<T> {
 /// The words and the slot of a lock, with their memory.
 pub(crate) type TurnTable<T> = Table<
     Option<T>,
-    View<<T as Storied>::Told>,
+    View<<T as Storied>::Step>,
     Opening<T>,
     Turns<T>,
     Global,
@@ -66,10 +66,10 @@ pub(crate) type TurnTable<T> = Table<
 /// The same as threads share it.
 pub(crate) type SharedTable<T> = Shared<
     Option<T>,
-    View<<T as Storied>::Told>,
+    View<<T as Storied>::Step>,
     Opening<T>,
     Turns<T>,
 >;
 
 /// What a pass steps with.
-pub(crate) type TurnSeat<T> = Seat<Option<T>, View<<T as Storied>::Told>>;
+pub(crate) type TurnSeat<T> = Seat<Option<T>, View<<T as Storied>::Step>>;

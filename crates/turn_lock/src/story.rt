@@ -8,7 +8,7 @@ pub trait Storied {
     ghost use Rattle.std.specs.Prelude.{List};
 
     /// What one step of a story tells. No value of it is ever made.
-    type Told;
+    type Step;
 
-    ghost story: { Self → List Self.Told };
+    ghost story: { Self → List Self.Step };
 }

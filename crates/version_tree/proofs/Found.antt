@@ -1,15 +1,12 @@
 -- What a look-up of a branch or a change gives.
 use Rattle.std.proofs.Common.{◌≡◌, ℕ, Bool, true, false, cond, eqb, ltb, List, [], ◌∷◌, map, reverse, Option, Some, None, IfSome, refl, sym, ap, ◌∙◌}
 use Rattle.std.specs.Prelude.{filter, find, option_map, option_copied}
-use Rattle.std.specs.List.Sorted.{IsStrictlySortedBy}
 use denote.Ref.{Bor}
 use Rattle.cc_names.specs.Versions.{row_of_change, change_at, of_first_rows, versions_on}
 use Rattle.cc_names.specs.Falling.{Falls}
-use Rattle.version_tree.specs.Forest.{AreInOrder, entries_in}
 use Rattle.version_tree.specs.Namesakes.{change_of, changes_of}
 use Rattle.version_tree.specs.Branches.{row_of_later, versions_by}
 use Rattle.version_tree.specs.TreeFields.{row_of_made, branch_at, InStep}
-use Rattle.version_tree.specs.declared.contents.Contents.{Contents}
 use Rattle.version_tree.specs.declared.namesakes.Made.{Made}
 use Rattle.version_tree.specs.declared.branches.Branch.{Branch}
 use Rattle.version_tree.proofs.FirstRows.{versions_of_first_rows, versions_fall, later_falls}
@@ -21,7 +18,7 @@ pub if_copied : {X : Type 0} (P : X → Type 0) (o : Option (Bor X)) → IfSome 
 if_copied P None holds = tt
 if_copied P (Some x) holds = holds
 
-module _ {h : RandomState} (made : List Made) (branches : List Branch) (heads : ℕ → Option ℕ) (held : ℕ → Option Contents) (step : InStep h made branches heads held) where
+module _ {h : RandomState} (made : List Made) (branches : List Branch) (heads : ℕ → Option ℕ) (step : InStep h made branches heads) where
   -- the rows of the changes fall
   pub changes_fall : Falls (map row_of_change (changes_of made))
   changes_fall = rw (rows_of_made made) step.falls
@@ -41,23 +38,6 @@ module _ {h : RandomState} (made : List Made) (branches : List Branch) (heads : 
   found_falls b (Some branch) is =
       later_falls branch.row branch.moment (reverse branch.later.items) (rw (versions_found b (Some branch) is) (versions_fall (changes_of made) b changes_fall))
 
-  -- other contents in order
-  pub contents_set : (held' : ℕ → Option Contents) → ((v : ℕ) → AreInOrder (entries_in (held' v))) → InStep h made branches heads held'
-  contents_set held' in_order = record {
-    falls = step.falls;
-    linked = step.linked;
-    newest = step.newest;
-    branches_fall = step.branches_fall;
-    branches_made = step.branches_made;
-    kept = step.kept;
-    in_order = in_order;
-  }
-
--- no entries are in order
-pub in_order-none : AreInOrder []
-unfolding IsStrictlySortedBy
-in_order-none = tt
-
 -- a change is found by its row, with its link or without
 pub change_found : (made : List Made) (row : ℕ) → change_at (changes_of made) row ≡ option_map change_of (find (λ m. eqb (row_of_made m) row) made)
 change_found [] row = refl
@@ -69,13 +49,12 @@ change_found (m ∷ made) row = at (eqb (row_of_made m) row) (change_found made 
     at false rest = rest
 
 -- nothing is there
-pub nothing_in_step : (h : RandomState) (heads : ℕ → Option ℕ) (held : ℕ → Option Contents) → ((key : ℕ) → heads key ≡ None) → ((v : ℕ) → held v ≡ None) → InStep h [] [] heads held
-nothing_in_step h heads held none nothing = record {
+pub nothing_in_step : (h : RandomState) (heads : ℕ → Option ℕ) → ((key : ℕ) → heads key ≡ None) → InStep h [] [] heads
+nothing_in_step h heads none = record {
   falls = tt;
   linked = tt;
   newest = none;
   branches_fall = tt;
   branches_made = λ row above. tt;
   kept = λ b. refl;
-  in_order = λ v. rw (nothing v) in_order-none;
 }

@@ -12,7 +12,6 @@ use Rattle.cc_names.specs.Falling.{IsAbove, Falls}
 use Rattle.version_tree.specs.Namesakes.{changes_of, has_key, newest_with}
 use Rattle.version_tree.specs.Branches.{versions_from, versions_kept, versions_by}
 use Rattle.version_tree.specs.TreeFields.{row_of_made, row_of_branch, ready_branches, branch_at, InStep}
-use Rattle.version_tree.specs.declared.contents.Contents.{Contents}
 use Rattle.version_tree.specs.declared.namesakes.Made.{Made}
 use Rattle.version_tree.specs.declared.branches.Branch.{Branch}
 use Rattle.version_tree.specs.declared.branches.Later.{Later}
@@ -35,14 +34,14 @@ abbrev version_of : ℕ → ℕ → ℕ → Version
 version_of row moment branch = record { row = row; moment = moment; branch = branch; number = 0 }
 
 -- a change that begins a branch, and the branch with version 0 alone
-pub branch_added : {h : RandomState} (m : Made) (b : Branch) (made : List Made) (branches : List Branch) (heads heads' : ℕ → Option ℕ) (held : ℕ → Option Contents)
-    → InStep h made branches heads held
+pub branch_added : {h : RandomState} (m : Made) (b : Branch) (made : List Made) (branches : List Branch) (heads heads' : ℕ → Option ℕ)
+    → InStep h made branches heads
     → row_of_change m.change ≡ b.row → branch_of_change m.change ≡ b.row → moment_of_change m.change ≡ b.moment → b.later.items ≡ []
     → IsAbove b.row (map row_of_made made)
     → ((key : ℕ) → has_key h key m.change ≡ true → m.namesake ≡ newest_with h key made)
     → ((key : ℕ) → heads' key ≡ newest_with h key (m ∷ made))
-    → InStep h (m ∷ made) (b ∷ branches) heads' held
-branch_added m b made branches heads heads' held step rows on moments empty above link newest = record {
+    → InStep h (m ∷ made) (b ∷ branches) heads'
+branch_added m b made branches heads heads' step rows on moments empty above link newest = record {
   falls = (rw rows above, step.falls);
   linked = (link, step.linked);
   newest = newest;
@@ -58,7 +57,6 @@ branch_added m b made branches heads heads' held step rows on moments empty abov
         rw (on, same, none, empty) (ap (λ v. v ∷ []) version)
     | inr other ↦ rw (on, other) (step.kept q)
   ];
-  in_order = step.in_order;
 }
 
 module _ (branches : List Branch) (p : ℕ) (b' : Branch) (within : p < length branches) where
@@ -166,14 +164,14 @@ kept_more b b' l branch row row' moments more =
     ap (λ vs. version_behind branch l vs ∷ vs) older ∙ sym (by_row ∙ by_moment ∙ by_items)
 
 -- the next version on a branch that is there
-pub version_added : {h : RandomState} (m : Made) (made : List Made) (items : List Branch) (p : ℕ) (b' : Branch) (row moment branch : ℕ) (heads : ℕ → Option ℕ) (held : ℕ → Option Contents)
-    → InStep h made (reverse items) heads held
+pub version_added : {h : RandomState} (m : Made) (made : List Made) (items : List Branch) (p : ℕ) (b' : Branch) (row moment branch : ℕ) (heads : ℕ → Option ℕ)
+    → InStep h made (reverse items) heads
     → m.change ≡ VersionMade row moment branch
     → IsAbove row (map row_of_made made)
     → p < length items → slice_get items p ≡ find (λ b. eqb b.row branch) items
     → b'.row ≡ branch → ((d : Branch) → b'.moment ≡ (get_or items p d).moment) → ((d : Branch) → b'.later.items ≡ (get_or items p d).later.items ++ record { row = row; moment = moment } ∷ [])
-    → InStep h (m ∷ made) (reverse (set items p b')) heads held
-version_added {h = h} m made items p b' row moment branch heads held step is above within found same_row same_moment more =
+    → InStep h (m ∷ made) (reverse (set items p b')) heads
+version_added {h = h} m made items p b' row moment branch heads step is above within found same_row same_moment more =
     let there = row_there items branch p step.branches_fall within found in
     let old = get_or items p b' in
     let rows : map row_of_branch (reverse (set items p b')) ≡ map row_of_branch (reverse items) =
@@ -201,7 +199,6 @@ version_added {h = h} m made items p b' row moment branch heads held step is abo
             find-reverse row_of_branch q (set items p b') fall_after ∙ find_set_other items p b' within q (λ d. there d ∙ sym same_row) (rw same_row other) ∙ sym (find-reverse row_of_branch q items step.branches_fall) in
             rw (is, other, others) (step.kept q)
       ];
-      in_order = step.in_order;
     }
 
 -- a branch that is not there is not ready
@@ -216,25 +213,24 @@ not_ready branch (x ∷ items) none = elim (bool_cases (eqb x.row branch)) [
     over_put true fails rest = rw fails rest
     over_put false fails rest = rest
 
--- the maps in another order
-pub maps_reordered : {h : RandomState} (made : List Made) (branches : List Branch) (heads heads' : ℕ → Option ℕ) (held held' : ℕ → Option Contents)
-    → InStep h made branches heads held → ((key : ℕ) → heads' key ≡ heads key) → ((v : ℕ) → held' v ≡ held v) → InStep h made branches heads' held'
-maps_reordered made branches heads heads' held held' step same_heads same_held = record {
+-- the map in another order
+pub map_reordered : {h : RandomState} (made : List Made) (branches : List Branch) (heads heads' : ℕ → Option ℕ)
+    → InStep h made branches heads → ((key : ℕ) → heads' key ≡ heads key) → InStep h made branches heads'
+map_reordered made branches heads heads' step same_heads = record {
   falls = step.falls;
   linked = step.linked;
   newest = λ key. same_heads key ∙ step.newest key;
   branches_fall = step.branches_fall;
   branches_made = step.branches_made;
   kept = step.kept;
-  in_order = λ v. rw (same_held v) (step.in_order v);
 }
 
 -- a branch with more room
-pub room_made : {h : RandomState} (made : List Made) (items : List Branch) (p : ℕ) (b' : Branch) (branch : ℕ) (heads : ℕ → Option ℕ) (held : ℕ → Option Contents)
-    → InStep h made (reverse items) heads held → p < length items → slice_get items p ≡ find (λ b. eqb b.row branch) items
+pub room_made : {h : RandomState} (made : List Made) (items : List Branch) (p : ℕ) (b' : Branch) (branch : ℕ) (heads : ℕ → Option ℕ)
+    → InStep h made (reverse items) heads → p < length items → slice_get items p ≡ find (λ b. eqb b.row branch) items
     → b'.row ≡ branch → ((d : Branch) → b'.moment ≡ (get_or items p d).moment) → ((d : Branch) → b'.later.items ≡ (get_or items p d).later.items)
-    → InStep h made (reverse (set items p b')) heads held
-room_made made items p b' branch heads held step within found same_row same_moment same_later =
+    → InStep h made (reverse (set items p b')) heads
+room_made made items p b' branch heads step within found same_row same_moment same_later =
     let there = row_there items branch p step.branches_fall within found in
     let old = get_or items p b' in
     let rows : map row_of_branch (reverse (set items p b')) ≡ map row_of_branch (reverse items) =
@@ -265,7 +261,6 @@ room_made made items p b' branch heads held step within found same_row same_mome
             find-reverse row_of_branch q (set items p b') fall_after ∙ find_set_other items p b' within q (λ d. there d ∙ sym same_row) (rw same_row other) ∙ sym (find-reverse row_of_branch q items step.branches_fall) in
             step.kept q ∙ ap versions_by (sym others)
       ];
-      in_order = step.in_order;
     }
 
 -- a branch that has room is ready
@@ -286,9 +281,9 @@ set_ready (x ∷ items) (suc p) b' branch within same room = put_any (ltb (vec_l
     put_any false any = any
 
 -- a branch that is not there has no version
-pub latest_nowhere : {h : RandomState} (made : List Made) (items : List Branch) (branch : ℕ) (heads : ℕ → Option ℕ) (held : ℕ → Option Contents)
-    → InStep h made (reverse items) heads held → find (λ b. eqb b.row branch) items ≡ None → latest (changes_of made) branch None ≡ None
-latest_nowhere made items branch heads held step none =
+pub latest_nowhere : {h : RandomState} (made : List Made) (items : List Branch) (branch : ℕ) (heads : ℕ → Option ℕ)
+    → InStep h made (reverse items) heads → find (λ b. eqb b.row branch) items ≡ None → latest (changes_of made) branch None ≡ None
+latest_nowhere made items branch heads step none =
     let absent : branch_at (reverse items) branch ≡ None = find-reverse row_of_branch branch items step.branches_fall ∙ none in
     let versions : versions_on (changes_of made) branch ≡ [] = step.kept branch ∙ ap versions_by absent in
     rw versions refl

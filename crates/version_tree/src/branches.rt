@@ -1,4 +1,4 @@
-// A branch and its versions, in order of their rows.
+//! A branch and its versions, in order of their rows.
 
 ghost use Rattle.std.specs.Prelude.{◌≡◌, ◌==◌, map, reverse, find, option_map, nat_lt};
 ghost use Rattle.cc_names.specs.Versions.{row_of_version, number_of_version, is_before};

@@ -1,14 +1,13 @@
-// The trees of versions of all elements, as they were at any number of rows.
-//
-// What it is for: one place that knows every element, branch and version of a base, and answers what stood where when the
-// base had only its first `rows` rows. An element and its branch `main` are named by the row that made the element, any
-// other branch and every version by its own row. Version trees and their numbering are those of ClearCase.
-//
-// What it promises: each answer is that of the definitions over the list of changes (`cc_names`, `Versions` and
-// `Branches`), None exactly where they find nothing. Adding a change or setting what a version holds takes no memory,
-// where room for it was reserved before.
-//
-// What it stands on: `cc_names`. A version takes about 100 bytes, and what it holds about 60 more.
+//! The trees of versions of all elements, as they were at any number of rows.
+//!
+//! What it is for: one place that knows every element, branch and version of a base, and answers what stood where when the
+//! base had only its first `rows` rows. An element and its branch `main` are named by the row that made the element, any
+//! other branch and every version by its own row. Version trees and their numbering are those of ClearCase.
+//!
+//! What it promises: each answer is that of the definitions over the list of changes (`cc_names`, `Versions` and
+//! `Branches`), None exactly where they find nothing. Adding a change takes no memory, where room for it was reserved before.
+//!
+//! What it stands on: `cc_names`. A version takes about 100 bytes.
 #![tactic(auto)]
 
 ghost use Rattle.std.specs.Prelude.{◌≡◌, ℕ, ◌==◌, ◌<◌, ◌≤◌, ◌+◌, ◌∷◌, [], IsTrue, IsSome, IfOk, IfSome, OnOk, map, reverse, filter, nat_eq, nat_lt, option_copied, if◌then◌else◌};
@@ -16,32 +15,28 @@ ghost use Rattle.std.specs.HashMap.{get, spare};
 ghost use Rattle.cc_names.specs.Versions.{row_of_change, branch_of_change, of_first_rows, change_at, element_of_branch, versions_on, latest, numbered, version_id, kind_of};
 ghost use Rattle.cc_names.specs.Branches.{branch_named, branch_of_version, origin_of, name_of_branch};
 ghost use Rattle.cc_names.specs.declared.changes.TreeChange.TheVariants as changes;
-ghost use Rattle.version_tree.specs.declared.contents.Contents.TheVariants as contents;
 ghost use Rattle.cc_names.specs.Falling.{IsAbove, Falls};
-ghost use Rattle.version_tree.specs.Forest.{AddsChange, SetsContents, KeepsAll, AreInOrder, contents_of, entries_in, text_in, has_room};
+ghost use Rattle.version_tree.specs.Forest.{AddsChange, KeepsAll, has_room};
 
 mod branches;
-mod contents;
 pub mod laws;
 mod namesakes;
 
 use branches::{Branch, Later};
 use cc_names::by_row::{item_of, place_of};
 use cc_names::changes::TreeChange;
-pub use cc_names::changes::{CatalogEntry, VersionId};
+pub use cc_names::changes::VersionId;
 use cc_names::keys::key_of;
-use cc_names::lists::List;
 use cc_names::memory::NoMemory;
 use cc_names::names::Name;
 use cc_names::rows::Kind;
-use contents::Contents;
 use namesakes::{Made, find_branch};
 use std::alloc::Global;
 use std::collections::HashMap;
 use std::hash::RandomState;
 use std::marker::Model;
 
-/// The trees of versions of all elements of a base, with what each version holds. Contracts see the list of changes.
+/// The trees of versions of all elements of a base. Contracts see the list of changes.
 #[derive(Drop)]
 pub struct Tree {
     alloc: Global,
@@ -49,7 +44,6 @@ pub struct Tree {
     made: Vec<Made>,
     branches: Vec<Branch>,
     newest: HashMap<u64, usize>,
-    contents: HashMap<u64, Contents>,
 }
 
 impl Model for Tree {
@@ -64,14 +58,14 @@ impl Model for Tree {
     ghost invariant = { IsInStep };
 }
 
-/// Sets the value at a key of a map that has room for one key more.
-fn put_within<V: Drop>(map: &mut HashMap<u64, V>, key: u64, value: V)
-    requires { 0 < spare map.old }
+/// Sets the place of the newest change with a key, where the map has room for one key more.
+fn put_newest(newest: &mut HashMap<u64, usize>, key: u64, place: usize)
+    requires { 0 < spare newest.old }
     ensures gets { (q : ℕ)
-        → get nat_eq map.new q ≡ (if key == q then Some value else get nat_eq map.old q) }
-    ensures room { spare map.old ≤ spare map.new + 1 }
+        → get nat_eq newest.new q ≡ (if key == q then Some place else get nat_eq newest.old q) }
+    ensures room { spare newest.old ≤ spare newest.new + 1 }
 {
-    match map.insert(key, value) {
+    match newest.insert(key, place) {
         Ok(_) => {}
         Err(_) => unreachable!(),
     }
@@ -96,7 +90,6 @@ impl Tree {
     pub fn new(alloc: Global, hashing: RandomState) -> Result<Tree, NoMemory>
         ensures root { IfOk result
             (λ tree. tree.changes ≡ changes.ElementMade 0 0 Kind.Directory ∷ []) }
-        ensures empty { IfOk result (λ tree. (v : ℕ) → contents_of tree v ≡ None) }
     {
         let mut made = Vec::new(alloc);
         made.push(Made {
@@ -119,17 +112,15 @@ impl Tree {
             made,
             branches,
             newest: HashMap::new(alloc),
-            contents: HashMap::new(alloc),
         })
     }
 
-    /// Makes room for one element or one branch, for what one version holds and, where a branch that is there is named, for
-    /// one version on it. Takes time logarithmic in the branches; a list that is full is doubled, in time linear in it.
-    pub fn reserve(&mut self, _alloc: Global, branch: Option<u64>) -> Result<(), NoMemory>
+    /// Makes room for one element or one branch and, where a branch that is there is named, for one version on it. Takes time
+    /// logarithmic in the branches; a list that is full is doubled, in time linear in it.
+    pub fn reserve(&mut self, branch: Option<u64>) -> Result<(), NoMemory>
         ensures kept { KeepsAll self.old self.new }
         ensures stay { (b : ℕ) → IsTrue (has_room self.old b) → IsTrue (has_room self.new b) }
         ensures room { OnOk result (0 < self.new.room) }
-        ensures content_room { OnOk result (0 < self.new.content_room) }
         ensures ready { OnOk result
             (IfSome branch
             (λ b. IsSome (latest self.old.changes b None) → IsTrue (has_room self.new b))) }
@@ -141,17 +132,15 @@ impl Tree {
         }
     }
 
-    // Makes room for one change and for what one version holds.
+    // Makes room for one change.
     fn reserve_change(&mut self) -> Result<(), NoMemory>
         ensures kept { KeepsAll self.old self.new }
         ensures stay { (b : ℕ) → IsTrue (has_room self.old b) → IsTrue (has_room self.new b) }
         ensures room { OnOk result (0 < self.new.room) }
-        ensures content_room { OnOk result (0 < self.new.content_room) }
     {
         self.made.reserve(1)?;
         self.branches.reserve(1)?;
         self.newest.reserve(1)?;
-        self.contents.reserve(1)?;
         Ok(())
     }
 
@@ -193,7 +182,7 @@ impl Tree {
     {
         let key = key_of(self.hashing, element, &name);
         let namesake = self.newest.get(&key).copied();
-        put_within(&mut self.newest, key, self.made.len());
+        put_newest(&mut self.newest, key, self.made.len());
         let change = TreeChange::BranchMade {
             row,
             moment,
@@ -334,47 +323,5 @@ impl Tree {
         ensures { result ≡ branch_of_version self.now.changes version }
     {
         Some(branch_of(self.change_at(version)?))
-    }
-
-    /// The catalog of a directory's version, in byte order of names; empty where none was set. Takes constant time.
-    pub fn entries(&self, version: u64) -> &[CatalogEntry]
-        ensures catalog { result.now ≡ entries_in (contents_of self.now version) }
-        ensures in_order { AreInOrder result.now }
-    {
-        match self.contents.get(&version) {
-            Some(Contents::Catalog(entries)) => entries.as_slice(),
-            _ => &[],
-        }
-    }
-
-    /// The row whose own bytes are the text of a file's version, where one was set. Takes constant time.
-    pub fn text(&self, version: u64) -> Option<u64>
-        ensures { result ≡ text_in (contents_of self.now version) }
-    {
-        match self.contents.get(&version) {
-            Some(Contents::Text(row)) => Some(*row),
-            _ => None,
-        }
-    }
-
-    /// Sets the catalog of a directory's version. Takes constant time.
-    pub fn set_catalog(&mut self, version: u64, entries: Vec<CatalogEntry>)
-        requires room { 0 < self.old.content_room }
-        requires in_order { AreInOrder entries.items }
-        ensures { SetsContents self.old self.new version (contents.Catalog entries.items) }
-    {
-        put_within(
-            &mut self.contents,
-            version,
-            Contents::Catalog(List::of(entries)),
-        );
-    }
-
-    /// Sets the row whose own bytes are the text of a file's version. Takes constant time.
-    pub fn set_text(&mut self, version: u64, row: u64)
-        requires { 0 < self.old.content_room }
-        ensures { SetsContents self.old self.new version (contents.Text row) }
-    {
-        put_within(&mut self.contents, version, Contents::Text(row));
     }
 }

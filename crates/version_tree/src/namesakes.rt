@@ -1,4 +1,4 @@
-// Branches by element and name: the changes that made branches with one key are linked, the newest first.
+//! Branches by element and name: the changes that made branches with one key are linked, the newest first.
 
 ghost use Rattle.std.specs.Prelude.{◌≡◌, ℕ, ◌&&◌, nat_eq, nat_lt, reverse};
 ghost use Rattle.std.specs.HashMap.{get};

@@ -1,4 +1,4 @@
-// Worked trees, and trees that look random against the plain definition, written as a slow program over a list of lines.
+//! Worked trees, and trees that look random against the plain definition, written as a slow program over a list of lines.
 
 ghost use Rattle.std.specs.Prelude.{◌≡◌, ◌≢◌, ◌+◌, ◌^◌, ◌<◌, ◌≤◌, IfOk, OnOk, IfSome, map};
 ghost use Rattle.cc_names.specs.Versions.{row_of_change};
@@ -38,7 +38,7 @@ fn add(alloc: Global, tree: &mut Tree, row: u64, moment: u64, what: What) -> Res
 {
     match what {
         What::Element => {
-            tree.reserve(alloc, None)?;
+            tree.reserve(None)?;
             tree.add_element(row, moment, Kind::File);
         }
         What::Branch {
@@ -48,12 +48,12 @@ fn add(alloc: Global, tree: &mut Tree, row: u64, moment: u64, what: What) -> Res
         } => {
             let bytes = NAMES.get(named).ok_or("no such name")?;
             let name = Name::read(alloc, bytes)?;
-            tree.reserve(alloc, None)?;
+            tree.reserve(None)?;
             tree.add_branch(row, moment, element, origin, name);
         }
         What::Version { branch } => {
             tree.latest(branch, row, None).ok_or("no such branch")?;
-            tree.reserve(alloc, Some(branch))?;
+            tree.reserve(Some(branch))?;
             tree.add_version(row, moment, branch);
         }
     }
@@ -265,21 +265,6 @@ fn tells_what_rows_made(rt: HostRuntime) -> Result<(), Fail> {
     Ok(())
 }
 
-#[test]
-fn holds_texts_and_catalogs(rt: HostRuntime) -> Result<(), Fail> {
-    let mut tree = worked_tree(rt.alloc(), RandomState::new(&rt)?, Worked::TwoCheckouts)?;
-    tree.reserve(rt.alloc(), None)?;
-    tree.set_text(17, 16);
-    assert_eq!(rt; tree.text(17), Some(16));
-    assert_eq!(rt; tree.text(8), None);
-    tree.reserve(rt.alloc(), None)?;
-    tree.set_catalog(9, Vec::new(rt.alloc()));
-    assert!(rt; tree.entries(9).is_empty());
-    assert_eq!(rt; tree.text(9), None);
-    assert_eq!(rt; tree.text(17), Some(16));
-    Ok(())
-}
-
 // A row behind those of all steps.
 const LATE: u64 = 4_294_967_296;
 
@@ -292,16 +277,16 @@ fn other(one: u64, two: u64) -> Option<u64>
 
 // Adds a version on each of two branches that are there. Room on both is made before the first; behind it, room is made
 // for the change alone.
-fn add_both(alloc: Global, tree: &mut Tree, one: u64, two: u64) -> Result<(), Fail>
+fn add_both(tree: &mut Tree, one: u64, two: u64) -> Result<(), Fail>
     requires above { IsAbove (2 ^ 32) (map row_of_change tree.old.changes) }
     requires apart { one ≢ two }
 {
     tree.latest(one, LATE, None).ok_or("no first branch")?;
     tree.latest(two, LATE, None).ok_or("no second branch")?;
-    tree.reserve(alloc, Some(one))?;
-    tree.reserve(alloc, Some(two))?;
+    tree.reserve(Some(one))?;
+    tree.reserve(Some(two))?;
     tree.add_version(LATE, 10, one);
-    tree.reserve(alloc, None)?;
+    tree.reserve(None)?;
     tree.add_version(LATE + 1, 10, two);
     Ok(())
 }
@@ -320,7 +305,7 @@ fn keeps_the_room_of_other_branches(rt: HostRuntime) -> Result<(), Fail> {
     for (tree, (one, first), (two, second)) in PAIRS {
         let mut tree = worked_tree(rt.alloc(), RandomState::new(&rt)?, tree)?;
         let two = other(one, two).ok_or("one branch")?;
-        add_both(rt.alloc(), &mut tree, one, two)?;
+        add_both(&mut tree, one, two)?;
         assert_eq!(rt; tree.numbered(one, first, LATE + 2), Some(LATE), "on {one}");
         assert_eq!(rt;
             tree.numbered(two, second, LATE + 2),

@@ -18,7 +18,7 @@ use Rattle.cc_names.specs.declared.rows.Tag.{Tag}
 use Rattle.legal_history.specs.Base.Catalogs.{Catalog, Edit, BeginsEmpty, BeginsAs, Adds, Removes, Renames, OfCheckout, catalog_of, catalog_source, edit_of, edit_where, edited, first_edit, made_or_older, named, own_of}
 use Rattle.legal_history.specs.Base.Changes.{tree, with_checkin, with_version}
 use Rattle.legal_history.specs.Base.Checkouts.{branch_of, is_latest, latest_beside, other_reserver}
-use Rattle.legal_history.specs.Base.Closures.{is_version_of}
+use Rattle.legal_history.specs.Base.Closures.{greater_of, is_version_of}
 use Rattle.legal_history.specs.Base.Conditions.{exists, has_out, may_check_in}
 use Rattle.legal_history.specs.Base.Fits.{deed_fits, is_base, may_reserve}
 use Rattle.legal_history.specs.Base.Rows.{Base, size, first_rows, row_at, deed_of}
@@ -29,11 +29,11 @@ use Rattle.legal_history.proofs.Bases.Stay.{catalog_stays, first_rows_stay, row_
 use Rattle.legal_history.proofs.Bases.TreesStay.{tree_of_first_rows}
 use Rattle.legal_history.proofs.Bases.VersionsStay.{of_element, parts_of}
 use Rattle.view_lookup.specs.Changed.{alters, begins, begun, changed, changes, checked_in_on, is_since}
-use Rattle.view_lookup.specs.Ended.{later}
+use Rattle.view_lookup.specs.Lifetimes.{later}
 use Rattle.view_lookup.specs.Entries.{begun_effect, changed_effect, entry_effect}
 use Rattle.view_lookup.specs.Growing.{tree_change, with_change}
 use Rattle.view_lookup.specs.LookUps.{Deeds, Told, last_of, left_by, newest, told}
-use Rattle.view_lookup.specs.ToldOn.{altered_by, at_least}
+use Rattle.view_lookup.specs.ToldOn.{altered_by}
 use Rattle.view_lookup.proofs.Endings.{newest_of_two}
 use Rattle.view_lookup.proofs.EntryRows.{below_newest, edit_at, edit_by, entry_by, entry_by_row}
 use Rattle.view_lookup.proofs.FirstTrees.{change_of_first}
@@ -80,13 +80,13 @@ same_number a b is = (Decides-eqb a b).0 is
 pub record IsKept (b : Base) (name : List ℕ) (branch v : ℕ) : Type 0 where
   pub version : v < size b
   pub branch_below : branch ≤ v
-  pub same : named name (catalog_of b v) ≡ named name (catalog_of b (at_least branch (altered_by branch name b)))
+  pub same : named name (catalog_of b v) ≡ named name (catalog_of b (greater_of branch (altered_by branch name b)))
 
-low : (branch v n : ℕ) (found : Option ℕ) → branch ≤ v → v < n → IfSome found (λ m. m < n) → at_least branch found < n
+low : (branch v n : ℕ) (found : Option ℕ) → branch ≤ v → v < n → IfSome found (λ m. m < n) → greater_of branch found < n
 low branch v n None one two three = omega arith
 low branch v n (Some m) one two three = omega arith
 
-at_top : (branch n : ℕ) (found : Option ℕ) → IfSome found (λ m. m < suc n) → branch ≡ n → at_least branch found ≡ n
+at_top : (branch n : ℕ) (found : Option ℕ) → IfSome found (λ m. m < suc n) → branch ≡ n → greater_of branch found ≡ n
 at_top branch n None h is = is
 at_top branch n (Some m) h is = omega (arith, h, is)
 
@@ -292,14 +292,14 @@ module _ (name : List ℕ) (row : Plain) (older : Base) (branch : ℕ) (before :
 
   -- what the branch had at its latest version is there still
   stays : (v : ℕ) → latest (tree older) branch None ≡ Some v → alters branch name older row.deed ≡ false
-      → named name (catalog_of older v) ≡ named name (catalog_of (row ∷ older) (at_least branch (altered_by branch name (row ∷ older))))
+      → named name (catalog_of older v) ≡ named name (catalog_of (row ∷ older) (greater_of branch (altered_by branch name (row ∷ older))))
   stays v is silent =
       let kept = before v is in
-      let n = at_least branch (altered_by branch name older) in
+      let n = greater_of branch (altered_by branch name older) in
       let below : n < size older = low branch v (size older) (altered_by branch name older) kept.branch_below kept.version (told_below branch name older) in
       kept.same
       ∙ ap (named name) (sym (catalog_stays row older n below))
-      ∙ ap (λ found. named name (catalog_of (row ∷ older) (at_least branch found))) (sym (told_older silent))
+      ∙ ap (λ found. named name (catalog_of (row ∷ older) (greater_of branch found))) (sym (told_older silent))
 
   -- a row that makes no version of the branch leaves its versions as they are
   quiet : (v : ℕ) → latest (tree (row ∷ older)) branch None ≡ latest (tree older) branch None → alters branch name older row.deed ≡ false → latest (tree (row ∷ older)) branch None ≡ Some v → IsKept (row ∷ older) name branch v
@@ -329,7 +329,7 @@ module _ (name : List ℕ) (row : Plain) (older : Base) (branch : ℕ) (before :
       record {
         version = omega (arith, number);
         branch_below = omega (arith, number, behind);
-        same = ap (λ n. named name (catalog_of (row ∷ older) n)) (number ∙ sym (ap (at_least branch) here ∙ most));
+        same = ap (λ n. named name (catalog_of (row ∷ older) n)) (number ∙ sym (ap (greater_of branch) here ∙ most));
       }
 
 and_true : (one two : Bool) → one ≡ true → (one && two) ≡ false → two ≡ false
@@ -502,12 +502,12 @@ few_first (row ∷ older) t = by (nat_lt (size older) (suc t)) refl (few_first o
 
 -- A name in the catalog of a version is as in that of the row of its branch that tells of the name, up to the version.
 pub version_told : (b : Base) → is_base b ≡ true → (name : List ℕ) (v branch : ℕ) → branch_of_version (tree b) v ≡ Some branch
-    → named name (catalog_of b v) ≡ named name (catalog_of b (at_least branch (altered_by branch name (first_rows (suc v) b))))
+    → named name (catalog_of b v) ≡ named name (catalog_of b (greater_of branch (altered_by branch name (first_rows (suc v) b))))
 version_told b base name v branch is =
     let first = first_rows (suc v) b in
     let there : branch_of_version (tree first) v ≡ Some branch =
     ap (λ changes. branch_of_version changes v) (sym (tree_of_first_rows b (suc v) (omega arith))) ∙ ap (option_map branch_of_change) (change_of_first (suc v) v (tree b) (omega arith)) ∙ is in
     let keeps = kept name first (base_of_first (suc v) b base) branch v (latest_by_newest first v branch (few_first b v) there) in
-    let n = at_least branch (altered_by branch name first) in
+    let n = greater_of branch (altered_by branch name first) in
     let below : n < size first = low branch v (size first) (altered_by branch name first) keeps.branch_below keeps.version (told_below branch name first) in
     ap (named name) (sym (catalog_of_first b (suc v) v keeps.version)) ∙ keeps.same ∙ ap (named name) (catalog_of_first b (suc v) n below)

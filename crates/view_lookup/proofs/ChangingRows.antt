@@ -4,7 +4,7 @@ use Rattle.std.specs.Prelude.{is_some}
 use Rattle.cc_names.specs.Last.{Sets, only_if}
 use Rattle.cc_names.specs.Versions.{is_number, put_if}
 use Rattle.legal_history.specs.Base.Rows.{Base, size}
-use Rattle.view_lookup.specs.ChangeCovers.{changing_effect}
+use Rattle.view_lookup.specs.ChangeBearings.{changing_effect}
 use Rattle.view_lookup.specs.Changed.{changing, changing_rows}
 use Rattle.view_lookup.specs.LookUps.{told}
 use Rattle.view_lookup.specs.Walks.{all_told}

@@ -7,7 +7,7 @@ use Rattle.cc_names.specs.Last.{Effect, Keeps, Ends, Sets, left}
 use Rattle.cc_names.specs.declared.rows.Deed.{Deed}
 use Rattle.legal_history.specs.Base.Rows.{Base, size, only_where}
 use Rattle.view_lookup.specs.Effects.{map_effect, map_told}
-use Rattle.view_lookup.specs.Ended.{number_of, ended_or, is_behind, within, later, or_else}
+use Rattle.view_lookup.specs.Lifetimes.{number_of, ended_or, is_behind, within, later, or_else}
 use Rattle.view_lookup.specs.LookUps.{Deeds, Told, told, newest, last_of}
 use Rattle.view_lookup.proofs.Newest.{newest_below}
 

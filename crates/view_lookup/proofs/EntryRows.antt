@@ -12,7 +12,7 @@ use Rattle.legal_history.proofs.Bases.Deeds.{deed_below}
 use Rattle.legal_history.proofs.Bases.Stay.{all_rows, first_rows_stay}
 use Rattle.view_lookup.specs.Changed.{begins, changes}
 use Rattle.view_lookup.specs.Entries.{entry_effect}
-use Rattle.view_lookup.specs.Ended.{or_else}
+use Rattle.view_lookup.specs.Lifetimes.{or_else}
 use Rattle.view_lookup.specs.LookUps.{last_of}
 use Rattle.view_lookup.proofs.EntryEdits.{left_alone}
 

@@ -19,7 +19,7 @@ use Rattle.legal_history.specs.Base.Changes.{held, targets_of}
 use Rattle.legal_history.specs.Base.Rows.{Base, size, deed_at, deed_of, row_at}
 use Rattle.legal_history.proofs.Bases.HeldObjects.{held_in_order, is_held_there, view_paths_total}
 use Rattle.view_lookup.specs.Effects.{held_by_maker, holds_one, winked_effect}
-use Rattle.view_lookup.specs.Ended.{ended_or}
+use Rattle.view_lookup.specs.Lifetimes.{ended_or}
 use Rattle.view_lookup.specs.LookUps.{last_of}
 use Rattle.view_lookup.specs.Made.{is_target}
 use Rattle.view_lookup.proofs.Holdings.{held_by_last, held_effect}

@@ -28,7 +28,7 @@ use Rattle.legal_history.specs.Laws.Counts.{AreOnce, holding_views}
 use Rattle.legal_history.proofs.Bases.CountedViews.{among_holding, counted_by_views, views_once}
 use Rattle.legal_history.proofs.Bases.HeldObjects.{held_in_order}
 use Rattle.view_lookup.specs.Effects.{holds_one, winked_effect}
-use Rattle.view_lookup.specs.Ended.{ended_or}
+use Rattle.view_lookup.specs.Lifetimes.{ended_or}
 use Rattle.view_lookup.specs.LookUps.{last_of, told}
 use Rattle.view_lookup.specs.Made.{is_target}
 use Rattle.view_lookup.specs.Owned.{is_name, maker_by, winker, winker_at}

@@ -16,7 +16,7 @@ use Rattle.cc_names.specs.declared.rows.Deed.TheVariants as deeds
 use Rattle.legal_history.specs.Base.Rows.{Base, size}
 use Rattle.legal_history.specs.Base.Changes.{held, holdings, holdings_after, targets_of}
 use Rattle.view_lookup.specs.Effects.{gone_effect, object_effect}
-use Rattle.view_lookup.specs.Ended.{ended_or}
+use Rattle.view_lookup.specs.Lifetimes.{ended_or}
 use Rattle.view_lookup.specs.Made.{is_target}
 use Rattle.view_lookup.specs.LookUps.{Deeds, last_of}
 use Rattle.view_lookup.proofs.Fronts.{both}

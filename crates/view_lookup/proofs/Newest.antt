@@ -11,8 +11,8 @@ use Rattle.cc_names.specs.declared.rows.Deed.{Deed}
 use Rattle.legal_history.specs.Base.Rows.{Base, size, first_rows, row_at, deed_of, deed_at}
 use Rattle.legal_history.specs.Builds.Reuse.{are_same_paths}
 use Rattle.legal_history.proofs.Bases.Stay.{all_rows}
-use Rattle.view_lookup.specs.LookUps.{Deeds, Told, told, newest, told_by, told_at, first_told, left_by, last_of, IsCovered}
-use Rattle.view_lookup.specs.Subjects.{Subject, Life, Spec, Desk, File, Object, Out, Saved, Entry, Reserved, Named, Living, Winked, Merge, History, Changing, Altered, Leaving, Owned, Given, is_same, key, bears, catalog_subjects, keys_of, plain_subjects, Pool}
+use Rattle.view_lookup.specs.LookUps.{Deeds, Told, told, newest, told_by, told_at, first_told, left_by, last_of, BearsOnAll}
+use Rattle.view_lookup.specs.Subjects.{Subject, Life, Spec, Desk, File, Object, Out, Saved, NameIn, Reserved, Named, Living, Winked, Merge, History, Changing, Altered, Leaving, Owned, Given, is_same, key, bears, catalog_subjects, keys_of, plain_subjects, Pool}
 use Rattle.view_lookup.specs.Marked.{with_marks, marked}
 use Rattle.std.specs.declared.random_state.RandomState.{RandomState}
 
@@ -94,9 +94,9 @@ same_key hashing (Out v e) (Out w f) is =
 same_key hashing (Saved v e) (Saved w f) is =
     let parts = both (bytes_eq w v) (f == e) is in
     ap₂ (λ name element. key hashing (Saved name element)) (same_text w v parts.0) (same_number f e parts.1)
-same_key hashing (Entry d name) (Entry f other) is =
+same_key hashing (NameIn d name) (NameIn f other) is =
     let parts = both (f == d) (bytes_eq other name) is in
-    ap₂ (λ directory text. key hashing (Entry directory text)) (same_number f d parts.0) (same_text other name parts.1)
+    ap₂ (λ directory text. key hashing (NameIn directory text)) (same_number f d parts.0) (same_text other name parts.1)
 same_key hashing (Reserved branch) (Reserved other) is = ap (λ it. key hashing (Reserved it)) (sym (same_number branch other is))
 same_key hashing (Named v) (Named w) is = ap (λ name. key hashing (Named name)) (same_text w v is)
 same_key hashing (Living id) (Living other) is = ap (λ object. key hashing (Living object)) (same_number other id is)
@@ -173,7 +173,7 @@ older_at effect row older n within =
     ap₂ (λ first is. told_by effect (elim first as (λ _. Base) [ true ↦ row ∷ older | false ↦ first_rows n older ]) n (deed_of (elim is [ true ↦ Some row | false ↦ row_at older n ]))) past apart
 
 -- among rows of which each number tells what it does
-marks_tell : {A : Type 0} (hashing : RandomState) (subject : Subject) (effect : Deeds A) (covered : IsCovered subject effect) (at : ℕ → Option (Told A)) (b : Base)
+marks_tell : {A : Type 0} (hashing : RandomState) (subject : Subject) (effect : Deeds A) (covered : BearsOnAll subject effect) (at : ℕ → Option (Told A)) (b : Base)
     → ((n : ℕ) → n ≤ length b → at n ≡ told_at effect b n) → first_told at (marked hashing (key hashing subject) b) ≡ newest effect b
 marks_tell hashing subject effect covered at [] agree = refl
 marks_tell hashing subject effect covered at (row ∷ older) agree =
@@ -209,7 +209,7 @@ first_shorter t (row ∷ older) = elim (nat_lt (size older) t) as (λ within. le
 ]
 
 -- the rows behind the first ones are passed
-only_first : {A : Type 0} (hashing : RandomState) (subject : Subject) (effect : Deeds A) (covered : IsCovered subject effect) (t : ℕ) (b : Base) (at : ℕ → Option (Told A))
+only_first : {A : Type 0} (hashing : RandomState) (subject : Subject) (effect : Deeds A) (covered : BearsOnAll subject effect) (t : ℕ) (b : Base) (at : ℕ → Option (Told A))
     → ((n : ℕ) → at n ≡ told_at effect (first_rows t b) n) → first_told at (marked hashing (key hashing subject) b) ≡ newest effect (first_rows t b)
 only_first hashing subject effect covered t [] at agree = refl
 only_first hashing subject effect covered t (row ∷ older) at agree =
@@ -224,7 +224,7 @@ only_first hashing subject effect covered t (row ∷ older) at agree =
     ] agree
 
 -- The first of a subject's marks whose row is among the first rows and does something is the newest of the first rows that does.
-pub marks_of_first : {A : Type 0} (hashing : RandomState) (subject : Subject) (effect : Deeds A) → IsCovered subject effect → (t : ℕ) (b : Base)
+pub marks_of_first : {A : Type 0} (hashing : RandomState) (subject : Subject) (effect : Deeds A) → BearsOnAll subject effect → (t : ℕ) (b : Base)
     → first_told (told_at effect (first_rows t b)) (marked hashing (key hashing subject) b) ≡ newest effect (first_rows t b)
 marks_of_first hashing subject effect covered t b = only_first hashing subject effect covered t b (told_at effect (first_rows t b)) (λ n. refl)
 

@@ -5,7 +5,7 @@ use Rattle.std.specs.Option.{option_or}
 use Rattle.std.specs.declared.random_state.RandomState.{RandomState}
 use Rattle.cc_names.specs.Versions.{put_if}
 use Rattle.legal_history.specs.Base.Rows.{Base, size, first_rows, deed_of}
-use Rattle.view_lookup.specs.LookUps.{Deeds, told, told_by, left_by, oldest, set_at, last_set, IsCovered}
+use Rattle.view_lookup.specs.LookUps.{Deeds, told, told_by, left_by, oldest, set_at, last_set, BearsOnAll}
 use Rattle.view_lookup.specs.Marked.{with_marks, marked}
 use Rattle.view_lookup.specs.Subjects.{Subject, key, bears, keys_of}
 use Rattle.view_lookup.proofs.Newest.{borne_key, first_shorter, newest_at, no_later, older_at}
@@ -46,7 +46,7 @@ module _ {A : Type 0} (at : ℕ → Option A) (n key : ℕ) where
         | false ↦ λ h. counted_last keys rest h
       ] has
 
-marks_tell_oldest : {A : Type 0} (hashing : RandomState) (subject : Subject) (effect : Deeds A) (covered : IsCovered subject effect) (at : ℕ → Option A) (b : Base)
+marks_tell_oldest : {A : Type 0} (hashing : RandomState) (subject : Subject) (effect : Deeds A) (covered : BearsOnAll subject effect) (at : ℕ → Option A) (b : Base)
     → ((n : ℕ) → n ≤ length b → at n ≡ set_at effect b n) → last_set at (marked hashing (key hashing subject) b) ≡ oldest effect b
 marks_tell_oldest hashing subject effect covered at [] agree = refl
 marks_tell_oldest hashing subject effect covered at (row ∷ older) agree =
@@ -63,7 +63,7 @@ marks_tell_oldest hashing subject effect covered at (row ∷ older) agree =
           passed_last at n (key hashing subject) keys rest (here ∙ nothing) ∙ before ∙ sym (ap (option_or (oldest effect older)) nothing ∙ or_none (oldest effect older))
     ] refl
 
-only_first_oldest : {A : Type 0} (hashing : RandomState) (subject : Subject) (effect : Deeds A) (covered : IsCovered subject effect) (t : ℕ) (b : Base) (at : ℕ → Option A)
+only_first_oldest : {A : Type 0} (hashing : RandomState) (subject : Subject) (effect : Deeds A) (covered : BearsOnAll subject effect) (t : ℕ) (b : Base) (at : ℕ → Option A)
     → ((n : ℕ) → at n ≡ set_at effect (first_rows t b) n) → last_set at (marked hashing (key hashing subject) b) ≡ oldest effect (first_rows t b)
 only_first_oldest hashing subject effect covered t [] at agree = refl
 only_first_oldest hashing subject effect covered t (row ∷ older) at agree =
@@ -78,7 +78,7 @@ only_first_oldest hashing subject effect covered t (row ∷ older) at agree =
     ] agree
 
 -- The last of a subject's marks whose row is among the first rows and sets the thing is the oldest of the first rows that does.
-pub oldest_of_first : {A : Type 0} (hashing : RandomState) (subject : Subject) (effect : Deeds A) → IsCovered subject effect → (t : ℕ) (b : Base)
+pub oldest_of_first : {A : Type 0} (hashing : RandomState) (subject : Subject) (effect : Deeds A) → BearsOnAll subject effect → (t : ℕ) (b : Base)
     → last_set (set_at effect (first_rows t b)) (marked hashing (key hashing subject) b) ≡ oldest effect (first_rows t b)
 oldest_of_first hashing subject effect covered t b = only_first_oldest hashing subject effect covered t b (set_at effect (first_rows t b)) (λ n. refl)
 

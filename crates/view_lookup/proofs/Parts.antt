@@ -7,7 +7,7 @@ use Rattle.legal_history.specs.Base.Rows.{Base, size}
 use Rattle.legal_history.specs.Base.Views.{Checkout, making_effect, making_of_out, made_out, out_effect, private_effect, set_by}
 use Rattle.std.specs.Prelude.{Option, Some, None, option_map}
 use Rattle.view_lookup.specs.Effects.{end_effect, file_effect, taken_effect, kept_checkout, plain_checkout, map_effect, row_of_kept, desk_effect, saved_effect}
-use Rattle.view_lookup.specs.Ended.{ended_or, or_else}
+use Rattle.view_lookup.specs.Lifetimes.{ended_or, or_else}
 use Rattle.view_lookup.specs.LookUps.{Deeds}
 
 -- an end alone

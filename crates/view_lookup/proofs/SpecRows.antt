@@ -9,7 +9,7 @@ use Rattle.cc_names.specs.Formed.{Plain}
 use Rattle.legal_history.specs.Base.Rows.{Base, size, row_at, deed_at, deed_of}
 use Rattle.legal_history.specs.Base.Views.{default_spec, spec_effect, spec_text}
 use Rattle.view_lookup.specs.Effects.{spec_row_effect}
-use Rattle.view_lookup.specs.Ended.{or_else}
+use Rattle.view_lookup.specs.Lifetimes.{or_else}
 use Rattle.view_lookup.specs.LookUps.{last_of}
 use Rattle.view_lookup.specs.Made.{spec_made}
 

@@ -8,7 +8,7 @@ use Rattle.std.specs.declared.random_state.RandomState.{RandomState}
 use Rattle.cc_names.specs.Versions.{put_if}
 use Rattle.cc_names.specs.declared.rows.Deed.{Deed}
 use Rattle.legal_history.specs.Base.Rows.{Base, size, first_rows}
-use Rattle.view_lookup.specs.LookUps.{Deeds, Told, told, told_at, IsCovered}
+use Rattle.view_lookup.specs.LookUps.{Deeds, Told, told, told_at, BearsOnAll}
 use Rattle.view_lookup.specs.Marked.{with_marks, marked}
 use Rattle.view_lookup.specs.Subjects.{Subject, key, bears, keys_of}
 use Rattle.view_lookup.specs.Walks.{all_told, told_below}
@@ -75,7 +75,7 @@ not_borne hashing subject older deed none = by (bears subject older deed) refl
         absurd (cc)
     by false e = refl
 
-marks_walk : {A : Type 0} (hashing : RandomState) (subject : Subject) (effect : Deeds A) (covered : IsCovered subject effect) (at : ℕ → Option (Told A)) (b : Base) (bound : ℕ) → size b ≤ bound
+marks_walk : {A : Type 0} (hashing : RandomState) (subject : Subject) (effect : Deeds A) (covered : BearsOnAll subject effect) (at : ℕ → Option (Told A)) (b : Base) (bound : ℕ) → size b ≤ bound
     → ((n : ℕ) → n ≤ length b → at n ≡ told_at effect b n) → told_below at bound (marked hashing (key hashing subject) b) ≡ all_told effect b
 marks_walk hashing subject effect covered at [] bound within agree = refl
 marks_walk hashing subject effect covered at (row ∷ older) bound within agree =
@@ -96,7 +96,7 @@ marks_walk hashing subject effect covered at (row ∷ older) bound within agree 
           ∙ sym (ap (λ does. put_if (is_some (told n does)) n (all_told effect older)) nothing)
     ] refl
 
-only_first : {A : Type 0} (hashing : RandomState) (subject : Subject) (effect : Deeds A) (covered : IsCovered subject effect) (t : ℕ) (b : Base) (at : ℕ → Option (Told A)) (bound : ℕ)
+only_first : {A : Type 0} (hashing : RandomState) (subject : Subject) (effect : Deeds A) (covered : BearsOnAll subject effect) (t : ℕ) (b : Base) (at : ℕ → Option (Told A)) (bound : ℕ)
     → ((n : ℕ) → at n ≡ told_at effect (first_rows t b) n) → bound ≡ size (first_rows t b) → told_below at bound (marked hashing (key hashing subject) b) ≡ all_told effect (first_rows t b)
 only_first hashing subject effect covered t [] at bound agree size_is = refl
 only_first hashing subject effect covered t (row ∷ older) at bound agree size_is =
@@ -110,6 +110,6 @@ only_first hashing subject effect covered t (row ∷ older) at bound agree size_
     ] agree size_is
 
 -- The marks of a subject tell all of the first rows that do something.
-pub walk_of_first : {A : Type 0} (hashing : RandomState) (subject : Subject) (effect : Deeds A) → IsCovered subject effect → (t : ℕ) (b : Base)
+pub walk_of_first : {A : Type 0} (hashing : RandomState) (subject : Subject) (effect : Deeds A) → BearsOnAll subject effect → (t : ℕ) (b : Base)
     → told_below (told_at effect (first_rows t b)) (size (first_rows t b)) (marked hashing (key hashing subject) b) ≡ all_told effect (first_rows t b)
 walk_of_first hashing subject effect covered t b = only_first hashing subject effect covered t b (told_at effect (first_rows t b)) (size (first_rows t b)) (λ n. refl) refl

@@ -12,7 +12,7 @@ use Rattle.legal_history.specs.Base.Checkouts.{row_of_checkout}
 use Rattle.legal_history.specs.Base.Conditions.{is_arrow}
 use Rattle.legal_history.specs.Base.Rows.{Base, size}
 use Rattle.legal_history.specs.Base.Views as model
-use Rattle.view_lookup.specs.Ended.{or_else}
+use Rattle.view_lookup.specs.Lifetimes.{or_else}
 use Rattle.view_lookup.specs.LookUps.{Deeds, Told}
 use Rattle.view_lookup.specs.Made.{is_target}
 use Rattle.view_lookup.specs.Subjects.{reserved_branch}

@@ -5,7 +5,7 @@ use Rattle.legal_history.specs.Base.Catalogs.{Catalog, Edit, Same, BeginsEmpty, 
 use Rattle.legal_history.specs.Base.Rows.{Base, size, first_rows}
 use Rattle.view_lookup.specs.Changed.{begins, changes}
 use Rattle.view_lookup.specs.LookUps.{Deeds}
-use Rattle.view_lookup.specs.Ended.{or_else}
+use Rattle.view_lookup.specs.Lifetimes.{or_else}
 use Rattle.view_lookup.specs.declared.edits.Edit as code
 use Rattle.view_lookup.specs.declared.edits.Edit.TheVariants as codes
 use Rattle.view_lookup.specs.declared.catalogs.Catalog as places

@@ -1,10 +1,10 @@
-pub mod ChangeCovers
+pub mod ChangeBearings
 pub mod Changed
-pub mod Covers
+pub mod Bearings
 pub mod Effects
-pub mod Ended
+pub mod Lifetimes
 pub mod Entries
-pub mod EntryCovers
+pub mod NameBearings
 pub mod Grouped
 pub mod Growing
 pub mod Indexed

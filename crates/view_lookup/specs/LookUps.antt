@@ -50,8 +50,8 @@ abbrev pub last_of : {A : Type 0} → Deeds A → Base → Option A
 last_of effect b = last (λ older row. effect older row.deed) b
 
 -- No row does anything to a thing that does not bear on its subject.
-abbrev pub IsCovered : {A : Type 0} → Subject → Deeds A → Type 0
-IsCovered subject effect = (older : Base) (deed : Deed) → bears subject older deed ≡ false → effect older deed ≡ Keeps
+abbrev pub BearsOnAll : {A : Type 0} → Subject → Deeds A → Type 0
+BearsOnAll subject effect = (older : Base) (deed : Deed) → bears subject older deed ≡ false → effect older deed ≡ Keeps
 
 -- the effect that code tells
 abbrev pub effect_of : {A : Type 0} → Does A → Effect A

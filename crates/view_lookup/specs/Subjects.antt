@@ -31,7 +31,7 @@ pub data Subject : Type 0 where
   Object : List ℕ → List ℕ → Subject
   Out : List ℕ → ℕ → Subject
   Saved : List ℕ → ℕ → Subject
-  Entry : ℕ → List ℕ → Subject
+  NameIn : ℕ → List ℕ → Subject
   Reserved : ℕ → Subject
   Named : List ℕ → Subject
   Living : ℕ → Subject
@@ -53,14 +53,14 @@ reserved_subjects (Some branch) = Reserved branch ∷ []
 -- what a deed that makes row n takes out, changes or gives back, where its checkout reserves this branch
 abbrev pub desk_subjects : ℕ → Option ℕ → Deed → List Subject
 desk_subjects n branch (deeds.Mkelem v directory name kind out) =
-    Out v n ∷ Desk v ∷ Entry directory name ∷ History n ∷ Given directory ∷ reserved_subjects branch
+    Out v n ∷ Desk v ∷ NameIn directory name ∷ History n ∷ Given directory ∷ reserved_subjects branch
 desk_subjects n branch (deeds.Checkout v e origin reserved) = Out v e ∷ Desk v ∷ reserved_subjects branch
 desk_subjects n branch (deeds.Branch v e origin name out) = Out v e ∷ Desk v ∷ History e ∷ Leaving origin ∷ reserved_subjects branch
 desk_subjects n branch (deeds.Save v e text) = Saved v e ∷ []
 desk_subjects n branch (deeds.Checkin v e) = Out v e ∷ History e ∷ []
 desk_subjects n branch (deeds.Uncheckout v e) = Out v e ∷ []
-desk_subjects n branch (deeds.Rmname v directory name) = Entry directory name ∷ []
-desk_subjects n branch (deeds.Mv v directory from_name to_name) = Entry directory from_name ∷ Entry directory to_name ∷ Given directory ∷ []
+desk_subjects n branch (deeds.Rmname v directory name) = NameIn directory name ∷ []
+desk_subjects n branch (deeds.Mv v directory from_name to_name) = NameIn directory from_name ∷ NameIn directory to_name ∷ Given directory ∷ []
 desk_subjects n branch deed = []
 
 -- what becomes of objects by a deed that makes row n, where the object that it names has these targets and its checkout reserves
@@ -135,7 +135,7 @@ is_same (File v path) (File w q) = bytes_eq w v && bytes_eq q path
 is_same (Object v path) (Object w q) = bytes_eq w v && bytes_eq q path
 is_same (Out v e) (Out w f) = bytes_eq w v && (f == e)
 is_same (Saved v e) (Saved w f) = bytes_eq w v && (f == e)
-is_same (Entry directory name) (Entry other one) = (other == directory) && bytes_eq one name
+is_same (NameIn directory name) (NameIn other one) = (other == directory) && bytes_eq one name
 is_same (Reserved branch) (Reserved other) = branch == other
 is_same (Named name) (Named other) = bytes_eq other name
 is_same (Living id) (Living other) = other == id
@@ -162,7 +162,7 @@ key hashing (Saved v e) = key_with hashing 6 e v
 key hashing (Named name) = key_of hashing 7 name
 key hashing (Living id) = key_by hashing 8 (id ∷ [])
 key hashing (Merge e tail head) = key_by hashing 9 (e ∷ tail ∷ head ∷ [])
-key hashing (Entry directory name) = key_with hashing 10 directory name
+key hashing (NameIn directory name) = key_with hashing 10 directory name
 key hashing (Reserved branch) = key_by hashing 11 (branch ∷ [])
 key hashing (Pool targets) = key_by_paths hashing 12 targets
 key hashing (Winked id) = key_by hashing 13 (id ∷ [])
@@ -192,7 +192,7 @@ plain (codes.File v path) = File v.now path.now
 plain (codes.Object v path) = Object v.now path.now
 plain (codes.Out v e) = Out v.now e
 plain (codes.Saved v e) = Saved v.now e
-plain (codes.Entry directory name) = Entry directory name.now
+plain (codes.NameIn directory name) = NameIn directory name.now
 plain (codes.Reserved branch) = Reserved branch
 plain (codes.Named name) = Named name.now
 plain (codes.Living id) = Living id

@@ -1,5 +1,5 @@
 -- Which row of a branch tells of a name in the catalog of a version.
-use Rattle.std.specs.Prelude.{ℕ, max, Option, Some, None, List}
+use Rattle.std.specs.Prelude.{ℕ, Option, List}
 use Rattle.cc_names.specs.Last.{Sets, only_if, last}
 use Rattle.legal_history.specs.Base.Rows.{Base, size}
 use Rattle.view_lookup.specs.Changed.{alters}
@@ -7,8 +7,3 @@ use Rattle.view_lookup.specs.Changed.{alters}
 -- the newest version of the branch that alters the name
 abbrev pub altered_by : ℕ → List ℕ → Base → Option ℕ
 altered_by branch name b = last (λ older row. only_if (alters branch name older row.deed) (Sets (size older))) b
-
--- a row, or the one that made the branch where there is none, or none behind that one
-abbrev pub at_least : ℕ → Option ℕ → ℕ
-at_least branch None = branch
-at_least branch (Some n) = max branch n

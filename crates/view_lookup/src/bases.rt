@@ -1,5 +1,5 @@
-// The rows of a base, with the marks by which those that bear on a subject are found, with the trees of versions, with the
-// labels, with the config specs and with what the records of objects list.
+//! The rows of a base, with the marks by which those that bear on a subject are found, with the trees of versions, with the
+//! labels, with the config specs and with what the records of objects list.
 
 ghost use Rattle.std.specs.Prelude.{◌≡◌, ◌≤◌, ◌∷◌, [], ℕ, List, length, map, reverse, true, IfOk, IfSome, OnOk};
 ghost use Rattle.std.specs.Option.{option_and_then, option_copied};

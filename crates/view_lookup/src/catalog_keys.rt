@@ -1,4 +1,4 @@
-// The keys of what the next row changes of catalogs.
+//! The keys of what the next row changes of catalogs.
 
 ghost use Rattle.std.specs.Prelude.{◌≡◌, ◌++◌, Some, map, option_to_list, reverse, IfOk, OnOk};
 ghost use Rattle.std.specs.Option.{option_copied};

@@ -1,11 +1,12 @@
-// Which element a name stands for in a catalog: in that of a version of a directory, or in that of a view's checkout of one.
+//! Which element a name stands for in a catalog: in that of a version of a directory, or in that of a view's checkout of one.
 
 ghost use Rattle.std.specs.Prelude.{◌≡◌, Some, suc};
 ghost use Rattle.legal_history.specs.Base.Catalogs.{catalog_of, named, own_of};
+ghost use Rattle.legal_history.specs.Base.Closures.{greater_of};
 ghost use Rattle.legal_history.specs.Base.Rows.{first_rows};
 ghost use Rattle.view_lookup.specs.Entries.{Resolves, catalog_in, entry_effect};
 ghost use Rattle.view_lookup.specs.LookUps.{last_of};
-ghost use Rattle.view_lookup.specs.ToldOn.{altered_by, at_least};
+ghost use Rattle.view_lookup.specs.ToldOn.{altered_by};
 
 use crate::bases::{FirstRows, first_rows, row_at};
 use crate::changed::AlteredOn;
@@ -54,7 +55,7 @@ fn entry_made<'a>(rows: &FirstRows<'a>, version: u64, name: &'a [u8]) -> Resolut
 /// checkout in which the name was changed, else the row that made the branch.
 fn told_on(rows: &FirstRows<'_>, version: u64, branch: u64, name: &[u8]) -> u64
     ensures { result
-        ≡ at_least branch
+        ≡ greater_of branch
         (altered_by branch name.now (first_rows (suc version) rows.now)) }
 {
     let rows = first_rows(rows, version.min(rows.size()) + 1);

@@ -1,4 +1,4 @@
-// What rows change of directories: which names in which checkout and, once that is checked in, on which branch.
+//! What rows change of directories: which names in which checkout and, once that is checked in, on which branch.
 
 ghost use Rattle.std.specs.Prelude.{◌≡◌, ◌&&◌, option_map, IfOk};
 ghost use Rattle.std.specs.Option.{option_and_then};
@@ -114,7 +114,7 @@ struct ChangingIn {
 impl LookUp for ChangingIn {
     type Item = u64;
 
-    ghost use Rattle.view_lookup.specs.ChangeCovers.{changing_covered, changing_effect};
+    ghost use Rattle.view_lookup.specs.ChangeBearings.{changing_covered, changing_effect};
     ghost use Rattle.view_lookup.specs.Subjects as subjects;
 
     ghost effect = { λ it. changing_effect it.began };
@@ -145,7 +145,7 @@ pub(crate) struct AlteredOn<'a> {
 impl LookUp for AlteredOn<'_> {
     type Item = u64;
 
-    ghost use Rattle.view_lookup.specs.ChangeCovers.{altered_covered, altered_effect};
+    ghost use Rattle.view_lookup.specs.ChangeBearings.{altered_covered, altered_effect};
     ghost use Rattle.view_lookup.specs.Subjects as subjects;
 
     ghost effect = { λ it. altered_effect it.branch it.name.now };

@@ -1,4 +1,4 @@
-// Who may reserve a branch, and which checkout may become a version.
+//! Who may reserve a branch, and which checkout may become a version.
 
 ghost use Rattle.std.specs.Prelude.{◌≡◌, option_map};
 ghost use Rattle.std.specs.Option.{option_and_then, option_copied};

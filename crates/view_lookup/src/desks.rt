@@ -1,4 +1,4 @@
-// What a view has checked out.
+//! What a view has checked out.
 
 ghost use Rattle.std.specs.Prelude.{◌≡◌, ◌==◌, ◌&&◌, bytes_eq, option_map};
 ghost use Rattle.legal_history.specs.Base.Conditions.{has_out};
@@ -145,7 +145,7 @@ struct TakenOf<'a> {
 impl LookUp for TakenOf<'_> {
     type Item = Checkout;
 
-    ghost use Rattle.view_lookup.specs.Covers.{desk_covered};
+    ghost use Rattle.view_lookup.specs.Bearings.{desk_covered};
     ghost use Rattle.view_lookup.specs.Effects.{desk_effect};
     ghost use Rattle.view_lookup.specs.Subjects as subjects;
 
@@ -184,7 +184,7 @@ struct SavedOf<'a> {
 impl LookUp for SavedOf<'_> {
     type Item = u64;
 
-    ghost use Rattle.view_lookup.specs.Covers.{saved_covered};
+    ghost use Rattle.view_lookup.specs.Bearings.{saved_covered};
     ghost use Rattle.view_lookup.specs.Effects.{saved_effect};
     ghost use Rattle.view_lookup.specs.Subjects as subjects;
 

@@ -1,4 +1,4 @@
-// What a view's checkouts of directories name, and which elements are directories and which files.
+//! What a view's checkouts of directories name, and which elements are directories and which files.
 
 ghost use Rattle.std.specs.Prelude.{◌≡◌};
 ghost use Rattle.legal_history.specs.Base.Conditions.{has_name, has_out_by_name, is_directory, is_file};

@@ -1,4 +1,4 @@
-// What rows do to the catalogs of views' checkouts of directories.
+//! What rows do to the catalogs of views' checkouts of directories.
 
 ghost use Rattle.std.specs.Prelude.{◌≡◌, ◌==◌, ◌&&◌, ◌||◌, bytes_eq};
 ghost use Rattle.legal_history.specs.Base.Catalogs as model;
@@ -158,7 +158,7 @@ pub(crate) struct BegunOf<'a> {
 impl LookUp for BegunOf<'_> {
     type Item = u64;
 
-    ghost use Rattle.view_lookup.specs.EntryCovers.{begun_covered};
+    ghost use Rattle.view_lookup.specs.NameBearings.{begun_covered};
     ghost use Rattle.view_lookup.specs.Entries.{begun_effect};
     ghost use Rattle.view_lookup.specs.Subjects as subjects;
 
@@ -192,13 +192,13 @@ pub(crate) struct ChangedOf<'a> {
 impl LookUp for ChangedOf<'_> {
     type Item = u64;
 
-    ghost use Rattle.view_lookup.specs.EntryCovers.{changed_covered};
+    ghost use Rattle.view_lookup.specs.NameBearings.{changed_covered};
     ghost use Rattle.view_lookup.specs.Entries.{changed_effect};
     ghost use Rattle.view_lookup.specs.Subjects as subjects;
 
     ghost effect = { λ it. changed_effect it.view.now it.directory it.name.now };
 
-    ghost about = { λ it. subjects.Entry it.directory it.name.now };
+    ghost about = { λ it. subjects.NameIn it.directory it.name.now };
 
     fn effect(&self, older: &FirstRows<'_>, deed: &Deed) -> Does<u64> {
         let number = older.size();
@@ -209,7 +209,7 @@ impl LookUp for ChangedOf<'_> {
     }
 
     fn subject(&self) -> Subject<'_> {
-        Subject::Entry(self.directory, self.name)
+        Subject::NameIn(self.directory, self.name)
     }
 
     ghost covered = { λ it. changed_covered it.view.now it.directory it.name.now };

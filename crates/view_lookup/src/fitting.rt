@@ -1,4 +1,4 @@
-// When a row fits the rows before it.
+//! When a row fits the rows before it.
 
 ghost use Rattle.std.specs.Prelude.{◌≡◌, ◌||◌, Some, true, IfErr, IfOk};
 ghost use Rattle.std.specs.List.{list_all};

@@ -1,4 +1,4 @@
-// When a row fits that is about elements: catalogs of directories, checkouts and branches, and what marks versions.
+//! When a row fits that is about elements: catalogs of directories, checkouts and branches, and what marks versions.
 
 ghost use Rattle.std.specs.Prelude.{◌≡◌, Bool, ℕ, true};
 ghost use Rattle.std.specs.List.{list_all};

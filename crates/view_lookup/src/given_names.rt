@@ -1,4 +1,4 @@
-// The names that were given in a directory.
+//! The names that were given in a directory.
 
 ghost use Rattle.std.specs.Prelude.{◌≡◌, ◌||◌, ℕ, List, IfOk, OnOk};
 ghost use Rattle.std.specs.Option.{option_copied};
@@ -23,7 +23,7 @@ struct NamingIn {
 impl LookUp for NamingIn {
     type Item = u64;
 
-    ghost use Rattle.view_lookup.specs.Covers.{naming_covered};
+    ghost use Rattle.view_lookup.specs.Bearings.{naming_covered};
     ghost use Rattle.view_lookup.specs.Giving.{naming_effect};
     ghost use Rattle.view_lookup.specs.Subjects as model;
 

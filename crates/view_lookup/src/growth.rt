@@ -1,4 +1,4 @@
-// What a row adds to the trees of versions.
+//! What a row adds to the trees of versions.
 
 ghost use Rattle.std.specs.Prelude.{◌≡◌, ℕ, OnOk, IfOk, map};
 ghost use Rattle.std.specs.Option.{option_map};
@@ -90,15 +90,15 @@ pub(crate) fn reserve_growth(
     match growth {
         Growth::Same => Ok(None),
         Growth::Element(_) => {
-            tree.reserve(alloc, None)?;
+            tree.reserve(None)?;
             Ok(None)
         }
         Growth::Branch { name, .. } => {
-            tree.reserve(alloc, None)?;
+            tree.reserve(None)?;
             Ok(Some(name.copy(alloc)?))
         }
         Growth::Version(branch) => {
-            tree.reserve(alloc, Some(branch))?;
+            tree.reserve(Some(branch))?;
             Ok(None)
         }
     }

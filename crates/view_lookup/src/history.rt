@@ -1,4 +1,4 @@
-// The rows of an element's history.
+//! The rows of an element's history.
 
 ghost use Rattle.std.specs.Prelude.{◌≡◌, IfOk};
 ghost use Rattle.std.specs.List.{list_any};
@@ -20,7 +20,7 @@ struct HistoryOf {
 impl LookUp for HistoryOf {
     type Item = u64;
 
-    ghost use Rattle.view_lookup.specs.Covers.{history_covered};
+    ghost use Rattle.view_lookup.specs.Bearings.{history_covered};
     ghost use Rattle.view_lookup.specs.Histories.{history_effect};
     ghost use Rattle.view_lookup.specs.Subjects as model;
 

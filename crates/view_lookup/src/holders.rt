@@ -1,4 +1,4 @@
-// How many views hold an object.
+//! How many views hold an object.
 
 ghost use Rattle.std.specs.Prelude.{◌≡◌, ◌||◌, ℕ, List, IfOk, OnOk};
 ghost use Rattle.std.specs.List.{list_any};

@@ -1,4 +1,4 @@
-// The changes of labels that rows make, and where a label stood at the first rows.
+//! The changes of labels that rows make, and where a label stood at the first rows.
 
 ghost use Rattle.std.specs.Prelude.{◌≡◌, ℕ, List, OnOk, map};
 ghost use Rattle.std.specs.List.Sorted.{IsStrictlySortedBy};

@@ -1,4 +1,4 @@
-// The branches that leave a version.
+//! The branches that leave a version.
 
 ghost use Rattle.std.specs.Prelude.{◌≡◌, IfOk};
 ghost use Rattle.legal_history.specs.Base.Changes.{tree};
@@ -20,7 +20,7 @@ struct LeavingOf {
 impl LookUp for LeavingOf {
     type Item = u64;
 
-    ghost use Rattle.view_lookup.specs.Covers.{leaving_covered};
+    ghost use Rattle.view_lookup.specs.Bearings.{leaving_covered};
     ghost use Rattle.view_lookup.specs.Effects.{leaving_effect};
     ghost use Rattle.view_lookup.specs.Subjects as model;
 

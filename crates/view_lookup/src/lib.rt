@@ -1,16 +1,16 @@
-// The base as a type, and what views see in it: which views there are, their private files, their checkouts, their config
-// specs, the objects that they hold, and what stands at a path; which objects have the same targets; what the trees of versions
-// and the labels were, and who reserves a branch.
-//
-// What it is for: the look-ups on which every decision on a command and every build stand.
-//
-// What it promises: `Rows` and `FirstRows` are bases of the model, the newest row first, by their types. Each answer is that of
-// the model's definition over the base, with no condition on it. `first_rows` gives the base as it was at an earlier moment,
-// over which every look-up answers as of then.
-//
-// What it stands on: `cc_names` for rows, `carried_out` for the deeds that are made so far, `legal_history` for the
-// definitions, `version_tree` and `label_book` for the trees and the labels, `spec_text` for the rules of config specs, and
-// `config_spec` for how they select.
+//! The base as a type, and what views see in it: which views there are, their private files, their checkouts, their config
+//! specs, the objects that they hold, and what stands at a path; which objects have the same targets; what the trees of versions
+//! and the labels were, and who reserves a branch.
+//!
+//! What it is for: the look-ups on which every decision on a command and every build stand.
+//!
+//! What it promises: `Rows` and `FirstRows` are bases of the model, the newest row first, by their types. Each answer is that of
+//! the model's definition over the base, with no condition on it. `first_rows` gives the base as it was at an earlier moment,
+//! over which every look-up answers as of then.
+//!
+//! What it stands on: `cc_names` for rows, `carried_out` for the deeds that are made so far, `legal_history` for the
+//! definitions, `version_tree` and `label_book` for the trees and the labels, `spec_text` for the rules of config specs, and
+//! `config_spec` for how they select.
 #![tactic(auto)]
 
 mod bases;
@@ -68,6 +68,7 @@ pub use history::history_of;
 pub use holders::count_holders;
 pub use labels::{has_label, holder};
 pub use leaving::branches_leaving;
+pub use listings::is_publish;
 pub use merges::arrow_row;
 pub use objects::{held, held_at_all, live};
 pub use owned::paths_owned;

@@ -1,4 +1,4 @@
-// What the records of objects list: of each element the greatest version that an object was made from.
+//! What the records of objects list: of each element the greatest version that an object was made from.
 
 ghost use Rattle.std.specs.Prelude.{◌≡◌, ℕ, ◌==◌, ◌<◌, List, [], ◌∷◌, IfOk, OnOk, nat_eq};
 ghost use Rattle.std.specs.BTreeMap.{get};
@@ -77,7 +77,7 @@ fn put_version(
 }
 
 /// Whether the row of this number published an object. Takes constant time.
-fn is_publish(rows: &FirstRows<'_>, row: u64) -> bool
+pub fn is_publish(rows: &FirstRows<'_>, row: u64) -> bool
     ensures { result ≡ is_publish rows.now row }
 {
     match row_at(rows, row) {

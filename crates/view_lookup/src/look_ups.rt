@@ -1,9 +1,9 @@
-// What is looked up by the rows that bear on it: the newest row that does something to a thing tells what has become of it.
+//! What is looked up by the rows that bear on it: the newest row that does something to a thing tells what has become of it.
 
 ghost use Rattle.std.specs.Prelude.{◌≡◌};
 ghost use Rattle.std.specs.Option.{option_or};
 ghost use Rattle.cc_names.specs.Last.{only_if};
-ghost use Rattle.view_lookup.specs.Ended.{is_behind, later, within};
+ghost use Rattle.view_lookup.specs.Lifetimes.{is_behind, later, within};
 ghost use Rattle.view_lookup.specs.LookUps.{effect_of, left_by, set_at, told_at};
 
 use crate::bases::{FirstRows, first_rows, row_at};
@@ -73,7 +73,7 @@ pub(crate) trait LookUp {
     type Item: Copy;
 
     ghost use Rattle.std.specs.Prelude.{◌≡◌};
-    ghost use Rattle.view_lookup.specs.LookUps.{Deeds, IsCovered, effect_of};
+    ghost use Rattle.view_lookup.specs.LookUps.{Deeds, BearsOnAll, effect_of};
     ghost use Rattle.view_lookup.specs.Subjects as model;
 
     ghost effect: { Self → Deeds Self.Item };
@@ -88,7 +88,7 @@ pub(crate) trait LookUp {
     fn subject(&self) -> Subject<'_>
         ensures { model.plain result ≡ about self.now };
 
-    ghost covered: { (it : Self) → IsCovered (about it) (effect it) };
+    ghost covered: { (it : Self) → BearsOnAll (about it) (effect it) };
 }
 
 /// The row of this number, where it does something to the thing, and what it leaves.

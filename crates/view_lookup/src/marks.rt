@@ -1,5 +1,5 @@
-// The marks that rows leave for the keys of what they bear on: links, each of which names the next older one of its key, and one
-// further back.
+//! The marks that rows leave for the keys of what they bear on: links, each of which names the next older one of its key, and one
+//! further back.
 
 ghost use Rattle.std.specs.Prelude.{◌≡◌, ◌+◌, ◌<◌, ◌≤◌, nat_eq, length, map, vec_len, vec_capacity, IfOk};
 ghost use Rattle.std.specs.HashMap.{get, spare};

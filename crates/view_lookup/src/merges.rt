@@ -1,4 +1,4 @@
-// Merges of one version of an element into another.
+//! Merges of one version of an element into another.
 
 ghost use Rattle.std.specs.Prelude.{◌≡◌};
 ghost use Rattle.legal_history.specs.Base.Conditions.{arrow_row};
@@ -19,7 +19,7 @@ struct MergeOf {
 impl LookUp for MergeOf {
     type Item = u64;
 
-    ghost use Rattle.view_lookup.specs.Covers.{merge_covered};
+    ghost use Rattle.view_lookup.specs.Bearings.{merge_covered};
     ghost use Rattle.view_lookup.specs.Effects.{merge_effect};
     ghost use Rattle.view_lookup.specs.Subjects as model;
 

@@ -1,4 +1,4 @@
-// One number for some numbers, for a name beside one, and for some paths, as `cc_names::keys` has it for names and paths.
+//! One number for some numbers, for a name beside one, and for some paths, as `cc_names::keys` has it for names and paths.
 
 ghost use Rattle.std.specs.Prelude.{◌≡◌, ◌∷◌, []};
 ghost use Rattle.cc_names.specs.Keys.{key_at};

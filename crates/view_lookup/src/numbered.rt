@@ -1,8 +1,10 @@
-// Rows by their numbers, and what they published.
+//! Rows by their numbers, and what they published.
 
 ghost use Rattle.std.specs.Prelude.{◌≡◌, Some, reverse};
+ghost use Rattle.std.specs.List.{AllByRecursion};
 ghost use Rattle.std.specs.Option.{option_copied};
-ghost use Rattle.legal_history.specs.Base.Changes.{targets_of, targets_of_deed};
+ghost use Rattle.cc_names.specs.Formed.{IsBelowRoot};
+ghost use Rattle.legal_history.specs.Base.Changes.{targets_of};
 ghost use Rattle.legal_history.specs.Base.Rows.{row_at};
 
 use cc_names::paths::Path;
@@ -16,21 +18,16 @@ pub(crate) fn row_of(rows: &[Row], number: u64) -> Option<&Row>
     rows.get(index as usize)
 }
 
-fn targets_of_deed(deed: &Deed) -> &[Path]
-    ensures { result.now ≡ targets_of_deed (Some deed.now) }
-{
-    match deed {
-        Deed::Publish { targets, .. } => targets.as_slice(),
-        _ => &[],
-    }
-}
-
 /// The targets of the object of this number, among the rows from row 1 on. Takes constant time.
 pub(crate) fn targets_of(rows: &[Row], object: u64) -> &[Path]
-    ensures { result.now ≡ targets_of (reverse rows.now) object }
+    ensures targets { result.now ≡ targets_of (reverse rows.now) object }
+    ensures below { AllByRecursion IsBelowRoot result.now }
 {
     match row_of(rows, object) {
-        Some(row) => targets_of_deed(row.deed()),
+        Some(row) => match row.deed() {
+            Deed::Publish { targets, .. } => targets.as_slice(),
+            _ => &[],
+        },
         None => &[],
     }
 }

@@ -1,4 +1,4 @@
-// The objects that a view holds, and which objects there are.
+//! The objects that a view holds, and which objects there are.
 
 ghost use Rattle.std.specs.Prelude.{◌≡◌, ◌==◌, option_map};
 ghost use Rattle.std.specs.List.{list_any};
@@ -6,7 +6,7 @@ ghost use Rattle.cc_names.specs.References.{held_at};
 ghost use Rattle.legal_history.specs.Base.Changes.{held, live};
 ghost use Rattle.legal_history.specs.Builds.Reuse.{held_at_all, held_at_each};
 ghost use Rattle.view_lookup.specs.Effects.{gone_effect};
-ghost use Rattle.view_lookup.specs.Ended.{number_of};
+ghost use Rattle.view_lookup.specs.Lifetimes.{number_of};
 ghost use Rattle.view_lookup.specs.LookUps.{newest};
 ghost use Rattle.view_lookup.specs.Made.{is_target};
 
@@ -36,7 +36,7 @@ struct GoneOf<'a> {
 impl LookUp for GoneOf<'_> {
     type Item = u64;
 
-    ghost use Rattle.view_lookup.specs.Covers.{gone_covered};
+    ghost use Rattle.view_lookup.specs.Bearings.{gone_covered};
     ghost use Rattle.view_lookup.specs.Effects.{gone_effect};
     ghost use Rattle.view_lookup.specs.Subjects as model;
 
@@ -68,7 +68,7 @@ struct ObjectOf<'a> {
 impl LookUp for ObjectOf<'_> {
     type Item = u64;
 
-    ghost use Rattle.view_lookup.specs.Covers.{object_covered};
+    ghost use Rattle.view_lookup.specs.Bearings.{object_covered};
     ghost use Rattle.view_lookup.specs.Effects.{object_effect};
     ghost use Rattle.view_lookup.specs.Subjects as model;
 
@@ -110,7 +110,7 @@ struct LivingOf {
 impl LookUp for LivingOf {
     type Item = u64;
 
-    ghost use Rattle.view_lookup.specs.Covers.{living_covered};
+    ghost use Rattle.view_lookup.specs.Bearings.{living_covered};
     ghost use Rattle.view_lookup.specs.Effects.{living_effect};
     ghost use Rattle.view_lookup.specs.Subjects as model;
 

@@ -1,15 +1,15 @@
-// What a view has had of its own: the paths at which it put private files or came to hold objects.
+//! What a view has had of its own: the paths at which it put private files or came to hold objects.
 
 ghost use Rattle.std.specs.Prelude.{◌≡◌, ◌||◌, ℕ, true, List, IfOk, OnOk};
 ghost use Rattle.std.specs.List.{AllByRecursion};
 ghost use Rattle.cc_names.specs.Formed.{IsBelowRoot};
-ghost use Rattle.legal_history.specs.Base.Changes.{targets_of};
 ghost use Rattle.legal_history.specs.Base.Closures.{is_among};
 ghost use Rattle.legal_history.specs.Base.Rows.{deed_at};
 ghost use Rattle.view_lookup.specs.Owned.{gives_view, is_given_by, paths_by, was_given};
 
 use crate::bases::{FirstRows, row_at};
 use crate::look_ups::{Does, LookUp, only_if};
+use crate::numbered::targets_of;
 use crate::subjects::Subject;
 use crate::views::same_name;
 use cc_names::memory::NoMemory;
@@ -29,7 +29,7 @@ struct OwnOf<'a> {
 impl LookUp for OwnOf<'_> {
     type Item = u64;
 
-    ghost use Rattle.view_lookup.specs.Covers.{own_covered};
+    ghost use Rattle.view_lookup.specs.Bearings.{own_covered};
     ghost use Rattle.view_lookup.specs.Giving.{own_effect};
     ghost use Rattle.view_lookup.specs.Subjects as model;
 
@@ -60,20 +60,6 @@ fn gives_view(view: &Name, deed: &Deed) -> bool
     }
 }
 
-/// The targets of an object.
-fn targets_of<'a>(rows: &FirstRows<'a>, object: u64) -> &'a [Path]
-    ensures targets { result.now ≡ targets_of rows.now object }
-    ensures below { AllByRecursion IsBelowRoot result.now }
-{
-    match row_at(rows, object) {
-        None => &[],
-        Some(row) => match row.deed() {
-            Deed::Publish { targets, .. } => targets.as_slice(),
-            _ => &[],
-        },
-    }
-}
-
 /// The paths at which the row of a number gave its view a private file or an object.
 fn paths_by<'a>(rows: &FirstRows<'a>, number: u64) -> &'a [Path]
     ensures paths { result.now ≡ paths_by rows.now (deed_at rows.now number) }
@@ -84,7 +70,7 @@ fn paths_by<'a>(rows: &FirstRows<'a>, number: u64) -> &'a [Path]
         Some(row) => match row.deed() {
             Deed::Put { path, .. } => slice::from_ref(path),
             Deed::Publish { targets, .. } => targets.as_slice(),
-            Deed::Wink { object, .. } => targets_of(rows, *object),
+            Deed::Wink { object, .. } => targets_of(rows.as_slice(), *object),
             _ => &[],
         },
     }

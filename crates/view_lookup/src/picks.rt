@@ -1,4 +1,4 @@
-// Which version of an element a view selects.
+//! Which version of an element a view selects.
 
 ghost use Rattle.std.specs.Prelude.{◌≡◌};
 ghost use Rattle.cc_names.specs.Paths.{names_of};
@@ -13,7 +13,7 @@ use crate::view_specs::rules;
 use cc_names::names::Name;
 use cc_names::paths::Path;
 use cc_names::selection::Picked;
-use config_spec::{Sources, pick_from};
+use config_spec::{Selectable, pick_from};
 
 /// What there is to select from in the first rows of a base, and the row that makes the text of the view's checkout.
 #[derive(Drop)]
@@ -22,7 +22,7 @@ struct Sight<'a, 'b> {
     out: Option<u64>,
 }
 
-impl Sources for Sight<'_, '_> {
+impl Selectable for Sight<'_, '_> {
     ghost use Rattle.view_lookup.specs.Picking.{selectables};
 
     ghost selectables = { λ sight. selectables sight.rows.now sight.out };

@@ -1,4 +1,4 @@
-// The pool: the objects with the same targets, whichever view made them.
+//! The pool: the objects with the same targets, whichever view made them.
 
 ghost use Rattle.std.specs.Prelude.{◌≡◌};
 ghost use Rattle.legal_history.specs.Builds.Reuse.{are_same_paths};
@@ -60,7 +60,7 @@ struct PoolOf<'a, T> {
 impl<T: RecordTest> LookUp for PoolOf<'_, T> {
     type Item = u64;
 
-    ghost use Rattle.view_lookup.specs.Covers.{pool_covered};
+    ghost use Rattle.view_lookup.specs.Bearings.{pool_covered};
     ghost use Rattle.view_lookup.specs.Effects.{pool_effect};
     ghost use Rattle.view_lookup.specs.Subjects as model;
 

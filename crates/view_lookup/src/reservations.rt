@@ -1,4 +1,4 @@
-// Who reserves a branch.
+//! Who reserves a branch.
 
 ghost use Rattle.std.specs.Prelude.{◌≡◌, option_map};
 ghost use Rattle.std.specs.Option.{option_copied};
@@ -24,7 +24,7 @@ struct ReservingOf {
 impl LookUp for ReservingOf {
     type Item = u64;
 
-    ghost use Rattle.view_lookup.specs.Covers.{reserving_covered};
+    ghost use Rattle.view_lookup.specs.Bearings.{reserving_covered};
     ghost use Rattle.view_lookup.specs.Effects.{reserving_effect};
     ghost use Rattle.view_lookup.specs.Subjects as subjects;
 

@@ -1,4 +1,4 @@
-// Which objects some view holds, and which may be scrubbed.
+//! Which objects some view holds, and which may be scrubbed.
 
 ghost use Rattle.std.specs.Prelude.{◌≡◌};
 ghost use Rattle.cc_names.specs.References.{is_held};
@@ -36,7 +36,7 @@ pub(crate) struct WinkedOf<'a> {
 impl LookUp for WinkedOf<'_> {
     type Item = u64;
 
-    ghost use Rattle.view_lookup.specs.Covers.{winked_covered};
+    ghost use Rattle.view_lookup.specs.Bearings.{winked_covered};
     ghost use Rattle.view_lookup.specs.Effects.{winked_effect};
     ghost use Rattle.view_lookup.specs.Subjects as subjects;
 

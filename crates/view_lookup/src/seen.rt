@@ -1,4 +1,4 @@
-// What stands at a path in a view.
+//! What stands at a path in a view.
 
 ghost use Rattle.std.specs.Prelude.{◌≡◌, ◌<◌, ◌≤◌, length, is_some, option_map};
 ghost use Rattle.cc_names.specs.Paths.{names_of};

@@ -1,4 +1,4 @@
-// Files that views were seen to have, kept so that none of them is looked for again among the same rows.
+//! Files that views were seen to have, kept so that none of them is looked for again among the same rows.
 
 ghost use Rattle.std.specs.Prelude.{◌≡◌, ℕ, ◌≤◌, List, IfOk, IfSome, OnOk};
 ghost use Rattle.std.specs.HashMap.{get};

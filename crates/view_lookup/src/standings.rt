@@ -1,4 +1,4 @@
-// The checkouts of a view that stand.
+//! The checkouts of a view that stand.
 
 ghost use Rattle.std.specs.Prelude.{◌≡◌};
 ghost use Rattle.legal_history.specs.Base.Checkouts.{oldest_out};
@@ -32,7 +32,7 @@ struct StandingOf<'a> {
 impl LookUp for StandingOf<'_> {
     type Item = u64;
 
-    ghost use Rattle.view_lookup.specs.Covers.{standing_covered};
+    ghost use Rattle.view_lookup.specs.Bearings.{standing_covered};
     ghost use Rattle.view_lookup.specs.Effects.{standing_effect};
     ghost use Rattle.view_lookup.specs.Subjects as subjects;
 

@@ -1,4 +1,4 @@
-// What rows bear on, and the keys by which the rows are found.
+//! What rows bear on, and the keys by which the rows are found.
 
 ghost use Rattle.std.specs.Prelude.{◌≡◌, ◌+◌, ◌<◌, ◌≤◌, ◌^◌, ◌∷◌, [], IfSome, length, map, option_map, reverse};
 ghost use Rattle.std.specs.List.{slice_get};
@@ -32,7 +32,7 @@ pub(crate) enum Subject<'a> {
     /// The texts that a view saves in its checkout of an element.
     Saved(&'a Name, u64),
     /// A name in a directory.
-    Entry(u64, &'a [u8]),
+    NameIn(u64, &'a [u8]),
     /// The reserved checkouts on a branch.
     Reserved(u64),
     /// The type of a name.
@@ -142,7 +142,7 @@ fn element_at<'a>(
 ) -> Option<Subject<'a>>
     ensures subject { option_map model.plain result
         ≡ slice_get
-        (model.Out view.now number ∷ model.Desk view.now ∷ model.Entry directory name.now
+        (model.Out view.now number ∷ model.Desk view.now ∷ model.NameIn directory name.now
         ∷ model.History number ∷ model.Given directory ∷ model.reserved_subjects branch)
         index }
     ensures within { IfSome result (λ _. index ≤ 2 ^ 33) }
@@ -150,7 +150,7 @@ fn element_at<'a>(
     match index {
         0 => Some(Subject::Out(view, number)),
         1 => Some(Subject::Desk(view)),
-        2 => Some(Subject::Entry(directory, name.as_bytes())),
+        2 => Some(Subject::NameIn(directory, name.as_bytes())),
         3 => Some(Subject::History(number)),
         4 => Some(Subject::Given(directory)),
         _ => reserved_at(branch, index - 5),
@@ -320,15 +320,15 @@ fn desk_subject_at<'a>(
             directory,
             name,
             ..
-        } => one(Subject::Entry(*directory, name.as_bytes()), index),
+        } => one(Subject::NameIn(*directory, name.as_bytes()), index),
         Deed::Mv {
             directory,
             from_name,
             to_name,
             ..
         } => three(
-            Subject::Entry(*directory, from_name.as_bytes()),
-            Subject::Entry(*directory, to_name.as_bytes()),
+            Subject::NameIn(*directory, from_name.as_bytes()),
+            Subject::NameIn(*directory, to_name.as_bytes()),
             Subject::Given(*directory),
             index,
         ),
@@ -441,7 +441,7 @@ impl Subject<'_> {
             Subject::Given(directory) => key_by_one(hashing, 18, directory),
             Subject::Changing(began) => key_by_one(hashing, 20, began),
             Subject::Altered(branch, name) => key_with(hashing, 21, branch, name),
-            Subject::Entry(directory, name) => key_with(hashing, 10, directory, name),
+            Subject::NameIn(directory, name) => key_with(hashing, 10, directory, name),
             Subject::Reserved(branch) => key_by_one(hashing, 11, branch),
             Subject::Pool(targets) => key_by_paths(hashing, 12, targets),
         }

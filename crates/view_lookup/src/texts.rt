@@ -1,4 +1,4 @@
-// The texts that rows made.
+//! The texts that rows made.
 
 ghost use Rattle.std.specs.Prelude.{◌≡◌};
 ghost use Rattle.std.specs.Option.{option_copied};

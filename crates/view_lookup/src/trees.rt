@@ -1,4 +1,4 @@
-// What the trees of versions had at the first rows.
+//! What the trees of versions had at the first rows.
 
 ghost use Rattle.std.specs.Prelude.{◌≡◌};
 ghost use Rattle.std.specs.Option.{option_copied};

@@ -1,4 +1,4 @@
-// The types of labels and of branches.
+//! The types of labels and of branches.
 
 ghost use Rattle.std.specs.Prelude.{◌≡◌};
 ghost use Rattle.legal_history.specs.Base.Changes.{kind_of_type};
@@ -20,7 +20,7 @@ struct NamedOf<'a> {
 impl LookUp for NamedOf<'_> {
     type Item = TypeKind;
 
-    ghost use Rattle.view_lookup.specs.Covers.{named_covered};
+    ghost use Rattle.view_lookup.specs.Bearings.{named_covered};
     ghost use Rattle.view_lookup.specs.Effects.{named_effect};
     ghost use Rattle.view_lookup.specs.Subjects as model;
 

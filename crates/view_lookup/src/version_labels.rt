@@ -1,4 +1,4 @@
-// The labels that stand on the versions of an element.
+//! The labels that stand on the versions of an element.
 
 ghost use Rattle.std.specs.Prelude.{◌≡◌, ◌==◌, ℕ, [], IfOk, OnOk, map};
 ghost use Rattle.std.specs.Option.{option_copied};

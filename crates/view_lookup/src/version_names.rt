@@ -1,4 +1,4 @@
-// The version of an element that a name leads to, as `/main/fix/1`.
+//! The version of an element that a name leads to, as `/main/fix/1`.
 
 ghost use Rattle.std.specs.Prelude.{◌≡◌, option_and_then};
 ghost use Rattle.cc_names.specs.Branches.{branch_above, branch_behind, branch_named, if_above};

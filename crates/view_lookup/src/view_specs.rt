@@ -1,4 +1,4 @@
-// The config specs of views.
+//! The config specs of views.
 
 ghost use Rattle.std.specs.Prelude.{◌≡◌, ◌<◌, IfOk, map, reverse, vec_len, vec_capacity};
 ghost use Rattle.std.specs.Option.{option_copied};
@@ -33,7 +33,7 @@ struct SetOf<'a> {
 impl LookUp for SetOf<'_> {
     type Item = u64;
 
-    ghost use Rattle.view_lookup.specs.Covers.{set_covered};
+    ghost use Rattle.view_lookup.specs.Bearings.{set_covered};
     ghost use Rattle.view_lookup.specs.Effects.{set_effect};
     ghost use Rattle.view_lookup.specs.Subjects as model;
 

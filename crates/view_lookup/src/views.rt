@@ -1,9 +1,9 @@
-// A view's own state: its life, and its private files.
+//! A view's own state: its life, and its private files.
 
 ghost use Rattle.std.specs.Prelude.{◌≡◌, bytes_eq, ◌&&◌, option_map};
 ghost use Rattle.legal_history.specs.Base.Views.{view_row, private};
 ghost use Rattle.view_lookup.specs.Effects.{end_effect};
-ghost use Rattle.view_lookup.specs.Ended.{number_of, within};
+ghost use Rattle.view_lookup.specs.Lifetimes.{number_of, within};
 ghost use Rattle.view_lookup.specs.LookUps.{newest};
 
 use crate::bases::FirstRows;
@@ -40,7 +40,7 @@ pub(crate) struct LifeOf<'a> {
 impl LookUp for LifeOf<'_> {
     type Item = u64;
 
-    ghost use Rattle.view_lookup.specs.Covers.{life_covered};
+    ghost use Rattle.view_lookup.specs.Bearings.{life_covered};
     ghost use Rattle.view_lookup.specs.Effects.{life_effect};
     ghost use Rattle.view_lookup.specs.Subjects as model;
 
@@ -72,7 +72,7 @@ struct EndOf<'a> {
 impl LookUp for EndOf<'_> {
     type Item = u64;
 
-    ghost use Rattle.view_lookup.specs.Covers.{end_covered};
+    ghost use Rattle.view_lookup.specs.Bearings.{end_covered};
     ghost use Rattle.view_lookup.specs.Effects.{end_effect};
     ghost use Rattle.view_lookup.specs.Subjects as model;
 
@@ -105,7 +105,7 @@ struct FileOf<'a> {
 impl LookUp for FileOf<'_> {
     type Item = u64;
 
-    ghost use Rattle.view_lookup.specs.Covers.{file_covered};
+    ghost use Rattle.view_lookup.specs.Bearings.{file_covered};
     ghost use Rattle.view_lookup.specs.Effects.{file_effect};
     ghost use Rattle.view_lookup.specs.Subjects as model;
 

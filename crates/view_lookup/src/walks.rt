@@ -1,4 +1,4 @@
-// All rows that do something to a thing, one after the other.
+//! All rows that do something to a thing, one after the other.
 
 ghost use Rattle.std.specs.Prelude.{◌≡◌, ◌++◌, ◌&&◌, ℕ, List, nat_lt, is_some, OnOk};
 ghost use Rattle.cc_names.specs.Versions.{put_if};

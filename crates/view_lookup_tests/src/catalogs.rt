@@ -1,4 +1,4 @@
-// Which element a name stands for in the catalogs of a directory whose versions change few names each.
+//! Which element a name stands for in the catalogs of a directory whose versions change few names each.
 
 use crate::questions::assert_answers;
 use std::test::Fail;

@@ -1,4 +1,4 @@
-// What views see of a base of elements, who reserves their branches, where labels stand, and which rows fit.
+//! What views see of a base of elements, who reserves their branches, where labels stand, and which rows fit.
 
 use crate::questions::assert_answers;
 use std::test::Fail;

@@ -1,4 +1,4 @@
-// What two views see of a base of private files and objects, and which rows fit it.
+//! What two views see of a base of private files and objects, and which rows fit it.
 
 use crate::questions::assert_answers;
 use std::test::Fail;

@@ -1,9 +1,9 @@
-// Questions on the first rows of a base, in tables that are texts.
-//
-// A line of a table is how many rows are asked, row 0 included, a question, ` => ` and its answer. The questions are `seen VIEW
-// PATH` (what stands there, the row of the file, that of a private file, the object that is held and the text), `directory VIEW
-// PATH`, `begins VIEW`, `text ROW PATH`, `in-version VERSION NAME`, `in-checkout VIEW DIRECTORY NAME`, `reserver BRANCH`, `holder
-// LABEL ELEMENT` and `fits ROW`, whose row is a line of `spelled_rows`.
+//! Questions on the first rows of a base, in tables that are texts.
+//!
+//! A line of a table is how many rows are asked, row 0 included, a question, ` => ` and its answer. The questions are `seen VIEW
+//! PATH` (what stands there, the row of the file, that of a private file, the object that is held and the text), `directory VIEW
+//! PATH`, `begins VIEW`, `text ROW PATH`, `in-version VERSION NAME`, `in-checkout VIEW DIRECTORY NAME`, `reserver BRANCH`,
+//! `holder LABEL ELEMENT` and `fits ROW`, whose row is a line of `spelled_rows`.
 
 ghost use Rattle.std.specs.Prelude.{◌≡◌, true, OnOk};
 ghost use Rattle.carried_out.specs.CarriedOut.{is_made};

@@ -1,9 +1,9 @@
-// Rows that are written as lines of words.
-//
-// The first word of a line names the deed, and its fields follow in the order of the spelling of a row. `#7` is the number of a
-// row, `*2` the count of the members that follow, and `:1` one byte: a kind (1 a file or a label, 2 a directory or a branch),
-// whether there is a checkout and whether it is reserved (0 no, 1 yes), or where an output stands (0 here, 1 elsewhere). Any
-// other word is a text, in which `_` is a blank and `;` ends a line.
+//! Rows that are written as lines of words.
+//!
+//! The first word of a line names the deed, and its fields follow in the order of the spelling of a row. `#7` is the number of a
+//! row, `*2` the count of the members that follow, and `:1` one byte: a kind (1 a file or a label, 2 a directory or a branch),
+//! whether there is a checkout and whether it is reserved (0 no, 1 yes), or where an output stands (0 here, 1 elsewhere). Any
+//! other word is a text, in which `_` is a blank and `;` ends a line.
 
 use row_form::{Row, read};
 use std::alloc::Global;

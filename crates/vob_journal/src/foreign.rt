@@ -1,4 +1,4 @@
-// What stands behind the frames of a journal, where it can be no frame of it.
+//! What stands behind the frames of a journal, where it can be no frame of it.
 
 ghost use Rattle.std.specs.Prelude.{◌≡◌, ◌≤◌, ◌^◌, List, ℕ, min, length, take, drop, IfOk};
 ghost use Rattle.disk_model.specs.Devices.{bytes_of};

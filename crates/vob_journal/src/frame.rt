@@ -1,4 +1,4 @@
-// A frame that is ready to be written.
+//! A frame that is ready to be written.
 
 ghost use Rattle.std.specs.Prelude.{◌≡◌, ◌<◌, ◌^◌, List, ℕ, length, IfOk};
 ghost use Rattle.vob_journal.specs.Frames.{written};

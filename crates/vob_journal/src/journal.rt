@@ -1,4 +1,4 @@
-// The journal.
+//! The journal.
 
 ghost use Rattle.std.specs.Prelude.{◌≡◌, ◌≤◌, ◌+◌, ◌^◌, ◌++◌, ◌∷◌, [], IfOk, IfErr, OnOk, OnErr, MatchResult, is_ok, if◌then◌else◌, true, false, List, ℕ, length};
 ghost use Rattle.disk_model.specs.Devices.{file_of, bytes_of, LeavesNow};

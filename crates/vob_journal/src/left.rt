@@ -1,4 +1,4 @@
-// What a failed call leaves.
+//! What a failed call leaves.
 
 /// What the last call of `append` or `settle` left behind the list for a stop to leave.
 #[derive(Clone, Copy, Debug, PartialEq, Eq)]

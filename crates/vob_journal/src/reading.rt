@@ -1,4 +1,4 @@
-// How the frames of a journal are read, one by one.
+//! How the frames of a journal are read, one by one.
 
 ghost use Rattle.std.specs.Prelude.{◌≡◌, ◌≤◌, ◌<◌, ◌+◌, ◌-◌, ◌^◌, List, ℕ, min, length, take, drop, IfOk, Some};
 ghost use Rattle.disk_model.specs.Devices.{bytes_of};

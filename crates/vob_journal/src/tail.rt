@@ -1,4 +1,4 @@
-// How the tail of a journal is written, phase by phase.
+//! How the tail of a journal is written, phase by phase.
 
 ghost use Rattle.std.specs.Prelude.{◌≡◌, ◌≤◌, ◌<◌, ◌+◌, ◌^◌, ◌∷◌, [], Bool, true, false, length, IfOk, IfErr, MatchResult, if◌then◌else◌};
 ghost use Rattle.disk_model.specs.Devices.{bytes_of};

@@ -1,4 +1,4 @@
-// The piece of a journal that is held in memory while it is read.
+//! The piece of a journal that is held in memory while it is read.
 
 ghost use Rattle.std.specs.Prelude.{◌≡◌, ◌≤◌, ◌+◌, ◌-◌, ◌^◌, ◌↔◌, Some, length, take, drop, IfOk, IsTrue};
 ghost use Rattle.disk_model.specs.Told.{IfTold, Both};
@@ -21,7 +21,7 @@ pub(crate) struct Window {
 }
 
 impl Window {
-    fn covers(&self, place: u64, needed: u64) -> bool
+    fn holds(&self, place: u64, needed: u64) -> bool
         requires { place + needed ≤ 2 ^ 62 }
         ensures { IsTrue result ↔
             ((self.now.start ≤ place)
@@ -62,7 +62,7 @@ pub(crate) fn look<D: Disk>(
     ensures counts { CountsReads 1 result (D.sight disk.old) (D.sight disk.new) }
 {
     if let Some(window) = window {
-        if window.covers(place, needed) {
+        if window.holds(place, needed) {
             return Ok(window);
         }
     }

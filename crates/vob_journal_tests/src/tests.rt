@@ -1,4 +1,4 @@
-// A journal on a disk in memory: its calls by number and kind, its bytes, stops, faults and damage.
+//! A journal on a disk in memory: its calls by number and kind, its bytes, stops, faults and damage.
 
 ghost use Rattle.std.specs.Prelude.{◌≡◌, true, IfOk, OnOk};
 

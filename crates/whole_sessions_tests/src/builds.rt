@@ -1,4 +1,4 @@
-// What builds reply, and how many rows they make.
+//! What builds reply, and how many rows they make.
 
 use crate::sessions::{IN_A_VIEW, assert_sessions};
 use std::test::Fail;

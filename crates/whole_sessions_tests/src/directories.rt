@@ -1,4 +1,4 @@
-// Directories where a build wants files.
+//! Directories where a build wants files.
 
 use crate::sessions::{Front, assert_sessions};
 use std::test::Fail;

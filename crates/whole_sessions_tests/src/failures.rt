@@ -1,4 +1,4 @@
-// Why units fail.
+//! Why units fail.
 
 use crate::sessions::{BELOW_A_MAKEFILE, assert_sessions};
 use std::test::Fail;

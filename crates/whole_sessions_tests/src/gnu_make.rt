@@ -1,10 +1,10 @@
-// Makefiles that mean the same here and under GNU make.
-//
-// Each case of the tables has the saves of a view, among them that of a makefile, a build, and a `cat` of each file that it
-// makes; and then what the `cat`s reply. These files were not written by this program: they are what GNU Make 4.3 left behind,
-// with `/bin/sh` for the scripts, run with the same words in a folder that had the same files and no others. The makefiles run
-// there unchanged. `tools/gnu_make_files.py` runs it over these tables again. The rows of the last line are those of `mkview`, of
-// the saves, and one of each unit that makes files.
+//! Makefiles that mean the same here and under GNU make.
+//!
+//! Each case of the tables has the saves of a view, among them that of a makefile, a build, and a `cat` of each file that it
+//! makes; and then what the `cat`s reply. These files were not written by this program: they are what GNU Make 4.3 left behind,
+//! with `/bin/sh` for the scripts, run with the same words in a folder that had the same files and no others. The makefiles run
+//! there unchanged. `tools/gnu_make_files.py` runs it over these tables again. The rows of the last line are those of `mkview`,
+//! of the saves, and one of each unit that makes files.
 
 use crate::sessions::{IN_A_VIEW, Runtime, parts_of, told_behind};
 use std::alloc::Global;

@@ -1,4 +1,4 @@
-// The large session of a seed and a size, read and run.
+//! The large session of a seed and a size, read and run.
 
 use crate::sessions::told_behind;
 use large_session::make_session;

@@ -1,4 +1,4 @@
-// The limits of makefiles and scripts.
+//! The limits of makefiles and scripts.
 
 use crate::sessions::{Front, assert_sessions};
 use std::test::Fail;

@@ -1,4 +1,4 @@
-// A base that is opened again, and rows that do not fit one.
+//! A base that is opened again, and rows that do not fit one.
 
 use crate::sessions::{IN_A_LANE, Outcome, Runtime, outcome_on, parts_of};
 use cc_names::memory::NoMemory;

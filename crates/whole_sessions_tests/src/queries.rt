@@ -1,4 +1,4 @@
-// Sessions that ask: what each query prints, which refusals it has, and that it makes no row.
+//! Sessions that ask: what each query prints, which refusals it has, and that it makes no row.
 
 use crate::sessions::{ALONE, assert_sessions};
 use std::test::Fail;

@@ -1,4 +1,4 @@
-// Why builds are refused.
+//! Why builds are refused.
 
 use crate::sessions::{BELOW_A_MAKEFILE, assert_sessions};
 use std::test::Fail;

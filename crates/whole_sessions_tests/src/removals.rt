@@ -1,4 +1,4 @@
-// Sessions that take private files away.
+//! Sessions that take private files away.
 
 use crate::sessions::{IN_A_LANE, assert_sessions};
 use std::test::Fail;

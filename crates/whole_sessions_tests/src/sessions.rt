@@ -1,7 +1,7 @@
-// Sessions on a base in memory, in tables that are texts.
-//
-// A table has its cases one behind the other, parted by lines `====`. A case is a session, the line `----`, what the session
-// writes, and a last line of its status and the rows of its base. A line that begins with `#` in a session is a note.
+//! Sessions on a base in memory, in tables that are texts.
+//!
+//! A table has its cases one behind the other, parted by lines `====`. A case is a session, the line `----`, what the session
+//! writes, and a last line of its status and the rows of its base. A line that begins with `#` in a session is a note.
 
 ghost use Rattle.std.specs.Prelude.{IfOk};
 ghost use Rattle.disk_model.specs.MemoryDisks.{sight_of};

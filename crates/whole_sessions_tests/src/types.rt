@@ -1,4 +1,4 @@
-// Sessions that make types of labels and of branches.
+//! Sessions that make types of labels and of branches.
 
 use crate::sessions::{IN_A_LANE, assert_sessions};
 use std::test::Fail;

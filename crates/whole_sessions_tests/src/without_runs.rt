@@ -1,4 +1,4 @@
-// What units come to without a run of their scripts, where two reasons hold.
+//! What units come to without a run of their scripts, where two reasons hold.
 
 use crate::sessions::{BELOW_A_MAKEFILE, assert_sessions};
 use std::test::Fail;

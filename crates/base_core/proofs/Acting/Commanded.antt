@@ -10,10 +10,11 @@ use Rattle.cc_names.specs.declared.commands.Phase.{Phase}
 use Rattle.cc_names.specs.declared.desks.Next.TheVariants as nexts
 use Rattle.cc_names.specs.declared.rows.Tag.{Tag}
 use Rattle.session_text.specs.Formed.{IsCommand, IsLane, IsPhase}
+use Rattle.legal_history.specs.Stories.Commanded.{command_of}
 use Rattle.legal_history.specs.Stories.States.{State, command_behind, next_tag}
 use Rattle.carried_out.specs.CarriedOut.{AreCarriedOut, IsLaneCarriedOut, is_carried_out}
 use Rattle.base_core.specs.Keeping.Kept.{command_limit}
-use Rattle.clearmake.specs.Nexts.{jobs_of, next_by, next_of, waiting}
+use Rattle.clearmake.specs.Nexts.{jobs_of, next_by, next_of}
 use Rattle.base_core.proofs.Building.UnitRows.{all_at}
 use Rattle.base_core.proofs.Keeping.Idle.{some_same}
 
@@ -42,10 +43,10 @@ building : (command : Command) (tag : Tag) → next_by (Some command) tag ≡ ne
 building (commands.Clearmake view file own_only rebuild jobs macros goals) tag builds = refl
 building command tag builds = cc
 
-pub acts : (s : State) (lane : ℕ) (command : Command) → waiting s lane ≡ Some command → next_of s lane ≡ nexts.Act → builds command ≡ false
+pub acts : (s : State) (lane : ℕ) (command : Command) → command_of s lane ≡ Some command → next_of s lane ≡ nexts.Act → builds command ≡ false
 acts s lane command e act = acting command (next_tag s lane) (ap (λ found. next_by found (next_tag s lane)) (sym e) ∙ act)
 
-pub builds_next : (s : State) (lane : ℕ) (command : Command) → waiting s lane ≡ Some command → next_of s lane ≡ nexts.Build (next_tag s lane) → builds command ≡ true
+pub builds_next : (s : State) (lane : ℕ) (command : Command) → command_of s lane ≡ Some command → next_of s lane ≡ nexts.Build (next_tag s lane) → builds command ≡ true
 builds_next s lane command e build = building command (next_tag s lane) (ap (λ found. next_by found (next_tag s lane)) (sym e) ∙ build)
 
 -- one that builds asks for some number of units at once
@@ -53,7 +54,7 @@ asks : (command : Command) (tag : Tag) → next_by (Some command) tag ≡ nexts.
 asks (commands.Clearmake view file own_only rebuild jobs macros goals) tag builds = refl
 asks command tag builds = absurd (cc)
 
-pub builds_ask : (s : State) (lane : ℕ) (command : Command) → waiting s lane ≡ Some command → next_of s lane ≡ nexts.Build (next_tag s lane) → IsSome (jobs_of (Some command))
+pub builds_ask : (s : State) (lane : ℕ) (command : Command) → command_of s lane ≡ Some command → next_of s lane ≡ nexts.Build (next_tag s lane) → IsSome (jobs_of (Some command))
 builds_ask s lane command e build = asks command (next_tag s lane) (ap (λ found. next_by found (next_tag s lane)) (sym e) ∙ build)
 
 -- which is from 1 to 64

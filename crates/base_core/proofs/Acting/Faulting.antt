@@ -4,8 +4,8 @@ use Rattle.std.specs.Prelude.{option_and_then}
 use Rattle.cc_names.specs.Formed.{Plain, IsFormed}
 use Rattle.cc_names.specs.declared.replies.Reply.TheVariants as replies
 use Rattle.cc_names.specs.declared.steps.Step.TheVariants as steps
-use Rattle.cc_names.specs.declared.steps.Told.{Told}
-use Rattle.cc_names.specs.declared.steps.Told.TheVariants as told
+use Rattle.cc_names.specs.declared.steps.StoryStep.{StoryStep}
+use Rattle.cc_names.specs.declared.steps.StoryStep.TheVariants as story_steps
 use Rattle.disk_model.specs.Told.{Sight}
 use Rattle.legal_history.specs.Builds.Active.{build_of}
 use Rattle.legal_history.specs.Commands.Decisions.{Makes}
@@ -55,8 +55,8 @@ kept_fault log lanes now row left before faults tick sight rose later leaves tic
     s : State
     s = state_of log.story
 
-    x : Told
-    x = told.Other (steps.Fault row.tag left before faults tick)
+    x : StoryStep
+    x = story_steps.Other (steps.Fault row.tag left before faults tick)
 
     may : MayCommit s row
     may = record { moment = in_time ∙ sym h.phase.moment; made = finishes.made s row made }
@@ -68,7 +68,7 @@ kept_fault log lanes now row left before faults tick sight rose later leaves tic
     no_build = ap (option_and_then (build_if row.tag)) free
 
 -- what is kept after a fault under a lane's next command
-pub kept_next_fault : (log : Logged) (lanes : List LaneKept) (now : ℕ) (story : List Told) (row : Plain) (lane : ℕ) (left : Option Plain) (before faults tick : ℕ) (sight : Sight) → rises before faults ≡ true → faults_of (state_of log.story).opened (state_of log.story).ends ≤ before → MayLeaveRow (state_of log.story) row left
+pub kept_next_fault : (log : Logged) (lanes : List LaneKept) (now : ℕ) (story : List StoryStep) (row : Plain) (lane : ℕ) (left : Option Plain) (before faults tick : ℕ) (sight : Sight) → rises before faults ≡ true → faults_of (state_of log.story).opened (state_of log.story).ends ≤ before → MayLeaveRow (state_of log.story) row left
     → rises (ticks_of (state_of log.story).opened (state_of log.story).ends) tick ≡ true → log.story ≡ story → lane ≡ row.tag.lane → IsCoreKept log lanes now → IsRowToCommit (state_of story) row → IsFormed row
     → IsCoreKept (with_step_on log (steps.Fault row.tag left before faults tick) sight) (with_reply lanes lane replies.DiskFault) now
 kept_next_fault log lanes now story row lane left before faults tick sight rose later leaves ticked same at_lane h next formed =
@@ -78,9 +78,9 @@ kept_next_fault log lanes now story row lane left before faults tick sight rose 
     (omega (arith, here.of_next.upto, h.replies.count)) (record { formed = formed; made = here.carried_out }))
 
 -- how the story went on
-pub next_faults : (old new : List Told) (row : Plain) (left : Option Plain) (before faults tick : ℕ) → new ≡ old ++ told.Other (steps.Fault row.tag left before faults tick) ∷ [] → IsRowToCommit (state_of old) row → Acts old new row.tag.lane Faulted
+pub next_faults : (old new : List StoryStep) (row : Plain) (left : Option Plain) (before faults tick : ℕ) → new ≡ old ++ story_steps.Other (steps.Fault row.tag left before faults tick) ∷ [] → IsRowToCommit (state_of old) row → Acts old new row.tag.lane Faulted
 next_faults old new row left before faults tick e next = record {
-  step = told.Other (steps.Fault row.tag left before faults tick);
+  step = story_steps.Other (steps.Fault row.tag left before faults tick);
   grows = e;
   is = (next.of_next.next, row.deed, subst (λ t. decided (state_of old) t ≡ Some (Ok (Makes row.deed))) next.of_next.next next.made);
 }

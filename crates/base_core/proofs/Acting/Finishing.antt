@@ -7,8 +7,8 @@ use Rattle.cc_names.specs.declared.replies.Reply.{Reply}
 use Rattle.cc_names.specs.declared.replies.Reply.TheVariants as replies
 use Rattle.cc_names.specs.declared.rows.Tag.{Tag}
 use Rattle.cc_names.specs.declared.steps.Step.TheVariants as steps
-use Rattle.cc_names.specs.declared.steps.Told.{Told}
-use Rattle.cc_names.specs.declared.steps.Told.TheVariants as told
+use Rattle.cc_names.specs.declared.steps.StoryStep.{StoryStep}
+use Rattle.cc_names.specs.declared.steps.StoryStep.TheVariants as story_steps
 use Rattle.disk_model.specs.Told.{Sight}
 use Rattle.legal_history.specs.Commands.Decisions.{Makes, Answers}
 use Rattle.legal_history.specs.Stories.States.{State, decided, next_command, ticks_of}
@@ -29,7 +29,7 @@ kept_commit : (log : Logged) (lanes : List LaneKept) (now : ℕ) (row : Plain) (
     → IsCoreKept (with_row log row tick sight) (with_reply lanes row.tag.lane reply) now
 kept_commit log lanes now row tick sight ticked h finishes in_time made low high readable reply replied =
     let s : State = state_of log.story in
-    let x : Told = told.Commit row tick in
+    let x : StoryStep = story_steps.Commit row tick in
     kept_finished log lanes now x (row ∷ log.base) sight row.tag reply h low high
     (record {
       lawful = record { may = record { moment = in_time ∙ sym h.phase.moment; made = finishes.made s row made }; ticked = ticked };
@@ -50,7 +50,7 @@ kept_refusal : (log : Logged) (lanes : List LaneKept) (now : ℕ) (tag : Tag) (r
     → IsCoreKept (with_step log (steps.Refused tag refusal)) (with_reply lanes tag.lane (replies.Refused refusal)) now
 kept_refusal log lanes now tag refusal h made low high =
     let s : State = state_of log.story in
-    let x : Told = told.Other (steps.Refused tag refusal) in
+    let x : StoryStep = story_steps.Other (steps.Refused tag refusal) in
     kept_finished log lanes now x log.base log.sight tag (replies.Refused refusal) h low high
     (record { lawful = made; names = tt; leads = h.story.base })
     (record {
@@ -67,7 +67,7 @@ kept_answer : (log : Logged) (lanes : List LaneKept) (now : ℕ) (tag : Tag) (te
     → IsCoreKept (with_step log (steps.Answer tag text)) (with_reply lanes tag.lane reply) now
 kept_answer log lanes now tag text reply h made replied low high =
     let s : State = state_of log.story in
-    let x : Told = told.Other (steps.Answer tag text) in
+    let x : StoryStep = story_steps.Other (steps.Answer tag text) in
     kept_finished log lanes now x log.base log.sight tag reply h low high
     (record { lawful = made; names = tt; leads = h.story.base })
     (record {
@@ -80,7 +80,7 @@ kept_answer log lanes now tag text reply h made replied low high =
     })
 
 -- what is kept after the row of a lane's next command
-pub kept_next_row : (log : Logged) (lanes : List LaneKept) (now : ℕ) (story : List Told) (row : Plain) (lane tick : ℕ) (sight : Sight) → rises (ticks_of (state_of log.story).opened (state_of log.story).ends) tick ≡ true → log.story ≡ story → lane ≡ row.tag.lane → IsCoreKept log lanes now
+pub kept_next_row : (log : Logged) (lanes : List LaneKept) (now : ℕ) (story : List StoryStep) (row : Plain) (lane tick : ℕ) (sight : Sight) → rises (ticks_of (state_of log.story).opened (state_of log.story).ends) tick ≡ true → log.story ≡ story → lane ≡ row.tag.lane → IsCoreKept log lanes now
     → IsRowToCommit (state_of story) row → IsFormed row → (reply : Reply) → reply_to_row (row ∷ log.base) row.deed ≡ Some reply
     → IsCoreKept (with_row log row tick sight) (with_reply lanes lane reply) now
 kept_next_row log lanes now story row lane tick sight ticked same at_lane h next formed reply replied =
@@ -90,14 +90,14 @@ kept_next_row log lanes now story row lane tick sight ticked same at_lane h next
     (omega (arith, here.of_next.upto, h.replies.count)) (record { formed = formed; made = here.carried_out }) reply replied)
 
 -- what is kept after the refusal of a lane's next command
-pub kept_next_refusal : (log : Logged) (lanes : List LaneKept) (now : ℕ) (story : List Told) (tag : Tag) (refusal : Refusal) → log.story ≡ story → IsCoreKept log lanes now → IsNextRefusal (state_of story) tag refusal
+pub kept_next_refusal : (log : Logged) (lanes : List LaneKept) (now : ℕ) (story : List StoryStep) (tag : Tag) (refusal : Refusal) → log.story ≡ story → IsCoreKept log lanes now → IsNextRefusal (state_of story) tag refusal
     → IsCoreKept (with_step log (steps.Refused tag refusal)) (with_reply lanes tag.lane (replies.Refused refusal)) now
 kept_next_refusal log lanes now story tag refusal same h next =
     let here : IsNextRefusal (state_of log.story) tag refusal = subst (λ t. IsNextRefusal (state_of t) tag refusal) (sym same) next in
     kept_refusal log lanes now tag refusal h here.made here.of_next.from (omega (arith, here.of_next.upto, h.replies.count))
 
 -- what is kept after the answer to a lane's next command
-pub kept_next_answer : (log : Logged) (lanes : List LaneKept) (now : ℕ) (story : List Told) (tag : Tag) (text : List ℕ) (reply : Reply) → log.story ≡ story → IsCoreKept log lanes now → IsNextAnswer (state_of story) tag text reply
+pub kept_next_answer : (log : Logged) (lanes : List LaneKept) (now : ℕ) (story : List StoryStep) (tag : Tag) (text : List ℕ) (reply : Reply) → log.story ≡ story → IsCoreKept log lanes now → IsNextAnswer (state_of story) tag text reply
     → IsCoreKept (with_step log (steps.Answer tag text)) (with_reply lanes tag.lane reply) now
 kept_next_answer log lanes now story tag text reply same h next =
     let here : IsNextAnswer (state_of log.story) tag text reply = subst (λ t. IsNextAnswer (state_of t) tag text reply) (sym same) next in

@@ -1,8 +1,8 @@
 -- A row that may be committed fits the base.
 use Rattle.std.proofs.Common.{◌≡◌, ◌+◌, true, List, [], ◌∷◌, ◌++◌, ap, sym, ◌∙◌, arith}
 use Rattle.cc_names.specs.Formed.{Plain}
-use Rattle.cc_names.specs.declared.steps.Told.{Told}
-use Rattle.cc_names.specs.declared.steps.Told.TheVariants as told
+use Rattle.cc_names.specs.declared.steps.StoryStep.{StoryStep}
+use Rattle.cc_names.specs.declared.steps.StoryStep.TheVariants as story_steps
 use Rattle.legal_history.specs.Stories.Committing.{MayCommit}
 use Rattle.legal_history.specs.Base.Fits.{fits, is_base}
 use Rattle.legal_history.specs.Stories.States.{State, start, ticks_of}
@@ -14,10 +14,10 @@ use Rattle.base_core.proofs.Keeping.Idle.{both}
 use Rattle.base_core.proofs.Logging.Rising.{rises_more}
 
 -- the base of the story with the row committed is a base
-pub may_fits : (story : List Told) (row : Plain) → Legal story → MayCommit (state_of story) row → fits (state_of story).base row.deed ≡ true
+pub may_fits : (story : List StoryStep) (row : Plain) → Legal story → MayCommit (state_of story) row → fits (state_of story).base row.deed ≡ true
 may_fits story row legal may =
     let s : State = state_of story in
-    let x : Told = told.Commit row (ticks_of s.opened s.ends + 1) in
+    let x : StoryStep = story_steps.Commit row (ticks_of s.opened s.ends + 1) in
     let more : Legal (story ++ x ∷ []) = legal_more start story x legal (record { may = may; ticked = rises_more (ticks_of s.opened s.ends) (ticks_of s.opened s.ends + 1) (omega arith) }) in
     let grown : is_base (row ∷ s.base) ≡ true = ap is_base (sym (ap (λ t. t.base) (state_from-more start story x))) ∙ base_fits (story ++ x ∷ []) more in
     (both (fits s.base row.deed) (is_base s.base) grown).0

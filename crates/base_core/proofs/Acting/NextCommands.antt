@@ -17,7 +17,7 @@ use Rattle.cc_names.specs.declared.memory.Or.TheVariants.{NoMemory, Is}
 use Rattle.cc_names.specs.declared.refusals.Refusal.{Refusal}
 use Rattle.cc_names.specs.declared.replies.Reply.TheVariants as replies
 use Rattle.cc_names.specs.declared.rows.Tag.{Tag}
-use Rattle.cc_names.specs.declared.steps.Told.{Told}
+use Rattle.cc_names.specs.declared.steps.StoryStep.{StoryStep}
 use Rattle.checkout_desk.specs.Deciding.{DecidesIfAny, IfNone, IfRow, Sees}
 use Rattle.cleartool.specs.Answering.{AnswersAs}
 use Rattle.legal_history.specs.Base.Fits.{row_limit}
@@ -25,11 +25,11 @@ use Rattle.legal_history.specs.Base.Rows.{Base, size, only_where}
 use Rattle.legal_history.specs.Builds.Active.{building, build_of, reserved}
 use Rattle.legal_history.specs.Commands.Decisions.{Scene}
 use Rattle.legal_history.specs.Commands.Lines.{decision}
+use Rattle.legal_history.specs.Stories.Commanded.{command_of}
 use Rattle.legal_history.specs.Stories.States.{State, scene, done_of, command_behind, same_tag, next_tag, next_command, decided}
 use Rattle.legal_history.specs.Stories.Steps.{state_of}
 use Rattle.legal_history.specs.Stories.Lawful.{Legal}
 use Rattle.base_core.specs.Calls.Acting.{AnswersNext, DecidesNext}
-use Rattle.clearmake.specs.Nexts.{waiting}
 use Rattle.base_core.specs.Story.Replying.{reply_to_answer}
 use Rattle.base_core.proofs.Acting.Fitting.{may_fits}
 use Rattle.base_core.proofs.Acting.PlainRows.{command_finishes}
@@ -62,7 +62,7 @@ nothing_counted (commands.Scrub age) scrubs = refl
 nothing_counted command scrubs = absurd (cc)
 
 -- what is decided of the command that waits
-pub decides_next : (story : List Told) (lane taken now : ℕ) (command : Command) (result : Result (Option Plain) (Or Refusal)) → Legal story → is_carried_out command ≡ true → builds command ≡ false → is_query command ≡ false → (let s : State = state_of story in build_of s.active lane ≡ None → s.moment ≡ now → option_and_then (command_behind (done_of s.done lane)) (lane_at s.phase lane) ≡ Some command → taken ≡ size s.base + reserved s.active → DecidesIfAny (next_tag s lane) now result (decision (scene s) command) → IfNone result (is_some (scrub_age command) ≡ true) → IfRow result (λ row. is_made row.deed ≡ true) → IfRow result (λ row. taken < row_limit) → DecidesNext s (next_tag s lane) result)
+pub decides_next : (story : List StoryStep) (lane taken now : ℕ) (command : Command) (result : Result (Option Plain) (Or Refusal)) → Legal story → is_carried_out command ≡ true → builds command ≡ false → is_query command ≡ false → (let s : State = state_of story in build_of s.active lane ≡ None → s.moment ≡ now → option_and_then (command_behind (done_of s.done lane)) (lane_at s.phase lane) ≡ Some command → taken ≡ size s.base + reserved s.active → DecidesIfAny (next_tag s lane) now result (decision (scene s) command) → IfNone result (is_some (scrub_age command) ≡ true) → IfRow result (λ row. is_made row.deed ≡ true) → IfRow result (λ row. taken < row_limit) → DecidesNext s (next_tag s lane) result)
 decides_next story lane taken now command (Ok (Some row)) legal carried idle quiet free moment e count decides scrubs made_row space =
     let s : State = state_of story in
     let within = in_phase s.phase lane (done_of s.done lane) command e in
@@ -105,8 +105,8 @@ decides_next story lane taken now command (Err (Is refusal)) legal carried idle 
     }
 
 -- what is decided of a lane's next command
-pub decided_so : (story : List Told) (lane : ℕ) (on : Occasion) (command : Command) (view : List ℕ) (rows : Base) (result : Result (Option Plain) (Or Refusal)) → Legal story → is_carried_out command ≡ true → builds command ≡ false → is_query command ≡ false → build_of (state_of story).active lane ≡ None
-    → waiting (state_of story) lane ≡ Some command → on.tag ≡ next_tag (state_of story) lane → on.moment ≡ (state_of story).moment → rows ≡ (state_of story).base → on.busy ≡ building (state_of story).active view → on.taken ≡ size (state_of story).base + reserved (state_of story).active
+pub decided_so : (story : List StoryStep) (lane : ℕ) (on : Occasion) (command : Command) (view : List ℕ) (rows : Base) (result : Result (Option Plain) (Or Refusal)) → Legal story → is_carried_out command ≡ true → builds command ≡ false → is_query command ≡ false → build_of (state_of story).active lane ≡ None
+    → command_of (state_of story) lane ≡ Some command → on.tag ≡ next_tag (state_of story) lane → on.moment ≡ (state_of story).moment → rows ≡ (state_of story).base → on.busy ≡ building (state_of story).active view → on.taken ≡ size (state_of story).base + reserved (state_of story).active
     → ((scene : Scene) → Sees scene rows on.moment view on.busy on.taken → DecidesIfAny on.tag on.moment result (decision scene command)) → IfNone result (is_some (scrub_age command) ≡ true) → IfRow result (λ row. is_made row.deed ≡ true) → IfRow result (λ row. on.taken < row_limit) → DecidesNext (state_of story) (next_tag (state_of story) lane) result
 decided_so story lane on command view rows result legal carried idle quiet free e tagged moment rows_are is count decides scrubs made space =
     let s = state_of story in
@@ -120,7 +120,7 @@ replied_so (commands.MklabelConfig view replace path label) text query = absurd 
 replied_so command text query = refl
 
 -- what is answered to the query that waits
-pub answered_so : (s : State) (lane : ℕ) (command : Command) (result : Result (List ℕ) (Or Refusal)) → is_query command ≡ true → build_of s.active lane ≡ None → waiting s lane ≡ Some command → AnswersAs result (decision (scene s) command) → AnswersNext s (next_tag s lane) result
+pub answered_so : (s : State) (lane : ℕ) (command : Command) (result : Result (List ℕ) (Or Refusal)) → is_query command ≡ true → build_of s.active lane ≡ None → command_of s lane ≡ Some command → AnswersAs result (decision (scene s) command) → AnswersNext s (next_tag s lane) result
 answered_so s lane command (Ok text) query free e answers =
     let within = in_phase s.phase lane (done_of s.done lane) command e in
     let next = next_is s lane command free e in

@@ -1,7 +1,7 @@
 -- What is known of a base that was opened, and what stops find where none was.
 use Rattle.std.proofs.Common.{◌≡◌, ℕ, ◌<◌, ◌⊎◌, inl, inr, true, Option, Some, None, is_some, List, [], ◌∷◌, ◌++◌, length, reverse, refl, sym, ap, subst, ◌∙◌, arith}
 use Rattle.std.proofs.lemmas.List.{append-nil}
-use Rattle.cc_names.specs.declared.steps.Told.TheVariants as told
+use Rattle.cc_names.specs.declared.steps.StoryStep.TheVariants as story_steps
 use Rattle.disk_model.specs.Devices.{Device, Failed, Leaves, LeavesNow, MayLeave, Measures, Idles, bytes_of, file_of}
 use Rattle.disk_model.specs.Files.{IsImage, stable}
 use Rattle.disk_model.specs.Told.{Sight, IfTold, Both, IsCounted}
@@ -21,7 +21,7 @@ use Rattle.vob_journal.proofs.Journals.{stable_image}
 use Rattle.vob_journal.proofs.Passing.{passes_none, passes_call}
 use Rattle.vob_journal.proofs.Staying.{told_then}
 use Rattle.vob_journal.proofs.Telling.{both_from, both_map, both_then, told_both, told_back}
-use Rattle.base_core.specs.Stopping.Backed.{IsCovered, IsBacked}
+use Rattle.base_core.specs.Stopping.Backed.{IsMirrored, IsBacked}
 use Rattle.base_core.specs.Logging.Logs.{Logged, opened_log}
 use Rattle.base_core.specs.Bases.Opening.{IsBaseOn, IsOpened, IsDamaged, StopsBy, FailsToOpen}
 use Rattle.base_core.specs.Bases.Reading.{OnlyReads, IsReadThrough}
@@ -142,7 +142,7 @@ fails_at_once first now counted after is idles files fault =
     fails_to_open first now causes.DiskFault counted (both_idle first.told now.told is idles) files (raised_rises first now counted after fault.1)
 
 -- the journal behind a base that was opened
-covered_opened : (opening : Opening) (list loose : List (List ℕ)) (d e : Device) → opening.counts.ticks ≡ length d.calls → list ≡ payloads opening.base → loose ≡ [] → Moves list [] list [] d e → IsCovered opening [] list loose lefts.Nothing e
+covered_opened : (opening : Opening) (list loose : List (List ℕ)) (d e : Device) → opening.counts.ticks ≡ length d.calls → list ≡ payloads opening.base → loose ≡ [] → Moves list [] list [] d e → IsMirrored opening [] list loose lefts.Nothing e
 covered_opened opening list loose d e ticks is none moves = record {
   list_is = is;
   loose_is = inl (ap (λ l. list ++ l) none ∙ append-nil list ∙ is);
@@ -159,7 +159,7 @@ module _ {D : Type 0} (sight : D → Sight) (first : Sight) (handed : Handed) (b
   list_so = told_both (λ _. read.list ≡ payloads base ++ read.rest) (λ _. read.rest ≡ []) (λ _. opened.list ≡ payloads base) (sight read.disk).told
       (λ d is none. sym reads.list ∙ is ∙ ap (λ l. payloads base ++ l) none ∙ append-nil (payloads base)) through.so_far.list_is through.nothing
 
-  pub opened_backed : IsBacked (state_of (told.Opened (oldest_first base) handed.counts handed.tells ∷ [])) (sight read.disk) read.list read.loose read.ended read.left read.settled
+  pub opened_backed : IsBacked (state_of (story_steps.Opened (oldest_first base) handed.counts handed.tells ∷ [])) (sight read.disk) read.list read.loose read.ended read.left read.settled
   opened_backed = record {
     opening = record { base = reverse (oldest_first base); counts = handed.counts; tells = handed.tells };
     opened = refl;
@@ -174,12 +174,12 @@ module _ {D : Type 0} (sight : D → Sight) (first : Sight) (handed : Handed) (b
   }
     where
       by : (old now : Option Device) → IfTold old (λ d. first.ticks ≡ length d.calls) → IfTold now (λ _. opened.list ≡ payloads base) → Both (Moves opened.list [] opened.list []) old now
-          → IfTold now (IsCovered (record { base = reverse (oldest_first base); counts = handed.counts; tells = handed.tells }) [] read.list read.loose read.left)
+          → IfTold now (IsMirrored (record { base = reverse (oldest_first base); counts = handed.counts; tells = handed.tells }) [] read.list read.loose read.left)
       by old None same is moves = tt
       by None (Some e) same is moves = absurd moves
       by (Some d) (Some e) same is moves =
-          subst (λ left. IsCovered (record { base = reverse (oldest_first base); counts = handed.counts; tells = handed.tells }) [] read.list read.loose left e) (sym (reads.left ∙ new.left))
-          (subst (λ l. IsCovered (record { base = reverse (oldest_first base); counts = handed.counts; tells = handed.tells }) [] l read.loose lefts.Nothing e) (sym reads.list)
+          subst (λ left. IsMirrored (record { base = reverse (oldest_first base); counts = handed.counts; tells = handed.tells }) [] read.list read.loose left e) (sym (reads.left ∙ new.left))
+          (subst (λ l. IsMirrored (record { base = reverse (oldest_first base); counts = handed.counts; tells = handed.tells }) [] l read.loose lefts.Nothing e) (sym reads.list)
           (covered_opened (record { base = reverse (oldest_first base); counts = handed.counts; tells = handed.tells }) opened.list read.loose d e (ticks ∙ same) (is ∙ ap payloads (sym (oldest_back base))) through.so_far.loose moves))
 
   base_on : IsBaseOn first base handed

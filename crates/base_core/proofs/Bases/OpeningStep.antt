@@ -5,8 +5,8 @@ use Rattle.cc_names.specs.Formed.{Plain}
 use Rattle.cc_names.specs.declared.commands.Phase.{Phase}
 use Rattle.cc_names.specs.declared.steps.Step.{Step}
 use Rattle.cc_names.specs.declared.steps.Step.TheVariants as steps
-use Rattle.cc_names.specs.declared.steps.Told.{Told}
-use Rattle.cc_names.specs.declared.steps.Told.TheVariants as told
+use Rattle.cc_names.specs.declared.steps.StoryStep.{StoryStep}
+use Rattle.cc_names.specs.declared.steps.StoryStep.TheVariants as story_steps
 use Rattle.disk_model.specs.Told.{Sight}
 use Rattle.legal_history.specs.Base.Rows.{Base, size}
 use Rattle.legal_history.specs.Stories.Steps.{state_of}
@@ -17,8 +17,8 @@ use Rattle.base_core.specs.Story.Telling.{oldest_first, story_of, AreTold}
 use Rattle.base_core.specs.Story.Handed.{Handed}
 
 -- the story of the opening alone
-opened_story : (handed : Handed) (rows : List Plain) (n : ℕ) → n ≡ suc (length rows) → story_of handed (steps.Opened n ∷ []) rows [] ≡ told.Opened rows handed.counts handed.tells ∷ []
-opened_story handed rows n count = ap (λ all. told.Opened all handed.counts handed.tells ∷ []) (take_all (n - 1) rows (omega arith))
+opened_story : (handed : Handed) (rows : List Plain) (n : ℕ) → n ≡ suc (length rows) → story_of handed (steps.Opened n ∷ []) rows [] ≡ story_steps.Opened rows handed.counts handed.tells ∷ []
+opened_story handed rows n count = ap (λ all. story_steps.Opened all handed.counts handed.tells ∷ []) (take_all (n - 1) rows (omega arith))
 
 told_none : (n : ℕ) (rows : List Plain) → rows ≡ [] → AreTold n 0 [] rows []
 told_none n rows none = subst (λ rest. AreTold n 0 [] rest []) (sym none) tt
@@ -31,7 +31,7 @@ counted : (base : Base) (n : ℕ) → n ≡ size base → n ≡ suc (length (old
 counted base n count = omega (arith, count, length-reverse base)
 
 pub opened_logged : (handed : Handed) (base : Base) (n : ℕ) (kept : List Step) (phases : List Phase) (sight : Sight) (list loose : List (List ℕ)) (ended : Bool) (left : Left) (settled : Bool)
-    → n ≡ size base → kept ≡ steps.Opened n ∷ [] → phases ≡ [] → IsBacked (state_of (told.Opened (oldest_first base) handed.counts handed.tells ∷ [])) sight list loose ended left settled
+    → n ≡ size base → kept ≡ steps.Opened n ∷ [] → phases ≡ [] → IsBacked (state_of (story_steps.Opened (oldest_first base) handed.counts handed.tells ∷ [])) sight list loose ended left settled
     → IsLogged handed kept base phases sight list loose ended left settled
 opened_logged handed base n kept phases sight list loose ended left settled count opens none backed =
     subst (λ (all : List Step). IsLogged handed all base phases sight list loose ended left settled) (sym opens)
@@ -43,5 +43,5 @@ opened_logged handed base n kept phases sight list loose ended left settled coun
 pub opened_shown : (handed : Handed) (base : Base) (n : ℕ) (kept : List Step) (phases : List Phase) (sight : Sight) → n ≡ size base → kept ≡ steps.Opened n ∷ [] → phases ≡ []
     → (let log : Logged = record { story = story_of handed kept (oldest_first base) phases; base = base; phases = phases; sight = sight } in log) ≡ opened_log base handed sight
 opened_shown handed base n kept phases sight count opens none =
-    let log : List Told → List Phase → Logged = λ story ps. record { story = story; base = base; phases = ps; sight = sight } in
+    let log : List StoryStep → List Phase → Logged = λ story ps. record { story = story; base = base; phases = ps; sight = sight } in
     ap₂ log (ap₂ (λ all ps. story_of handed all (oldest_first base) ps) opens none ∙ opened_story handed (oldest_first base) n (counted base n count)) none

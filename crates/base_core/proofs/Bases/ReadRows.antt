@@ -16,9 +16,12 @@ use Rattle.vob_journal.specs.Shown.{Shown}
 use Rattle.vob_journal.proofs.Adding.{adds_then}
 use Rattle.vob_journal.proofs.Passing.{passes_then}
 use Rattle.vob_journal.proofs.Staying.{told_then}
-use Rattle.vob_journal.proofs.Telling.{both_then, told_next, told_both, told_from}
+use Rattle.vob_journal.proofs.Telling.{both_then, told_back, told_next, told_both, told_from}
+use Rattle.base_core.specs.Bases.Opening.{IsDamaged, StopsBy}
 use Rattle.base_core.specs.Bases.Reading.{OnlyReads, NextIs, IsNextRow, IsReadSoFar}
 use Rattle.base_core.specs.Stopping.Standing.{payloads}
+use Rattle.base_core.specs.declared.opening.OpenCause.{OpenCause}
+use Rattle.base_core.specs.declared.opening.OpenCause.TheVariants as causes
 use Rattle.base_core.proofs.Keeping.Idle.{both}
 use Rattle.base_core.proofs.Logging.Rising.{rises_raised}
 
@@ -80,3 +83,14 @@ reads_then sight one two three h g =
       adds = adds_on (sight one.disk).told (sight two.disk).told (sight three.disk).told h.adds g.adds;
       files = told_then (sight one.disk).told (sight two.disk).told (sight three.disk).told h.files g.files;
     }
+
+-- why reading stopped behind reads, told of the journal before them
+pub stops_behind : {D : Type 0} (sight : D → Sight) (cause : OpenCause) (one two : Shown D) (faults : ℕ) → OnlyReads sight one two → (sight two.disk).faults ≡ (sight one.disk).faults
+    → StopsBy (sight two.disk).told (λ _. two.list) cause (sight two.disk).faults faults → StopsBy (sight one.disk).told (λ _. one.list) cause (sight one.disk).faults faults
+stops_behind sight (causes.Damaged n) one two faults reads sound h = (
+  h.0 ∙ sound,
+  told_back (Moves one.list [] one.list []) (λ _. IsDamaged one.list n) (λ _. IsDamaged two.list n) (sight one.disk).told (sight two.disk).told
+      (λ d e moves damaged. subst (λ l. IsDamaged l n) reads.list damaged) reads.stops h.1,
+)
+stops_behind sight causes.DiskFault one two faults reads sound h = subst (λ f. rises f faults ≡ true) sound h
+stops_behind sight causes.NoMemory one two faults reads sound h = h ∙ sound

@@ -8,8 +8,8 @@ use Rattle.cc_names.specs.Formed.{Plain, IsFormed}
 use Rattle.cc_names.specs.declared.replies.Reply.TheVariants as replies
 use Rattle.cc_names.specs.declared.rows.Tag.{Tag}
 use Rattle.cc_names.specs.declared.steps.Step.TheVariants as steps
-use Rattle.cc_names.specs.declared.steps.Told.{Told}
-use Rattle.cc_names.specs.declared.steps.Told.TheVariants as told
+use Rattle.cc_names.specs.declared.steps.StoryStep.{StoryStep}
+use Rattle.cc_names.specs.declared.steps.StoryStep.TheVariants as story_steps
 use Rattle.build_core.specs.Slots.{numbered}
 use Rattle.disk_model.specs.Told.{Sight}
 use Rattle.legal_history.specs.Builds.Active.{Build, build_of}
@@ -51,7 +51,7 @@ broken build = record build { faulted = true }
 abbrev pub broken_state : State → ℕ → Build → Option Plain → ℕ → ℕ → State
 broken_state s lane build left faults tick = record s { active = put nat_cmp lane (broken build) s.active; ends = Faulted left faults tick ∷ s.ends }
 
-pub after_fault : (s : State) (lane : ℕ) (build : Build) (left : Option Plain) (before faults tick : ℕ) → build_by s (next_tag s lane) ≡ Some build → after s (told.Other (steps.Fault (next_tag s lane) left before faults tick)) ≡ broken_state s lane build left faults tick
+pub after_fault : (s : State) (lane : ℕ) (build : Build) (left : Option Plain) (before faults tick : ℕ) → build_by s (next_tag s lane) ≡ Some build → after s (story_steps.Other (steps.Fault (next_tag s lane) left before faults tick)) ≡ broken_state s lane build left faults tick
 after_fault s lane build left before faults tick is = ap (λ o. record s { done = done_by_fault s.done lane o; active = faulted_in s.active lane o; ends = Faulted left faults tick ∷ s.ends }) is
 
 -- the log after a fault under a lane's build, and after the end of it
@@ -78,16 +78,16 @@ kept_broken log lanes now lane build row left before faults tick sight rose late
     tag : Tag
     tag = next_tag s lane
 
-    fault : Told
-    fault = told.Other (steps.Fault tag left before faults tick)
+    fault : StoryStep
+    fault = story_steps.Other (steps.Fault tag left before faults tick)
 
-    end : Told
-    end = told.Other (steps.End tag)
+    end : StoryStep
+    end = story_steps.Other (steps.End tag)
 
     failed : Logged
     failed = with_step_on log (steps.Fault tag left before faults tick) sight
 
-    story' : List Told
+    story' : List StoryStep
     story' = log.story ++ fault ∷ []
 
     kept : IsBuildKept s lane build
@@ -133,7 +133,7 @@ kept_broken log lanes now lane build row left before faults tick sight rose late
         ∙ ap (numbered 1) (set-set (builds_in lanes) (lane - 1) (Some (broken build)) None)
 
 -- how the story went on
-pub broken_finishes : (log : Logged) (story : List Told) (lane : ℕ) (build : Build) (tag : Tag) (left : Option Plain) (before faults tick : ℕ) (sight : Sight) → log.story ≡ story → build_by (state_of story) (next_tag (state_of story) lane) ≡ Some build → tag ≡ next_tag (state_of story) lane → Finishes story (broken_log log tag left before faults tick sight).story lane
+pub broken_finishes : (log : Logged) (story : List StoryStep) (lane : ℕ) (build : Build) (tag : Tag) (left : Option Plain) (before faults tick : ℕ) (sight : Sight) → log.story ≡ story → build_by (state_of story) (next_tag (state_of story) lane) ≡ Some build → tag ≡ next_tag (state_of story) lane → Finishes story (broken_log log tag left before faults tick sight).story lane
 broken_finishes log story lane build tag left before faults tick sight same is tagged = record {
   steps = fault ∷ end ∷ [];
   grows = ap (λ t. (t ++ fault ∷ []) ++ end ∷ []) same ∙ append_assoc story (fault ∷ []) (end ∷ []);
@@ -145,17 +145,17 @@ broken_finishes log story lane build tag left before faults tick sight same is t
     s : State
     s = state_of story
 
-    fault : Told
-    fault = told.Other (steps.Fault tag left before faults tick)
+    fault : StoryStep
+    fault = story_steps.Other (steps.Fault tag left before faults tick)
 
-    end : Told
-    end = told.Other (steps.End tag)
+    end : StoryStep
+    end = story_steps.Other (steps.End tag)
 
     s1 : State
     s1 = broken_state s lane build left faults tick
 
     state1 : state_of (story ++ fault ∷ []) ≡ s1
-    state1 = state_from-more start story fault ∙ ap (λ t. after s (told.Other (steps.Fault t left before faults tick))) tagged ∙ after_fault s lane build left before faults tick is
+    state1 = state_from-more start story fault ∙ ap (λ t. after s (story_steps.Other (steps.Fault t left before faults tick))) tagged ∙ after_fault s lane build left before faults tick is
 
     state : state_of ((log.story ++ fault ∷ []) ++ end ∷ []) ≡ record s1 { done = with_done s.done lane; active = without_build s1.active lane }
     state = ap (λ t. state_of ((t ++ fault ∷ []) ++ end ∷ [])) same ∙ state_from-more start (story ++ fault ∷ []) end
@@ -174,7 +174,7 @@ kept_broken_object log lanes now lane n row object tag left before faults tick s
     (kept_broken log lanes now lane g.build row left before faults tick sight rose later leaves ticked h slot.from slot.upto g.active g.of_tag g.may (record { formed = formed; made = g.made })))
 
 -- how the story went on
-pub broken_object_finishes : (log : Logged) (lanes : List LaneKept) (now : ℕ) (story : List Told) (lane n : ℕ) (row : Plain) (object : ℕ) (tag : Tag) (left : Option Plain) (before faults tick : ℕ) (sight : Sight) → log.story ≡ story → IsCoreKept log lanes now → Gives (state_of log.story) lane n row object → tag ≡ next_tag (state_of log.story) lane
+pub broken_object_finishes : (log : Logged) (lanes : List LaneKept) (now : ℕ) (story : List StoryStep) (lane n : ℕ) (row : Plain) (object : ℕ) (tag : Tag) (left : Option Plain) (before faults tick : ℕ) (sight : Sight) → log.story ≡ story → IsCoreKept log lanes now → Gives (state_of log.story) lane n row object → tag ≡ next_tag (state_of log.story) lane
     → Finishes story (with_step (with_step_on log (steps.Fault row.tag left before faults tick) sight) (steps.End tag)).story lane
 broken_object_finishes log lanes now story lane n row object tag left before faults tick sight same h g tagged =
     let s = state_of log.story in

@@ -3,8 +3,8 @@ use Rattle.std.proofs.Common.{◌≡◌, ℕ, ◌+◌, ◌≤◌, Some, Ok, List
 use Rattle.std.proofs.lemmas.List.{append-nil}
 use Rattle.cc_names.specs.declared.rows.Tag.{Tag}
 use Rattle.cc_names.specs.declared.steps.Step.TheVariants as steps
-use Rattle.cc_names.specs.declared.steps.Told.{Told}
-use Rattle.cc_names.specs.declared.steps.Told.TheVariants as told
+use Rattle.cc_names.specs.declared.steps.StoryStep.{StoryStep}
+use Rattle.cc_names.specs.declared.steps.StoryStep.TheVariants as story_steps
 use Rattle.legal_history.specs.Base.Rows.{size}
 use Rattle.legal_history.specs.Builds.Active.{Build, reserved}
 use Rattle.legal_history.specs.Commands.Decisions.{Begins}
@@ -41,5 +41,5 @@ kept_begin log lanes now tag build h low high made begins is room =
     s : State
     s = state_of log.story
 
-    x : Told
-    x = told.Other (steps.Begin tag (size s.base) (length build.units))
+    x : StoryStep
+    x = story_steps.Other (steps.Begin tag (size s.base) (length build.units))

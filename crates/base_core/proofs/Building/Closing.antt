@@ -5,8 +5,8 @@ use Rattle.cc_names.specs.declared.replies.Reply.{Reply}
 use Rattle.cc_names.specs.declared.replies.Reply.TheVariants as replies
 use Rattle.cc_names.specs.declared.rows.Tag.{Tag}
 use Rattle.cc_names.specs.declared.steps.Step.TheVariants as steps
-use Rattle.cc_names.specs.declared.steps.Told.{Told}
-use Rattle.cc_names.specs.declared.steps.Told.TheVariants as told
+use Rattle.cc_names.specs.declared.steps.StoryStep.{StoryStep}
+use Rattle.cc_names.specs.declared.steps.StoryStep.TheVariants as story_steps
 use Rattle.build_core.specs.Slots.{numbered}
 use Rattle.legal_history.specs.Builds.Replied.{reply_of}
 use Rattle.legal_history.specs.Base.Rows.{only_where}
@@ -61,8 +61,8 @@ kept_end log lanes now lane build h low high is over = record {
     tag : Tag
     tag = next_tag s lane
 
-    x : Told
-    x = told.Other (steps.End tag)
+    x : StoryStep
+    x = story_steps.Other (steps.End tag)
 
     reply : Reply
     reply = reply_of s.base build

@@ -3,8 +3,8 @@ use Rattle.std.proofs.Common.{◌≡◌, ℕ, true, Some, List, [], ◌∷◌, �
 use Rattle.cc_names.specs.declared.replies.Reply.{Reply}
 use Rattle.cc_names.specs.declared.rows.Tag.{Tag}
 use Rattle.cc_names.specs.declared.steps.Step.TheVariants as steps
-use Rattle.cc_names.specs.declared.steps.Told.{Told}
-use Rattle.cc_names.specs.declared.steps.Told.TheVariants as told
+use Rattle.cc_names.specs.declared.steps.StoryStep.{StoryStep}
+use Rattle.cc_names.specs.declared.steps.StoryStep.TheVariants as story_steps
 use Rattle.legal_history.specs.Builds.Replied.{reply_of}
 use Rattle.legal_history.specs.Base.Rows.{Base}
 use Rattle.legal_history.specs.Builds.Active.{Build, build_of}
@@ -23,7 +23,7 @@ use Rattle.base_core.proofs.Keeping.LaneCounts.{done_same, done_other}
 use Rattle.base_core.proofs.Keeping.LaneSlots.{lane_slot}
 
 -- what is kept
-pub kept_ended : (log : Logged) (lanes : List LaneKept) (now lane : ℕ) (story : List Told) (rows : Base) (tag : Tag) (build : Build) (reply : Reply) → log.story ≡ story → IsCoreKept log lanes now → IsOver (state_of story) lane → build_of (state_of story).active lane ≡ Some build
+pub kept_ended : (log : Logged) (lanes : List LaneKept) (now lane : ℕ) (story : List StoryStep) (rows : Base) (tag : Tag) (build : Build) (reply : Reply) → log.story ≡ story → IsCoreKept log lanes now → IsOver (state_of story) lane → build_of (state_of story).active lane ≡ Some build
     → (state_of story).base ≡ rows → tag ≡ next_tag (state_of story) lane → reply ≡ reply_of rows build → IsCoreKept (with_step log (steps.End tag)) (with_closed lanes lane reply) now
 kept_ended log lanes now lane story rows tag build reply same h over found base tagged replied =
     let active : build_of (state_of log.story).active lane ≡ Some build = ap (λ t. build_of (state_of t).active lane) same ∙ found in
@@ -36,7 +36,7 @@ kept_ended log lanes now lane story rows tag build reply same h over found base 
     (kept_end log lanes now lane build h slot.from slot.upto active complete))
 
 -- how the story went on
-pub ended_finishes : (log : Logged) (story : List Told) (lane : ℕ) (tag : Tag) → log.story ≡ story → tag ≡ next_tag (state_of story) lane → Finishes story (with_step log (steps.End tag)).story lane
+pub ended_finishes : (log : Logged) (story : List StoryStep) (lane : ℕ) (tag : Tag) → log.story ≡ story → tag ≡ next_tag (state_of story) lane → Finishes story (with_step log (steps.End tag)).story lane
 ended_finishes log story lane tag same tagged = record {
   steps = x ∷ [];
   grows = ap (λ t. t ++ x ∷ []) same;
@@ -48,8 +48,8 @@ ended_finishes log story lane tag same tagged = record {
     s : State
     s = state_of story
 
-    x : Told
-    x = told.Other (steps.End tag)
+    x : StoryStep
+    x = story_steps.Other (steps.End tag)
 
     state : state_of (log.story ++ x ∷ []) ≡ record s { done = with_done s.done lane; active = without_build s.active lane }
     state = ap (λ t. state_of (t ++ x ∷ [])) same ∙ state_from-more start story x

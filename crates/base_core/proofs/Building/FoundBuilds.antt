@@ -1,22 +1,20 @@
 -- The build that is found in a lane's slot: what is kept of it, and how a unit of it goes on.
 use Rattle.std.proofs.Common.{◌≡◌, ℕ, inr, true, false, Some, Result, Ok, Err, List, refl, ap, sym, subst, ◌∙◌}
-use Rattle.std.specs.Prelude.{IfOk, IsSome, Option, None, is_some, slice_get}
+use Rattle.std.specs.Prelude.{IfOk, Option, None, is_some, slice_get}
 use Rattle.std.proofs.lemmas.Option.{slice_get_within}
 use Rattle.cc_names.specs.declared.refusals.ScriptFault.{ScriptFault}
 use Rattle.cc_names.specs.declared.refusals.UnitFault.TheVariants as faults
-use Rattle.cc_names.specs.declared.steps.Told.{Told}
+use Rattle.cc_names.specs.declared.steps.StoryStep.{StoryStep}
 use Rattle.cc_names.specs.declared.steps.UnitEnd.TheVariants as ends
 use Rattle.build_script.specs.Run.{Ran}
 use Rattle.build_script.specs.declared.lines.Line.{Line}
-use Rattle.legal_history.specs.Base.Rows.{Base, first_rows}
-use Rattle.legal_history.specs.Builds.Active.{Build, Came, Started, Ended, Given, build_of, came_to, is_outcome}
+use Rattle.legal_history.specs.Builds.Active.{Build, Came, Started, Concluded, Given, build_of, came_to, is_outcome}
 use Rattle.legal_history.specs.Builds.Reuse.{reusable}
 use Rattle.legal_history.specs.Builds.UnitTurns.{IsRunning}
 use Rattle.legal_history.specs.Laws.TakenLaws.{FoundAfterTheStartIsNotHeld}
 use Rattle.legal_history.specs.Stories.Lawful.{Legal}
 use Rattle.legal_history.specs.Stories.States.{State, next_tag}
 use Rattle.legal_history.specs.Stories.Steps.{state_of}
-use Rattle.legal_history.specs.Base.Views.{view_row}
 use Rattle.clearmake.specs.Calls.{HasScript, IsCarried, IsRunOfUnit, IsStarted, Tries}
 use Rattle.base_core.specs.Calls.BuildCalls.{MaySettle, MayWink, HasRun, Noted, turn_of}
 use Rattle.base_core.specs.Calls.Building.{IsBuildKept}
@@ -35,15 +33,11 @@ if_ok (Ok a) P Q f h = f a h
 if_ok (Err e) P Q f h = h
 
 -- the build of a lane is kept
-pub build_kept : (log : Logged) (lanes : List LaneKept) (now : ℕ) (story : List Told) (lane : ℕ) (build : Build) → log.story ≡ story → IsCoreKept log lanes now → build_of (state_of story).active lane ≡ Some build → IsBuildKept (state_of story) lane build
+pub build_kept : (log : Logged) (lanes : List LaneKept) (now : ℕ) (story : List StoryStep) (lane : ℕ) (build : Build) → log.story ≡ story → IsCoreKept log lanes now → build_of (state_of story).active lane ≡ Some build → IsBuildKept (state_of story) lane build
 build_kept log lanes now story lane build same h is = subst (λ t. IsBuildKept (state_of t) lane build) same (h.builds.kept lane build (ap (λ t. build_of (state_of t).active lane) same ∙ is))
 
--- a build's view was there in its reference rows
-pub view_there : (s : State) (lane : ℕ) (build : Build) (b : Base) → IsBuildKept s lane build → b ≡ s.base → IsSome (view_row (first_rows build.rows b) build.view)
-view_there s lane build b kept e = subst (λ b. IsSome (view_row (first_rows build.rows b) build.view)) (sym e) kept.view
-
 -- a unit whose script was started has it still
-pub started_has : (old new : List Told) (lane n : ℕ) (script : List Line) (targets : List (List ℕ)) → HasScript (state_of old) lane n script targets → Noted old new lane n Started → GoesOn old new lane × IsStarted (state_of new) lane n script targets
+pub started_has : (old new : List StoryStep) (lane n : ℕ) (script : List Line) (targets : List (List ℕ)) → HasScript (state_of old) lane n script targets → Noted old new lane n Started → GoesOn old new lane × IsStarted (state_of new) lane n script targets
 started_has old new lane n script targets has noted =
     let still : BuildsOn (state_of new) lane has.build = noted.goes.still has.build has.active in
     let units : noted.build.units ≡ has.build.units = ap (λ b. b.units) (some_same noted.build still.build (sym noted.active ∙ still.active)) ∙ still.units in (
@@ -62,7 +56,7 @@ runs_so s lane n ran h = record {
   started = h.started;
 }
 
--- where its run failed, it may settle so
+-- where its run failed, it may be concluded so
 pub fails_so : (s : State) (lane n : ℕ) (ran : Ran) (fault : ScriptFault) → HasRun s lane n ran → ran.result ≡ Err fault → MaySettle s lane n (ends.Failed (faults.Script fault))
 fails_so s lane n ran fault h failed = record {
   build = h.build;
@@ -70,11 +64,11 @@ fails_so s lane n ran fault h failed = record {
   within = slice_get_within h.build.units n h.unit h.is_unit;
   kept = h.kept;
   waits = ap is_outcome h.started;
-  settles = record { build = h.build; unit = h.unit; running = runs_so s lane n ran h; fails = ap (λ r. r.result) (sym h.run) ∙ failed };
+  concludes = record { build = h.build; unit = h.unit; running = runs_so s lane n ran h; fails = ap (λ r. r.result) (sym h.run) ∙ failed };
 }
 
 -- an object that it may reuse by now may be winked in, by the law that its view does not hold it
-pub finds_so : (story : List Told) (lane n object : ℕ) (ran : Ran) → Legal story → FoundAfterTheStartIsNotHeld → (h : HasRun (state_of story) lane n ran) → reusable (state_of story).base h.build n h.unit ≡ Some object → MayWink (state_of story) lane n object
+pub finds_so : (story : List StoryStep) (lane n object : ℕ) (ran : Ran) → Legal story → FoundAfterTheStartIsNotHeld → (h : HasRun (state_of story) lane n ran) → reusable (state_of story).base h.build n h.unit ≡ Some object → MayWink (state_of story) lane n object
 finds_so story lane n object ran legal law h chosen =
     let runs = runs_so (state_of story) lane n ran h in
     record {
@@ -93,15 +87,15 @@ pub found_is : {A E : Type 0} (r : Result A E) (a : A) (P : A → Type 0) → r 
 found_is r a P is h = subst (λ r. IfOk r P) is h
 
 -- what became of a unit that was tried, and whose outcome was at hand
-pub carried_tries : (old new : List Told) (lane n : ℕ) (one : Carried) → IsCarried old new lane n one → Tries old new lane n (turn_of one)
-carried_tries old new lane n carried.Settled h = h
+pub carried_tries : (old new : List StoryStep) (lane n : ℕ) (one : Carried) → IsCarried old new lane n one → Tries old new lane n (turn_of one)
+carried_tries old new lane n carried.Concluded h = h
 carried_tries old new lane n carried.Faulted h = h
 
 -- a unit that was started and has no outcome is running
 started_still : (came : Option Came) → is_some came ≡ true → is_outcome came ≡ false → came ≡ Some Started
 started_still None some waits = absurd (cc)
 started_still (Some Started) some waits = refl
-started_still (Some (Ended end)) some waits = absurd (cc)
+started_still (Some (Concluded end)) some waits = absurd (cc)
 started_still (Some (Given id)) some waits = absurd (cc)
 
 -- and this is its run

@@ -1,11 +1,11 @@
 -- A story that does not go on.
 use Rattle.std.proofs.Common.{ℕ, List, [], refl, sym}
 use Rattle.std.proofs.lemmas.List.{append-nil}
-use Rattle.cc_names.specs.declared.steps.Told.{Told}
+use Rattle.cc_names.specs.declared.steps.StoryStep.{StoryStep}
 use Rattle.clearmake.specs.Going.{GoesOn}
 
 -- a story that does not go on
-pub goes_nowhere : (story : List Told) (lane : ℕ) → GoesOn story story lane
+pub goes_nowhere : (story : List StoryStep) (lane : ℕ) → GoesOn story story lane
 goes_nowhere story lane = record {
   steps = [];
   grows = sym (append-nil story);

@@ -3,8 +3,8 @@ use Rattle.std.proofs.Common.{false, ◌≡◌, ℕ, ◌≤◌, Some, List, leng
 use Rattle.std.specs.Ordering.{nat_cmp}
 use Rattle.std.specs.FinMap.Entries.{put}
 use Rattle.cc_names.specs.declared.steps.Step.{Step}
-use Rattle.cc_names.specs.declared.steps.Told.{Told}
-use Rattle.cc_names.specs.declared.steps.Told.TheVariants as told
+use Rattle.cc_names.specs.declared.steps.StoryStep.{StoryStep}
+use Rattle.cc_names.specs.declared.steps.StoryStep.TheVariants as story_steps
 use Rattle.legal_history.specs.Builds.Active.{Build, Came, build_of}
 use Rattle.legal_history.specs.Stories.States.{State}
 use Rattle.legal_history.specs.Stories.Steps.{after, state_of, with_came}
@@ -28,15 +28,14 @@ noted_kept s lane build n came h = record {
   waits = h.waits;
   from = h.from;
   rows = h.rows;
-  view = h.view;
   formed = record { named = h.formed.named; units = h.formed.units; few = h.formed.few };
   sound = h.sound;
 }
 
 -- what is kept after a step by which a unit of a lane's build comes to something, without a row
-pub kept_note : (log : Logged) (lanes : List LaneKept) (now : ℕ) (step : Step) (lane n : ℕ) (build : Build) (came : Came) → IsCoreKept log lanes now → 1 ≤ lane → lane ≤ length lanes → build_of (state_of log.story).active lane ≡ Some build → Lawful (state_of log.story) (told.Other step)
-    → after (state_of log.story) (told.Other step) ≡ record (state_of log.story) { active = put nat_cmp lane (with_came build (Some n) came) (state_of log.story).active }
-    → ((l : ℕ) → replies_after (state_of log.story) (told.Other step) (replies_of log.story) l ≡ replies_of log.story l) → is_fault (told.Other step) ≡ false
+pub kept_note : (log : Logged) (lanes : List LaneKept) (now : ℕ) (step : Step) (lane n : ℕ) (build : Build) (came : Came) → IsCoreKept log lanes now → 1 ≤ lane → lane ≤ length lanes → build_of (state_of log.story).active lane ≡ Some build → Lawful (state_of log.story) (story_steps.Other step)
+    → after (state_of log.story) (story_steps.Other step) ≡ record (state_of log.story) { active = put nat_cmp lane (with_came build (Some n) came) (state_of log.story).active }
+    → ((l : ℕ) → replies_after (state_of log.story) (story_steps.Other step) (replies_of log.story) l ≡ replies_of log.story l) → is_fault (story_steps.Other step) ≡ false
     → IsCoreKept (with_step log step) (put_build lanes lane (Some (with_came build (Some n) came))) now
 kept_note log lanes now step lane n build came h low high is lawful leaves said sound =
     kept_put log lanes now x log.base log.sight lane (with_came build (Some n) came) h low high
@@ -54,5 +53,5 @@ kept_note log lanes now step lane n build came h low high is lawful leaves said 
     s : State
     s = state_of log.story
 
-    x : Told
-    x = told.Other step
+    x : StoryStep
+    x = story_steps.Other step

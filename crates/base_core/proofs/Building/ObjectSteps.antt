@@ -3,8 +3,8 @@ use Rattle.std.proofs.Common.{◌≡◌, ℕ, true, Some, List, [], ◌∷◌, �
 use Rattle.std.proofs.lemmas.List.{append-nil}
 use Rattle.cc_names.specs.Counts.{rises}
 use Rattle.cc_names.specs.Formed.{Plain, IsFormed}
-use Rattle.cc_names.specs.declared.steps.Told.{Told}
-use Rattle.cc_names.specs.declared.steps.Told.TheVariants as told
+use Rattle.cc_names.specs.declared.steps.StoryStep.{StoryStep}
+use Rattle.cc_names.specs.declared.steps.StoryStep.TheVariants as story_steps
 use Rattle.disk_model.specs.Told.{Sight}
 use Rattle.legal_history.specs.Base.Fits.{fits}
 use Rattle.legal_history.specs.Builds.Active.{Build, Given, build_of, is_outcome}
@@ -30,7 +30,7 @@ use Rattle.base_core.proofs.Keeping.Reserving.{rows_for}
 use Rattle.base_core.proofs.Story.Growing.{state_from-more}
 
 -- the row in the log's own story
-pub gives_here : (log : Logged) (lanes : List LaneKept) (now : ℕ) (story : List Told) (lane n : ℕ) (row : Plain) (object : ℕ) → log.story ≡ story → IsCoreKept log lanes now → GivesObject (state_of story) lane n row object → BuildIsConsistent → Gives (state_of log.story) lane n row object
+pub gives_here : (log : Logged) (lanes : List LaneKept) (now : ℕ) (story : List StoryStep) (lane n : ℕ) (row : Plain) (object : ℕ) → log.story ≡ story → IsCoreKept log lanes now → GivesObject (state_of story) lane n row object → BuildIsConsistent → Gives (state_of log.story) lane n row object
 gives_here log lanes now story lane n row object same h gives consistent =
     gives_so (state_of log.story) lane n row object (base_fits log.story h.story.legal) (h.builds.kept lane) (λ build is. consistent log.story lane build h.story.legal is)
     (subst (λ t. GivesObject (state_of t) lane n row object) (sym same) gives)
@@ -60,14 +60,14 @@ kept_object log lanes more now lane n row object tick sight ticked h g set_so fo
     s : State
     s = state_of log.story
 
-    x : Told
-    x = told.Commit row tick
+    x : StoryStep
+    x = story_steps.Commit row tick
 
     leaves : after s x ≡ given_state s lane n g.build row object tick
     leaves = g.leaves tick
 
 -- how the story went on
-object_goes : (story : List Told) (lane n : ℕ) (row : Plain) (object tick : ℕ) → Gives (state_of story) lane n row object → GoesOn story (story ++ told.Commit row tick ∷ []) lane × HasOutcome (state_of (story ++ told.Commit row tick ∷ [])) lane n
+object_goes : (story : List StoryStep) (lane n : ℕ) (row : Plain) (object tick : ℕ) → Gives (state_of story) lane n row object → GoesOn story (story ++ story_steps.Commit row tick ∷ []) lane × HasOutcome (state_of (story ++ story_steps.Commit row tick ∷ [])) lane n
 object_goes story lane n row object tick g = (
   record {
     steps = x ∷ [];
@@ -82,8 +82,8 @@ object_goes story lane n row object tick g = (
     s : State
     s = state_of story
 
-    x : Told
-    x = told.Commit row tick
+    x : StoryStep
+    x = story_steps.Commit row tick
 
     given : Build
     given = with_came g.build (Some n) (Given object)
@@ -98,6 +98,6 @@ object_goes story lane n row object tick g = (
     still build e = subst (λ b. BuildsOn (state_of (story ++ x ∷ [])) lane b) e
         (record { build = given; active = active; units = refl; outcomes = λ m over. outcome_noted g.build n m (Given object) g.waits over })
 
-pub object_so : (log : Logged) (story : List Told) (lane n : ℕ) (row : Plain) (object tick : ℕ) (sight : Sight) → log.story ≡ story → Gives (state_of log.story) lane n row object → GoesOn story (with_row log row tick sight).story lane × HasOutcome (state_of (with_row log row tick sight).story) lane n
+pub object_so : (log : Logged) (story : List StoryStep) (lane n : ℕ) (row : Plain) (object tick : ℕ) (sight : Sight) → log.story ≡ story → Gives (state_of log.story) lane n row object → GoesOn story (with_row log row tick sight).story lane × HasOutcome (state_of (with_row log row tick sight).story) lane n
 object_so log story lane n row object tick sight same g =
-    subst (λ t. GoesOn t (log.story ++ told.Commit row tick ∷ []) lane × HasOutcome (state_of (log.story ++ told.Commit row tick ∷ [])) lane n) same (object_goes log.story lane n row object tick g)
+    subst (λ t. GoesOn t (log.story ++ story_steps.Commit row tick ∷ []) lane × HasOutcome (state_of (log.story ++ story_steps.Commit row tick ∷ [])) lane n) same (object_goes log.story lane n row object tick g)

@@ -5,8 +5,8 @@ use Rattle.std.specs.FinMap.Entries.{put}
 use Rattle.cc_names.specs.declared.desks.Done.TheVariants as dones
 use Rattle.cc_names.specs.declared.rows.Tag.{Tag}
 use Rattle.cc_names.specs.declared.steps.Step.TheVariants as steps
-use Rattle.cc_names.specs.declared.steps.Told.{Told}
-use Rattle.cc_names.specs.declared.steps.Told.TheVariants as told
+use Rattle.cc_names.specs.declared.steps.StoryStep.{StoryStep}
+use Rattle.cc_names.specs.declared.steps.StoryStep.TheVariants as story_steps
 use Rattle.legal_history.specs.Base.Rows.{size}
 use Rattle.legal_history.specs.Builds.Active.{Build, build_of}
 use Rattle.legal_history.specs.Commands.Decisions.{Begins}
@@ -26,7 +26,7 @@ use Rattle.base_core.proofs.Keeping.LaneSlots.{found_put}
 use Rattle.base_core.proofs.Building.BuildBegins.{kept_begin}
 
 -- what is kept where a build begins
-pub kept_opened : (log : Logged) (lanes : List LaneKept) (now rows count : ℕ) (story : List Told) (tag : Tag) (build : Build) → log.story ≡ story → IsCoreKept log lanes now → IsNextBuild (state_of story) build → tag ≡ build.tag → rows ≡ build.rows → count ≡ length build.units
+pub kept_opened : (log : Logged) (lanes : List LaneKept) (now rows count : ℕ) (story : List StoryStep) (tag : Tag) (build : Build) → log.story ≡ story → IsCoreKept log lanes now → IsNextBuild (state_of story) build → tag ≡ build.tag → rows ≡ build.rows → count ≡ length build.units
     → IsCoreKept (with_step log (steps.Begin tag rows count)) (put_build lanes tag.lane (Some build)) now
 kept_opened log lanes now rows count story tag build same h next tagged at_rows counted =
     let s = state_of log.story in
@@ -37,7 +37,7 @@ kept_opened log lanes now rows count story tag build same h next tagged at_rows 
     (kept_begin log lanes now build.tag build h here.of_next.from (omega (arith, here.of_next.upto, h.replies.count)) here.made here.begins here.kept here.room)))
 
 -- how the story went on
-pub opened_so : (log : Logged) (rows count : ℕ) (story : List Told) (tag : Tag) (build : Build) → log.story ≡ story → IsNextBuild (state_of story) build → tag ≡ build.tag → GoesOn story (with_step log (steps.Begin tag rows count)).story build.tag.lane × IsBuilding (state_of (with_step log (steps.Begin tag rows count)).story) build.tag.lane (length build.units)
+pub opened_so : (log : Logged) (rows count : ℕ) (story : List StoryStep) (tag : Tag) (build : Build) → log.story ≡ story → IsNextBuild (state_of story) build → tag ≡ build.tag → GoesOn story (with_step log (steps.Begin tag rows count)).story build.tag.lane × IsBuilding (state_of (with_step log (steps.Begin tag rows count)).story) build.tag.lane (length build.units)
 opened_so log rows count story tag build same next tagged = (
   record {
     steps = x ∷ [];
@@ -52,8 +52,8 @@ opened_so log rows count story tag build same next tagged = (
     s : State
     s = state_of story
 
-    x : Told
-    x = told.Other (steps.Begin tag rows count)
+    x : StoryStep
+    x = story_steps.Other (steps.Begin tag rows count)
 
     state : state_of (log.story ++ x ∷ []) ≡ record s { active = put nat_cmp build.tag.lane build s.active }
     state = ap (λ t. state_of (t ++ x ∷ [])) same ∙ state_from-more start story x
@@ -61,7 +61,7 @@ opened_so log rows count story tag build same next tagged = (
         ∙ ap (λ o. record s { active = with_build s.active build.tag.lane o }) next.begins
 
 -- a step that finishes a command of a lane, and leaves the last phase and its other lanes as they are
-step_finishes : (old new : List Told) (lane : ℕ) (step : Told) → new ≡ old ++ step ∷ [] → (after (state_of old) step).phase ≡ (state_of old).phase → (after (state_of old) step).number ≡ (state_of old).number → (after (state_of old) step).moment ≡ (state_of old).moment → (after (state_of old) step).done ≡ with_done (state_of old).done lane → Finishes old new lane
+step_finishes : (old new : List StoryStep) (lane : ℕ) (step : StoryStep) → new ≡ old ++ step ∷ [] → (after (state_of old) step).phase ≡ (state_of old).phase → (after (state_of old) step).number ≡ (state_of old).number → (after (state_of old) step).moment ≡ (state_of old).moment → (after (state_of old) step).done ≡ with_done (state_of old).done lane → Finishes old new lane
 step_finishes old new lane step e phase number moment done =
     let state : state_of new ≡ after (state_of old) step = ap state_of e ∙ state_from-more start old step in
     record {
@@ -73,9 +73,9 @@ step_finishes old new lane step e phase number moment done =
     }
 
 -- a lane's command that was refused is finished
-pub refused_finishes : (old new : List Told) (lane : ℕ) → Acts old new lane dones.Refused → Finishes old new lane
+pub refused_finishes : (old new : List StoryStep) (lane : ℕ) → Acts old new lane dones.Refused → Finishes old new lane
 refused_finishes old new lane acts = by acts.step acts.grows acts.is
   where
-    by : (step : Told) → new ≡ old ++ step ∷ [] → IsStepOf (state_of old) (next_tag (state_of old) lane) dones.Refused step → Finishes old new lane
-    by (told.Other (steps.Refused tag refusal)) e is = step_finishes old new lane (told.Other (steps.Refused tag refusal)) e refl refl refl (ap (λ t. with_done (state_of old).done t.lane) is.0)
+    by : (step : StoryStep) → new ≡ old ++ step ∷ [] → IsStepOf (state_of old) (next_tag (state_of old) lane) dones.Refused step → Finishes old new lane
+    by (story_steps.Other (steps.Refused tag refusal)) e is = step_finishes old new lane (story_steps.Other (steps.Refused tag refusal)) e refl refl refl (ap (λ t. with_done (state_of old).done t.lane) is.0)
     by step e is = absurd is

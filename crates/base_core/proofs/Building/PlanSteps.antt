@@ -1,7 +1,6 @@
 -- What is planned for a lane's next command, which builds, and how the story goes on where the build begins.
-use Rattle.std.proofs.Common.{◌≡◌, ℕ, ◌+◌, ◌≤◌, nat_lt, true, false, Option, Some, None, Result, Ok, Err, List, [], ◌∷◌, length, refl, ap, ap₂, sym, subst, ◌∙◌, arith}
-use Rattle.std.specs.Prelude.{IfOk, IsSome, option_and_then, option_map}
-use Rattle.std.proofs.lemmas.Bool.Decides.{nat_tests}
+use Rattle.std.proofs.Common.{◌≡◌, ℕ, ◌+◌, ◌≤◌, false, Option, Some, None, Result, Ok, Err, List, length, refl, ap, ap₂, sym, subst, ◌∙◌, arith}
+use Rattle.std.specs.Prelude.{IfOk, option_and_then, option_map}
 use Rattle.cc_names.specs.Commands.{lane_at}
 use Rattle.cc_names.specs.declared.commands.Command.{Command}
 use Rattle.cc_names.specs.declared.commands.Command.TheVariants as commands
@@ -13,24 +12,17 @@ use Rattle.cc_names.specs.declared.rows.Tag.{Tag}
 use Rattle.cc_names.specs.declared.units.Unit.{Unit}
 use Rattle.build_core.specs.BuildForms.{IsBuildFormed}
 use Rattle.build_core.specs.Plans.{Meets, Plans}
-use Rattle.legal_history.specs.Base.Rows.{Base, size, first_rows}
+use Rattle.legal_history.specs.Base.Rows.{Base, size}
 use Rattle.legal_history.specs.Builds.Active.{Build, build_of, building, reserved}
 use Rattle.legal_history.specs.Commands.Decisions.{Scene, Begins}
 use Rattle.legal_history.specs.Base.Fits.{row_limit}
 use Rattle.legal_history.specs.Commands.Lines.{decision}
+use Rattle.legal_history.specs.Stories.Commanded.{command_of}
 use Rattle.legal_history.specs.Stories.States.{State, scene, done_of, command_behind, next_tag, next_command, decided}
 use Rattle.legal_history.specs.Stories.Steps.{begun, new_build, units_begun}
-use Rattle.legal_history.specs.Base.Views.{view_row}
 use Rattle.base_core.specs.Calls.Building.{IsBuildKept, PlansNext}
-use Rattle.clearmake.specs.Nexts.{next_of, waiting}
+use Rattle.clearmake.specs.Nexts.{next_of}
 use Rattle.base_core.proofs.Acting.NextCommands.{in_phase, next_is}
-
--- all rows are the first of as many
-all_rows : (b : Base) → first_rows (size b) b ≡ b
-all_rows [] = refl
-all_rows (row ∷ older) =
-    let less : nat_lt (size older) (size (row ∷ older)) ≡ true = grind (arith, nat_tests) in
-    rw (less, first_rows) refl
 
 -- what the build of a command is
 pub record IsNew (tag : Tag) (rows : ℕ) (build : Build) : Type 0 where
@@ -43,8 +35,8 @@ new_is tag rows units (commands.Clearmake v file own_only rebuild jobs macros go
 new_is tag rows units command build e = absurd (cc)
 
 -- what was planned, where the tag is that of the lane's next command
-planned : (s : State) (lane : ℕ) (command : Command) (result : Result Build (Or Refusal)) → build_of s.active lane ≡ None → next_of s lane ≡ nexts.Build (next_tag s lane) → option_and_then (command_behind (done_of s.done lane)) (lane_at s.phase lane) ≡ Some command → Plans (next_tag s lane) (scene s) command result → IfOk result (λ build. IsSome (view_row s.base build.view)) → IfOk result IsBuildFormed → IfOk result (λ build. size s.base + reserved s.active + length build.units ≤ row_limit) → PlansNext s (next_tag s lane) result
-planned s lane command (Ok build) free waiting e plans view formed room =
+planned : (s : State) (lane : ℕ) (command : Command) (result : Result Build (Or Refusal)) → build_of s.active lane ≡ None → next_of s lane ≡ nexts.Build (next_tag s lane) → option_and_then (command_behind (done_of s.done lane)) (lane_at s.phase lane) ≡ Some command → Plans (next_tag s lane) (scene s) command result → IfOk result IsBuildFormed → IfOk result (λ build. size s.base + reserved s.active + length build.units ≤ row_limit) → PlansNext s (next_tag s lane) result
+planned s lane command (Ok build) free waiting e plans formed room =
     let within = in_phase s.phase lane (done_of s.done lane) command e in
     let next : next_command s (next_tag s lane) ≡ Some command = next_is s lane command free e in
     let made : decided s (next_tag s lane) ≡ Some (Ok (Begins build.units)) = ap (option_map (decision (scene s))) next ∙ ap Some plans.0 in
@@ -56,7 +48,6 @@ planned s lane command (Ok build) free waiting e plans view formed room =
       waits = waiting;
       from = omega (arith, new.at_rows);
       rows = omega (arith, new.at_rows);
-      view = subst (λ b. IsSome (view_row b build.view)) (sym (ap (λ n. first_rows n s.base) new.at_rows ∙ all_rows s.base)) view;
       formed = formed;
       sound = new.sound;
     } in (
@@ -74,8 +65,8 @@ planned s lane command (Ok build) free waiting e plans view formed room =
       },
       new.tagged,
     )
-planned s lane command (Err NoMemory) free waiting e plans view formed room = tt
-planned s lane command (Err (Is refusal)) free waiting e plans view formed room =
+planned s lane command (Err NoMemory) free waiting e plans formed room = tt
+planned s lane command (Err (Is refusal)) free waiting e plans formed room =
     let within = in_phase s.phase lane (done_of s.done lane) command e in
     record {
       of_next = record { next = refl; from = within.0; upto = within.1 };
@@ -83,12 +74,11 @@ planned s lane command (Err (Is refusal)) free waiting e plans view formed room 
     }
 
 -- what is planned for a lane's next command
-pub plans_so : (s : State) (lane taken : ℕ) (tag : Tag) (command : Command) (view : List ℕ) (rows : Base) (busy : Option Tag) (result : Result Build (Or Refusal)) → next_of s lane ≡ nexts.Build (next_tag s lane) → build_of s.active lane ≡ None → waiting s lane ≡ Some command → tag ≡ next_tag s lane
+pub plans_so : (s : State) (lane taken : ℕ) (tag : Tag) (command : Command) (view : List ℕ) (rows : Base) (busy : Option Tag) (result : Result Build (Or Refusal)) → next_of s lane ≡ nexts.Build (next_tag s lane) → build_of s.active lane ≡ None → command_of s lane ≡ Some command → tag ≡ next_tag s lane
     → rows ≡ s.base → busy ≡ building s.active view → taken ≡ size s.base + reserved s.active → ((scene : Scene) → Meets scene rows view busy taken → Plans tag scene command result)
-    → IfOk result (λ build. IsSome (view_row rows build.view)) → IfOk result IsBuildFormed → IfOk result (λ build. taken + length build.units ≤ row_limit) → PlansNext s (next_tag s lane) result
-plans_so s lane taken tag command view rows busy result waiting free e tagged rows_are is count plans found formed room =
+    → IfOk result IsBuildFormed → IfOk result (λ build. taken + length build.units ≤ row_limit) → PlansNext s (next_tag s lane) result
+plans_so s lane taken tag command view rows busy result waiting free e tagged rows_are is count plans formed room =
     planned s lane command result free waiting e
     (subst (λ t. Plans t (scene s) command result) tagged (plans (scene s) (record { base = sym rows_are; busy = sym is; taken = sym count })))
-    (subst (λ b. IfOk result (λ build. IsSome (view_row b build.view))) rows_are found)
     formed
     (subst (λ n. IfOk result (λ build. n + length build.units ≤ row_limit)) count room)

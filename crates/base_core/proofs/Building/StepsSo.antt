@@ -18,7 +18,7 @@ use Rattle.legal_history.specs.Builds.Turns.{fault_of, standing_of_unit}
 use Rattle.base_core.specs.Calls.BuildCalls.{MayStart, StepsTo}
 use Rattle.base_core.specs.Calls.Building.{IsBuildKept}
 use Rattle.base_core.proofs.Building.Closing.{build_is_by}
-use Rattle.base_core.proofs.Building.UnitCalls.{early_is, early_settles, awaits_earlier, awaits_needed}
+use Rattle.base_core.proofs.Building.UnitCalls.{early_is, early_concludes, awaits_earlier, awaits_needed}
 
 -- a unit without an outcome waits
 waiting_unit : (s : State) (lane n : ℕ) (build : Build) (unit : Unit) → IsBuildKept s lane build → build_of s.active lane ≡ Some build → unit_at build n ≡ Some unit → is_outcome (came_to build n) ≡ false → Waits s (next_tag s lane) n build unit
@@ -46,7 +46,7 @@ pub steps_so : (s : State) (b : Base) (lane n : ℕ) (build : Build) (step : Uni
 steps_so s b lane n build step kept active within consistent same h = here step (subst (λ c. IsStep c build n step) (sym same) h)
   where
     here : (step : UnitStep) → IsStep s.base build n step → StepsTo s lane n step
-    here next.Settled h = record { build = build; active = active; outcome = h }
+    here next.Concluded h = record { build = build; active = active; outcome = h }
     here (next.NotReady m) h = record {
       build = build;
       active = active;
@@ -62,7 +62,7 @@ steps_so s b lane n build step kept active within consistent same h = here step 
       within = within;
       kept = kept;
       waits = h.waits;
-      settles = early_settles s (next_tag s lane) n end
+      concludes = early_concludes s (next_tag s lane) n end
           (early_is (sees_directory (first_rows build.rows s.base) build.view) (λ path. standing_or_file (sees_file (first_rows build.rows s.base) build.view path) (standing_of_unit build path)) h.unit end h.next.ends)
           (record { build = build; unit = h.unit; waits = waiting_unit s lane n build h.unit kept active h.is_unit h.waits; sound = kept.sound; ready = h.next.ready; ends = h.next.ends });
     }
@@ -72,7 +72,7 @@ steps_so s b lane n build step kept active within consistent same h = here step 
       within = within;
       kept = kept;
       waits = h.waits;
-      settles = record { build = build; unit = h.unit; open_unit = opens s lane n build h.unit kept active h.is_unit h.waits h.next.open_unit; chosen = h.next.chosen; holds = h.next.holds };
+      concludes = record { build = build; unit = h.unit; open_unit = opens s lane n build h.unit kept active h.is_unit h.waits h.next.open_unit; chosen = h.next.chosen; holds = h.next.holds };
     }
     here (next.Wink id) h = record {
       build = build;

@@ -21,25 +21,26 @@ use Rattle.legal_history.specs.Builds.Active.{Build, came_to, is_outcome, unit_a
 use Rattle.legal_history.specs.Base.Closures.{is_among}
 use Rattle.legal_history.specs.Builds.Consistency.{IsConsistent}
 use Rattle.legal_history.specs.Builds.Serials.{Standing, early_end, first_end, no_directory, no_script, outside, is_missing, is_bad}
+use Rattle.legal_history.specs.Stories.Commanded.{command_of}
 use Rattle.legal_history.specs.Stories.States.{State, next_tag}
 use Rattle.legal_history.specs.Builds.UnitTurns.{ComesTo, EndsEarly}
 use Rattle.legal_history.specs.Builds.Turns.{early}
-use Rattle.clearmake.specs.Nexts.{next_of, next_by, waiting}
+use Rattle.clearmake.specs.Nexts.{next_of, next_by}
 use Rattle.base_core.proofs.Keeping.Idle.{some_same}
 
 -- a lane that is to build waits with a command
-pub builds_waits : (s : State) (lane : ℕ) (tag : Tag) → next_of s lane ≡ nexts.Build tag → IsSome (waiting s lane)
-builds_waits s lane tag e = by (waiting s lane) refl e
+pub builds_waits : (s : State) (lane : ℕ) (tag : Tag) → next_of s lane ≡ nexts.Build tag → IsSome (command_of s lane)
+builds_waits s lane tag e = by (command_of s lane) refl e
   where
-    by : (found : Option Command) → waiting s lane ≡ found → next_by found (next_tag s lane) ≡ nexts.Build tag → IsSome (waiting s lane)
+    by : (found : Option Command) → command_of s lane ≡ found → next_by found (next_tag s lane) ≡ nexts.Build tag → IsSome (command_of s lane)
     by None is e = absurd (cc)
     by (Some command) is e = subst IsSome (sym is) refl
 
 -- and so does a lane that is to act
-pub acts_waits : (s : State) (lane : ℕ) → next_of s lane ≡ nexts.Act → IsSome (waiting s lane)
-acts_waits s lane e = by (waiting s lane) refl e
+pub acts_waits : (s : State) (lane : ℕ) → next_of s lane ≡ nexts.Act → IsSome (command_of s lane)
+acts_waits s lane e = by (command_of s lane) refl e
   where
-    by : (found : Option Command) → waiting s lane ≡ found → next_by found (next_tag s lane) ≡ nexts.Act → IsSome (waiting s lane)
+    by : (found : Option Command) → command_of s lane ≡ found → next_by found (next_tag s lane) ≡ nexts.Act → IsSome (command_of s lane)
     by None is e = absurd (cc)
     by (Some command) is e = subst IsSome (sym is) refl
 
@@ -75,11 +76,11 @@ early_is is_directory standing unit end e =
     (λ e2 h2. one_or_rest (option_map ends.Blocked (find (λ path. is_bad (standing path)) unit.prerequisites)) _ e2 (λ o. mapped_early ends.Blocked _ o (λ path. tt))
     (λ e3 h3. one_or_rest (no_script unit.targets unit.script) [] e3 (no_script_early unit.targets unit.script) (λ e4 h4. absurd (cc)) h3) h2) h1) e
 
--- a unit that ends early may settle so
-pub early_settles : (s : State) (tag : Tag) (n : ℕ) (end : UnitEnd) → IsEarly end → EndsEarly s tag n end → ComesTo s tag n end
-early_settles s tag n (ends.Kept id) early h = absurd early
-early_settles s tag n (ends.Failed (faults.Script fault)) early h = absurd early
-early_settles s tag n end early h = h
+-- a unit that ends early may be concluded so
+pub early_concludes : (s : State) (tag : Tag) (n : ℕ) (end : UnitEnd) → IsEarly end → EndsEarly s tag n end → ComesTo s tag n end
+early_concludes s tag n (ends.Kept id) early h = absurd early
+early_concludes s tag n (ends.Failed (faults.Script fault)) early h = absurd early
+early_concludes s tag n end early h = h
 
 -- one of some paths, which a unit makes
 abbrev IsMade : Build → List (List ℕ) → ℕ → Type 0

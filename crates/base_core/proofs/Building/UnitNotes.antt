@@ -5,8 +5,8 @@ use Rattle.std.specs.Ordering.{nat_cmp}
 use Rattle.std.specs.FinMap.Entries.{put}
 use Rattle.cc_names.specs.declared.replies.Reply.{Reply}
 use Rattle.cc_names.specs.declared.steps.Step.{Step}
-use Rattle.cc_names.specs.declared.steps.Told.{Told}
-use Rattle.cc_names.specs.declared.steps.Told.TheVariants as told
+use Rattle.cc_names.specs.declared.steps.StoryStep.{StoryStep}
+use Rattle.cc_names.specs.declared.steps.StoryStep.TheVariants as story_steps
 use Rattle.legal_history.specs.Builds.Active.{Build, Came, build_of, came_to, is_outcome}
 use Rattle.legal_history.specs.Stories.States.{State, start}
 use Rattle.legal_history.specs.Stories.Steps.{state_of, with_came}
@@ -24,7 +24,7 @@ use Rattle.base_core.proofs.Keeping.LaneSlots.{lane_slot, found_put, found_else}
 use Rattle.base_core.proofs.Building.Noting.{kept_note}
 
 -- the replies after a step that names no phase
-replies_alone : (s : State) (step : Step) (replies : ℕ → List Reply) (l : ℕ) → stands_alone step ≡ true → replies_after s (told.Other step) replies l ≡ replies l ++ replies_by s l (told.Other step)
+replies_alone : (s : State) (step : Step) (replies : ℕ → List Reply) (l : ℕ) → stands_alone step ≡ true → replies_after s (story_steps.Other step) replies l ≡ replies l ++ replies_by s l (story_steps.Other step)
 replies_alone s step replies l h = refl
 
 -- a test does not hold and fail
@@ -32,7 +32,7 @@ true_or_false : (b : Bool) → b ≡ true → b ≡ false → ⊥
 true_or_false b t f = cc
 
 -- what is kept then
-pub kept_noted : (log : Logged) (lanes more : List LaneKept) (now : ℕ) (story : List Told) (lane n : ℕ) (step : Step) (came : Came) → log.story ≡ story → IsCoreKept log lanes now → Notes (state_of story) lane n step came
+pub kept_noted : (log : Logged) (lanes more : List LaneKept) (now : ℕ) (story : List StoryStep) (lane n : ℕ) (step : Step) (came : Came) → log.story ≡ story → IsCoreKept log lanes now → Notes (state_of story) lane n step came
     → ((build : Build) → build_at lanes lane ≡ Some build → more ≡ put_build lanes lane (Some (with_came build (Some n) came))) → IsCoreKept (with_step log step) more now
 kept_noted log lanes more now story lane n step came same h notes set_so =
     let here : Notes (state_of log.story) lane n step came = subst (λ t. Notes (state_of t) lane n step came) (sym same) notes in
@@ -50,11 +50,11 @@ outcome_noted build n m came waits over = by (one_or_two m n)
     by (inr differs) = ap is_outcome (found_else n m came build.comes differs) ∙ over
 
 -- how the story went on
-pub noted_so : (log : Logged) (story : List Told) (lane n : ℕ) (step : Step) (came : Came) → log.story ≡ story → Notes (state_of story) lane n step came → Noted story (with_step log step).story lane n came
+pub noted_so : (log : Logged) (story : List StoryStep) (lane n : ℕ) (step : Step) (came : Came) → log.story ≡ story → Notes (state_of story) lane n step came → Noted story (with_step log step).story lane n came
 noted_so log story lane n step came same notes = record {
   goes = record {
-    steps = told.Other step ∷ [];
-    grows = ap (λ t. t ++ told.Other step ∷ []) same;
+    steps = story_steps.Other step ∷ [];
+    grows = ap (λ t. t ++ story_steps.Other step ∷ []) same;
     phase = record { phase = ap (λ t. t.phase) state; number = ap (λ t. t.number) state; moment = ap (λ t. t.moment) state };
     done = ap (λ t. t.done) state;
     still = λ build is. still build (some_same notes.build build (sym notes.active ∙ is));
@@ -70,12 +70,12 @@ noted_so log story lane n step came same notes = record {
     noted : Build
     noted = with_came notes.build (Some n) came
 
-    state : state_of (log.story ++ told.Other step ∷ []) ≡ record s { active = put nat_cmp lane noted s.active }
-    state = ap (λ t. state_of (t ++ told.Other step ∷ [])) same ∙ state_from-more start story (told.Other step) ∙ notes.leaves
+    state : state_of (log.story ++ story_steps.Other step ∷ []) ≡ record s { active = put nat_cmp lane noted s.active }
+    state = ap (λ t. state_of (t ++ story_steps.Other step ∷ [])) same ∙ state_from-more start story (story_steps.Other step) ∙ notes.leaves
 
-    active : build_of (state_of (log.story ++ told.Other step ∷ [])).active lane ≡ Some noted
+    active : build_of (state_of (log.story ++ story_steps.Other step ∷ [])).active lane ≡ Some noted
     active = ap (λ t. build_of t.active lane) state ∙ found_put lane noted s.active
 
-    still : (build : Build) → notes.build ≡ build → BuildsOn (state_of (log.story ++ told.Other step ∷ [])) lane build
-    still build e = subst (λ b. BuildsOn (state_of (log.story ++ told.Other step ∷ [])) lane b) e
+    still : (build : Build) → notes.build ≡ build → BuildsOn (state_of (log.story ++ story_steps.Other step ∷ [])) lane build
+    still build e = subst (λ b. BuildsOn (state_of (log.story ++ story_steps.Other step ∷ [])) lane b) e
         (record { build = noted; active = active; units = refl; outcomes = λ m over. outcome_noted notes.build n m came notes.waits over })

@@ -13,7 +13,7 @@ use Rattle.cc_names.specs.declared.rows.Deed.{Deed}
 use Rattle.cc_names.specs.declared.rows.Deed.TheVariants as deeds
 use Rattle.cc_names.specs.declared.rows.ReadOf.{ReadOf}
 use Rattle.cc_names.specs.declared.rows.Tag.{Tag}
-use Rattle.cc_names.specs.declared.steps.Told.TheVariants as told
+use Rattle.cc_names.specs.declared.steps.StoryStep.TheVariants as story_steps
 use Rattle.cc_names.specs.declared.units.Unit.{Unit}
 use Rattle.build_core.specs.BuildForms.{IsUnitFormed}
 use Rattle.legal_history.specs.Base.Changes.{targets_of}
@@ -49,7 +49,7 @@ pub record Gives (s : State) (lane n : ℕ) (row : Plain) (object : ℕ) : Type 
   pub of_tag : row.tag ≡ next_tag s lane
   pub made : is_made row.deed ≡ true
   pub may : MayCommit s row
-  pub leaves : (tick : ℕ) → after s (told.Commit row tick) ≡ given_state s lane n build row object tick
+  pub leaves : (tick : ℕ) → after s (story_steps.Commit row tick) ≡ given_state s lane n build row object tick
   pub silent : reply_to_row (row ∷ s.base) row.deed ≡ None
 
 -- a list that holds at each place holds at this one

@@ -5,8 +5,8 @@ use Rattle.std.specs.Prelude.{MatchOption, slice_get}
 use Rattle.cc_names.specs.Commands.{lane_at}
 use Rattle.cc_names.specs.declared.commands.Lane.{Lane}
 use Rattle.cc_names.specs.declared.commands.Phase.{Phase}
-use Rattle.cc_names.specs.declared.steps.Told.{Told}
-use Rattle.cc_names.specs.declared.steps.Told.TheVariants as told
+use Rattle.cc_names.specs.declared.steps.StoryStep.{StoryStep}
+use Rattle.cc_names.specs.declared.steps.StoryStep.TheVariants as story_steps
 use Rattle.session_text.specs.Formed.{IsPhase}
 use Rattle.carried_out.specs.CarriedOut.{AreCarriedOut}
 use Rattle.build_core.specs.Slots.{numbered}
@@ -94,8 +94,8 @@ kept_plan log lanes now moment phase h finished formed carried few in_time = rec
     s : State
     s = state_of log.story
 
-    x : Told
-    x = told.Plan phase moment
+    x : StoryStep
+    x = story_steps.PhaseBegun phase moment
 
     more : state_of (log.story ++ x ∷ []) ≡ after s x
     more = state_from-more start log.story x

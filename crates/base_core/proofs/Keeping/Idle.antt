@@ -14,12 +14,13 @@ use Rattle.legal_history.specs.Base.Rows.{only_where}
 use Rattle.legal_history.specs.Builds.Active.{Build, build_of}
 use Rattle.legal_history.specs.Commands.Decisions.{Decision}
 use Rattle.legal_history.specs.Commands.Lines.{decision}
+use Rattle.legal_history.specs.Stories.Commanded.{command_of}
 use Rattle.legal_history.specs.Stories.States.{State, scene, done_of, command_behind, lanes_done, all_done, same_tag, next_tag, decided}
 use Rattle.legal_history.specs.Stories.Steps.{state_of}
 use Rattle.base_core.specs.Keeping.Kept.{IsCoreKept}
 use Rattle.base_core.specs.Keeping.Lanes.{LaneKept, builds_in}
 use Rattle.base_core.specs.Logging.Logs.{Logged}
-use Rattle.clearmake.specs.Nexts.{waiting, next_by, next_of}
+use Rattle.clearmake.specs.Nexts.{next_by, next_of}
 use Rattle.build_core.proofs.SlotLaws.{find_numbered}
 
 -- nothing is not something
@@ -48,7 +49,7 @@ none_behind done n (suc i) (lane ∷ lanes) h =
     ∙ none_behind done (n + 1) i lanes (both (done_of done n == length lane.commands) (lanes_done done (n + 1) lanes) h).1
 
 -- where each command is finished, no lane waits for one
-pub none_waits : (s : State) (lane : ℕ) → all_done s ≡ true → waiting s lane ≡ None
+pub none_waits : (s : State) (lane : ℕ) → all_done s ≡ true → command_of s lane ≡ None
 none_waits s zero h = refl
 none_waits s (suc i) h =
     let here : suc i ≡ 1 + i = omega arith in
@@ -100,10 +101,10 @@ decided_is_free s tag result e = by (same_tag tag (next_tag s tag.lane)) (build_
     by false (Some build) is some e = absurd (cc)
 
 -- and that lane waits with a command
-pub decided_waits : (s : State) (tag : Tag) (result : Result Decision Refusal) → decided s tag ≡ Some result → IsSome (waiting s tag.lane)
-decided_waits s tag result e = by (same_tag tag (next_tag s tag.lane) && is_none (build_of s.active tag.lane)) (waiting s tag.lane) refl e
+pub decided_waits : (s : State) (tag : Tag) (result : Result Decision Refusal) → decided s tag ≡ Some result → IsSome (command_of s tag.lane)
+decided_waits s tag result e = by (same_tag tag (next_tag s tag.lane) && is_none (build_of s.active tag.lane)) (command_of s tag.lane) refl e
   where
-    by : (free : Bool) (found : Option Command) → waiting s tag.lane ≡ found → option_map (decision (scene s)) (only_where free found) ≡ Some result → IsSome (waiting s tag.lane)
+    by : (free : Bool) (found : Option Command) → command_of s tag.lane ≡ found → option_map (decision (scene s)) (only_where free found) ≡ Some result → IsSome (command_of s tag.lane)
     by free (Some command) is e = subst IsSome (sym is) refl
     by true None is e = absurd (cc)
     by false None is e = absurd (cc)

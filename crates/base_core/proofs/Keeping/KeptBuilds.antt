@@ -4,7 +4,7 @@ use Rattle.std.proofs.lemmas.List.{length-set}
 use Rattle.cc_names.specs.Formed.{Plain}
 use Rattle.build_core.specs.Slots.{numbered, held_in}
 use Rattle.legal_history.specs.Base.Fits.{row_limit}
-use Rattle.legal_history.specs.Base.Rows.{size, first_rows}
+use Rattle.legal_history.specs.Base.Rows.{size}
 use Rattle.legal_history.specs.Builds.Active.{Build, build_of, reserved}
 use Rattle.legal_history.specs.Stories.States.{State, done_of}
 use Rattle.base_core.specs.Calls.Building.{IsBuildKept}
@@ -12,22 +12,21 @@ use Rattle.clearmake.specs.Going.{SamePhase}
 use Rattle.base_core.specs.Keeping.Kept.{AreBuilds}
 use Rattle.base_core.proofs.Keeping.LaneCounts.{one_or_two}
 use Rattle.base_core.proofs.Keeping.Reserving.{found_set, found_other, reserved_set, rows_for}
-use Rattle.base_core.proofs.Keeping.Staying.{first_stay, build_stays}
+use Rattle.base_core.proofs.Keeping.Staying.{build_stays}
 
--- the first rows stay, and more may come
+-- more rows may come
 pub record KeepsRows (s t : State) : Type 0 where
-  pub first : (n : ℕ) → n ≤ size s.base → first_rows n t.base ≡ first_rows n s.base
   pub grows : size s.base ≤ size t.base
 
 pub same_rows : (s t : State) → t.base ≡ s.base → KeepsRows s t
-same_rows s t e = record { first = λ n within. ap (first_rows n) e; grows = omega (arith, ap size e) }
+same_rows s t e = record { grows = omega (arith, ap size e) }
 
 pub more_rows : (s t : State) (row : Plain) → t.base ≡ row ∷ s.base → KeepsRows s t
-more_rows s t row e = record { first = λ n within. ap (first_rows n) e ∙ first_stay row s.base n within; grows = omega (arith, ap size e) }
+more_rows s t row e = record { grows = omega (arith, ap size e) }
 
 -- a build of which its lane has finished no command since is kept
 pub stays : (s t : State) (lane : ℕ) (build : Build) → SamePhase s t → KeepsRows s t → done_of t.done lane ≡ done_of s.done lane → IsBuildKept s lane build → IsBuildKept t lane build
-stays s t lane build same rows done kept = build_stays s t lane build kept same.phase same.number done (rows.first build.rows kept.rows) rows.grows
+stays s t lane build same rows done kept = build_stays s t lane build kept same.phase same.number done rows.grows
 
 -- the builds are as they were
 pub builds_stay : (s t : State) (builds : List (Option Build)) → AreBuilds s builds → SamePhase s t → KeepsRows s t → t.active ≡ s.active

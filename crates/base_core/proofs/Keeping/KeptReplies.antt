@@ -5,7 +5,7 @@ use Rattle.cc_names.specs.Commands.{lane_at}
 use Rattle.cc_names.specs.declared.commands.Lane.{Lane}
 use Rattle.cc_names.specs.declared.replies.Reply.{Reply}
 use Rattle.cc_names.specs.declared.rows.Tag.{Tag}
-use Rattle.cc_names.specs.declared.steps.Told.{Told}
+use Rattle.cc_names.specs.declared.steps.StoryStep.{StoryStep}
 use Rattle.legal_history.specs.Stories.States.{start, done_of, with_done}
 use Rattle.legal_history.specs.Stories.Steps.{after, state_of}
 use Rattle.base_core.specs.Keeping.Kept.{AreReplies}
@@ -16,7 +16,7 @@ use Rattle.base_core.proofs.Keeping.LaneCounts.{done_same, done_other, in_same, 
 use Rattle.base_core.proofs.Keeping.LaneSets.{shared}
 
 -- a step with which one lane finishes a command
-pub replies_more : (story : List Told) (x : Told) (lanes : List LaneKept) (tag : Tag) (reply : Reply) (kept : LaneKept) → AreReplies story lanes → 1 ≤ tag.lane → tag.lane ≤ length lanes
+pub replies_more : (story : List StoryStep) (x : StoryStep) (lanes : List LaneKept) (tag : Tag) (reply : Reply) (kept : LaneKept) → AreReplies story lanes → 1 ≤ tag.lane → tag.lane ≤ length lanes
     → ((l : ℕ) → replies_after (state_of story) x (replies_of story) l ≡ replies_of story l ++ in_lane l tag (Some reply))
     → (after (state_of story) x).done ≡ with_done (state_of story).done tag.lane → (after (state_of story) x).phase ≡ (state_of story).phase
     → kept.replies ≡ replies_at lanes tag.lane ++ reply ∷ [] → kept.room ≡ room_at lanes tag.lane → kept.commands ≡ drop 1 (commands_at lanes tag.lane)
@@ -29,7 +29,7 @@ replies_more story x lanes tag reply kept h low high said done phase replies_are
   left = λ l one is. still l one (ap (λ p. lane_at p l) (sym same_phase) ∙ is) (one_or_two l tag.lane);
 }
   where
-    more : List Told
+    more : List StoryStep
     more = story ++ x ∷ []
 
     same_phase : (state_of more).phase ≡ (state_of story).phase
@@ -85,7 +85,7 @@ same_where_set lanes lane kept low high replies room commands = record {
 }
 
 -- a step that replies nothing
-pub replies_stay : (story : List Told) (x : Told) (lanes more : List LaneKept) → AreReplies story lanes → SameReplies lanes more → ((l : ℕ) → replies_after (state_of story) x (replies_of story) l ≡ replies_of story l)
+pub replies_stay : (story : List StoryStep) (x : StoryStep) (lanes more : List LaneKept) → AreReplies story lanes → SameReplies lanes more → ((l : ℕ) → replies_after (state_of story) x (replies_of story) l ≡ replies_of story l)
     → (after (state_of story) x).done ≡ (state_of story).done → (after (state_of story) x).phase ≡ (state_of story).phase → AreReplies (story ++ x ∷ []) more
 replies_stay story x lanes more h same said done phase =
     let grown : (l : ℕ) → replies_of (story ++ x ∷ []) l ≡ replies_of story l = λ l. ap (λ f. f l) (replies_from-more start no_replies story x) ∙ said l in

@@ -7,8 +7,8 @@ use Rattle.cc_names.specs.declared.commands.Phase.{Phase}
 use Rattle.cc_names.specs.declared.replies.Reply.{Reply}
 use Rattle.cc_names.specs.declared.rows.Tag.{Tag}
 use Rattle.cc_names.specs.declared.steps.Step.TheVariants as steps
-use Rattle.cc_names.specs.declared.steps.Told.{Told}
-use Rattle.cc_names.specs.declared.steps.Told.TheVariants as told
+use Rattle.cc_names.specs.declared.steps.StoryStep.{StoryStep}
+use Rattle.cc_names.specs.declared.steps.StoryStep.TheVariants as story_steps
 use Rattle.build_core.specs.Slots.{numbered}
 use Rattle.disk_model.specs.Told.{Sight}
 use Rattle.legal_history.specs.Base.Fits.{row_limit}
@@ -36,22 +36,22 @@ use Rattle.base_core.proofs.Story.Naming.{names_more}
 use Rattle.base_core.proofs.Keeping.Reserving.{rows_for}
 
 -- the log with one more step, which leads to this base
-abbrev pub log_more : Logged → Told → Base → Sight → Logged
+abbrev pub log_more : Logged → StoryStep → Base → Sight → Logged
 log_more log x base sight = record { story = log.story ++ x ∷ []; base = base; phases = log.phases; sight = sight }
 
 -- a lawful step that leads to this base, and names readable rows alone
-pub record MayTell (s : State) (x : Told) (base : Base) : Type 0 where
+pub record MayTell (s : State) (x : StoryStep) (base : Base) : Type 0 where
   pub lawful : Lawful s x
   pub names : NamesOnly IsReadable x
   pub leads : (after s x).base ≡ base
 
-opened_more : (s : State) (x : Told) → is_some s.opened ≡ true → is_some (after s x).opened ≡ true
-opened_more s (told.Opened rows counts tells) h = refl
-opened_more s (told.Other (steps.Fault tag left before faults tick)) h = h
+opened_more : (s : State) (x : StoryStep) → is_some s.opened ≡ true → is_some (after s x).opened ≡ true
+opened_more s (story_steps.Opened rows counts tells) h = refl
+opened_more s (story_steps.Other (steps.Fault tag left before faults tick)) h = h
 opened_more s x h = h
 
 -- the story
-pub story_more : (log : Logged) (x : Told) (base : Base) (sight : Sight) → IsStoryKept log → MayTell (state_of log.story) x base → IsStoryKept (log_more log x base sight)
+pub story_more : (log : Logged) (x : StoryStep) (base : Base) (sight : Sight) → IsStoryKept log → MayTell (state_of log.story) x base → IsStoryKept (log_more log x base sight)
 story_more log x base sight h may =
     let more : state_of (log.story ++ x ∷ []) ≡ after (state_of log.story) x = state_from-more start log.story x in
     record {
@@ -74,7 +74,7 @@ phase_stays s t phases now h same = record {
 }
 
 -- A step with which a lane that does not build finishes its command.
-pub record FinishesOne (story : List Told) (x : Told) (tag : Tag) (reply : Reply) : Type 0 where
+pub record FinishesOne (story : List StoryStep) (x : StoryStep) (tag : Tag) (reply : Reply) : Type 0 where
   pub free : build_of (state_of story).active tag.lane ≡ None
   pub same : SamePhase (state_of story) (after (state_of story) x)
   pub rows : KeepsRows (state_of story) (after (state_of story) x)
@@ -82,7 +82,7 @@ pub record FinishesOne (story : List Told) (x : Told) (tag : Tag) (reply : Reply
   pub done : (after (state_of story) x).done ≡ with_done (state_of story).done tag.lane
   pub said : (l : ℕ) → replies_after (state_of story) x (replies_of story) l ≡ replies_of story l ++ in_lane l tag (Some reply)
 
-pub kept_finished : (log : Logged) (lanes : List LaneKept) (now : ℕ) (x : Told) (base : Base) (sight : Sight) (tag : Tag) (reply : Reply) → IsCoreKept log lanes now → 1 ≤ tag.lane → tag.lane ≤ length lanes
+pub kept_finished : (log : Logged) (lanes : List LaneKept) (now : ℕ) (x : StoryStep) (base : Base) (sight : Sight) (tag : Tag) (reply : Reply) → IsCoreKept log lanes now → 1 ≤ tag.lane → tag.lane ≤ length lanes
     → MayTell (state_of log.story) x base → FinishesOne log.story x tag reply → IsCoreKept (log_more log x base sight) (with_reply lanes tag.lane reply) now
 kept_finished log lanes now x base sight tag reply h low high may finishes = record {
   story = story_more log x base sight h.story may;
@@ -105,7 +105,7 @@ kept_finished log lanes now x base sight tag reply h low high may finishes = rec
     still lane build is = ap (λ d. done_of d lane) finishes.done ∙ done_other s.done tag.lane lane (λ e. not_both (build_of s.active lane) build (ap (build_of s.active) e ∙ finishes.free) is)
 
 -- A step by which a lane has this build, and replies nothing.
-pub record PutsBuild (story : List Told) (x : Told) (lane : ℕ) (build : Build) : Type 0 where
+pub record PutsBuild (story : List StoryStep) (x : StoryStep) (lane : ℕ) (build : Build) : Type 0 where
   pub same : SamePhase (state_of story) (after (state_of story) x)
   pub rows : KeepsRows (state_of story) (after (state_of story) x)
   pub active : (after (state_of story) x).active ≡ put nat_cmp lane build (state_of story).active
@@ -114,7 +114,7 @@ pub record PutsBuild (story : List Told) (x : Told) (lane : ℕ) (build : Build)
   pub kept : IsBuildKept (state_of story) lane build
   pub room : reserved (state_of story).active + length build.units ≤ row_limit + rows_for (build_of (state_of story).active lane)
 
-pub kept_put : (log : Logged) (lanes : List LaneKept) (now : ℕ) (x : Told) (base : Base) (sight : Sight) (lane : ℕ) (build : Build) → IsCoreKept log lanes now → 1 ≤ lane → lane ≤ length lanes
+pub kept_put : (log : Logged) (lanes : List LaneKept) (now : ℕ) (x : StoryStep) (base : Base) (sight : Sight) (lane : ℕ) (build : Build) → IsCoreKept log lanes now → 1 ≤ lane → lane ≤ length lanes
     → MayTell (state_of log.story) x base → PutsBuild log.story x lane build → IsCoreKept (log_more log x base sight) (put_build lanes lane (Some build)) now
 kept_put log lanes now x base sight lane build h low high may puts = record {
   story = story_more log x base sight h.story may;

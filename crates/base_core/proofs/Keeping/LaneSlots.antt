@@ -10,12 +10,12 @@ use Rattle.cc_names.specs.declared.commands.Command.{Command}
 use Rattle.cc_names.specs.declared.commands.Lane.{Lane}
 use Rattle.build_core.specs.Slots.{numbered, held_in}
 use Rattle.legal_history.specs.Builds.Active.{Build, build_of}
+use Rattle.legal_history.specs.Stories.Commanded.{command_of}
 use Rattle.legal_history.specs.Stories.States.{State, command_behind, done_of}
 use Rattle.legal_history.specs.Stories.Steps.{state_of}
 use Rattle.base_core.specs.Keeping.Kept.{IsCoreKept}
 use Rattle.base_core.specs.Keeping.Lanes.{LaneKept, build_at, builds_in, replies_at, room_at}
 use Rattle.base_core.specs.Logging.Logs.{Logged}
-use Rattle.clearmake.specs.Nexts.{waiting}
 use Rattle.base_core.proofs.Keeping.Idle.{build_in_slot, not_both}
 use Rattle.base_core.proofs.Keeping.LaneSets.{builds_count, builds_held}
 use Rattle.base_core.proofs.Keeping.SlotLists.{build_nowhere, build_zero}
@@ -59,7 +59,7 @@ pub record HasRoom (lanes : List LaneKept) (lane : ℕ) : Type 0 where
   pub room : length (replies_at lanes lane) < room_at lanes lane
 
 -- a lane that waits with a command has room for its reply
-pub has_room : (log : Logged) (lanes : List LaneKept) (now lane : ℕ) → IsCoreKept log lanes now → IsSome (waiting (state_of log.story) lane) → HasRoom lanes lane
+pub has_room : (log : Logged) (lanes : List LaneKept) (now lane : ℕ) → IsCoreKept log lanes now → IsSome (command_of (state_of log.story) lane) → HasRoom lanes lane
 has_room log lanes now zero h waits = absurd (cc)
 has_room log lanes now (suc n) h waits = by (slice_get s.phase.lanes n) refl waits
   where

@@ -11,16 +11,17 @@ use Rattle.cc_names.specs.declared.commands.Lane.{Lane}
 use Rattle.cc_names.specs.declared.desks.Next.{Next}
 use Rattle.cc_names.specs.declared.desks.Next.TheVariants as nexts
 use Rattle.cc_names.specs.declared.rows.Tag.{Tag}
-use Rattle.cc_names.specs.declared.steps.Told.{Told}
+use Rattle.cc_names.specs.declared.steps.StoryStep.{StoryStep}
 use Rattle.session_text.specs.declared.lanes.Ahead.{Ahead}
 use Rattle.session_text.specs.declared.lanes.Ahead.TheVariants as aheads
 use Rattle.session_text.specs.Ahead.{ahead_of}
 use Rattle.session_text.specs.Formed.{IsCommand, IsPhase}
+use Rattle.legal_history.specs.Stories.Commanded.{command_of}
 use Rattle.legal_history.specs.Stories.States.{State, done_of, command_behind, next_tag}
 use Rattle.legal_history.specs.Stories.Steps.{state_of}
 use Rattle.base_core.specs.Keeping.Kept.{command_limit, IsCoreKept}
 use Rattle.base_core.specs.Keeping.Lanes.{LaneKept, no_lane, next_of_kept, next_in}
-use Rattle.clearmake.specs.Nexts.{waiting, next_by, next_of}
+use Rattle.clearmake.specs.Nexts.{next_by, next_of}
 use Rattle.base_core.specs.Logging.Logs.{Logged}
 use Rattle.base_core.proofs.Acting.Commanded.{next_is_formed, next_is_carried_out}
 use Rattle.base_core.proofs.Keeping.Idle.{not_both}
@@ -42,7 +43,7 @@ first_left (suc n) [] = refl
 first_left (suc n) (x ∷ xs) = first_left n xs
 
 -- a lane's next command by the commands that are kept is that by the story
-pub next_kept : (log : Logged) (lanes : List LaneKept) (now lane : ℕ) → IsCoreKept log lanes now → next_in lanes lane ≡ waiting (state_of log.story) lane
+pub next_kept : (log : Logged) (lanes : List LaneKept) (now lane : ℕ) → IsCoreKept log lanes now → next_in lanes lane ≡ command_of (state_of log.story) lane
 next_kept log lanes now zero h = refl
 next_kept log lanes now (suc n) h = by (slice_get s.phase.lanes n) refl
   where
@@ -63,8 +64,8 @@ next_kept log lanes now (suc n) h = by (slice_get s.phase.lanes n) refl
         let left : (get_or lanes n no_lane).commands ≡ drop (done_of s.done (suc n)) one.commands = ap (λ i. (get_or lanes i no_lane).commands) (sym here) ∙ h.replies.left (suc n) one is in
         ap (option_and_then next_of_kept) there ∙ ap (λ (v : List Command). slice_get v 0) left ∙ first_left (done_of s.done (suc n)) one.commands
 
-pub waits_kept : (log : Logged) (lanes : List LaneKept) (now lane : ℕ) (story : List Told) → log.story ≡ story → IsCoreKept log lanes now → waiting (state_of story) lane ≡ next_in lanes lane
-waits_kept log lanes now lane story same h = ap (λ t. waiting (state_of t) lane) (sym same) ∙ sym (next_kept log lanes now lane h)
+pub waits_kept : (log : Logged) (lanes : List LaneKept) (now lane : ℕ) (story : List StoryStep) → log.story ≡ story → IsCoreKept log lanes now → command_of (state_of story) lane ≡ next_in lanes lane
+waits_kept log lanes now lane story same h = ap (λ t. command_of (state_of t) lane) (sym same) ∙ sym (next_kept log lanes now lane h)
 
 -- what a lane has to do by what its next command asks for
 abbrev pub next_ahead : Ahead → Tag → Next
@@ -77,10 +78,10 @@ by_ahead None tag = refl
 by_ahead (Some (commands.Clearmake view file own_only rebuild jobs macros goals)) tag = refl
 by_ahead (Some command) tag = refl
 
-pub next_so : (log : Logged) (lanes : List LaneKept) (now lane : ℕ) (story : List Told) (ahead : Ahead) → log.story ≡ story → IsCoreKept log lanes now → ahead ≡ ahead_of (next_in lanes lane) → next_of (state_of story) lane ≡ next_ahead ahead (next_tag (state_of story) lane)
+pub next_so : (log : Logged) (lanes : List LaneKept) (now lane : ℕ) (story : List StoryStep) (ahead : Ahead) → log.story ≡ story → IsCoreKept log lanes now → ahead ≡ ahead_of (next_in lanes lane) → next_of (state_of story) lane ≡ next_ahead ahead (next_tag (state_of story) lane)
 next_so log lanes now lane story ahead same h is =
     let tag : Tag = next_tag (state_of story) lane in
-    by_ahead (waiting (state_of story) lane) tag
+    by_ahead (command_of (state_of story) lane) tag
     ∙ ap (λ found. next_ahead (ahead_of found) tag) (waits_kept log lanes now lane story same h)
     ∙ ap (λ a. next_ahead a tag) (sym is)
 
@@ -89,7 +90,7 @@ some_builds None e = cc
 some_builds (Some command) e = refl
 
 -- a lane whose next command builds waits with it
-pub waits_to_build : (log : Logged) (lanes : List LaneKept) (now lane : ℕ) (story : List Told) → log.story ≡ story → IsCoreKept log lanes now → ahead_of (next_in lanes lane) ≡ aheads.Build → IsSome (waiting (state_of story) lane)
+pub waits_to_build : (log : Logged) (lanes : List LaneKept) (now lane : ℕ) (story : List StoryStep) → log.story ≡ story → IsCoreKept log lanes now → ahead_of (next_in lanes lane) ≡ aheads.Build → IsSome (command_of (state_of story) lane)
 waits_to_build log lanes now lane story same h is = subst IsSome (sym (waits_kept log lanes now lane story same h)) (some_builds (next_in lanes lane) is)
 
 -- the command that is kept as the next one has its form, and is carried out

@@ -5,7 +5,7 @@ use Rattle.cc_names.specs.declared.commands.Phase.{Phase}
 use Rattle.cc_names.specs.declared.rows.Tag.{Tag}
 use Rattle.cc_names.specs.declared.steps.Step.{Step}
 use Rattle.cc_names.specs.declared.steps.Step.TheVariants as steps
-use Rattle.cc_names.specs.declared.steps.Told.TheVariants as told
+use Rattle.cc_names.specs.declared.steps.StoryStep.TheVariants as story_steps
 use Rattle.legal_history.specs.Stories.States.{State, hanging}
 use Rattle.legal_history.specs.Stories.Steps.{after, state_from}
 use Rattle.base_core.specs.Logging.Leaving.{left_by}
@@ -16,13 +16,13 @@ use Rattle.base_core.specs.Story.Handed.{Handed}
 pub left_by-last : (left : Option Plain) (earlier : List Step) (step : Step) → left_by left (earlier ++ step ∷ []) ≡ left_by (left_by left earlier) (step ∷ [])
 left_by-last left [] step = refl
 left_by-last left (steps.Opened n ∷ earlier) step = left_by-last left earlier step
-left_by-last left (steps.Plan number moment ∷ earlier) step = left_by-last left earlier step
+left_by-last left (steps.PhaseBegun number moment ∷ earlier) step = left_by-last left earlier step
 left_by-last left (steps.Commit tag number tick ∷ earlier) step = left_by-last None earlier step
 left_by-last left (steps.Refused tag refusal ∷ earlier) step = left_by-last left earlier step
 left_by-last left (steps.Answer tag text ∷ earlier) step = left_by-last left earlier step
 left_by-last left (steps.Begin tag rows units ∷ earlier) step = left_by-last left earlier step
 left_by-last left (steps.Start tag unit ∷ earlier) step = left_by-last left earlier step
-left_by-last left (steps.Settled tag unit outcome ∷ earlier) step = left_by-last left earlier step
+left_by-last left (steps.Concluded tag unit outcome ∷ earlier) step = left_by-last left earlier step
 left_by-last left (steps.End tag ∷ earlier) step = left_by-last left earlier step
 left_by-last left (steps.Fault tag found before faults tick ∷ earlier) step = left_by-last found earlier step
 
@@ -36,17 +36,17 @@ left_by-other left step no_commit no_fault = refl
 hanging_by : (on : Handed) (n p : ℕ) (kept : List Step) (rows : List Plain) (phases : List Phase) (s : State) → AreTold n p kept rows phases → hanging (state_from s (story_of on kept rows phases)).ends ≡ left_by (hanging s.ends) kept
 hanging_by on n p [] rows phases s h = refl
 hanging_by on n p (steps.Opened m ∷ kept) rows phases s h = hanging_by on (n + (m - 1)) p kept (drop (m - 1) rows) phases _ h.2
-hanging_by on n p (steps.Plan number moment ∷ kept) rows [] s h = absurd h
-hanging_by on n p (steps.Plan number moment ∷ kept) rows (phase ∷ phases) s h = hanging_by on n (p + 1) kept rows phases (after s (told.Plan phase moment)) h.1
+hanging_by on n p (steps.PhaseBegun number moment ∷ kept) rows [] s h = absurd h
+hanging_by on n p (steps.PhaseBegun number moment ∷ kept) rows (phase ∷ phases) s h = hanging_by on n (p + 1) kept rows phases (after s (story_steps.PhaseBegun phase moment)) h.1
 hanging_by on n p (steps.Commit tag number tick ∷ kept) [] phases s h = absurd h
-hanging_by on n p (steps.Commit tag number tick ∷ kept) (row ∷ rows) phases s h = hanging_by on (n + 1) p kept rows phases (after s (told.Commit row tick)) h.2
-hanging_by on n p (steps.Refused tag refusal ∷ kept) rows phases s h = hanging_by on n p kept rows phases (after s (told.Other (steps.Refused tag refusal))) h
-hanging_by on n p (steps.Answer tag text ∷ kept) rows phases s h = hanging_by on n p kept rows phases (after s (told.Other (steps.Answer tag text))) h
-hanging_by on n p (steps.Begin tag at units ∷ kept) rows phases s h = hanging_by on n p kept rows phases (after s (told.Other (steps.Begin tag at units))) h
-hanging_by on n p (steps.Start tag unit ∷ kept) rows phases s h = hanging_by on n p kept rows phases (after s (told.Other (steps.Start tag unit))) h
-hanging_by on n p (steps.Settled tag unit outcome ∷ kept) rows phases s h = hanging_by on n p kept rows phases (after s (told.Other (steps.Settled tag unit outcome))) h
-hanging_by on n p (steps.End tag ∷ kept) rows phases s h = hanging_by on n p kept rows phases (after s (told.Other (steps.End tag))) h
-hanging_by on n p (steps.Fault tag found before faults tick ∷ kept) rows phases s h = hanging_by on n p kept rows phases (after s (told.Other (steps.Fault tag found before faults tick))) h
+hanging_by on n p (steps.Commit tag number tick ∷ kept) (row ∷ rows) phases s h = hanging_by on (n + 1) p kept rows phases (after s (story_steps.Commit row tick)) h.2
+hanging_by on n p (steps.Refused tag refusal ∷ kept) rows phases s h = hanging_by on n p kept rows phases (after s (story_steps.Other (steps.Refused tag refusal))) h
+hanging_by on n p (steps.Answer tag text ∷ kept) rows phases s h = hanging_by on n p kept rows phases (after s (story_steps.Other (steps.Answer tag text))) h
+hanging_by on n p (steps.Begin tag at units ∷ kept) rows phases s h = hanging_by on n p kept rows phases (after s (story_steps.Other (steps.Begin tag at units))) h
+hanging_by on n p (steps.Start tag unit ∷ kept) rows phases s h = hanging_by on n p kept rows phases (after s (story_steps.Other (steps.Start tag unit))) h
+hanging_by on n p (steps.Concluded tag unit outcome ∷ kept) rows phases s h = hanging_by on n p kept rows phases (after s (story_steps.Other (steps.Concluded tag unit outcome))) h
+hanging_by on n p (steps.End tag ∷ kept) rows phases s h = hanging_by on n p kept rows phases (after s (story_steps.Other (steps.End tag))) h
+hanging_by on n p (steps.Fault tag found before faults tick ∷ kept) rows phases s h = hanging_by on n p kept rows phases (after s (story_steps.Other (steps.Fault tag found before faults tick))) h
 
 pub hanging_is : (on : Handed) (n p : ℕ) (kept : List Step) (rows : List Plain) (phases : List Phase) (s : State) → AreTold n p kept rows phases → hanging (state_from s (story_of on kept rows phases)).ends ≡ left_by (hanging s.ends) kept
 hanging_is = hanging_by

@@ -11,7 +11,7 @@ use Rattle.legal_history.specs.Base.Rows.{Base}
 use Rattle.base_core.specs.Logging.Logs.{Logged, with_phase, with_row, with_step, with_step_on}
 use Rattle.base_core.specs.Story.Telling.{oldest_first, story_of, AreTold, stands_alone}
 use Rattle.base_core.specs.Story.Handed.{Handed}
-use Rattle.base_core.proofs.Story.Stories.{story_of-plan, told_plan, story_of-commit, told_commit, story_of-step, told_step}
+use Rattle.base_core.proofs.Story.Stories.{story_of-phase, told_beginning, story_of-commit, told_commit, story_of-step, told_step}
 
 -- a base with one more row is told with that row behind the others, and told back it is the base
 pub oldest_more : (row : Plain) (base : Base) → oldest_first (row ∷ base) ≡ oldest_first base ++ row ∷ []
@@ -39,14 +39,14 @@ told_row kept more base grown phases tag number tick row h e g t n =
     subst (λ xs. IsTold xs grown phases) (sym e) (subst (λ b. IsTold (kept ++ steps.Commit tag number tick ∷ []) b phases) (sym g)
     (subst (λ rows. AreTold 1 0 (kept ++ steps.Commit tag number tick ∷ []) rows phases) (sym (oldest_more row base)) (told_commit kept (oldest_first base) phases tag number tick row h t counted)))
 
-pub shown_phase : (on : Handed) (kept more : List Step) (base : Base) (phases grown : List Phase) (number moment : ℕ) (phase : Phase) (sight : Sight) → IsTold kept base phases → more ≡ kept ++ steps.Plan number moment ∷ [] → grown ≡ phases ++ phase ∷ [] → shown on more base grown sight ≡ with_phase (shown on kept base phases sight) phase moment
+pub shown_phase : (on : Handed) (kept more : List Step) (base : Base) (phases grown : List Phase) (number moment : ℕ) (phase : Phase) (sight : Sight) → IsTold kept base phases → more ≡ kept ++ steps.PhaseBegun number moment ∷ [] → grown ≡ phases ++ phase ∷ [] → shown on more base grown sight ≡ with_phase (shown on kept base phases sight) phase moment
 shown_phase on kept more base phases grown number moment phase sight h e g =
-    ap (λ xs. shown on xs base grown sight) e ∙ ap (λ ys. shown on (kept ++ steps.Plan number moment ∷ []) base ys sight) g
-    ∙ ap (λ story. record { story = story; base = base; phases = phases ++ phase ∷ []; sight = sight }) (story_of-plan on kept (oldest_first base) phases number moment phase h)
+    ap (λ xs. shown on xs base grown sight) e ∙ ap (λ ys. shown on (kept ++ steps.PhaseBegun number moment ∷ []) base ys sight) g
+    ∙ ap (λ story. record { story = story; base = base; phases = phases ++ phase ∷ []; sight = sight }) (story_of-phase on kept (oldest_first base) phases number moment phase h)
 
-pub told_phase : (kept more : List Step) (base : Base) (phases grown : List Phase) (number moment : ℕ) (phase : Phase) → IsTold kept base phases → more ≡ kept ++ steps.Plan number moment ∷ [] → grown ≡ phases ++ phase ∷ [] → number ≡ length phases + 1 → IsTold more base grown
+pub told_phase : (kept more : List Step) (base : Base) (phases grown : List Phase) (number moment : ℕ) (phase : Phase) → IsTold kept base phases → more ≡ kept ++ steps.PhaseBegun number moment ∷ [] → grown ≡ phases ++ phase ∷ [] → number ≡ length phases + 1 → IsTold more base grown
 told_phase kept more base phases grown number moment phase h e g n =
-    subst (λ xs. IsTold xs base grown) (sym e) (subst (λ ys. IsTold (kept ++ steps.Plan number moment ∷ []) base ys) (sym g) (told_plan kept (oldest_first base) phases number moment phase h n))
+    subst (λ xs. IsTold xs base grown) (sym e) (subst (λ ys. IsTold (kept ++ steps.PhaseBegun number moment ∷ []) base ys) (sym g) (told_beginning kept (oldest_first base) phases number moment phase h n))
 
 pub shown_step : (on : Handed) (kept more : List Step) (base : Base) (phases : List Phase) (step : Step) (sight : Sight) → IsTold kept base phases → stands_alone step ≡ true → more ≡ kept ++ step ∷ [] → shown on more base phases sight ≡ with_step (shown on kept base phases sight) step
 shown_step on kept more base phases step sight h alone e =

@@ -2,7 +2,7 @@
 use Rattle.std.proofs.Common.{◌≡◌, ℕ, ◌≤◌, Bool, true, false, not, Option, Some, None, List, [], ◌∷◌, ◌++◌, length, refl, ap, sym, subst, ◌∙◌, arith}
 use Rattle.cc_names.specs.Formed.{Plain}
 use Rattle.cc_names.specs.declared.rows.Tag.{Tag}
-use Rattle.cc_names.specs.declared.steps.Told.TheVariants as told
+use Rattle.cc_names.specs.declared.steps.StoryStep.TheVariants as story_steps
 use Rattle.disk_model.specs.Devices.{Device}
 use Rattle.disk_model.specs.Told.{Sight, IfTold, Both, IsCounted}
 use Rattle.legal_history.specs.Stories.States.{State, Opening, End, Committed, Faulted, ticks_of, faults_of, hanging}
@@ -12,7 +12,7 @@ use Rattle.vob_journal.specs.Lefts.{loose_after, settled_after}
 use Rattle.vob_journal.specs.Moves.{Moves}
 use Rattle.vob_journal.specs.declared.left.Left.{Left}
 use Rattle.vob_journal.specs.declared.left.Left.TheVariants as lefts
-use Rattle.base_core.specs.Stopping.Backed.{IsCovered, IsBacked, has_row, may_be_open}
+use Rattle.base_core.specs.Stopping.Backed.{IsMirrored, IsBacked, has_row, may_be_open}
 use Rattle.base_core.specs.Logging.Leaving.{LeftSo}
 use Rattle.base_core.specs.Stopping.Standing.{base_by}
 use Rattle.base_core.proofs.Stopping.Backing.{still_told, commit_covered, fault_covered}
@@ -40,11 +40,11 @@ backed_same s t sight list loose ended left settled opened base ends h = record 
   base = base ∙ h.base ∙ ap (base_by h.opening) (sym ends);
   ticks = omega (arith, h.ticks, ap (λ o. ticks_of o t.ends) opened, ap (ticks_of s.opened) ends);
   faults = omega (arith, h.faults, ap (λ o. faults_of o t.ends) opened, ap (faults_of s.opened) ends);
-  covered = subst (λ e. IfTold sight.told (IsCovered h.opening e list loose left)) (sym ends) h.covered;
+  covered = subst (λ e. IfTold sight.told (IsMirrored h.opening e list loose left)) (sym ends) h.covered;
 }
 
 -- a row was committed
-pub backed_commit : (s : State) (row : Plain) (tick : ℕ) (old new : Sight) (list loose list' loose' : List (List ℕ)) (ended ended' : Bool) (left left' : Left) (settled settled' : Bool) → IsBacked s old list loose ended left settled → Both (Moves list loose list' loose') old.told new.told → IfTold old.told (λ _. (list' ≡ list ++ spelled row ∷ []) × (loose' ≡ [])) → tick ≡ new.ticks → new.faults ≡ old.faults → IsCounted old → IsCounted new → ended' ≡ true → left' ≡ lefts.Nothing → settled' ≡ settled_after left' → IsBacked (after s (told.Commit row tick)) new list' loose' ended' left' settled'
+pub backed_commit : (s : State) (row : Plain) (tick : ℕ) (old new : Sight) (list loose list' loose' : List (List ℕ)) (ended ended' : Bool) (left left' : Left) (settled settled' : Bool) → IsBacked s old list loose ended left settled → Both (Moves list loose list' loose') old.told new.told → IfTold old.told (λ _. (list' ≡ list ++ spelled row ∷ []) × (loose' ≡ [])) → tick ≡ new.ticks → new.faults ≡ old.faults → IsCounted old → IsCounted new → ended' ≡ true → left' ≡ lefts.Nothing → settled' ≡ settled_after left' → IsBacked (after s (story_steps.Commit row tick)) new list' loose' ended' left' settled'
 backed_commit s row tick old new list loose list' loose' ended ended' left left' settled settled' h moves grown at same was counted end none set = record {
   opening = h.opening;
   opened = h.opened;
@@ -94,7 +94,7 @@ backed_fault s tag row found before faults tick old new list loose list' loose' 
   base = base ∙ h.base ∙ ap (base_by h.opening) (sym ends);
   ticks = omega (arith, at, ap (ticks_of t.opened) ends, ap (λ o. ticks_of o (Faulted found faults tick ∷ s.ends)) (opened ∙ h.opened));
   faults = omega (arith, counts, ap (faults_of t.opened) ends, ap (λ o. faults_of o (Faulted found faults tick ∷ s.ends)) (opened ∙ h.opened));
-  covered = subst (λ e. IfTold new.told (IsCovered h.opening e list' loose' left')) (sym ends)
+  covered = subst (λ e. IfTold new.told (IsMirrored h.opening e list' loose' left')) (sym ends)
       (fault_covered h.opening s.ends row found faults tick list loose list' loose' left left' old.told new.told h.covered (ticks_told h.opening s old h.opened h.ticks was) moves
       (if_told new.told (λ e. new.ticks ≡ length e.calls) (λ e. tick ≡ length e.calls) (λ e told. at ∙ told) counted.told) stays so);
 }

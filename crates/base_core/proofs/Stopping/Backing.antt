@@ -13,7 +13,7 @@ use Rattle.vob_journal.specs.Lefts.{loose_after}
 use Rattle.vob_journal.specs.Moves.{Moves, Stands, Between}
 use Rattle.vob_journal.specs.declared.left.Left.{Left}
 use Rattle.vob_journal.specs.declared.left.Left.TheVariants as lefts
-use Rattle.base_core.specs.Stopping.Backed.{IsCovered}
+use Rattle.base_core.specs.Stopping.Backed.{IsMirrored}
 use Rattle.base_core.specs.Logging.Leaving.{LeftSo}
 use Rattle.base_core.specs.Stopping.Standing.{payloads, base_by, tick_of, left_within, StandsFor, MayBeFound}
 
@@ -38,16 +38,16 @@ stands_for : (b : Base) (left : Option Plain) (list loose : List (List ℕ)) (im
 stands_for b left list loose image is for (inl e) = inl (e ∙ is)
 stands_for b left list loose image is for (inr e) = subst (StandsFor b left) (sym e) for
 
-pub stands_so : (opening : Opening) (ends : List End) (list loose : List (List ℕ)) (left : Left) (d : Device) (image : List ℕ) → IsCovered opening ends list loose left d → Stands list loose image → StandsFor (base_by opening ends) (hanging ends) (frames image)
+pub stands_so : (opening : Opening) (ends : List End) (list loose : List (List ℕ)) (left : Left) (d : Device) (image : List ℕ) → IsMirrored opening ends list loose left d → Stands list loose image → StandsFor (base_by opening ends) (hanging ends) (frames image)
 stands_so opening ends list loose left d image h stands = stands_for (base_by opening ends) (hanging ends) list loose image h.list_is h.loose_is stands
 
 -- what a call that ends in a commit or a fault may leave
-within_end : (opening : Opening) (ends : List End) (end : End) (list loose list' loose' : List (List ℕ)) (left : Left) (d : Device) (k : ℕ) (image : List ℕ) → IsCovered opening ends list loose left d → ticks_of (Some opening) ends < k → k ≤ tick_of end → StandsFor (base_by opening ends) (left_within end) (list' ++ loose') → Between list loose list' loose' image → MayBeFound opening (end ∷ ends) k (frames image)
+within_end : (opening : Opening) (ends : List End) (end : End) (list loose list' loose' : List (List ℕ)) (left : Left) (d : Device) (k : ℕ) (image : List ℕ) → IsMirrored opening ends list loose left d → ticks_of (Some opening) ends < k → k ≤ tick_of end → StandsFor (base_by opening ends) (left_within end) (list' ++ loose') → Between list loose list' loose' image → MayBeFound opening (end ∷ ends) k (frames image)
 within_end opening ends end list loose list' loose' left d k image h later before within (inl stands) = inr (before, inl (after_all opening ends k (frames image) later (stands_so opening ends list loose left d image h stands)))
 within_end opening ends end list loose list' loose' left d k image h later before within (inr e) = inr (before, inr (later, subst (StandsFor (base_by opening ends) (left_within end)) (sym e) within))
 
 -- what is kept after a call that ends in a commit or a fault
-pub covered_end : (opening : Opening) (ends : List End) (end : End) (list loose list' loose' : List (List ℕ)) (left left' : Left) (d e : Device) → IsCovered opening ends list loose left d → ticks_of (Some opening) ends ≤ length d.calls → Moves list loose list' loose' d e → tick_of end ≡ length e.calls → list' ≡ payloads (base_by opening (end ∷ ends)) → StandsFor (base_by opening (end ∷ ends)) (hanging (end ∷ ends)) (list' ++ loose') → StandsFor (base_by opening ends) (left_within end) (list' ++ loose') → (left' ≡ lefts.Nothing → loose' ≡ []) → IsCovered opening (end ∷ ends) list' loose' left' e
+pub covered_end : (opening : Opening) (ends : List End) (end : End) (list loose list' loose' : List (List ℕ)) (left left' : Left) (d e : Device) → IsMirrored opening ends list loose left d → ticks_of (Some opening) ends ≤ length d.calls → Moves list loose list' loose' d e → tick_of end ≡ length e.calls → list' ≡ payloads (base_by opening (end ∷ ends)) → StandsFor (base_by opening (end ∷ ends)) (hanging (end ∷ ends)) (list' ++ loose') → StandsFor (base_by opening ends) (left_within end) (list' ++ loose') → (left' ≡ lefts.Nothing → loose' ≡ []) → IsMirrored opening (end ∷ ends) list' loose' left' e
 covered_end opening ends end list loose list' loose' left left' d e h ticked moves tick is for within nothing = record {
   list_is = is;
   loose_is = for;
@@ -65,7 +65,7 @@ covered_end opening ends end list loose list' loose' left left' d e h ticked mov
         within_end opening ends end list loose list' loose' left d k image h (omega (arith, ticked, since.0)) (omega (arith, inside, tick)) within since.1
 
 -- what is kept after a call that settles the tail, or fails to
-pub covered_settled : (opening : Opening) (ends : List End) (list loose list' loose' : List (List ℕ)) (left left' : Left) (d e : Device) → IsCovered opening ends list loose left d → ticks_of (Some opening) ends ≤ length d.calls → Moves list loose list' loose' d e → list' ≡ list → (loose' ≡ []) ⊎ (loose' ≡ loose) → (left' ≡ lefts.Nothing → loose' ≡ []) → IsCovered opening ends list' loose' left' e
+pub covered_settled : (opening : Opening) (ends : List End) (list loose list' loose' : List (List ℕ)) (left left' : Left) (d e : Device) → IsMirrored opening ends list loose left d → ticks_of (Some opening) ends ≤ length d.calls → Moves list loose list' loose' d e → list' ≡ list → (loose' ≡ []) ⊎ (loose' ≡ loose) → (left' ≡ lefts.Nothing → loose' ≡ []) → IsMirrored opening ends list' loose' left' e
 covered_settled opening ends list loose list' loose' left left' d e h ticked moves same less nothing = record {
   list_is = same ∙ h.list_is;
   loose_is = stands less;
@@ -94,7 +94,7 @@ still_told R (Some d) None h = absurd h
 still_told R (Some d) (Some e) h = refl
 
 -- a row was committed
-pub commit_covered : (opening : Opening) (ends : List End) (row : Plain) (tick : ℕ) (list loose list' loose' : List (List ℕ)) (left left' : Left) (one two : Option Device) → IfTold one (IsCovered opening ends list loose left) → IfTold one (λ d. ticks_of (Some opening) ends ≤ length d.calls) → Both (Moves list loose list' loose') one two → IfTold two (λ e. tick ≡ length e.calls) → IfTold one (λ _. (list' ≡ list ++ spelled row ∷ []) × (loose' ≡ [])) → IfTold two (IsCovered opening (Committed row tick ∷ ends) list' loose' left')
+pub commit_covered : (opening : Opening) (ends : List End) (row : Plain) (tick : ℕ) (list loose list' loose' : List (List ℕ)) (left left' : Left) (one two : Option Device) → IfTold one (IsMirrored opening ends list loose left) → IfTold one (λ d. ticks_of (Some opening) ends ≤ length d.calls) → Both (Moves list loose list' loose') one two → IfTold two (λ e. tick ≡ length e.calls) → IfTold one (λ _. (list' ≡ list ++ spelled row ∷ []) × (loose' ≡ [])) → IfTold two (IsMirrored opening (Committed row tick ∷ ends) list' loose' left')
 commit_covered opening ends row tick list loose list' loose' left left' None None h ticked moves at grown = tt
 commit_covered opening ends row tick list loose list' loose' left left' None (Some e) h ticked moves at grown = absurd moves
 commit_covered opening ends row tick list loose list' loose' left left' (Some d) None h ticked moves at grown = absurd moves
@@ -112,7 +112,7 @@ fault_stands opening ends row list loose loose' lefts.InFlight found is for e so
     subst (λ o. StandsFor (base_by opening ends) o (list ++ loose')) (sym so) (inr (ap (λ l. list ++ l) e ∙ ap (λ l. l ++ spelled row ∷ []) is))
 
 -- the disk failed
-pub fault_covered : (opening : Opening) (ends : List End) (row : Plain) (found : Option Plain) (faults tick : ℕ) (list loose list' loose' : List (List ℕ)) (left left' : Left) (one two : Option Device) → IfTold one (IsCovered opening ends list loose left) → IfTold one (λ d. ticks_of (Some opening) ends ≤ length d.calls) → Both (Moves list loose list' loose') one two → IfTold two (λ e. tick ≡ length e.calls) → IfTold one (λ _. (list' ≡ list) × (loose' ≡ loose_after left' loose (spelled row))) → LeftSo (hanging ends) row left' found → IfTold two (IsCovered opening (Faulted found faults tick ∷ ends) list' loose' left')
+pub fault_covered : (opening : Opening) (ends : List End) (row : Plain) (found : Option Plain) (faults tick : ℕ) (list loose list' loose' : List (List ℕ)) (left left' : Left) (one two : Option Device) → IfTold one (IsMirrored opening ends list loose left) → IfTold one (λ d. ticks_of (Some opening) ends ≤ length d.calls) → Both (Moves list loose list' loose') one two → IfTold two (λ e. tick ≡ length e.calls) → IfTold one (λ _. (list' ≡ list) × (loose' ≡ loose_after left' loose (spelled row))) → LeftSo (hanging ends) row left' found → IfTold two (IsMirrored opening (Faulted found faults tick ∷ ends) list' loose' left')
 fault_covered opening ends row found faults tick list loose list' loose' left left' None None h ticked moves at stays so = tt
 fault_covered opening ends row found faults tick list loose list' loose' left left' None (Some e) h ticked moves at stays so = absurd moves
 fault_covered opening ends row found faults tick list loose list' loose' left left' (Some d) None h ticked moves at stays so = absurd moves
@@ -122,7 +122,7 @@ fault_covered opening ends row found faults tick list loose list' loose' left le
     covered_end opening ends (Faulted found faults tick) list loose list' loose' left left' d e h ticked moves at (stays.0 ∙ h.list_is) for' for' (λ none. stays.1 ∙ ap (λ l. loose_after l loose (spelled row)) none)
 
 -- the tail was settled, or this failed
-pub settle_covered : (opening : Opening) (ends : List End) (list loose list' loose' : List (List ℕ)) (left left' : Left) (one two : Option Device) → IfTold one (IsCovered opening ends list loose left) → IfTold one (λ d. ticks_of (Some opening) ends ≤ length d.calls) → Both (Moves list loose list' loose') one two → list' ≡ list → (loose' ≡ []) ⊎ (loose' ≡ loose) → (left' ≡ lefts.Nothing → loose' ≡ []) → IfTold two (IsCovered opening ends list' loose' left')
+pub settle_covered : (opening : Opening) (ends : List End) (list loose list' loose' : List (List ℕ)) (left left' : Left) (one two : Option Device) → IfTold one (IsMirrored opening ends list loose left) → IfTold one (λ d. ticks_of (Some opening) ends ≤ length d.calls) → Both (Moves list loose list' loose') one two → list' ≡ list → (loose' ≡ []) ⊎ (loose' ≡ loose) → (left' ≡ lefts.Nothing → loose' ≡ []) → IfTold two (IsMirrored opening ends list' loose' left')
 settle_covered opening ends list loose list' loose' left left' None None h ticked moves same less nothing = tt
 settle_covered opening ends list loose list' loose' left left' None (Some e) h ticked moves same less nothing = absurd moves
 settle_covered opening ends list loose list' loose' left left' (Some d) None h ticked moves same less nothing = absurd moves

@@ -8,8 +8,8 @@ use Rattle.std.specs.Prelude.{IfSome, is_some, reverse}
 use Rattle.cc_names.specs.declared.rows.Tag.{Tag}
 use Rattle.cc_names.specs.Formed.{Plain}
 use Rattle.cc_names.specs.declared.steps.Step.TheVariants as steps
-use Rattle.cc_names.specs.declared.steps.Told.{Told}
-use Rattle.cc_names.specs.declared.steps.Told.TheVariants as told
+use Rattle.cc_names.specs.declared.steps.StoryStep.{StoryStep}
+use Rattle.cc_names.specs.declared.steps.StoryStep.TheVariants as story_steps
 use Rattle.disk_model.specs.Devices.{Device, bytes_of}
 use Rattle.disk_model.specs.Told.{Sight, IfTold}
 use Rattle.vob_journal.specs.Frames.{frames}
@@ -78,7 +78,7 @@ one_more P opening end ends old new behind within h k found (inr earlier) = by e
     by (inr two) = stands_base P opening (base_by opening ends) (left_within end) found old within two.1
 
 -- what a stop leaves of a legal story is such a base
-only_left : (P : Plain → Type 0) → Laws → (front : List Told) (opening : Opening) (b : Base) → Legal front → (state_of front).opened ≡ Some opening → IsLeftByStop (state_of front) b → AllByRecursion P b → IsOnly P opening b
+only_left : (P : Plain → Type 0) → Laws → (front : List StoryStep) (opening : Opening) (b : Base) → Legal front → (state_of front).opened ≡ Some opening → IsLeftByStop (state_of front) b → AllByRecursion P b → IsOnly P opening b
 only_left P laws front opening b legal opened left each = record {
   good = laws.base front b legal left;
   sound = λ sound. laws.sound front opening b legal opened sound left;
@@ -95,7 +95,7 @@ stays_found P s t opening opened base ends h = record {
 }
 
 -- a fault leaves what fits
-left_fits : (P : Plain → Type 0) → Laws → (front : List Told) (opening : Opening) (tag : Tag) (left : Option Plain) → Legal front → IsFound P (state_of front) opening → LeavesRow (state_of front) tag left → IfSome left P → FitsBehind P opening (state_of front).base left
+left_fits : (P : Plain → Type 0) → Laws → (front : List StoryStep) (opening : Opening) (tag : Tag) (left : Option Plain) → Legal front → IsFound P (state_of front) opening → LeavesRow (state_of front) tag left → IfSome left P → FitsBehind P opening (state_of front).base left
 left_fits P laws front opening tag None legal h leaves named = tt
 left_fits P laws front opening tag (Some row) legal h (inl own) named =
     only_left P laws front opening (row ∷ (state_of front).base) legal h.opened (WithRowInFlight row own.1 refl) (named, h.only.each)
@@ -103,10 +103,10 @@ left_fits P laws front opening tag (Some row) legal h (inr earlier) named =
     only_left P laws front opening (row ∷ (state_of front).base) legal h.opened (WithRowLeft row earlier refl) (named, h.only.each)
 
 -- each lawful step keeps it
-step_found : (P : Plain → Type 0) → Laws → (front : List Told) (opening : Opening) (x : Told) → Legal front → Lawful (state_of front) x → NamesOnly P x → IsFound P (state_of front) opening → IsFound P (after (state_of front) x) opening
-step_found P laws front opening (told.Opened rows counts tells) legal lawful named h = absurd (let closed : is_some (state_of front).opened ≡ false = lawful.first in let open_ : is_some (state_of front).opened ≡ true = ap is_some h.opened in cc)
-step_found P laws front opening (told.Plan phase moment) legal lawful named h = stays_found P (state_of front) (after (state_of front) (told.Plan phase moment)) opening refl refl refl h
-step_found P laws front opening (told.Commit row tick) legal lawful named h =
+step_found : (P : Plain → Type 0) → Laws → (front : List StoryStep) (opening : Opening) (x : StoryStep) → Legal front → Lawful (state_of front) x → NamesOnly P x → IsFound P (state_of front) opening → IsFound P (after (state_of front) x) opening
+step_found P laws front opening (story_steps.Opened rows counts tells) legal lawful named h = absurd (let closed : is_some (state_of front).opened ≡ false = lawful.first in let open_ : is_some (state_of front).opened ≡ true = ap is_some h.opened in cc)
+step_found P laws front opening (story_steps.PhaseBegun phase moment) legal lawful named h = stays_found P (state_of front) (after (state_of front) (story_steps.PhaseBegun phase moment)) opening refl refl refl h
+step_found P laws front opening (story_steps.Commit row tick) legal lawful named h =
     let s = state_of front in
     let grown : IsOnly P opening (row ∷ s.base) = only_left P laws front opening (row ∷ s.base) legal h.opened (WithRowInFlight row lawful.may refl) (named, h.only.each) in
     let by : IsOnly P opening (row ∷ base_by opening s.ends) = subst (λ b. IsOnly P opening (row ∷ b)) h.base grown in
@@ -116,7 +116,7 @@ step_found P laws front opening (told.Commit row tick) legal lawful named h =
       only = grown;
       found = one_more P opening (Committed row tick) s.ends (subst (IsOnly P opening) h.base h.only) by tt by h.found;
     }
-step_found P laws front opening (told.Other (steps.Fault tag left before faults tick)) legal lawful named h =
+step_found P laws front opening (story_steps.Other (steps.Fault tag left before faults tick)) legal lawful named h =
     let s = state_of front in
     let by : FitsBehind P opening (base_by opening s.ends) left = subst (λ b. FitsBehind P opening b left) h.base (left_fits P laws front opening tag left legal h lawful.leaves named) in
     let only : IsOnly P opening (base_by opening s.ends) = subst (IsOnly P opening) h.base h.only in
@@ -126,16 +126,16 @@ step_found P laws front opening (told.Other (steps.Fault tag left before faults 
       only = h.only;
       found = one_more P opening (Faulted left faults tick) s.ends only only by by h.found;
     }
-step_found P laws front opening (told.Other (steps.Refused tag refusal)) legal lawful named h = stays_found P (state_of front) (after (state_of front) (told.Other (steps.Refused tag refusal))) opening refl refl refl h
-step_found P laws front opening (told.Other (steps.Answer tag text)) legal lawful named h = stays_found P (state_of front) (after (state_of front) (told.Other (steps.Answer tag text))) opening refl refl refl h
-step_found P laws front opening (told.Other (steps.Begin tag rows units)) legal lawful named h = stays_found P (state_of front) (after (state_of front) (told.Other (steps.Begin tag rows units))) opening refl refl refl h
-step_found P laws front opening (told.Other (steps.Start tag unit)) legal lawful named h = stays_found P (state_of front) (after (state_of front) (told.Other (steps.Start tag unit))) opening refl refl refl h
-step_found P laws front opening (told.Other (steps.Settled tag unit outcome)) legal lawful named h = stays_found P (state_of front) (after (state_of front) (told.Other (steps.Settled tag unit outcome))) opening refl refl refl h
-step_found P laws front opening (told.Other (steps.End tag)) legal lawful named h = stays_found P (state_of front) (after (state_of front) (told.Other (steps.End tag))) opening refl refl refl h
-step_found P laws front opening (told.Other step) legal lawful named h = absurd lawful
+step_found P laws front opening (story_steps.Other (steps.Refused tag refusal)) legal lawful named h = stays_found P (state_of front) (after (state_of front) (story_steps.Other (steps.Refused tag refusal))) opening refl refl refl h
+step_found P laws front opening (story_steps.Other (steps.Answer tag text)) legal lawful named h = stays_found P (state_of front) (after (state_of front) (story_steps.Other (steps.Answer tag text))) opening refl refl refl h
+step_found P laws front opening (story_steps.Other (steps.Begin tag rows units)) legal lawful named h = stays_found P (state_of front) (after (state_of front) (story_steps.Other (steps.Begin tag rows units))) opening refl refl refl h
+step_found P laws front opening (story_steps.Other (steps.Start tag unit)) legal lawful named h = stays_found P (state_of front) (after (state_of front) (story_steps.Other (steps.Start tag unit))) opening refl refl refl h
+step_found P laws front opening (story_steps.Other (steps.Concluded tag unit outcome)) legal lawful named h = stays_found P (state_of front) (after (state_of front) (story_steps.Other (steps.Concluded tag unit outcome))) opening refl refl refl h
+step_found P laws front opening (story_steps.Other (steps.End tag)) legal lawful named h = stays_found P (state_of front) (after (state_of front) (story_steps.Other (steps.End tag))) opening refl refl refl h
+step_found P laws front opening (story_steps.Other step) legal lawful named h = absurd lawful
 
 -- and so does the rest of a legal story
-all_found : (P : Plain → Type 0) → Laws → (front rest : List Told) (opening : Opening) → Legal front → LegalFrom (state_of front) rest → TellsOnly P rest → IsFound P (state_of front) opening → IsFound P (state_of (front ++ rest)) opening
+all_found : (P : Plain → Type 0) → Laws → (front rest : List StoryStep) (opening : Opening) → Legal front → LegalFrom (state_of front) rest → TellsOnly P rest → IsFound P (state_of front) opening → IsFound P (state_of (front ++ rest)) opening
 all_found P laws front [] opening legal more named h = subst (λ t. IsFound P (state_of t) opening) (sym (append-nil front)) h
 all_found P laws front (x ∷ rest) opening legal more named h =
     let one : state_of (front ++ x ∷ []) ≡ after (state_of front) x = state_from-more start front x in
@@ -144,8 +144,8 @@ all_found P laws front (x ∷ rest) opening legal more named h =
     (subst (λ t. IsFound P t opening) (sym one) (step_found P laws front opening x legal more.0 named.0 h)))
 
 -- the first step of a legal story opens a base
-first_found : (P : Plain → Type 0) (x : Told) → Lawful start x → NamesOnly P x → is_some (after start x).opened ≡ true → (opening : Opening) × IsFound P (after start x) opening
-first_found P (told.Opened rows counts tells) lawful named is = (
+first_found : (P : Plain → Type 0) (x : StoryStep) → Lawful start x → NamesOnly P x → is_some (after start x).opened ≡ true → (opening : Opening) × IsFound P (after start x) opening
+first_found P (story_steps.Opened rows counts tells) lawful named is = (
   record { base = reverse rows; counts = counts; tells = tells },
   record {
     opened = refl;
@@ -154,19 +154,19 @@ first_found P (told.Opened rows counts tells) lawful named is = (
     found = λ k found e. record { base = reverse rows; only = record { good = lawful.fits; sound = λ sound. sound; each = named }; is = e };
   },
 )
-first_found P (told.Plan phase moment) lawful named is = absurd (cc)
-first_found P (told.Commit row tick) lawful named is = absurd (cc)
-first_found P (told.Other (steps.Refused tag refusal)) lawful named is = absurd (cc)
-first_found P (told.Other (steps.Answer tag text)) lawful named is = absurd (cc)
-first_found P (told.Other (steps.Begin tag rows units)) lawful named is = absurd (cc)
-first_found P (told.Other (steps.Start tag unit)) lawful named is = absurd (cc)
-first_found P (told.Other (steps.Settled tag unit outcome)) lawful named is = absurd (cc)
-first_found P (told.Other (steps.End tag)) lawful named is = absurd (cc)
-first_found P (told.Other (steps.Fault tag left before faults tick)) lawful named is = absurd (cc)
-first_found P (told.Other step) lawful named is = absurd lawful
+first_found P (story_steps.PhaseBegun phase moment) lawful named is = absurd (cc)
+first_found P (story_steps.Commit row tick) lawful named is = absurd (cc)
+first_found P (story_steps.Other (steps.Refused tag refusal)) lawful named is = absurd (cc)
+first_found P (story_steps.Other (steps.Answer tag text)) lawful named is = absurd (cc)
+first_found P (story_steps.Other (steps.Begin tag rows units)) lawful named is = absurd (cc)
+first_found P (story_steps.Other (steps.Start tag unit)) lawful named is = absurd (cc)
+first_found P (story_steps.Other (steps.Concluded tag unit outcome)) lawful named is = absurd (cc)
+first_found P (story_steps.Other (steps.End tag)) lawful named is = absurd (cc)
+first_found P (story_steps.Other (steps.Fault tag left before faults tick)) lawful named is = absurd (cc)
+first_found P (story_steps.Other step) lawful named is = absurd lawful
 
 -- whatever a stop may find is a base of such rows
-found_only : (P : Plain → Type 0) → Laws → (story : List Told) (opening : Opening) (k : ℕ) (found : List (List ℕ)) → Legal story → TellsOnly P story → (state_of story).opened ≡ Some opening → MayBeFound opening (state_of story).ends k found → SpellsOnly P opening found
+found_only : (P : Plain → Type 0) → Laws → (story : List StoryStep) (opening : Opening) (k : ℕ) (found : List (List ℕ)) → Legal story → TellsOnly P story → (state_of story).opened ≡ Some opening → MayBeFound opening (state_of story).ends k found → SpellsOnly P opening found
 found_only P laws [] opening k found legal named opened may = absurd (cc)
 found_only P laws (x ∷ story) opening k found legal named opened may =
     let first = first_found P x legal.0 named.0 (first_opens x legal.0) in
@@ -175,13 +175,13 @@ found_only P laws (x ∷ story) opening k found legal named opened may =
     subst (λ o. SpellsOnly P o found) same (all.found k found (subst (λ o. MayBeFound o (state_of (x ∷ story)).ends k found) (sym same) may))
 
 -- whatever a stop may find is a base
-pub found_base : Laws → (story : List Told) (opening : Opening) (k : ℕ) (found : List (List ℕ)) → Legal story → (state_of story).opened ≡ Some opening → MayBeFound opening (state_of story).ends k found → SpellsBase opening.base found
+pub found_base : Laws → (story : List StoryStep) (opening : Opening) (k : ℕ) (found : List (List ℕ)) → Legal story → (state_of story).opened ≡ Some opening → MayBeFound opening (state_of story).ends k found → SpellsBase opening.base found
 found_base laws story opening k found legal opened may =
     let spells = found_only (λ (row : Plain). Unit {0}) laws story opening k found legal (tells_rows story) opened may in
     record { base = spells.base; good = spells.only.good; is = spells.is; sound = spells.only.sound }
 
 -- and where the story names only readable rows it opens again
-pub opens_again : Laws → (story : List Told) (opening : Opening) (k : ℕ) (found : List (List ℕ)) → Legal story → TellsOnly IsReadable story → (state_of story).opened ≡ Some opening → MayBeFound opening (state_of story).ends k found → OpensAgain opening.base found
+pub opens_again : Laws → (story : List StoryStep) (opening : Opening) (k : ℕ) (found : List (List ℕ)) → Legal story → TellsOnly IsReadable story → (state_of story).opened ≡ Some opening → MayBeFound opening (state_of story).ends k found → OpensAgain opening.base found
 opens_again laws story opening k found legal named opened may =
     let spells = found_only IsReadable laws story opening k found legal named opened may in
     record {

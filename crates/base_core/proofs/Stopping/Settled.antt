@@ -15,7 +15,7 @@ use Rattle.vob_journal.specs.Moves.{Moves, Stands}
 use Rattle.vob_journal.specs.Phases.{Spends}
 use Rattle.vob_journal.specs.declared.left.Left.{Left}
 use Rattle.vob_journal.specs.declared.left.Left.TheVariants as lefts
-use Rattle.base_core.specs.Stopping.Backed.{IsCovered, IsBacked, IsSettled, IsAccounted}
+use Rattle.base_core.specs.Stopping.Backed.{IsMirrored, IsBacked, IsSettled, IsAccounted}
 use Rattle.base_core.specs.Logging.Logs.{IsLogged}
 use Rattle.base_core.specs.Stopping.Standing.{payloads, base_by, StandsFor, MayBeFound}
 use Rattle.base_core.specs.Story.Telling.{oldest_first, story_of}
@@ -54,7 +54,7 @@ logged_settled on kept base phases calls old new list loose list' loose' ended e
 }
 
 -- no stop finds more than the base where nothing is loose
-settled_told : (s : State) (opening : Opening) (list loose : List (List ℕ)) (left : Left) (told : Option Device) → s.base ≡ base_by opening s.ends → IfTold told (IsCovered opening s.ends list loose left) → IfTold told (λ _. loose ≡ []) → IfTold told (λ d. (image : List ℕ) → LeavesNow 0 d image → frames image ≡ payloads s.base)
+settled_told : (s : State) (opening : Opening) (list loose : List (List ℕ)) (left : Left) (told : Option Device) → s.base ≡ base_by opening s.ends → IfTold told (IsMirrored opening s.ends list loose left) → IfTold told (λ _. loose ≡ []) → IfTold told (λ d. (image : List ℕ) → LeavesNow 0 d image → frames image ≡ payloads s.base)
 settled_told s opening list loose left None base h none = tt
 settled_told s opening list loose left (Some d) base h none = λ image leaves. by image (h.now image leaves) ∙ h.list_is ∙ ap payloads (sym base)
   where
@@ -63,20 +63,20 @@ settled_told s opening list loose left (Some d) base h none = λ image leaves. b
     by image (inr e) = e ∙ ap (λ l. list ++ l) none ∙ append-nil list
 
 pub settled_so : (s : State) (sight : Sight) (list loose : List (List ℕ)) (ended : Bool) (left : Left) (settled : Bool) → IsBacked s sight list loose ended left settled → loose ≡ [] → IsSettled s sight
-settled_so s sight list loose ended left settled h none = settled_told s h.opening list loose left sight.told h.base h.covered (if_told sight.told (IsCovered h.opening s.ends list loose left) (λ _. loose ≡ []) (λ d c. none) h.covered)
+settled_so s sight list loose ended left settled h none = settled_told s h.opening list loose left sight.told h.base h.covered (if_told sight.told (IsMirrored h.opening s.ends list loose left) (λ _. loose ≡ []) (λ d c. none) h.covered)
 
 -- each stop finds what the history says
-stops_so : (opening : Opening) (ends : List End) (list loose : List (List ℕ)) (left : Left) (d : Device) → IsCovered opening ends list loose left d → ticks_of (Some opening) ends ≤ length d.calls → (k : ℕ) (image : List ℕ) → opening.counts.ticks < k → MayLeave 0 d k image → MayBeFound opening ends k (frames image)
+stops_so : (opening : Opening) (ends : List End) (list loose : List (List ℕ)) (left : Left) (d : Device) → IsMirrored opening ends list loose left d → ticks_of (Some opening) ends ≤ length d.calls → (k : ℕ) (image : List ℕ) → opening.counts.ticks < k → MayLeave 0 d k image → MayBeFound opening ends k (frames image)
 stops_so opening ends list loose left d h ticked k image later (inl leaves) = h.stops k image later leaves
 stops_so opening ends list loose left d h ticked k image later (inr now) =
     after_all opening ends k (frames image) (omega (arith, ticked, now.0)) (stands_so opening ends list loose left d image h (h.now image now.1))
 
-stops_told : (opening : Opening) (ends : List End) (list loose : List (List ℕ)) (left : Left) (told : Option Device) → IfTold told (IsCovered opening ends list loose left) → IfTold told (λ d. ticks_of (Some opening) ends ≤ length d.calls) → IfTold told (λ d. (k : ℕ) (image : List ℕ) → opening.counts.ticks < k → MayLeave 0 d k image → MayBeFound opening ends k (frames image))
+stops_told : (opening : Opening) (ends : List End) (list loose : List (List ℕ)) (left : Left) (told : Option Device) → IfTold told (IsMirrored opening ends list loose left) → IfTold told (λ d. ticks_of (Some opening) ends ≤ length d.calls) → IfTold told (λ d. (k : ℕ) (image : List ℕ) → opening.counts.ticks < k → MayLeave 0 d k image → MayBeFound opening ends k (frames image))
 stops_told opening ends list loose left None h ticked = tt
 stops_told opening ends list loose left (Some d) h ticked = stops_so opening ends list loose left d h ticked
 
 -- where the newest end left nothing, a stop now finds the base
-at_rest : (s : State) (opening : Opening) (list loose : List (List ℕ)) (left : Left) (told : Option Device) → s.base ≡ base_by opening s.ends → hanging s.ends ≡ None → IfTold told (IsCovered opening s.ends list loose left) → IfTold told (λ d. (image : List ℕ) → LeavesNow 0 d image → frames image ≡ payloads s.base)
+at_rest : (s : State) (opening : Opening) (list loose : List (List ℕ)) (left : Left) (told : Option Device) → s.base ≡ base_by opening s.ends → hanging s.ends ≡ None → IfTold told (IsMirrored opening s.ends list loose left) → IfTold told (λ d. (image : List ℕ) → LeavesNow 0 d image → frames image ≡ payloads s.base)
 at_rest s opening list loose left None base none h = tt
 at_rest s opening list loose left (Some d) base none h = λ image leaves. by image (subst (λ o. StandsFor (base_by opening s.ends) o (frames image)) none (stands_so opening s.ends list loose left d image h (h.now image leaves))) ∙ ap payloads (sym base)
   where

@@ -1,14 +1,14 @@
 -- That each call's steps say what became of the disk's counts.
 use Rattle.std.proofs.Common.{◌≡◌, List, [], ◌∷◌, ◌++◌, refl, ap, sym, subst, ◌∙◌, append_assoc}
 use Rattle.std.proofs.lemmas.List.{append-nil}
-use Rattle.cc_names.specs.declared.steps.Told.{Told}
+use Rattle.cc_names.specs.declared.steps.StoryStep.{StoryStep}
 use Rattle.disk_model.specs.Told.{Sight}
 use Rattle.base_core.specs.Story.Counted.{CountsSteps, KeepsCount}
 use Rattle.base_core.specs.Logging.Logs.{Logged}
 use Rattle.base_core.specs.Story.Shown.{Shown}
 
 -- steps, and then more steps
-counts_further : (xs ys : List Told) (old mid new : Sight) → CountsSteps xs old mid → CountsSteps ys mid new → CountsSteps (xs ++ ys) old new
+counts_further : (xs ys : List StoryStep) (old mid new : Sight) → CountsSteps xs old mid → CountsSteps ys mid new → CountsSteps (xs ++ ys) old new
 counts_further [] ys old mid new h g = subst (λ s. CountsSteps ys s new) h g
 counts_further (x ∷ xs) ys old mid new h g = (h.0, h.1, counts_further xs ys h.0 mid new h.2 g)
 

@@ -17,8 +17,8 @@ use Rattle.cc_names.specs.declared.rows.Kind.TheVariants.{File}
 use Rattle.cc_names.specs.declared.rows.Out.TheVariants as outs
 use Rattle.cc_names.specs.declared.rows.TypeKind.TheVariants as type_kinds
 use Rattle.cc_names.specs.declared.steps.Step.TheVariants as steps
-use Rattle.cc_names.specs.declared.steps.Told.{Told}
-use Rattle.cc_names.specs.declared.steps.Told.TheVariants as told
+use Rattle.cc_names.specs.declared.steps.StoryStep.{StoryStep}
+use Rattle.cc_names.specs.declared.steps.StoryStep.TheVariants as story_steps
 use Rattle.legal_history.specs.Builds.Replied.{digest_of}
 use Rattle.legal_history.specs.Base.Rows.{Base}
 use Rattle.legal_history.specs.Stories.States.{all_done}
@@ -145,24 +145,24 @@ abbrev one_lane : List Command → Phase
 one_lane more = record { lanes = record { name = codes "a"; commands = all_commands more } ∷ [] }
 
 -- the commits of rows, by commands numbered from n on, each four calls of the disk after the one before
-abbrev commits : ℕ → ℕ → List Deed → List Told
+abbrev commits : ℕ → ℕ → List Deed → List StoryStep
 commits n tick [] = []
-commits n tick (deed ∷ deeds) = told.Commit (row n deed) (tick + 4) ∷ commits (n + 1) (tick + 4) deeds
+commits n tick (deed ∷ deeds) = story_steps.Commit (row n deed) (tick + 4) ∷ commits (n + 1) (tick + 4) deeds
 
 -- the steps of the first twelve commands, where the lane has more
-abbrev first_steps : List Command → List Told
+abbrev first_steps : List Command → List StoryStep
 first_steps more =
-    told.Opened [] (record { ticks = 0; faults = 0 }) true
-    ∷ told.Plan (one_lane more) 1700000000
+    story_steps.Opened [] (record { ticks = 0; faults = 0 }) true
+    ∷ story_steps.PhaseBegun (one_lane more) 1700000000
     ∷ commits 1 3 first_deeds
-    ++ (told.Other (steps.Begin (tag 1 1 10) 10 1)
-    ∷ told.Other (steps.Start (tag 1 1 10) 0)
-    ∷ told.Commit (row 10 publish) 43
-    ∷ told.Other (steps.End (tag 1 1 10))
-    ∷ told.Commit (row 11 (deeds.Mkview w)) 47
-    ∷ told.Other (steps.Begin (tag 1 1 12) 12 1)
-    ∷ told.Commit (row 12 (deeds.Wink w 10)) 51
-    ∷ told.Other (steps.End (tag 1 1 12))
+    ++ (story_steps.Other (steps.Begin (tag 1 1 10) 10 1)
+    ∷ story_steps.Other (steps.Start (tag 1 1 10) 0)
+    ∷ story_steps.Commit (row 10 publish) 43
+    ∷ story_steps.Other (steps.End (tag 1 1 10))
+    ∷ story_steps.Commit (row 11 (deeds.Mkview w)) 47
+    ∷ story_steps.Other (steps.Begin (tag 1 1 12) 12 1)
+    ∷ story_steps.Commit (row 12 (deeds.Wink w 10)) 51
+    ∷ story_steps.Other (steps.End (tag 1 1 12))
     ∷ [])
 
 -- the one line `out WORD 3 DIGEST`, of three bytes
@@ -200,18 +200,18 @@ no_other_lane_is_replied = refl
 abbrev scrubbing : List Command
 scrubbing = commands.Rmdo w (codes "out") ∷ commands.Scrub 0 ∷ commands.Rmdo v (codes "out") ∷ commands.Scrub 0 ∷ clearmake w ∷ commands.Lsdo v ∷ []
 
-abbrev scrub_story : List Told
+abbrev scrub_story : List StoryStep
 scrub_story =
     first_steps scrubbing
-    ++ (told.Commit (row 13 (deeds.Drop w (codes "out"))) 55
-    ∷ told.Other (steps.Answer (tag 1 1 14) [])
-    ∷ told.Commit (row 15 (deeds.Drop v (codes "out"))) 59
-    ∷ told.Commit (row 16 (deeds.Scrub (10 ∷ []))) 63
-    ∷ told.Other (steps.Begin (tag 1 1 17) 16 1)
-    ∷ told.Other (steps.Start (tag 1 1 17) 0)
-    ∷ told.Commit (row 17 (deeds.Publish w (codes "out" ∷ []) script (record { path = a_file; row = 8 } ∷ []) (hi ∷ []))) 67
-    ∷ told.Other (steps.End (tag 1 1 17))
-    ∷ told.Other (steps.Answer (tag 1 1 18) [])
+    ++ (story_steps.Commit (row 13 (deeds.Drop w (codes "out"))) 55
+    ∷ story_steps.Other (steps.Answer (tag 1 1 14) [])
+    ∷ story_steps.Commit (row 15 (deeds.Drop v (codes "out"))) 59
+    ∷ story_steps.Commit (row 16 (deeds.Scrub (10 ∷ []))) 63
+    ∷ story_steps.Other (steps.Begin (tag 1 1 17) 16 1)
+    ∷ story_steps.Other (steps.Start (tag 1 1 17) 0)
+    ∷ story_steps.Commit (row 17 (deeds.Publish w (codes "out" ∷ []) script (record { path = a_file; row = 8 } ∷ []) (hi ∷ []))) 67
+    ∷ story_steps.Other (steps.End (tag 1 1 17))
+    ∷ story_steps.Other (steps.Answer (tag 1 1 18) [])
     ∷ [])
 
 scrubs_are_finished : all_done (state_of scrub_story) ≡ true
@@ -245,15 +245,15 @@ checking_out =
     ∷ commands.Checkin v false a_file
     ∷ []
 
-abbrev checkout_story : List Told
+abbrev checkout_story : List StoryStep
 checkout_story =
     first_steps checking_out
     ++ (commits 13 51 (deeds.Checkout v 6 8 false ∷ deeds.Checkout w 6 8 true ∷ deeds.Save v 6 foo ∷ [])
-    ++ (told.Other (steps.Refused (tag 1 1 16) (refusals.Reserved w))
+    ++ (story_steps.Other (steps.Refused (tag 1 1 16) (refusals.Reserved w))
     ∷ commits 17 63 (deeds.Save w 6 bar ∷ deeds.Checkin w 6 ∷ [])
-    ++ (told.Other (steps.Refused (tag 1 1 19) (refusals.NotLatest 17))
+    ++ (story_steps.Other (steps.Refused (tag 1 1 19) (refusals.NotLatest 17))
     ∷ commits 20 71 (deeds.Uncheckout v 6 ∷ deeds.Checkout v 6 17 true ∷ [])
-    ++ (told.Other (steps.Refused (tag 1 1 22) (refusals.Identical 17))
+    ++ (story_steps.Other (steps.Refused (tag 1 1 22) (refusals.Identical 17))
     ∷ []))))
 
 checkouts_are_finished : all_done (state_of checkout_story) ≡ true

@@ -1,8 +1,8 @@
 -- What opening a base answers.
 use Rattle.std.specs.Prelude.{◌≡◌, ◌<◌, ℕ, true, is_some, Option, List, [], ◌∷◌, ◌++◌}
 use Rattle.cc_names.specs.Formed.{Plain}
-use Rattle.cc_names.specs.declared.steps.Told.{Told}
-use Rattle.cc_names.specs.declared.steps.Told.TheVariants as told
+use Rattle.cc_names.specs.declared.steps.StoryStep.{StoryStep}
+use Rattle.cc_names.specs.declared.steps.StoryStep.TheVariants as story_steps
 use Rattle.disk_model.specs.Devices.{Device, MayLeave, bytes_of}
 use Rattle.disk_model.specs.Told.{Sight, IfTold, Both, IsCounted}
 use Rattle.legal_history.specs.Base.Rows.{Base, size}
@@ -62,12 +62,12 @@ IsUndamaged list = (n : ℕ) → IsDamaged list n → ⊥
 
 -- A base was opened: the one that the disk stands for, whose journal is not damaged. Calls that read were made, no fault was
 -- counted, and both files are as they were.
-pub record OpensCore (old : Sight) (story : List Told) (new : Sight) : Type 0 where
+pub record OpensCore (old : Sight) (story : List StoryStep) (new : Sight) : Type 0 where
   pub base : Base
   pub handed : Handed
   pub on : IsBaseOn old base handed
   pub undamaged : IfTold old.told (λ d. IsUndamaged (frames (bytes_of 0 d)))
-  pub story_is : story ≡ told.Opened (oldest_first base) handed.counts handed.tells ∷ []
+  pub story_is : story ≡ story_steps.Opened (oldest_first base) handed.counts handed.tells ∷ []
   pub sound : new.faults ≡ old.faults
   pub fit : IsCounted new
   pub adds : Both (Adds may_read) old.told new.told

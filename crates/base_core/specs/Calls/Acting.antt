@@ -12,8 +12,8 @@ use Rattle.cc_names.specs.declared.replies.Reply.TheVariants as replies
 use Rattle.cc_names.specs.declared.rows.Deed.{Deed}
 use Rattle.cc_names.specs.declared.rows.Tag.{Tag}
 use Rattle.cc_names.specs.declared.steps.Step.TheVariants as steps
-use Rattle.cc_names.specs.declared.steps.Told.{Told}
-use Rattle.cc_names.specs.declared.steps.Told.TheVariants as told
+use Rattle.cc_names.specs.declared.steps.StoryStep.{StoryStep}
+use Rattle.cc_names.specs.declared.steps.StoryStep.TheVariants as story_steps
 use Rattle.legal_history.specs.Base.Rows.{Base, size}
 use Rattle.legal_history.specs.Builds.Active.{Active}
 use Rattle.legal_history.specs.Stories.Committing.{MakesRow}
@@ -26,16 +26,16 @@ use Rattle.base_core.specs.Story.Replying.{count_told, reply_to_row, reply_to_an
 
 -- A step by which a command of this tag is finished, by its kind: the row that was decided, committed at the moment of the
 -- phase; the refusal or the answer that was decided; or the fault of the disk under the row that was decided.
-abbrev pub IsStepOf : State → Tag → Done → Told → Type 0
-IsStepOf s tag Committed (told.Commit row tick) = (row.tag ≡ tag) × (row.moment ≡ s.moment) × (decided s tag ≡ Some (Ok (Makes row.deed)))
-IsStepOf s tag Refused (told.Other (steps.Refused finished refusal)) = (finished ≡ tag) × (decided s tag ≡ Some (Err refusal))
-IsStepOf s tag Answered (told.Other (steps.Answer finished text)) = (finished ≡ tag) × (decided s tag ≡ Some (Ok (Answers text)))
-IsStepOf s tag Faulted (told.Other (steps.Fault finished left before faults tick)) = (finished ≡ tag) × (deed : Deed) × (decided s tag ≡ Some (Ok (Makes deed)))
+abbrev pub IsStepOf : State → Tag → Done → StoryStep → Type 0
+IsStepOf s tag Committed (story_steps.Commit row tick) = (row.tag ≡ tag) × (row.moment ≡ s.moment) × (decided s tag ≡ Some (Ok (Makes row.deed)))
+IsStepOf s tag Refused (story_steps.Other (steps.Refused finished refusal)) = (finished ≡ tag) × (decided s tag ≡ Some (Err refusal))
+IsStepOf s tag Answered (story_steps.Other (steps.Answer finished text)) = (finished ≡ tag) × (decided s tag ≡ Some (Ok (Answers text)))
+IsStepOf s tag Faulted (story_steps.Other (steps.Fault finished left before faults tick)) = (finished ≡ tag) × (deed : Deed) × (decided s tag ≡ Some (Ok (Makes deed)))
 IsStepOf s tag done step = ⊥
 
 -- A lane's next command was carried out: the story has one step more, which finishes the command.
-pub record Acts (old new : List Told) (lane : ℕ) (done : Done) : Type 0 where
-  pub step : Told
+pub record Acts (old new : List StoryStep) (lane : ℕ) (done : Done) : Type 0 where
+  pub step : StoryStep
   pub grows : new ≡ old ++ step ∷ []
   pub is : IsStepOf (state_of old) (next_tag (state_of old) lane) done step
 

@@ -9,8 +9,8 @@ use Rattle.cc_names.specs.declared.rows.Deed.TheVariants as deeds
 use Rattle.cc_names.specs.declared.steps.Step.{Step}
 use Rattle.cc_names.specs.declared.steps.UnitEnd.{UnitEnd}
 use Rattle.cc_names.specs.declared.steps.UnitEnd.TheVariants.{Kept}
-use Rattle.cc_names.specs.declared.steps.Told.{Told}
-use Rattle.cc_names.specs.declared.steps.Told.TheVariants as told
+use Rattle.cc_names.specs.declared.steps.StoryStep.{StoryStep}
+use Rattle.cc_names.specs.declared.steps.StoryStep.TheVariants as story_steps
 use Rattle.cc_names.specs.declared.units.Unit.{Unit}
 use Rattle.build_core.specs.declared.steps.UnitStep.{UnitStep}
 use Rattle.build_core.specs.declared.steps.UnitStep.TheVariants as next
@@ -43,26 +43,26 @@ pub record Notes (s : State) (lane n : ℕ) (step : Step) (came : Came) : Type 0
   pub within : n < length build.units
   pub waits : is_outcome (came_to build n) ≡ false
   pub alone : stands_alone step ≡ true
-  pub sound : is_fault (told.Other step) ≡ false
+  pub sound : is_fault (story_steps.Other step) ≡ false
   pub lawful : LawfulStep s step
-  pub leaves : after s (told.Other step) ≡ record s { active = put nat_cmp lane (with_came build (Some n) came) s.active }
-  pub silent : (other : ℕ) → replies_by s other (told.Other step) ≡ []
+  pub leaves : after s (story_steps.Other step) ≡ record s { active = put nat_cmp lane (with_came build (Some n) came) s.active }
+  pub silent : (other : ℕ) → replies_by s other (story_steps.Other step) ≡ []
 
 -- unit n of a lane's build has come to this, and the story went on
-pub record Noted (old new : List Told) (lane n : ℕ) (came : Came) : Type 0 where
+pub record Noted (old new : List StoryStep) (lane n : ℕ) (came : Came) : Type 0 where
   pub goes : GoesOn old new lane
   pub build : Build
   pub active : build_of (state_of new).active lane ≡ Some build
   pub came_to_it : came_to build n ≡ Some came
 
--- unit n of a lane's build may settle so without a row
+-- unit n of a lane's build may be concluded so without a row
 pub record MaySettle (s : State) (lane n : ℕ) (end : UnitEnd) : Type 0 where
   pub build : Build
   pub active : build_of s.active lane ≡ Some build
   pub within : n < length build.units
   pub kept : IsBuildKept s lane build
   pub waits : is_outcome (came_to build n) ≡ false
-  pub settles : ComesTo s (next_tag s lane) n end
+  pub concludes : ComesTo s (next_tag s lane) n end
 
 -- the script of unit n of a lane's build may be started; one that cannot be read has this fault
 pub record MayStart (s : State) (lane n : ℕ) (fault : Option ScriptFault) : Type 0 where
@@ -88,7 +88,7 @@ pub record MayWink (s : State) (lane n id : ℕ) : Type 0 where
 
 -- what comes next for unit n of a lane's build
 abbrev pub StepsTo : State → ℕ → ℕ → UnitStep → Type 0
-StepsTo s lane n next.Settled = HasOutcome s lane n
+StepsTo s lane n next.Concluded = HasOutcome s lane n
 StepsTo s lane n (next.NotReady m) = WaitsFor s lane n m
 StepsTo s lane n (next.Settle end) = MaySettle s lane n end
 StepsTo s lane n (next.Keep id) = MaySettle s lane n (Kept id)
@@ -137,5 +137,5 @@ pub record MayPublish (s : State) (lane n : ℕ) (outputs reads : List (List ℕ
 
 -- the turn of a unit whose outcome was at hand
 abbrev pub turn_of : Carried → UnitTurn
-turn_of carried.Settled = turns.Settled
+turn_of carried.Concluded = turns.Concluded
 turn_of carried.Faulted = turns.Faulted

@@ -1,28 +1,25 @@
 -- What a core keeps of the active builds of its lanes.
-use Rattle.std.specs.Prelude.{◌≡◌, ℕ, ◌+◌, ◌≤◌, false, IsSome, Some, Result, Ok, Err, length}
+use Rattle.std.specs.Prelude.{◌≡◌, ℕ, ◌+◌, ◌≤◌, false, Some, Result, Ok, Err, length}
 use Rattle.cc_names.specs.declared.memory.Or.{Or}
 use Rattle.cc_names.specs.declared.refusals.Refusal.{Refusal}
 use Rattle.cc_names.specs.declared.rows.Tag.{Tag}
 use Rattle.cc_names.specs.declared.desks.Next.TheVariants as nexts
 use Rattle.build_core.specs.BuildForms.{IsBuildFormed}
-use Rattle.legal_history.specs.Base.Rows.{size, first_rows}
+use Rattle.legal_history.specs.Base.Rows.{size}
 use Rattle.legal_history.specs.Builds.Active.{Build, reserved}
 use Rattle.legal_history.specs.Commands.Decisions.{Begins}
 use Rattle.legal_history.specs.Base.Fits.{row_limit}
 use Rattle.legal_history.specs.Stories.States.{State, decided, next_tag}
 use Rattle.legal_history.specs.Stories.Steps.{begun}
-use Rattle.legal_history.specs.Base.Views.{view_row}
 use Rattle.base_core.specs.Calls.Acting.{IsNextTag, RefusalWas}
 use Rattle.clearmake.specs.Nexts.{next_of}
 
--- The active build of a lane: it is that of the lane's next command, its view was there at its reference rows, and the disk
--- has not failed under it.
+-- The active build of a lane: it is that of the lane's next command, and the disk has not failed under it.
 pub record IsBuildKept (s : State) (lane : ℕ) (build : Build) : Type 0 where
   pub tag : build.tag ≡ next_tag s lane
   pub waits : next_of s lane ≡ nexts.Build (next_tag s lane)
   pub from : 1 ≤ build.rows
   pub rows : build.rows ≤ size s.base
-  pub view : IsSome (view_row (first_rows build.rows s.base) build.view)
   pub formed : IsBuildFormed build
   pub sound : build.faulted ≡ false
 

@@ -4,7 +4,7 @@ use Rattle.cc_names.specs.Commands.{lane_at}
 use Rattle.carried_out.specs.CarriedOut.{AreCarriedOut}
 use Rattle.cc_names.specs.declared.commands.Lane.{Lane}
 use Rattle.cc_names.specs.declared.commands.Phase.{Phase}
-use Rattle.cc_names.specs.declared.steps.Told.{Told}
+use Rattle.cc_names.specs.declared.steps.StoryStep.{StoryStep}
 use Rattle.session_text.specs.Formed.{IsPhase}
 use Rattle.build_core.specs.Slots.{numbered}
 use Rattle.legal_history.specs.Builds.Active.{Build, build_of, reserved}
@@ -47,7 +47,7 @@ pub record IsPhaseKept (s : State) (phases : List Phase) (now : ℕ) : Type 0 wh
 
 -- The commands kept for the lanes are those that are not finished, the replies are those of the story, one for each finished
 -- command, and there is room for one to each command.
-pub record AreReplies (story : List Told) (lanes : List LaneKept) : Type 0 where
+pub record AreReplies (story : List StoryStep) (lanes : List LaneKept) : Type 0 where
   pub count : length lanes ≡ length (state_of story).phase.lanes
   pub replies : (lane : ℕ) → 1 ≤ lane → lane ≤ length lanes → replies_at lanes lane ≡ replies_of story lane
   pub done : (lane : ℕ) → done_of (state_of story).done lane ≡ length (replies_of story lane)

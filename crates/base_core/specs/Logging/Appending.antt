@@ -8,7 +8,7 @@ use Rattle.base_core.specs.Story.Replying.{row_reply}
 use Rattle.cc_names.specs.Formed.{Plain, IsFormed}
 use Rattle.cc_names.specs.declared.steps.Step.{Step}
 use Rattle.cc_names.specs.declared.steps.Step.TheVariants as steps
-use Rattle.cc_names.specs.declared.steps.Told.TheVariants as told
+use Rattle.cc_names.specs.declared.steps.StoryStep.TheVariants as story_steps
 use Rattle.disk_model.specs.Counting.{next_count}
 use Rattle.disk_model.specs.Told.{Sight, Both, IsCounted}
 use Rattle.legal_history.specs.Stories.States.{State, ticks_of, faults_of, hanging}
@@ -41,7 +41,7 @@ pub record IsCommitted (old new : Logged) (row : Plain) : Type 0 where
 
 -- a step that names no row and no phase, and is no fault of the disk
 abbrev pub IsQuiet : Step → Type 0
-IsQuiet step = (stands_alone step ≡ true) × (is_fault (told.Other step) ≡ false)
+IsQuiet step = (stands_alone step ≡ true) × (is_fault (story_steps.Other step) ≡ false)
 
 -- with the step that a fault brings with it
 abbrev pub with_ending : Logged → Option Step → Logged

@@ -11,7 +11,7 @@ use Rattle.base_core.specs.Stopping.Standing.{payloads, base_by, StandsFor, MayB
 
 -- a journal with this list, and with what is loose behind it, is that of the base after these commits and faults: what is
 -- loose is what the newest fault left
-pub record IsCovered (opening : Opening) (ends : List End) (list loose : List (List ℕ)) (left : Left) (d : Device) : Type 0 where
+pub record IsMirrored (opening : Opening) (ends : List End) (list loose : List (List ℕ)) (left : Left) (d : Device) : Type 0 where
   pub list_is : list ≡ payloads (base_by opening ends)
   pub loose_is : StandsFor (base_by opening ends) (hanging ends) (list ++ loose)
   pub nothing : left ≡ lefts.Nothing → loose ≡ []
@@ -45,7 +45,7 @@ pub record IsBacked (s : State) (sight : Sight) (list loose : List (List ℕ)) (
   pub base : s.base ≡ base_by opening s.ends
   pub ticks : ticks_of s.opened s.ends ≤ sight.ticks
   pub faults : faults_of s.opened s.ends ≤ sight.faults
-  pub covered : IfTold sight.told (IsCovered opening s.ends list loose left)
+  pub covered : IfTold sight.told (IsMirrored opening s.ends list loose left)
 
 -- No stop now finds more than the rows of the base.
 abbrev pub IsSettled : State → Sight → Type 0

@@ -1,6 +1,6 @@
 -- A base that was found, and what is promised of it. Each law is promised by a function of `laws`.
 use Rattle.std.specs.Prelude.{◌≡◌, ℕ, true, Some, List}
-use Rattle.cc_names.specs.declared.steps.Told.{Told}
+use Rattle.cc_names.specs.declared.steps.StoryStep.{StoryStep}
 use Rattle.disk_model.specs.Devices.{Device, bytes_of}
 use Rattle.disk_model.specs.Told.{Sight}
 use Rattle.legal_history.specs.Base.Rows.{Base}
@@ -37,13 +37,13 @@ pub record OpensAgain (opened : Base) (found : List (List ℕ)) : Type 0 where
 -- Whatever a stop may find of a legal story spells the rows of a base: that of the commits so far, or that and a row which a
 -- command would have committed there.
 abbrev pub StopLeavesABase : Type 0
-StopLeavesABase = (story : List Told) (opening : Opening) (k : ℕ) (found : List (List ℕ))
+StopLeavesABase = (story : List StoryStep) (opening : Opening) (k : ℕ) (found : List (List ℕ))
     → Legal story → (state_of story).opened ≡ Some opening
     → MayBeFound opening (state_of story).ends k found → SpellsBase opening.base found
 
 -- Where the story names only readable rows, whatever a stop may find opens again.
 abbrev pub StopOpensAgain : Type 0
-StopOpensAgain = (story : List Told) (opening : Opening) (k : ℕ) (found : List (List ℕ))
+StopOpensAgain = (story : List StoryStep) (opening : Opening) (k : ℕ) (found : List (List ℕ))
     → Legal story → TellsOnly IsReadable story → (state_of story).opened ≡ Some opening
     → MayBeFound opening (state_of story).ends k found → OpensAgain opening.base found
 

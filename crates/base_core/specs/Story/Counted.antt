@@ -1,8 +1,8 @@
 -- What a story says of the disk's counts.
 use Rattle.std.specs.Prelude.{◌≡◌, ◌<◌, true, List, [], ◌∷◌, ◌++◌}
 use Rattle.cc_names.specs.declared.steps.Step.TheVariants as steps
-use Rattle.cc_names.specs.declared.steps.Told.{Told}
-use Rattle.cc_names.specs.declared.steps.Told.TheVariants as told
+use Rattle.cc_names.specs.declared.steps.StoryStep.{StoryStep}
+use Rattle.cc_names.specs.declared.steps.StoryStep.TheVariants as story_steps
 use Rattle.disk_model.specs.Counting.{next_count}
 use Rattle.disk_model.specs.Told.{Sight, Both, IsCounted}
 use Rattle.cc_names.specs.Counts.{rises}
@@ -14,23 +14,23 @@ use Rattle.base_core.specs.Story.Shown.{Shown}
 -- that it is the fault of one call alone, and the ticks at its end, which rose. Where the disk tells its device, the calls of
 -- either are added to those that were made before, none of them reads, the file of objects is as it was, and the counts fit the
 -- calls. At any other step no call was made, and the disk is as it was.
-abbrev pub CountsStep : Told → Sight → Sight → Type 0
-CountsStep (told.Commit row tick) old new =
+abbrev pub CountsStep : StoryStep → Sight → Sight → Type 0
+CountsStep (story_steps.Commit row tick) old new =
     (tick ≡ new.ticks) × (old.ticks < tick) × (new.faults ≡ old.faults)
     × IsCounted new × Both WritesOn old.told new.told
-CountsStep (told.Other (steps.Fault tag left before faults tick)) old new =
+CountsStep (story_steps.Other (steps.Fault tag left before faults tick)) old new =
     (before ≡ old.faults) × (faults ≡ new.faults) × (faults ≡ next_count before)
     × (tick ≡ new.ticks) × (rises old.ticks tick ≡ true)
     × IsCounted new × Both WritesOn old.told new.told
 CountsStep step old new = new ≡ old
 
 -- the steps of a list, one after the other; beside them no call was made
-abbrev pub CountsSteps : List Told → Sight → Sight → Type 0
+abbrev pub CountsSteps : List StoryStep → Sight → Sight → Type 0
 CountsSteps [] old new = new ≡ old
 CountsSteps (step ∷ steps) old new = (between : Sight) × CountsStep step old between × CountsSteps steps between new
 
 -- A story went on by steps that say what became of the disk's counts.
 pub record KeepsCount (old new : Shown) : Type 0 where
-  pub steps : List Told
+  pub steps : List StoryStep
   pub grows : new.story ≡ old.story ++ steps
   pub counts : CountsSteps steps old.sight new.sight

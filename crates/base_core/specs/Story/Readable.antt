@@ -4,8 +4,8 @@ use Rattle.std.specs.List.{AllByRecursion}
 use Rattle.carried_out.specs.CarriedOut.{is_made}
 use Rattle.cc_names.specs.Formed.{Plain, IsFormed}
 use Rattle.cc_names.specs.declared.steps.Step.TheVariants as steps
-use Rattle.cc_names.specs.declared.steps.Told.{Told}
-use Rattle.cc_names.specs.declared.steps.Told.TheVariants as told
+use Rattle.cc_names.specs.declared.steps.StoryStep.{StoryStep}
+use Rattle.cc_names.specs.declared.steps.StoryStep.TheVariants as story_steps
 use Rattle.legal_history.specs.Base.Rows.{Base}
 use Rattle.legal_history.specs.Stories.States.{hanging}
 use Rattle.legal_history.specs.Stories.Steps.{state_of}
@@ -20,22 +20,22 @@ abbrev pub AreReadable : Base → Type 0
 AreReadable b = AllByRecursion IsReadable b
 
 -- each row that a step names is so: those of the base that was opened, the row of a commit, and what a fault left
-abbrev pub NamesOnly : (Plain → Type 0) → Told → Type 0
-NamesOnly P (told.Opened rows counts tells) = AllByRecursion P (reverse rows)
-NamesOnly P (told.Commit row tick) = P row
-NamesOnly P (told.Other (steps.Fault tag left before faults tick)) = IfSome left P
+abbrev pub NamesOnly : (Plain → Type 0) → StoryStep → Type 0
+NamesOnly P (story_steps.Opened rows counts tells) = AllByRecursion P (reverse rows)
+NamesOnly P (story_steps.Commit row tick) = P row
+NamesOnly P (story_steps.Other (steps.Fault tag left before faults tick)) = IfSome left P
 NamesOnly P step = Unit {0}
 
 -- each row that a story names is so
-abbrev pub TellsOnly : (Plain → Type 0) → List Told → Type 0
+abbrev pub TellsOnly : (Plain → Type 0) → List StoryStep → Type 0
 TellsOnly P story = AllByRecursion (NamesOnly P) story
 
 -- The base of a story that names only readable rows is one of readable rows.
 abbrev pub StoryKeepsItsBaseReadable : Type 0
-StoryKeepsItsBaseReadable = (story : List Told) → TellsOnly IsReadable story
+StoryKeepsItsBaseReadable = (story : List StoryStep) → TellsOnly IsReadable story
     → AreReadable (state_of story).base
 
 -- A row that a fault left behind that base, if there is one, is readable.
 abbrev pub FaultLeavesAReadableRow : Type 0
-FaultLeavesAReadableRow = (story : List Told) → TellsOnly IsReadable story
+FaultLeavesAReadableRow = (story : List StoryStep) → TellsOnly IsReadable story
     → IfSome (hanging (state_of story).ends) IsReadable

@@ -8,8 +8,8 @@ use Rattle.cc_names.specs.declared.rows.Deed.{Deed}
 use Rattle.cc_names.specs.declared.rows.Deed.TheVariants as deeds
 use Rattle.cc_names.specs.declared.rows.Tag.{Tag}
 use Rattle.cc_names.specs.declared.steps.Step.TheVariants as steps
-use Rattle.cc_names.specs.declared.steps.Told.{Told}
-use Rattle.cc_names.specs.declared.steps.Told.TheVariants as told
+use Rattle.cc_names.specs.declared.steps.StoryStep.{StoryStep}
+use Rattle.cc_names.specs.declared.steps.StoryStep.TheVariants as story_steps
 use Rattle.legal_history.specs.Builds.Replied.{reply_of}
 use Rattle.legal_history.specs.Base.Rows.{Base}
 use Rattle.legal_history.specs.Builds.Active.{Build}
@@ -63,21 +63,21 @@ in_lane lane tag None = []
 in_lane lane tag (Some reply) = elim (tag.lane == lane) [ true ↦ reply ∷ [] | false ↦ [] ]
 
 -- The replies to the commands of a lane that a step finishes: one or none.
-abbrev pub replies_by : State → ℕ → Told → List Reply
-replies_by s lane (told.Commit row tick) = in_lane lane row.tag (reply_to_row (row ∷ s.base) row.deed)
-replies_by s lane (told.Other (steps.Refused tag refusal)) = in_lane lane tag (Some (replies.Refused refusal))
-replies_by s lane (told.Other (steps.Answer tag text)) = in_lane lane tag (Some (reply_to_answer (next_command s tag) text))
-replies_by s lane (told.Other (steps.Fault tag left before faults tick)) = in_lane lane tag (reply_to_fault (build_by s tag))
-replies_by s lane (told.Other (steps.End tag)) = in_lane lane tag (reply_to_end s.base (build_by s tag))
+abbrev pub replies_by : State → ℕ → StoryStep → List Reply
+replies_by s lane (story_steps.Commit row tick) = in_lane lane row.tag (reply_to_row (row ∷ s.base) row.deed)
+replies_by s lane (story_steps.Other (steps.Refused tag refusal)) = in_lane lane tag (Some (replies.Refused refusal))
+replies_by s lane (story_steps.Other (steps.Answer tag text)) = in_lane lane tag (Some (reply_to_answer (next_command s tag) text))
+replies_by s lane (story_steps.Other (steps.Fault tag left before faults tick)) = in_lane lane tag (reply_to_fault (build_by s tag))
+replies_by s lane (story_steps.Other (steps.End tag)) = in_lane lane tag (reply_to_end s.base (build_by s tag))
 replies_by s lane step = []
 
 -- a lane's replies after a step; a new phase has none yet
-abbrev pub replies_after : State → Told → (ℕ → List Reply) → ℕ → List Reply
-replies_after s (told.Plan phase moment) replies lane = []
+abbrev pub replies_after : State → StoryStep → (ℕ → List Reply) → ℕ → List Reply
+replies_after s (story_steps.PhaseBegun phase moment) replies lane = []
 replies_after s step replies lane = replies lane ++ replies_by s lane step
 
 -- the replies of each lane of the last phase, behind those that the lanes had in a state
-abbrev pub replies_from : State → (ℕ → List Reply) → List Told → ℕ → List Reply
+abbrev pub replies_from : State → (ℕ → List Reply) → List StoryStep → ℕ → List Reply
 replies_from s replies [] = replies
 replies_from s replies (x ∷ story) = replies_from (after s x) (replies_after s x replies) story
 
@@ -86,5 +86,5 @@ abbrev pub no_replies : ℕ → List Reply
 no_replies lane = []
 
 -- The replies to the finished commands of a lane of the last phase, in order.
-abbrev pub replies_of : List Told → ℕ → List Reply
+abbrev pub replies_of : List StoryStep → ℕ → List Reply
 replies_of story = replies_from start no_replies story

@@ -1,4 +1,4 @@
-// How a core carries out commands that build nothing.
+//! How a core carries out commands that build nothing.
 
 ghost use Rattle.std.specs.Prelude.{◌≡◌};
 ghost use Rattle.base_core.specs.Logging.Appending.{append_reply, append_done};
@@ -70,6 +70,7 @@ impl<D: Disk> Core<D> {
     ghost use Rattle.cc_names.specs.declared.desks.Done.TheVariants as dones;
     ghost use Rattle.cc_names.specs.declared.desks.Next.TheVariants as nexts;
     ghost use Rattle.cc_names.specs.declared.replies.Reply.TheVariants as replies;
+    ghost use Rattle.legal_history.specs.Stories.Commanded.{command_of};
     ghost use Rattle.legal_history.specs.Stories.States.{next_tag};
     ghost use Rattle.legal_history.specs.Stories.Steps.{state_of};
     ghost use Rattle.base_core.specs.Calls.Acting.{
@@ -81,13 +82,13 @@ impl<D: Disk> Core<D> {
       IsRowToCommit,
     };
     ghost use Rattle.base_core.specs.Story.Counted.{KeepsCount};
-    ghost use Rattle.clearmake.specs.Nexts.{next_of, waiting};
+    ghost use Rattle.clearmake.specs.Nexts.{next_of};
 
     /// Whether a lane's next command is a query.
     fn asks(&self, alloc: Global, lane: u32) -> Result<bool, NoMemory>
         requires act { next_of (state_of self.now.story) lane ≡ nexts.Act }
         ensures { IfOk result
-            (λ asks. IfSome (waiting (state_of self.now.story) lane)
+            (λ asks. IfSome (command_of (state_of self.now.story) lane)
             (λ command. is_query command ≡ asks)) }
     {
         let command = self.command(alloc, lane)?;
@@ -98,7 +99,7 @@ impl<D: Disk> Core<D> {
     /// refusal.
     fn decide(&self, alloc: Global, lane: u32) -> Result<Option<Row>, Or<Refusal>>
         requires act { next_of (state_of self.now.story) lane ≡ nexts.Act }
-        requires no_query { IfSome (waiting (state_of self.now.story) lane)
+        requires no_query { IfSome (command_of (state_of self.now.story) lane)
             (λ command. is_query command ≡ false) }
         ensures { DecidesNext (state_of self.now.story) (next_tag (state_of self.now.story) lane)
             result }
@@ -111,7 +112,7 @@ impl<D: Disk> Core<D> {
     /// What is decided of a lane's next command, which is a query: its text, or its first refusal.
     fn find_answer(&self, alloc: Global, lane: u32) -> Result<Text, Or<Refusal>>
         requires act { next_of (state_of self.now.story) lane ≡ nexts.Act }
-        requires query { IfSome (waiting (state_of self.now.story) lane)
+        requires query { IfSome (command_of (state_of self.now.story) lane)
             (λ command. is_query command ≡ true) }
         ensures { AnswersNext (state_of self.now.story) (next_tag (state_of self.now.story) lane)
             result }
@@ -183,7 +184,7 @@ impl<D: Disk> Core<D> {
     /// refused, or the disk fails under it. An `Err` changes nothing.
     fn make_row(&mut self, alloc: Global, lane: u32) -> Result<Done, NoMemory>
         requires act { next_of (state_of self.old.story) lane ≡ nexts.Act }
-        requires no_query { IfSome (waiting (state_of self.old.story) lane)
+        requires no_query { IfSome (command_of (state_of self.old.story) lane)
             (λ command. is_query command ≡ false) }
         ensures ok { IfOk result (λ done. Acts self.old.story self.new.story lane done) }
         ensures err { OnErr result (self.new ≡ self.old) }
@@ -207,7 +208,7 @@ impl<D: Disk> Core<D> {
     /// Carries out a lane's next command, which is a query: it is answered, or refused. An `Err` changes nothing.
     fn ask(&mut self, alloc: Global, lane: u32) -> Result<Done, NoMemory>
         requires act { next_of (state_of self.old.story) lane ≡ nexts.Act }
-        requires query { IfSome (waiting (state_of self.old.story) lane)
+        requires query { IfSome (command_of (state_of self.old.story) lane)
             (λ command. is_query command ≡ true) }
         ensures ok { IfOk result (λ done. Acts self.old.story self.new.story lane done) }
         ensures err { OnErr result (self.new ≡ self.old) }

@@ -1,4 +1,4 @@
-// What a core answers the builders of a lane's build.
+//! What a core answers the builders of a lane's build.
 
 ghost use Rattle.std.specs.Prelude.{◌≡◌, Some};
 ghost use Rattle.clearmake.specs.Nexts.{jobs_of};
@@ -25,10 +25,11 @@ fn jobs_of(command: &Command) -> Option<u32>
 impl<D: Disk> Core<D> {
     ghost use Rattle.std.specs.Prelude.{◌≡◌, ◌<◌, ◌≤◌, ℕ, Some, IfOk};
     ghost use Rattle.cc_names.specs.declared.desks.Next.TheVariants as nexts;
+    ghost use Rattle.legal_history.specs.Stories.Commanded.{command_of};
     ghost use Rattle.legal_history.specs.Stories.States.{next_tag};
     ghost use Rattle.legal_history.specs.Stories.Steps.{state_of};
     ghost use Rattle.clearmake.specs.Calls.{IsBuilding, WasStarted, released};
-    ghost use Rattle.clearmake.specs.Nexts.{jobs_of, next_of, waiting};
+    ghost use Rattle.clearmake.specs.Nexts.{jobs_of, next_of};
     ghost use Rattle.clearmake.specs.Sights.{IsFetched, sees};
 
     /// How many units at once a lane's next command, which builds, asks to have built. Takes what reading the command takes.
@@ -36,7 +37,7 @@ impl<D: Disk> Core<D> {
         requires { next_of (state_of self.now.story) lane
             ≡ nexts.Build (next_tag (state_of self.now.story) lane) }
         ensures asked { IfOk result
-            (λ jobs. jobs_of (waiting (state_of self.now.story) lane) ≡ Some jobs) }
+            (λ jobs. jobs_of (command_of (state_of self.now.story) lane) ≡ Some jobs) }
         ensures within { IfOk result (λ jobs. (1 ≤ jobs) × (jobs ≤ 64)) }
     {
         let command = self.command(alloc, lane)?;

@@ -1,4 +1,4 @@
-// How a build of a core's lane begins and ends.
+//! How a build of a core's lane begins and ends.
 
 use super::Core;
 use build_core::{ActiveBuild, plan_build, reply_of};

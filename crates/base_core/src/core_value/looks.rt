@@ -1,4 +1,4 @@
-// What a core looks at: its rows, and a lane's next command and build.
+//! What a core looks at: its rows, and a lane's next command and build.
 
 use super::Core;
 use build_core::ActiveBuild;
@@ -17,12 +17,13 @@ impl<D: Disk> Core<D> {
     ghost use Rattle.session_text.specs.Formed.{IsCommand};
     ghost use Rattle.legal_history.specs.Base.Rows.{size};
     ghost use Rattle.legal_history.specs.Builds.Active.{Build, build_of, building, reserved};
+    ghost use Rattle.legal_history.specs.Stories.Commanded.{command_of};
     ghost use Rattle.legal_history.specs.Stories.Lawful.{last_moment, Legal};
     ghost use Rattle.legal_history.specs.Stories.States.{next_tag};
     ghost use Rattle.legal_history.specs.Stories.Steps.{state_of};
     ghost use Rattle.base_core.specs.Calls.Building.{IsBuildKept};
     ghost use Rattle.base_core.specs.Keeping.Kept.{command_limit};
-    ghost use Rattle.clearmake.specs.Nexts.{next_of, waiting};
+    ghost use Rattle.clearmake.specs.Nexts.{next_of};
 
     /// The story is legal, at every moment.
     pub fn legal(&self)
@@ -40,7 +41,7 @@ impl<D: Disk> Core<D> {
 
     /// The tag of a lane's next command.
     pub(super) fn tag(&self, lane: u32) -> Tag
-        requires { IsSome (waiting (state_of self.now.story) lane) }
+        requires { IsSome (command_of (state_of self.now.story) lane) }
         ensures { result ≡ next_tag (state_of self.now.story) lane }
     {
         Tag {
@@ -52,7 +53,7 @@ impl<D: Disk> Core<D> {
 
     /// On what occasion the next command of a lane is decided, which names this view.
     pub(super) fn occasion(&self, lane: u32, view: &[u8]) -> Occasion
-        requires { IsSome (waiting (state_of self.now.story) lane) }
+        requires { IsSome (command_of (state_of self.now.story) lane) }
         ensures tag { result.tag ≡ next_tag (state_of self.now.story) lane }
         ensures moment { result.moment ≡ (state_of self.now.story).moment }
         ensures busy { result.busy ≡ building (state_of self.now.story).active view.now }
@@ -72,9 +73,9 @@ impl<D: Disk> Core<D> {
     /// The next command of a lane that has one. Takes time linear in its lines and those before it that are left, and memory
     /// for it.
     pub(super) fn command(&self, alloc: Global, lane: u32) -> Result<Command, NoMemory>
-        requires { IsSome (waiting (state_of self.now.story) lane) }
+        requires { IsSome (command_of (state_of self.now.story) lane) }
         ensures next { IfOk result
-            (λ command. waiting (state_of self.now.story) lane ≡ Some command) }
+            (λ command. command_of (state_of self.now.story) lane ≡ Some command) }
         ensures formed { IfOk result (λ command. IsCommand command_limit command) }
         ensures carried_out { IfOk result (λ command. is_carried_out command ≡ true) }
     {

@@ -1,5 +1,5 @@
-// The rows by which a unit of a lane's build gets an object: of what its run gave, or by which the build's view winks in one
-// that the unit may reuse.
+//! The rows by which a unit of a lane's build gets an object: of what its run gave, or by which the build's view winks in one
+//! that the unit may reuse.
 
 use super::Core;
 use crate::logs::Appended;
@@ -78,7 +78,7 @@ impl<D: Disk> Core<D> {
         match self.log.append(alloc, row, Some(Step::End { tag }))? {
             Appended::Committed => {
                 self.lanes.note(lane, unit, Came::Given(object));
-                Ok(Carried::Settled)
+                Ok(Carried::Concluded)
             }
             Appended::Faulted => {
                 self.lanes.close(lane, Reply::DiskFault);

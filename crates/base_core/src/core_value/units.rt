@@ -1,4 +1,4 @@
-// The turn of a unit of a lane's build: what comes next for it, and the run of its script.
+//! The turn of a unit of a lane's build: what comes next for it, and the run of its script.
 
 ghost use Rattle.std.specs.Prelude.{◌≡◌};
 ghost use Rattle.build_core.specs.Comes.{came_of};
@@ -7,7 +7,7 @@ ghost use Rattle.base_core.specs.Calls.BuildCalls.{turn_of};
 
 use super::Core;
 use build_core::{Came, UnitStep, run_unit, step};
-use build_script::outcomes::{Ended, Outcome};
+use build_script::outcomes::{Ended, Written};
 use build_script::scripts::Script;
 use cc_names::copies::Copied;
 use cc_names::memory::NoMemory;
@@ -24,7 +24,7 @@ fn turn_of(carried: Carried) -> UnitTurn
     ensures { result ≡ turn_of carried }
 {
     match carried {
-        Carried::Settled => UnitTurn::Settled,
+        Carried::Concluded => UnitTurn::Concluded,
         Carried::Faulted => UnitTurn::Faulted,
     }
 }
@@ -35,7 +35,7 @@ fn came_by_start(fault: Option<ScriptFault>) -> Came
 {
     match fault {
         None => Came::Started,
-        Some(fault) => Came::Ended(UnitEnd::Failed(UnitFault::Script(fault))),
+        Some(fault) => Came::Concluded(UnitEnd::Failed(UnitFault::Script(fault))),
     }
 }
 
@@ -45,7 +45,7 @@ impl<D: Disk> Core<D> {
     ghost use Rattle.build_script.specs.Ended.{ran_of};
     ghost use Rattle.legal_history.specs.Builds.Turns.{came_by_start};
     ghost use Rattle.legal_history.specs.Stories.Steps.{state_of};
-    ghost use Rattle.clearmake.specs.Calls.{IsBuilding, IsCarried, IsRunOfUnit, IsStarted, Settled, Tries};
+    ghost use Rattle.clearmake.specs.Calls.{IsBuilding, IsCarried, IsRunOfUnit, IsStarted, Concludes, Tries};
     ghost use Rattle.base_core.specs.Calls.BuildCalls.{HasRun, MaySettle, MayStart, Noted, Notes, StepsTo};
     ghost use Rattle.base_core.specs.Story.Counted.{KeepsCount};
     ghost use Rattle.clearmake.specs.Going.{HasOutcome};
@@ -62,10 +62,16 @@ impl<D: Disk> Core<D> {
         Ok(())
     }
 
-    /// Settles a unit of a lane's build without a row. An `Err` changes nothing.
-    fn settle(&mut self, alloc: Global, lane: u32, unit: u32, end: UnitEnd) -> Result<(), NoMemory>
+    /// Concludes a unit of a lane's build without a row. An `Err` changes nothing.
+    fn conclude(
+        &mut self,
+        alloc: Global,
+        lane: u32,
+        unit: u32,
+        end: UnitEnd,
+    ) -> Result<(), NoMemory>
         requires { MaySettle (state_of self.old.story) lane unit end }
-        ensures ok { OnOk result (Settled self.old.story self.new.story lane unit) }
+        ensures ok { OnOk result (Concludes self.old.story self.new.story lane unit) }
         ensures err { OnErr result (self.new ≡ self.old) }
         ensures counted { KeepsCount self.old self.new }
     {
@@ -74,8 +80,8 @@ impl<D: Disk> Core<D> {
         self.note_step(
             lane,
             unit,
-            Step::Settled { tag, unit, outcome },
-            Came::Ended(end),
+            Step::Concluded { tag, unit, outcome },
+            Came::Concluded(end),
         )?;
         Ok(())
     }
@@ -124,15 +130,15 @@ impl<D: Disk> Core<D> {
         ensures counted { KeepsCount self.old self.new }
     {
         match self.step(alloc, lane, unit)? {
-            UnitStep::Settled => Ok(UnitTurn::Settled),
+            UnitStep::Concluded => Ok(UnitTurn::Concluded),
             UnitStep::NotReady(earlier) => Ok(UnitTurn::NotReady(earlier)),
             UnitStep::Settle(end) => {
-                self.settle(alloc, lane, unit, end)?;
-                Ok(UnitTurn::Settled)
+                self.conclude(alloc, lane, unit, end)?;
+                Ok(UnitTurn::Concluded)
             }
             UnitStep::Keep(object) => {
-                self.settle(alloc, lane, unit, UnitEnd::Kept(object))?;
-                Ok(UnitTurn::Settled)
+                self.conclude(alloc, lane, unit, UnitEnd::Kept(object))?;
+                Ok(UnitTurn::Concluded)
             }
             UnitStep::Wink(object) => Ok(turn_of(self.wink(alloc, lane, unit, object)?)),
             UnitStep::Start(script, targets) => {
@@ -141,7 +147,7 @@ impl<D: Disk> Core<D> {
             }
             UnitStep::Unreadable(fault) => {
                 self.start(lane, unit, Some(fault))?;
-                Ok(UnitTurn::Settled)
+                Ok(UnitTurn::Concluded)
             }
         }
     }
@@ -206,12 +212,12 @@ impl<D: Disk> Core<D> {
         let Ended { result, reads } = ended;
         match result {
             Ok(outcome) => {
-                let Outcome { outputs } = outcome;
+                let Written { outputs } = outcome;
                 self.give_object(alloc, lane, unit, outputs, reads.as_slice())
             }
             Err(fault) => {
-                self.settle(alloc, lane, unit, UnitEnd::Failed(UnitFault::Script(fault)))?;
-                Ok(Carried::Settled)
+                self.conclude(alloc, lane, unit, UnitEnd::Failed(UnitFault::Script(fault)))?;
+                Ok(Carried::Concluded)
             }
         }
     }
@@ -233,11 +239,11 @@ impl<D: Disk> Core<D> {
         ensures ok { IfOk result
             (λ carried. IsCarried self.old.story self.new.story lane unit carried) }
         ensures err { OnErr result (self.new ≡ self.old) }
-        ensures settled { HasOutcome (state_of self.old.story) lane unit → self.new ≡ self.old }
+        ensures concluded { HasOutcome (state_of self.old.story) lane unit → self.new ≡ self.old }
         ensures counted { KeepsCount self.old self.new }
     {
         if self.build_at(lane).has_outcome(unit) {
-            return Ok(Carried::Settled);
+            return Ok(Carried::Concluded);
         }
         self.finish_run(alloc, lane, unit, ended)
     }

@@ -4,7 +4,7 @@ use Rattle.cc_names.specs.Formed.{Plain}
 use Rattle.cc_names.specs.declared.steps.UnitEnd.TheVariants.{Kept}
 use Rattle.cc_names.specs.declared.units.Unit.{Unit}
 use Rattle.legal_history.specs.Base.Rows.{Base, first_rows}
-use Rattle.legal_history.specs.Builds.Active.{Build, Came, Started, Ended, Given, came_to, is_outcome, unit_at}
+use Rattle.legal_history.specs.Builds.Active.{Build, Came, Started, Concluded, Given, came_to, is_outcome, unit_at}
 use Rattle.legal_history.specs.Builds.Freshness.{Agrees, HasOutputs, AgreesSoFar, outcome_in, early_from_nothing}
 use Rattle.legal_history.specs.Builds.Serials.{Outcome, Made, Without}
 use Rattle.legal_history.specs.Stories.Steps.{with_came}
@@ -23,9 +23,9 @@ has_outputs_stays row b unit id outputs h = record {
 agrees_stays : (row : Plain) (b : Base) (unit : Unit) (came : Came) (outcome : Outcome) → Agrees b unit came outcome → Agrees (row ∷ b) unit came outcome
 agrees_stays row b unit (Given id) (Made outputs) h = has_outputs_stays row b unit id outputs h
 agrees_stays row b unit (Given id) (Without end) h = h
-agrees_stays row b unit (Ended end) (Without other) h = h
-agrees_stays row b unit (Ended (Kept id)) (Made outputs) h = has_outputs_stays row b unit id outputs h
-agrees_stays row b unit (Ended end) (Made outputs) h = h
+agrees_stays row b unit (Concluded end) (Without other) h = h
+agrees_stays row b unit (Concluded (Kept id)) (Made outputs) h = has_outputs_stays row b unit id outputs h
+agrees_stays row b unit (Concluded end) (Made outputs) h = h
 agrees_stays row b unit Started (Made outputs) h = h
 agrees_stays row b unit Started (Without end) h = h
 

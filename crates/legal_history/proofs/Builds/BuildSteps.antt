@@ -9,13 +9,13 @@ use Rattle.cc_names.specs.declared.rows.Deed.TheVariants as deeds
 use Rattle.cc_names.specs.declared.rows.Tag.{Tag}
 use Rattle.cc_names.specs.declared.steps.Step.{Step}
 use Rattle.cc_names.specs.declared.steps.Step.TheVariants as steps
-use Rattle.cc_names.specs.declared.steps.Told.{Told}
-use Rattle.cc_names.specs.declared.steps.Told.TheVariants as told
+use Rattle.cc_names.specs.declared.steps.StoryStep.{StoryStep}
+use Rattle.cc_names.specs.declared.steps.StoryStep.TheVariants as story_steps
 use Rattle.cc_names.specs.declared.steps.UnitEnd.{UnitEnd}
 use Rattle.cc_names.specs.declared.steps.UnitEnd.TheVariants as ends
 use Rattle.cc_names.specs.declared.units.Unit.{Unit}
 use Rattle.legal_history.specs.Base.Rows.{size}
-use Rattle.legal_history.specs.Builds.Active.{Build, Ended, Given, build_of, object_of, unit_with_first}
+use Rattle.legal_history.specs.Builds.Active.{Build, Concluded, Given, build_of, object_of, unit_with_first}
 use Rattle.legal_history.specs.Base.Changes.{targets_of}
 use Rattle.legal_history.specs.Commands.Decisions.{Makes, Begins}
 use Rattle.legal_history.specs.Base.Fits.{is_base}
@@ -37,22 +37,22 @@ use Rattle.legal_history.proofs.Builds.UnitsCome.{start_came, start_without}
 use Rattle.legal_history.proofs.Builds.FineBuilds.{IsFine, fine_stays, some_same, waited_fine, takes_for}
 use Rattle.legal_history.proofs.Reuse.KeptObjects.{chosen_object}
 
-early_fine : (s : State) (tag : Tag) (n : ℕ) (end : UnitEnd) → Each (λ lane. IsFine s.base) s.active → EndsEarly s tag n end → object_of (Some (Ended end)) ≡ None →
-    Each (λ lane. IsFine s.base) (noted s.active tag.lane (λ b. Some n) (Ended end))
+early_fine : (s : State) (tag : Tag) (n : ℕ) (end : UnitEnd) → Each (λ lane. IsFine s.base) s.active → EndsEarly s tag n end → object_of (Some (Concluded end)) ≡ None →
+    Each (λ lane. IsFine s.base) (noted s.active tag.lane (λ b. Some n) (Concluded end))
 early_fine s tag n end h e plain =
-    waited_fine s s.base tag n e.build e.unit (λ b. Some n) (Ended end) h (of_lane s tag e.build e.waits.active) refl
-    (keeps_without s.base e.build n e.unit (Ended end) e.waits.is_unit e.waits.waits (ready_by e.build e.unit e.ready) plain)
+    waited_fine s s.base tag n e.build e.unit (λ b. Some n) (Concluded end) h (of_lane s tag e.build e.waits.active) refl
+    (keeps_without s.base e.build n e.unit (Concluded end) e.waits.is_unit e.waits.waits (ready_by e.build e.unit e.ready) plain)
 
-settled_fine : (s : State) (tag : Tag) (n : ℕ) (end : UnitEnd) → is_base s.base ≡ true → Each (λ lane. IsFine s.base) s.active → ComesTo s tag n end → Each (λ lane. IsFine s.base) (noted s.active tag.lane (λ b. Some n) (Ended end))
+settled_fine : (s : State) (tag : Tag) (n : ℕ) (end : UnitEnd) → is_base s.base ≡ true → Each (λ lane. IsFine s.base) s.active → ComesTo s tag n end → Each (λ lane. IsFine s.base) (noted s.active tag.lane (λ b. Some n) (Concluded end))
 settled_fine s tag n (ends.Kept id) base h e =
     let waits = e.open_unit.waits in
-    waited_fine s s.base tag n e.build e.unit (λ b. Some n) (Ended (ends.Kept id)) h (of_lane s tag e.build waits.active) refl
-    (keeps_with s.base e.build n id e.unit (Ended (ends.Kept id)) waits.is_unit waits.waits (ready_by e.build e.unit e.open_unit.ready) refl (chosen_object s.base e.build n e.unit id base e.chosen))
+    waited_fine s s.base tag n e.build e.unit (λ b. Some n) (Concluded (ends.Kept id)) h (of_lane s tag e.build waits.active) refl
+    (keeps_with s.base e.build n id e.unit (Concluded (ends.Kept id)) waits.is_unit waits.waits (ready_by e.build e.unit e.open_unit.ready) refl (chosen_object s.base e.build n e.unit id base e.chosen))
 settled_fine s tag n (ends.Failed (unit_faults.Script fault)) base h e =
     let there = of_lane s tag e.build e.running.waits.active in
     let ready = (h.holds tag.lane e.build there).consistent.ready n e.unit e.running.waits.is_unit (ap is_some e.running.started) in
-    waited_fine s s.base tag n e.build e.unit (λ b. Some n) (Ended (ends.Failed (unit_faults.Script fault))) h there refl
-    (keeps_without s.base e.build n e.unit (Ended (ends.Failed (unit_faults.Script fault))) e.running.waits.is_unit e.running.waits.waits ready refl)
+    waited_fine s s.base tag n e.build e.unit (λ b. Some n) (Concluded (ends.Failed (unit_faults.Script fault))) h there refl
+    (keeps_without s.base e.build n e.unit (Concluded (ends.Failed (unit_faults.Script fault))) e.running.waits.is_unit e.running.waits.waits ready refl)
 settled_fine s tag n (ends.Failed fault) base h e = early_fine s tag n (ends.Failed fault) h e refl
 settled_fine s tag n (ends.Blocked path) base h e = early_fine s tag n (ends.Blocked path) h e refl
 settled_fine s tag n ends.Bare base h e = early_fine s tag n ends.Bare h e refl
@@ -86,7 +86,7 @@ told_fine s (steps.Refused tag refusal) base h e = h
 told_fine s (steps.Answer tag text) base h e = h
 told_fine s (steps.Begin tag rows count) base h e = each_begun (λ lane. IsFine s.base) s.active tag.lane (begun s tag) h (begun_fine s tag e.units base e.chosen)
 told_fine s (steps.Start tag n) base h e = started_fine s tag n h e
-told_fine s (steps.Settled tag n end) base h e = settled_fine s tag n end base h e
+told_fine s (steps.Concluded tag n end) base h e = settled_fine s tag n end base h e
 told_fine s (steps.End tag) base h e = each_without (λ lane. IsFine s.base) (λ lane. IsFine s.base) s.active tag.lane h (λ lane build apart fine. fine)
 told_fine s (steps.Fault tag left before faults tick) base h e = each_faulted (λ lane. IsFine s.base) s.active tag.lane (build_by s tag) h (λ build is.
     let fine = h.holds tag.lane build (of_lane s tag build is) in
@@ -112,8 +112,8 @@ committed_fine s tag moment deed base h e =
     fine_stays s (record { tag = tag; moment = moment; deed = deed }) (says_of s tag (Makes deed) (decided_of s tag (Makes deed) e)).idle h
 
 -- Each lawful step leaves each active build fine.
-pub step_fine : (s : State) (x : Told) → is_base s.base ≡ true → is_some s.opened ≡ true → Each (λ lane. IsFine s.base) s.active → Lawful s x → Each (λ lane. IsFine (after s x).base) (after s x).active
-step_fine s (told.Opened rows counts tells) base o h e = absurd (let first = e.first in cc)
-step_fine s (told.Plan phase moment) base o h e = h
-step_fine s (told.Commit row tick) base o h e = committed_fine s row.tag row.moment row.deed base h e.may.made
-step_fine s (told.Other step) base o h e = told_fine s step base h e
+pub step_fine : (s : State) (x : StoryStep) → is_base s.base ≡ true → is_some s.opened ≡ true → Each (λ lane. IsFine s.base) s.active → Lawful s x → Each (λ lane. IsFine (after s x).base) (after s x).active
+step_fine s (story_steps.Opened rows counts tells) base o h e = absurd (let first = e.first in cc)
+step_fine s (story_steps.PhaseBegun phase moment) base o h e = h
+step_fine s (story_steps.Commit row tick) base o h e = committed_fine s row.tag row.moment row.deed base h e.may.made
+step_fine s (story_steps.Other step) base o h e = told_fine s step base h e

@@ -6,10 +6,10 @@ use Rattle.cc_names.specs.declared.rows.Deed.TheVariants as deeds
 use Rattle.cc_names.specs.declared.rows.Tag.{Tag}
 use Rattle.cc_names.specs.declared.steps.Step.{Step}
 use Rattle.cc_names.specs.declared.steps.Step.TheVariants as steps
-use Rattle.cc_names.specs.declared.steps.Told.{Told}
-use Rattle.cc_names.specs.declared.steps.Told.TheVariants as told
+use Rattle.cc_names.specs.declared.steps.StoryStep.{StoryStep}
+use Rattle.cc_names.specs.declared.steps.StoryStep.TheVariants as story_steps
 use Rattle.legal_history.specs.Base.Rows.{size}
-use Rattle.legal_history.specs.Builds.Active.{Active, Build, Came, Given, Ended, build_of, unit_with_first}
+use Rattle.legal_history.specs.Builds.Active.{Active, Build, Came, Given, Concluded, build_of, unit_with_first}
 use Rattle.legal_history.specs.Base.Changes.{targets_of}
 use Rattle.legal_history.specs.Stories.States.{State, End, Committed, Faulted, build_by, done_of, start, with_done}
 use Rattle.legal_history.specs.Stories.Steps.{after, after_step, active_after, begun, came_by_starting, done_after, done_by_fault, faulted_in, noted, state_from, state_of, with_build, without_build}
@@ -96,8 +96,8 @@ told_commanded s (steps.Begin tag rows count) h e =
 told_commanded s (steps.Start tag n) h e =
     active_commanded s (noted s.active tag.lane (λ build. Some n) (came_by_starting (build_of s.active tag.lane) n)) s.ends
     (noted_commanded s tag.lane (λ build. Some n) (came_by_starting (build_of s.active tag.lane) n) h)
-told_commanded s (steps.Settled tag n end) h e =
-    active_commanded s (noted s.active tag.lane (λ build. Some n) (Ended end)) s.ends (noted_commanded s tag.lane (λ build. Some n) (Ended end) h)
+told_commanded s (steps.Concluded tag n end) h e =
+    active_commanded s (noted s.active tag.lane (λ build. Some n) (Concluded end)) s.ends (noted_commanded s tag.lane (λ build. Some n) (Concluded end) h)
 told_commanded s (steps.End tag) h e =
     let t : State = record s { done = with_done s.done tag.lane; active = without_build s.active tag.lane } in
     each_without (IsOfCommand s) (IsOfCommand t) s.active tag.lane h (λ other build apart own.
@@ -107,20 +107,20 @@ told_commanded s (steps.Fault tag left before faults tick) h e =
     (subst (λ t. build_by s t ≡ None → build_of s.active t.lane ≡ None) e.wanted.of_tag (fault_idle s e.wanted.row e.wanted.row.deed e.wanted.may.made))
 told_commanded s step h e = absurd e
 
-pub step_commanded : (s : State) (x : Told) → IsSound s → AllCommanded s → Lawful s x → AllCommanded (after s x)
-step_commanded s (told.Opened rows counts tells) sound h e = absurd (let first = e.first in let opened = sound.opened in cc)
-step_commanded s (told.Plan phase moment) sound h e = record { holds = λ lane build is. absurd (let own = (h.holds lane build is).command in let none = none_left s lane e.finished in cc) }
-step_commanded s (told.Commit row tick) sound h e = committed_commanded s row.tag row.moment row.deed (Committed row tick ∷ s.ends) sound h e.may.made
-step_commanded s (told.Other step) sound h e = told_commanded s step h e
+pub step_commanded : (s : State) (x : StoryStep) → IsSound s → AllCommanded s → Lawful s x → AllCommanded (after s x)
+step_commanded s (story_steps.Opened rows counts tells) sound h e = absurd (let first = e.first in let opened = sound.opened in cc)
+step_commanded s (story_steps.PhaseBegun phase moment) sound h e = record { holds = λ lane build is. absurd (let own = (h.holds lane build is).command in let none = none_left s lane e.finished in cc) }
+step_commanded s (story_steps.Commit row tick) sound h e = committed_commanded s row.tag row.moment row.deed (Committed row tick ∷ s.ends) sound h e.may.made
+step_commanded s (story_steps.Other step) sound h e = told_commanded s step h e
 
-commanded_from : (s : State) (story : List Told) → IsSound s → AllCommanded s → LegalFrom s story → AllCommanded (state_from s story)
+commanded_from : (s : State) (story : List StoryStep) → IsSound s → AllCommanded s → LegalFrom s story → AllCommanded (state_from s story)
 commanded_from s [] sound h e = h
 commanded_from s (x ∷ story) sound h e = commanded_from (after s x) story (sound_step s x sound e.0) (step_commanded s x sound h e.0) e.1
 
 -- before a base is opened nothing builds
-pub none_begun : (x : Told) → Lawful start x → AllCommanded (after start x)
+pub none_begun : (x : StoryStep) → Lawful start x → AllCommanded (after start x)
 none_begun x e = record { holds = λ lane build is. absurd (let none : build_of (after start x).active lane ≡ None = ap (λ active. build_of active lane) (none_active x e) in cc) }
 
-pub build_commanded : (story : List Told) (lane : ℕ) (build : Build) → Legal story → build_of (state_of story).active lane ≡ Some build → IsOfCommand (state_of story) lane build
+pub build_commanded : (story : List StoryStep) (lane : ℕ) (build : Build) → Legal story → build_of (state_of story).active lane ≡ Some build → IsOfCommand (state_of story) lane build
 build_commanded [] lane build h is = absurd (cc)
 build_commanded (x ∷ story) lane build h is = (commanded_from (after start x) story (sound_first x h.0) (none_begun x h.0) h.1).holds lane build is

@@ -7,7 +7,7 @@ use Rattle.cc_names.specs.declared.steps.UnitEnd.TheVariants.{Kept}
 use Rattle.cc_names.specs.declared.units.Unit.{Unit}
 use Rattle.build_script.specs.Run.{run}
 use Rattle.legal_history.specs.Base.Rows.{Base, first_rows, only_where}
-use Rattle.legal_history.specs.Builds.Active.{Build, Came, Started, Ended, Given, object_of}
+use Rattle.legal_history.specs.Builds.Active.{Build, Came, Started, Concluded, Given, object_of}
 use Rattle.legal_history.specs.Builds.Choices.{unit_of_member, object_among, text_of_row, visible, here}
 use Rattle.legal_history.specs.Base.Closures.{is_among}
 use Rattle.legal_history.specs.Builds.Fresh.{output_of, output_or_file, texts, script_text}
@@ -61,9 +61,9 @@ text_same b files path (p ∷ pairs) row h same = by h.0.came p.outcome h.0.is r
         text_of_row b path (option_or (option_or (only_where (makes path p.unit) (object_of p.came)) (object_among path (map member_of pairs))) row) ≡ option_or (output_of path p.unit p.outcome) (output_or_file files (map finished_of pairs) path)
     by (Given id) (Made outputs) is out agrees rest = rw (is, out) (given id outputs (makes path p.unit) refl agrees rest)
     by (Given id) (Without end) is out agrees rest = absurd agrees
-    by (Ended end) (Without other) is out agrees rest = rw (is, out, agrees.1, nothing (makes path p.unit)) rest
-    by (Ended (Kept id)) (Made outputs) is out agrees rest = rw (is, out) (given id outputs (makes path p.unit) refl agrees rest)
-    by (Ended end) (Made outputs) is out agrees rest = absurd agrees
+    by (Concluded end) (Without other) is out agrees rest = rw (is, out, agrees.1, nothing (makes path p.unit)) rest
+    by (Concluded (Kept id)) (Made outputs) is out agrees rest = rw (is, out) (given id outputs (makes path p.unit) refl agrees rest)
+    by (Concluded end) (Made outputs) is out agrees rest = absurd agrees
     by Started outcome is out agrees rest = absurd agrees
 
 -- what a ready unit sees is what it sees from nothing

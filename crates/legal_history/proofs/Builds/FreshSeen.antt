@@ -8,7 +8,7 @@ use Rattle.cc_names.specs.declared.steps.UnitEnd.TheVariants.{Kept, Blocked, Fai
 use Rattle.cc_names.specs.declared.refusals.UnitFault.TheVariants.{NoRule}
 use Rattle.cc_names.specs.declared.units.Unit.{Unit}
 use Rattle.legal_history.specs.Base.Rows.{Base, first_rows}
-use Rattle.legal_history.specs.Builds.Active.{Build, Came, Started, Ended, Given, came_to, is_outcome, number_from, unit_at}
+use Rattle.legal_history.specs.Builds.Active.{Build, Came, Started, Concluded, Given, came_to, is_outcome, number_from, unit_at}
 use Rattle.legal_history.specs.Base.Closures.{is_among}
 use Rattle.legal_history.specs.Builds.Fresh.{sees_file, sees_directory}
 use Rattle.legal_history.specs.Builds.Freshness.{Agrees, AgreesSoFar, done_in, outcome_in, early_from_nothing}
@@ -118,9 +118,9 @@ find_mapped path (p ∷ pairs) = by (makes path p.unit) (find_mapped path pairs)
 agree_standing : (b : Base) (u : Unit) (came : Came) (outcome : Outcome) → Agrees b u came outcome → standing_of_came (Some came) ≡ standing_of_outcome outcome
 agree_standing b u (Given id) (Made outputs) h = refl
 agree_standing b u (Given id) (Without end) h = absurd h
-agree_standing b u (Ended end) (Without other) h = ap standing_of_end h.0
-agree_standing b u (Ended (Kept id)) (Made outputs) h = refl
-agree_standing b u (Ended end) (Made outputs) h = absurd h
+agree_standing b u (Concluded end) (Without other) h = ap standing_of_end h.0
+agree_standing b u (Concluded (Kept id)) (Made outputs) h = refl
+agree_standing b u (Concluded end) (Made outputs) h = absurd h
 agree_standing b u Started outcome h = absurd h
 
 -- an outcome that is there

@@ -4,7 +4,7 @@ use Rattle.std.proofs.lemmas.List.{reverse-append}
 use Rattle.std.proofs.Math.Seq.{take-length}
 use Rattle.std.specs.Prelude.{reverse, slice_get}
 use Rattle.cc_names.specs.declared.replies.Reply.TheVariants.{Built}
-use Rattle.cc_names.specs.declared.steps.Told.{Told}
+use Rattle.cc_names.specs.declared.steps.StoryStep.{StoryStep}
 use Rattle.cc_names.specs.declared.units.Unit.{Unit}
 use Rattle.legal_history.specs.Base.Rows.{Base, first_rows}
 use Rattle.legal_history.specs.Builds.Active.{Build, Came, came_to, is_outcome, unit_at}
@@ -96,7 +96,7 @@ left_complete true faulted over sound = refl
 left_complete false faulted over sound = absurd (let clash : true ≡ false = sym over ∙ sound in cc)
 
 -- so a build that is left without a fault has them
-pub left_outcome : (s : State) (x : Told) (lane : ℕ) (build : Build) (n : ℕ) (u : Unit) → AgreesSoFar s.base build → IsLeft s x lane build → build.faulted ≡ false → unit_at build n ≡ Some u → EndsAsFromNothing s.base build n u
+pub left_outcome : (s : State) (x : StoryStep) (lane : ℕ) (build : Build) (n : ℕ) (u : Unit) → AgreesSoFar s.base build → IsLeft s x lane build → build.faulted ≡ false → unit_at build n ≡ Some u → EndsAsFromNothing s.base build n u
 left_outcome s x lane build n u h left sound is = complete_outcome s.base build n u h (left_complete (is_complete build) build.faulted left.over sound) is
 
 -- A complete build that agrees is replied as the build from nothing.

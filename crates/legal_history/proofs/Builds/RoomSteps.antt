@@ -12,13 +12,13 @@ use Rattle.cc_names.specs.declared.rows.Deed.TheVariants as deeds
 use Rattle.cc_names.specs.declared.rows.Tag.{Tag}
 use Rattle.cc_names.specs.declared.steps.Step.{Step}
 use Rattle.cc_names.specs.declared.steps.Step.TheVariants as steps
-use Rattle.cc_names.specs.declared.steps.Told.{Told}
-use Rattle.cc_names.specs.declared.steps.Told.TheVariants as told
+use Rattle.cc_names.specs.declared.steps.StoryStep.{StoryStep}
+use Rattle.cc_names.specs.declared.steps.StoryStep.TheVariants as story_steps
 use Rattle.cc_names.specs.declared.steps.UnitEnd.{UnitEnd}
 use Rattle.cc_names.specs.declared.steps.UnitEnd.TheVariants as ends
 use Rattle.cc_names.specs.declared.units.Unit.{Unit}
 use Rattle.legal_history.specs.Base.Rows.{Base, size}
-use Rattle.legal_history.specs.Builds.Active.{Active, Build, Came, Given, Ended, build_of, is_outcome, unit_with_first}
+use Rattle.legal_history.specs.Builds.Active.{Active, Build, Came, Given, Concluded, build_of, is_outcome, unit_with_first}
 use Rattle.legal_history.specs.Base.Changes.{targets_of}
 use Rattle.legal_history.specs.Commands.Decisions.{Makes, Begins}
 use Rattle.legal_history.specs.Base.Fits.{row_limit}
@@ -109,18 +109,18 @@ ended_room b active lane h = record {
   room = let fewer = without_waiting active (λ key. not (key == lane)) in let room = h.room in omega arith;
 }
 
-settled_room : (s : State) (tag : Tag) (n : ℕ) (end : UnitEnd) → HasRoom s.base s.active → ComesTo s tag n end → HasRoom s.base (noted s.active tag.lane (λ b. Some n) (Ended end))
-settled_room s tag n (ends.Kept id) h e = waited_room s tag n e.build e.unit (λ b. Some n) (Ended (ends.Kept id)) h e.open_unit.waits refl
+settled_room : (s : State) (tag : Tag) (n : ℕ) (end : UnitEnd) → HasRoom s.base s.active → ComesTo s tag n end → HasRoom s.base (noted s.active tag.lane (λ b. Some n) (Concluded end))
+settled_room s tag n (ends.Kept id) h e = waited_room s tag n e.build e.unit (λ b. Some n) (Concluded (ends.Kept id)) h e.open_unit.waits refl
 settled_room s tag n (ends.Failed (unit_faults.Script fault)) h e =
-    waited_room s tag n e.build e.unit (λ b. Some n) (Ended (ends.Failed (unit_faults.Script fault))) h e.running.waits refl
-settled_room s tag n end h e = waited_room s tag n e.build e.unit (λ b. Some n) (Ended end) h e.waits refl
+    waited_room s tag n e.build e.unit (λ b. Some n) (Concluded (ends.Failed (unit_faults.Script fault))) h e.running.waits refl
+settled_room s tag n end h e = waited_room s tag n e.build e.unit (λ b. Some n) (Concluded end) h e.waits refl
 
 told_room : (s : State) (step : Step) → HasRoom s.base s.active → LawfulStep s step → HasRoom (after_step s step).base (after_step s step).active
 told_room s (steps.Refused tag refusal) h e = h
 told_room s (steps.Answer tag text) h e = h
 told_room s (steps.Begin tag rows count) h e = begun_room s tag e.units h e.chosen
 told_room s (steps.Start tag n) h e = waited_room s tag n e.build e.unit (λ b. Some n) (came_by_starting (build_of s.active tag.lane) n) h e.open_unit.waits refl
-told_room s (steps.Settled tag n end) h e = settled_room s tag n end h e
+told_room s (steps.Concluded tag n end) h e = settled_room s tag n end h e
 told_room s (steps.End tag) h e = ended_room s.base s.active tag.lane h
 told_room s (steps.Fault tag left before faults tick) h e = faulted_room s tag h
 told_room s step h e = absurd e
@@ -138,8 +138,8 @@ committed_room s tag moment deed h e =
     record { sorted = h.sorted; room = let all = all_reserved s.active in let room = says.room in omega arith }
 
 -- Each lawful step leaves room.
-pub step_room : (s : State) (x : Told) → is_some s.opened ≡ true → HasRoom s.base s.active → Lawful s x → HasRoom (after s x).base (after s x).active
-step_room s (told.Opened rows counts tells) o h e = absurd (let first = e.first in cc)
-step_room s (told.Plan phase moment) o h e = h
-step_room s (told.Commit row tick) o h e = committed_room s row.tag row.moment row.deed h e.may.made
-step_room s (told.Other step) o h e = told_room s step h e
+pub step_room : (s : State) (x : StoryStep) → is_some s.opened ≡ true → HasRoom s.base s.active → Lawful s x → HasRoom (after s x).base (after s x).active
+step_room s (story_steps.Opened rows counts tells) o h e = absurd (let first = e.first in cc)
+step_room s (story_steps.PhaseBegun phase moment) o h e = h
+step_room s (story_steps.Commit row tick) o h e = committed_room s row.tag row.moment row.deed h e.may.made
+step_room s (story_steps.Other step) o h e = told_room s step h e

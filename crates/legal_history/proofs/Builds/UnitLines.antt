@@ -5,7 +5,7 @@ use Rattle.cc_names.specs.declared.replies.UnitLine.{UnitLine}
 use Rattle.cc_names.specs.declared.steps.UnitEnd.TheVariants.{Kept}
 use Rattle.cc_names.specs.declared.units.Unit.{Unit}
 use Rattle.legal_history.specs.Base.Rows.{Base}
-use Rattle.legal_history.specs.Builds.Active.{Build, Came, Started, Ended, Given, came_to, object_of}
+use Rattle.legal_history.specs.Builds.Active.{Build, Came, Started, Concluded, Given, came_to, object_of}
 use Rattle.legal_history.specs.Builds.Freshness.{Agrees}
 use Rattle.legal_history.specs.Builds.Serials.{Outcome, Made, Without, Finished}
 use Rattle.legal_history.specs.Builds.Replied.{digest_at, word_of_object, word_of_end, word_of_came, word_of_outcome, told_targets, has_outputs, lines_of, lines_from, finished_from}
@@ -15,18 +15,18 @@ same_word : (b : Base) (build : Build) (unit : Unit) (path : List ℕ) (came : C
     Some (word_of_outcome b build path unit.targets (Some came) outcome) ≡ word_of_came b build path (Some came)
 same_word b build unit path (Given id) (Made outputs) h = ap (λ o. Some (word_of_object b build (Some (Given id)) (digest_at o))) (sym (h.texts path))
 same_word b build unit path (Given id) (Without end) h = absurd h
-same_word b build unit path (Ended end) (Without other) h = ap (λ e. Some (word_of_end b path e)) (sym h.0)
-same_word b build unit path (Ended (Kept id)) (Made outputs) h = ap (λ o. Some (word_of_object b build (Some (Ended (Kept id))) (digest_at o))) (sym (h.texts path))
-same_word b build unit path (Ended end) (Made outputs) h = absurd h
+same_word b build unit path (Concluded end) (Without other) h = ap (λ e. Some (word_of_end b path e)) (sym h.0)
+same_word b build unit path (Concluded (Kept id)) (Made outputs) h = ap (λ o. Some (word_of_object b build (Some (Concluded (Kept id))) (digest_at o))) (sym (h.texts path))
+same_word b build unit path (Concluded end) (Made outputs) h = absurd h
 same_word b build unit path Started outcome h = absurd h
 
 -- a unit has an object exactly where it is made from nothing
 made_same : (b : Base) (unit : Unit) (came : Came) (outcome : Outcome) → Agrees b unit came outcome → has_outputs outcome ≡ is_some (object_of (Some came))
 made_same b unit (Given id) (Made outputs) h = refl
 made_same b unit (Given id) (Without end) h = absurd h
-made_same b unit (Ended end) (Without other) h = sym (ap is_some h.1)
-made_same b unit (Ended (Kept id)) (Made outputs) h = refl
-made_same b unit (Ended end) (Made outputs) h = absurd h
+made_same b unit (Concluded end) (Without other) h = sym (ap is_some h.1)
+made_same b unit (Concluded (Kept id)) (Made outputs) h = refl
+made_same b unit (Concluded end) (Made outputs) h = absurd h
 made_same b unit Started outcome h = absurd h
 
 -- the lines of unit n

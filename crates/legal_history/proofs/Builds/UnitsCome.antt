@@ -11,7 +11,7 @@ use Rattle.cc_names.specs.declared.units.Unit.{Unit}
 use Rattle.build_script.specs.Lines.{script_of}
 use Rattle.build_script.specs.declared.lines.Line.{Line}
 use Rattle.legal_history.specs.Base.Rows.{Base, size, first_rows}
-use Rattle.legal_history.specs.Builds.Active.{Build, Started, Ended, Given, build_of, came_to, is_outcome, object_of, unit_at}
+use Rattle.legal_history.specs.Builds.Active.{Build, Started, Concluded, Given, build_of, came_to, is_outcome, object_of, unit_at}
 use Rattle.legal_history.specs.Builds.Choices.{here, text_of_row, visible}
 use Rattle.legal_history.specs.Builds.Fresh.{outcome_of_run, script_text}
 use Rattle.legal_history.specs.Builds.Freshness.{Agrees, AgreesSoFar, early_from_nothing}
@@ -50,9 +50,9 @@ start_may b build n unit h is waits ready early = by (script_of (script_text uni
     by : (r : Result (List Line) ScriptFault) → script_of (script_text unit.script) ≡ r → MayCome b build n unit (came_by_start (fault_of r))
     by (Ok lines) read = record { keeps = keeps_without b build n unit Started is waits ready refl; runs = λ e. early; agrees = λ over. absurd (cc) }
     by (Err fault) read = record {
-      keeps = keeps_without b build n unit (Ended (ends.Failed (unit_faults.Script fault))) is waits ready refl;
+      keeps = keeps_without b build n unit (Concluded (ends.Failed (unit_faults.Script fault))) is waits ready refl;
       runs = λ e. early;
-      agrees = λ over. subst (Agrees b unit (Ended (ends.Failed (unit_faults.Script fault))))
+      agrees = λ over. subst (Agrees b unit (Concluded (ends.Failed (unit_faults.Script fault))))
           (sym (outcome_by_run b build n unit h ready early
           ∙ ap outcome_of_run (unreadable_fails (script_text unit.script) unit.targets (λ path. text_of_row b path (visible b build n unit path)) fault read)))
           (refl, refl);
@@ -60,23 +60,23 @@ start_may b build n unit h is waits ready early = by (script_of (script_text uni
 
 -- a unit that ends early
 pub early_may : (b : Base) (build : Build) (n : ℕ) (unit : Unit) (end : UnitEnd) → AgreesSoFar b build → unit_at build n ≡ Some unit → is_outcome (came_to build n) ≡ false → IsReady build unit →
-    early b build unit ≡ Some end → object_of (Some (Ended end)) ≡ None → MayCome b build n unit (Ended end)
+    early b build unit ≡ Some end → object_of (Some (Concluded end)) ≡ None → MayCome b build n unit (Concluded end)
 early_may b build n unit end h is waits ready ended plain = record {
-  keeps = keeps_without b build n unit (Ended end) is waits ready plain;
+  keeps = keeps_without b build n unit (Concluded end) is waits ready plain;
   runs = λ e. absurd (cc);
-  agrees = λ over. subst (Agrees b unit (Ended end))
+  agrees = λ over. subst (Agrees b unit (Concluded end))
       (sym (outcome_by_end (first_rows build.rows b) build n unit end (sym (early_same b build n unit h is ready) ∙ ended))) (refl, plain);
 }
 
 -- a unit whose run fails
 pub fails_may : (b : Base) (build : Build) (n : ℕ) (unit : Unit) (fault : ScriptFault) → AgreesSoFar b build → unit_at build n ≡ Some unit → is_outcome (came_to build n) ≡ false → came_to build n ≡ Some Started →
-    (here b build n unit).result ≡ Err fault → MayCome b build n unit (Ended (ends.Failed (unit_faults.Script fault)))
+    (here b build n unit).result ≡ Err fault → MayCome b build n unit (Concluded (ends.Failed (unit_faults.Script fault)))
 fails_may b build n unit fault h is waits started fails =
     let way = under_way b build n unit h is started in
     record {
-      keeps = keeps_without b build n unit (Ended (ends.Failed (unit_faults.Script fault))) is waits way.ready refl;
+      keeps = keeps_without b build n unit (Concluded (ends.Failed (unit_faults.Script fault))) is waits way.ready refl;
       runs = λ e. absurd (cc);
-      agrees = λ over. subst (Agrees b unit (Ended (ends.Failed (unit_faults.Script fault)))) (sym (outcome_by_run b build n unit h way.ready way.early ∙ ap outcome_of_run fails)) (refl, refl);
+      agrees = λ over. subst (Agrees b unit (Concluded (ends.Failed (unit_faults.Script fault)))) (sym (outcome_by_run b build n unit h way.ready way.early ∙ ap outcome_of_run fails)) (refl, refl);
     }
 
 pub given_may : (row : Plain) (b : Base) (build : Build) (n : ℕ) (unit : Unit) → AgreesSoFar b build → unit_at build n ≡ Some unit → is_outcome (came_to build n) ≡ false → came_to build n ≡ Some Started →

@@ -7,13 +7,13 @@ use Rattle.cc_names.specs.declared.rows.Deed.TheVariants as deeds
 use Rattle.cc_names.specs.declared.rows.Tag.{Tag}
 use Rattle.cc_names.specs.declared.steps.Step.{Step}
 use Rattle.cc_names.specs.declared.steps.Step.TheVariants as steps
-use Rattle.cc_names.specs.declared.steps.Told.{Told}
-use Rattle.cc_names.specs.declared.steps.Told.TheVariants as told
+use Rattle.cc_names.specs.declared.steps.StoryStep.{StoryStep}
+use Rattle.cc_names.specs.declared.steps.StoryStep.TheVariants as story_steps
 use Rattle.cc_names.specs.declared.steps.UnitEnd.{UnitEnd}
 use Rattle.cc_names.specs.declared.steps.UnitEnd.TheVariants as ends
 use Rattle.cc_names.specs.declared.units.Unit.{Unit}
 use Rattle.legal_history.specs.Base.Rows.{size}
-use Rattle.legal_history.specs.Builds.Active.{Build, Ended, Given, build_of, object_of, unit_with_first}
+use Rattle.legal_history.specs.Builds.Active.{Build, Concluded, Given, build_of, object_of, unit_with_first}
 use Rattle.legal_history.specs.Base.Changes.{targets_of}
 use Rattle.legal_history.specs.Stories.Committing.{MakesRow}
 use Rattle.legal_history.specs.Commands.Decisions.{Begins}
@@ -38,30 +38,30 @@ use Rattle.legal_history.proofs.Stories.Goes.{of_lane}
 use Rattle.legal_history.proofs.Stories.SoundStories.{IsSound}
 use Rattle.legal_history.proofs.Reuse.GivenCommits.{AllHeld}
 use Rattle.legal_history.proofs.Reuse.SoundBases.{gives_live}
-use Rattle.legal_history.proofs.Reuse.TakenObjects.{kept_agrees, may_take_due, winked_agrees}
+use Rattle.legal_history.proofs.Reuse.TakenObjects.{kept_agrees, may_take_may_run, winked_agrees}
 
 -- each active build agrees
 abbrev pub BuildsAgree : State → Type 0
 BuildsAgree s = Each (λ lane. AgreesSoFar s.base) s.active
 
-early_agrees : (s : State) (tag : Tag) (n : ℕ) (end : UnitEnd) → BuildsAgree s → EndsEarly s tag n end → object_of (Some (Ended end)) ≡ None → Each (λ lane. AgreesSoFar s.base) (noted s.active tag.lane (λ b. Some n) (Ended end))
+early_agrees : (s : State) (tag : Tag) (n : ℕ) (end : UnitEnd) → BuildsAgree s → EndsEarly s tag n end → object_of (Some (Concluded end)) ≡ None → Each (λ lane. AgreesSoFar s.base) (noted s.active tag.lane (λ b. Some n) (Concluded end))
 early_agrees s tag n end h e plain =
     let there = of_lane s tag e.build e.waits.active in
     let agrees = h.holds tag.lane e.build there in
-    each_waited (AgreesSoFar s.base) s tag n e.build (λ b. Some n) (Ended end) h there refl
-    (came_so s.base e.build n e.unit (Ended end) agrees (early_may s.base e.build n e.unit end agrees e.waits.is_unit e.waits.waits (ready_by e.build e.unit e.ready) e.ends plain))
+    each_waited (AgreesSoFar s.base) s tag n e.build (λ b. Some n) (Concluded end) h there refl
+    (came_so s.base e.build n e.unit (Concluded end) agrees (early_may s.base e.build n e.unit end agrees e.waits.is_unit e.waits.waits (ready_by e.build e.unit e.ready) e.ends plain))
 
-settled_agrees : (s : State) (tag : Tag) (n : ℕ) (end : UnitEnd) → values.IsSound s.base → is_base s.base ≡ true → AllHeld s → BuildsAgree s → ComesTo s tag n end → Each (λ lane. AgreesSoFar s.base) (noted s.active tag.lane (λ b. Some n) (Ended end))
+settled_agrees : (s : State) (tag : Tag) (n : ℕ) (end : UnitEnd) → values.IsSound s.base → is_base s.base ≡ true → AllHeld s → BuildsAgree s → ComesTo s tag n end → Each (λ lane. AgreesSoFar s.base) (noted s.active tag.lane (λ b. Some n) (Concluded end))
 settled_agrees s tag n (ends.Kept id) whole base held h e =
     let there = of_lane s tag e.build e.open_unit.waits.active in
-    each_waited (AgreesSoFar s.base) s tag n e.build (λ b. Some n) (Ended (ends.Kept id)) h there refl
+    each_waited (AgreesSoFar s.base) s tag n e.build (λ b. Some n) (Concluded (ends.Kept id)) h there refl
     (kept_agrees s.base e.build n e.unit id base whole (gives_live s.base e.build (held.given.holds tag.lane e.build there)) (h.holds tag.lane e.build there) e.open_unit.waits.is_unit
-    (may_take_due s tag n e.build e.unit (inl e.open_unit)) e.chosen)
+    (may_take_may_run s tag n e.build e.unit (inl e.open_unit)) e.chosen)
 settled_agrees s tag n (ends.Failed (unit_faults.Script fault)) whole base held h e =
     let there = of_lane s tag e.build e.running.waits.active in
     let agrees = h.holds tag.lane e.build there in
-    each_waited (AgreesSoFar s.base) s tag n e.build (λ b. Some n) (Ended (ends.Failed (unit_faults.Script fault))) h there refl
-    (came_so s.base e.build n e.unit (Ended (ends.Failed (unit_faults.Script fault))) agrees
+    each_waited (AgreesSoFar s.base) s tag n e.build (λ b. Some n) (Concluded (ends.Failed (unit_faults.Script fault))) h there refl
+    (came_so s.base e.build n e.unit (Concluded (ends.Failed (unit_faults.Script fault))) agrees
     (fails_may s.base e.build n e.unit fault agrees e.running.waits.is_unit e.running.waits.waits e.running.started e.fails))
 settled_agrees s tag n (ends.Failed fault) whole base held h e = early_agrees s tag n (ends.Failed fault) h e refl
 settled_agrees s tag n (ends.Blocked path) whole base held h e = early_agrees s tag n (ends.Blocked path) h e refl
@@ -89,7 +89,7 @@ told_agrees s (steps.Refused tag refusal) whole base held h e = h
 told_agrees s (steps.Answer tag text) whole base held h e = h
 told_agrees s (steps.Begin tag rows count) whole base held h e = each_begun (λ lane. AgreesSoFar s.base) s.active tag.lane (begun s tag) h (begun_agrees s tag e.units base e.chosen)
 told_agrees s (steps.Start tag n) whole base held h e = started_agrees s tag n h e
-told_agrees s (steps.Settled tag n end) whole base held h e = settled_agrees s tag n end whole base held h e
+told_agrees s (steps.Concluded tag n end) whole base held h e = settled_agrees s tag n end whole base held h e
 told_agrees s (steps.End tag) whole base held h e = each_without (λ lane. AgreesSoFar s.base) (λ lane. AgreesSoFar s.base) s.active tag.lane h (λ lane build apart agrees. agrees)
 told_agrees s (steps.Fault tag left before faults tick) whole base held h e =
     each_faulted (λ lane. AgreesSoFar s.base) s.active tag.lane (build_by s tag) h (λ build is. faulted_agrees s.base build (h.holds tag.lane build (of_lane s tag build is)))
@@ -114,12 +114,12 @@ committed_agrees s tag moment (deeds.Wink view id) whole base held h e =
     let w = takes_for s tag e.n e.build e.unit e.may in
     each_waited (AgreesSoFar (row ∷ s.base)) s tag e.n e.build (λ build. unit_with_first build (targets_of s.base id)) (Given id) (agrees_on s row h) w.there e.place
     (winked_agrees row s.base e.build e.n e.unit id base whole (gives_live s.base e.build (held.given.holds tag.lane e.build w.there)) (h.holds tag.lane e.build w.there) w.is_unit
-    (may_take_due s tag e.n e.build e.unit e.may) e.chosen (ap (λ v. deeds.Wink v id) (sym e.of_view)))
+    (may_take_may_run s tag e.n e.build e.unit e.may) e.chosen (ap (λ v. deeds.Wink v id) (sym e.of_view)))
 committed_agrees s tag moment deed whole base held h e = agrees_on s (record { tag = tag; moment = moment; deed = deed }) h
 
 -- Each lawful step leaves each active build agreeing.
-pub agree_step : (s : State) (x : Told) → IsSound s → values.IsSound s.base → AllHeld s → BuildsAgree s → Lawful s x → BuildsAgree (after s x)
-agree_step s (told.Opened rows counts tells) sound whole held h e = absurd (let first = e.first in let opened = sound.opened in cc)
-agree_step s (told.Plan phase moment) sound whole held h e = h
-agree_step s (told.Commit row tick) sound whole held h e = committed_agrees s row.tag row.moment row.deed whole sound.base held h e.may.made
-agree_step s (told.Other step) sound whole held h e = told_agrees s step whole sound.base held h e
+pub agree_step : (s : State) (x : StoryStep) → IsSound s → values.IsSound s.base → AllHeld s → BuildsAgree s → Lawful s x → BuildsAgree (after s x)
+agree_step s (story_steps.Opened rows counts tells) sound whole held h e = absurd (let first = e.first in let opened = sound.opened in cc)
+agree_step s (story_steps.PhaseBegun phase moment) sound whole held h e = h
+agree_step s (story_steps.Commit row tick) sound whole held h e = committed_agrees s row.tag row.moment row.deed whole sound.base held h e.may.made
+agree_step s (story_steps.Other step) sound whole held h e = told_agrees s step whole sound.base held h e

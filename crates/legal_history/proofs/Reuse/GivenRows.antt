@@ -12,7 +12,7 @@ use Rattle.cc_names.specs.declared.rows.ReadOf.{ReadOf}
 use Rattle.cc_names.specs.declared.rows.Tag.{Tag}
 use Rattle.cc_names.specs.declared.units.Unit.{Unit}
 use Rattle.legal_history.specs.Base.Rows.{Base, size}
-use Rattle.legal_history.specs.Builds.Active.{Active, Build, Came, Started, Ended, Given, build_of, building, came_to, is_outcome, object_of, unit_at, unit_with_first}
+use Rattle.legal_history.specs.Builds.Active.{Active, Build, Came, Started, Concluded, Given, build_of, building, came_to, is_outcome, object_of, unit_at, unit_with_first}
 use Rattle.legal_history.specs.Base.Changes.{held, live, targets_of}
 use Rattle.legal_history.specs.Base.Closures.{is_among}
 use Rattle.legal_history.specs.Base.Fits.{deed_fits}
@@ -89,7 +89,7 @@ came_without b build (Some n) came none h = came_given b build n came (λ id is.
 pub object_is_outcome : (o : Option Came) (id : ℕ) → object_of o ≡ Some id → is_outcome o ≡ true
 object_is_outcome None id h = absurd (cc)
 object_is_outcome (Some (Given k)) id h = refl
-object_is_outcome (Some (Ended end)) id h = refl
+object_is_outcome (Some (Concluded end)) id h = refl
 object_is_outcome (Some Started) id h = absurd (cc)
 
 -- a target of a unit that is found by its targets

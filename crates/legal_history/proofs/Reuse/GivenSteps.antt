@@ -3,12 +3,12 @@ use Rattle.std.proofs.Common.{◌≡◌, refl, sym, subst, ◌∙◌, ℕ, true,
 use Rattle.cc_names.specs.declared.rows.Tag.{Tag}
 use Rattle.cc_names.specs.declared.steps.Step.{Step}
 use Rattle.cc_names.specs.declared.steps.Step.TheVariants as steps
-use Rattle.cc_names.specs.declared.steps.Told.{Told}
-use Rattle.cc_names.specs.declared.steps.Told.TheVariants as told
+use Rattle.cc_names.specs.declared.steps.StoryStep.{StoryStep}
+use Rattle.cc_names.specs.declared.steps.StoryStep.TheVariants as story_steps
 use Rattle.cc_names.specs.declared.steps.UnitEnd.{UnitEnd}
 use Rattle.cc_names.specs.declared.steps.UnitEnd.TheVariants as ends
 use Rattle.cc_names.specs.declared.units.Unit.{Unit}
-use Rattle.legal_history.specs.Builds.Active.{Build, Came, Ended, build_of, object_of, unit_at}
+use Rattle.legal_history.specs.Builds.Active.{Build, Came, Concluded, build_of, object_of, unit_at}
 use Rattle.legal_history.specs.Commands.Decisions.{Begins}
 use Rattle.legal_history.specs.Base.Fits.{is_base}
 use Rattle.legal_history.specs.Stories.States.{State, decided, build_by}
@@ -43,27 +43,27 @@ without_object s lane number came none h =
     each_noted (λ lane. HoldsGiven s.base) s.active lane number came h.given (λ build is. came_without s.base build (number build) came none (h.given.holds lane build is))
 
 -- a unit keeps what the view holds at every target
-kept_given : (s : State) (tag : Tag) (n id : ℕ) → is_base s.base ≡ true → AllHeld s → Keeps s tag n id → Each (λ lane. HoldsGiven s.base) (noted s.active tag.lane (λ b. Some n) (Ended (ends.Kept id)))
+kept_given : (s : State) (tag : Tag) (n id : ℕ) → is_base s.base ≡ true → AllHeld s → Keeps s tag n id → Each (λ lane. HoldsGiven s.base) (noted s.active tag.lane (λ b. Some n) (Concluded (ends.Kept id)))
 kept_given s tag n id base h e =
-    each_noted (λ lane. HoldsGiven s.base) s.active tag.lane (λ b. Some n) (Ended (ends.Kept id)) h.given own
+    each_noted (λ lane. HoldsGiven s.base) s.active tag.lane (λ b. Some n) (Concluded (ends.Kept id)) h.given own
   where
     there : build_of s.active tag.lane ≡ Some e.build
     there = of_lane s tag e.build e.open_unit.waits.active
 
-    own : (build : Build) → build_of s.active tag.lane ≡ Some build → HoldsGiven s.base (with_came build (Some n) (Ended (ends.Kept id)))
+    own : (build : Build) → build_of s.active tag.lane ≡ Some build → HoldsGiven s.base (with_came build (Some n) (Concluded (ends.Kept id)))
     own build is =
         let same : e.build ≡ build = some_same (sym there ∙ is) in
-        subst (λ x. HoldsGiven s.base (with_came x (Some n) (Ended (ends.Kept id)))) same
-        (came_given s.base e.build n (Ended (ends.Kept id))
+        subst (λ x. HoldsGiven s.base (with_came x (Some n) (Concluded (ends.Kept id)))) same
+        (came_given s.base e.build n (Concluded (ends.Kept id))
         (λ other object. let number : id ≡ other = some_same object in
         subst (IsHeld s.base e.build n) number (kept_held s.base e.build n e.unit id base e.open_unit.waits.is_unit e.holds))
         (h.given.holds tag.lane e.build there))
 
-settled_given : (s : State) (tag : Tag) (n : ℕ) (end : UnitEnd) → is_base s.base ≡ true → AllHeld s → ComesTo s tag n end → Each (λ lane. HoldsGiven s.base) (noted s.active tag.lane (λ b. Some n) (Ended end))
+settled_given : (s : State) (tag : Tag) (n : ℕ) (end : UnitEnd) → is_base s.base ≡ true → AllHeld s → ComesTo s tag n end → Each (λ lane. HoldsGiven s.base) (noted s.active tag.lane (λ b. Some n) (Concluded end))
 settled_given s tag n (ends.Kept id) base h e = kept_given s tag n id base h e
-settled_given s tag n (ends.Failed fault) base h e = without_object s tag.lane (λ b. Some n) (Ended (ends.Failed fault)) refl h
-settled_given s tag n (ends.Blocked path) base h e = without_object s tag.lane (λ b. Some n) (Ended (ends.Blocked path)) refl h
-settled_given s tag n ends.Bare base h e = without_object s tag.lane (λ b. Some n) (Ended ends.Bare) refl h
+settled_given s tag n (ends.Failed fault) base h e = without_object s tag.lane (λ b. Some n) (Concluded (ends.Failed fault)) refl h
+settled_given s tag n (ends.Blocked path) base h e = without_object s tag.lane (λ b. Some n) (Concluded (ends.Blocked path)) refl h
+settled_given s tag n ends.Bare base h e = without_object s tag.lane (λ b. Some n) (Concluded ends.Bare) refl h
 
 begun_given : (s : State) (tag : Tag) (us : List Unit) → decided s tag ≡ Some (Ok (Begins us)) → (build : Build) → begun s tag ≡ Some build → HoldsGiven s.base build
 begun_given s tag us h build is =
@@ -76,7 +76,7 @@ told_given s (steps.Refused tag refusal) base h e = h.given
 told_given s (steps.Answer tag text) base h e = h.given
 told_given s (steps.Begin tag rows count) base h e = each_begun (λ lane. HoldsGiven s.base) s.active tag.lane (begun s tag) h.given (begun_given s tag e.units e.chosen)
 told_given s (steps.Start tag n) base h e = without_object s tag.lane (λ b. Some n) (came_by_starting (build_of s.active tag.lane) n) (starting_without (build_of s.active tag.lane) n) h
-told_given s (steps.Settled tag n end) base h e = settled_given s tag n end base h e
+told_given s (steps.Concluded tag n end) base h e = settled_given s tag n end base h e
 told_given s (steps.End tag) base h e = each_without (λ lane. HoldsGiven s.base) (λ lane. HoldsGiven s.base) s.active tag.lane h.given (λ lane build apart given. given)
 told_given s (steps.Fault tag left before faults tick) base h e = each_faulted (λ lane. HoldsGiven s.base) s.active tag.lane (build_by s tag) h.given (λ build is.
     record {
@@ -91,15 +91,15 @@ told_apart s (steps.Refused tag refusal) h e = h.apart
 told_apart s (steps.Answer tag text) h e = h.apart
 told_apart s (steps.Begin tag rows count) h e = apart_begun s.active tag.lane (begun s tag) (begun_idle s tag e.units e.chosen) h.apart
 told_apart s (steps.Start tag n) h e = apart_noted s.active tag.lane (λ b. Some n) (came_by_starting (build_of s.active tag.lane) n) h.apart
-told_apart s (steps.Settled tag n end) h e = apart_noted s.active tag.lane (λ b. Some n) (Ended end) h.apart
+told_apart s (steps.Concluded tag n end) h e = apart_noted s.active tag.lane (λ b. Some n) (Concluded end) h.apart
 told_apart s (steps.End tag) h e = apart_without s.active tag.lane h.apart
 told_apart s (steps.Fault tag left before faults tick) h e = apart_faulted s.active tag.lane (build_by s tag) (λ build is. of_lane s tag build is) h.apart
 told_apart s step h e = absurd e
 
-pub held_step : (s : State) (x : Told) → IsSound s → AllHeld s → Lawful s x → AllHeld (after s x)
-held_step s (told.Opened rows counts tells) sound h e = absurd (let first = e.first in let opened = sound.opened in cc)
-held_step s (told.Plan phase moment) sound h e = record { given = h.given; apart = h.apart }
-held_step s (told.Commit row tick) sound h e =
-    let fit = row_fits row s.base (sound_step s (told.Commit row tick) sound e).base in
+pub held_step : (s : State) (x : StoryStep) → IsSound s → AllHeld s → Lawful s x → AllHeld (after s x)
+held_step s (story_steps.Opened rows counts tells) sound h e = absurd (let first = e.first in let opened = sound.opened in cc)
+held_step s (story_steps.PhaseBegun phase moment) sound h e = record { given = h.given; apart = h.apart }
+held_step s (story_steps.Commit row tick) sound h e =
+    let fit = row_fits row s.base (sound_step s (story_steps.Commit row tick) sound e).base in
     record { given = committed_given s row.tag row.moment row.deed sound h fit e.may.made; apart = committed_apart s row.tag.lane row.deed h }
-held_step s (told.Other step) sound h e = record { given = told_given s step sound.base h e; apart = told_apart s step h e }
+held_step s (story_steps.Other step) sound h e = record { given = told_given s step sound.base h e; apart = told_apart s step h e }

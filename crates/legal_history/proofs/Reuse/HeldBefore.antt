@@ -8,14 +8,14 @@ use Rattle.cc_names.specs.declared.rows.Deed.TheVariants as deeds
 use Rattle.cc_names.specs.declared.rows.Tag.{Tag}
 use Rattle.cc_names.specs.declared.steps.Step.{Step}
 use Rattle.cc_names.specs.declared.steps.Step.TheVariants as steps
-use Rattle.cc_names.specs.declared.steps.Told.{Told}
-use Rattle.cc_names.specs.declared.steps.Told.TheVariants as told
+use Rattle.cc_names.specs.declared.steps.StoryStep.{StoryStep}
+use Rattle.cc_names.specs.declared.steps.StoryStep.TheVariants as story_steps
 use Rattle.cc_names.specs.declared.units.Unit.{Unit}
 use Rattle.legal_history.specs.Base.Rows.{Base, deed_at, deed_of, only_where, size}
 use Rattle.legal_history.specs.Base.Changes.{held, targets_of}
 use Rattle.legal_history.specs.Base.Closures.{is_among}
 use Rattle.legal_history.specs.Base.Fits.{is_base}
-use Rattle.legal_history.specs.Builds.Active.{Build, Came, Ended, Given, Started, build_of, came_to, is_outcome, unit_at, unit_with_first}
+use Rattle.legal_history.specs.Builds.Active.{Build, Came, Concluded, Given, Started, build_of, came_to, is_outcome, unit_at, unit_with_first}
 use Rattle.legal_history.specs.Builds.Consistency.{IsReady}
 use Rattle.legal_history.specs.Builds.Fresh.{script_text}
 use Rattle.legal_history.specs.Builds.Reuse.{by_options, held_at_all, held_at_each, held_at_others, if_matches, matches, newest_match, record_matches, reusable}
@@ -144,7 +144,7 @@ told_before s (steps.Refused tag refusal) e = started_before s
 told_before s (steps.Answer tag text) e = started_before s
 told_before s (steps.Begin tag rows count) e = each_begun (AreStartedBy s) s.active tag.lane (begun s tag) (started_before s) (begun_before s tag e.units e.chosen)
 told_before s (steps.Start tag n) e = started_now s tag n (came_by_starting (build_of s.active tag.lane) n) e
-told_before s (steps.Settled tag n end) e = noted_before s tag.lane (λ b. Some n) (Ended end) refl
+told_before s (steps.Concluded tag n end) e = noted_before s tag.lane (λ b. Some n) (Concluded end) refl
 told_before s (steps.End tag) e = each_without (AreStartedBy s) (AreStartedBy s) s.active tag.lane (started_before s) (λ lane build apart before. before)
 told_before s (steps.Fault tag left before faults tick) e =
     each_faulted (AreStartedBy s) s.active tag.lane (build_by s tag) (started_before s) (λ build is n started. Before build (of_lane s tag build is) started)
@@ -155,11 +155,11 @@ committed_before s lane (deeds.Publish view targets script entries outputs) = no
 committed_before s lane (deeds.Wink view id) = noted_before s lane (λ build. unit_with_first build (targets_of s.base id)) (Given id) refl
 committed_before s lane deed = started_before s
 
-step_before : (s : State) (x : Told) → Lawful s x → Each (AreStartedBy s) (after s x).active
-step_before s (told.Opened rows counts tells) e = started_before s
-step_before s (told.Plan phase moment) e = started_before s
-step_before s (told.Commit row tick) e = committed_before s row.tag.lane row.deed
-step_before s (told.Other step) e = told_before s step e
+step_before : (s : State) (x : StoryStep) → Lawful s x → Each (AreStartedBy s) (after s x).active
+step_before s (story_steps.Opened rows counts tells) e = started_before s
+step_before s (story_steps.PhaseBegun phase moment) e = started_before s
+step_before s (story_steps.Commit row tick) e = committed_before s row.tag.lane row.deed
+step_before s (story_steps.Other step) e = told_before s step e
 
 -- a unit of an old build is ready, and the object that the view holds at its targets does not match it
 record WasPassed (s : State) (old : Build) (n : ℕ) (unit : Unit) : Type 0 where
@@ -170,7 +170,7 @@ record WasPassed (s : State) (old : Build) (n : ℕ) (unit : Unit) : Type 0 wher
 abbrev AllPass : State → Type 0
 AllPass s = Each (λ lane build. (n : ℕ) (unit : Unit) → unit_at build n ≡ Some unit → came_to build n ≡ Some Started → PassesItsOwn s.base build n unit) s.active
 
-passes_after : (s : State) (x : Told) (lane : ℕ) (old new : Build) (n : ℕ) (unit : Unit) → IsSound s → AllHeld s → Lawful s x → build_of s.active lane ≡ Some old → build_of (after s x).active lane ≡ Some new →
+passes_after : (s : State) (x : StoryStep) (lane : ℕ) (old new : Build) (n : ℕ) (unit : Unit) → IsSound s → AllHeld s → Lawful s x → build_of s.active lane ≡ Some old → build_of (after s x).active lane ≡ Some new →
     unit_at new n ≡ Some unit → came_to new n ≡ Some Started → (unit_at old n ≡ Some unit → WasPassed s old n unit) → PassesItsOwn (after s x).base new n unit
 passes_after s x lane old new n unit sound held e was is is_unit started before = by (step_goes s x lane old was e)
   where
@@ -188,7 +188,7 @@ passes_after s x lane old new n unit sound held e was is is_unit started before 
     by (Over none) = absurd (cc)
     by (On on is_on c) = on_by (subst (Continues old) (some_same (sym is_on ∙ is)) c)
 
-passes_step : (s : State) (x : Told) → IsSound s → AllHeld s → AllPass s → Lawful s x → AllPass (after s x)
+passes_step : (s : State) (x : StoryStep) → IsSound s → AllHeld s → AllPass s → Lawful s x → AllPass (after s x)
 passes_step s x sound held h e = record { holds = λ lane new is n unit is_unit started. by lane new n unit is is_unit started ((step_before s x e).holds lane new is n started) }
   where
     by : (lane : ℕ) (new : Build) (n : ℕ) (unit : Unit) → build_of (after s x).active lane ≡ Some new → unit_at new n ≡ Some unit → came_to new n ≡ Some Started → StartedBy s lane n → PassesItsOwn (after s x).base new n unit
@@ -201,11 +201,11 @@ passes_step s x sound held h e = record { holds = λ lane new is n unit is_unit 
         (λ of_old. subst (WasPassed s starts.build n) (some_same (sym starts.open_unit.waits.is_unit ∙ of_old))
         (record { ready = ready_by starts.build starts.unit starts.open_unit.ready; passes = nothing_passes s.base starts.build n starts.unit starts.nothing }))
 
-passes_from : (s : State) (story : List Told) → IsSound s → AllHeld s → AllPass s → LegalFrom s story → AllPass (state_from s story)
+passes_from : (s : State) (story : List StoryStep) → IsSound s → AllHeld s → AllPass s → LegalFrom s story → AllPass (state_from s story)
 passes_from s [] sound held h e = h
 passes_from s (x ∷ story) sound held h e = passes_from (after s x) story (sound_step s x sound e.0) (held_step s x sound held e.0) (passes_step s x sound held h e.0) e.1
 
-none_pass : (x : Told) → Lawful start x → AllPass (after start x)
+none_pass : (x : StoryStep) → Lawful start x → AllPass (after start x)
 none_pass x e = record { holds = λ lane build is. absurd (let none : build_of (after start x).active lane ≡ None = ap (λ active. build_of active lane) (none_active x e) in cc) }
 
 -- an object that may be reused is of a build that reuses objects
@@ -226,7 +226,7 @@ not_held s tag n build unit id base h running chosen = by (is_number id (held_at
         sym (reusable_matches s.base build n unit id base chosen).matches_unit ∙ passes.passed id reuses (number_is id (held_at_all s.base build.view unit.targets) e)
 
 -- The law.
-pub found_is_not_held : (story : List Told) (tag : Tag) (n : ℕ) (build : Build) (unit : Unit) (id : ℕ) → Legal story → IsRunning (state_of story) tag n build unit → reusable (state_of story).base build n unit ≡ Some id →
+pub found_is_not_held : (story : List StoryStep) (tag : Tag) (n : ℕ) (build : Build) (unit : Unit) (id : ℕ) → Legal story → IsRunning (state_of story) tag n build unit → reusable (state_of story).base build n unit ≡ Some id →
     is_number id (held_at_all (state_of story).base build.view unit.targets) ≡ false
 found_is_not_held [] tag n build unit id legal running chosen = absurd (let none = running.waits.active in cc)
 found_is_not_held (x ∷ story) tag n build unit id legal running chosen =

@@ -5,8 +5,8 @@ use Rattle.cc_names.specs.Counts.{rises}
 use Rattle.cc_names.specs.Formed.{Plain}
 use Rattle.cc_names.specs.declared.rows.Tag.{Tag}
 use Rattle.cc_names.specs.declared.steps.Step.TheVariants as steps
-use Rattle.cc_names.specs.declared.steps.Told.{Told}
-use Rattle.cc_names.specs.declared.steps.Told.TheVariants as told
+use Rattle.cc_names.specs.declared.steps.StoryStep.{StoryStep}
+use Rattle.cc_names.specs.declared.steps.StoryStep.TheVariants as story_steps
 use Rattle.legal_history.specs.Base.Rows.{Base}
 use Rattle.legal_history.specs.Base.Fits.{is_base}
 use Rattle.legal_history.specs.Base.Values as values
@@ -45,7 +45,7 @@ commits s row may = record { may = may; ticked = next_rises (ticks_of s.opened s
 
 in_flight : (given : Type 0) (s : State) (row : Plain) → IsKept given s → MayCommit s row → IsGood given (row ∷ s.base)
 in_flight given s row h may =
-    let x = told.Commit row (ticks_of s.opened s.ends + 1) in
+    let x = story_steps.Commit row (ticks_of s.opened s.ends + 1) in
     record { fits = (sound_step s x h.sound (commits s row may)).base; sound = λ given. base_step s x h.sound h.held (h.base given) (commits s row may) }
 
 -- what a fault leaves is such a row, or was left before
@@ -54,20 +54,20 @@ fault_leaves given s tag None row h leaves is = absurd (cc)
 fault_leaves given s tag (Some own) row h (inl made) is = subst (λ r. IsGood given (r ∷ s.base)) (some_same is) (in_flight given s own h made.1)
 fault_leaves given s tag (Some own) row h (inr earlier) is = h.left row (earlier ∙ is)
 
-left_step : (given : Type 0) (s : State) (x : Told) (row : Plain) → IsKept given s → Lawful s x → hanging (after s x).ends ≡ Some row → IsGood given (row ∷ (after s x).base)
-left_step given s (told.Opened rows counts tells) row h e is = absurd (let first = e.first in let opened = h.sound.opened in cc)
-left_step given s (told.Plan phase moment) row h e is = h.left row is
-left_step given s (told.Commit made tick) row h e is = absurd (cc)
-left_step given s (told.Other (steps.Refused tag refusal)) row h e is = h.left row is
-left_step given s (told.Other (steps.Answer tag text)) row h e is = h.left row is
-left_step given s (told.Other (steps.Begin tag rows count)) row h e is = h.left row is
-left_step given s (told.Other (steps.Start tag n)) row h e is = h.left row is
-left_step given s (told.Other (steps.Settled tag n end)) row h e is = h.left row is
-left_step given s (told.Other (steps.End tag)) row h e is = h.left row is
-left_step given s (told.Other (steps.Fault tag left before faults tick)) row h e is = fault_leaves given s tag left row h e.leaves is
-left_step given s (told.Other step) row h e is = absurd e
+left_step : (given : Type 0) (s : State) (x : StoryStep) (row : Plain) → IsKept given s → Lawful s x → hanging (after s x).ends ≡ Some row → IsGood given (row ∷ (after s x).base)
+left_step given s (story_steps.Opened rows counts tells) row h e is = absurd (let first = e.first in let opened = h.sound.opened in cc)
+left_step given s (story_steps.PhaseBegun phase moment) row h e is = h.left row is
+left_step given s (story_steps.Commit made tick) row h e is = absurd (cc)
+left_step given s (story_steps.Other (steps.Refused tag refusal)) row h e is = h.left row is
+left_step given s (story_steps.Other (steps.Answer tag text)) row h e is = h.left row is
+left_step given s (story_steps.Other (steps.Begin tag rows count)) row h e is = h.left row is
+left_step given s (story_steps.Other (steps.Start tag n)) row h e is = h.left row is
+left_step given s (story_steps.Other (steps.Concluded tag n end)) row h e is = h.left row is
+left_step given s (story_steps.Other (steps.End tag)) row h e is = h.left row is
+left_step given s (story_steps.Other (steps.Fault tag left before faults tick)) row h e is = fault_leaves given s tag left row h e.leaves is
+left_step given s (story_steps.Other step) row h e is = absurd e
 
-kept_step : (given : Type 0) (s : State) (x : Told) → IsKept given s → Lawful s x → IsKept given (after s x)
+kept_step : (given : Type 0) (s : State) (x : StoryStep) → IsKept given s → Lawful s x → IsKept given (after s x)
 kept_step given s x h e = record {
   sound = sound_step s x h.sound e;
   held = held_step s x h.sound h.held e;
@@ -75,16 +75,16 @@ kept_step given s x h e = record {
   left = λ row is. left_step given s x row h e is;
 }
 
-kept_from : (given : Type 0) (s : State) (story : List Told) → IsKept given s → LegalFrom s story → IsKept given (state_from s story)
+kept_from : (given : Type 0) (s : State) (story : List StoryStep) → IsKept given s → LegalFrom s story → IsKept given (state_from s story)
 kept_from given s [] h e = h
 kept_from given s (x ∷ story) h e = kept_from given (after s x) story (kept_step given s x h e.0) e.1
 
 -- after the first step nothing is left behind
-none_left : (x : Told) (row : Plain) → Lawful start x → hanging (after start x).ends ≡ Some row → ⊥
-none_left (told.Opened rows counts tells) row e is = cc
+none_left : (x : StoryStep) (row : Plain) → Lawful start x → hanging (after start x).ends ≡ Some row → ⊥
+none_left (story_steps.Opened rows counts tells) row e is = cc
 none_left x row e is = opens_first x e
 
-kept_first : (x : Told) → Lawful start x → IsKept (values.IsSound (after start x).base) (after start x)
+kept_first : (x : StoryStep) → Lawful start x → IsKept (values.IsSound (after start x).base) (after start x)
 kept_first x e = record {
   sound = sound_first x e;
   held = held_first x e;
@@ -92,7 +92,7 @@ kept_first x e = record {
   left = λ row is. absurd (none_left x row e is);
 }
 
-story_kept : (x : Told) (story : List Told) → Legal (x ∷ story) → IsKept (values.IsSound (after start x).base) (state_of (x ∷ story))
+story_kept : (x : StoryStep) (story : List StoryStep) → Legal (x ∷ story) → IsKept (values.IsSound (after start x).base) (state_of (x ∷ story))
 story_kept x story legal = kept_from (values.IsSound (after start x).base) (after start x) story (kept_first x legal.0) legal.1
 
 -- whatever a stop leaves of such a state
@@ -101,22 +101,22 @@ left_is_good given s b h (OfCommits is) = subst (IsGood given) (sym is) (record 
 left_is_good given s b h (WithRowLeft row left is) = subst (IsGood given) (sym is) (h.left row left)
 left_is_good given s b h (WithRowInFlight row may is) = subst (IsGood given) (sym is) (in_flight given s row h may)
 
-pub stop_leaves_base : (story : List Told) (b : Base) → Legal story → IsLeftByStop (state_of story) b → is_base b ≡ true
+pub stop_leaves_base : (story : List StoryStep) (b : Base) → Legal story → IsLeftByStop (state_of story) b → is_base b ≡ true
 stop_leaves_base [] b legal (OfCommits is) = ap is_base is
 stop_leaves_base [] b legal (WithRowLeft row left is) = absurd (cc)
 stop_leaves_base [] b legal (WithRowInFlight row may is) = absurd (nothing_is_committed row row.deed may.made)
 stop_leaves_base (x ∷ story) b legal left = (left_is_good _ (state_of (x ∷ story)) b (story_kept x story legal) left).fits
 
-pub stop_leaves_sound : (story : List Told) (o : Opening) (b : Base) → Legal story → (state_of story).opened ≡ Some o → values.IsSound o.base → IsLeftByStop (state_of story) b → values.IsSound b
+pub stop_leaves_sound : (story : List StoryStep) (o : Opening) (b : Base) → Legal story → (state_of story).opened ≡ Some o → values.IsSound o.base → IsLeftByStop (state_of story) b → values.IsSound b
 stop_leaves_sound [] o b legal is sound left = absurd (cc)
 stop_leaves_sound (x ∷ story) o b legal is sound left =
     let opened : (after start x).opened ≡ Some o = sym (opened_from (after start x) story (sound_first x legal.0) legal.1) ∙ is in
     (left_is_good _ (state_of (x ∷ story)) b (story_kept x story legal) left).sound (subst values.IsSound (opened_is_base x o legal.0 opened) sound)
 
-pub fault_leaves_sound : (front rest : List Told) (tag : Tag) (row : Plain) (before faults tick : ℕ) (o : Opening) → Legal (front ++ told.Other (steps.Fault tag (Some row) before faults tick) ∷ rest) → (state_of front).opened ≡ Some o → values.IsSound o.base →
+pub fault_leaves_sound : (front rest : List StoryStep) (tag : Tag) (row : Plain) (before faults tick : ℕ) (o : Opening) → Legal (front ++ story_steps.Other (steps.Fault tag (Some row) before faults tick) ∷ rest) → (state_of front).opened ≡ Some o → values.IsSound o.base →
     values.IsSound (row ∷ (state_of front).base)
 fault_leaves_sound front rest tag row before faults tick o legal is sound =
-    let x = told.Other (steps.Fault tag (Some row) before faults tick) in
+    let x = story_steps.Other (steps.Fault tag (Some row) before faults tick) in
     stop_leaves_sound front o (row ∷ (state_of front).base) (front_is_legal start front (x ∷ rest) legal) is sound
     (by (rest_is_legal start front (x ∷ rest) legal).0.leaves)
   where

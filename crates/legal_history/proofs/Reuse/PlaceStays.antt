@@ -7,8 +7,8 @@ use Rattle.cc_names.specs.declared.rows.Deed.{Deed}
 use Rattle.cc_names.specs.declared.rows.Deed.TheVariants as deeds
 use Rattle.cc_names.specs.declared.rows.Tag.{Tag}
 use Rattle.cc_names.specs.declared.steps.Step.TheVariants as steps
-use Rattle.cc_names.specs.declared.steps.Told.{Told}
-use Rattle.cc_names.specs.declared.steps.Told.TheVariants as told
+use Rattle.cc_names.specs.declared.steps.StoryStep.{StoryStep}
+use Rattle.cc_names.specs.declared.steps.StoryStep.TheVariants as story_steps
 use Rattle.cc_names.specs.declared.units.Unit.{Unit}
 use Rattle.legal_history.specs.Base.Rows.{size}
 use Rattle.legal_history.specs.Builds.Active.{Active, Build, Came, Given, build_of, came_to, is_outcome, number_from, unit_at, unit_with_first}
@@ -96,22 +96,22 @@ committed_leaves s tag moment (deeds.Wink view id) lane old new n unit path soun
     (wink_is s.base e.build e.n e.unit view id sound.base e.of_view e.chosen) u
 committed_leaves s tag moment deed lane old new n unit path sound h e u = commanded_leaves s tag deed lane old path tt e u.was
 
-pub place_step : (s : State) (x : Told) (lane : ℕ) (old new : Build) (n : ℕ) (unit : Unit) (path : List ℕ) → IsSound s → AllHeld s → Lawful s x → Unfinished s (after s x).active lane old new n unit path →
+pub place_step : (s : State) (x : StoryStep) (lane : ℕ) (old new : Build) (n : ℕ) (unit : Unit) (path : List ℕ) → IsSound s → AllHeld s → Lawful s x → Unfinished s (after s x).active lane old new n unit path →
     held_at (held (after s x).base) old.view path ≡ held_at (held s.base) old.view path
-place_step s (told.Opened rows counts tells) lane old new n unit path sound h e u = absurd (let first = e.first in let opened = sound.opened in cc)
-place_step s (told.Plan phase moment) lane old new n unit path sound h e u = refl
-place_step s (told.Commit row tick) lane old new n unit path sound h e u =
+place_step s (story_steps.Opened rows counts tells) lane old new n unit path sound h e u = absurd (let first = e.first in let opened = sound.opened in cc)
+place_step s (story_steps.PhaseBegun phase moment) lane old new n unit path sound h e u = refl
+place_step s (story_steps.Commit row tick) lane old new n unit path sound h e u =
     path_stays s.base old.view path row.deed (committed_leaves s row.tag row.moment row.deed lane old new n unit path sound h e.may.made u)
-place_step s (told.Other (steps.Refused tag refusal)) lane old new n unit path sound h e u = refl
-place_step s (told.Other (steps.Answer tag text)) lane old new n unit path sound h e u = refl
-place_step s (told.Other (steps.Begin tag rows count)) lane old new n unit path sound h e u = refl
-place_step s (told.Other (steps.Start tag m)) lane old new n unit path sound h e u = refl
-place_step s (told.Other (steps.Settled tag m end)) lane old new n unit path sound h e u = refl
-place_step s (told.Other (steps.End tag)) lane old new n unit path sound h e u = refl
-place_step s (told.Other (steps.Fault tag left before faults tick)) lane old new n unit path sound h e u = refl
-place_step s (told.Other step) lane old new n unit path sound h e u = refl
+place_step s (story_steps.Other (steps.Refused tag refusal)) lane old new n unit path sound h e u = refl
+place_step s (story_steps.Other (steps.Answer tag text)) lane old new n unit path sound h e u = refl
+place_step s (story_steps.Other (steps.Begin tag rows count)) lane old new n unit path sound h e u = refl
+place_step s (story_steps.Other (steps.Start tag m)) lane old new n unit path sound h e u = refl
+place_step s (story_steps.Other (steps.Concluded tag m end)) lane old new n unit path sound h e u = refl
+place_step s (story_steps.Other (steps.End tag)) lane old new n unit path sound h e u = refl
+place_step s (story_steps.Other (steps.Fault tag left before faults tick)) lane old new n unit path sound h e u = refl
+place_step s (story_steps.Other step) lane old new n unit path sound h e u = refl
 
-pub place_stays : (story : List Told) (x : Told) (lane : ℕ) (old new : Build) (n : ℕ) (unit : Unit) (path : List ℕ) → Legal story → Lawful (state_of story) x → build_of (state_of story).active lane ≡ Some old →
+pub place_stays : (story : List StoryStep) (x : StoryStep) (lane : ℕ) (old new : Build) (n : ℕ) (unit : Unit) (path : List ℕ) → Legal story → Lawful (state_of story) x → build_of (state_of story).active lane ≡ Some old →
     build_of (after (state_of story) x).active lane ≡ Some new → unit_at old n ≡ Some unit → is_outcome (came_to new n) ≡ false → makes path unit ≡ true →
     held_at (held (after (state_of story) x).base) old.view path ≡ held_at (held (state_of story).base) old.view path
 place_stays [] x lane old new n unit path legal e was is is_unit waits made = absurd (cc)

@@ -5,8 +5,8 @@ use Rattle.cc_names.specs.declared.rows.Deed.{Deed}
 use Rattle.cc_names.specs.declared.rows.Deed.TheVariants as deeds
 use Rattle.cc_names.specs.declared.rows.Tag.{Tag}
 use Rattle.cc_names.specs.declared.steps.Step.TheVariants as steps
-use Rattle.cc_names.specs.declared.steps.Told.{Told}
-use Rattle.cc_names.specs.declared.steps.Told.TheVariants as told
+use Rattle.cc_names.specs.declared.steps.StoryStep.{StoryStep}
+use Rattle.cc_names.specs.declared.steps.StoryStep.TheVariants as story_steps
 use Rattle.legal_history.specs.Base.Rows.{Base, size}
 use Rattle.legal_history.specs.Builds.Active.{Build, build_of}
 use Rattle.legal_history.specs.Base.Closures.{is_publish_deed}
@@ -38,46 +38,46 @@ new_is_true s tag moment (deeds.Publish view targets script entries outputs) sou
     (is_publish s.base e.build e.n e.unit (deeds.Publish view targets script entries outputs) e.made)
 new_is_true s tag moment deed sound h true_base e publish = absurd (cc)
 
-pub base_step : (s : State) (x : Told) → IsSound s → AllHeld s → values.IsSound s.base → Lawful s x → values.IsSound (after s x).base
-base_step s (told.Opened rows counts tells) sound h true_base e = absurd (let first = e.first in let opened = sound.opened in cc)
-base_step s (told.Plan phase moment) sound h true_base e = true_base
-base_step s (told.Commit row tick) sound h true_base e = sound_row row s.base true_base (new_is_true s row.tag row.moment row.deed sound h true_base e.may.made)
-base_step s (told.Other (steps.Refused tag refusal)) sound h true_base e = true_base
-base_step s (told.Other (steps.Answer tag text)) sound h true_base e = true_base
-base_step s (told.Other (steps.Begin tag rows count)) sound h true_base e = true_base
-base_step s (told.Other (steps.Start tag n)) sound h true_base e = true_base
-base_step s (told.Other (steps.Settled tag n end)) sound h true_base e = true_base
-base_step s (told.Other (steps.End tag)) sound h true_base e = true_base
-base_step s (told.Other (steps.Fault tag left before faults tick)) sound h true_base e = true_base
-base_step s (told.Other step) sound h true_base e = true_base
+pub base_step : (s : State) (x : StoryStep) → IsSound s → AllHeld s → values.IsSound s.base → Lawful s x → values.IsSound (after s x).base
+base_step s (story_steps.Opened rows counts tells) sound h true_base e = absurd (let first = e.first in let opened = sound.opened in cc)
+base_step s (story_steps.PhaseBegun phase moment) sound h true_base e = true_base
+base_step s (story_steps.Commit row tick) sound h true_base e = sound_row row s.base true_base (new_is_true s row.tag row.moment row.deed sound h true_base e.may.made)
+base_step s (story_steps.Other (steps.Refused tag refusal)) sound h true_base e = true_base
+base_step s (story_steps.Other (steps.Answer tag text)) sound h true_base e = true_base
+base_step s (story_steps.Other (steps.Begin tag rows count)) sound h true_base e = true_base
+base_step s (story_steps.Other (steps.Start tag n)) sound h true_base e = true_base
+base_step s (story_steps.Other (steps.Concluded tag n end)) sound h true_base e = true_base
+base_step s (story_steps.Other (steps.End tag)) sound h true_base e = true_base
+base_step s (story_steps.Other (steps.Fault tag left before faults tick)) sound h true_base e = true_base
+base_step s (story_steps.Other step) sound h true_base e = true_base
 
-opened_step : (s : State) (x : Told) → IsSound s → Lawful s x → (after s x).opened ≡ s.opened
-opened_step s (told.Opened rows counts tells) sound e = absurd (let first = e.first in let opened = sound.opened in cc)
-opened_step s (told.Plan phase moment) sound e = refl
-opened_step s (told.Commit row tick) sound e = refl
-opened_step s (told.Other (steps.Refused tag refusal)) sound e = refl
-opened_step s (told.Other (steps.Answer tag text)) sound e = refl
-opened_step s (told.Other (steps.Begin tag rows count)) sound e = refl
-opened_step s (told.Other (steps.Start tag n)) sound e = refl
-opened_step s (told.Other (steps.Settled tag n end)) sound e = refl
-opened_step s (told.Other (steps.End tag)) sound e = refl
-opened_step s (told.Other (steps.Fault tag left before faults tick)) sound e = refl
-opened_step s (told.Other step) sound e = refl
+opened_step : (s : State) (x : StoryStep) → IsSound s → Lawful s x → (after s x).opened ≡ s.opened
+opened_step s (story_steps.Opened rows counts tells) sound e = absurd (let first = e.first in let opened = sound.opened in cc)
+opened_step s (story_steps.PhaseBegun phase moment) sound e = refl
+opened_step s (story_steps.Commit row tick) sound e = refl
+opened_step s (story_steps.Other (steps.Refused tag refusal)) sound e = refl
+opened_step s (story_steps.Other (steps.Answer tag text)) sound e = refl
+opened_step s (story_steps.Other (steps.Begin tag rows count)) sound e = refl
+opened_step s (story_steps.Other (steps.Start tag n)) sound e = refl
+opened_step s (story_steps.Other (steps.Concluded tag n end)) sound e = refl
+opened_step s (story_steps.Other (steps.End tag)) sound e = refl
+opened_step s (story_steps.Other (steps.Fault tag left before faults tick)) sound e = refl
+opened_step s (story_steps.Other step) sound e = refl
 
-held_from : (s : State) (story : List Told) → IsSound s → AllHeld s → LegalFrom s story → AllHeld (state_from s story)
+held_from : (s : State) (story : List StoryStep) → IsSound s → AllHeld s → LegalFrom s story → AllHeld (state_from s story)
 held_from s [] sound h e = h
 held_from s (x ∷ story) sound h e = held_from (after s x) story (sound_step s x sound e.0) (held_step s x sound h e.0) e.1
 
-base_from : (s : State) (story : List Told) → IsSound s → AllHeld s → values.IsSound s.base → LegalFrom s story → values.IsSound (state_from s story).base
+base_from : (s : State) (story : List StoryStep) → IsSound s → AllHeld s → values.IsSound s.base → LegalFrom s story → values.IsSound (state_from s story).base
 base_from s [] sound h true_base e = true_base
 base_from s (x ∷ story) sound h true_base e = base_from (after s x) story (sound_step s x sound e.0) (held_step s x sound h e.0) (base_step s x sound h true_base e.0) e.1
 
-pub opened_from : (s : State) (story : List Told) → IsSound s → LegalFrom s story → (state_from s story).opened ≡ s.opened
+pub opened_from : (s : State) (story : List StoryStep) → IsSound s → LegalFrom s story → (state_from s story).opened ≡ s.opened
 opened_from s [] sound e = refl
 opened_from s (x ∷ story) sound e = opened_from (after s x) story (sound_step s x sound e.0) e.1 ∙ opened_step s x sound e.0
 
 -- after the first step
-pub held_first : (x : Told) → Lawful start x → AllHeld (after start x)
+pub held_first : (x : StoryStep) → Lawful start x → AllHeld (after start x)
 held_first x e =
     let none = none_active x e in
     record {
@@ -85,32 +85,32 @@ held_first x e =
       apart = record { one_lane = λ lane other one two is_one is_two same. absurd (let nothing : build_of [] lane ≡ Some one = sym (ap (λ active. build_of active lane) none) ∙ is_one in cc) };
     }
 
-pub opened_is_base : (x : Told) (o : Opening) → Lawful start x → (after start x).opened ≡ Some o → o.base ≡ (after start x).base
-opened_is_base (told.Opened rows counts tells) o e is = let same : record { base = reverse rows; counts = counts; tells = tells } ≡ o = cc in ap (λ (o : Opening). o.base) (sym same)
-opened_is_base (told.Plan phase moment) o e is = absurd (cc)
-opened_is_base (told.Commit row tick) o e is = absurd (cc)
-opened_is_base (told.Other (steps.Refused tag refusal)) o e is = absurd (cc)
-opened_is_base (told.Other (steps.Answer tag text)) o e is = absurd (cc)
-opened_is_base (told.Other (steps.Begin tag rows count)) o e is = absurd (cc)
-opened_is_base (told.Other (steps.Start tag n)) o e is = absurd (cc)
-opened_is_base (told.Other (steps.Settled tag n end)) o e is = absurd (cc)
-opened_is_base (told.Other (steps.End tag)) o e is = absurd (cc)
-opened_is_base (told.Other (steps.Fault tag left before faults tick)) o e is = absurd (cc)
-opened_is_base (told.Other step) o e is = absurd (cc)
+pub opened_is_base : (x : StoryStep) (o : Opening) → Lawful start x → (after start x).opened ≡ Some o → o.base ≡ (after start x).base
+opened_is_base (story_steps.Opened rows counts tells) o e is = let same : record { base = reverse rows; counts = counts; tells = tells } ≡ o = cc in ap (λ (o : Opening). o.base) (sym same)
+opened_is_base (story_steps.PhaseBegun phase moment) o e is = absurd (cc)
+opened_is_base (story_steps.Commit row tick) o e is = absurd (cc)
+opened_is_base (story_steps.Other (steps.Refused tag refusal)) o e is = absurd (cc)
+opened_is_base (story_steps.Other (steps.Answer tag text)) o e is = absurd (cc)
+opened_is_base (story_steps.Other (steps.Begin tag rows count)) o e is = absurd (cc)
+opened_is_base (story_steps.Other (steps.Start tag n)) o e is = absurd (cc)
+opened_is_base (story_steps.Other (steps.Concluded tag n end)) o e is = absurd (cc)
+opened_is_base (story_steps.Other (steps.End tag)) o e is = absurd (cc)
+opened_is_base (story_steps.Other (steps.Fault tag left before faults tick)) o e is = absurd (cc)
+opened_is_base (story_steps.Other step) o e is = absurd (cc)
 
 -- The laws of whole stories.
-pub story_all_held : (x : Told) (story : List Told) → Legal (x ∷ story) → AllHeld (state_of (x ∷ story))
+pub story_all_held : (x : StoryStep) (story : List StoryStep) → Legal (x ∷ story) → AllHeld (state_of (x ∷ story))
 story_all_held x story legal = held_from (after start x) story (sound_first x legal.0) (held_first x legal.0) legal.1
 
-pub story_holds : (story : List Told) (lane : ℕ) (build : Build) → Legal story → build_of (state_of story).active lane ≡ Some build → HoldsGiven (state_of story).base build
+pub story_holds : (story : List StoryStep) (lane : ℕ) (build : Build) → Legal story → build_of (state_of story).active lane ≡ Some build → HoldsGiven (state_of story).base build
 story_holds [] lane build legal is = absurd (cc)
 story_holds (x ∷ story) lane build legal is = (story_all_held x story legal).given.holds lane build is
 
-pub one_build : (story : List Told) (lane other : ℕ) (one two : Build) → Legal story → build_of (state_of story).active lane ≡ Some one → build_of (state_of story).active other ≡ Some two → one.view ≡ two.view → lane ≡ other
+pub one_build : (story : List StoryStep) (lane other : ℕ) (one two : Build) → Legal story → build_of (state_of story).active lane ≡ Some one → build_of (state_of story).active other ≡ Some two → one.view ≡ two.view → lane ≡ other
 one_build [] lane other one two legal is_one is_two same = absurd (cc)
 one_build (x ∷ story) lane other one two legal is_one is_two same = (story_all_held x story legal).apart.one_lane lane other one two is_one is_two same
 
-pub story_stays_sound : (story : List Told) (o : Opening) → Legal story → (state_of story).opened ≡ Some o → values.IsSound o.base → values.IsSound (state_of story).base
+pub story_stays_sound : (story : List StoryStep) (o : Opening) → Legal story → (state_of story).opened ≡ Some o → values.IsSound o.base → values.IsSound (state_of story).base
 story_stays_sound [] o legal is true_base = absurd (cc)
 story_stays_sound (x ∷ story) o legal is true_base =
     let sound = sound_first x legal.0 in
@@ -121,5 +121,5 @@ story_stays_sound (x ∷ story) o legal is true_base =
 none_sound : values.IsSound []
 none_sound id = refl
 
-pub sound_from_nothing : (story : List Told) (o : Opening) → Legal story → (state_of story).opened ≡ Some o → o.base ≡ [] → values.IsSound (state_of story).base
+pub sound_from_nothing : (story : List StoryStep) (o : Opening) → Legal story → (state_of story).opened ≡ Some o → o.base ≡ [] → values.IsSound (state_of story).base
 sound_from_nothing story o legal is none = story_stays_sound story o legal is (subst values.IsSound (sym none) none_sound)

@@ -6,8 +6,8 @@ use Rattle.cc_names.specs.declared.rows.Deed.TheVariants as deeds
 use Rattle.cc_names.specs.declared.rows.ReadOf.{ReadOf}
 use Rattle.cc_names.specs.declared.rows.Tag.{Tag}
 use Rattle.cc_names.specs.declared.steps.Step.TheVariants as steps
-use Rattle.cc_names.specs.declared.steps.Told.{Told}
-use Rattle.cc_names.specs.declared.steps.Told.TheVariants as told
+use Rattle.cc_names.specs.declared.steps.StoryStep.{StoryStep}
+use Rattle.cc_names.specs.declared.steps.StoryStep.TheVariants as story_steps
 use Rattle.cc_names.specs.declared.steps.UnitEnd.TheVariants as ends
 use Rattle.cc_names.specs.declared.units.Unit.{Unit}
 use Rattle.legal_history.specs.Base.Changes.{live}
@@ -60,9 +60,9 @@ view_takes_seen : (s : State) (tag : Tag) (n id : ℕ) (view : List ℕ) (build 
 unfolding takes_seen
 view_takes_seen s tag n id view build unit base own of_view chosen = record { n = n; takes = takes_seen s tag n id build unit base own.0 own.1 chosen; of_view = of_view }
 
-pub story_kept : (front rest : List Told) (tag : Tag) (n id : ℕ) → Legal (front ++ told.Other (steps.Settled tag n (ends.Kept id)) ∷ rest) → TakesWhatItSees (state_of front) tag n id
+pub story_kept : (front rest : List StoryStep) (tag : Tag) (n id : ℕ) → Legal (front ++ story_steps.Other (steps.Concluded tag n (ends.Kept id)) ∷ rest) → TakesWhatItSees (state_of front) tag n id
 story_kept front rest tag n id legal =
-    let keeps = (rest_is_legal start front (told.Other (steps.Settled tag n (ends.Kept id)) ∷ rest) legal).0 in
+    let keeps = (rest_is_legal start front (story_steps.Other (steps.Concluded tag n (ends.Kept id)) ∷ rest) legal).0 in
     let waits = keeps.open_unit.waits in
     takes_seen (state_of front) tag n id keeps.build keeps.unit (base_fits front (front_is_legal start front _ legal)) waits.active waits.is_unit keeps.chosen
 
@@ -71,18 +71,18 @@ active_of : (s : State) (tag : Tag) (n : ℕ) (build : Build) (unit : Unit) → 
 active_of s tag n build unit (inl o) = (o.waits.active, o.waits.is_unit)
 active_of s tag n build unit (inr r) = (r.waits.active, r.waits.is_unit)
 
-pub story_winked : (front rest : List Told) (row : Plain) (tick : ℕ) (view : List ℕ) (id : ℕ) → Legal (front ++ told.Commit row tick ∷ rest) → row.deed ≡ deeds.Wink view id → ViewTakesWhatItSees (state_of front) row.tag view id
+pub story_winked : (front rest : List StoryStep) (row : Plain) (tick : ℕ) (view : List ℕ) (id : ℕ) → Legal (front ++ story_steps.Commit row tick ∷ rest) → row.deed ≡ deeds.Wink view id → ViewTakesWhatItSees (state_of front) row.tag view id
 story_winked front rest row tick view id legal is =
-    let commits = (rest_is_legal start front (told.Commit row tick ∷ rest) legal).0 in
+    let commits = (rest_is_legal start front (story_steps.Commit row tick ∷ rest) legal).0 in
     let winks : Winks (state_of front) row view id = subst (MakesRow (state_of front) row) is commits.may.made in
     let own = active_of (state_of front) row.tag winks.n winks.build winks.unit winks.may in
     view_takes_seen (state_of front) row.tag winks.n id view winks.build winks.unit (base_fits front (front_is_legal start front _ legal)) own winks.of_view winks.chosen
 
-pub story_starts : (front rest : List Told) (tag : Tag) (n : ℕ) (build : Build) (unit : Unit) (id : ℕ) → Legal (front ++ told.Other (steps.Start tag n) ∷ rest) → ReusesAny (state_of front) tag build → unit_at build n ≡ Some unit →
+pub story_starts : (front rest : List StoryStep) (tag : Tag) (n : ℕ) (build : Build) (unit : Unit) (id : ℕ) → Legal (front ++ story_steps.Other (steps.Start tag n) ∷ rest) → ReusesAny (state_of front) tag build → unit_at build n ≡ Some unit →
     is_some (live (state_of front).base id) ≡ true → matches (state_of front).base build n unit id ≡ false
 story_starts front rest tag n build unit id legal any is_unit lives =
     let b = (state_of front).base in
-    let starts = (rest_is_legal start front (told.Other (steps.Start tag n) ∷ rest) legal).0 in
+    let starts = (rest_is_legal start front (story_steps.Other (steps.Start tag n) ∷ rest) legal).0 in
     let same_build : starts.build ≡ build = some_same (sym starts.open_unit.waits.active ∙ any.active) in
     let same_unit : starts.unit ≡ unit = some_same (sym starts.open_unit.waits.is_unit ∙ ap (λ (x : Build). unit_at x n) same_build ∙ is_unit) in
     nothing_passed_over b build n unit id any.of_any any.reuses (subst (λ x. reusable b build n x ≡ None) same_unit (subst (λ x. reusable b x n starts.unit ≡ None) same_build starts.nothing)) lives
@@ -99,11 +99,11 @@ publishes_new s row build id view other targets script reads outputs stored base
     no_second_record b e.build e.n e.unit id other stored base (subst (GivesLive b) (sym same) (gives_live b build held)) (ap (λ (x : Build). x.own_only) same ∙ any.of_any) (ap (λ (x : Build). x.rebuild) same ∙ any.reuses)
     e.nothing own
 
-pub story_publishes : (front rest : List Told) (row : Plain) (tick : ℕ) (build : Build) (id : ℕ) (view other : List ℕ) (targets : List (List ℕ)) (script : List ℕ) (reads : List ReadOf) (outputs stored : List (List ℕ)) →
-    Legal (front ++ told.Commit row tick ∷ rest) → row.deed ≡ deeds.Publish view targets script reads outputs → ReusesAny (state_of front) row.tag build →
+pub story_publishes : (front rest : List StoryStep) (row : Plain) (tick : ℕ) (build : Build) (id : ℕ) (view other : List ℕ) (targets : List (List ℕ)) (script : List ℕ) (reads : List ReadOf) (outputs stored : List (List ℕ)) →
+    Legal (front ++ story_steps.Commit row tick ∷ rest) → row.deed ≡ deeds.Publish view targets script reads outputs → ReusesAny (state_of front) row.tag build →
     deed_at (state_of front).base id ≡ Some (deeds.Publish other targets script reads stored) → is_some (live (state_of front).base id) ≡ false
 story_publishes front rest row tick build id view other targets script reads outputs stored legal is any object =
-    let commits = (rest_is_legal start front (told.Commit row tick ∷ rest) legal).0 in
+    let commits = (rest_is_legal start front (story_steps.Commit row tick ∷ rest) legal).0 in
     let before = front_is_legal start front _ legal in
     publishes_new (state_of front) row build id view other targets script reads outputs stored (base_fits front before) (subst (MakesRow (state_of front) row) is commits.may.made) is
     (story_holds front row.tag.lane build before (of_lane (state_of front) row.tag build any.active)) any object
@@ -128,10 +128,10 @@ publishes_read s row view targets script reads outputs e is =
       outputs_are = cc;
     }
 
-pub story_records : (front rest : List Told) (row : Plain) (tick : ℕ) (view : List ℕ) (targets : List (List ℕ)) (script : List ℕ) (reads : List ReadOf) (outputs : List (List ℕ)) →
-    Legal (front ++ told.Commit row tick ∷ rest) → row.deed ≡ deeds.Publish view targets script reads outputs → PublishesWhatItRead (state_of front) row targets script reads outputs
+pub story_records : (front rest : List StoryStep) (row : Plain) (tick : ℕ) (view : List ℕ) (targets : List (List ℕ)) (script : List ℕ) (reads : List ReadOf) (outputs : List (List ℕ)) →
+    Legal (front ++ story_steps.Commit row tick ∷ rest) → row.deed ≡ deeds.Publish view targets script reads outputs → PublishesWhatItRead (state_of front) row targets script reads outputs
 story_records front rest row tick view targets script reads outputs legal is =
-    let commits = (rest_is_legal start front (told.Commit row tick ∷ rest) legal).0 in
+    let commits = (rest_is_legal start front (story_steps.Commit row tick ∷ rest) legal).0 in
     publishes_read (state_of front) row view targets script reads outputs (subst (MakesRow (state_of front) row) is commits.may.made) is
 
 -- a unit for which a row is published is matched by no live object
@@ -146,9 +146,9 @@ publishes_unmatched s row build n unit id targets e any place is_unit lives =
     let nothing : reusable b build n unit ≡ None = subst (λ x. reusable b build n x ≡ None) same_unit (subst (λ k. reusable b build k e.unit ≡ None) same_place (subst (λ x. reusable b x e.n e.unit ≡ None) same_build e.nothing)) in
     nothing_passed_over b build n unit id any.of_any any.reuses nothing lives
 
-pub story_matches : (front rest : List Told) (row : Plain) (tick : ℕ) (build : Build) (n : ℕ) (unit : Unit) (id : ℕ) (view : List ℕ) (targets : List (List ℕ)) (script : List ℕ) (reads : List ReadOf) (outputs : List (List ℕ)) →
-    Legal (front ++ told.Commit row tick ∷ rest) → row.deed ≡ deeds.Publish view targets script reads outputs → ReusesAny (state_of front) row.tag build → unit_with_first build targets ≡ Some n → unit_at build n ≡ Some unit →
+pub story_matches : (front rest : List StoryStep) (row : Plain) (tick : ℕ) (build : Build) (n : ℕ) (unit : Unit) (id : ℕ) (view : List ℕ) (targets : List (List ℕ)) (script : List ℕ) (reads : List ReadOf) (outputs : List (List ℕ)) →
+    Legal (front ++ story_steps.Commit row tick ∷ rest) → row.deed ≡ deeds.Publish view targets script reads outputs → ReusesAny (state_of front) row.tag build → unit_with_first build targets ≡ Some n → unit_at build n ≡ Some unit →
     is_some (live (state_of front).base id) ≡ true → matches (state_of front).base build n unit id ≡ false
 story_matches front rest row tick build n unit id view targets script reads outputs legal is any place is_unit lives =
-    let commits = (rest_is_legal start front (told.Commit row tick ∷ rest) legal).0 in
+    let commits = (rest_is_legal start front (story_steps.Commit row tick ∷ rest) legal).0 in
     publishes_unmatched (state_of front) row build n unit id targets (subst (MakesRow (state_of front) row) is commits.may.made) any place is_unit lives

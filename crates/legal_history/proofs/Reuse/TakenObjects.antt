@@ -8,7 +8,7 @@ use Rattle.cc_names.specs.declared.rows.Tag.{Tag}
 use Rattle.cc_names.specs.declared.steps.UnitEnd.TheVariants.{Kept}
 use Rattle.cc_names.specs.declared.units.Unit.{Unit}
 use Rattle.legal_history.specs.Base.Rows.{Base, first_rows}
-use Rattle.legal_history.specs.Builds.Active.{Build, Came, Started, Ended, Given, came_to, is_outcome, object_of, unit_at}
+use Rattle.legal_history.specs.Builds.Active.{Build, Came, Started, Concluded, Given, came_to, is_outcome, object_of, unit_at}
 use Rattle.legal_history.specs.Base.Changes.{live}
 use Rattle.legal_history.specs.Base.Closures.{is_publish_deed}
 use Rattle.legal_history.specs.Base.Fits.{is_base}
@@ -24,7 +24,7 @@ use Rattle.legal_history.proofs.Builds.AgreeStays.{came_so, row_added}
 use Rattle.legal_history.proofs.Builds.ConsistentStays.{came_now, keeps_with}
 use Rattle.legal_history.proofs.Builds.FineBuilds.{some_same}
 use Rattle.legal_history.proofs.Builds.ReadyUnits.{ready_by}
-use Rattle.legal_history.specs.Laws.FromNothing.{IsAsFromNothing, MayTake, IsDue, IsStarted, IsReadyToStart}
+use Rattle.legal_history.specs.Laws.FromNothing.{IsAsFromNothing, MayTake, MayRun, IsStarted, IsReadyToStart}
 use Rattle.legal_history.specs.Laws.Objects.{GivesLive}
 use Rattle.legal_history.proofs.Reuse.FromNothing.{run_is_from_nothing}
 use Rattle.legal_history.proofs.Reuse.Matched.{match_is_run}
@@ -32,26 +32,26 @@ use Rattle.legal_history.proofs.Reuse.Reusables.{reusable_matches}
 use Rattle.legal_history.proofs.Reuse.SoundRows.{sound_row}
 use Rattle.legal_history.proofs.Reuse.TrueObjects.{live_is_true}
 
--- a unit that may take an object along a story is due
-pub may_take_due : (s : State) (tag : Tag) (n : ℕ) (build : Build) (unit : Unit) → MayTake s tag n build unit → IsDue s.base build n unit
-may_take_due s tag n build unit may = elim may [
+-- a unit that may take an object along a story may run
+pub may_take_may_run : (s : State) (tag : Tag) (n : ℕ) (build : Build) (unit : Unit) → MayTake s tag n build unit → MayRun s.base build n unit
+may_take_may_run s tag n build unit may = elim may [
   | inl o ↦ IsReadyToStart o.waits.waits o.ready o.runs
   | inr r ↦ IsStarted r.started
 ]
 
--- what a due unit has: no outcome, prerequisites that are over, and nothing that ends it without a run from nothing
+-- what a unit that may run has: no outcome, prerequisites that are over, and nothing that ends it without a run from nothing
 pub record Due (b : Base) (build : Build) (n : ℕ) (unit : Unit) : Type 0 where
   pub waits : is_outcome (came_to build n) ≡ false
   pub ready : IsReady build unit
   pub runs : early_from_nothing (first_rows build.rows b) build n unit ≡ None
 
-pub due : (b : Base) (build : Build) (n : ℕ) (unit : Unit) → AgreesSoFar b build → unit_at build n ≡ Some unit → IsDue b build n unit → Due b build n unit
-due b build n unit h is (IsStarted started) = record {
+pub may_run : (b : Base) (build : Build) (n : ℕ) (unit : Unit) → AgreesSoFar b build → unit_at build n ≡ Some unit → MayRun b build n unit → Due b build n unit
+may_run b build n unit h is (IsStarted started) = record {
   waits = ap is_outcome started;
   ready = h.consistent.ready n unit is (ap is_some started);
   runs = h.runs n unit is started;
 }
-due b build n unit h is (IsReadyToStart waits ready runs) =
+may_run b build n unit h is (IsReadyToStart waits ready runs) =
     let over = ready_by build unit ready in
     record { waits = waits; ready = over; runs = sym (early_same b build n unit h is over) ∙ runs }
 
@@ -61,11 +61,11 @@ as_from_nothing b build n unit id base sound gives h d chosen =
     let m = reusable_matches b build n unit id base chosen in
     run_is_from_nothing b build n unit id h d.ready d.runs (match_is_run b build n unit id base h.consistent.base sound gives (live_is_true b id sound m.lives) m.matches_unit)
 
--- a due unit comes to the object that it may reuse, in a way that agrees where the object has the outputs
+-- a unit that may run comes to the object that it may reuse, in a way that agrees where the object has the outputs
 taken_agrees : (b : Base) (build : Build) (n : ℕ) (unit : Unit) (id : ℕ) (came : Came) → ((outputs : List (List ℕ)) → HasOutputs b unit id outputs → Agrees b unit came (Made outputs)) → object_of (Some came) ≡ Some id → (came ≡ Started → ⊥) →
-    is_base b ≡ true → IsSound b → GivesLive b build → AgreesSoFar b build → unit_at build n ≡ Some unit → IsDue b build n unit → reusable b build n unit ≡ Some id → AgreesSoFar b (with_came build (Some n) came)
-taken_agrees b build n unit id came agree own over base sound gives h is is_due chosen =
-    let d = due b build n unit h is is_due in
+    is_base b ≡ true → IsSound b → GivesLive b build → AgreesSoFar b build → unit_at build n ≡ Some unit → MayRun b build n unit → reusable b build n unit ≡ Some id → AgreesSoFar b (with_came build (Some n) came)
+taken_agrees b build n unit id came agree own over base sound gives h is may chosen =
+    let d = may_run b build n unit h is may in
     let r = as_from_nothing b build n unit id base sound gives h d chosen in
     came_so b build n unit came h (record {
       keeps = keeps_with b build n id unit came is d.waits d.ready own r.has.is_object;
@@ -73,14 +73,14 @@ taken_agrees b build n unit id came agree own over base sound gives h is is_due 
       agrees = λ outcome. subst (Agrees b unit came) (sym r.made) (agree r.outputs r.has);
     })
 
-pub kept_agrees : (b : Base) (build : Build) (n : ℕ) (unit : Unit) (id : ℕ) → is_base b ≡ true → IsSound b → GivesLive b build → AgreesSoFar b build → unit_at build n ≡ Some unit → IsDue b build n unit →
-    reusable b build n unit ≡ Some id → AgreesSoFar b (with_came build (Some n) (Ended (Kept id)))
-kept_agrees b build n unit id = taken_agrees b build n unit id (Ended (Kept id)) (λ outputs has. has) refl (λ e. cc)
+pub kept_agrees : (b : Base) (build : Build) (n : ℕ) (unit : Unit) (id : ℕ) → is_base b ≡ true → IsSound b → GivesLive b build → AgreesSoFar b build → unit_at build n ≡ Some unit → MayRun b build n unit →
+    reusable b build n unit ≡ Some id → AgreesSoFar b (with_came build (Some n) (Concluded (Kept id)))
+kept_agrees b build n unit id = taken_agrees b build n unit id (Concluded (Kept id)) (λ outputs has. has) refl (λ e. cc)
 
-pub winked_agrees : (row : Plain) (b : Base) (build : Build) (n : ℕ) (unit : Unit) (id : ℕ) → is_base b ≡ true → IsSound b → GivesLive b build → AgreesSoFar b build → unit_at build n ≡ Some unit → IsDue b build n unit →
+pub winked_agrees : (row : Plain) (b : Base) (build : Build) (n : ℕ) (unit : Unit) (id : ℕ) → is_base b ≡ true → IsSound b → GivesLive b build → AgreesSoFar b build → unit_at build n ≡ Some unit → MayRun b build n unit →
     reusable b build n unit ≡ Some id → row.deed ≡ deeds.Wink build.view id → AgreesSoFar (row ∷ b) (with_came build (Some n) (Given id))
-winked_agrees row b build n unit id base sound gives h is is_due chosen wink =
-    row_added row b (with_came build (Some n) (Given id)) (taken_agrees b build n unit id (Given id) (λ outputs has. has) refl (λ e. cc) base sound gives h is is_due chosen)
+winked_agrees row b build n unit id base sound gives h is may chosen wink =
+    row_added row b (with_came build (Some n) (Given id)) (taken_agrees b build n unit id (Given id) (λ outputs has. has) refl (λ e. cc) base sound gives h is may chosen)
 
 -- a unit comes to something: where that is an object that lives, the objects given live still
 came_lives : (b : Base) (build : Build) (n id : ℕ) (came : Came) → object_of (Some came) ≡ Some id → is_some (live b id) ≡ true → GivesLive b build → GivesLive b (with_came build (Some n) came)
@@ -92,8 +92,8 @@ came_lives b build n id came own lives gives = record { lives = λ m other is. b
         subst (λ k. is_some (live b k) ≡ true) same lives
     by m other false e is = gives.lives m other (sym (ap object_of (came_now build n m came false e)) ∙ is)
 
-pub kept_lives : (b : Base) (build : Build) (n : ℕ) (unit : Unit) (id : ℕ) → is_base b ≡ true → GivesLive b build → reusable b build n unit ≡ Some id → GivesLive b (with_came build (Some n) (Ended (Kept id)))
-kept_lives b build n unit id base gives chosen = came_lives b build n id (Ended (Kept id)) refl (reusable_matches b build n unit id base chosen).lives gives
+pub kept_lives : (b : Base) (build : Build) (n : ℕ) (unit : Unit) (id : ℕ) → is_base b ≡ true → GivesLive b build → reusable b build n unit ≡ Some id → GivesLive b (with_came build (Some n) (Concluded (Kept id)))
+kept_lives b build n unit id base gives chosen = came_lives b build n id (Concluded (Kept id)) refl (reusable_matches b build n unit id base chosen).lives gives
 
 pub winked_lives : (row : Plain) (b : Base) (build : Build) (n : ℕ) (unit : Unit) (id : ℕ) → is_base b ≡ true → GivesLive b build → reusable b build n unit ≡ Some id → row.deed ≡ deeds.Wink build.view id →
     GivesLive (row ∷ b) (with_came build (Some n) (Given id))

@@ -11,8 +11,8 @@ use Rattle.cc_names.specs.declared.rows.Deed.TheVariants as deeds
 use Rattle.cc_names.specs.declared.rows.Tag.{Tag}
 use Rattle.cc_names.specs.declared.steps.Step.{Step}
 use Rattle.cc_names.specs.declared.steps.Step.TheVariants as steps
-use Rattle.cc_names.specs.declared.steps.Told.{Told}
-use Rattle.cc_names.specs.declared.steps.Told.TheVariants as told
+use Rattle.cc_names.specs.declared.steps.StoryStep.{StoryStep}
+use Rattle.cc_names.specs.declared.steps.StoryStep.TheVariants as story_steps
 use Rattle.cc_names.specs.declared.units.Unit.{Unit}
 use Rattle.make_text.specs.Graphs.{units}
 use Rattle.legal_history.specs.Builds.Active.{Build, build_of}
@@ -120,29 +120,29 @@ faulted_none s tag other command left before faults tick None next b e h =
 ended_none : (s : State) (tag other : Tag) (command : Command) (build : Build) → next_command s tag ≡ Some command → build_by s other ≡ Some build → done_of (with_done s.done other.lane) tag.lane ≡ done_of s.done tag.lane + 1 → ⊥
 ended_none s tag other command build next active h = no_build s tag other build (idle_next s tag command next) active (finished_lane s.done tag.lane other.lane h)
 
-refused_so : (s : State) (tag other : Tag) (refusal : Refusal) (command : Command) → next_command s tag ≡ Some command → decided s other ≡ Some (Err refusal) → tag.lane ≡ other.lane → IsRefused s (told.Other (steps.Refused other refusal)) tag
+refused_so : (s : State) (tag other : Tag) (refusal : Refusal) (command : Command) → next_command s tag ≡ Some command → decided s other ≡ Some (Err refusal) → tag.lane ≡ other.lane → IsRefused s (story_steps.Other (steps.Refused other refusal)) tag
 refused_so s tag other refusal command next e number =
     let o = next_of s other (Err refusal) e in
     let same : tag ≡ other = one_next s tag other command o.command next o.next number in
-    record { refusal = refusal; is = ap (λ t. told.Other (steps.Refused t refusal)) (sym same); decided_so = ap (decided s) same ∙ e }
+    record { refusal = refusal; is = ap (λ t. story_steps.Other (steps.Refused t refusal)) (sym same); decided_so = ap (decided s) same ∙ e }
 
 told_refused : (s : State) (step : Step) (tag : Tag) (command : Command) → next_command s tag ≡ Some command → builds command ≡ true → LawfulStep s step →
-    done_of (after_step s step).done tag.lane ≡ done_of s.done tag.lane + 1 → IsRefused s (told.Other step) tag
+    done_of (after_step s step).done tag.lane ≡ done_of s.done tag.lane + 1 → IsRefused s (story_steps.Other step) tag
 told_refused s (steps.Refused other refusal) tag command next b e h = refused_so s tag other refusal command next e (finished_lane s.done tag.lane other.lane h)
 told_refused s (steps.Answer other text) tag command next b e h =
     absurd (answers_none (scene s) command text b (same_decision s tag other command (Ok (Answers text)) next e (finished_lane s.done tag.lane other.lane h)))
 told_refused s (steps.Begin other rows count) tag command next b e h = absurd (not_more (done_of s.done tag.lane) h)
 told_refused s (steps.Start other n) tag command next b e h = absurd (not_more (done_of s.done tag.lane) h)
-told_refused s (steps.Settled other n end) tag command next b e h = absurd (not_more (done_of s.done tag.lane) h)
+told_refused s (steps.Concluded other n end) tag command next b e h = absurd (not_more (done_of s.done tag.lane) h)
 told_refused s (steps.End other) tag command next b e h = absurd (ended_none s tag other command e.build next e.active h)
 told_refused s (steps.Fault other left before faults tick) tag command next b e h = absurd (faulted_none s tag other command left before faults tick (build_by s other) next b e h)
 told_refused s step tag command next b e h = absurd e
 
-pub is_refused : (s : State) (x : Told) (tag : Tag) (command : Command) → next_command s tag ≡ Some command → builds command ≡ true → Lawful s x → done_of (after s x).done tag.lane ≡ done_of s.done tag.lane + 1 → IsRefused s x tag
-is_refused s (told.Opened rows counts tells) tag command next b e h = absurd (not_more (done_of s.done tag.lane) h)
-is_refused s (told.Plan phase moment) tag command next b e h = absurd (none_before (done_of s.done tag.lane) h)
-is_refused s (told.Commit row tick) tag command next b e h = absurd (committed_none s tag command row row.deed next b e.may.made h)
-is_refused s (told.Other step) tag command next b e h = told_refused s step tag command next b e h
+pub is_refused : (s : State) (x : StoryStep) (tag : Tag) (command : Command) → next_command s tag ≡ Some command → builds command ≡ true → Lawful s x → done_of (after s x).done tag.lane ≡ done_of s.done tag.lane + 1 → IsRefused s x tag
+is_refused s (story_steps.Opened rows counts tells) tag command next b e h = absurd (not_more (done_of s.done tag.lane) h)
+is_refused s (story_steps.PhaseBegun phase moment) tag command next b e h = absurd (none_before (done_of s.done tag.lane) h)
+is_refused s (story_steps.Commit row tick) tag command next b e h = absurd (committed_none s tag command row row.deed next b e.may.made h)
+is_refused s (story_steps.Other step) tag command next b e h = told_refused s step tag command next b e h
 
 -- In a lane with an active build no command is decided.
 not_decided : (s : State) (lane : ℕ) (build : Build) (other : Tag) (r : Result Decision Refusal) → build_of s.active lane ≡ Some build → decided s other ≡ Some r → lane ≡ other.lane → ⊥
@@ -169,18 +169,18 @@ faulted_ends s lane build other left before faults tick None by_tag is e h =
     let wanted = e.wanted in
     built_row s lane build wanted.row wanted.row.deed is wanted.may.made (ap (build_by s) wanted.of_tag ∙ by_tag) (finished_lane s.done lane other.lane h ∙ ap (λ (t : Tag). t.lane) (sym wanted.of_tag))
 
-told_ended : (s : State) (step : Step) (lane : ℕ) (build : Build) → build_of s.active lane ≡ Some build → LawfulStep s step → done_of (after_step s step).done lane ≡ done_of s.done lane + 1 → IsLeft s (told.Other step) lane build
+told_ended : (s : State) (step : Step) (lane : ℕ) (build : Build) → build_of s.active lane ≡ Some build → LawfulStep s step → done_of (after_step s step).done lane ≡ done_of s.done lane + 1 → IsLeft s (story_steps.Other step) lane build
 told_ended s (steps.Refused other refusal) lane build is e h = absurd (not_decided s lane build other (Err refusal) is e (finished_lane s.done lane other.lane h))
 told_ended s (steps.Answer other text) lane build is e h = absurd (not_decided s lane build other (Ok (Answers text)) is e (finished_lane s.done lane other.lane h))
 told_ended s (steps.Begin other rows count) lane build is e h = absurd (not_more (done_of s.done lane) h)
 told_ended s (steps.Start other n) lane build is e h = absurd (not_more (done_of s.done lane) h)
-told_ended s (steps.Settled other n end) lane build is e h = absurd (not_more (done_of s.done lane) h)
+told_ended s (steps.Concluded other n end) lane build is e h = absurd (not_more (done_of s.done lane) h)
 told_ended s (steps.End other) lane build is e h = ends_so s other lane build is e (finished_lane s.done lane other.lane h)
 told_ended s (steps.Fault other left before faults tick) lane build is e h = absurd (faulted_ends s lane build other left before faults tick (build_by s other) refl is e h)
 told_ended s step lane build is e h = absurd e
 
-pub is_ended : (s : State) (x : Told) (lane : ℕ) (build : Build) → build_of s.active lane ≡ Some build → Lawful s x → done_of (after s x).done lane ≡ done_of s.done lane + 1 → IsLeft s x lane build
-is_ended s (told.Opened rows counts tells) lane build is e h = absurd (not_more (done_of s.done lane) h)
-is_ended s (told.Plan phase moment) lane build is e h = absurd (none_before (done_of s.done lane) h)
-is_ended s (told.Commit row tick) lane build is e h = absurd (committed_ends s lane build row row.deed is e.may.made h)
-is_ended s (told.Other step) lane build is e h = told_ended s step lane build is e h
+pub is_ended : (s : State) (x : StoryStep) (lane : ℕ) (build : Build) → build_of s.active lane ≡ Some build → Lawful s x → done_of (after s x).done lane ≡ done_of s.done lane + 1 → IsLeft s x lane build
+is_ended s (story_steps.Opened rows counts tells) lane build is e h = absurd (not_more (done_of s.done lane) h)
+is_ended s (story_steps.PhaseBegun phase moment) lane build is e h = absurd (none_before (done_of s.done lane) h)
+is_ended s (story_steps.Commit row tick) lane build is e h = absurd (committed_ends s lane build row row.deed is e.may.made h)
+is_ended s (story_steps.Other step) lane build is e h = told_ended s step lane build is e h

@@ -8,8 +8,8 @@ use Rattle.cc_names.specs.declared.rows.Deed.TheVariants as deeds
 use Rattle.cc_names.specs.declared.rows.Tag.{Tag}
 use Rattle.cc_names.specs.declared.steps.Step.{Step}
 use Rattle.cc_names.specs.declared.steps.Step.TheVariants as steps
-use Rattle.cc_names.specs.declared.steps.Told.{Told}
-use Rattle.cc_names.specs.declared.steps.Told.TheVariants as told
+use Rattle.cc_names.specs.declared.steps.StoryStep.{StoryStep}
+use Rattle.cc_names.specs.declared.steps.StoryStep.TheVariants as story_steps
 use Rattle.cc_names.specs.declared.steps.UnitEnd.{UnitEnd}
 use Rattle.cc_names.specs.declared.steps.UnitEnd.TheVariants as ends
 use Rattle.cc_names.specs.declared.refusals.UnitFault.TheVariants as unit_faults
@@ -20,19 +20,19 @@ use Rattle.legal_history.specs.Stories.Committing.{MakesRow}
 use Rattle.legal_history.specs.Stories.Lawful.{Lawful, LawfulStep, LegalFrom}
 use Rattle.legal_history.specs.Builds.UnitTurns.{ComesTo}
 
-pub front_is_legal : (s : State) (front rest : List Told) → LegalFrom s (front ++ rest) → LegalFrom s front
+pub front_is_legal : (s : State) (front rest : List StoryStep) → LegalFrom s (front ++ rest) → LegalFrom s front
 front_is_legal s [] rest h = tt
 front_is_legal s (x ∷ front) rest h = (h.0, front_is_legal (after s x) front rest h.1)
 
-pub rest_is_legal : (s : State) (front rest : List Told) → LegalFrom s (front ++ rest) → LegalFrom (state_from s front) rest
+pub rest_is_legal : (s : State) (front rest : List StoryStep) → LegalFrom s (front ++ rest) → LegalFrom (state_from s front) rest
 rest_is_legal s [] rest h = h
 rest_is_legal s (x ∷ front) rest h = rest_is_legal (after s x) front rest h.1
 
-pub both_are_legal : (s : State) (front rest : List Told) → LegalFrom s front → LegalFrom (state_from s front) rest → LegalFrom s (front ++ rest)
+pub both_are_legal : (s : State) (front rest : List StoryStep) → LegalFrom s front → LegalFrom (state_from s front) rest → LegalFrom s (front ++ rest)
 both_are_legal s [] rest h g = g
 both_are_legal s (x ∷ front) rest h g = (h.0, both_are_legal (after s x) front rest h.1 g)
 
-pub state_goes_on : (s : State) (front rest : List Told) → state_from s (front ++ rest) ≡ state_from (state_from s front) rest
+pub state_goes_on : (s : State) (front rest : List StoryStep) → state_from s (front ++ rest) ≡ state_from (state_from s front) rest
 state_goes_on s [] rest = refl
 state_goes_on s (x ∷ front) rest = state_goes_on (after s x) front rest
 
@@ -66,14 +66,14 @@ nothing_is_told (steps.Refused tag refusal) h = let e = nothing_is_decided tag i
 nothing_is_told (steps.Answer tag text) h = let e = nothing_is_decided tag in cc
 nothing_is_told (steps.Begin tag rows units) h = let e = nothing_is_decided tag in let c = h.chosen in cc
 nothing_is_told (steps.Start tag n) h = let e = h.open_unit.waits.active in cc
-nothing_is_told (steps.Settled tag n outcome) h = nothing_settles tag n outcome h
+nothing_is_told (steps.Concluded tag n outcome) h = nothing_settles tag n outcome h
 nothing_is_told (steps.End tag) h = let e = h.active in cc
 nothing_is_told (steps.Fault tag left before faults tick) h = nothing_is_committed h.wanted.row h.wanted.row.deed h.wanted.may.made
 nothing_is_told step h = h
 
 -- the first step of a legal story opens a base
-pub first_opens : (x : Told) → Lawful start x → is_some (after start x).opened ≡ true
-first_opens (told.Opened rows counts tells) h = refl
-first_opens (told.Plan phase moment) h = absurd (let e = h.opened in cc)
-first_opens (told.Commit row tick) h = absurd (nothing_is_committed row row.deed h.may.made)
-first_opens (told.Other step) h = absurd (nothing_is_told step h)
+pub first_opens : (x : StoryStep) → Lawful start x → is_some (after start x).opened ≡ true
+first_opens (story_steps.Opened rows counts tells) h = refl
+first_opens (story_steps.PhaseBegun phase moment) h = absurd (let e = h.opened in cc)
+first_opens (story_steps.Commit row tick) h = absurd (nothing_is_committed row row.deed h.may.made)
+first_opens (story_steps.Other step) h = absurd (nothing_is_told step h)

@@ -11,8 +11,8 @@ use Rattle.cc_names.specs.declared.rows.Deed.TheVariants as deeds
 use Rattle.cc_names.specs.declared.rows.Tag.{Tag}
 use Rattle.cc_names.specs.declared.steps.Step.{Step}
 use Rattle.cc_names.specs.declared.steps.Step.TheVariants as steps
-use Rattle.cc_names.specs.declared.steps.Told.{Told}
-use Rattle.cc_names.specs.declared.steps.Told.TheVariants as told
+use Rattle.cc_names.specs.declared.steps.StoryStep.{StoryStep}
+use Rattle.cc_names.specs.declared.steps.StoryStep.TheVariants as story_steps
 use Rattle.cc_names.specs.declared.steps.UnitEnd.{UnitEnd}
 use Rattle.cc_names.specs.declared.steps.UnitEnd.TheVariants as ends
 use Rattle.cc_names.specs.declared.refusals.UnitFault.TheVariants as unit_faults
@@ -184,15 +184,15 @@ told_goes s (steps.Answer tag text) lane build is h = On build is (continues_its
 told_goes s (steps.Begin tag rows units) lane build is h = begun_goes s.active lane tag.lane build (begun s tag) is (decided_is_idle s tag h.chosen)
 told_goes s (steps.Start tag n) lane build is h =
     waited_goes s tag n h.build h.unit lane build (λ b. Some n) _ is h.open_unit.waits refl
-told_goes s (steps.Settled tag n outcome) lane build is h = settled_goes s tag n outcome lane build _ is h
+told_goes s (steps.Concluded tag n outcome) lane build is h = settled_goes s tag n outcome lane build _ is h
 told_goes s (steps.End tag) lane build is h = ended_goes s.active lane tag.lane build is
 told_goes s (steps.Fault tag left before faults tick) lane build is h = faulted_goes s.active lane tag.lane build (build_by s tag) is (λ x e. of_lane s tag x e)
 told_goes s step lane build is h = absurd h
 
 -- each lawful step leaves an active build going on, or ends it
-pub step_goes : (s : State) (x : Told) (lane : ℕ) (build : Build) → build_of s.active lane ≡ Some build → Lawful s x →
+pub step_goes : (s : State) (x : StoryStep) (lane : ℕ) (build : Build) → build_of s.active lane ≡ Some build → Lawful s x →
     StaysTheBuild build (build_of (after s x).active lane)
-step_goes s (told.Opened rows counts tells) lane build is h = On build is (continues_itself build)
-step_goes s (told.Plan phase moment) lane build is h = On build is (continues_itself build)
-step_goes s (told.Commit row tick) lane build is h = committed_goes s row row.deed lane build is h.may.made
-step_goes s (told.Other step) lane build is h = told_goes s step lane build is h
+step_goes s (story_steps.Opened rows counts tells) lane build is h = On build is (continues_itself build)
+step_goes s (story_steps.PhaseBegun phase moment) lane build is h = On build is (continues_itself build)
+step_goes s (story_steps.Commit row tick) lane build is h = committed_goes s row row.deed lane build is h.may.made
+step_goes s (story_steps.Other step) lane build is h = told_goes s step lane build is h

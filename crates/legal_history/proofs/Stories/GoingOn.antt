@@ -1,7 +1,7 @@
 -- What is known where a build goes on by a lawful step of a legal story.
 use Rattle.std.proofs.Common.{◌≡◌, ap, sym, subst, ◌∙◌, ℕ, true, Some, List, [], ◌∷◌}
 use Rattle.std.specs.Prelude.{is_some}
-use Rattle.cc_names.specs.declared.steps.Told.{Told}
+use Rattle.cc_names.specs.declared.steps.StoryStep.{StoryStep}
 use Rattle.cc_names.specs.declared.units.Unit.{Unit}
 use Rattle.legal_history.specs.Base.Rows.{Base, first_rows}
 use Rattle.legal_history.specs.Builds.Active.{Build, build_of, came_to, unit_at}
@@ -31,7 +31,7 @@ some_same : {a b : Build} → Some a ≡ Some b → a ≡ b
 some_same h = cc
 
 -- it does where one of its units was started
-pub goes_on_so : (story : List Told) (x : Told) (lane : ℕ) (old new : Build) (n : ℕ) (unit : Unit) → Legal story → Lawful (state_of story) x → build_of (state_of story).active lane ≡ Some old →
+pub goes_on_so : (story : List StoryStep) (x : StoryStep) (lane : ℕ) (old new : Build) (n : ℕ) (unit : Unit) → Legal story → Lawful (state_of story) x → build_of (state_of story).active lane ≡ Some old →
     build_of (after (state_of story) x).active lane ≡ Some new → unit_at old n ≡ Some unit → is_some (came_to old n) ≡ true → GoesOnSo (state_of story).base (after (state_of story) x).base old new unit
 goes_on_so [] x lane old new n unit legal e is later of_n came = absurd (cc)
 goes_on_so (first ∷ story) x lane old new n unit legal e is later of_n came = by (step_goes s x lane old is e)

@@ -4,8 +4,8 @@ use Rattle.std.proofs.lemmas.List.{append-nil}
 use Rattle.std.specs.Prelude.{is_some}
 use Rattle.cc_names.specs.declared.steps.Step.{Step}
 use Rattle.cc_names.specs.declared.steps.Step.TheVariants as steps
-use Rattle.cc_names.specs.declared.steps.Told.{Told}
-use Rattle.cc_names.specs.declared.steps.Told.TheVariants as told
+use Rattle.cc_names.specs.declared.steps.StoryStep.{StoryStep}
+use Rattle.cc_names.specs.declared.steps.StoryStep.TheVariants as story_steps
 use Rattle.legal_history.specs.Base.Rows.{Base}
 use Rattle.legal_history.specs.Stories.Growth.{Extends}
 use Rattle.legal_history.specs.Stories.States.{State, start}
@@ -25,43 +25,43 @@ base_stays s (steps.Refused tag refusal) = refl
 base_stays s (steps.Answer tag text) = refl
 base_stays s (steps.Begin tag rows units) = refl
 base_stays s (steps.Start tag n) = refl
-base_stays s (steps.Settled tag n outcome) = refl
+base_stays s (steps.Concluded tag n outcome) = refl
 base_stays s (steps.End tag) = refl
 base_stays s (steps.Fault tag left before faults tick) = refl
 base_stays s step = refl
 
-pub step_extends : (s : State) (x : Told) → is_some s.opened ≡ true → Lawful s x → Extends s.base (after s x).base
-step_extends s (told.Opened rows counts tells) o h = absurd (let e = h.first in cc)
-step_extends s (told.Plan phase moment) o h = extends_itself s.base
-step_extends s (told.Commit row tick) o h = record { more = row ∷ []; is = refl }
-step_extends s (told.Other step) o h = record { more = []; is = base_stays s step }
+pub step_extends : (s : State) (x : StoryStep) → is_some s.opened ≡ true → Lawful s x → Extends s.base (after s x).base
+step_extends s (story_steps.Opened rows counts tells) o h = absurd (let e = h.first in cc)
+step_extends s (story_steps.PhaseBegun phase moment) o h = extends_itself s.base
+step_extends s (story_steps.Commit row tick) o h = record { more = row ∷ []; is = refl }
+step_extends s (story_steps.Other step) o h = record { more = []; is = base_stays s step }
 
 opened_stays_told : (s : State) (step : Step) → (after_step s step).opened ≡ s.opened
 opened_stays_told s (steps.Refused tag refusal) = refl
 opened_stays_told s (steps.Answer tag text) = refl
 opened_stays_told s (steps.Begin tag rows units) = refl
 opened_stays_told s (steps.Start tag n) = refl
-opened_stays_told s (steps.Settled tag n outcome) = refl
+opened_stays_told s (steps.Concluded tag n outcome) = refl
 opened_stays_told s (steps.End tag) = refl
 opened_stays_told s (steps.Fault tag left before faults tick) = refl
 opened_stays_told s step = refl
 
-pub stays_opened : (s : State) (x : Told) → is_some s.opened ≡ true → is_some (after s x).opened ≡ true
-stays_opened s (told.Opened rows counts tells) o = refl
-stays_opened s (told.Plan phase moment) o = o
-stays_opened s (told.Commit row tick) o = o
-stays_opened s (told.Other step) o = rw (opened_stays_told s step) o
+pub stays_opened : (s : State) (x : StoryStep) → is_some s.opened ≡ true → is_some (after s x).opened ≡ true
+stays_opened s (story_steps.Opened rows counts tells) o = refl
+stays_opened s (story_steps.PhaseBegun phase moment) o = o
+stays_opened s (story_steps.Commit row tick) o = o
+stays_opened s (story_steps.Other step) o = rw (opened_stays_told s step) o
 
-pub story_extends : (s : State) (story : List Told) → is_some s.opened ≡ true → LegalFrom s story → Extends s.base (state_from s story).base
+pub story_extends : (s : State) (story : List StoryStep) → is_some s.opened ≡ true → LegalFrom s story → Extends s.base (state_from s story).base
 story_extends s [] o h = extends_itself s.base
 story_extends s (x ∷ story) o h = extends_on (step_extends s x o h.0) (story_extends (after s x) story (stays_opened s x o) h.1)
 
 -- a state to which a legal story has led by a first step is opened
-pub is_opened : (s : State) (story : List Told) → is_some s.opened ≡ true → is_some (state_from s story).opened ≡ true
+pub is_opened : (s : State) (story : List StoryStep) → is_some s.opened ≡ true → is_some (state_from s story).opened ≡ true
 is_opened s [] o = o
 is_opened s (x ∷ story) o = is_opened (after s x) story (stays_opened s x o)
 
-pub base_grows : (front rest : List Told) → Legal (front ++ rest) → Extends (state_of front).base (state_of (front ++ rest)).base
+pub base_grows : (front rest : List StoryStep) → Legal (front ++ rest) → Extends (state_of front).base (state_of (front ++ rest)).base
 base_grows [] rest h = record { more = (state_of rest).base; is = sym (append-nil _) }
 base_grows (x ∷ front) rest h =
     subst (λ s. Extends (state_of (x ∷ front)).base s.base) (sym (state_goes_on (after start x) front rest))

@@ -2,7 +2,7 @@
 use Rattle.std.proofs.Common.{◌≡◌, ap, sym, subst, ◌∙◌, ℕ, ◌+◌, true, Some, List, ◌++◌, arith}
 use Rattle.std.specs.Prelude.{is_some}
 use Rattle.cc_names.specs.declared.rows.Tag.{Tag}
-use Rattle.cc_names.specs.declared.steps.Told.{Told}
+use Rattle.cc_names.specs.declared.steps.StoryStep.{StoryStep}
 use Rattle.cc_names.specs.declared.units.Unit.{Unit}
 use Rattle.legal_history.specs.Builds.Active.{Build, came_to, unit_at}
 use Rattle.legal_history.specs.Builds.Consistency.{IsConsistent}
@@ -22,7 +22,7 @@ no_more : (m n : ℕ) → m + 1 ≡ n + 1 → m ≡ n
 no_more m n h = omega (arith, h)
 
 -- builds of one command are one build
-pub same_build : (front rest : List Told) (lane : ℕ) (old new : Build) → IsStillActive front rest lane old new → Continues old new
+pub same_build : (front rest : List StoryStep) (lane : ℕ) (old new : Build) → IsStillActive front rest lane old new → Continues old new
 same_build front rest lane old new h =
     let s : State = state_of front in
     let t : State = state_of (front ++ rest) in
@@ -35,7 +35,7 @@ same_build front rest lane old new h =
     subst (Continues old) (some_same (sym still.is ∙ h.now)) still.on
 
 -- a build that goes on while its base grows, where one of its units was started
-pub goes_on_later : (front rest : List Told) (lane : ℕ) (old new : Build) (n : ℕ) (unit : Unit) → IsStillActive front rest lane old new → unit_at old n ≡ Some unit → is_some (came_to old n) ≡ true →
+pub goes_on_later : (front rest : List StoryStep) (lane : ℕ) (old new : Build) (n : ℕ) (unit : Unit) → IsStillActive front rest lane old new → unit_at old n ≡ Some unit → is_some (came_to old n) ≡ true →
     GoesOnSo (state_of front).base (state_of (front ++ rest)).base old new unit
 goes_on_later front rest lane old new n unit h of_n came =
     let consistent : IsConsistent (state_of front).base old = build_is_consistent front lane old (front_is_legal start front rest h.legal) h.before in

@@ -12,8 +12,8 @@ use Rattle.cc_names.specs.declared.rows.Deed.TheVariants as deeds
 use Rattle.cc_names.specs.declared.rows.Tag.{Tag}
 use Rattle.cc_names.specs.declared.steps.Step.{Step}
 use Rattle.cc_names.specs.declared.steps.Step.TheVariants as steps
-use Rattle.cc_names.specs.declared.steps.Told.{Told}
-use Rattle.cc_names.specs.declared.steps.Told.TheVariants as told
+use Rattle.cc_names.specs.declared.steps.StoryStep.{StoryStep}
+use Rattle.cc_names.specs.declared.steps.StoryStep.TheVariants as story_steps
 use Rattle.legal_history.specs.Builds.Active.{Build}
 use Rattle.legal_history.specs.Commands.Decisions.{Decision}
 use Rattle.legal_history.specs.Commands.Lines.{decision}
@@ -86,27 +86,27 @@ told_within s (steps.Refused tag refusal) all e h = with_one_more s tag.lane (de
 told_within s (steps.Answer tag text) all e h = with_one_more s tag.lane (decided_has_next s tag _ e) h
 told_within s (steps.Begin tag rows units) all e h = h
 told_within s (steps.Start tag n) all e h = h
-told_within s (steps.Settled tag n outcome) all e h = h
+told_within s (steps.Concluded tag n outcome) all e h = h
 told_within s (steps.End tag) all e h = with_one_more s tag.lane (built_has_next s tag e.build all e.active) h
 told_within s (steps.Fault tag left before faults tick) all e h =
     let next = row_has_next s e.wanted.row e.wanted.row.deed all e.wanted.may.made in
     faulted_within s tag.lane (build_by s tag) (subst (λ (t : Tag). HasNext s t.lane) e.wanted.of_tag next) h
 told_within s step all e h = absurd e
 
-step_within : (s : State) (x : Told) → AllCommanded s → Lawful s x → AllWithin s → AllWithin (after s x)
-step_within s (told.Opened rows counts tells) all e h = h
-step_within s (told.Plan phase moment) all e h = λ lane. omega arith
-step_within s (told.Commit row tick) all e h = committed_within s row.tag.lane row.deed (row_has_next s row row.deed all e.may.made) h
-step_within s (told.Other step) all e h = told_within s step all e h
+step_within : (s : State) (x : StoryStep) → AllCommanded s → Lawful s x → AllWithin s → AllWithin (after s x)
+step_within s (story_steps.Opened rows counts tells) all e h = h
+step_within s (story_steps.PhaseBegun phase moment) all e h = λ lane. omega arith
+step_within s (story_steps.Commit row tick) all e h = committed_within s row.tag.lane row.deed (row_has_next s row row.deed all e.may.made) h
+step_within s (story_steps.Other step) all e h = told_within s step all e h
 
-within_from : (s : State) (story : List Told) → IsSound s → AllCommanded s → LegalFrom s story → AllWithin s → AllWithin (state_from s story)
+within_from : (s : State) (story : List StoryStep) → IsSound s → AllCommanded s → LegalFrom s story → AllWithin s → AllWithin (state_from s story)
 within_from s [] sound all e h = h
 within_from s (x ∷ story) sound all e h = within_from (after s x) story (sound_step s x sound e.0) (step_commanded s x sound all e.0) e.1 (step_within s x all e.0 h)
 
-within_first : (x : Told) → Lawful start x → AllWithin (after start x)
+within_first : (x : StoryStep) → Lawful start x → AllWithin (after start x)
 within_first x e = step_within start x (record { holds = λ lane build is. absurd (cc) }) e (λ lane. omega arith)
 
-pub lane_within : (story : List Told) (lane : ℕ) → Legal story → IsWithin (state_of story) lane
+pub lane_within : (story : List StoryStep) (lane : ℕ) → Legal story → IsWithin (state_of story) lane
 lane_within [] lane legal = omega arith
 lane_within (x ∷ story) lane legal = within_from (after start x) story (sound_first x legal.0) (none_begun x legal.0) legal.1 (within_first x legal.0) lane
 
@@ -114,7 +114,7 @@ lane_within (x ∷ story) lane legal = within_from (after start x) story (sound_
 all_there : (old new all goal : ℕ) → old ≤ new → new ≤ goal → old ≡ all → goal ≡ all → new ≡ goal
 all_there old new all goal low high first same = omega arith
 
-pub stays_finished : (front rest : List Told) (lane : ℕ) → Legal (front ++ rest) → (state_of (front ++ rest)).number ≡ (state_of front).number →
+pub stays_finished : (front rest : List StoryStep) (lane : ℕ) → Legal (front ++ rest) → (state_of (front ++ rest)).number ≡ (state_of front).number →
     IsFinished (state_of front) lane → IsFinished (state_of (front ++ rest)) lane
 stays_finished front rest lane legal same h =
     let later = story_later front rest legal in

@@ -5,8 +5,8 @@ use Rattle.cc_names.specs.declared.rows.Deed.{Deed}
 use Rattle.cc_names.specs.declared.rows.Deed.TheVariants as deeds
 use Rattle.cc_names.specs.declared.steps.Step.{Step}
 use Rattle.cc_names.specs.declared.steps.Step.TheVariants as steps
-use Rattle.cc_names.specs.declared.steps.Told.{Told}
-use Rattle.cc_names.specs.declared.steps.Told.TheVariants as told
+use Rattle.cc_names.specs.declared.steps.StoryStep.{StoryStep}
+use Rattle.cc_names.specs.declared.steps.StoryStep.TheVariants as story_steps
 use Rattle.legal_history.specs.Builds.Active.{Build, build_of}
 use Rattle.legal_history.specs.Stories.Growth.{GoesLater, StaysTheBuild, Over, On, StillBuilds}
 use Rattle.legal_history.specs.Stories.States.{State, build_by, done_of, with_done}
@@ -42,7 +42,7 @@ faulted_no_fewer done other None lane = no_fewer done other lane
 faulted_no_fewer done other (Some build) lane = omega arith
 
 -- an active build that is over after a step has raised its lane's count
-left_more : (s : State) (x : Told) (lane : ℕ) (build : Build) → IsLeft s x lane build → done_of (after s x).done lane ≡ done_of s.done lane + 1
+left_more : (s : State) (x : StoryStep) (lane : ℕ) (build : Build) → IsLeft s x lane build → done_of (after s x).done lane ≡ done_of s.done lane + 1
 left_more s x lane build h =
     subst (λ y. done_of (after s y).done lane ≡ done_of s.done lane + 1) (sym h.is)
     (subst (λ n. done_of (with_done s.done n) lane ≡ done_of s.done lane + 1) (sym h.of_lane) (own_done s.done lane))
@@ -51,7 +51,7 @@ not_more : (n m : ℕ) → m ≡ n → m ≡ n + 1 → ⊥
 not_more n m same more = omega (arith, same, more)
 
 -- so a build goes on where it has not
-pub step_builds : (s : State) (x : Told) → Lawful s x → (lane : ℕ) (build : Build) → build_of s.active lane ≡ Some build → done_of (after s x).done lane ≡ done_of s.done lane →
+pub step_builds : (s : State) (x : StoryStep) → Lawful s x → (lane : ℕ) (build : Build) → build_of s.active lane ≡ Some build → done_of (after s x).done lane ≡ done_of s.done lane →
     StillBuilds build (build_of (after s x).active lane)
 step_builds s x e lane build is same = by (step_goes s x lane build is e)
   where
@@ -73,10 +73,10 @@ told_stays s (steps.End tag) = record { number = refl; phase = refl; moment = re
 told_stays s (steps.Fault tag left before faults tick) = record { number = refl; phase = refl; moment = refl; done = faulted_no_fewer s.done tag.lane (build_by s tag) }
 told_stays s (steps.Begin tag rows units) = record { number = refl; phase = refl; moment = refl; done = λ lane. omega arith }
 told_stays s (steps.Start tag n) = record { number = refl; phase = refl; moment = refl; done = λ lane. omega arith }
-told_stays s (steps.Settled tag n outcome) = record { number = refl; phase = refl; moment = refl; done = λ lane. omega arith }
+told_stays s (steps.Concluded tag n outcome) = record { number = refl; phase = refl; moment = refl; done = λ lane. omega arith }
 told_stays s step = record { number = refl; phase = refl; moment = refl; done = λ lane. omega arith }
 
-within_phase : (s : State) (x : Told) → Lawful s x → StaysInPhase s (after s x) → GoesLater s (after s x)
+within_phase : (s : State) (x : StoryStep) → Lawful s x → StaysInPhase s (after s x) → GoesLater s (after s x)
 within_phase s x e h = record {
   number = let same = h.number in omega arith;
   phase = λ same. h.phase;
@@ -95,10 +95,10 @@ next_phase s t more = record {
 }
 
 -- each lawful step leads to a later state
-pub step_later : (s : State) (x : Told) → Lawful s x → GoesLater s (after s x)
-step_later s (told.Opened rows counts tells) e =
-    within_phase s (told.Opened rows counts tells) e (record { number = refl; phase = refl; moment = refl; done = λ lane. omega arith })
-step_later s (told.Plan phase moment) e = next_phase s (after s (told.Plan phase moment)) refl
-step_later s (told.Commit row tick) e =
-    within_phase s (told.Commit row tick) e (record { number = refl; phase = refl; moment = refl; done = committed_no_fewer s.done row.tag.lane row.deed })
-step_later s (told.Other step) e = within_phase s (told.Other step) e (told_stays s step)
+pub step_later : (s : State) (x : StoryStep) → Lawful s x → GoesLater s (after s x)
+step_later s (story_steps.Opened rows counts tells) e =
+    within_phase s (story_steps.Opened rows counts tells) e (record { number = refl; phase = refl; moment = refl; done = λ lane. omega arith })
+step_later s (story_steps.PhaseBegun phase moment) e = next_phase s (after s (story_steps.PhaseBegun phase moment)) refl
+step_later s (story_steps.Commit row tick) e =
+    within_phase s (story_steps.Commit row tick) e (record { number = refl; phase = refl; moment = refl; done = committed_no_fewer s.done row.tag.lane row.deed })
+step_later s (story_steps.Other step) e = within_phase s (story_steps.Other step) e (told_stays s step)

@@ -1,6 +1,6 @@
 -- A legal story leads to later states alone.
 use Rattle.std.proofs.Common.{◌≡◌, refl, sym, subst, ◌∙◌, ℕ, ◌≤◌, true, Some, List, [], ◌∷◌, ◌++◌, arith}
-use Rattle.cc_names.specs.declared.steps.Told.{Told}
+use Rattle.cc_names.specs.declared.steps.StoryStep.{StoryStep}
 use Rattle.legal_history.specs.Builds.Active.{Build, build_of, is_outcome, came_to}
 use Rattle.legal_history.specs.Stories.Growth.{Continues, GoesLater, StillBuilds}
 use Rattle.legal_history.specs.Stories.States.{State, done_of, start}
@@ -68,10 +68,10 @@ later_on a b c h g = record {
         let new = g.builds two lane old.build old.is (between_last (done_of a.done lane) (done_of b.done lane) (done_of c.done lane) low high idle) in
         record { build = new.build; is = new.is; on = continues_on build old.build new.build old.on new.on }
 
-later_from : (s : State) (story : List Told) → LegalFrom s story → GoesLater s (state_from s story)
+later_from : (s : State) (story : List StoryStep) → LegalFrom s story → GoesLater s (state_from s story)
 later_from s [] legal = later_itself s
 later_from s (x ∷ story) legal = later_on s (after s x) (state_from (after s x) story) (step_later s x legal.0) (later_from (after s x) story legal.1)
 
-pub story_later : (front rest : List Told) → Legal (front ++ rest) → GoesLater (state_of front) (state_of (front ++ rest))
+pub story_later : (front rest : List StoryStep) → Legal (front ++ rest) → GoesLater (state_of front) (state_of (front ++ rest))
 story_later front rest legal =
     subst (GoesLater (state_of front)) (sym (state_goes_on start front rest)) (later_from (state_of front) rest (rest_is_legal start front rest legal))

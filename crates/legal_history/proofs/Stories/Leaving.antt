@@ -7,8 +7,8 @@ use Rattle.cc_names.specs.declared.rows.Deed.TheVariants as deeds
 use Rattle.cc_names.specs.declared.rows.Tag.{Tag}
 use Rattle.cc_names.specs.declared.steps.Step.{Step}
 use Rattle.cc_names.specs.declared.steps.Step.TheVariants as steps
-use Rattle.cc_names.specs.declared.steps.Told.{Told}
-use Rattle.cc_names.specs.declared.steps.Told.TheVariants as told
+use Rattle.cc_names.specs.declared.steps.StoryStep.{StoryStep}
+use Rattle.cc_names.specs.declared.steps.StoryStep.TheVariants as story_steps
 use Rattle.legal_history.specs.Base.Rows.{Base}
 use Rattle.legal_history.specs.Builds.Active.{Active, Build, Came, build_of}
 use Rattle.legal_history.specs.Stories.States.{State, build_by}
@@ -48,31 +48,31 @@ some_build : {a b : Build} → Some a ≡ Some b → a ≡ b
 some_build h = cc
 
 -- a build ends in its lane
-pub ends_so : (s : State) (tag : Tag) (lane : ℕ) (build : Build) → build_of s.active lane ≡ Some build → EndsBuild s tag → lane ≡ tag.lane → IsLeft s (told.Other (steps.End tag)) lane build
+pub ends_so : (s : State) (tag : Tag) (lane : ℕ) (build : Build) → build_of s.active lane ≡ Some build → EndsBuild s tag → lane ≡ tag.lane → IsLeft s (story_steps.Other (steps.End tag)) lane build
 ends_so s tag lane build is e number =
     let there : build_of s.active tag.lane ≡ Some e.build = of_lane s tag e.build e.active in
     let same : e.build ≡ build = some_build (sym there ∙ ap (build_of s.active) (sym number) ∙ is) in
     record { tag = tag; is = refl; of_lane = sym number; active = e.active ∙ ap Some same; over = subst (λ (b : Build). (is_complete b || b.faulted) ≡ true) same e.over }
 
-by_its_end : (s : State) (tag : Tag) (lane : ℕ) (build : Build) → build_of s.active lane ≡ Some build → EndsBuild s tag → build_of (without_build s.active tag.lane) lane ≡ None → IsLeft s (told.Other (steps.End tag)) lane build
+by_its_end : (s : State) (tag : Tag) (lane : ℕ) (build : Build) → build_of s.active lane ≡ Some build → EndsBuild s tag → build_of (without_build s.active tag.lane) lane ≡ None → IsLeft s (story_steps.Other (steps.End tag)) lane build
 by_its_end s tag lane build is e none = by (lane == tag.lane) refl (sym (find_without lane tag.lane s.active) ∙ none)
   where
-    by : (t : Bool) → (lane == tag.lane) ≡ t → cond (not t) (build_of s.active lane) None ≡ None → IsLeft s (told.Other (steps.End tag)) lane build
+    by : (t : Bool) → (lane == tag.lane) ≡ t → cond (not t) (build_of s.active lane) None ≡ None → IsLeft s (story_steps.Other (steps.End tag)) lane build
     by false e2 h = absurd (cc)
     by true e2 h = ends_so s tag lane build is e (same_number lane tag.lane e2)
 
-told_left : (s : State) (step : Step) (lane : ℕ) (build : Build) → build_of s.active lane ≡ Some build → LawfulStep s step → build_of (after_step s step).active lane ≡ None → IsLeft s (told.Other step) lane build
+told_left : (s : State) (step : Step) (lane : ℕ) (build : Build) → build_of s.active lane ≡ Some build → LawfulStep s step → build_of (after_step s step).active lane ≡ None → IsLeft s (story_steps.Other step) lane build
 told_left s (steps.Refused tag refusal) lane build is e none = absurd (cc)
 told_left s (steps.Answer tag text) lane build is e none = absurd (cc)
 told_left s (steps.Begin tag rows count) lane build is e none = absurd (begun_there s.active lane tag.lane build (begun s tag) is none)
 told_left s (steps.Start tag n) lane build is e none = absurd (noted_there s.active lane tag.lane build (build_of s.active tag.lane) _ _ is none)
-told_left s (steps.Settled tag n end) lane build is e none = absurd (noted_there s.active lane tag.lane build (build_of s.active tag.lane) _ _ is none)
+told_left s (steps.Concluded tag n end) lane build is e none = absurd (noted_there s.active lane tag.lane build (build_of s.active tag.lane) _ _ is none)
 told_left s (steps.End tag) lane build is e none = by_its_end s tag lane build is e none
 told_left s (steps.Fault tag left before faults tick) lane build is e none = absurd (faulted_there s.active lane tag.lane build (build_by s tag) is none)
 told_left s step lane build is e none = absurd e
 
-pub is_left : (s : State) (x : Told) (lane : ℕ) (build : Build) → build_of s.active lane ≡ Some build → Lawful s x → build_of (after s x).active lane ≡ None → IsLeft s x lane build
-is_left s (told.Opened rows counts tells) lane build is e none = absurd (cc)
-is_left s (told.Plan phase moment) lane build is e none = absurd (cc)
-is_left s (told.Commit row tick) lane build is e none = absurd (committed_there s.base s.active lane row.tag.lane build row.deed is none)
-is_left s (told.Other step) lane build is e none = told_left s step lane build is e none
+pub is_left : (s : State) (x : StoryStep) (lane : ℕ) (build : Build) → build_of s.active lane ≡ Some build → Lawful s x → build_of (after s x).active lane ≡ None → IsLeft s x lane build
+is_left s (story_steps.Opened rows counts tells) lane build is e none = absurd (cc)
+is_left s (story_steps.PhaseBegun phase moment) lane build is e none = absurd (cc)
+is_left s (story_steps.Commit row tick) lane build is e none = absurd (committed_there s.base s.active lane row.tag.lane build row.deed is none)
+is_left s (story_steps.Other step) lane build is e none = told_left s step lane build is e none

@@ -2,8 +2,8 @@
 use Rattle.std.proofs.Common.{◌≡◌, true, List, [], ◌∷◌}
 use Rattle.std.specs.Prelude.{is_some}
 use Rattle.cc_names.specs.declared.steps.Step.TheVariants as steps
-use Rattle.cc_names.specs.declared.steps.Told.{Told}
-use Rattle.cc_names.specs.declared.steps.Told.TheVariants as told
+use Rattle.cc_names.specs.declared.steps.StoryStep.{StoryStep}
+use Rattle.cc_names.specs.declared.steps.StoryStep.TheVariants as story_steps
 use Rattle.legal_history.specs.Stories.States.{State, start}
 use Rattle.legal_history.specs.Stories.Steps.{after, state_from, state_of}
 use Rattle.legal_history.specs.Stories.Lawful.{Lawful, LegalFrom, Legal}
@@ -11,36 +11,36 @@ use Rattle.legal_history.proofs.Stories.Fronts.{first_opens}
 use Rattle.legal_history.proofs.Stories.Grows.{stays_opened}
 use Rattle.legal_history.specs.Laws.Ends.{AreRising}
 
-ends_step : (s : State) (x : Told) → is_some s.opened ≡ true → Lawful s x → AreRising s.opened s.ends → AreRising (after s x).opened (after s x).ends
-ends_step s (told.Opened rows counts tells) opened e h = absurd (let first = e.first in cc)
-ends_step s (told.Plan phase moment) opened e h = h
-ends_step s (told.Commit row tick) opened e h = (e.ticked, h)
-ends_step s (told.Other (steps.Refused tag refusal)) opened e h = h
-ends_step s (told.Other (steps.Answer tag text)) opened e h = h
-ends_step s (told.Other (steps.Begin tag rows count)) opened e h = h
-ends_step s (told.Other (steps.Start tag n)) opened e h = h
-ends_step s (told.Other (steps.Settled tag n end)) opened e h = h
-ends_step s (told.Other (steps.End tag)) opened e h = h
-ends_step s (told.Other (steps.Fault tag left before faults tick)) opened e h = (e.ticked, record { before = before; later = e.later; rose = e.rose }, h)
-ends_step s (told.Other step) opened e h = h
+ends_step : (s : State) (x : StoryStep) → is_some s.opened ≡ true → Lawful s x → AreRising s.opened s.ends → AreRising (after s x).opened (after s x).ends
+ends_step s (story_steps.Opened rows counts tells) opened e h = absurd (let first = e.first in cc)
+ends_step s (story_steps.PhaseBegun phase moment) opened e h = h
+ends_step s (story_steps.Commit row tick) opened e h = (e.ticked, h)
+ends_step s (story_steps.Other (steps.Refused tag refusal)) opened e h = h
+ends_step s (story_steps.Other (steps.Answer tag text)) opened e h = h
+ends_step s (story_steps.Other (steps.Begin tag rows count)) opened e h = h
+ends_step s (story_steps.Other (steps.Start tag n)) opened e h = h
+ends_step s (story_steps.Other (steps.Concluded tag n end)) opened e h = h
+ends_step s (story_steps.Other (steps.End tag)) opened e h = h
+ends_step s (story_steps.Other (steps.Fault tag left before faults tick)) opened e h = (e.ticked, record { before = before; later = e.later; rose = e.rose }, h)
+ends_step s (story_steps.Other step) opened e h = h
 
-ends_from : (s : State) (story : List Told) → is_some s.opened ≡ true → LegalFrom s story → AreRising s.opened s.ends → AreRising (state_from s story).opened (state_from s story).ends
+ends_from : (s : State) (story : List StoryStep) → is_some s.opened ≡ true → LegalFrom s story → AreRising s.opened s.ends → AreRising (state_from s story).opened (state_from s story).ends
 ends_from s [] opened e h = h
 ends_from s (x ∷ story) opened e h = ends_from (after s x) story (stays_opened s x opened) e.1 (ends_step s x opened e.0 h)
 
-ends_first : (x : Told) → Lawful start x → AreRising (after start x).opened (after start x).ends
-ends_first (told.Opened rows counts tells) e = tt
-ends_first (told.Plan phase moment) e = tt
-ends_first (told.Commit row tick) e = absurd (let opened = first_opens (told.Commit row tick) e in cc)
-ends_first (told.Other (steps.Refused tag refusal)) e = tt
-ends_first (told.Other (steps.Answer tag text)) e = tt
-ends_first (told.Other (steps.Begin tag rows count)) e = tt
-ends_first (told.Other (steps.Start tag n)) e = tt
-ends_first (told.Other (steps.Settled tag n end)) e = tt
-ends_first (told.Other (steps.End tag)) e = tt
-ends_first (told.Other (steps.Fault tag left before faults tick)) e = absurd (let opened = first_opens (told.Other (steps.Fault tag left before faults tick)) e in cc)
-ends_first (told.Other step) e = tt
+ends_first : (x : StoryStep) → Lawful start x → AreRising (after start x).opened (after start x).ends
+ends_first (story_steps.Opened rows counts tells) e = tt
+ends_first (story_steps.PhaseBegun phase moment) e = tt
+ends_first (story_steps.Commit row tick) e = absurd (let opened = first_opens (story_steps.Commit row tick) e in cc)
+ends_first (story_steps.Other (steps.Refused tag refusal)) e = tt
+ends_first (story_steps.Other (steps.Answer tag text)) e = tt
+ends_first (story_steps.Other (steps.Begin tag rows count)) e = tt
+ends_first (story_steps.Other (steps.Start tag n)) e = tt
+ends_first (story_steps.Other (steps.Concluded tag n end)) e = tt
+ends_first (story_steps.Other (steps.End tag)) e = tt
+ends_first (story_steps.Other (steps.Fault tag left before faults tick)) e = absurd (let opened = first_opens (story_steps.Other (steps.Fault tag left before faults tick)) e in cc)
+ends_first (story_steps.Other step) e = tt
 
-pub ends_rise : (story : List Told) → Legal story → AreRising (state_of story).opened (state_of story).ends
+pub ends_rise : (story : List StoryStep) → Legal story → AreRising (state_of story).opened (state_of story).ends
 ends_rise [] legal = tt
 ends_rise (x ∷ story) legal = ends_from (after start x) story (first_opens x legal.0) legal.1 (ends_first x legal.0)

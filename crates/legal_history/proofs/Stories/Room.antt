@@ -1,7 +1,7 @@
 -- The rows of a legal story, and one for each unit that has no outcome, stay within the limit.
 use Rattle.std.proofs.Common.{◌≡◌, refl, ap, ap₂, subst, ℕ, ◌+◌, ◌≤◌, not, List, [], ◌∷◌, arith}
 use Rattle.cc_names.specs.References.{one_where}
-use Rattle.cc_names.specs.declared.steps.Told.{Told}
+use Rattle.cc_names.specs.declared.steps.StoryStep.{StoryStep}
 use Rattle.cc_names.specs.declared.units.Unit.{Unit}
 use Rattle.legal_history.specs.Base.Rows.{size}
 use Rattle.legal_history.specs.Builds.Active.{Active, Build, came_to, is_outcome}
@@ -20,7 +20,7 @@ all_as_waiting : (active : Active) → all_waiting active ≡ all_unfinished act
 all_as_waiting [] = refl
 all_as_waiting (entry ∷ active) = ap₂ ◌+◌ (as_waiting entry.1 0 entry.1.units) (all_as_waiting active)
 
-pub within_limit : (story : List Told) → Legal story → size (state_of story).base + all_unfinished (state_of story).active ≤ row_limit
+pub within_limit : (story : List StoryStep) → Legal story → size (state_of story).base + all_unfinished (state_of story).active ≤ row_limit
 within_limit [] legal = omega arith
 within_limit (x ∷ story) legal =
     subst (λ k. size (state_of (x ∷ story)).base + k ≤ row_limit) (all_as_waiting (state_of (x ∷ story)).active) (story_is_sound x story legal).room.room

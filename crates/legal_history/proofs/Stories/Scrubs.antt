@@ -5,8 +5,8 @@ use Rattle.cc_names.specs.Formed.{Plain}
 use Rattle.cc_names.specs.References.{held_at}
 use Rattle.cc_names.specs.declared.rows.Deed.TheVariants as deeds
 use Rattle.cc_names.specs.declared.rows.Tag.{Tag}
-use Rattle.cc_names.specs.declared.steps.Told.{Told}
-use Rattle.cc_names.specs.declared.steps.Told.TheVariants as told
+use Rattle.cc_names.specs.declared.steps.StoryStep.{StoryStep}
+use Rattle.cc_names.specs.declared.steps.StoryStep.TheVariants as story_steps
 use Rattle.legal_history.specs.Base.Changes.{held, live}
 use Rattle.legal_history.specs.Commands.Decisions.{Makes}
 use Rattle.legal_history.specs.Commands.Lines.{decision}
@@ -34,10 +34,10 @@ decided_scrub s tag objects h =
       ascend = scrub_ascends (scene s) scrub.age objects is;
     }
 
-pub story_scrubs : (front rest : List Told) (row : Plain) (tick : ℕ) (objects : List ℕ) → Legal (front ++ told.Commit row tick ∷ rest) → row.deed ≡ deeds.Scrub objects → AreDue (state_of front) row.tag objects
+pub story_scrubs : (front rest : List StoryStep) (row : Plain) (tick : ℕ) (objects : List ℕ) → Legal (front ++ story_steps.Commit row tick ∷ rest) → row.deed ≡ deeds.Scrub objects → AreDue (state_of front) row.tag objects
 story_scrubs front rest row tick objects legal is =
-    let commits = (rest_is_legal start front (told.Commit row tick ∷ rest) legal).0 in
+    let commits = (rest_is_legal start front (story_steps.Commit row tick ∷ rest) legal).0 in
     decided_scrub (state_of front) row.tag objects (subst (MakesRow (state_of front) row) is commits.may.made ∙ ap (λ deed. Some (Ok (Makes deed))) is)
 
-pub story_held_is_live : (front rest : List Told) (v path : List ℕ) (id : ℕ) → Legal (front ++ rest) → held_at (held (state_of front).base) v path ≡ Some id → is_some (live (state_of front).base id) ≡ true
+pub story_held_is_live : (front rest : List StoryStep) (v path : List ℕ) (id : ℕ) → Legal (front ++ rest) → held_at (held (state_of front).base) v path ≡ Some id → is_some (live (state_of front).base id) ≡ true
 story_held_is_live front rest v path id legal is = held_is_live (state_of front).base v path id (base_fits front (front_is_legal start front rest legal)) is

@@ -8,8 +8,8 @@ use Rattle.cc_names.specs.declared.rows.Deed.{Deed}
 use Rattle.cc_names.specs.declared.rows.Deed.TheVariants as deeds
 use Rattle.cc_names.specs.declared.rows.Tag.{Tag}
 use Rattle.cc_names.specs.declared.steps.Step.TheVariants as steps
-use Rattle.cc_names.specs.declared.steps.Told.{Told}
-use Rattle.cc_names.specs.declared.steps.Told.TheVariants as told
+use Rattle.cc_names.specs.declared.steps.StoryStep.{StoryStep}
+use Rattle.cc_names.specs.declared.steps.StoryStep.TheVariants as story_steps
 use Rattle.cc_names.specs.declared.units.Unit.{Unit}
 use Rattle.legal_history.specs.Base.Rows.{Base, size}
 use Rattle.legal_history.specs.Builds.Active.{Build, build_of}
@@ -67,25 +67,25 @@ committed_fits s tag moment (deeds.Wink view id) h e room =
     ∙ (reusable_matches s.base e.build e.n e.unit id h.base e.chosen).lives
 committed_fits s tag moment deed h e room = let d = decided_of s tag (Makes deed) e in decided_fits (scene s) d.command h.base deed d.is
 
-step_base : (s : State) (x : Told) → IsSound s → Lawful s x → HasRoom (after s x).base (after s x).active → is_base (after s x).base ≡ true
-step_base s (told.Opened rows counts tells) h e room = e.fits
-step_base s (told.Plan phase moment) h e room = h.base
-step_base s (told.Commit row tick) h e room = ap (λ t. t && is_base s.base) (committed_fits s row.tag row.moment row.deed h e.may.made room) ∙ h.base
-step_base s (told.Other (steps.Refused tag refusal)) h e room = h.base
-step_base s (told.Other (steps.Answer tag text)) h e room = h.base
-step_base s (told.Other (steps.Begin tag rows count)) h e room = h.base
-step_base s (told.Other (steps.Start tag n)) h e room = h.base
-step_base s (told.Other (steps.Settled tag n end)) h e room = h.base
-step_base s (told.Other (steps.End tag)) h e room = h.base
-step_base s (told.Other (steps.Fault tag left before faults tick)) h e room = h.base
-step_base s (told.Other step) h e room = h.base
+step_base : (s : State) (x : StoryStep) → IsSound s → Lawful s x → HasRoom (after s x).base (after s x).active → is_base (after s x).base ≡ true
+step_base s (story_steps.Opened rows counts tells) h e room = e.fits
+step_base s (story_steps.PhaseBegun phase moment) h e room = h.base
+step_base s (story_steps.Commit row tick) h e room = ap (λ t. t && is_base s.base) (committed_fits s row.tag row.moment row.deed h e.may.made room) ∙ h.base
+step_base s (story_steps.Other (steps.Refused tag refusal)) h e room = h.base
+step_base s (story_steps.Other (steps.Answer tag text)) h e room = h.base
+step_base s (story_steps.Other (steps.Begin tag rows count)) h e room = h.base
+step_base s (story_steps.Other (steps.Start tag n)) h e room = h.base
+step_base s (story_steps.Other (steps.Concluded tag n end)) h e room = h.base
+step_base s (story_steps.Other (steps.End tag)) h e room = h.base
+step_base s (story_steps.Other (steps.Fault tag left before faults tick)) h e room = h.base
+step_base s (story_steps.Other step) h e room = h.base
 
-pub sound_step : (s : State) (x : Told) → IsSound s → Lawful s x → IsSound (after s x)
+pub sound_step : (s : State) (x : StoryStep) → IsSound s → Lawful s x → IsSound (after s x)
 sound_step s x h e =
     let room = step_room s x h.opened h.room e in
     record { opened = stays_opened s x h.opened; base = step_base s x h e room; fine = step_fine s x h.base h.opened h.fine e; room = room }
 
-sound_from : (s : State) (story : List Told) → IsSound s → LegalFrom s story → IsSound (state_from s story)
+sound_from : (s : State) (story : List StoryStep) → IsSound s → LegalFrom s story → IsSound (state_from s story)
 sound_from s [] h e = h
 sound_from s (x ∷ story) h e = sound_from (after s x) story (sound_step s x h e.0) e.1
 
@@ -95,30 +95,30 @@ base_within [] h = omega arith
 base_within (row ∷ older) h = let low : size older < row_limit = ltb-true _ _ (and_first _ _ (and_first _ _ h)) in omega arith
 
 -- the first step of a legal story is that one
-abbrev pub IsOpening : Told → Type 0
-IsOpening (told.Opened rows counts tells) = ⊤
+abbrev pub IsOpening : StoryStep → Type 0
+IsOpening (story_steps.Opened rows counts tells) = ⊤
 IsOpening x = ⊥
 
-pub opens_first : (x : Told) → Lawful start x → IsOpening x
-opens_first (told.Opened rows counts tells) e = tt
-opens_first (told.Plan phase moment) e = let opened = first_opens (told.Plan phase moment) e in cc
-opens_first (told.Commit row tick) e = let opened = first_opens (told.Commit row tick) e in cc
-opens_first (told.Other (steps.Refused tag refusal)) e = let opened = first_opens (told.Other (steps.Refused tag refusal)) e in cc
-opens_first (told.Other (steps.Answer tag text)) e = let opened = first_opens (told.Other (steps.Answer tag text)) e in cc
-opens_first (told.Other (steps.Begin tag rows count)) e = let opened = first_opens (told.Other (steps.Begin tag rows count)) e in cc
-opens_first (told.Other (steps.Start tag n)) e = let opened = first_opens (told.Other (steps.Start tag n)) e in cc
-opens_first (told.Other (steps.Settled tag n end)) e = let opened = first_opens (told.Other (steps.Settled tag n end)) e in cc
-opens_first (told.Other (steps.End tag)) e = let opened = first_opens (told.Other (steps.End tag)) e in cc
-opens_first (told.Other (steps.Fault tag left before faults tick)) e = let opened = first_opens (told.Other (steps.Fault tag left before faults tick)) e in cc
-opens_first (told.Other step) e = e
+pub opens_first : (x : StoryStep) → Lawful start x → IsOpening x
+opens_first (story_steps.Opened rows counts tells) e = tt
+opens_first (story_steps.PhaseBegun phase moment) e = let opened = first_opens (story_steps.PhaseBegun phase moment) e in cc
+opens_first (story_steps.Commit row tick) e = let opened = first_opens (story_steps.Commit row tick) e in cc
+opens_first (story_steps.Other (steps.Refused tag refusal)) e = let opened = first_opens (story_steps.Other (steps.Refused tag refusal)) e in cc
+opens_first (story_steps.Other (steps.Answer tag text)) e = let opened = first_opens (story_steps.Other (steps.Answer tag text)) e in cc
+opens_first (story_steps.Other (steps.Begin tag rows count)) e = let opened = first_opens (story_steps.Other (steps.Begin tag rows count)) e in cc
+opens_first (story_steps.Other (steps.Start tag n)) e = let opened = first_opens (story_steps.Other (steps.Start tag n)) e in cc
+opens_first (story_steps.Other (steps.Concluded tag n end)) e = let opened = first_opens (story_steps.Other (steps.Concluded tag n end)) e in cc
+opens_first (story_steps.Other (steps.End tag)) e = let opened = first_opens (story_steps.Other (steps.End tag)) e in cc
+opens_first (story_steps.Other (steps.Fault tag left before faults tick)) e = let opened = first_opens (story_steps.Other (steps.Fault tag left before faults tick)) e in cc
+opens_first (story_steps.Other step) e = e
 
 -- after it nothing builds
-pub none_active : (x : Told) → Lawful start x → (after start x).active ≡ []
-none_active (told.Opened rows counts tells) e = refl
+pub none_active : (x : StoryStep) → Lawful start x → (after start x).active ≡ []
+none_active (story_steps.Opened rows counts tells) e = refl
 none_active x e = absurd (opens_first x e)
 
-pub sound_first : (x : Told) → Lawful start x → IsSound (after start x)
-sound_first (told.Opened rows counts tells) e = record {
+pub sound_first : (x : StoryStep) → Lawful start x → IsSound (after start x)
+sound_first (story_steps.Opened rows counts tells) e = record {
   opened = refl;
   base = e.fits;
   fine = record { holds = λ lane build is. absurd (cc) };
@@ -127,13 +127,13 @@ sound_first (told.Opened rows counts tells) e = record {
 sound_first x e = absurd (opens_first x e)
 
 -- A legal story with a step leads to a sound state.
-pub story_is_sound : (x : Told) (story : List Told) → Legal (x ∷ story) → IsSound (state_of (x ∷ story))
+pub story_is_sound : (x : StoryStep) (story : List StoryStep) → Legal (x ∷ story) → IsSound (state_of (x ∷ story))
 story_is_sound x story h = sound_from (after start x) story (sound_first x h.0) h.1
 
-pub base_fits : (story : List Told) → Legal story → is_base (state_of story).base ≡ true
+pub base_fits : (story : List StoryStep) → Legal story → is_base (state_of story).base ≡ true
 base_fits [] h = refl
 base_fits (x ∷ story) h = (story_is_sound x story h).base
 
-pub build_is_consistent : (story : List Told) (lane : ℕ) (build : Build) → Legal story → build_of (state_of story).active lane ≡ Some build → IsConsistent (state_of story).base build
+pub build_is_consistent : (story : List StoryStep) (lane : ℕ) (build : Build) → Legal story → build_of (state_of story).active lane ≡ Some build → IsConsistent (state_of story).base build
 build_is_consistent [] lane build h is = absurd (cc)
 build_is_consistent (x ∷ story) lane build h is = ((story_is_sound x story h).fine.holds lane build is).consistent

@@ -7,8 +7,8 @@ use Rattle.cc_names.specs.declared.commands.Command.{Command}
 use Rattle.cc_names.specs.declared.commands.Command.TheVariants as commands
 use Rattle.cc_names.specs.declared.rows.Deed.TheVariants as deeds
 use Rattle.cc_names.specs.declared.steps.Step.TheVariants as steps
-use Rattle.cc_names.specs.declared.steps.Told.{Told}
-use Rattle.cc_names.specs.declared.steps.Told.TheVariants as told
+use Rattle.cc_names.specs.declared.steps.StoryStep.{StoryStep}
+use Rattle.cc_names.specs.declared.steps.StoryStep.TheVariants as story_steps
 use Rattle.legal_history.specs.Base.Values.{first_unsound}
 use Rattle.legal_history.specs.Builds.Active.{Given}
 use Rattle.legal_history.specs.Laws.Stops.{IsLeftByStop, WithRowLeft}
@@ -27,22 +27,22 @@ abbrev pub published : ℕ → Plain
 published n = row n (deeds.Publish v (codes "out" ∷ []) script (record { path = codes "in"; row = 3 } ∷ []) (hi ∷ []))
 
 -- the files that are built
-abbrev pub before_build : List Told
+abbrev pub before_build : List StoryStep
 before_build =
     opened
-    ∷ told.Plan (one_lane (commands.Mkview v ∷ commands.Save v (codes "Makefile") makefile ∷ commands.Save v (codes "in") hi
+    ∷ story_steps.PhaseBegun (one_lane (commands.Mkview v ∷ commands.Save v (codes "Makefile") makefile ∷ commands.Save v (codes "in") hi
     ∷ build ∷ build ∷ [])) 1700000000
-    ∷ told.Commit (row 1 (deeds.Mkview v)) 7
-    ∷ told.Commit (row 2 (deeds.Put v (codes "Makefile") makefile)) 11
-    ∷ told.Commit (row 3 (deeds.Put v (codes "in") hi)) 15
+    ∷ story_steps.Commit (row 1 (deeds.Mkview v)) 7
+    ∷ story_steps.Commit (row 2 (deeds.Put v (codes "Makefile") makefile)) 11
+    ∷ story_steps.Commit (row 3 (deeds.Put v (codes "in") hi)) 15
     ∷ []
 
-abbrev pub before_fault : List Told
-before_fault = before_build ++ (told.Other (steps.Begin (tag 1 1 4) 4 1) ∷ told.Other (steps.Start (tag 1 1 4) 0) ∷ [])
+abbrev pub before_fault : List StoryStep
+before_fault = before_build ++ (story_steps.Other (steps.Begin (tag 1 1 4) 4 1) ∷ story_steps.Other (steps.Start (tag 1 1 4) 0) ∷ [])
 
 -- the disk fails at the first build's last sync, so that its row may be found
-abbrev fault : Told
-fault = told.Other (steps.Fault (tag 1 1 4) (Some (published 4)) 0 1 19)
+abbrev fault : StoryStep
+fault = story_steps.Other (steps.Fault (tag 1 1 4) (Some (published 4)) 0 1 19)
 
 the_first_build_meets_it : option_map (λ build. build.faulted) (build_by (state_of (before_fault ++ (fault ∷ []))) (tag 1 1 4)) ≡ Some true
 the_first_build_meets_it = refl
@@ -60,14 +60,14 @@ another_text_is_not :
 another_text_is_not = refl
 
 -- the second build makes the row anew, two calls of the disk settle what the fault left, and four commit the row
-abbrev fails_once : List Told
+abbrev fails_once : List StoryStep
 fails_once =
     before_fault ++ (fault
-    ∷ told.Other (steps.End (tag 1 1 4))
-    ∷ told.Other (steps.Begin (tag 1 1 5) 4 1)
-    ∷ told.Other (steps.Start (tag 1 1 5) 0)
-    ∷ told.Commit (published 5) 25
-    ∷ told.Other (steps.End (tag 1 1 5))
+    ∷ story_steps.Other (steps.End (tag 1 1 4))
+    ∷ story_steps.Other (steps.Begin (tag 1 1 5) 4 1)
+    ∷ story_steps.Other (steps.Start (tag 1 1 5) 0)
+    ∷ story_steps.Commit (published 5) 25
+    ∷ story_steps.Other (steps.End (tag 1 1 5))
     ∷ [])
 
 fails_once_is_legal : Legal fails_once

@@ -7,8 +7,8 @@ use Rattle.cc_names.specs.declared.commands.Command.TheVariants as commands
 use Rattle.cc_names.specs.declared.commands.Phase.{Phase}
 use Rattle.cc_names.specs.declared.rows.Deed.TheVariants as deeds
 use Rattle.cc_names.specs.declared.steps.Step.TheVariants as steps
-use Rattle.cc_names.specs.declared.steps.Told.{Told}
-use Rattle.cc_names.specs.declared.steps.Told.TheVariants as told
+use Rattle.cc_names.specs.declared.steps.StoryStep.{StoryStep}
+use Rattle.cc_names.specs.declared.steps.StoryStep.TheVariants as story_steps
 use Rattle.legal_history.specs.Base.Rows.{Base}
 use Rattle.legal_history.specs.Base.Fits.{is_base}
 use Rattle.legal_history.specs.Base.Seen.{file_at, directory_at}
@@ -52,8 +52,8 @@ root_seen = refl
 output : text base 4 (codes "out") ≡ Some (line (codes "hi"))
 output = refl
 
-abbrev opened : Told
-opened = told.Opened [] (record { ticks = 0; faults = 0 }) true
+abbrev opened : StoryStep
+opened = story_steps.Opened [] (record { ticks = 0; faults = 0 }) true
 
 abbrev phase : Phase
 phase = record {
@@ -67,8 +67,8 @@ phase = record {
   } ∷ [];
 }
 
-abbrev saves : List Told
-saves = opened ∷ told.Plan phase 1700000000 ∷ told.Commit row_1 7 ∷ told.Commit row_2 11 ∷ told.Commit row_3 15 ∷ []
+abbrev saves : List StoryStep
+saves = opened ∷ story_steps.PhaseBegun phase 1700000000 ∷ story_steps.Commit row_1 7 ∷ story_steps.Commit row_2 11 ∷ story_steps.Commit row_3 15 ∷ []
 
 saves_are_legal : Legal saves
 unfolding IsLe
@@ -86,10 +86,10 @@ saves_are_legal = (
   ),
 )
 
-abbrev build : List Told
+abbrev build : List StoryStep
 build =
-    told.Other (steps.Begin (tag 1 1 4) 4 1) ∷ told.Other (steps.Start (tag 1 1 4) 0) ∷ told.Commit row_4 19
-    ∷ told.Other (steps.End (tag 1 1 4)) ∷ []
+    story_steps.Other (steps.Begin (tag 1 1 4) 4 1) ∷ story_steps.Other (steps.Start (tag 1 1 4) 0) ∷ story_steps.Commit row_4 19
+    ∷ story_steps.Other (steps.End (tag 1 1 4)) ∷ []
 
 build_is_legal : Legal (saves ++ build)
 unfolding IsLe

@@ -12,7 +12,7 @@ use Rattle.cc_names.specs.declared.rows.Deed.TheVariants as deeds
 use Rattle.cc_names.specs.declared.steps.UnitEnd.TheVariants.{Blocked, Kept, Failed}
 use Rattle.cc_names.specs.declared.units.UnitScript.TheVariants.{Lines}
 use Rattle.legal_history.specs.Base.Rows.{Base}
-use Rattle.legal_history.specs.Builds.Active.{Build, Came, Ended, Given}
+use Rattle.legal_history.specs.Builds.Active.{Build, Came, Concluded, Given}
 use Rattle.legal_history.specs.Queries.VersionNames.{line}
 use Rattle.legal_history.specs.Worked.{tag, base_of}
 use Rattle.legal_history.specs.Builds.Replied.{digest_of, reply_of, reply_from_nothing}
@@ -55,17 +55,17 @@ other_from_nothing : reply_from_nothing base (build 4 4 (Given 3)) ≡ reply (wo
 other_from_nothing = refl
 
 -- at two reference rows there is no source yet
-failed : reply_of base (build 2 2 (Ended (Failed (NoRule (codes "in"))))) ≡ reply (words.Failed (NoRule (codes "in")))
+failed : reply_of base (build 2 2 (Concluded (Failed (NoRule (codes "in"))))) ≡ reply (words.Failed (NoRule (codes "in")))
 failed = refl
 
-failed_from_nothing : reply_from_nothing base (build 2 2 (Ended (Failed (NoRule (codes "in"))))) ≡ reply (words.Failed (NoRule (codes "in")))
+failed_from_nothing : reply_from_nothing base (build 2 2 (Concluded (Failed (NoRule (codes "in"))))) ≡ reply (words.Failed (NoRule (codes "in")))
 failed_from_nothing = refl
 
 -- the view keeps its own object
-kept : reply_of base (build 4 4 (Ended (Kept 3))) ≡ reply (words.Kept (digest_of (line (codes "hi"))))
+kept : reply_of base (build 4 4 (Concluded (Kept 3))) ≡ reply (words.Kept (digest_of (line (codes "hi"))))
 kept = refl
 
-kept_from_nothing : reply_from_nothing base (build 4 4 (Ended (Kept 3))) ≡ reply (words.Kept (digest_of (line (codes "hi"))))
+kept_from_nothing : reply_from_nothing base (build 4 4 (Concluded (Kept 3))) ≡ reply (words.Kept (digest_of (line (codes "hi"))))
 kept_from_nothing = refl
 
 -- a unit that makes two targets
@@ -104,11 +104,11 @@ pair_is_built = refl
 pair_from_nothing : reply_from_nothing pair_base (pair_build 3 (Given 3)) ≡ pair_reply
 pair_from_nothing = refl
 
-pair_failed : reply_of pair_base (pair_build 2 (Ended (Failed (NoRule (codes "in"))))) ≡ first_reply (words.Failed (NoRule (codes "in")))
+pair_failed : reply_of pair_base (pair_build 2 (Concluded (Failed (NoRule (codes "in"))))) ≡ first_reply (words.Failed (NoRule (codes "in")))
 pair_failed = refl
 
-pair_failed_from_nothing : reply_from_nothing pair_base (pair_build 2 (Ended (Failed (NoRule (codes "in"))))) ≡ first_reply (words.Failed (NoRule (codes "in")))
+pair_failed_from_nothing : reply_from_nothing pair_base (pair_build 2 (Concluded (Failed (NoRule (codes "in"))))) ≡ first_reply (words.Failed (NoRule (codes "in")))
 pair_failed_from_nothing = refl
 
-pair_blocked : reply_of pair_base (pair_build 3 (Ended (Blocked (codes "in")))) ≡ first_reply (words.Blocked (codes "in"))
+pair_blocked : reply_of pair_base (pair_build 3 (Concluded (Blocked (codes "in")))) ≡ first_reply (words.Blocked (codes "in"))
 pair_blocked = refl

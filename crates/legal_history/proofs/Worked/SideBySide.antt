@@ -10,8 +10,8 @@ use Rattle.cc_names.specs.declared.rows.Deed.{Deed}
 use Rattle.cc_names.specs.declared.rows.Deed.TheVariants as deeds
 use Rattle.cc_names.specs.declared.rows.Kind.TheVariants.{File}
 use Rattle.cc_names.specs.declared.steps.Step.TheVariants as steps
-use Rattle.cc_names.specs.declared.steps.Told.{Told}
-use Rattle.cc_names.specs.declared.steps.Told.TheVariants as told
+use Rattle.cc_names.specs.declared.steps.StoryStep.{StoryStep}
+use Rattle.cc_names.specs.declared.steps.StoryStep.TheVariants as story_steps
 use Rattle.legal_history.specs.Base.Changes.{held}
 use Rattle.legal_history.specs.Stories.States.{all_done}
 use Rattle.legal_history.specs.Stories.Steps.{state_of}
@@ -31,29 +31,29 @@ both_lanes = record {
 abbrev row_of : ℕ → Deed → Plain
 row_of lane deed = record { tag = tag 2 lane 1; moment = 1700000060; deed = deed }
 
-abbrev side_by_side : List Told
+abbrev side_by_side : List StoryStep
 side_by_side =
     opened
-    ∷ told.Plan (one_lane (first_commands ++ (commands.Mkview w ∷ []))) 1700000000
-    ∷ told.Commit (row 1 (deeds.Mkview v)) 7
-    ∷ told.Commit (row 2 (deeds.Checkout v 0 0 true)) 11
-    ∷ told.Commit (row 3 (deeds.Mkelem v 0 (codes "Makefile") File true)) 15
-    ∷ told.Commit (row 4 (deeds.Save v 3 makefile)) 19
-    ∷ told.Commit (row 5 (deeds.Checkin v 3)) 23
-    ∷ told.Commit (row 6 (deeds.Mkelem v 0 (codes "in") File true)) 27
-    ∷ told.Commit (row 7 (deeds.Save v 6 hi)) 31
-    ∷ told.Commit (row 8 (deeds.Checkin v 6)) 35
-    ∷ told.Commit (row 9 (deeds.Checkin v 0)) 39
-    ∷ told.Commit (row 10 (deeds.Mkview w)) 43
-    ∷ told.Plan both_lanes 1700000060
-    ∷ told.Other (steps.Begin (tag 2 1 1) 11 1)
-    ∷ told.Other (steps.Begin (tag 2 2 1) 11 1)
-    ∷ told.Other (steps.Start (tag 2 1 1) 0)
-    ∷ told.Other (steps.Start (tag 2 2 1) 0)
-    ∷ told.Commit (row_of 1 (publish_in v)) 47
-    ∷ told.Other (steps.End (tag 2 1 1))
-    ∷ told.Commit (row_of 2 (deeds.Wink w 11)) 51
-    ∷ told.Other (steps.End (tag 2 2 1))
+    ∷ story_steps.PhaseBegun (one_lane (first_commands ++ (commands.Mkview w ∷ []))) 1700000000
+    ∷ story_steps.Commit (row 1 (deeds.Mkview v)) 7
+    ∷ story_steps.Commit (row 2 (deeds.Checkout v 0 0 true)) 11
+    ∷ story_steps.Commit (row 3 (deeds.Mkelem v 0 (codes "Makefile") File true)) 15
+    ∷ story_steps.Commit (row 4 (deeds.Save v 3 makefile)) 19
+    ∷ story_steps.Commit (row 5 (deeds.Checkin v 3)) 23
+    ∷ story_steps.Commit (row 6 (deeds.Mkelem v 0 (codes "in") File true)) 27
+    ∷ story_steps.Commit (row 7 (deeds.Save v 6 hi)) 31
+    ∷ story_steps.Commit (row 8 (deeds.Checkin v 6)) 35
+    ∷ story_steps.Commit (row 9 (deeds.Checkin v 0)) 39
+    ∷ story_steps.Commit (row 10 (deeds.Mkview w)) 43
+    ∷ story_steps.PhaseBegun both_lanes 1700000060
+    ∷ story_steps.Other (steps.Begin (tag 2 1 1) 11 1)
+    ∷ story_steps.Other (steps.Begin (tag 2 2 1) 11 1)
+    ∷ story_steps.Other (steps.Start (tag 2 1 1) 0)
+    ∷ story_steps.Other (steps.Start (tag 2 2 1) 0)
+    ∷ story_steps.Commit (row_of 1 (publish_in v)) 47
+    ∷ story_steps.Other (steps.End (tag 2 1 1))
+    ∷ story_steps.Commit (row_of 2 (deeds.Wink w 11)) 51
+    ∷ story_steps.Other (steps.End (tag 2 2 1))
     ∷ []
 
 side_by_side_is_legal : Legal side_by_side

@@ -6,10 +6,10 @@ use Rattle.cc_names.specs.declared.commands.Command.TheVariants as commands
 use Rattle.cc_names.specs.declared.rows.Deed.TheVariants as deeds
 use Rattle.cc_names.specs.declared.rows.Kind.TheVariants.{File}
 use Rattle.cc_names.specs.declared.steps.Step.TheVariants as steps
-use Rattle.cc_names.specs.declared.steps.Told.{Told}
-use Rattle.cc_names.specs.declared.steps.Told.TheVariants as told
+use Rattle.cc_names.specs.declared.steps.StoryStep.{StoryStep}
+use Rattle.cc_names.specs.declared.steps.StoryStep.TheVariants as story_steps
 use Rattle.cc_names.specs.declared.steps.UnitEnd.TheVariants as ends
-use Rattle.legal_history.specs.Builds.Active.{Ended, Given}
+use Rattle.legal_history.specs.Builds.Active.{Concluded, Given}
 use Rattle.legal_history.specs.Stories.States.{all_done}
 use Rattle.legal_history.specs.Stories.Steps.{state_of}
 use Rattle.legal_history.specs.Stories.Lawful.{Legal}
@@ -18,30 +18,30 @@ use Rattle.legal_history.proofs.Worked.StoryParts.{comes_after, one_lane, opened
 use Rattle.legal_history.proofs.Worked.TwoViews.{v, w, hi, makefile, first_commands, clearmake, publish, two_views}
 
 -- each row takes four calls of the disk, and the three before them open it
-abbrev both_build : List Told
+abbrev both_build : List StoryStep
 both_build =
     opened
-    ∷ told.Plan (one_lane (first_commands ++ (clearmake v ∷ commands.Mkview w ∷ clearmake w ∷ clearmake v ∷ []))) 1700000000
-    ∷ told.Commit (row 1 (deeds.Mkview v)) 7
-    ∷ told.Commit (row 2 (deeds.Checkout v 0 0 true)) 11
-    ∷ told.Commit (row 3 (deeds.Mkelem v 0 (codes "Makefile") File true)) 15
-    ∷ told.Commit (row 4 (deeds.Save v 3 makefile)) 19
-    ∷ told.Commit (row 5 (deeds.Checkin v 3)) 23
-    ∷ told.Commit (row 6 (deeds.Mkelem v 0 (codes "in") File true)) 27
-    ∷ told.Commit (row 7 (deeds.Save v 6 hi)) 31
-    ∷ told.Commit (row 8 (deeds.Checkin v 6)) 35
-    ∷ told.Commit (row 9 (deeds.Checkin v 0)) 39
-    ∷ told.Other (steps.Begin (tag 1 1 10) 10 1)
-    ∷ told.Other (steps.Start (tag 1 1 10) 0)
-    ∷ told.Commit (row 10 publish) 43
-    ∷ told.Other (steps.End (tag 1 1 10))
-    ∷ told.Commit (row 11 (deeds.Mkview w)) 47
-    ∷ told.Other (steps.Begin (tag 1 1 12) 12 1)
-    ∷ told.Commit (row 12 (deeds.Wink w 10)) 51
-    ∷ told.Other (steps.End (tag 1 1 12))
-    ∷ told.Other (steps.Begin (tag 1 1 13) 13 1)
-    ∷ told.Other (steps.Settled (tag 1 1 13) 0 (ends.Kept 10))
-    ∷ told.Other (steps.End (tag 1 1 13))
+    ∷ story_steps.PhaseBegun (one_lane (first_commands ++ (clearmake v ∷ commands.Mkview w ∷ clearmake w ∷ clearmake v ∷ []))) 1700000000
+    ∷ story_steps.Commit (row 1 (deeds.Mkview v)) 7
+    ∷ story_steps.Commit (row 2 (deeds.Checkout v 0 0 true)) 11
+    ∷ story_steps.Commit (row 3 (deeds.Mkelem v 0 (codes "Makefile") File true)) 15
+    ∷ story_steps.Commit (row 4 (deeds.Save v 3 makefile)) 19
+    ∷ story_steps.Commit (row 5 (deeds.Checkin v 3)) 23
+    ∷ story_steps.Commit (row 6 (deeds.Mkelem v 0 (codes "in") File true)) 27
+    ∷ story_steps.Commit (row 7 (deeds.Save v 6 hi)) 31
+    ∷ story_steps.Commit (row 8 (deeds.Checkin v 6)) 35
+    ∷ story_steps.Commit (row 9 (deeds.Checkin v 0)) 39
+    ∷ story_steps.Other (steps.Begin (tag 1 1 10) 10 1)
+    ∷ story_steps.Other (steps.Start (tag 1 1 10) 0)
+    ∷ story_steps.Commit (row 10 publish) 43
+    ∷ story_steps.Other (steps.End (tag 1 1 10))
+    ∷ story_steps.Commit (row 11 (deeds.Mkview w)) 47
+    ∷ story_steps.Other (steps.Begin (tag 1 1 12) 12 1)
+    ∷ story_steps.Commit (row 12 (deeds.Wink w 10)) 51
+    ∷ story_steps.Other (steps.End (tag 1 1 12))
+    ∷ story_steps.Other (steps.Begin (tag 1 1 13) 13 1)
+    ∷ story_steps.Other (steps.Concluded (tag 1 1 13) 0 (ends.Kept 10))
+    ∷ story_steps.Other (steps.End (tag 1 1 13))
     ∷ []
 
 both_build_is_legal : Legal both_build
@@ -120,7 +120,7 @@ the_first_has_its_own_object = refl
 the_second_winks_it_in : comes_after 18 12 both_build ≡ Some ((0, Given 10) ∷ [])
 the_second_winks_it_in = refl
 
-the_first_keeps_it : comes_after 21 13 both_build ≡ Some ((0, Ended (ends.Kept 10)) ∷ [])
+the_first_keeps_it : comes_after 21 13 both_build ≡ Some ((0, Concluded (ends.Kept 10)) ∷ [])
 the_first_keeps_it = refl
 
 one_object_serves_both : (state_of both_build).base ≡ two_views

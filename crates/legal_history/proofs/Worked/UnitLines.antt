@@ -13,7 +13,7 @@ use Rattle.cc_names.specs.declared.rows.TypeKind.TheVariants as type_kinds
 use Rattle.cc_names.specs.declared.steps.UnitEnd.TheVariants.{Kept}
 use Rattle.sha2.specs.Sha256.{sha256}
 use Rattle.legal_history.specs.Base.Rows.{Base, first_rows}
-use Rattle.legal_history.specs.Builds.Active.{Build, Came, Ended, Given}
+use Rattle.legal_history.specs.Builds.Active.{Build, Came, Concluded, Given}
 use Rattle.legal_history.specs.Base.Fits.{is_base}
 use Rattle.legal_history.specs.Queries.VersionNames.{line}
 use Rattle.legal_history.specs.Worked.{tag, row}
@@ -84,10 +84,10 @@ w_builds_its_own = refl
 own_from_nothing : reply_from_nothing (first_rows 13 own_built) (build_with true false w 12 12 (Given 12)) ≡ out_line words.Made
 own_from_nothing = refl
 
-w_keeps_its_own : reply_of (first_rows 13 own_built) (build_with true false w 13 13 (Ended (Kept 12))) ≡ out_line words.Kept
+w_keeps_its_own : reply_of (first_rows 13 own_built) (build_with true false w 13 13 (Concluded (Kept 12))) ≡ out_line words.Kept
 w_keeps_its_own = refl
 
-kept_from_nothing : reply_from_nothing (first_rows 13 own_built) (build_with true false w 13 13 (Ended (Kept 12))) ≡ out_line words.Kept
+kept_from_nothing : reply_from_nothing (first_rows 13 own_built) (build_with true false w 13 13 (Concluded (Kept 12))) ≡ out_line words.Kept
 kept_from_nothing = refl
 
 w_builds_anew : reply_of own_built (build_with false true w 14 13 (Given 13)) ≡ out_line words.Made

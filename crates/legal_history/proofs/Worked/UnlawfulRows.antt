@@ -6,8 +6,8 @@ use Rattle.cc_names.specs.declared.refusals.Refusal.{Refusal}
 use Rattle.cc_names.specs.declared.refusals.Refusal.TheVariants as refusals
 use Rattle.cc_names.specs.declared.rows.Deed.TheVariants as deeds
 use Rattle.cc_names.specs.declared.steps.Step.TheVariants as steps
-use Rattle.cc_names.specs.declared.steps.Told.{Told}
-use Rattle.cc_names.specs.declared.steps.Told.TheVariants as told
+use Rattle.cc_names.specs.declared.steps.StoryStep.{StoryStep}
+use Rattle.cc_names.specs.declared.steps.StoryStep.TheVariants as story_steps
 use Rattle.legal_history.specs.Commands.Decisions.{Decision, Makes, Answers}
 use Rattle.legal_history.specs.Stories.States.{State, decided, start}
 use Rattle.legal_history.specs.Stories.Steps.{state_of}
@@ -26,27 +26,27 @@ started = state_of before_fault
 opened_twice : Lawful started opened → ⊥
 opened_twice h = apart (λ b. b) h.first refl refl
 
-opened_on_no_base : Lawful start (told.Opened (row 1 (deeds.Rmview v) ∷ []) (record { ticks = 0; faults = 0 }) true) → ⊥
+opened_on_no_base : Lawful start (story_steps.Opened (row 1 (deeds.Rmview v) ∷ []) (record { ticks = 0; faults = 0 }) true) → ⊥
 opened_on_no_base h = apart not h.fits refl refl
 
 -- a view without a name fits, and no journal spells it
-opened_on_a_row_without_form : Lawful start (told.Opened (row 1 (deeds.Mkview []) ∷ []) (record { ticks = 0; faults = 0 }) true) → ⊥
+opened_on_a_row_without_form : Lawful start (story_steps.Opened (row 1 (deeds.Mkview []) ∷ []) (record { ticks = 0; faults = 0 }) true) → ⊥
 opened_on_a_row_without_form h = absurd (let named = h.formed.0.deed.no_fault in cc)
 
-planned_too_early : Lawful started (told.Plan (one_lane []) 1700000000) → ⊥
+planned_too_early : Lawful started (story_steps.PhaseBegun (one_lane []) 1700000000) → ⊥
 planned_too_early h = apart not h.finished refl refl
 
-planned_before_it_is_opened : Lawful start (told.Plan (one_lane []) 1700000000) → ⊥
+planned_before_it_is_opened : Lawful start (story_steps.PhaseBegun (one_lane []) 1700000000) → ⊥
 planned_before_it_is_opened h = apart not h.opened refl refl
 
-planned_after_the_last_moment : Lawful (state_of (opened ∷ [])) (told.Plan (one_lane []) 253402300800) → ⊥
+planned_after_the_last_moment : Lawful (state_of (opened ∷ [])) (story_steps.PhaseBegun (one_lane []) 253402300800) → ⊥
 planned_after_the_last_moment h = let late : 253402300800 ≤ 253402300799 = h.in_time in omega arith
 
 -- a scrub is the next command. View w has dropped the object of row 10, which is due; view v holds that of row 13
 abbrev scrubbing : State
 scrubbing = state_of (
-    told.Opened (reverse (base_of (all_deeds ++ (publish ∷ deeds.Drop w (codes "out") ∷ [])))) (record { ticks = 0; faults = 0 }) true
-    ∷ told.Plan (one_lane (commands.Scrub 0 ∷ commands.Lsdo v ∷ [])) 1700000000 ∷ [])
+    story_steps.Opened (reverse (base_of (all_deeds ++ (publish ∷ deeds.Drop w (codes "out") ∷ [])))) (record { ticks = 0; faults = 0 }) true
+    ∷ story_steps.PhaseBegun (one_lane (commands.Scrub 0 ∷ commands.Lsdo v ∷ [])) 1700000000 ∷ [])
 
 the_scrub_takes_one : decided scrubbing (tag 1 1 1) ≡ Some (Ok (Makes (deeds.Scrub (10 ∷ []))))
 the_scrub_takes_one = refl
@@ -56,17 +56,17 @@ scrubs : ℕ → Option (Result Decision Refusal) → Bool
 scrubs n (Some (Ok (Makes (deeds.Scrub objects)))) = nat_eq (length objects) n
 scrubs n decided = false
 
-a_scrub_of_one_too_many : Lawful scrubbing (told.Commit (row 1 (deeds.Scrub (10 ∷ 13 ∷ []))) 1) → ⊥
+a_scrub_of_one_too_many : Lawful scrubbing (story_steps.Commit (row 1 (deeds.Scrub (10 ∷ 13 ∷ []))) 1) → ⊥
 unfolding scrubs
 a_scrub_of_one_too_many h = apart (λ d. not (scrubs 2 d)) h.may.made refl refl
 
-a_row_of_another_moment : Lawful scrubbing (told.Commit (record { tag = tag 1 1 1; moment = 1700000001; deed = deeds.Scrub (10 ∷ []) }) 1) → ⊥
+a_row_of_another_moment : Lawful scrubbing (story_steps.Commit (record { tag = tag 1 1 1; moment = 1700000001; deed = deeds.Scrub (10 ∷ []) }) 1) → ⊥
 a_row_of_another_moment h = apart (λ moment. nat_eq moment 1700000001) h.may.moment refl refl
 
-a_tick_that_stands_still : Lawful scrubbing (told.Commit (row 1 (deeds.Scrub (10 ∷ []))) 0) → ⊥
+a_tick_that_stands_still : Lawful scrubbing (story_steps.Commit (row 1 (deeds.Scrub (10 ∷ []))) 0) → ⊥
 a_tick_that_stands_still h = apart not h.ticked refl refl
 
-an_answer_out_of_turn : Lawful scrubbing (told.Other (steps.Answer (tag 1 1 2) (line (codes "out@@13 references 1")))) → ⊥
+an_answer_out_of_turn : Lawful scrubbing (story_steps.Other (steps.Answer (tag 1 1 2) (line (codes "out@@13 references 1")))) → ⊥
 an_answer_out_of_turn h = apart is_none h refl refl
 
 -- whether a decision is a refusal
@@ -74,7 +74,7 @@ is_refused : Option (Result Decision Refusal) → Bool
 is_refused (Some (Err refusal)) = true
 is_refused decided = false
 
-a_refusal_without_a_reason : Lawful scrubbing (told.Other (steps.Refused (tag 1 1 1) refusals.NoView)) → ⊥
+a_refusal_without_a_reason : Lawful scrubbing (story_steps.Other (steps.Refused (tag 1 1 1) refusals.NoView)) → ⊥
 unfolding is_refused
 a_refusal_without_a_reason h = apart (λ d. not (is_refused d)) h refl refl
 
@@ -84,8 +84,8 @@ answers text (Some (Ok (Answers answer))) = bytes_eq text answer
 answers text decided = false
 
 -- a fault where the scrub's row was to be committed
-abbrev scrub_fault : List ℕ → ℕ → ℕ → Told
-scrub_fault objects before faults = told.Other (steps.Fault (tag 1 1 1) (Some (row 1 (deeds.Scrub objects))) before faults 1)
+abbrev scrub_fault : List ℕ → ℕ → ℕ → StoryStep
+scrub_fault objects before faults = story_steps.Other (steps.Fault (tag 1 1 1) (Some (row 1 (deeds.Scrub objects))) before faults 1)
 
 a_fault_that_left_another_row : Lawful scrubbing (scrub_fault (10 ∷ 13 ∷ []) 0 1) → ⊥
 unfolding scrubs
@@ -97,28 +97,28 @@ a_fault_without_a_rise h = apart not h.rose refl refl
 
 -- a query is the next command
 abbrev asked : State
-asked = state_of (opened ∷ told.Plan (one_lane (commands.Mkview v ∷ commands.Lsdo v ∷ [])) 1700000000 ∷ told.Commit (row 1 (deeds.Mkview v)) 7 ∷ [])
+asked = state_of (opened ∷ story_steps.PhaseBegun (one_lane (commands.Mkview v ∷ commands.Lsdo v ∷ [])) 1700000000 ∷ story_steps.Commit (row 1 (deeds.Mkview v)) 7 ∷ [])
 
-an_answer_of_another_text : Lawful asked (told.Other (steps.Answer (tag 1 1 2) (codes "out"))) → ⊥
+an_answer_of_another_text : Lawful asked (story_steps.Other (steps.Answer (tag 1 1 2) (codes "out"))) → ⊥
 unfolding answers
 an_answer_of_another_text h = apart (answers []) h refl refl
 
-a_fault_where_no_row_was_to_be_made : Lawful asked (told.Other (steps.Fault (tag 1 1 2) None 0 1 8)) → ⊥
+a_fault_where_no_row_was_to_be_made : Lawful asked (story_steps.Other (steps.Fault (tag 1 1 2) None 0 1 8)) → ⊥
 a_fault_where_no_row_was_to_be_made h = no_row refl refl h.wanted
 
 -- the build of private files is the next command
 abbrev waiting : State
 waiting = state_of before_build
 
-a_begin_with_two_units : Lawful waiting (told.Other (steps.Begin (tag 1 1 4) 4 2)) → ⊥
+a_begin_with_two_units : Lawful waiting (story_steps.Other (steps.Begin (tag 1 1 4) 4 2)) → ⊥
 a_begin_with_two_units h = apart (λ n. nat_eq n 2) (units_are refl h) refl refl
 
-a_begin_at_other_rows : Lawful waiting (told.Other (steps.Begin (tag 1 1 4) 3 1)) → ⊥
+a_begin_at_other_rows : Lawful waiting (story_steps.Other (steps.Begin (tag 1 1 4) 3 1)) → ⊥
 a_begin_at_other_rows h = apart (λ n. nat_eq n 3) h.at_rows refl refl
 
 -- the disk has failed twice before, and the next fault's count begins below that
 abbrev twice_failed : State
-twice_failed = state_of (before_fault ++ (told.Other (steps.Fault (tag 1 1 4) None 0 2 17) ∷ []))
+twice_failed = state_of (before_fault ++ (story_steps.Other (steps.Fault (tag 1 1 4) None 0 2 17) ∷ []))
 
-a_fault_before_the_last_one : Lawful twice_failed (told.Other (steps.Fault (tag 1 1 4) None 1 3 19)) → ⊥
+a_fault_before_the_last_one : Lawful twice_failed (story_steps.Other (steps.Fault (tag 1 1 4) None 1 3 19)) → ⊥
 a_fault_before_the_last_one h = let later : 2 ≤ 1 = h.later in omega arith

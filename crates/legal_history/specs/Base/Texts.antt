@@ -1,5 +1,5 @@
 -- The text that a row made.
-use Rattle.std.specs.Prelude.{ℕ, true, false, ◌==◌, Option, Some, None, List, [], ◌∷◌, bytes_eq, if◌then◌else◌}
+use Rattle.std.specs.Prelude.{ℕ, true, false, ◌==◌, Option, Some, None, List, [], ◌∷◌, option_and_then, bytes_eq, if◌then◌else◌}
 use Rattle.cc_names.specs.declared.rows.Deed.{Deed}
 use Rattle.cc_names.specs.declared.rows.Deed.TheVariants as deeds
 use Rattle.legal_history.specs.Base.Rows.{Base, size}
@@ -47,3 +47,7 @@ text (row ∷ older) r path =
       | false ↦ text older r path
       | true ↦ elim (source_of older path row.deed) [ Bytes bytes ↦ Some bytes | OfRow origin ↦ text older origin path | NoText ↦ None ]
     ]
+
+-- the text of the row that a path was found to have
+abbrev pub text_of_row : Base → List ℕ → Option ℕ → Option (List ℕ)
+text_of_row b path row = option_and_then (λ r. text b r path) row

@@ -11,7 +11,7 @@ use Rattle.legal_history.specs.Base.Closures.{is_among}
 -- what a unit has come to: its script was started, it ended without a row, or it was given an object by a row
 pub data Came : Type 0 where
   Started : Came
-  Ended : UnitEnd → Came
+  Concluded : UnitEnd → Came
   Given : ℕ → Came
 
 -- A build: the command that it carries out, its view, its reference rows and its options; its units, what they have come
@@ -63,13 +63,13 @@ came_to build n = find_key nat_cmp n build.comes
 abbrev pub is_outcome : Option Came → Bool
 is_outcome None = false
 is_outcome (Some Started) = false
-is_outcome (Some (Ended end)) = true
+is_outcome (Some (Concluded end)) = true
 is_outcome (Some (Given id)) = true
 
 -- the object that a unit was given or kept
 abbrev pub object_of : Option Came → Option ℕ
 object_of (Some (Given id)) = Some id
-object_of (Some (Ended (Kept id))) = Some id
+object_of (Some (Concluded (Kept id))) = Some id
 object_of _ = None
 
 -- the number of the unit that has this target, counted from n on

@@ -1,5 +1,5 @@
 -- What a unit of a build sees, the object that it may reuse, and the row that its script's result would make.
-use Rattle.std.specs.Prelude.{ℕ, ◌+◌, Option, Some, None, Result, Ok, Err, List, [], ◌∷◌, take, map, option_and_then}
+use Rattle.std.specs.Prelude.{ℕ, ◌+◌, Option, Some, None, Result, Ok, Err, List, [], ◌∷◌, take, map}
 use Rattle.std.specs.Option.{option_or}
 use Rattle.std.specs.Ordering.{nat_cmp}
 use Rattle.std.specs.Cmp.Lexicographic.{slice_cmp}
@@ -15,7 +15,7 @@ use Rattle.legal_history.specs.Builds.Active.{Build, Came, came_to, object_of}
 use Rattle.legal_history.specs.Builds.Fresh.{script_text}
 use Rattle.legal_history.specs.Base.Seen.{file_at}
 use Rattle.legal_history.specs.Builds.Serials.{makes, needed}
-use Rattle.legal_history.specs.Base.Texts.{text}
+pub use Rattle.legal_history.specs.Base.Texts.{text_of_row}
 
 -- a unit of a build with what it has come to
 pub record Member : Type 0 where
@@ -53,10 +53,6 @@ visible_in rows build n unit path =
 -- what unit n of a build sees at a path
 abbrev pub visible : Base → Build → ℕ → Unit → List ℕ → Option ℕ
 visible b build n unit path = visible_in (first_rows build.rows b) build n unit path
-
--- the text of the row that a path was found to have
-abbrev pub text_of_row : Base → List ℕ → Option ℕ → Option (List ℕ)
-text_of_row b path row = option_and_then (λ r. text b r path) row
 
 -- the run of a unit's script on what the unit sees
 abbrev pub here : Base → Build → ℕ → Unit → Ran

@@ -4,7 +4,7 @@ use Rattle.cc_names.specs.declared.steps.UnitEnd.{UnitEnd}
 use Rattle.cc_names.specs.declared.steps.UnitEnd.TheVariants.{Kept}
 use Rattle.cc_names.specs.declared.units.Unit.{Unit}
 use Rattle.legal_history.specs.Base.Rows.{Base, first_rows}
-use Rattle.legal_history.specs.Builds.Active.{Build, Came, Started, Ended, Given, came_to, is_outcome, object_of, unit_at}
+use Rattle.legal_history.specs.Builds.Active.{Build, Came, Started, Concluded, Given, came_to, is_outcome, object_of, unit_at}
 use Rattle.legal_history.specs.Builds.Fresh.{serial, serial_of, texts, sees_file, sees_directory}
 use Rattle.legal_history.specs.Builds.Serials.{Outcome, Made, Without, Finished, makes, early_end, standing_in}
 use Rattle.legal_history.specs.Base.Texts.{text, output_at}
@@ -33,8 +33,8 @@ pub record HasOutputs (b : Base) (unit : Unit) (id : ℕ) (outputs : List (List 
 -- kept, or the same end without an object
 abbrev pub Agrees : Base → Unit → Came → Outcome → Type 0
 Agrees b unit (Given id) (Made outputs) = HasOutputs b unit id outputs
-Agrees b unit (Ended end) (Without other) = (end ≡ other) × (object_of (Some (Ended end)) ≡ None)
-Agrees b unit (Ended (Kept id)) (Made outputs) = HasOutputs b unit id outputs
+Agrees b unit (Concluded end) (Without other) = (end ≡ other) × (object_of (Some (Concluded end)) ≡ None)
+Agrees b unit (Concluded (Kept id)) (Made outputs) = HasOutputs b unit id outputs
 Agrees b unit came outcome = ⊥
 
 -- What each unit of a consistent build has come to so far agrees with the build from nothing at its reference rows.

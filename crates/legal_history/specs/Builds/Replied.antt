@@ -13,7 +13,7 @@ use Rattle.cc_names.specs.declared.steps.UnitEnd.TheVariants as ends
 use Rattle.cc_names.specs.declared.units.Unit.{Unit}
 use Rattle.sha2.specs.Sha256.{sha256}
 use Rattle.legal_history.specs.Base.Rows.{Base, first_rows, row_at}
-use Rattle.legal_history.specs.Builds.Active.{Build, Came, Started, Ended, Given, came_to, object_of}
+use Rattle.legal_history.specs.Builds.Active.{Build, Came, Started, Concluded, Given, came_to, object_of}
 use Rattle.legal_history.specs.Builds.Fresh.{all_finished}
 use Rattle.legal_history.specs.Builds.Serials.{Outcome, Made, Without, Finished}
 use Rattle.legal_history.specs.Stories.States.{same_tag}
@@ -43,7 +43,7 @@ word_of_given false digest = words.Winked digest
 
 -- the word for a unit with outputs, by what the unit itself has come to: kept, winked or built
 abbrev pub word_of_object : Base → Build → Option Came → Digest → UnitWord
-word_of_object b build (Some (Ended (ends.Kept id))) digest = words.Kept digest
+word_of_object b build (Some (Concluded (ends.Kept id))) digest = words.Kept digest
 word_of_object b build (Some (Given id)) digest = word_of_given (is_own b build id) digest
 word_of_object b build _ digest = words.Made digest
 
@@ -58,7 +58,7 @@ word_of_end b path (ends.Blocked other) = words.Blocked other
 abbrev pub word_of_came : Base → Build → List ℕ → Option Came → Option UnitWord
 word_of_came b build path None = None
 word_of_came b build path (Some Started) = None
-word_of_came b build path (Some (Ended end)) = Some (word_of_end b path end)
+word_of_came b build path (Some (Concluded end)) = Some (word_of_end b path end)
 word_of_came b build path (Some (Given id)) = Some (word_of_object b build (Some (Given id)) (digest_at (text b id path)))
 
 -- the word for a unit at one of its targets, by what the unit comes to from nothing; of what it has come to itself only

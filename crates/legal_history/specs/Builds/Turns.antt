@@ -8,13 +8,13 @@ use Rattle.cc_names.specs.declared.refusals.UnitFault.TheVariants.{Script}
 use Rattle.cc_names.specs.declared.units.Unit.{Unit}
 use Rattle.build_script.specs.Lines.{script_of}
 use Rattle.legal_history.specs.Base.Rows.{Base, first_rows}
-use Rattle.legal_history.specs.Builds.Active.{Build, Came, Started, Ended, came_to, is_outcome, unit_with}
+use Rattle.legal_history.specs.Builds.Active.{Build, Came, Started, Concluded, came_to, is_outcome, unit_with}
 use Rattle.legal_history.specs.Builds.Fresh.{script_text, sees_file, sees_directory}
 use Rattle.legal_history.specs.Builds.Serials.{Standing, Good, standing_of_end, standing_or_file, early_end}
 
 -- how a unit stands; one without an outcome is not asked
 abbrev pub standing_of_came : Option Came → Standing
-standing_of_came (Some (Ended end)) = standing_of_end end
+standing_of_came (Some (Concluded end)) = standing_of_end end
 standing_of_came came = Good
 
 -- how the unit with this target stands
@@ -59,5 +59,5 @@ unreadable unit = fault_of (script_of (script_text unit.script))
 
 -- what a unit that is started comes to: where its script cannot be read, this is its outcome
 abbrev pub came_by_start : Option ScriptFault → Came
-came_by_start (Some fault) = Ended (Failed (Script fault))
+came_by_start (Some fault) = Concluded (Failed (Script fault))
 came_by_start None = Started

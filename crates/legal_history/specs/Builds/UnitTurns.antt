@@ -1,4 +1,4 @@
--- The turns of the units of a build: when one is open, runs, settles, winks an object in or publishes one.
+-- The turns of the units of a build: when one is open, runs, is concluded, winks an object in or publishes one.
 use Rattle.std.specs.Prelude.{◌≡◌, ℕ, true, false, ◌⊎◌, Some, None, Err, List}
 use Rattle.cc_names.specs.Formed.{Plain}
 use Rattle.cc_names.specs.Versions.{is_number}
@@ -66,7 +66,7 @@ pub record EndsEarly (s : State) (tag : Tag) (n : ℕ) (outcome : UnitEnd) : Typ
   pub ready : is_ready build unit ≡ true
   pub ends : early s.base build unit ≡ Some outcome
 
--- when a unit may settle so, without a row
+-- when a unit may be concluded so, without a row
 abbrev pub ComesTo : State → Tag → ℕ → UnitEnd → Type 0
 ComesTo s tag n (Kept id) = Keeps s tag n id
 ComesTo s tag n (Failed (Script fault)) = Fails s tag n fault

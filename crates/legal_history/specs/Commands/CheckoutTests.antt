@@ -10,7 +10,7 @@ use Rattle.legal_history.specs.Base.Changes.{tree}
 use Rattle.legal_history.specs.Base.Checkouts.{reserver, other_reserver, branch_of, latest_beside}
 use Rattle.legal_history.specs.Base.Conditions.{is_file}
 use Rattle.legal_history.specs.Commands.Tests.{refused_unless, refused_where}
-use Rattle.legal_history.specs.Base.Texts.{text}
+use Rattle.legal_history.specs.Base.Texts.{text, text_of_row}
 use Rattle.legal_history.specs.Base.Views.{Checkout, making}
 
 -- the view has the element out
@@ -51,15 +51,11 @@ abbrev pub is_same_text : Option (List ℕ) → Option (List ℕ) → Bool
 is_same_text (Some one) (Some two) = bytes_eq one two
 is_same_text _ _ = false
 
--- the text of the row that made a checkout's own text
-abbrev pub text_of : Base → List ℕ → Option ℕ → Option (List ℕ)
-text_of b path row = option_and_then (λ r. text b r path) row
-
 -- the text of a file's checkout is not that of its origin, which the refusal names
 abbrev pub needs_change : Base → List ℕ → List ℕ → ℕ → Option Checkout → Option Refusal
 needs_change b v path e None = None
 needs_change b v path e (Some checkout) =
-    refused_where (is_file b e && is_same_text (text_of b path (making b v e)) (text b checkout.origin path)) (refusals.Identical checkout.origin)
+    refused_where (is_file b e && is_same_text (text_of_row b path (making b v e)) (text b checkout.origin path)) (refusals.Identical checkout.origin)
 
 -- the rule that decided lets check out; the refusal names its line
 abbrev pub needs_checkout_rule : Option Rule → Option Refusal

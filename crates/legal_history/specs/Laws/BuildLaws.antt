@@ -4,7 +4,7 @@ use Rattle.cc_names.specs.Commands.{builds}
 use Rattle.cc_names.specs.References.{held_at}
 use Rattle.cc_names.specs.declared.commands.Command.{Command}
 use Rattle.cc_names.specs.declared.rows.Tag.{Tag}
-use Rattle.cc_names.specs.declared.steps.Told.{Told}
+use Rattle.cc_names.specs.declared.steps.StoryStep.{StoryStep}
 use Rattle.cc_names.specs.declared.units.Unit.{Unit}
 use Rattle.legal_history.specs.Base.Rows.{Base}
 use Rattle.legal_history.specs.Builds.Active.{Build, build_of, came_to, unit_at, is_outcome}
@@ -28,39 +28,39 @@ use Rattle.legal_history.specs.Builds.Consistency.{IsConsistent}
 -- After a lawful step an active build is over, or it goes on: it is the same build of the same units, and no outcome of a
 -- unit has changed.
 abbrev pub BuildGoesOn : Type 0
-BuildGoesOn = (s : State) (x : Told) (lane : ℕ) (build : Build)
+BuildGoesOn = (s : State) (x : StoryStep) (lane : ℕ) (build : Build)
     → build_of s.active lane ≡ Some build → Lawful s x
     → StaysTheBuild build (build_of (after s x).active lane)
 
 -- After a lawful step a build that was active and is no more was left by its own end.
 abbrev pub BuildIsLeftByItsEnd : Type 0
-BuildIsLeftByItsEnd = (s : State) (x : Told) (lane : ℕ) (build : Build)
+BuildIsLeftByItsEnd = (s : State) (x : StoryStep) (lane : ℕ) (build : Build)
     → build_of s.active lane ≡ Some build → Lawful s x → build_of (after s x).active lane ≡ None
     → IsLeft s x lane build
 
 -- A command that builds is finished by its refusal, or by the end of its build, and by nothing else: neither by a row, nor
 -- by an answer, nor by a fault of the disk.
 abbrev pub BuildIsFinishedByItsRefusalOrItsEndRefusal : Type 0
-BuildIsFinishedByItsRefusalOrItsEndRefusal = (s : State) (x : Told) (tag : Tag) (command : Command)
+BuildIsFinishedByItsRefusalOrItsEndRefusal = (s : State) (x : StoryStep) (tag : Tag) (command : Command)
     → next_command s tag ≡ Some command → builds command ≡ true → Lawful s x
     → done_of (after s x).done tag.lane ≡ done_of s.done tag.lane + 1 → IsRefused s x tag
 
 -- The same law, its part *end*.
 abbrev pub BuildIsFinishedByItsRefusalOrItsEndEnd : Type 0
-BuildIsFinishedByItsRefusalOrItsEndEnd = (s : State) (x : Told) (lane : ℕ) (build : Build)
+BuildIsFinishedByItsRefusalOrItsEndEnd = (s : State) (x : StoryStep) (lane : ℕ) (build : Build)
     → build_of s.active lane ≡ Some build → Lawful s x
     → done_of (after s x).done lane ≡ done_of s.done lane + 1 → IsLeft s x lane build
 
 -- An active build is the one of its lane's command, and its units are those that the command's build from nothing has at
 -- the build's reference rows.
 abbrev pub BuildIsOfItsCommand : Type 0
-BuildIsOfItsCommand = (story : List Told) (lane : ℕ) (build : Build) → Legal story
+BuildIsOfItsCommand = (story : List StoryStep) (lane : ℕ) (build : Build) → Legal story
     → build_of (state_of story).active lane ≡ Some build → IsOfCommand (state_of story) lane build
 
 -- What a started unit sees is the same before and after each lawful step, while its build goes on: the row that stands at
 -- each path, and what the run of its script gives on the texts there.
 abbrev pub StartedUnitSeesTheSameRun : Type 0
-StartedUnitSeesTheSameRun = (story : List Told) (x : Told) (lane : ℕ) (old new : Build) (n : ℕ) (unit : Unit)
+StartedUnitSeesTheSameRun = (story : List StoryStep) (x : StoryStep) (lane : ℕ) (old new : Build) (n : ℕ) (unit : Unit)
     → Legal story → Lawful (state_of story) x → build_of (state_of story).active lane ≡ Some old
     → build_of (after (state_of story) x).active lane ≡ Some new → unit_at old n ≡ Some unit
     → is_some (came_to old n) ≡ true
@@ -68,7 +68,7 @@ StartedUnitSeesTheSameRun = (story : List Told) (x : Told) (lane : ℕ) (old new
 
 -- The same law, its part *seen*.
 abbrev pub StartedUnitSeesTheSameSeen : Type 0
-StartedUnitSeesTheSameSeen = (story : List Told) (x : Told) (lane : ℕ) (old new : Build) (n : ℕ) (unit : Unit) (path : List ℕ)
+StartedUnitSeesTheSameSeen = (story : List StoryStep) (x : StoryStep) (lane : ℕ) (old new : Build) (n : ℕ) (unit : Unit) (path : List ℕ)
     → Legal story → Lawful (state_of story) x → build_of (state_of story).active lane ≡ Some old
     → build_of (after (state_of story) x).active lane ≡ Some new → unit_at old n ≡ Some unit
     → is_some (came_to old n) ≡ true
@@ -77,20 +77,20 @@ StartedUnitSeesTheSameSeen = (story : List Told) (x : Told) (lane : ℕ) (old ne
 -- What a unit of an active build of a legal story sees at a path, and what its run gives on that, never changes when rows
 -- are added.
 abbrev pub WhatAUnitSeesStaysSeen : Type 0
-WhatAUnitSeesStaysSeen = (story : List Told) (lane : ℕ) (build : Build) (more : Base) (n : ℕ) (unit : Unit) (path : List ℕ)
+WhatAUnitSeesStaysSeen = (story : List StoryStep) (lane : ℕ) (build : Build) (more : Base) (n : ℕ) (unit : Unit) (path : List ℕ)
     → Legal story → build_of (state_of story).active lane ≡ Some build
     → visible (more ++ (state_of story).base) build n unit path ≡ visible (state_of story).base build n unit path
 
 -- The same law, its part *run*.
 abbrev pub WhatAUnitSeesStaysRun : Type 0
-WhatAUnitSeesStaysRun = (story : List Told) (lane : ℕ) (build : Build) (more : Base) (n : ℕ) (unit : Unit)
+WhatAUnitSeesStaysRun = (story : List StoryStep) (lane : ℕ) (build : Build) (more : Base) (n : ℕ) (unit : Unit)
     → Legal story → build_of (state_of story).active lane ≡ Some build
     → here (more ++ (state_of story).base) build n unit ≡ here (state_of story).base build n unit
 
 -- What a build's view holds at a target of a unit is the same before and after each lawful step, until the unit has its
 -- outcome: no other lane changes it under the unit.
 abbrev pub PlaceOfAUnitStays : Type 0
-PlaceOfAUnitStays = (story : List Told) (x : Told) (lane : ℕ) (old new : Build) (n : ℕ) (unit : Unit) (path : List ℕ)
+PlaceOfAUnitStays = (story : List StoryStep) (x : StoryStep) (lane : ℕ) (old new : Build) (n : ℕ) (unit : Unit) (path : List ℕ)
     → Legal story → Lawful (state_of story) x → build_of (state_of story).active lane ≡ Some old
     → build_of (after (state_of story) x).active lane ≡ Some new → unit_at old n ≡ Some unit
     → is_outcome (came_to new n) ≡ false → makes path unit ≡ true
@@ -99,20 +99,20 @@ PlaceOfAUnitStays = (story : List Told) (x : Told) (lane : ℕ) (old new : Build
 -- Along a legal story each object that an active build has given to a unit is live, and the build's view holds it at every
 -- target of the unit, whatever rows other lanes have committed since.
 abbrev pub GivenObjectIsHeld : Type 0
-GivenObjectIsHeld = (story : List Told) (lane : ℕ) (build : Build) → Legal story
+GivenObjectIsHeld = (story : List StoryStep) (lane : ℕ) (build : Build) → Legal story
     → build_of (state_of story).active lane ≡ Some build → HoldsGiven (state_of story).base build
 
 -- An active build is consistent with the base, whatever base was opened: its reference rows are a base within the rows of
 -- now, its units are in order, each unit that has come to anything has its prerequisites over, and each object that a unit
 -- was given or kept is a row with the unit's targets.
 abbrev pub BuildIsConsistent : Type 0
-BuildIsConsistent = (story : List Told) (lane : ℕ) (build : Build) → Legal story
+BuildIsConsistent = (story : List StoryStep) (lane : ℕ) (build : Build) → Legal story
     → build_of (state_of story).active lane ≡ Some build → IsConsistent (state_of story).base build
 
 -- What each unit of an active build has come to so far agrees with the build from nothing at the build's reference rows,
 -- whatever rows were committed since and whatever objects it reused, where the base was sound as it was opened.
 abbrev pub BuildAgrees : Type 0
-BuildAgrees = (story : List Told) (opening : Opening) (lane : ℕ) (build : Build)
+BuildAgrees = (story : List StoryStep) (opening : Opening) (lane : ℕ) (build : Build)
     → Legal story → (state_of story).opened ≡ Some opening → IsSound opening.base
     → build_of (state_of story).active lane ≡ Some build → AgreesSoFar (state_of story).base build
 
@@ -120,7 +120,7 @@ BuildAgrees = (story : List Told) (opening : Opening) (lane : ℕ) (build : Buil
 -- rows: an object with exactly the outputs of the run, or the same end without one. This holds where the base was sound as
 -- it was opened.
 abbrev pub EndedBuildHasItsOutcomesFromNothing : Type 0
-EndedBuildHasItsOutcomesFromNothing = (story : List Told) (opening : Opening) (x : Told) (lane : ℕ) (build : Build) (n : ℕ) (unit : Unit)
+EndedBuildHasItsOutcomesFromNothing = (story : List StoryStep) (opening : Opening) (x : StoryStep) (lane : ℕ) (build : Build) (n : ℕ) (unit : Unit)
     → Legal story → (state_of story).opened ≡ Some opening → IsSound opening.base
     → build_of (state_of story).active lane ≡ Some build → IsLeft (state_of story) x lane build
     → build.faulted ≡ false → unit_at build n ≡ Some unit
@@ -131,7 +131,7 @@ EndedBuildHasItsOutcomesFromNothing = (story : List Told) (opening : Opening) (x
 -- but the build is replied a fault of the disk in place of these lines. This holds where the base was sound as it was
 -- opened.
 abbrev pub BuildIsAsFromNothing : Type 0
-BuildIsAsFromNothing = (story : List Told) (opening : Opening) (lane : ℕ) (build : Build)
+BuildIsAsFromNothing = (story : List StoryStep) (opening : Opening) (lane : ℕ) (build : Build)
     → Legal story → (state_of story).opened ≡ Some opening → IsSound opening.base
     → build_of (state_of story).active lane ≡ Some build → is_complete build ≡ true
     → reply_of (state_of story).base build ≡ reply_from_nothing (state_of story).base build

@@ -4,8 +4,8 @@ use Rattle.std.specs.Prelude.{◌≡◌, ℕ, ◌≤◌, true, ◌||◌, Option,
 use Rattle.cc_names.specs.declared.refusals.Refusal.{Refusal}
 use Rattle.cc_names.specs.declared.rows.Tag.{Tag}
 use Rattle.cc_names.specs.declared.steps.Step.TheVariants as steps
-use Rattle.cc_names.specs.declared.steps.Told.{Told}
-use Rattle.cc_names.specs.declared.steps.Told.TheVariants as told
+use Rattle.cc_names.specs.declared.steps.StoryStep.{StoryStep}
+use Rattle.cc_names.specs.declared.steps.StoryStep.TheVariants as story_steps
 use Rattle.legal_history.specs.Builds.Active.{Build}
 use Rattle.legal_history.specs.Stories.States.{State, Opening, End, Committed, Faulted, build_by, decided, ticks_of, faults_of}
 use Rattle.cc_names.specs.Counts.{rises}
@@ -25,15 +25,15 @@ AreRising opened (Faulted left faults tick ∷ ends) =
     (rises (ticks_of opened ends) tick ≡ true) × RoseBy (faults_of opened ends) faults × AreRising opened ends
 
 -- The command of this tag is finished by its refusal.
-pub record IsRefused (s : State) (x : Told) (tag : Tag) : Type 0 where
+pub record IsRefused (s : State) (x : StoryStep) (tag : Tag) : Type 0 where
   pub refusal : Refusal
-  pub is : x ≡ told.Other (steps.Refused tag refusal)
+  pub is : x ≡ story_steps.Other (steps.Refused tag refusal)
   pub decided_so : decided s tag ≡ Some (Err refusal)
 
 -- A build is left by its own end, which comes once each of its units has its outcome or the disk failed under it.
-pub record IsLeft (s : State) (x : Told) (lane : ℕ) (build : Build) : Type 0 where
+pub record IsLeft (s : State) (x : StoryStep) (lane : ℕ) (build : Build) : Type 0 where
   pub tag : Tag
-  pub is : x ≡ told.Other (steps.End tag)
+  pub is : x ≡ story_steps.Other (steps.End tag)
   pub of_lane : tag.lane ≡ lane
   pub active : build_by s tag ≡ Some build
   pub over : (is_complete build || build.faulted) ≡ true

@@ -26,8 +26,8 @@ pub record EndsAsFromNothing (b : Base) (build : Build) (n : ℕ) (unit : Unit) 
 abbrev pub MayTake : State → Tag → ℕ → Build → Unit → Type 0
 MayTake s tag n build unit = IsOpen s tag n build unit ⊎ IsRunning s tag n build unit
 
--- Unit n of a build is due: it was started and has no outcome; or it has none, each unit that it has as a prerequisite has
+-- Unit n of a build may run: it was started and has no outcome; or it has none, each unit that it has as a prerequisite has
 -- its outcome, and nothing ends it without a run.
-pub data IsDue (b : Base) (build : Build) (n : ℕ) (unit : Unit) : Type 0 where
-  IsStarted : came_to build n ≡ Some Started → IsDue b build n unit
-  IsReadyToStart : is_outcome (came_to build n) ≡ false → is_ready build unit ≡ true → early b build unit ≡ None → IsDue b build n unit
+pub data MayRun (b : Base) (build : Build) (n : ℕ) (unit : Unit) : Type 0 where
+  IsStarted : came_to build n ≡ Some Started → MayRun b build n unit
+  IsReadyToStart : is_outcome (came_to build n) ≡ false → is_ready build unit ≡ true → early b build unit ≡ None → MayRun b build n unit

@@ -3,18 +3,18 @@ use Rattle.std.specs.Prelude.{◌≡◌, ℕ, suc, List, [], ◌∷◌, Some, No
 use Rattle.cc_names.specs.Formed.{Plain}
 use Rattle.cc_names.specs.declared.rows.Deed.TheVariants as deeds
 use Rattle.cc_names.specs.declared.rows.Tag.{Tag}
-use Rattle.cc_names.specs.declared.steps.Told.{Told}
+use Rattle.cc_names.specs.declared.steps.StoryStep.{StoryStep}
 use Rattle.cc_names.specs.declared.steps.UnitEnd.TheVariants as ends
 use Rattle.cc_names.specs.declared.units.Unit.{Unit}
 use Rattle.legal_history.specs.Base.Rows.{Base, size, deed_at}
-use Rattle.legal_history.specs.Builds.Active.{Build, build_of, unit_at, Ended, Given, unit_with_first}
+use Rattle.legal_history.specs.Builds.Active.{Build, build_of, unit_at, Concluded, Given, unit_with_first}
 use Rattle.legal_history.specs.Base.Changes.{live, targets_of}
 use Rattle.legal_history.specs.Builds.Choices.{here, visible, entries, publish_of}
 use Rattle.legal_history.specs.Base.Closures.{is_publish_deed}
 use Rattle.legal_history.specs.Base.Fits.{is_base}
 use Rattle.legal_history.specs.Builds.Fresh.{script_text}
 use Rattle.legal_history.specs.Builds.Freshness.{AgreesSoFar}
-use Rattle.legal_history.specs.Laws.FromNothing.{IsAsFromNothing, IsDue, MayTake}
+use Rattle.legal_history.specs.Laws.FromNothing.{IsAsFromNothing, MayRun, MayTake}
 use Rattle.legal_history.specs.Laws.Given.{IsHeld, SeenBy}
 use Rattle.legal_history.specs.Laws.Objects.{GivesLive, IsTheRun}
 use Rattle.legal_history.specs.Queries.RecordTexts.{record_of, row_in}
@@ -26,12 +26,12 @@ use Rattle.legal_history.specs.Base.Values.{is_true, IsSound}
 
 -- Along a legal story a base that was sound as it was opened stays sound; so one that was opened without rows is sound.
 abbrev pub BaseStaysSoundStays : Type 0
-BaseStaysSoundStays = (story : List Told) (opening : Opening) → Legal story
+BaseStaysSoundStays = (story : List StoryStep) (opening : Opening) → Legal story
     → (state_of story).opened ≡ Some opening → IsSound opening.base → IsSound (state_of story).base
 
 -- The same law, its part *from_nothing*.
 abbrev pub BaseStaysSoundFromNothing : Type 0
-BaseStaysSoundFromNothing = (story : List Told) (opening : Opening) → Legal story
+BaseStaysSoundFromNothing = (story : List StoryStep) (opening : Opening) → Legal story
     → (state_of story).opened ≡ Some opening → opening.base ≡ [] → IsSound (state_of story).base
 
 -- A row leaves a sound base sound, whatever it is, where an object that it publishes is true.
@@ -108,7 +108,7 @@ WhatIsReusedIsHeldWinked = (row : Plain) (b : Base) (build : Build) (n : ℕ) (u
 -- unit may reuse; and where the unit may take one, it is what the unit comes to in the build from nothing at the build's
 -- reference rows, whatever came between.
 abbrev pub ReuseIsARebuildMatched : Type 0
-ReuseIsARebuildMatched = (story : List Told) (opening : Opening) (lane : ℕ) (build : Build) (n : ℕ) (unit : Unit) (id : ℕ)
+ReuseIsARebuildMatched = (story : List StoryStep) (opening : Opening) (lane : ℕ) (build : Build) (n : ℕ) (unit : Unit) (id : ℕ)
     → Legal story → (state_of story).opened ≡ Some opening → IsSound opening.base
     → build_of (state_of story).active lane ≡ Some build
     → is_some (live (state_of story).base id) ≡ true
@@ -117,7 +117,7 @@ ReuseIsARebuildMatched = (story : List Told) (opening : Opening) (lane : ℕ) (b
 
 -- The same law, its part *run*.
 abbrev pub ReuseIsARebuildRun : Type 0
-ReuseIsARebuildRun = (story : List Told) (opening : Opening) (lane : ℕ) (build : Build) (n : ℕ) (unit : Unit) (id : ℕ)
+ReuseIsARebuildRun = (story : List StoryStep) (opening : Opening) (lane : ℕ) (build : Build) (n : ℕ) (unit : Unit) (id : ℕ)
     → Legal story → (state_of story).opened ≡ Some opening → IsSound opening.base
     → build_of (state_of story).active lane ≡ Some build
     → reusable (state_of story).base build n unit ≡ Some id
@@ -125,40 +125,40 @@ ReuseIsARebuildRun = (story : List Told) (opening : Opening) (lane : ℕ) (build
 
 -- The same law, its part *from_nothing*.
 abbrev pub ReuseIsARebuildFromNothing : Type 0
-ReuseIsARebuildFromNothing = (story : List Told) (opening : Opening) (tag : Tag) (n : ℕ) (build : Build) (unit : Unit) (id : ℕ)
+ReuseIsARebuildFromNothing = (story : List StoryStep) (opening : Opening) (tag : Tag) (n : ℕ) (build : Build) (unit : Unit) (id : ℕ)
     → Legal story → (state_of story).opened ≡ Some opening → IsSound opening.base
     → MayTake (state_of story) tag n build unit
     → reusable (state_of story).base build n unit ≡ Some id
     → IsAsFromNothing (state_of story).base build n unit id
 
--- A lawful step that reuse takes finds its unit due: where a unit may take an object in place of a run, it was started and
+-- A lawful step that reuse takes finds a unit that may run: where a unit may take an object in place of a run, it was started and
 -- has no outcome, or its prerequisites have theirs and nothing ends it without a run.
-abbrev pub UnitThatMayTakeAnObjectIsDue : Type 0
-UnitThatMayTakeAnObjectIsDue = (s : State) (tag : Tag) (n : ℕ) (build : Build) (unit : Unit)
-    → MayTake s tag n build unit → IsDue s.base build n unit
+abbrev pub UnitThatMayTakeAnObjectMayRun : Type 0
+UnitThatMayTakeAnObjectMayRun = (s : State) (tag : Tag) (n : ℕ) (build : Build) (unit : Unit)
+    → MayTake s tag n build unit → MayRun s.base build n unit
 
 -- To keep is to build: in a sound base, where what the units of a build have come to so far agrees with the build from
--- nothing and the objects that it was given are live, both are still so when a unit that is due keeps the object that it
+-- nothing and the objects that it was given are live, both are still so when a unit that may run keeps the object that it
 -- may reuse.
 abbrev pub KeptObjectAgreesAgrees : Type 0
 KeptObjectAgreesAgrees = (b : Base) (build : Build) (n : ℕ) (unit : Unit) (id : ℕ)
     → is_base b ≡ true → IsSound b → GivesLive b build → AgreesSoFar b build
-    → unit_at build n ≡ Some unit → IsDue b build n unit → reusable b build n unit ≡ Some id
-    → AgreesSoFar b (with_came build (Some n) (Ended (ends.Kept id)))
+    → unit_at build n ≡ Some unit → MayRun b build n unit → reusable b build n unit ≡ Some id
+    → AgreesSoFar b (with_came build (Some n) (Concluded (ends.Kept id)))
 
 -- The same law, its part *lives*.
 abbrev pub KeptObjectAgreesLives : Type 0
 KeptObjectAgreesLives = (b : Base) (build : Build) (n : ℕ) (unit : Unit) (id : ℕ) → is_base b ≡ true
     → GivesLive b build → reusable b build n unit ≡ Some id
-    → GivesLive b (with_came build (Some n) (Ended (ends.Kept id)))
+    → GivesLive b (with_came build (Some n) (Concluded (ends.Kept id)))
 
 -- To wink in is to build: in a sound base, where what the units of a build have come to so far agrees with the build from
 -- nothing and the objects that it was given are live, all three are still so over the base with the next row, by which the
--- view winks in the object that a unit that is due may reuse.
+-- view winks in the object that a unit that may run may reuse.
 abbrev pub WinkedObjectAgreesAgrees : Type 0
 WinkedObjectAgreesAgrees = (row : Plain) (b : Base) (build : Build) (n : ℕ) (unit : Unit) (id : ℕ)
     → is_base b ≡ true → IsSound b → GivesLive b build → AgreesSoFar b build
-    → unit_at build n ≡ Some unit → IsDue b build n unit → reusable b build n unit ≡ Some id
+    → unit_at build n ≡ Some unit → MayRun b build n unit → reusable b build n unit ≡ Some id
     → row.deed ≡ deeds.Wink build.view id
     → AgreesSoFar (row ∷ b) (with_came build (Some n) (Given id))
 

@@ -3,8 +3,8 @@ use Rattle.std.specs.Prelude.{◌≡◌, ℕ, List, ◌∷◌, ◌++◌, Some, t
 use Rattle.cc_names.specs.Formed.{Plain}
 use Rattle.cc_names.specs.declared.rows.Tag.{Tag}
 use Rattle.cc_names.specs.declared.steps.Step.TheVariants as steps
-use Rattle.cc_names.specs.declared.steps.Told.{Told}
-use Rattle.cc_names.specs.declared.steps.Told.TheVariants as told
+use Rattle.cc_names.specs.declared.steps.StoryStep.{StoryStep}
+use Rattle.cc_names.specs.declared.steps.StoryStep.TheVariants as story_steps
 use Rattle.legal_history.specs.Base.Rows.{Base}
 use Rattle.legal_history.specs.Base.Fits.{is_base}
 use Rattle.legal_history.specs.Base.Values.{IsSound}
@@ -15,21 +15,21 @@ use Rattle.legal_history.specs.Stories.Lawful.{Legal}
 
 -- Whatever a stop leaves of a legal story is a base: each of its rows fits those below it.
 abbrev pub StopLeavesABase : Type 0
-StopLeavesABase = (story : List Told) (b : Base) → Legal story
+StopLeavesABase = (story : List StoryStep) (b : Base) → Legal story
     → IsLeftByStop (state_of story) b → is_base b ≡ true
 
 -- It is sound where the base was sound as it was opened: the row that was in flight, or that a fault left behind, may be an
 -- object, and then this object is true.
 abbrev pub StopLeavesABaseSound : Type 0
-StopLeavesABaseSound = (story : List Told) (opening : Opening) (b : Base) → Legal story
+StopLeavesABaseSound = (story : List StoryStep) (opening : Opening) (b : Base) → Legal story
     → (state_of story).opened ≡ Some opening → IsSound opening.base
     → IsLeftByStop (state_of story) b → IsSound b
 
 -- At each fault of a legal story that leaves a row, be it the one that was to be committed or what the fault directly before
 -- left, the rows committed so far are sound with that row on top, where the base was sound as it was opened.
 abbrev pub FaultLeavesABaseSound : Type 0
-FaultLeavesABaseSound = (front rest : List Told) (tag : Tag) (row : Plain)
+FaultLeavesABaseSound = (front rest : List StoryStep) (tag : Tag) (row : Plain)
     (before faults tick : ℕ) (opening : Opening)
-    → Legal (front ++ told.Other (steps.Fault tag (Some row) before faults tick) ∷ rest)
+    → Legal (front ++ story_steps.Other (steps.Fault tag (Some row) before faults tick) ∷ rest)
     → (state_of front).opened ≡ Some opening → IsSound opening.base
     → IsSound (row ∷ (state_of front).base)

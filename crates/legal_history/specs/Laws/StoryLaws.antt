@@ -3,8 +3,8 @@ use Rattle.std.specs.Prelude.{◌≡◌, ℕ, ◌+◌, ◌≤◌, List, [], ◌�
 use Rattle.cc_names.specs.Formed.{Plain}
 use Rattle.cc_names.specs.References.{held_at}
 use Rattle.cc_names.specs.declared.rows.Deed.TheVariants as deeds
-use Rattle.cc_names.specs.declared.steps.Told.{Told}
-use Rattle.cc_names.specs.declared.steps.Told.TheVariants as told
+use Rattle.cc_names.specs.declared.steps.StoryStep.{StoryStep}
+use Rattle.cc_names.specs.declared.steps.StoryStep.TheVariants as story_steps
 use Rattle.legal_history.specs.Base.Rows.{size}
 use Rattle.legal_history.specs.Builds.Active.{Build, build_of}
 use Rattle.legal_history.specs.Base.Changes.{held, live}
@@ -18,53 +18,53 @@ use Rattle.legal_history.specs.Laws.Unfinished.{all_unfinished}
 
 -- A legal story goes on by each step that is lawful in the state to which it has led, and by no other.
 abbrev pub StoryGoesOnByALawfulStepOn : Type 0
-StoryGoesOnByALawfulStepOn = (story : List Told) (x : Told) → Legal story
+StoryGoesOnByALawfulStepOn = (story : List StoryStep) (x : StoryStep) → Legal story
     → Lawful (state_of story) x → Legal (story ++ x ∷ [])
 
 -- The same law, its part *last*.
 abbrev pub StoryGoesOnByALawfulStepLast : Type 0
-StoryGoesOnByALawfulStepLast = (story : List Told) (x : Told) → Legal (story ++ x ∷ [])
+StoryGoesOnByALawfulStepLast = (story : List StoryStep) (x : StoryStep) → Legal (story ++ x ∷ [])
     → Lawful (state_of story) x
 
 -- Along a legal story the rows stay a base: each fits those below it, the rows of commands and of builds alike.
 abbrev pub BaseFits : Type 0
-BaseFits = (story : List Told) → Legal story → is_base (state_of story).base ≡ true
+BaseFits = (story : List StoryStep) → Legal story → is_base (state_of story).base ≡ true
 
 -- A front of a legal story is legal, and its base is that of the whole story without the rows made since.
 abbrev pub BaseOnlyGrowsFront : Type 0
-BaseOnlyGrowsFront = (front rest : List Told) → Legal (front ++ rest) → Legal front
+BaseOnlyGrowsFront = (front rest : List StoryStep) → Legal (front ++ rest) → Legal front
 
 -- The same law, its part *base*.
 abbrev pub BaseOnlyGrowsBase : Type 0
-BaseOnlyGrowsBase = (front rest : List Told) → Legal (front ++ rest)
+BaseOnlyGrowsBase = (front rest : List StoryStep) → Legal (front ++ rest)
     → Extends (state_of front).base (state_of (front ++ rest)).base
 
 -- Along a legal story the rows of the base, and one more for each unit of an active build that has no outcome, stay within
 -- the limit of rows.
 abbrev pub RowsStayWithinTheLimit : Type 0
-RowsStayWithinTheLimit = (story : List Told) → Legal story
+RowsStayWithinTheLimit = (story : List StoryStep) → Legal story
     → size (state_of story).base + all_unfinished (state_of story).active ≤ row_limit
 
 -- Along a legal story the disk's ticks at commits and faults rise, and each fault has a rise of the count of faults that
 -- no earlier one has.
 abbrev pub TicksRise : Type 0
-TicksRise = (story : List Told) → Legal story
+TicksRise = (story : List StoryStep) → Legal story
     → AreRising (state_of story).opened (state_of story).ends
 
 -- Along a legal story no two active builds are of one view.
 abbrev pub ViewHasOneBuild : Type 0
-ViewHasOneBuild = (story : List Told) (lane other : ℕ) (one two : Build) → Legal story
+ViewHasOneBuild = (story : List StoryStep) (lane other : ℕ) (one two : Build) → Legal story
     → build_of (state_of story).active lane ≡ Some one
     → build_of (state_of story).active other ≡ Some two → one.view ≡ two.view → lane ≡ other
 
 -- Each scrub that is committed in a legal story lists exactly the objects that are due there.
 abbrev pub ScrubOfAStoryListsWhatIsDue : Type 0
-ScrubOfAStoryListsWhatIsDue = (front rest : List Told) (row : Plain) (tick : ℕ) (objects : List ℕ)
-    → Legal (front ++ told.Commit row tick ∷ rest) → row.deed ≡ deeds.Scrub objects
+ScrubOfAStoryListsWhatIsDue = (front rest : List StoryStep) (row : Plain) (tick : ℕ) (objects : List ℕ)
+    → Legal (front ++ story_steps.Commit row tick ∷ rest) → row.deed ≡ deeds.Scrub objects
     → AreDue (state_of front) row.tag objects
 
 -- At each step of a legal story every object that a view holds at a path is live.
 abbrev pub HeldObjectIsLiveAtEachStep : Type 0
-HeldObjectIsLiveAtEachStep = (front rest : List Told) (v path : List ℕ) (id : ℕ)
+HeldObjectIsLiveAtEachStep = (front rest : List StoryStep) (v path : List ℕ) (id : ℕ)
     → Legal (front ++ rest) → held_at (held (state_of front).base) v path ≡ Some id
     → is_some (live (state_of front).base id) ≡ true

@@ -7,8 +7,8 @@ use Rattle.cc_names.specs.declared.rows.Deed.TheVariants as deeds
 use Rattle.cc_names.specs.declared.rows.ReadOf.{ReadOf}
 use Rattle.cc_names.specs.declared.rows.Tag.{Tag}
 use Rattle.cc_names.specs.declared.steps.Step.TheVariants as steps
-use Rattle.cc_names.specs.declared.steps.Told.{Told}
-use Rattle.cc_names.specs.declared.steps.Told.TheVariants as told
+use Rattle.cc_names.specs.declared.steps.StoryStep.{StoryStep}
+use Rattle.cc_names.specs.declared.steps.StoryStep.TheVariants as story_steps
 use Rattle.cc_names.specs.declared.steps.UnitEnd.TheVariants as ends
 use Rattle.cc_names.specs.declared.units.Unit.{Unit}
 use Rattle.legal_history.specs.Base.Rows.{deed_at}
@@ -68,28 +68,28 @@ pub record PublishesWhatItRead (s : State) (row : Plain) (targets : List (List �
 
 -- Each object that a unit keeps in a legal story is live, of the unit's targets and script, and of just what the unit sees.
 abbrev pub TakenRecordIsSeenKept : Type 0
-TakenRecordIsSeenKept = (front rest : List Told) (tag : Tag) (n id : ℕ)
-    → Legal (front ++ told.Other (steps.Settled tag n (ends.Kept id)) ∷ rest)
+TakenRecordIsSeenKept = (front rest : List StoryStep) (tag : Tag) (n id : ℕ)
+    → Legal (front ++ story_steps.Other (steps.Concluded tag n (ends.Kept id)) ∷ rest)
     → TakesWhatItSees (state_of front) tag n id
 
 -- The same law, its part *winked*: so is each object that a view winks in, for a unit of a build of this view.
 abbrev pub TakenRecordIsSeenWinked : Type 0
-TakenRecordIsSeenWinked = (front rest : List Told) (row : Plain) (tick : ℕ) (view : List ℕ) (id : ℕ)
-    → Legal (front ++ told.Commit row tick ∷ rest) → row.deed ≡ deeds.Wink view id
+TakenRecordIsSeenWinked = (front rest : List StoryStep) (row : Plain) (tick : ℕ) (view : List ℕ) (id : ℕ)
+    → Legal (front ++ story_steps.Commit row tick ∷ rest) → row.deed ≡ deeds.Wink view id
     → ViewTakesWhatItSees (state_of front) row.tag view id
 
 -- A build without `-V` and `-u` starts no script in a legal story where the record of a live object matches its unit.
 abbrev pub NothingIsPassedOverStart : Type 0
-NothingIsPassedOverStart = (front rest : List Told) (tag : Tag) (n : ℕ) (build : Build) (unit : Unit) (id : ℕ)
-    → Legal (front ++ told.Other (steps.Start tag n) ∷ rest) → ReusesAny (state_of front) tag build
+NothingIsPassedOverStart = (front rest : List StoryStep) (tag : Tag) (n : ℕ) (build : Build) (unit : Unit) (id : ℕ)
+    → Legal (front ++ story_steps.Other (steps.Start tag n) ∷ rest) → ReusesAny (state_of front) tag build
     → unit_at build n ≡ Some unit → is_some (live (state_of front).base id) ≡ true
     → matches (state_of front).base build n unit id ≡ false
 
 -- The same law, its part *publish*: it publishes no record that a live object has, whoever published that.
 abbrev pub NothingIsPassedOverPublish : Type 0
-NothingIsPassedOverPublish = (front rest : List Told) (row : Plain) (tick : ℕ) (build : Build) (id : ℕ)
+NothingIsPassedOverPublish = (front rest : List StoryStep) (row : Plain) (tick : ℕ) (build : Build) (id : ℕ)
     (view other : List ℕ) (targets : List (List ℕ)) (script : List ℕ) (entries : List ReadOf) (outputs stored : List (List ℕ))
-    → Legal (front ++ told.Commit row tick ∷ rest)
+    → Legal (front ++ story_steps.Commit row tick ∷ rest)
     → row.deed ≡ deeds.Publish view targets script entries outputs
     → ReusesAny (state_of front) row.tag build
     → deed_at (state_of front).base id ≡ Some (deeds.Publish other targets script entries stored)
@@ -97,9 +97,9 @@ NothingIsPassedOverPublish = (front rest : List Told) (row : Plain) (tick : ℕ)
 
 -- The same law, its part *match*: it publishes no object for a unit that the record of a live object matches.
 abbrev pub NothingIsPassedOverMatch : Type 0
-NothingIsPassedOverMatch = (front rest : List Told) (row : Plain) (tick : ℕ) (build : Build) (n : ℕ) (unit : Unit) (id : ℕ)
+NothingIsPassedOverMatch = (front rest : List StoryStep) (row : Plain) (tick : ℕ) (build : Build) (n : ℕ) (unit : Unit) (id : ℕ)
     (view : List ℕ) (targets : List (List ℕ)) (script : List ℕ) (listed : List ReadOf) (outputs : List (List ℕ))
-    → Legal (front ++ told.Commit row tick ∷ rest)
+    → Legal (front ++ story_steps.Commit row tick ∷ rest)
     → row.deed ≡ deeds.Publish view targets script listed outputs
     → ReusesAny (state_of front) row.tag build
     → unit_with_first build targets ≡ Some n → unit_at build n ≡ Some unit
@@ -108,16 +108,16 @@ NothingIsPassedOverMatch = (front rest : List Told) (row : Plain) (tick : ℕ) (
 
 -- Each object that is published in a legal story has a record of just what the run of its unit's script read.
 abbrev pub PublishedRecordIsWhatWasRead : Type 0
-PublishedRecordIsWhatWasRead = (front rest : List Told) (row : Plain) (tick : ℕ)
+PublishedRecordIsWhatWasRead = (front rest : List StoryStep) (row : Plain) (tick : ℕ)
     (view : List ℕ) (targets : List (List ℕ)) (script : List ℕ) (listed : List ReadOf) (outputs : List (List ℕ))
-    → Legal (front ++ told.Commit row tick ∷ rest)
+    → Legal (front ++ story_steps.Commit row tick ∷ rest)
     → row.deed ≡ deeds.Publish view targets script listed outputs
     → PublishesWhatItRead (state_of front) row targets script listed outputs
 
 -- An object that a unit may reuse after its run was started is not the one that its build's view holds at every target: that
 -- one was looked at before the start, did not match, and no other lane has changed it since.
 abbrev pub FoundAfterTheStartIsNotHeld : Type 0
-FoundAfterTheStartIsNotHeld = (story : List Told) (tag : Tag) (n : ℕ) (build : Build) (unit : Unit) (id : ℕ)
+FoundAfterTheStartIsNotHeld = (story : List StoryStep) (tag : Tag) (n : ℕ) (build : Build) (unit : Unit) (id : ℕ)
     → Legal story → IsRunning (state_of story) tag n build unit
     → reusable (state_of story).base build n unit ≡ Some id
     → is_number id (held_at_all (state_of story).base build.view unit.targets) ≡ false

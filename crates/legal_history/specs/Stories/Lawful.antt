@@ -6,8 +6,8 @@ use Rattle.cc_names.specs.Formed.{Plain, IsFormed}
 use Rattle.cc_names.specs.declared.rows.Tag.{Tag}
 use Rattle.cc_names.specs.declared.steps.Step.{Step}
 use Rattle.cc_names.specs.declared.steps.Step.TheVariants as steps
-use Rattle.cc_names.specs.declared.steps.Told.{Told}
-use Rattle.cc_names.specs.declared.steps.Told.TheVariants as told
+use Rattle.cc_names.specs.declared.steps.StoryStep.{StoryStep}
+use Rattle.cc_names.specs.declared.steps.StoryStep.TheVariants as story_steps
 use Rattle.cc_names.specs.declared.units.Unit.{Unit}
 use Rattle.legal_history.specs.Base.Rows.{size}
 use Rattle.legal_history.specs.Builds.Active.{Build}
@@ -43,7 +43,7 @@ LawfulStep s (steps.Refused tag refusal) = decided s tag ≡ Some (Err refusal)
 LawfulStep s (steps.Answer tag text) = decided s tag ≡ Some (Ok (Answers text))
 LawfulStep s (steps.Begin tag rows units) = BeginsBuild s tag rows units
 LawfulStep s (steps.Start tag n) = Starts s tag n
-LawfulStep s (steps.Settled tag n outcome) = ComesTo s tag n outcome
+LawfulStep s (steps.Concluded tag n outcome) = ComesTo s tag n outcome
 LawfulStep s (steps.End tag) = EndsBuild s tag
 LawfulStep s (steps.Fault tag left before faults tick) = FaultsAt s tag left before faults tick
 LawfulStep s step = ⊥
@@ -66,17 +66,17 @@ pub record Commits (s : State) (row : Plain) (tick : ℕ) : Type 0 where
   pub ticked : rises (ticks_of s.opened s.ends) tick ≡ true
 
 -- When a step is lawful in a state.
-abbrev pub Lawful : State → Told → Type 0
-Lawful s (told.Opened rows counts tells) = Opens s rows
-Lawful s (told.Plan phase moment) = BeginsPhase s moment
-Lawful s (told.Commit row tick) = Commits s row tick
-Lawful s (told.Other step) = LawfulStep s step
+abbrev pub Lawful : State → StoryStep → Type 0
+Lawful s (story_steps.Opened rows counts tells) = Opens s rows
+Lawful s (story_steps.PhaseBegun phase moment) = BeginsPhase s moment
+Lawful s (story_steps.Commit row tick) = Commits s row tick
+Lawful s (story_steps.Other step) = LawfulStep s step
 
 -- a story that is legal from a state on, oldest step first
-abbrev pub LegalFrom : State → List Told → Type 0
+abbrev pub LegalFrom : State → List StoryStep → Type 0
 LegalFrom s [] = ⊤
 LegalFrom s (x ∷ story) = Lawful s x × LegalFrom (after s x) story
 
 -- A legal story.
-abbrev pub Legal : List Told → Type 0
+abbrev pub Legal : List StoryStep → Type 0
 Legal story = LegalFrom start story

@@ -10,11 +10,11 @@ use Rattle.cc_names.specs.declared.rows.Deed.TheVariants as deeds
 use Rattle.cc_names.specs.declared.rows.Tag.{Tag}
 use Rattle.cc_names.specs.declared.steps.Step.{Step}
 use Rattle.cc_names.specs.declared.steps.Step.TheVariants as steps
-use Rattle.cc_names.specs.declared.steps.Told.{Told}
-use Rattle.cc_names.specs.declared.steps.Told.TheVariants as told
+use Rattle.cc_names.specs.declared.steps.StoryStep.{StoryStep}
+use Rattle.cc_names.specs.declared.steps.StoryStep.TheVariants as story_steps
 use Rattle.cc_names.specs.declared.units.Unit.{Unit}
 use Rattle.legal_history.specs.Base.Rows.{Base, size}
-use Rattle.legal_history.specs.Builds.Active.{Active, Build, Came, Ended, Given, build_of, unit_at, unit_with_first}
+use Rattle.legal_history.specs.Builds.Active.{Active, Build, Came, Concluded, Given, build_of, unit_at, unit_with_first}
 use Rattle.legal_history.specs.Base.Changes.{targets_of}
 use Rattle.legal_history.specs.Commands.Decisions.{Decision, Begins}
 use Rattle.legal_history.specs.Stories.States.{State, Committed, Faulted, start, with_done, decided, next_command, build_by}
@@ -96,7 +96,7 @@ after_step s (steps.Refused tag refusal) = record s { done = with_done s.done ta
 after_step s (steps.Answer tag text) = record s { done = with_done s.done tag.lane }
 after_step s (steps.Begin tag rows units) = record s { active = with_build s.active tag.lane (begun s tag) }
 after_step s (steps.Start tag n) = record s { active = noted s.active tag.lane (λ build. Some n) (came_by_starting (build_of s.active tag.lane) n) }
-after_step s (steps.Settled tag n outcome) = record s { active = noted s.active tag.lane (λ build. Some n) (Ended outcome) }
+after_step s (steps.Concluded tag n outcome) = record s { active = noted s.active tag.lane (λ build. Some n) (Concluded outcome) }
 after_step s (steps.End tag) = record s { done = with_done s.done tag.lane; active = without_build s.active tag.lane }
 after_step s (steps.Fault tag left before faults tick) = record s {
   done = done_by_fault s.done tag.lane (build_by s tag);
@@ -106,23 +106,23 @@ after_step s (steps.Fault tag left before faults tick) = record s {
 after_step s step = s
 
 -- The state after a step.
-abbrev pub after : State → Told → State
-after s (told.Opened rows counts tells) =
+abbrev pub after : State → StoryStep → State
+after s (story_steps.Opened rows counts tells) =
     record s { opened = Some (record { base = reverse rows; counts = counts; tells = tells }); base = reverse rows }
-after s (told.Plan phase moment) = record s { number = s.number + 1; phase = phase; moment = moment; done = [] }
-after s (told.Commit row tick) = record s {
+after s (story_steps.PhaseBegun phase moment) = record s { number = s.number + 1; phase = phase; moment = moment; done = [] }
+after s (story_steps.Commit row tick) = record s {
   base = row ∷ s.base;
   done = done_after s.done row.tag.lane row.deed;
   active = active_after s.base s.active row.tag.lane row.deed;
   ends = Committed row tick ∷ s.ends;
 }
-after s (told.Other step) = after_step s step
+after s (story_steps.Other step) = after_step s step
 
 -- the state to which a story leads from a state, oldest step first
-abbrev pub state_from : State → List Told → State
+abbrev pub state_from : State → List StoryStep → State
 state_from s [] = s
 state_from s (x ∷ story) = state_from (after s x) story
 
 -- the state to which a story has led
-abbrev pub state_of : List Told → State
+abbrev pub state_of : List StoryStep → State
 state_of story = state_from start story

@@ -1,4 +1,4 @@
-// The laws of a base, taken for itself. Each is the contract of a function with an empty body.
+//! The laws of a base, taken for itself. Each is the contract of a function with an empty body.
 
 ghost use Rattle.legal_history.specs.Laws.BaseLaws.{FirstRowsStayRows, FirstRowsStayRow, FirstRowsStayText, FirstRowsStayCatalog, MoreRowsChangeNothingEarlier, CatalogsAreInOrderVersions, CatalogsAreInOrderCheckouts, ElementHasOneDirectoryVersions, ElementHasOneDirectoryCheckouts, CheckoutIsMadeFromAVersion, HeldObjectIsLive, ReferencesAreCountedByViewsOrder, ReferencesAreCountedByViewsCount, ReferencesAreCountedByViewsViews, ReferencesAreCountedByViewsOnce, ReferencesAreCountedByViewsNone, ReferencesAreCountedByViewsSome, ScrubTakesNoHeldObject, ReachingIsByAWalkWalk, ReachingIsByAWalkFound};
 

@@ -1,4 +1,4 @@
-// The laws of builds in legal stories. Each is the contract of a function with an empty body.
+//! The laws of builds in legal stories. Each is the contract of a function with an empty body.
 
 ghost use Rattle.legal_history.specs.Laws.BuildLaws.{BuildGoesOn, BuildIsLeftByItsEnd, BuildIsFinishedByItsRefusalOrItsEndRefusal, BuildIsFinishedByItsRefusalOrItsEndEnd, BuildIsOfItsCommand, StartedUnitSeesTheSameRun, StartedUnitSeesTheSameSeen, WhatAUnitSeesStaysSeen, WhatAUnitSeesStaysRun, PlaceOfAUnitStays, GivenObjectIsHeld, BuildIsConsistent, BuildAgrees, EndedBuildHasItsOutcomesFromNothing, BuildIsAsFromNothing};
 

@@ -1,4 +1,4 @@
-// The laws of what is decided of a command. Each is the contract of a function with an empty body.
+//! The laws of what is decided of a command. Each is the contract of a function with an empty body.
 
 ghost use Rattle.legal_history.specs.Laws.DecisionLaws.{DecidedRowFits, ScrubListsWhatIsDue, RecordIsLabelledAsListedLabel, RecordIsLabelledAsListedObject, RecordIsLabelledAsListedExactly, RecordIsLabelledAsListedOrder, RecordIsLabelledAsListedSelected, RecordIsLabelledAsListedVersions};
 

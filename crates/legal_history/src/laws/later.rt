@@ -1,4 +1,4 @@
-// The laws of longer stories: what stays, however many steps later. Each is the contract of a function with an empty body.
+//! The laws of longer stories: what stays, however many steps later. Each is the contract of a function with an empty body.
 
 ghost use Rattle.legal_history.specs.Laws.LaterLaws.{StoryGoesLater, LaneIsWithinItsCommands, FinishedLaneStaysFinished, ActiveBuildIsTheSame, WhatAUnitCameToStaysOutcome, WhatAUnitCameToStaysStart, StartedUnitSeesTheSameLaterSeen, StartedUnitSeesTheSameLaterRun};
 

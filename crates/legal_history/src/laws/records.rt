@@ -1,5 +1,5 @@
-// The laws of records: where one is run again, and how it selects. Each is the contract of a function with an empty
-// body.
+//! The laws of records: where one is run again, and how it selects. Each is the contract of a function with an empty
+//! body.
 
 ghost use Rattle.legal_history.specs.Laws.RecordLaws.{CoveredRecordRunsAgain, SelectionByARecordCovers};
 

@@ -1,7 +1,7 @@
-// The laws of reuse: an object that a unit may take in place of a run is worth that run. Each is the contract of a
-// function with an empty body.
+//! The laws of reuse: an object that a unit may take in place of a run is worth that run. Each is the contract of a
+//! function with an empty body.
 
-ghost use Rattle.legal_history.specs.Laws.ReuseLaws.{BaseStaysSoundStays, BaseStaysSoundFromNothing, RowLeavesABaseSound, PublishedObjectIsTrue, MatchingEntryIsSeenRow, MatchingEntryIsSeenAbsent, MatchIsTheRun, ReusableObjectIsTheRun, NoMatchIsPassedOverLive, NoMatchIsPassedOverRecordIsNew, WhatIsReusedIsHeldKept, WhatIsReusedIsHeldWinked, ReuseIsARebuildMatched, ReuseIsARebuildRun, ReuseIsARebuildFromNothing, UnitThatMayTakeAnObjectIsDue, KeptObjectAgreesAgrees, KeptObjectAgreesLives, WinkedObjectAgreesAgrees, WinkedObjectAgreesLives, WinkedObjectAgreesSound};
+ghost use Rattle.legal_history.specs.Laws.ReuseLaws.{BaseStaysSoundStays, BaseStaysSoundFromNothing, RowLeavesABaseSound, PublishedObjectIsTrue, MatchingEntryIsSeenRow, MatchingEntryIsSeenAbsent, MatchIsTheRun, ReusableObjectIsTheRun, NoMatchIsPassedOverLive, NoMatchIsPassedOverRecordIsNew, WhatIsReusedIsHeldKept, WhatIsReusedIsHeldWinked, ReuseIsARebuildMatched, ReuseIsARebuildRun, ReuseIsARebuildFromNothing, UnitThatMayTakeAnObjectMayRun, KeptObjectAgreesAgrees, KeptObjectAgreesLives, WinkedObjectAgreesAgrees, WinkedObjectAgreesLives, WinkedObjectAgreesSound};
 
 /// Promises `BaseStaysSoundStays` and `BaseStaysSoundFromNothing`.
 pub fn a_base_stays_sound()
@@ -54,9 +54,9 @@ pub fn reuse_is_a_rebuild()
     ensures from_nothing { ReuseIsARebuildFromNothing }
 {}
 
-/// Promises `UnitThatMayTakeAnObjectIsDue`.
-pub fn a_unit_that_may_take_an_object_is_due()
-    ensures { UnitThatMayTakeAnObjectIsDue }
+/// Promises `UnitThatMayTakeAnObjectMayRun`.
+pub fn a_unit_that_may_take_an_object_may_run()
+    ensures { UnitThatMayTakeAnObjectMayRun }
 {}
 
 /// Promises `KeptObjectAgreesAgrees` and `KeptObjectAgreesLives`.

@@ -1,4 +1,4 @@
-// The laws of what a stop leaves of a legal story. Each is the contract of a function with an empty body.
+//! The laws of what a stop leaves of a legal story. Each is the contract of a function with an empty body.
 
 ghost use Rattle.legal_history.specs.Laws.StopLaws.{StopLeavesABase, StopLeavesABaseSound, FaultLeavesABaseSound};
 

@@ -1,4 +1,4 @@
-// The laws of legal stories. Each is the contract of a function with an empty body.
+//! The laws of legal stories. Each is the contract of a function with an empty body.
 
 ghost use Rattle.legal_history.specs.Laws.StoryLaws.{StoryGoesOnByALawfulStepOn, StoryGoesOnByALawfulStepLast, BaseFits, BaseOnlyGrowsFront, BaseOnlyGrowsBase, RowsStayWithinTheLimit, TicksRise, ViewHasOneBuild, ScrubOfAStoryListsWhatIsDue, HeldObjectIsLiveAtEachStep};
 

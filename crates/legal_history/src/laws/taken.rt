@@ -1,5 +1,5 @@
-// The laws of the steps by which objects are taken, scripts started and objects published. Each is the contract of a function
-// with an empty body.
+//! The laws of the steps by which objects are taken, scripts started and objects published. Each is the contract of a function
+//! with an empty body.
 
 ghost use Rattle.legal_history.specs.Laws.TakenLaws.{TakenRecordIsSeenKept, TakenRecordIsSeenWinked, NothingIsPassedOverStart, NothingIsPassedOverPublish, NothingIsPassedOverMatch, PublishedRecordIsWhatWasRead, FoundAfterTheStartIsNotHeld};
 

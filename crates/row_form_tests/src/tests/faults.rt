@@ -1,4 +1,4 @@
-// Bytes that spell no row: each field of each deed without a list is wrong in turn. They end with the field that cannot be read.
+//! Bytes that spell no row: each field of each deed without a list is wrong in turn. They end with the field that cannot be read.
 
 /// A first byte, a deed's code, bytes of fields, and the place of the fault. The fields begin at 22.
 pub(crate) type FaultLine = (u8, u8, &'static [u8], u64);

@@ -1,5 +1,5 @@
-// Bytes that spell no row, of the deeds with lists: each field is wrong in turn, each list breaks its rule, and each list has a
-// count that is far too high.
+//! Bytes that spell no row, of the deeds with lists: each field is wrong in turn, each list breaks its rule, and each list has a
+//! count that is far too high.
 
 use crate::tests::faults::FaultLine;
 

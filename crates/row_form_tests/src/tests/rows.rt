@@ -1,4 +1,4 @@
-// Rows of each deed, spelled by hand from the format.
+//! Rows of each deed, spelled by hand from the format.
 
 /// A row: its first byte, its deed's code and the bytes of its fields.
 pub(crate) type RowLine = (u8, u8, &'static [u8]);

@@ -1,7 +1,7 @@
 -- A status other than those of a failed sink and of want of memory comes exactly where its cause does.
 use Rattle.std.proofs.Common.{◌≡◌, ℕ, ◌<◌, ◌≤◌, true, false, Option, Some, None, is_some, List, [], length, refl, ap, arith}
 use Rattle.std.specs.Prelude.{IfSome}
-use Rattle.cc_names.specs.declared.steps.Told.{Told}
+use Rattle.cc_names.specs.declared.steps.StoryStep.{StoryStep}
 use Rattle.disk_model.specs.Devices.{Device, bytes_of}
 use Rattle.disk_model.specs.Told.{Sight, IfTold}
 use Rattle.vob_journal.specs.Frames.{frames}
@@ -16,7 +16,7 @@ use Rattle.session_run.specs.declared.statuses.Status.{Status}
 use Rattle.session_run.specs.declared.statuses.Status.TheVariants as statuses
 
 -- faulty words
-pub bad_words : (status : Status) (intake : Intake) (faults : Change ℕ) (disk : Change Sight) (story : List Told) → HasCause status intake faults disk story → is_cut status ≡ false → is_run intake.words ≡ false → status ≡ statuses.BadWords
+pub bad_words : (status : Status) (intake : Intake) (faults : Change ℕ) (disk : Change Sight) (story : List StoryStep) → HasCause status intake faults disk story → is_cut status ≡ false → is_run intake.words ≡ false → status ≡ statuses.BadWords
 bad_words statuses.Good intake faults disk story h c e = let words = h.0.read.words in absurd (cc)
 bad_words statuses.SomeFailed intake faults disk story h c e = let words = h.0.read.words in absurd (cc)
 bad_words statuses.BadWords intake faults disk story h c e = refl
@@ -29,11 +29,11 @@ bad_words statuses.NoMemory intake faults disk story h c e = absurd (cc)
 bad_words statuses.TooLong intake faults disk story h c e = let words = h.0.words in absurd (cc)
 
 -- where nothing was opened no base was
-none_opened : (story : List Told) → story ≡ [] → is_opened story ≡ true → ⊥
+none_opened : (story : List StoryStep) → story ≡ [] → is_opened story ≡ true → ⊥
 none_opened story empty opened = let closed = ap is_opened empty in absurd (cc)
 
 -- a disk that failed under an opened base
-pub disk_failed : (status : Status) (intake : Intake) (faults : Change ℕ) (disk : Change Sight) (story : List Told) → HasCause status intake faults disk story → is_cut status ≡ false → is_opened story ≡ true → disk_rose disk ≡ true → status ≡ statuses.DiskFault
+pub disk_failed : (status : Status) (intake : Intake) (faults : Change ℕ) (disk : Change Sight) (story : List StoryStep) → HasCause status intake faults disk story → is_cut status ≡ false → is_opened story ≡ true → disk_rose disk ≡ true → status ≡ statuses.DiskFault
 disk_failed statuses.Good intake faults disk story h c o e = let sound = h.2 in absurd (cc)
 disk_failed statuses.SomeFailed intake faults disk story h c o e = let sound = h.2 in absurd (cc)
 disk_failed statuses.BadWords intake faults disk story h c o e = absurd (none_opened story h.2.story_is o)
@@ -46,13 +46,13 @@ disk_failed statuses.NoMemory intake faults disk story h c o e = absurd (cc)
 disk_failed statuses.TooLong intake faults disk story h c o e = absurd (none_opened story h.1.story_is o)
 
 -- a failure in a session that was run through on a disk that did not fail
-pub failed : (status : Status) (intake : Intake) (faults : Change ℕ) (disk : Change Sight) (story : List Told) → HasCause status intake faults disk story → is_through status story ≡ true → disk_rose disk ≡ false → has_failure story ≡ true → status ≡ statuses.SomeFailed
+pub failed : (status : Status) (intake : Intake) (faults : Change ℕ) (disk : Change Sight) (story : List StoryStep) → HasCause status intake faults disk story → is_through status story ≡ true → disk_rose disk ≡ false → has_failure story ≡ true → status ≡ statuses.SomeFailed
 failed statuses.Good intake faults disk story h c s e = let none = h.1 in absurd (cc)
 failed statuses.SomeFailed intake faults disk story h c s e = refl
 failed statuses.DiskFault intake faults disk story h c s e = let rose = h.1 in absurd (cc)
 failed status intake faults disk story h c s e = absurd (cc)
 
-pub good : (status : Status) (intake : Intake) (faults : Change ℕ) (disk : Change Sight) (story : List Told) → HasCause status intake faults disk story → is_through status story ≡ true → disk_rose disk ≡ false → has_failure story ≡ false → status ≡ statuses.Good
+pub good : (status : Status) (intake : Intake) (faults : Change ℕ) (disk : Change Sight) (story : List StoryStep) → HasCause status intake faults disk story → is_through status story ≡ true → disk_rose disk ≡ false → has_failure story ≡ false → status ≡ statuses.Good
 good statuses.Good intake faults disk story h c s e = refl
 good statuses.SomeFailed intake faults disk story h c s e = let some = h.1 in absurd (cc)
 good statuses.DiskFault intake faults disk story h c s e = let rose = h.1 in absurd (cc)
@@ -77,7 +77,7 @@ within_or_not None count tells within is more = absurd (cc)
 within_or_not (Some bytes) count tells within is more = absurd (omega (arith, within, is, more))
 
 -- a damaged journal
-damaged : (status : Status) (intake : Intake) (faults : Change ℕ) (disk : Change Sight) (story : List Told) (row : ℕ) → HasCause status intake faults disk story → IsToldToOpen intake → is_some disk.before.told ≡ true → DiskDamaged disk row → disk_rose disk ≡ false → is_cut status ≡ false → status ≡ statuses.Damaged row
+damaged : (status : Status) (intake : Intake) (faults : Change ℕ) (disk : Change Sight) (story : List StoryStep) (row : ℕ) → HasCause status intake faults disk story → IsToldToOpen intake → is_some disk.before.told ≡ true → DiskDamaged disk row → disk_rose disk ≡ false → is_cut status ≡ false → status ≡ statuses.Damaged row
 damaged statuses.Good intake faults disk story row h o t d s c = absurd (damaged_or_not disk.before.told row t d h.3)
 damaged statuses.SomeFailed intake faults disk story row h o t d s c = absurd (damaged_or_not disk.before.told row t d h.3)
 damaged statuses.BadWords intake faults disk story row h o t d s c = let words = o.asked.read.words in let not = h.0 in absurd (cc)
@@ -89,5 +89,5 @@ damaged statuses.DiskFault intake faults disk story row h o t d s c = let rose =
 damaged statuses.NoMemory intake faults disk story row h o t d s c = absurd (cc)
 damaged statuses.TooLong intake faults disk story row h o t d s c = absurd (within_or_not intake.text.before o.asked.read.count o.text o.asked.read.within o.asked.read.bytes h.0.bytes)
 
-pub finds_damage : (status : Status) (intake : Intake) (faults : Change ℕ) (disk : Change Sight) (story : List Told) → HasCause status intake faults disk story → FindsDamage status intake disk
+pub finds_damage : (status : Status) (intake : Intake) (faults : Change ℕ) (disk : Change Sight) (story : List StoryStep) → HasCause status intake faults disk story → FindsDamage status intake disk
 finds_damage status intake faults disk story h = record { damaged = λ row o t d s c. damaged status intake faults disk story row h o t d s c }

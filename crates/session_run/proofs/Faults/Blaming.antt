@@ -7,8 +7,8 @@ use Rattle.std.specs.List.{list_all}
 use Rattle.cc_names.specs.Formed.{Plain}
 use Rattle.cc_names.specs.declared.steps.Counts.{Counts}
 use Rattle.cc_names.specs.declared.steps.Step.TheVariants as steps
-use Rattle.cc_names.specs.declared.steps.Told.{Told}
-use Rattle.cc_names.specs.declared.steps.Told.TheVariants as told
+use Rattle.cc_names.specs.declared.steps.StoryStep.{StoryStep}
+use Rattle.cc_names.specs.declared.steps.StoryStep.TheVariants as story_steps
 use Rattle.disk_model.specs.Counting.{next_count}
 use Rattle.disk_model.specs.Devices.{Device, Event, Measured, Fetched, Wrote, Tore, Synced, Failed, failures}
 use Rattle.disk_model.specs.Told.{Sight, IfTold, Both, IsCounted, CountsFailures}
@@ -114,15 +114,15 @@ adds_on one two three h k = both_then (Adds may_write) (Adds may_write) (Adds ma
 of_writes : (one two : Option Device) → Both WritesOn one two → Both (Adds may_write) one two
 of_writes one two h = both_map WritesOn (Adds may_write) one two (λ d e w. w.adds) h
 
-step_adds : (step : Told) (old new : Sight) → CountsStep step old new → Both (Adds may_write) old.told new.told
-step_adds (told.Commit row tick) old new h = of_writes old.told new.told h.4
-step_adds (told.Other (steps.Fault tag left before faults tick)) old new h = of_writes old.told new.told h.6
-step_adds (told.Other (steps.Opened n)) old new h = same_adds old new h
-step_adds (told.Other step) old new h = same_adds old new h
-step_adds (told.Opened rows counts tells) old new h = same_adds old new h
-step_adds (told.Plan phase moment) old new h = same_adds old new h
+step_adds : (step : StoryStep) (old new : Sight) → CountsStep step old new → Both (Adds may_write) old.told new.told
+step_adds (story_steps.Commit row tick) old new h = of_writes old.told new.told h.4
+step_adds (story_steps.Other (steps.Fault tag left before faults tick)) old new h = of_writes old.told new.told h.6
+step_adds (story_steps.Other (steps.Opened n)) old new h = same_adds old new h
+step_adds (story_steps.Other step) old new h = same_adds old new h
+step_adds (story_steps.Opened rows counts tells) old new h = same_adds old new h
+step_adds (story_steps.PhaseBegun phase moment) old new h = same_adds old new h
 
-steps_add : (more : List Told) (old new : Sight) → CountsSteps more old new → Both (Adds may_write) old.told new.told
+steps_add : (more : List StoryStep) (old new : Sight) → CountsSteps more old new → Both (Adds may_write) old.told new.told
 steps_add [] old new h = same_adds old new h
 steps_add (step ∷ more) old new h = adds_on old.told h.0.told new.told (step_adds step old h.0 h.1) (steps_add more h.0 new h.2)
 
@@ -153,12 +153,12 @@ module _ (old now : Sight) (d e : Device) (first : IsCounted old) (second : IsCo
   ends_well handed (end ∷ ends) newest settles = settles_behind (may_be_open (end ∷ ends)) (tick_of end) newest.0 newest.1 settles
 
 -- the steps of a history, and the calls of the device as it came back
-blames : (e : Device) (handed : ℕ) (s : State) (more : List Told) (old ended now : Sight) (d : Device) → IsNewest handed (reverse e.calls) s.ends d → old.told ≡ Some d → now.told ≡ Some e → IsCounted old → IsCounted now
+blames : (e : Device) (handed : ℕ) (s : State) (more : List StoryStep) (old ended now : Sight) (d : Device) → IsNewest handed (reverse e.calls) s.ends d → old.told ≡ Some d → now.told ≡ Some e → IsCounted old → IsCounted now
     → CountsSteps more old ended → Settles (may_be_open (state_from s more).ends) ended now
     → FailsAtFaults (failures d.calls) (reverse e.calls) more × RestsBehind handed (state_from s more).ends (reverse e.calls)
 blames e handed s [] old ended now d newest is be first second h settles =
     (tt, ends_well old now d e first second is be handed s.ends newest (subst (λ t. Settles (may_be_open s.ends) t now) h settles))
-blames e handed s (told.Commit row tick ∷ more) old ended now d newest is be first second h settles =
+blames e handed s (story_steps.Commit row tick ∷ more) old ended now d newest is be first second h settles =
     let mid = h.0 in
     let rest = adds_on mid.told ended.told now.told (steps_add more mid ended h.2) (of_writes ended.told now.told settles.writes) in
     let at = told_before (Adds may_write) mid.told now.told e be rest in
@@ -166,9 +166,9 @@ blames e handed s (told.Commit row tick ∷ more) old ended now d newest is be f
     let same = same_failed may_write old mid d at.0 first h.1.3 is at.1 added h.1.2 in
     let ticks : tick ≡ length at.0.calls = h.1.0 ∙ subst (λ told. IfTold told (λ d. mid.ticks ≡ length d.calls)) at.1 h.1.3.told in
     let failed = ap (λ n. failed_by n (reverse e.calls)) ticks ∙ failed_before at.0 (reverse e.calls) (reverse at.2.more) (first_calls may_write at.0 e at.2) in
-    let on = blames e handed (after s (told.Commit row tick)) more mid ended now at.0 (ticks, failed) at.1 be h.1.3 second h.2 settles in
+    let on = blames e handed (after s (story_steps.Commit row tick)) more mid ended now at.0 (ticks, failed) at.1 be h.1.3 second h.2 settles in
     ((failed ∙ same, subst (λ n. FailsAtFaults n (reverse e.calls) more) same on.0), on.1)
-blames e handed s (told.Other (steps.Fault tag left before faults tick) ∷ more) old ended now d newest is be first second h settles =
+blames e handed s (story_steps.Other (steps.Fault tag left before faults tick) ∷ more) old ended now d newest is be first second h settles =
     let mid = h.0 in
     let rest = adds_on mid.told ended.told now.told (steps_add more mid ended h.2) (of_writes ended.told now.told settles.writes) in
     let at = told_before (Adds may_write) mid.told now.told e be rest in
@@ -176,17 +176,17 @@ blames e handed s (told.Other (steps.Fault tag left before faults tick) ∷ more
     let rose : mid.faults ≡ next_count old.faults = sym h.1.1 ∙ h.1.2 ∙ ap next_count h.1.0 in
     let ticks : tick ≡ length at.0.calls = h.1.3 ∙ subst (λ told. IfTold told (λ d. mid.ticks ≡ length d.calls)) at.1 h.1.5.told in
     let failed = ap (λ n. failed_by n (reverse e.calls)) ticks ∙ failed_before at.0 (reverse e.calls) (reverse at.2.more) (first_calls may_write at.0 e at.2) in
-    let on = blames e handed (after s (told.Other (steps.Fault tag left before faults tick))) more mid ended now at.0 (ticks, failed) at.1 be h.1.5 second h.2 settles in
+    let on = blames e handed (after s (story_steps.Other (steps.Fault tag left before faults tick))) more mid ended now at.0 (ticks, failed) at.1 be h.1.5 second h.2 settles in
     let meets : MeetsFault (failures d.calls) before faults tick (reverse e.calls) = λ within.
     let some = some_failed may_write old mid d at.0 first h.1.5 is at.1 added (omega (arith, within, h.1.3)) rose in
     (h.1.0 ∙ some.0, h.1.1 ∙ some.1 ∙ sym failed, omega (arith, h.1.0, h.1.1, some.2)) in
     ((meets, subst (λ n. FailsAtFaults n (reverse e.calls) more) (sym failed) on.0), on.1)
-blames e handed s (told.Other step ∷ more) old ended now d newest is be first second h settles =
-    blames e handed (after s (told.Other step)) more old ended now d newest is be first second (subst (λ t. CountsSteps more t ended) h.1 h.2) settles
-blames e handed s (told.Opened rows counts tells ∷ more) old ended now d newest is be first second h settles =
-    blames e handed (after s (told.Opened rows counts tells)) more old ended now d newest is be first second (subst (λ t. CountsSteps more t ended) h.1 h.2) settles
-blames e handed s (told.Plan phase moment ∷ more) old ended now d newest is be first second h settles =
-    blames e handed (after s (told.Plan phase moment)) more old ended now d newest is be first second (subst (λ t. CountsSteps more t ended) h.1 h.2) settles
+blames e handed s (story_steps.Other step ∷ more) old ended now d newest is be first second h settles =
+    blames e handed (after s (story_steps.Other step)) more old ended now d newest is be first second (subst (λ t. CountsSteps more t ended) h.1 h.2) settles
+blames e handed s (story_steps.Opened rows counts tells ∷ more) old ended now d newest is be first second h settles =
+    blames e handed (after s (story_steps.Opened rows counts tells)) more old ended now d newest is be first second (subst (λ t. CountsSteps more t ended) h.1 h.2) settles
+blames e handed s (story_steps.PhaseBegun phase moment ∷ more) old ended now d newest is be first second h settles =
+    blames e handed (after s (story_steps.PhaseBegun phase moment)) more old ended now d newest is be first second (subst (λ t. CountsSteps more t ended) h.1 h.2) settles
 
 -- the calls of the opening come first, and none of them failed
 all_back : (kind : Event → Bool) (calls : List Event) → list_all kind calls ≡ true → list_all kind (reverse calls) ≡ true
@@ -226,22 +226,22 @@ reads_and_writes (event ∷ reads) writes h k = by (is_read event) (list_all is_
     by false b h on = absurd (cc)
 
 -- the first step is the opening
-first_opens : (first : Told) (rows : List Plain) (counts : Counts) (tells : Bool) → Some first ≡ Some (told.Opened rows counts tells) → first ≡ told.Opened rows counts tells
+first_opens : (first : StoryStep) (rows : List Plain) (counts : Counts) (tells : Bool) → Some first ≡ Some (story_steps.Opened rows counts tells) → first ≡ story_steps.Opened rows counts tells
 first_opens first rows counts tells is = ap (λ o. elim o [ None ↦ first | Some x ↦ x ]) is
 
 -- *Whose fault*, of a session whose base was opened
-pub blamed : (before opened now : Sight) (story : List Told) (rows : List Plain) (counts : Counts) (tells : Bool) → IsCounted before → IsCounted opened → IsCounted now
-    → opened.faults ≡ before.faults → Both (Adds may_read) before.told opened.told → first_step story ≡ Some (told.Opened rows counts tells) → CountsFrom opened now story
+pub blamed : (before opened now : Sight) (story : List StoryStep) (rows : List Plain) (counts : Counts) (tells : Bool) → IsCounted before → IsCounted opened → IsCounted now
+    → opened.faults ≡ before.faults → Both (Adds may_read) before.told opened.told → first_step story ≡ Some (story_steps.Opened rows counts tells) → CountsFrom opened now story
     → IfTold now.told (IsBlamed before.ticks story)
 blamed before opened now story rows counts tells was first second sound reads begins from = by now.told refl
   where
-    is_first : from.first ≡ told.Opened rows counts tells
+    is_first : from.first ≡ story_steps.Opened rows counts tells
     is_first = first_opens from.first rows counts tells (ap first_step (sym from.story_is) ∙ begins)
 
-    story_is : story ≡ told.Opened rows counts tells ∷ from.steps
+    story_is : story ≡ story_steps.Opened rows counts tells ∷ from.steps
     story_is = from.story_is ∙ ap (λ x. x ∷ from.steps) is_first
 
-    settles : Settles (may_be_open (state_from (after start (told.Opened rows counts tells)) from.steps).ends) from.ended now
+    settles : Settles (may_be_open (state_from (after start (story_steps.Opened rows counts tells)) from.steps).ends) from.ended now
     settles = subst (λ s. Settles (may_be_open (state_of s).ends) from.ended now) story_is from.settled
 
     all : Both (Adds may_write) opened.told now.told
@@ -263,7 +263,7 @@ blamed before opened now story rows counts tells was first second sound reads be
         ∙ append_assoc (reverse b.calls) (reverse read.more) (reverse written.more) in
         let failed : failed_by before.ticks (reverse e.calls) ≡ failures d.calls =
         ap (λ n. failed_by n (reverse e.calls)) ticks ∙ failed_before b (reverse e.calls) (reverse read.more ++ reverse written.more) split ∙ sym same in
-        let ends = blames e before.ticks (after start (told.Opened rows counts tells)) from.steps opened from.ended now d (sym failed) at.1 be first second from.counts settles in
+        let ends = blames e before.ticks (after start (story_steps.Opened rows counts tells)) from.steps opened from.ended now d (sym failed) at.1 be first second from.counts settles in
         record {
           opening =
               ap reads_first (ap (λ calls. drop before.ticks calls) split

@@ -1,8 +1,8 @@
 -- What a session leaves of the files.
 use Rattle.std.proofs.Common.{◌≡◌, true, false, Option, Some, None, List, [], ◌∷◌, refl, ap, sym, subst, ◌∙◌}
 use Rattle.cc_names.specs.declared.steps.Step.TheVariants as steps
-use Rattle.cc_names.specs.declared.steps.Told.{Told}
-use Rattle.cc_names.specs.declared.steps.Told.TheVariants as told
+use Rattle.cc_names.specs.declared.steps.StoryStep.{StoryStep}
+use Rattle.cc_names.specs.declared.steps.StoryStep.TheVariants as story_steps
 use Rattle.disk_model.specs.Devices.{Device}
 use Rattle.disk_model.specs.Told.{Sight, Both}
 use Rattle.legal_history.specs.Stories.States.{State, start}
@@ -36,52 +36,52 @@ same_sight : (old new : Sight) → new ≡ old → Both SameObjects old.told new
 same_sight old new e = subst (λ s. Both SameObjects old.told s.told) (sym e) (objects_idle old.told)
 
 -- each step leaves the file of objects
-step_leaves : (step : Told) (old new : Sight) → CountsStep step old new → Both SameObjects old.told new.told
-step_leaves (told.Commit row tick) old new h = of_writes old.told new.told h.4
-step_leaves (told.Other (steps.Fault tag left before faults tick)) old new h = of_writes old.told new.told h.6
-step_leaves (told.Other (steps.Opened n)) old new h = same_sight old new h
-step_leaves (told.Other step) old new h = same_sight old new h
-step_leaves (told.Opened rows counts tells) old new h = same_sight old new h
-step_leaves (told.Plan phase moment) old new h = same_sight old new h
+step_leaves : (step : StoryStep) (old new : Sight) → CountsStep step old new → Both SameObjects old.told new.told
+step_leaves (story_steps.Commit row tick) old new h = of_writes old.told new.told h.4
+step_leaves (story_steps.Other (steps.Fault tag left before faults tick)) old new h = of_writes old.told new.told h.6
+step_leaves (story_steps.Other (steps.Opened n)) old new h = same_sight old new h
+step_leaves (story_steps.Other step) old new h = same_sight old new h
+step_leaves (story_steps.Opened rows counts tells) old new h = same_sight old new h
+step_leaves (story_steps.PhaseBegun phase moment) old new h = same_sight old new h
 
-steps_leave : (more : List Told) (old new : Sight) → CountsSteps more old new → Both SameObjects old.told new.told
+steps_leave : (more : List StoryStep) (old new : Sight) → CountsSteps more old new → Both SameObjects old.told new.told
 steps_leave [] old new h = same_sight old new h
 steps_leave (step ∷ more) old new h = objects_then old.told h.0.told new.told (step_leaves step old h.0 h.1) (steps_leave more h.0 new h.2)
 
 -- steps without a commit and a fault make no call on the disk
-calm_rests : (more : List Told) (old new : Sight) → is_calm more ≡ true → CountsSteps more old new → new ≡ old
+calm_rests : (more : List StoryStep) (old new : Sight) → is_calm more ≡ true → CountsSteps more old new → new ≡ old
 calm_rests [] old new calm h = h
-calm_rests (told.Commit row tick ∷ more) old new calm h = absurd (cc)
-calm_rests (told.Other (steps.Fault tag left before faults tick) ∷ more) old new calm h = absurd (cc)
-calm_rests (told.Other step ∷ more) old new calm h = calm_rests more h.0 new calm h.2 ∙ h.1
-calm_rests (told.Opened rows counts tells ∷ more) old new calm h = calm_rests more h.0 new calm h.2 ∙ h.1
-calm_rests (told.Plan phase moment ∷ more) old new calm h = calm_rests more h.0 new calm h.2 ∙ h.1
+calm_rests (story_steps.Commit row tick ∷ more) old new calm h = absurd (cc)
+calm_rests (story_steps.Other (steps.Fault tag left before faults tick) ∷ more) old new calm h = absurd (cc)
+calm_rests (story_steps.Other step ∷ more) old new calm h = calm_rests more h.0 new calm h.2 ∙ h.1
+calm_rests (story_steps.Opened rows counts tells ∷ more) old new calm h = calm_rests more h.0 new calm h.2 ∙ h.1
+calm_rests (story_steps.PhaseBegun phase moment ∷ more) old new calm h = calm_rests more h.0 new calm h.2 ∙ h.1
 
 -- and add no end
-calm_ends : (s : State) (more : List Told) → is_calm more ≡ true → (state_from s more).ends ≡ s.ends
+calm_ends : (s : State) (more : List StoryStep) → is_calm more ≡ true → (state_from s more).ends ≡ s.ends
 calm_ends s [] calm = refl
-calm_ends s (told.Commit row tick ∷ more) calm = absurd (cc)
-calm_ends s (told.Other (steps.Fault tag left before faults tick) ∷ more) calm = absurd (cc)
-calm_ends s (told.Other step ∷ more) calm = calm_ends (after s (told.Other step)) more calm
-calm_ends s (told.Opened rows counts tells ∷ more) calm = calm_ends (after s (told.Opened rows counts tells)) more calm
-calm_ends s (told.Plan phase moment ∷ more) calm = calm_ends (after s (told.Plan phase moment)) more calm
+calm_ends s (story_steps.Commit row tick ∷ more) calm = absurd (cc)
+calm_ends s (story_steps.Other (steps.Fault tag left before faults tick) ∷ more) calm = absurd (cc)
+calm_ends s (story_steps.Other step ∷ more) calm = calm_ends (after s (story_steps.Other step)) more calm
+calm_ends s (story_steps.Opened rows counts tells ∷ more) calm = calm_ends (after s (story_steps.Opened rows counts tells)) more calm
+calm_ends s (story_steps.PhaseBegun phase moment ∷ more) calm = calm_ends (after s (story_steps.PhaseBegun phase moment)) more calm
 
 -- a calm story that begins with an opening has no fault
-calm_story : (story : List Told) (first : Told) (more : List Told) → story ≡ first ∷ more → is_calm story ≡ true → (is_calm more ≡ true) × (may_be_open (state_of story).ends ≡ false)
+calm_story : (story : List StoryStep) (first : StoryStep) (more : List StoryStep) → story ≡ first ∷ more → is_calm story ≡ true → (is_calm more ≡ true) × (may_be_open (state_of story).ends ≡ false)
 calm_story story first more is calm = subst (λ s. is_calm s ≡ true → (is_calm more ≡ true) × (may_be_open (state_of s).ends ≡ false)) (sym is) (by first) calm
   where
-    none : (x : Told) → is_calm more ≡ true → (after start x).ends ≡ [] → may_be_open (state_from (after start x) more).ends ≡ false
+    none : (x : StoryStep) → is_calm more ≡ true → (after start x).ends ≡ [] → may_be_open (state_from (after start x) more).ends ≡ false
     none x calm empty = ap may_be_open (calm_ends (after start x) more calm ∙ empty)
 
-    by : (x : Told) → is_calm (x ∷ more) ≡ true → (is_calm more ≡ true) × (may_be_open (state_of (x ∷ more)).ends ≡ false)
-    by (told.Commit row tick) calm = absurd (cc)
-    by (told.Other (steps.Fault tag left before faults tick)) calm = absurd (cc)
-    by (told.Other step) calm = (calm, none (told.Other step) calm refl)
-    by (told.Opened rows counts tells) calm = (calm, none (told.Opened rows counts tells) calm refl)
-    by (told.Plan phase moment) calm = (calm, none (told.Plan phase moment) calm refl)
+    by : (x : StoryStep) → is_calm (x ∷ more) ≡ true → (is_calm more ≡ true) × (may_be_open (state_of (x ∷ more)).ends ≡ false)
+    by (story_steps.Commit row tick) calm = absurd (cc)
+    by (story_steps.Other (steps.Fault tag left before faults tick)) calm = absurd (cc)
+    by (story_steps.Other step) calm = (calm, none (story_steps.Other step) calm refl)
+    by (story_steps.Opened rows counts tells) calm = (calm, none (story_steps.Opened rows counts tells) calm refl)
+    by (story_steps.PhaseBegun phase moment) calm = (calm, none (story_steps.PhaseBegun phase moment) calm refl)
 
 -- The files of a session whose base was opened
-pub keeps_files : (disk : Change Sight) (opened : Sight) (story : List Told) → Both SameFiles disk.before.told opened.told → CountsFrom opened disk.after story → KeepsFiles disk story
+pub keeps_files : (disk : Change Sight) (opened : Sight) (story : List StoryStep) → Both SameFiles disk.before.told opened.told → CountsFrom opened disk.after story → KeepsFiles disk story
 keeps_files disk opened story same counted = record {
   objects =
       objects_then disk.before.told opened.told disk.after.told (of_files disk.before.told opened.told same)

@@ -5,8 +5,8 @@ use Rattle.std.proofs.lemmas.Bool.Decides.{nat_tests}
 use Rattle.cc_names.specs.Formed.{Plain}
 use Rattle.cc_names.specs.declared.steps.Counts.{Counts}
 use Rattle.cc_names.specs.declared.steps.Step.TheVariants as steps
-use Rattle.cc_names.specs.declared.steps.Told.{Told}
-use Rattle.cc_names.specs.declared.steps.Told.TheVariants as told
+use Rattle.cc_names.specs.declared.steps.StoryStep.{StoryStep}
+use Rattle.cc_names.specs.declared.steps.StoryStep.TheVariants as story_steps
 use Rattle.disk_model.specs.Devices.{Device, MayLeave, bytes_of, file_of}
 use Rattle.disk_model.specs.Files.{IsImage, stable}
 use Rattle.disk_model.specs.Told.{Sight, Both, IfTold, IsCounted}
@@ -29,63 +29,63 @@ use Rattle.session_run.specs.Promises.Headline.{BeginsOn}
 use Rattle.session_run.specs.Story.Begun.{first_step, is_opened}
 
 -- each fault of a story has a rise of its own
-apart_from : (s : State) (story : List Told) → is_some s.opened ≡ true → LegalFrom s story → AreApart (faults_of s.opened s.ends) (rises_of story) (faults_of (state_from s story).opened (state_from s story).ends)
+apart_from : (s : State) (story : List StoryStep) → is_some s.opened ≡ true → LegalFrom s story → AreApart (faults_of s.opened s.ends) (rises_of story) (faults_of (state_from s story).opened (state_from s story).ends)
 apart_from s [] opened legal = omega arith
-apart_from s (told.Opened rows counts tells ∷ story) opened legal = let first = legal.0.first in absurd (cc)
-apart_from s (told.Plan phase moment ∷ story) opened legal = apart_from (after s (told.Plan phase moment)) story opened legal.1
-apart_from s (told.Commit row tick ∷ story) opened legal = apart_from (after s (told.Commit row tick)) story opened legal.1
-apart_from s (told.Other (steps.Fault tag left before faults tick) ∷ story) opened legal = (
+apart_from s (story_steps.Opened rows counts tells ∷ story) opened legal = let first = legal.0.first in absurd (cc)
+apart_from s (story_steps.PhaseBegun phase moment ∷ story) opened legal = apart_from (after s (story_steps.PhaseBegun phase moment)) story opened legal.1
+apart_from s (story_steps.Commit row tick ∷ story) opened legal = apart_from (after s (story_steps.Commit row tick)) story opened legal.1
+apart_from s (story_steps.Other (steps.Fault tag left before faults tick) ∷ story) opened legal = (
   legal.0.later,
   legal.0.rose,
-  apart_from (after s (told.Other (steps.Fault tag left before faults tick))) story opened legal.1,
+  apart_from (after s (story_steps.Other (steps.Fault tag left before faults tick))) story opened legal.1,
 )
-apart_from s (told.Other step ∷ story) opened legal = apart_from (after s (told.Other step)) story opened legal.1
+apart_from s (story_steps.Other step ∷ story) opened legal = apart_from (after s (story_steps.Other step)) story opened legal.1
 
 apart_wider : (low : ℕ) (rs : List (ℕ × ℕ)) (high most : ℕ) → AreApart low rs high → high ≤ most → AreApart low rs most
 apart_wider low [] high most h le = omega arith
 apart_wider low (rise ∷ rs) high most h le = (h.0, h.1, apart_wider rise.1 rs high most h.2 le)
 
 -- the base stays the one that was opened
-opened_stays : (s : State) (story : List Told) → is_some s.opened ≡ true → LegalFrom s story → (state_from s story).opened ≡ s.opened
+opened_stays : (s : State) (story : List StoryStep) → is_some s.opened ≡ true → LegalFrom s story → (state_from s story).opened ≡ s.opened
 opened_stays s [] opened legal = refl
-opened_stays s (told.Opened rows counts tells ∷ story) opened legal = let first = legal.0.first in absurd (cc)
-opened_stays s (told.Plan phase moment ∷ story) opened legal = opened_stays (after s (told.Plan phase moment)) story opened legal.1
-opened_stays s (told.Commit row tick ∷ story) opened legal = opened_stays (after s (told.Commit row tick)) story opened legal.1
-opened_stays s (told.Other (steps.Fault tag left before faults tick) ∷ story) opened legal = opened_stays (after s (told.Other (steps.Fault tag left before faults tick))) story opened legal.1
-opened_stays s (told.Other step ∷ story) opened legal = opened_stays (after s (told.Other step)) story opened legal.1
+opened_stays s (story_steps.Opened rows counts tells ∷ story) opened legal = let first = legal.0.first in absurd (cc)
+opened_stays s (story_steps.PhaseBegun phase moment ∷ story) opened legal = opened_stays (after s (story_steps.PhaseBegun phase moment)) story opened legal.1
+opened_stays s (story_steps.Commit row tick ∷ story) opened legal = opened_stays (after s (story_steps.Commit row tick)) story opened legal.1
+opened_stays s (story_steps.Other (steps.Fault tag left before faults tick) ∷ story) opened legal = opened_stays (after s (story_steps.Other (steps.Fault tag left before faults tick))) story opened legal.1
+opened_stays s (story_steps.Other step ∷ story) opened legal = opened_stays (after s (story_steps.Other step)) story opened legal.1
 
 -- a story without a fault leaves no row behind
-none_hangs : (s : State) (story : List Told) → hanging s.ends ≡ None → rises_of story ≡ [] → hanging (state_from s story).ends ≡ None
+none_hangs : (s : State) (story : List StoryStep) → hanging s.ends ≡ None → rises_of story ≡ [] → hanging (state_from s story).ends ≡ None
 none_hangs s [] none sound = none
-none_hangs s (told.Opened rows counts tells ∷ story) none sound = none_hangs (after s (told.Opened rows counts tells)) story none sound
-none_hangs s (told.Plan phase moment ∷ story) none sound = none_hangs (after s (told.Plan phase moment)) story none sound
-none_hangs s (told.Commit row tick ∷ story) none sound = none_hangs (after s (told.Commit row tick)) story refl sound
-none_hangs s (told.Other (steps.Fault tag left before faults tick) ∷ story) none sound = absurd (cc)
-none_hangs s (told.Other step ∷ story) none sound = none_hangs (after s (told.Other step)) story none sound
+none_hangs s (story_steps.Opened rows counts tells ∷ story) none sound = none_hangs (after s (story_steps.Opened rows counts tells)) story none sound
+none_hangs s (story_steps.PhaseBegun phase moment ∷ story) none sound = none_hangs (after s (story_steps.PhaseBegun phase moment)) story none sound
+none_hangs s (story_steps.Commit row tick ∷ story) none sound = none_hangs (after s (story_steps.Commit row tick)) story refl sound
+none_hangs s (story_steps.Other (steps.Fault tag left before faults tick) ∷ story) none sound = absurd (cc)
+none_hangs s (story_steps.Other step ∷ story) none sound = none_hangs (after s (story_steps.Other step)) story none sound
 
 -- what a story that begins with this opening came from
 abbrev pub opening_of : List Plain → Counts → Bool → Opening
 opening_of rows counts tells = record { base = reverse rows; counts = counts; tells = tells }
 
 -- of a legal story that begins with an opening
-pub record IsBegun (story : List Told) (rows : List Plain) (counts : Counts) (tells : Bool) : Type 0 where
+pub record IsBegun (story : List StoryStep) (rows : List Plain) (counts : Counts) (tells : Bool) : Type 0 where
   pub opened : (state_of story).opened ≡ Some (opening_of rows counts tells)
   apart : AreApart counts.faults (rises_of story) (faults_of (state_of story).opened (state_of story).ends)
 
-pub is_begun : (story : List Told) (rows : List Plain) (counts : Counts) (tells : Bool) → first_step story ≡ Some (told.Opened rows counts tells) → Legal story → IsBegun story rows counts tells
+pub is_begun : (story : List StoryStep) (rows : List Plain) (counts : Counts) (tells : Bool) → first_step story ≡ Some (story_steps.Opened rows counts tells) → Legal story → IsBegun story rows counts tells
 is_begun [] rows counts tells first legal = absurd (cc)
 is_begun (x ∷ story) rows counts tells first legal = subst (λ y. IsBegun (y ∷ story) rows counts tells) (sym same) (begun (subst (λ y. Legal (y ∷ story)) same legal))
   where
-    same : x ≡ told.Opened rows counts tells
+    same : x ≡ story_steps.Opened rows counts tells
     same = cc
 
-    begun : Legal (told.Opened rows counts tells ∷ story) → IsBegun (told.Opened rows counts tells ∷ story) rows counts tells
+    begun : Legal (story_steps.Opened rows counts tells ∷ story) → IsBegun (story_steps.Opened rows counts tells ∷ story) rows counts tells
     begun legal = record {
-      opened = opened_stays (after start (told.Opened rows counts tells)) story refl legal.1;
-      apart = apart_from (after start (told.Opened rows counts tells)) story refl legal.1;
+      opened = opened_stays (after start (story_steps.Opened rows counts tells)) story refl legal.1;
+      apart = apart_from (after start (story_steps.Opened rows counts tells)) story refl legal.1;
     }
 
-none_without : (story : List Told) → rises_of story ≡ [] → hanging (state_of story).ends ≡ None
+none_without : (story : List StoryStep) → rises_of story ≡ [] → hanging (state_of story).ends ≡ None
 none_without story sound = none_hangs start story refl sound
 
 same_counts : (one : Opening) (rows : List Plain) (counts : Counts) (tells : Bool) (found : Option Opening) → found ≡ Some one → found ≡ Some (opening_of rows counts tells) → (one.counts ≡ counts) × (one.tells ≡ tells)
@@ -99,7 +99,7 @@ told_map None P Q h f = tt
 told_map (Some d) P Q h f = f d h
 
 -- A stop finds a prefix of what was committed, where the base of the disk was opened
-pub keeps_prefix : (before now : Sight) (story : List Told) → BeginsOn before story → Legal story → IsAccounted (state_of story) now → IsMended (state_of story) now → AllOpenAgain story → IsStopped before now story
+pub keeps_prefix : (before now : Sight) (story : List StoryStep) → BeginsOn before story → Legal story → IsAccounted (state_of story) now → IsMended (state_of story) now → AllOpenAgain story → IsStopped before now story
 keeps_prefix before now story begins legal accounted mended again = record {
   tells = sym accounted.tells ∙ counts.1 ∙ begins.on.tells;
   on_base = λ opened. record {
@@ -128,7 +128,7 @@ keeps_prefix before now story begins legal accounted mended again = record {
     counts : (accounted.opening.counts ≡ begins.handed.counts) × (accounted.opening.tells ≡ begins.handed.tells)
     counts = same_counts accounted.opening (oldest_first begins.base) begins.handed.counts begins.handed.tells (state_of story).opened accounted.opened begun.opened
 
-    not_closed : (xs : List Told) → first_step xs ≡ Some (told.Opened (oldest_first begins.base) begins.handed.counts begins.handed.tells) → is_opened xs ≡ false → ⊥
+    not_closed : (xs : List StoryStep) → first_step xs ≡ Some (story_steps.Opened (oldest_first begins.base) begins.handed.counts begins.handed.tells) → is_opened xs ≡ false → ⊥
     not_closed [] first closed = cc
     not_closed (x ∷ xs) first closed = cc
 
@@ -156,7 +156,7 @@ stays_untouched disk counted handed = record {
   files = λ closed. told_stay disk.told;
 }
 
-pub stays_closed : (before now : Sight) (story : List Told) → story ≡ [] → is_some now.told ≡ is_some before.told → KeepsFrames before now → Both SameFiles before.told now.told → IsStopped before now story
+pub stays_closed : (before now : Sight) (story : List StoryStep) → story ≡ [] → is_some now.told ≡ is_some before.told → KeepsFrames before now → Both SameFiles before.told now.told → IsStopped before now story
 stays_closed before now story empty tells frames files = record {
   tells = tells;
   on_base = λ opened. absurd (not_opened story empty opened);
@@ -164,7 +164,7 @@ stays_closed before now story empty tells frames files = record {
   files = λ closed. files;
 }
   where
-    not_opened : (xs : List Told) → xs ≡ [] → is_opened xs ≡ true → ⊥
+    not_opened : (xs : List StoryStep) → xs ≡ [] → is_opened xs ≡ true → ⊥
     not_opened [] e opened = cc
     not_opened (x ∷ xs) e opened = cc
 

@@ -6,8 +6,8 @@ use Rattle.cc_names.specs.declared.rows.Deed.TheVariants as deeds
 use Rattle.cc_names.specs.declared.rows.Tag.{Tag}
 use Rattle.cc_names.specs.declared.steps.Counts.{Counts}
 use Rattle.cc_names.specs.declared.steps.Step.TheVariants as steps
-use Rattle.cc_names.specs.declared.steps.Told.{Told}
-use Rattle.cc_names.specs.declared.steps.Told.TheVariants as told
+use Rattle.cc_names.specs.declared.steps.StoryStep.{StoryStep}
+use Rattle.cc_names.specs.declared.steps.StoryStep.TheVariants as story_steps
 use Rattle.disk_model.specs.Devices.{Event, Measured, Fetched, Wrote, Synced, Failed, Device}
 use Rattle.session_run.specs.Faults.Blamed.{IsBlamed, reads_first}
 
@@ -32,17 +32,17 @@ device calls = record { journal = []; objects = []; calls = reverse calls }
 calls : List Event
 calls = Measured 0 ∷ put ++ put ++ Wrote 0 0 1 (0 ∷ []) ∷ Failed ∷ put ++ put ++ put
 
-opened : Told
-opened = told.Opened [] no_counts true
+opened : StoryStep
+opened = story_steps.Opened [] no_counts true
 
-fault : ℕ → ℕ → ℕ → ℕ → Told
-fault command before faults tick = told.Other (steps.Fault (tag command) None before faults tick)
+fault : ℕ → ℕ → ℕ → ℕ → StoryStep
+fault command before faults tick = story_steps.Other (steps.Fault (tag command) None before faults tick)
 
 -- one whose row may be found until the tail is settled
-leaving : ℕ → ℕ → ℕ → ℕ → Told
-leaving command before faults tick = told.Other (steps.Fault (tag command) (Some (row command)) before faults tick)
+leaving : ℕ → ℕ → ℕ → ℕ → StoryStep
+leaving command before faults tick = story_steps.Other (steps.Fault (tag command) (Some (row command)) before faults tick)
 
-good : IsBlamed 0 (opened ∷ told.Commit (row 1) 5 ∷ fault 2 0 1 7 ∷ told.Commit (row 3) 13 ∷ []) (device calls)
+good : IsBlamed 0 (opened ∷ story_steps.Commit (row 1) 5 ∷ fault 2 0 1 7 ∷ story_steps.Commit (row 3) 13 ∷ []) (device calls)
 unfolding device calls put opened fault
 good = record { opening = refl; ends = (refl, (λ within. (refl, refl, refl), (refl, tt))); behind = refl }
 
@@ -51,11 +51,11 @@ broken : List Event → Device
 broken more = device (Measured 0 ∷ put ++ put ++ put ++ Wrote 0 0 1 (0 ∷ []) ∷ Failed ∷ more)
 
 -- the tail that it left open is settled, or a call of that fails
-settling : IsBlamed 0 (opened ∷ told.Commit (row 1) 5 ∷ leaving 2 0 1 9 ∷ []) (broken put)
+settling : IsBlamed 0 (opened ∷ story_steps.Commit (row 1) 5 ∷ leaving 2 0 1 9 ∷ []) (broken put)
 unfolding device broken put opened leaving
 settling = record { opening = refl; ends = (refl, (λ within. (refl, refl, refl), tt)); behind = (omega arith, omega arith) }
 
-settling_fails : IsBlamed 0 (opened ∷ told.Commit (row 1) 5 ∷ leaving 2 0 1 9 ∷ []) (broken (Failed ∷ []))
+settling_fails : IsBlamed 0 (opened ∷ story_steps.Commit (row 1) 5 ∷ leaving 2 0 1 9 ∷ []) (broken (Failed ∷ []))
 unfolding device broken put opened leaving
 settling_fails = record { opening = refl; ends = (refl, (λ within. (refl, refl, refl), tt)); behind = (omega arith, omega arith) }
 
@@ -66,18 +66,18 @@ as_opened = record { opening = refl; ends = (λ within. (refl, refl, refl), tt);
 
 -- The dodge: a failed append is tried once more, its row committed by tick 9, and the fault told of the next command, at
 -- whatever tick and with whatever counts.
-dodge : (before faults tick : ℕ) → IsBlamed 0 (opened ∷ told.Commit (row 1) 9 ∷ fault 2 before faults tick ∷ []) (device (Measured 0 ∷ Wrote 0 0 1 (0 ∷ []) ∷ Failed ∷ put ++ put ++ put)) → ⊥
+dodge : (before faults tick : ℕ) → IsBlamed 0 (opened ∷ story_steps.Commit (row 1) 9 ∷ fault 2 before faults tick ∷ []) (device (Measured 0 ∷ Wrote 0 0 1 (0 ∷ []) ∷ Failed ∷ put ++ put ++ put)) → ⊥
 unfolding device put opened fault
 dodge before faults tick h = absurd (omega (arith, h.ends.0))
 
 -- or it is told of no command
-unblamed : IsBlamed 0 (opened ∷ told.Commit (row 1) 5 ∷ []) (device (Measured 0 ∷ put ++ put ++ Failed ∷ [])) → ⊥
+unblamed : IsBlamed 0 (opened ∷ story_steps.Commit (row 1) 5 ∷ []) (device (Measured 0 ∷ put ++ put ++ Failed ∷ [])) → ⊥
 unfolding device put opened
 unblamed h = absurd (omega (arith, h.behind))
 
 -- Or the fault before takes it in: the sync of tick 7 fails under command 2, the write of tick 8 under command 3, which is answered by
 -- something else, and the fault is told with both.
-taken_in : (before faults : ℕ) → IsBlamed 0 (opened ∷ told.Commit (row 1) 5 ∷ fault 2 before faults 8 ∷ []) (device (Measured 0 ∷ put ++ put ++ Wrote 0 0 1 (0 ∷ []) ∷ Failed ∷ Failed ∷ [])) → ⊥
+taken_in : (before faults : ℕ) → IsBlamed 0 (opened ∷ story_steps.Commit (row 1) 5 ∷ fault 2 before faults 8 ∷ []) (device (Measured 0 ∷ put ++ put ++ Wrote 0 0 1 (0 ∷ []) ∷ Failed ∷ Failed ∷ [])) → ⊥
 unfolding device put opened fault
 taken_in before faults h =
     let meets = h.ends.1.0 (omega arith) in
@@ -85,21 +85,21 @@ taken_in before faults h =
 
 -- Or it hides behind the last fault, which left nothing: the write of tick 8 fails under command 3, which is answered by want of
 -- memory.
-hidden : IsBlamed 0 (opened ∷ told.Commit (row 1) 5 ∷ fault 2 0 1 7 ∷ []) (device (Measured 0 ∷ put ++ put ++ Wrote 0 0 1 (0 ∷ []) ∷ Failed ∷ Failed ∷ [])) → ⊥
+hidden : IsBlamed 0 (opened ∷ story_steps.Commit (row 1) 5 ∷ fault 2 0 1 7 ∷ []) (device (Measured 0 ∷ put ++ put ++ Wrote 0 0 1 (0 ∷ []) ∷ Failed ∷ Failed ∷ [])) → ⊥
 unfolding device put opened fault
 hidden h = absurd (omega (arith, h.behind))
 
 -- or behind one that left a row, and the tail is settled then, or that fails too
-hidden_and_settled : IsBlamed 0 (opened ∷ told.Commit (row 1) 5 ∷ leaving 2 0 1 9 ∷ []) (broken (Failed ∷ put)) → ⊥
+hidden_and_settled : IsBlamed 0 (opened ∷ story_steps.Commit (row 1) 5 ∷ leaving 2 0 1 9 ∷ []) (broken (Failed ∷ put)) → ⊥
 unfolding device broken put opened leaving
 hidden_and_settled h = absurd (omega (arith, h.behind.0))
 
-hidden_and_not_settled : IsBlamed 0 (opened ∷ told.Commit (row 1) 5 ∷ leaving 2 0 1 9 ∷ []) (broken (Failed ∷ Failed ∷ [])) → ⊥
+hidden_and_not_settled : IsBlamed 0 (opened ∷ story_steps.Commit (row 1) 5 ∷ leaving 2 0 1 9 ∷ []) (broken (Failed ∷ Failed ∷ [])) → ⊥
 unfolding device broken put opened leaving
 hidden_and_not_settled h = absurd (omega (arith, h.behind.1))
 
 -- no call stands behind the last commit, whether it failed or not
-behind_commit : IsBlamed 0 (opened ∷ told.Commit (row 1) 5 ∷ []) (device (Measured 0 ∷ put ++ put ++ put)) → ⊥
+behind_commit : IsBlamed 0 (opened ∷ story_steps.Commit (row 1) 5 ∷ []) (device (Measured 0 ∷ put ++ put ++ put)) → ⊥
 unfolding device put opened
 behind_commit h = absurd (omega (arith, h.behind))
 
@@ -114,6 +114,6 @@ reread = refl
 
 -- What calls cannot tell: one that was made without need under a query, and failed, may be told of the command behind the query, since
 -- these are the calls of a run that is right. The calls of the core tell it.
-without_need : IsBlamed 0 (opened ∷ told.Other (steps.Answer (tag 1) []) ∷ fault 2 0 1 2 ∷ []) (device (Measured 0 ∷ Failed ∷ []))
+without_need : IsBlamed 0 (opened ∷ story_steps.Other (steps.Answer (tag 1) []) ∷ fault 2 0 1 2 ∷ []) (device (Measured 0 ∷ Failed ∷ []))
 unfolding device opened fault
 without_need = record { opening = refl; ends = (λ within. (refl, refl, refl), tt); behind = (omega arith, omega arith) }

@@ -1,7 +1,7 @@
 -- A call begins on a sound base where the call did whose leavings it opens.
 use Rattle.std.proofs.Common.{◌≡◌, ℕ, ◌<◌, true, Option, Some, List, [], ◌∷◌, refl, ap, sym, subst, ◌∙◌}
 use Rattle.std.proofs.lemmas.List.{reverse-reverse}
-use Rattle.cc_names.specs.declared.steps.Told.{Told}
+use Rattle.cc_names.specs.declared.steps.StoryStep.{StoryStep}
 use Rattle.disk_model.specs.Devices.{Device, MayLeave, bytes_of}
 use Rattle.disk_model.specs.Told.{Sight, IfTold}
 use Rattle.legal_history.specs.Base.Values.{IsSound}
@@ -19,7 +19,7 @@ use Rattle.session_run.specs.declared.statuses.Status.{Status}
 use Rattle.session_run.proofs.Faults.Stopping.{is_begun, opening_of}
 
 -- a story that opened a base has a first step
-has_opened : (story : List Told) (opening : Opening) → (state_of story).opened ≡ Some opening → is_opened story ≡ true
+has_opened : (story : List StoryStep) (opening : Opening) → (state_of story).opened ≡ Some opening → is_opened story ≡ true
 has_opened [] opening is = absurd (cc)
 has_opened (x ∷ story) opening is = refl
 
@@ -27,7 +27,7 @@ told_so : (told : Option Device) (device : Device) (P : Device → Type 0) → t
 told_so told device P is h = subst (λ t. IfTold t P) is h
 
 -- the base that was opened is the one on which the history begins
-opened_on : (disk : Sight) (story : List Told) (opened : Opening) (status : Status) (held holds : Option (List ℕ)) (history : IsOneHistory status story disk held holds) (is : (state_of story).opened ≡ Some opened) →
+opened_on : (disk : Sight) (story : List StoryStep) (opened : Opening) (status : Status) (held holds : Option (List ℕ)) (history : IsOneHistory status story disk held holds) (is : (state_of story).opened ≡ Some opened) →
     opened.base ≡ (history.base (has_opened story opened is)).base
 opened_on disk story opened status held holds history is =
     let begins : BeginsOn disk story = history.base (has_opened story opened is) in

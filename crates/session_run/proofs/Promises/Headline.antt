@@ -8,8 +8,8 @@ use Rattle.cc_names.specs.declared.memory.Or.{Or}
 use Rattle.cc_names.specs.declared.memory.Or.TheVariants.{NoMemory, Is}
 use Rattle.cc_names.specs.declared.refusals.SessionError.{SessionError}
 use Rattle.cc_names.specs.declared.refusals.SessionCause.TheVariants as causes
-use Rattle.cc_names.specs.declared.steps.Told.{Told}
-use Rattle.cc_names.specs.declared.steps.Told.TheVariants as told
+use Rattle.cc_names.specs.declared.steps.StoryStep.{StoryStep}
+use Rattle.cc_names.specs.declared.steps.StoryStep.TheVariants as story_steps
 use Rattle.cc_names.specs.Counts.{Rose, raised, rises}
 use Rattle.cc_outside.specs.Feeds.{AppendsFront}
 use Rattle.cc_outside.specs.declared.sinks.WriteFault.{WriteFault}
@@ -66,7 +66,7 @@ abbrev readings_of : Outside → Change ℕ
 readings_of outside = record { before = outside.first; after = outside.reading }
 
 -- The session, where the phases were run
-session_run : (status : Status) (story : List Told) (phases : List Phase) (intake : Intake) (outside : Outside) (failed : Bool) → GivesPhases intake phases → HasRunPhases phases story outside failed → IsSession status story intake outside.moments (readings_of outside)
+session_run : (status : Status) (story : List StoryStep) (phases : List Phase) (intake : Intake) (outside : Outside) (failed : Bool) → GivesPhases intake phases → HasRunPhases phases story outside failed → IsSession status story intake outside.moments (readings_of outside)
 session_run status story phases intake outside failed gives ran = record {
   begun = λ words. told_so intake.text.before _ (λ bytes. IsFront (phases_begun story) (phases_spelled bytes)) gives.spelled (λ bytes e. ([], e ∙ sym ran.phases_are ∙ sym (append-nil (phases_begun story))));
   all = λ words through. told_so intake.text.before _ (λ bytes. phases_begun story ≡ phases_spelled bytes) gives.spelled (λ bytes e. ran.phases_are ∙ sym e);
@@ -77,7 +77,7 @@ session_run status story phases intake outside failed gives ran = record {
   read = let times = ran.reading_is ∙ ap (raised outside.first) (sym (ap length ran.phases_are)) in record { once = λ other. times; most = inl times };
 }
 
-session_cut : (status : Status) (cut : Or WriteFault) (story : List Told) (phases : List Phase) (intake : Intake) (outside : Outside) → is_through status story ≡ false → GivesPhases intake phases → IsRunGivenUp cut phases story outside → ReadsClock status story (readings_of outside) → IsSession status story intake outside.moments (readings_of outside)
+session_cut : (status : Status) (cut : Or WriteFault) (story : List StoryStep) (phases : List Phase) (intake : Intake) (outside : Outside) → is_through status story ≡ false → GivesPhases intake phases → IsRunGivenUp cut phases story outside → ReadsClock status story (readings_of outside) → IsSession status story intake outside.moments (readings_of outside)
 session_cut status cut story phases intake outside not gives left read = record {
   begun = λ words. told_so intake.text.before _ (λ bytes. IsFront (phases_begun story) (phases_spelled bytes)) gives.spelled (λ bytes e. (left.begun.0, e ∙ left.begun.1));
   all = λ words through. not_false (is_through status story) through not;
@@ -90,12 +90,12 @@ session_none : (status : Status) (intake : Intake) (outside : Outside) → is_th
 session_none status intake outside not unread = record {
   begun = λ words. always intake.text.before (λ bytes. IsFront [] (phases_spelled bytes)) (λ bytes. (phases_spelled bytes, refl));
   all = λ words through. not_false (is_through status []) through not;
-  none = λ words. always intake.text.before (λ bytes. let none : List Told = [] in is_session bytes ≡ false → none ≡ []) (λ bytes e. refl);
+  none = λ words. always intake.text.before (λ bytes. let none : List StoryStep = [] in is_session bytes ≡ false → none ≡ []) (λ bytes e. refl);
   moments = always outside.moments (λ told. let none : List ℕ = [] in none ≡ clock_moments told outside.first 0) (λ told. refl);
   read = let times = unread ∙ sym (raised_none outside.first) in record { once = λ other. times; most = inl times };
 }
 
-run_session : (result : Result Bool (Or WriteFault)) (rose : Bool) (story : List Told) (phases : List Phase) (intake : Intake) (outside : Outside) → GivesPhases intake phases → HasRunSo result phases story outside → IsSession (run_status result rose) story intake outside.moments (readings_of outside)
+run_session : (result : Result Bool (Or WriteFault)) (rose : Bool) (story : List StoryStep) (phases : List Phase) (intake : Intake) (outside : Outside) → GivesPhases intake phases → HasRunSo result phases story outside → IsSession (run_status result rose) story intake outside.moments (readings_of outside)
 run_session (Ok failed) rose story phases intake outside gives ran = session_run _ story phases intake outside failed gives ran
 run_session (Err NoMemory) rose story phases intake outside gives left =
     session_cut _ NoMemory story phases intake outside refl gives left (record { once = λ other. absurd (other refl); most = left.reading_is })
@@ -109,7 +109,7 @@ not_cut false true e = cc
 not_cut true false e = cc
 not_cut false false e = cc
 
-run_history : (result : Result Bool (Or WriteFault)) (rose : Bool) (story : List Told) (phases : List Phase) (disk : Sight) (outside : Outside) → Legal story → BeginsOn disk story → HasRunSo result phases story outside → IsOneHistory (run_status result rose) story disk outside.held outside.holds
+run_history : (result : Result Bool (Or WriteFault)) (rose : Bool) (story : List StoryStep) (phases : List Phase) (disk : Sight) (outside : Outside) → Legal story → BeginsOn disk story → HasRunSo result phases story outside → IsOneHistory (run_status result rose) story disk outside.held outside.holds
 run_history (Ok failed) rose story phases disk outside legal begins ran = record { legal = legal; base = λ opened. begins; complete = λ through. ran.finished; cut = λ opened e. absurd (not_cut failed rose e) }
 run_history (Err NoMemory) rose story phases disk outside legal begins left = record { legal = legal; base = λ opened. begins; complete = λ through. absurd (cc); cut = λ opened e. absurd (cc) }
 run_history (Err (Is fault)) rose story phases disk outside legal begins left = record { legal = legal; base = λ opened. begins; complete = λ through. absurd (cc); cut = λ opened e. left.cut_at }
@@ -123,7 +123,7 @@ history_none status disk old new not = record {
 }
 
 -- Printed replies
-printed_whole : (status : Status) (story : List Told) (intake : Intake) (faults : Change ℕ) (disk : Change Sight) (old new : Option (List ℕ)) → is_opened story ≡ true → is_cut status ≡ false → Appends old new (rendered story) → ArePrinted status story intake faults disk old new
+printed_whole : (status : Status) (story : List StoryStep) (intake : Intake) (faults : Change ℕ) (disk : Change Sight) (old new : Option (List ℕ)) → is_opened story ≡ true → is_cut status ≡ false → Appends old new (rendered story) → ArePrinted status story intake faults disk old new
 printed_whole status story intake faults disk old new opened whole written = record {
   whole = λ o c. written;
   front = λ o c. not_false (is_cut status) c whole;
@@ -132,7 +132,7 @@ printed_whole status story intake faults disk old new opened whole written = rec
   nothing = λ o c. not_false (is_opened story) opened o;
 }
 
-printed_front : (status : Status) (story : List Told) (intake : Intake) (faults : Change ℕ) (disk : Change Sight) (old new : Option (List ℕ)) → is_opened story ≡ true → is_cut status ≡ true → AppendsFront old new (rendered story) → ArePrinted status story intake faults disk old new
+printed_front : (status : Status) (story : List StoryStep) (intake : Intake) (faults : Change ℕ) (disk : Change Sight) (old new : Option (List ℕ)) → is_opened story ≡ true → is_cut status ≡ true → AppendsFront old new (rendered story) → ArePrinted status story intake faults disk old new
 printed_front status story intake faults disk old new opened cut written = record {
   whole = λ o c. not_false (is_cut status) cut c;
   front = λ o c. written;
@@ -147,20 +147,20 @@ not_cut_short false true = refl
 not_cut_short true false = refl
 not_cut_short false false = refl
 
-run_printed : (result : Result Bool (Or WriteFault)) (rose : Bool) (story : List Told) (phases : List Phase) (intake : Intake) (outside : Outside) (faults : Change ℕ) (disk : Change Sight) → HasRunSo result phases story outside → ArePrinted (run_status result rose) story intake faults disk outside.held outside.holds
+run_printed : (result : Result Bool (Or WriteFault)) (rose : Bool) (story : List StoryStep) (phases : List Phase) (intake : Intake) (outside : Outside) (faults : Change ℕ) (disk : Change Sight) → HasRunSo result phases story outside → ArePrinted (run_status result rose) story intake faults disk outside.held outside.holds
 run_printed (Ok failed) rose story phases intake outside faults disk ran = printed_whole _ story intake faults disk outside.held outside.holds ran.opened (not_cut_short failed rose) ran.written
 run_printed (Err NoMemory) rose story phases intake outside faults disk left = printed_front _ story intake faults disk outside.held outside.holds left.opened refl left.written
 run_printed (Err (Is fault)) rose story phases intake outside faults disk left = printed_front _ story intake faults disk outside.held outside.holds left.opened refl left.written
 
 -- The cause
-whole : (intake : Intake) (story : List Told) (phases : List Phase) (outside : Outside) (failed : Bool) → GivesPhases intake phases → HasRunPhases phases story outside failed → IsWhole intake story
+whole : (intake : Intake) (story : List StoryStep) (phases : List Phase) (outside : Outside) (failed : Bool) → GivesPhases intake phases → HasRunPhases phases story outside failed → IsWhole intake story
 whole intake story phases outside failed gives ran =
     record { read = gives.read; session = gives.session; opened = ran.opened; finished = ran.finished }
 
 pub asked : (intake : Intake) (phases : List Phase) → GivesPhases intake phases → IsAsked intake
 asked intake phases gives = record { read = gives.read; session = gives.session }
 
-run_cause : (result : Result Bool (Or WriteFault)) (rose : Bool) (story : List Told) (phases : List Phase) (intake : Intake) (outside : Outside) (faults : Change ℕ) (disk : Change Sight) → disk_rose disk ≡ rose → GivesPhases intake phases → HasRunSo result phases story outside → OnWriteFault result (Rose faults.before faults.after) → DiskUndamaged disk → HasCause (run_status result rose) intake faults disk story
+run_cause : (result : Result Bool (Or WriteFault)) (rose : Bool) (story : List StoryStep) (phases : List Phase) (intake : Intake) (outside : Outside) (faults : Change ℕ) (disk : Change Sight) → disk_rose disk ≡ rose → GivesPhases intake phases → HasRunSo result phases story outside → OnWriteFault result (Rose faults.before faults.after) → DiskUndamaged disk → HasCause (run_status result rose) intake faults disk story
 run_cause (Ok true) true story phases intake outside faults disk by gives ran wrote sound = (asked intake phases gives, by, λ opened. ran.finished)
 run_cause (Ok false) true story phases intake outside faults disk by gives ran wrote sound = (asked intake phases gives, by, λ opened. ran.finished)
 run_cause (Ok true) false story phases intake outside faults disk by gives ran wrote sound = (whole intake story phases outside true gives ran, ran.failures, by, sound)
@@ -173,9 +173,9 @@ no_error : SessionError
 no_error = record { line = 0; cause = causes.NoPhase }
 
 -- the steps since a base was opened, and the settling of its journal, have the disk's counts
-counts_from : (one ran : Shown) (settled : List Told) (sight : Sight) → IsJustOpened one.story → KeepsCount one ran → settled ≡ ran.story → Settles (may_be_open (state_of ran.story).ends) ran.sight sight → CountsFrom one.sight sight settled
+counts_from : (one ran : Shown) (settled : List StoryStep) (sight : Sight) → IsJustOpened one.story → KeepsCount one ran → settled ≡ ran.story → Settles (may_be_open (state_of ran.story).ends) ran.sight sight → CountsFrom one.sight sight settled
 counts_from one ran settled sight just keeps same settles = record {
-  first = told.Opened just.rows just.counts just.tells;
+  first = story_steps.Opened just.rows just.counts just.tells;
   steps = keeps.steps;
   ended = ran.sight;
   story_is = same ∙ keeps.grows ∙ ap (λ story. story ++ keeps.steps) just.is;
@@ -184,7 +184,7 @@ counts_from one ran settled sight just keeps same settles = record {
 }
 
 -- a base was opened, and this is what became of it: the story as it was when the journal was settled is the one that was run
-pub runs_opened : (result : Result Bool (Or WriteFault)) (phases : List Phase) (status : Status) (first : Option Told) (one ran : Shown) (settled history : List Told) (before : ℕ) (sight now : Sight) (outside : Outside) (faults : Change ℕ) → let story = ran.story in IsJustOpened one.story → KeepsCount one ran → Settles (may_be_open (state_of ran.story).ends) ran.sight sight → settled ≡ story → history ≡ settled → now ≡ sight → status ≡ run_status result (rises before sight.faults) → first_step story ≡ first → Legal settled → IfOk result (HasRunPhases phases story outside) → IfErr result (λ cut. IsRunGivenUp cut phases story outside) → OnWriteFault result (Rose faults.before faults.after) → IsAccounted (state_of settled) sight → IsMended (state_of settled) sight → AllOpenAgain settled → RunsOpened phases status first history before (record { before = one.sight; after = now }) outside faults
+pub runs_opened : (result : Result Bool (Or WriteFault)) (phases : List Phase) (status : Status) (first : Option StoryStep) (one ran : Shown) (settled history : List StoryStep) (before : ℕ) (sight now : Sight) (outside : Outside) (faults : Change ℕ) → let story = ran.story in IsJustOpened one.story → KeepsCount one ran → Settles (may_be_open (state_of ran.story).ends) ran.sight sight → settled ≡ story → history ≡ settled → now ≡ sight → status ≡ run_status result (rises before sight.faults) → first_step story ≡ first → Legal settled → IfOk result (HasRunPhases phases story outside) → IfErr result (λ cut. IsRunGivenUp cut phases story outside) → OnWriteFault result (Rose faults.before faults.after) → IsAccounted (state_of settled) sight → IsMended (state_of settled) sight → AllOpenAgain settled → RunsOpened phases status first history before (record { before = one.sight; after = now }) outside faults
 runs_opened result phases status first one ran settled history before sight now outside faults just keeps settles kept same seen is begins legal done left wrote accounted mended again =
     subst (λ s. RunsOpened phases status first s before (record { before = one.sight; after = now }) outside faults) (sym same)
     (subst (λ d. RunsOpened phases status first settled before (record { before = one.sight; after = d }) outside faults) (sym seen)
@@ -206,7 +206,7 @@ runs_opened result phases status first one ran settled history before sight now 
     ran_so (Err cut) one two = two
 
 -- the promises of one call
-pub record Promised (status : Status) (story : List Told) (intake : Intake) (outside : Outside) (faults : Change ℕ) (disk : Change Sight) : Type 0 where
+pub record Promised (status : Status) (story : List StoryStep) (intake : Intake) (outside : Outside) (faults : Change ℕ) (disk : Change Sight) : Type 0 where
   pub session : IsSession status story intake outside.moments (readings_of outside)
   pub history : IsOneHistory status story disk.before outside.held outside.holds
   pub printed : ArePrinted status story intake faults disk outside.held outside.holds
@@ -349,7 +349,7 @@ promised_closed because status intake outside faults disk unread asked fails wro
     (stays_closed disk.before disk.after [] refl fails.tells fails.unchanged fails.files)
 
 -- The promises where the source gave a session
-pub promised_run : (phases : List Phase) (status : Status) (story : List Told) (intake : Intake) (outside : Outside) (faults : Change ℕ) (disk : Change Sight) → IsCounted disk.before → IsCounted disk.after → GivesPhases intake phases → RunsSession phases status story outside faults disk → Promised status story intake outside faults disk
+pub promised_run : (phases : List Phase) (status : Status) (story : List StoryStep) (intake : Intake) (outside : Outside) (faults : Change ℕ) (disk : Change Sight) → IsCounted disk.before → IsCounted disk.after → GivesPhases intake phases → RunsSession phases status story outside faults disk → Promised status story intake outside faults disk
 promised_run phases status story intake outside faults disk was now gives (inl run) =
     let ran = run.runs in
     let rose = disk_rose disk in
@@ -373,7 +373,7 @@ promised_run phases status story intake outside faults disk was now gives (inr c
     (promised_closed closed.because status intake outside faults disk closed.unread (asked intake phases gives) closed.fails closed.wrote)
 
 -- a base that was just opened, and its story since
-pub begins_on : (disk opened : Sight) (one story : List Told) (first : Option Told) → OpensCore disk one opened → first ≡ first_step one → first_step story ≡ first → BeginsOn disk story
+pub begins_on : (disk opened : Sight) (one story : List StoryStep) (first : Option StoryStep) → OpensCore disk one opened → first ≡ first_step one → first_step story ≡ first → BeginsOn disk story
 begins_on disk opened one story first opens is same = record {
   base = opens.base;
   handed = opens.handed;
@@ -381,5 +381,5 @@ begins_on disk opened one story first opens is same = record {
   first = same ∙ is ∙ ap first_step opens.story_is;
 }
 
-pub just_opened : (disk opened : Sight) (story : List Told) → OpensCore disk story opened → IsJustOpened story
+pub just_opened : (disk opened : Sight) (story : List StoryStep) → OpensCore disk story opened → IsJustOpened story
 just_opened disk opened story opens = record { rows = oldest_first opens.base; counts = opens.handed.counts; tells = opens.handed.tells; is = opens.story_is }

@@ -2,8 +2,8 @@
 use Rattle.std.proofs.Common.{◌≡◌, ℕ, true, Option, Some, None, List, [], ◌∷◌, ◌++◌, refl, sym, subst, ◌∙◌}
 use Rattle.std.specs.Prelude.{is_some}
 use Rattle.cc_names.specs.declared.steps.Step.TheVariants as steps
-use Rattle.cc_names.specs.declared.steps.Told.{Told}
-use Rattle.cc_names.specs.declared.steps.Told.TheVariants as told
+use Rattle.cc_names.specs.declared.steps.StoryStep.{StoryStep}
+use Rattle.cc_names.specs.declared.steps.StoryStep.TheVariants as story_steps
 use Rattle.legal_history.specs.Base.Values.{IsSound}
 use Rattle.legal_history.specs.Builds.Active.{Build, build_of}
 use Rattle.legal_history.specs.Laws.BuildLaws.{BuildIsAsFromNothing, BuildIsOfItsCommand, EndedBuildHasItsOutcomesFromNothing}
@@ -20,13 +20,13 @@ use Rattle.session_run.specs.Promises.Reused.{HaveTheirOutcomes, NewBaseWasSound
 use Rattle.session_run.proofs.Story.FromNothing.{Law, are_from_nothing, ends_over, is_active}
 
 -- a front of a history was opened on a sound base
-record BeganSound (front : List Told) : Type 0 where
+record BeganSound (front : List StoryStep) : Type 0 where
   opening : Opening
   opened : (state_of front).opened ≡ Some opening
   sound : IsSound opening.base
 
 -- what was opened stays
-stays_opened : (front rest : List Told) (opening : Opening) → Legal (front ++ rest) → (state_of front).opened ≡ Some opening → (state_of (front ++ rest)).opened ≡ Some opening
+stays_opened : (front rest : List StoryStep) (opening : Opening) → Legal (front ++ rest) → (state_of front).opened ≡ Some opening → (state_of (front ++ rest)).opened ≡ Some opening
 stays_opened [] rest opening legal is = absurd (cc)
 stays_opened (x ∷ front) rest opening legal is =
     let first = sound_first x legal.0 in
@@ -34,29 +34,29 @@ stays_opened (x ∷ front) rest opening legal is =
     opened_from (after start x) (front ++ rest) first legal.1 ∙ sym (opened_from (after start x) front first before) ∙ is
 
 -- a base was opened where a build is active
-opens : (front : List Told) (lane : ℕ) (build : Build) → Legal front → build_of (state_of front).active lane ≡ Some build → is_some (state_of front).opened ≡ true
+opens : (front : List StoryStep) (lane : ℕ) (build : Build) → Legal front → build_of (state_of front).active lane ≡ Some build → is_some (state_of front).opened ≡ true
 opens [] lane build legal is = absurd (cc)
 opens (x ∷ front) lane build legal is = (story_is_sound x front legal).opened
 
-began_sound : (front rest : List Told) (lane : ℕ) (build : Build) → Legal (front ++ rest) → WasSound (front ++ rest) → build_of (state_of front).active lane ≡ Some build → BeganSound front
+began_sound : (front rest : List StoryStep) (lane : ℕ) (build : Build) → Legal (front ++ rest) → WasSound (front ++ rest) → build_of (state_of front).active lane ≡ Some build → BeganSound front
 began_sound front rest lane build legal sound is = by (state_of front).opened refl (opens front lane build (front_is_legal start front rest legal) is)
   where
     by : (o : Option Opening) → (state_of front).opened ≡ o → is_some o ≡ true → BeganSound front
     by None e there = absurd (cc)
     by (Some opening) e there = record { opening = opening; opened = e; sound = sound.base opening (stays_opened front rest opening legal e) }
 
-began_at : (story front rest : List Told) (lane : ℕ) (build : Build) → Legal story → WasSound story → story ≡ front ++ rest → build_of (state_of front).active lane ≡ Some build → BeganSound front
+began_at : (story front rest : List StoryStep) (lane : ℕ) (build : Build) → Legal story → WasSound story → story ≡ front ++ rest → build_of (state_of front).active lane ≡ Some build → BeganSound front
 began_at story front rest lane build legal sound grows is = began_sound front rest lane build (subst Legal grows legal) (subst WasSound grows sound) is
 
-front_at : (story front rest : List Told) → Legal story → story ≡ front ++ rest → Legal front
+front_at : (story front rest : List StoryStep) → Legal story → story ≡ front ++ rest → Legal front
 front_at story front rest legal grows = front_is_legal start front rest (subst Legal grows legal)
 
-pub commanded_so : BuildIsOfItsCommand → (story : List Told) → Legal story → AreOfTheirCommands story
+pub commanded_so : BuildIsOfItsCommand → (story : List StoryStep) → Legal story → AreOfTheirCommands story
 commanded_so law story legal = record {
-  each = λ front rest tag build grows is. law front tag.lane build (front_at story front (told.Other (steps.End tag) ∷ rest) legal grows) (is_active (state_of front) tag build is);
+  each = λ front rest tag build grows is. law front tag.lane build (front_at story front (story_steps.Other (steps.End tag) ∷ rest) legal grows) (is_active (state_of front) tag build is);
 }
 
-pub built_so : BuildIsAsFromNothing → (story : List Told) → Legal story → WasSound story → AreFromNothing story
+pub built_so : BuildIsAsFromNothing → (story : List StoryStep) → Legal story → WasSound story → AreFromNothing story
 built_so law story legal sound = are_from_nothing story complete legal
   where
     complete : Law story
@@ -66,28 +66,28 @@ built_so law story legal sound = are_from_nothing story complete legal
           law front began.opening lane build (front_at story front rest legal grows) began.opened began.sound is over;
     }
 
-pub outcomes_so : EndedBuildHasItsOutcomesFromNothing → (story : List Told) → Legal story → WasSound story → HaveTheirOutcomes story
+pub outcomes_so : EndedBuildHasItsOutcomesFromNothing → (story : List StoryStep) → Legal story → WasSound story → HaveTheirOutcomes story
 outcomes_so law story legal sound = record {
   each = λ front rest tag build n unit grows is well of_n.
-      let ends : EndsBuild (state_of front) tag = (rest_is_legal start front (told.Other (steps.End tag) ∷ rest) (subst Legal grows legal)).0 in
+      let ends : EndsBuild (state_of front) tag = (rest_is_legal start front (story_steps.Other (steps.End tag) ∷ rest) (subst Legal grows legal)).0 in
       let active = is_active (state_of front) tag build is in
-      let began = began_at story front (told.Other (steps.End tag) ∷ rest) tag.lane build legal sound grows active in
-      law front began.opening (told.Other (steps.End tag)) tag.lane build n unit (front_at story front (told.Other (steps.End tag) ∷ rest) legal grows) began.opened began.sound active
+      let began = began_at story front (story_steps.Other (steps.End tag) ∷ rest) tag.lane build legal sound grows active in
+      law front began.opening (story_steps.Other (steps.End tag)) tag.lane build n unit (front_at story front (story_steps.Other (steps.End tag) ∷ rest) legal grows) began.opened began.sound active
       (record { tag = tag; is = refl; of_lane = refl; active = is; over = ends_over (state_of front) tag build ends is }) well of_n;
 }
 
-pub reused_so : TakenRecordIsSeenKept → TakenRecordIsSeenWinked → (story : List Told) → Legal story → TakeWhatTheySee story
+pub reused_so : TakenRecordIsSeenKept → TakenRecordIsSeenWinked → (story : List StoryStep) → Legal story → TakeWhatTheySee story
 reused_so kept winked story legal = record {
   kept = λ front rest tag n id grows. kept front rest tag n id (subst Legal grows legal);
   winked = λ front rest row tick view id grows is. winked front rest row tick view id (subst Legal grows legal) is;
 }
 
-pub recorded_so : PublishedRecordIsWhatWasRead → (story : List Told) → Legal story → RecordWhatTheyRead story
+pub recorded_so : PublishedRecordIsWhatWasRead → (story : List StoryStep) → Legal story → RecordWhatTheyRead story
 recorded_so law story legal = record {
   each = λ front rest row tick view targets script listed outputs grows is. law front rest row tick view targets script listed outputs (subst Legal grows legal) is;
 }
 
-pub sought_so : NothingIsPassedOverStart → NothingIsPassedOverPublish → NothingIsPassedOverMatch → (story : List Told) → Legal story → PassNothingOver story
+pub sought_so : NothingIsPassedOverStart → NothingIsPassedOverPublish → NothingIsPassedOverMatch → (story : List StoryStep) → Legal story → PassNothingOver story
 sought_so starts publishes matched story legal = record {
   started = λ front rest tag n build unit id grows any of_n lives. starts front rest tag n build unit id (subst Legal grows legal) any of_n lives;
   published = λ front rest row tick build id view other targets script entries outputs stored grows is any object.
@@ -99,7 +99,7 @@ sought_so starts publishes matched story legal = record {
 none_sound : IsSound []
 none_sound id = refl
 
-pub sound_so : BaseStaysSoundStays → (story : List Told) → Legal story → WasSound story → IsSound (state_of story).base
+pub sound_so : BaseStaysSoundStays → (story : List StoryStep) → Legal story → WasSound story → IsSound (state_of story).base
 sound_so law [] legal sound = none_sound
 sound_so law (x ∷ story) legal sound = by (state_of (x ∷ story)).opened refl (story_is_sound x story legal).opened
   where

@@ -1,11 +1,11 @@
 -- What the calls of a build leave: where its lane stands after each.
 use Rattle.std.proofs.Common.{◌≡◌, ◌≢◌, ℕ, ◌+◌, ◌<◌, ◌≤◌, ◌&&◌, ◌⊎◌, inl, inr, true, false, Some, List, [], ◌∷◌, length, refl, ap, sym, ◌∙◌, arith}
-use Rattle.cc_names.specs.declared.steps.Told.{Told}
+use Rattle.cc_names.specs.declared.steps.StoryStep.{StoryStep}
 use Rattle.cc_names.specs.declared.units.Unit.{Unit}
 use Rattle.build_script.specs.Ended.{ran_of}
 use Rattle.build_script.specs.declared.lines.Line.{Line}
 use Rattle.build_script.specs.declared.outcomes.Ended.{Ended}
-use Rattle.clearmake.specs.Calls.{IsBuilding, IsOver, IsRunOfUnit, IsStarted, Settled, WaitsFor}
+use Rattle.clearmake.specs.Calls.{IsBuilding, IsOver, IsRunOfUnit, IsStarted, Concludes, WaitsFor}
 use Rattle.clearmake.specs.Going.{GoesOn, HasOutcome}
 use Rattle.base_core.proofs.Building.Goings.{goes_nowhere as stays}
 use Rattle.base_core.proofs.Keeping.Idle.{some_same}
@@ -13,12 +13,12 @@ use Rattle.legal_history.specs.Builds.Active.{Build, build_of, came_to, is_outco
 use Rattle.legal_history.specs.Builds.Turns.{all_over}
 use Rattle.legal_history.specs.Stories.States.{State}
 use Rattle.legal_history.specs.Stories.Steps.{state_of}
-use Rattle.session_run.specs.Running.Turns.{Further, HasBuilt, HasUnitLeft, Moves}
-use Rattle.session_run.specs.declared.turns.LaneTurn.TheVariants as lane_turns
+use Rattle.session_run.specs.Running.Turns.{Further, HasBuilt, HasUnitLeft, MovesOn}
+use Rattle.session_run.specs.declared.turns.LaneProgress.TheVariants as lane_progress
 use Rattle.session_run.proofs.Running.Within.{one_or_two}
 
 -- one unit more has its outcome
-pub built_more : (old new : List Told) (lane n count : ℕ) → HasUnitLeft (state_of old) lane n count → GoesOn old new lane → HasOutcome (state_of new) lane n → HasBuilt (state_of new) lane (n + 1) count
+pub built_more : (old new : List StoryStep) (lane n count : ℕ) → HasUnitLeft (state_of old) lane n count → GoesOn old new lane → HasOutcome (state_of new) lane n → HasBuilt (state_of new) lane (n + 1) count
 built_more old new lane n count h goes over =
     let still = goes.still h.built.build h.built.active in
     record {
@@ -35,7 +35,7 @@ built_more old new lane n count h goes over =
     by build active outcomes m less (inr differs) = outcomes m (h.built.earlier m (omega (arith, less, differs)))
 
 -- a build that goes on has built as much
-pub built_on : (old new : List Told) (lane n count : ℕ) → HasUnitLeft (state_of old) lane n count → GoesOn old new lane → HasUnitLeft (state_of new) lane n count
+pub built_on : (old new : List StoryStep) (lane n count : ℕ) → HasUnitLeft (state_of old) lane n count → GoesOn old new lane → HasUnitLeft (state_of new) lane n count
 built_on old new lane n count h goes =
     let still = goes.still h.built.build h.built.active in
     record {
@@ -68,21 +68,21 @@ waits_for_none s lane n count m h w =
     sym w.waits ∙ ap (λ b. is_outcome (came_to b m)) (sym is) ∙ h.built.earlier m w.earlier
 
 -- where a lane stands once its build has begun
-pub begun_moves : (old new : List Told) (lane count : ℕ) → GoesOn old new lane → IsBuilding (state_of new) lane count → Moves old new lane lane_turns.Command (lane_turns.Unit 0 count)
+pub begun_moves : (old new : List StoryStep) (lane count : ℕ) → GoesOn old new lane → IsBuilding (state_of new) lane count → MovesOn old new lane lane_progress.Command (lane_progress.Unit 0 count)
 begun_moves old new lane count goes h =
     Further goes (record { build = h.build; active = h.active; of_units = h.of_units; few = h.few; upto = omega arith; earlier = λ m less. absurd (omega (arith, less)) })
     (omega (arith, h.few))
 
 -- once a unit that was tried has its outcome, once its script was started, and once that was run
-pub tried_moves : (old new : List Told) (lane n count : ℕ) → HasUnitLeft (state_of old) lane n count → Settled old new lane n → Moves old new lane (lane_turns.Unit n count) (lane_turns.Unit (n + 1) count)
+pub tried_moves : (old new : List StoryStep) (lane n count : ℕ) → HasUnitLeft (state_of old) lane n count → Concludes old new lane n → MovesOn old new lane (lane_progress.Unit n count) (lane_progress.Unit (n + 1) count)
 tried_moves old new lane n count h settled = Further settled.0 (built_more old new lane n count h settled.0 settled.1) (omega (arith, h.within))
 
-pub started_moves : (old new : List Told) (lane n count : ℕ) (script : List Line) (targets : List (List ℕ)) → HasUnitLeft (state_of old) lane n count → GoesOn old new lane → IsStarted (state_of new) lane n script targets → Moves old new lane (lane_turns.Unit n count) (lane_turns.Started n count script targets)
+pub started_moves : (old new : List StoryStep) (lane n count : ℕ) (script : List Line) (targets : List (List ℕ)) → HasUnitLeft (state_of old) lane n count → GoesOn old new lane → IsStarted (state_of new) lane n script targets → MovesOn old new lane (lane_progress.Unit n count) (lane_progress.Started n count script targets)
 started_moves old new lane n count script targets h goes started = Further goes (built_on old new lane n count h goes, started) (omega arith)
 
-pub ran_moves : (story : List Told) (lane n count : ℕ) (script : List Line) (targets : List (List ℕ)) (ended : Ended) → HasUnitLeft (state_of story) lane n count → IsRunOfUnit (state_of story) lane n (ran_of ended) → Moves story story lane (lane_turns.Started n count script targets) (lane_turns.Ran n count ended)
+pub ran_moves : (story : List StoryStep) (lane n count : ℕ) (script : List Line) (targets : List (List ℕ)) (ended : Ended) → HasUnitLeft (state_of story) lane n count → IsRunOfUnit (state_of story) lane n (ran_of ended) → MovesOn story story lane (lane_progress.Started n count script targets) (lane_progress.Ran n count ended)
 ran_moves story lane n count script targets ended h ran = Further (stays story lane) (h, ran) (omega (arith, h.within))
 
 -- once a unit that was run has its outcome
-pub finished_moves : (old new : List Told) (lane n count : ℕ) (ended : Ended) → HasUnitLeft (state_of old) lane n count → Settled old new lane n → Moves old new lane (lane_turns.Ran n count ended) (lane_turns.Unit (n + 1) count)
+pub finished_moves : (old new : List StoryStep) (lane n count : ℕ) (ended : Ended) → HasUnitLeft (state_of old) lane n count → Concludes old new lane n → MovesOn old new lane (lane_progress.Ran n count ended) (lane_progress.Unit (n + 1) count)
 finished_moves old new lane n count ended h settled = Further settled.0 (built_more old new lane n count h settled.0 settled.1) (omega (arith, h.within))

@@ -11,15 +11,16 @@ use Rattle.cc_names.specs.declared.refusals.Refusal.{Refusal}
 use Rattle.cc_names.specs.declared.rows.Tag.{Tag}
 use Rattle.cc_names.specs.declared.rows.Deed.{Deed}
 use Rattle.cc_names.specs.declared.steps.Step.TheVariants as steps
-use Rattle.cc_names.specs.declared.steps.Told.{Told}
-use Rattle.cc_names.specs.declared.steps.Told.TheVariants as told
+use Rattle.cc_names.specs.declared.steps.StoryStep.{StoryStep}
+use Rattle.cc_names.specs.declared.steps.StoryStep.TheVariants as story_steps
 use Rattle.base_core.proofs.Acting.PlainRows.{command_finishes}
 use Rattle.base_core.proofs.Keeping.Idle.{decided_is_free}
 use Rattle.base_core.specs.Calls.Acting.{Acts, IsStepOf}
 use Rattle.carried_out.specs.CarriedOut.{is_carried_out, AreCarriedOut}
 use Rattle.legal_history.specs.Queries.QueryLines.{is_query}
+use Rattle.legal_history.specs.Stories.Commanded.{command_of}
 use Rattle.clearmake.specs.Going.{SamePhase, Finishes}
-use Rattle.clearmake.specs.Nexts.{next_of, next_by, waiting}
+use Rattle.clearmake.specs.Nexts.{next_of, next_by}
 use Rattle.legal_history.specs.Base.Rows.{only_where}
 use Rattle.legal_history.specs.Commands.Decisions.{Scene, Decision, Makes, Answers, Begins}
 use Rattle.legal_history.specs.Commands.Lines.{decision}
@@ -75,10 +76,10 @@ found_ends sc true None tag h acts = tt
 found_ends sc true (Some command) tag h acts = command_ends sc command tag h acts
 
 decided_ends : (s : State) (lane : ℕ) → AreCarriedOut s.phase → next_of s lane ≡ nexts.Act → EndsCommand (decided s (next_tag s lane))
-decided_ends s lane h acts = found_ends (scene s) (is_next s (next_tag s lane)) (waiting s lane) (next_tag s lane) (waiting_carried s lane h) acts
+decided_ends s lane h acts = found_ends (scene s) (is_next s (next_tag s lane)) (command_of s lane) (next_tag s lane) (waiting_carried s lane h) acts
 
 -- a step that finishes a command of a lane
-record IsLaneStep (s : State) (x : Told) (lane : ℕ) : Type 0 where
+record IsLaneStep (s : State) (x : StoryStep) (lane : ℕ) : Type 0 where
   phase : SamePhase s (after s x)
   done : (after s x).done ≡ with_done s.done lane
 
@@ -94,13 +95,13 @@ makes_ends_by chosen deed ends is = row_ends deed (subst EndsCommand is ends)
 free_by : (s : State) (lane : ℕ) (chosen : Result Decision Refusal) → decided s (next_tag s lane) ≡ Some chosen → build_by s (next_tag s lane) ≡ None
 free_by s lane chosen is = ap (option_and_then (build_if (next_tag s lane))) (decided_is_free s (next_tag s lane) chosen is)
 
-lane_step : (s : State) (lane : ℕ) (done : Done) (x : Told) → EndsCommand (decided s (next_tag s lane)) → IsStepOf s (next_tag s lane) done x → IsLaneStep s x lane
-lane_step s lane Committed (told.Commit row tick) ends is =
+lane_step : (s : State) (lane : ℕ) (done : Done) (x : StoryStep) → EndsCommand (decided s (next_tag s lane)) → IsStepOf s (next_tag s lane) done x → IsLaneStep s x lane
+lane_step s lane Committed (story_steps.Commit row tick) ends is =
     let at : row.tag.lane ≡ lane = ap (λ t. t.lane) is.0 in
     record { phase = record { phase = refl; number = refl; moment = refl }; done = ap (λ l. done_after s.done l row.deed) at ∙ makes_ends_by (decided s (next_tag s lane)) row.deed ends is.2 s.done lane }
-lane_step s lane Refused (told.Other (steps.Refused finished refusal)) ends is = record { phase = record { phase = refl; number = refl; moment = refl }; done = ap (λ t. with_done s.done t.lane) is.0 }
-lane_step s lane Answered (told.Other (steps.Answer finished text)) ends is = record { phase = record { phase = refl; number = refl; moment = refl }; done = ap (λ t. with_done s.done t.lane) is.0 }
-lane_step s lane Faulted (told.Other (steps.Fault finished left before faults tick)) ends is =
+lane_step s lane Refused (story_steps.Other (steps.Refused finished refusal)) ends is = record { phase = record { phase = refl; number = refl; moment = refl }; done = ap (λ t. with_done s.done t.lane) is.0 }
+lane_step s lane Answered (story_steps.Other (steps.Answer finished text)) ends is = record { phase = record { phase = refl; number = refl; moment = refl }; done = ap (λ t. with_done s.done t.lane) is.0 }
+lane_step s lane Faulted (story_steps.Other (steps.Fault finished left before faults tick)) ends is =
     record {
       phase = record { phase = refl; number = refl; moment = refl };
       done = ap (λ t. done_by_fault s.done t.lane (build_by s t)) is.0 ∙ ap (done_by_fault s.done lane) (free_by s lane (Ok (Makes is.1)) is.2);
@@ -108,7 +109,7 @@ lane_step s lane Faulted (told.Other (steps.Fault finished left before faults ti
 lane_step s lane done x ends is = absurd is
 
 -- a lane that acts finishes its command
-pub act_finishes : (old new : List Told) (lane : ℕ) (done : Done) → AreCarriedOut (state_of old).phase → next_of (state_of old) lane ≡ nexts.Act → Acts old new lane done → Finishes old new lane
+pub act_finishes : (old new : List StoryStep) (lane : ℕ) (done : Done) → AreCarriedOut (state_of old).phase → next_of (state_of old) lane ≡ nexts.Act → Acts old new lane done → Finishes old new lane
 act_finishes old new lane done carried acts by_act =
     let s = state_of old in
     let x = by_act.step in
@@ -123,10 +124,10 @@ act_finishes old new lane done carried acts by_act =
     }
 
 -- a story that goes on by nothing, and one that goes on twice
-pub goes_nowhere : (story : List Told) → Goes story story
+pub goes_nowhere : (story : List StoryStep) → Goes story story
 goes_nowhere story = record { phases = refl; moments = refl; phase = refl; number = refl; earlier = refl; first = refl; opened = refl }
 
-pub goes_further : (old now new : List Told) → Goes old now → Goes now new → Goes old new
+pub goes_further : (old now new : List StoryStep) → Goes old now → Goes now new → Goes old new
 goes_further old now new one two = record {
   phases = two.phases ∙ one.phases;
   moments = two.moments ∙ one.moments;

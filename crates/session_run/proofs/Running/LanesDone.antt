@@ -5,11 +5,12 @@ use Rattle.cc_names.specs.declared.commands.Command.{Command}
 use Rattle.cc_names.specs.declared.commands.Command.TheVariants as commands
 use Rattle.cc_names.specs.declared.desks.Next.TheVariants as nexts
 use Rattle.cc_names.specs.declared.rows.Tag.{Tag}
-use Rattle.cc_names.specs.declared.steps.Told.{Told}
+use Rattle.cc_names.specs.declared.steps.StoryStep.{StoryStep}
+use Rattle.legal_history.specs.Stories.Commanded.{command_of}
 use Rattle.legal_history.specs.Stories.Lanes.{IsWithin}
 use Rattle.legal_history.specs.Stories.States.{all_done, next_tag}
 use Rattle.legal_history.specs.Stories.Steps.{state_of}
-use Rattle.clearmake.specs.Nexts.{next_by, waiting}
+use Rattle.clearmake.specs.Nexts.{next_by}
 use Rattle.clearmake.specs.Passes.{AreLanesDone}
 use Rattle.session_run.proofs.Running.Within.{all_finished, finished_where}
 
@@ -22,13 +23,13 @@ none_by (Some command) tag e = by_command command e
     by_command (commands.Clearmake view file own_only rebuild jobs macros goals) e = absurd (cc)
     by_command command e = absurd (cc)
 
-phase_is_done : (story : List Told) (lanes number : ℕ) → lanes ≡ length (state_of story).phase.lanes → ((k : ℕ) → IsWithin (state_of story) k) → AreLanesDone story 1 lanes number → all_done (state_of story) ≡ true
+phase_is_done : (story : List StoryStep) (lanes number : ℕ) → lanes ≡ length (state_of story).phase.lanes → ((k : ℕ) → IsWithin (state_of story) k) → AreLanesDone story 1 lanes number → all_done (state_of story) ≡ true
 phase_is_done story lanes number count within done =
     all_finished (state_of story) (λ k from upto.
     let lane = done k from (omega (arith, count, upto)) in
-    finished_where (state_of story) k (within k) (none_by (waiting (state_of story) k) (next_tag (state_of story) k) lane.finished))
+    finished_where (state_of story) k (within k) (none_by (command_of (state_of story) k) (next_tag (state_of story) k) lane.finished))
 
-pub phase_done_if : (done : Bool) (story : List Told) (lanes number : ℕ) → lanes ≡ length (state_of story).phase.lanes → ((k : ℕ) → IsWithin (state_of story) k) → OnTrue done (AreLanesDone story 1 lanes number) → OnTrue done (all_done (state_of story) ≡ true)
+pub phase_done_if : (done : Bool) (story : List StoryStep) (lanes number : ℕ) → lanes ≡ length (state_of story).phase.lanes → ((k : ℕ) → IsWithin (state_of story) k) → OnTrue done (AreLanesDone story 1 lanes number) → OnTrue done (all_done (state_of story) ≡ true)
 phase_done_if true story lanes number count within h = phase_is_done story lanes number count within h
 phase_done_if false story lanes number count within h = tt
 

@@ -1,26 +1,26 @@
 -- Rounds of turns: how they begin, go on and end.
 use Rattle.std.proofs.Common.{◌≡◌, ◌≢◌, ℕ, zero, suc, ◌+◌, ◌-◌, ◌<◌, ◌≤◌, ◌||◌, ◌⊎◌, inl, inr, Bool, true, false, Ok, List, length, get_or, replicate, refl, ap, sym, subst, ◌∙◌, arith}
 use Rattle.std.proofs.lemmas.List.{length-replicate}
-use Rattle.cc_names.specs.declared.steps.Told.{Told}
+use Rattle.cc_names.specs.declared.steps.StoryStep.{StoryStep}
 use Rattle.carried_out.specs.CarriedOut.{AreCarriedOut}
 use Rattle.legal_history.specs.Stories.Lanes.{IsFinished, IsWithin}
 use Rattle.legal_history.specs.Stories.States.{all_done}
 use Rattle.legal_history.specs.Stories.Steps.{state_of}
 use Rattle.session_run.specs.Running.Turns.{StandAt, StandsAt, TakesRound, TakesTurn, turn_at, turns_left}
 use Rattle.session_run.specs.Story.Begun.{is_opened}
-use Rattle.session_run.specs.declared.turns.LaneTurn.{LaneTurn}
-use Rattle.session_run.specs.declared.turns.LaneTurn.TheVariants as lane_turns
+use Rattle.session_run.specs.declared.turns.LaneProgress.{LaneProgress}
+use Rattle.session_run.specs.declared.turns.LaneProgress.TheVariants as lane_progress
 use Rattle.session_run.proofs.Running.Within.{all_finished, one_or_two}
 
 -- each lane begins before its first command
-at_start : (lanes i : ℕ) → get_or (replicate lanes lane_turns.Command) i lane_turns.Command ≡ lane_turns.Command
+at_start : (lanes i : ℕ) → get_or (replicate lanes lane_progress.Command) i lane_progress.Command ≡ lane_progress.Command
 at_start zero i = refl
 at_start (suc lanes) zero = refl
 at_start (suc lanes) (suc i) = at_start lanes i
 
-pub stand_first : (story : List Told) (turns : List LaneTurn) (lanes : ℕ) → turns ≡ replicate lanes lane_turns.Command → lanes ≡ length (state_of story).phase.lanes → length (state_of story).phase.lanes ≤ 64 → is_opened story ≡ true → AreCarriedOut (state_of story).phase → ((lane : ℕ) → IsWithin (state_of story) lane) → StandAt story turns
+pub stand_first : (story : List StoryStep) (turns : List LaneProgress) (lanes : ℕ) → turns ≡ replicate lanes lane_progress.Command → lanes ≡ length (state_of story).phase.lanes → length (state_of story).phase.lanes ≤ 64 → is_opened story ≡ true → AreCarriedOut (state_of story).phase → ((lane : ℕ) → IsWithin (state_of story) lane) → StandAt story turns
 stand_first story turns lanes is counted few opened carried within =
-    let count : length turns ≡ length (state_of story).phase.lanes = ap length is ∙ length-replicate lanes lane_turns.Command ∙ counted in
+    let count : length turns ≡ length (state_of story).phase.lanes = ap length is ∙ length-replicate lanes lane_progress.Command ∙ counted in
     record {
       opened = opened;
       carried_out = carried;
@@ -31,19 +31,19 @@ stand_first story turns lanes is counted few opened carried within =
     }
 
 -- a round in which no lane took its turn yet
-pub round_first : (story : List Told) (turns : List LaneTurn) → TakesRound false 0 story story turns turns
+pub round_first : (story : List StoryStep) (turns : List LaneProgress) → TakesRound false 0 story story turns turns
 round_first story turns = record {
   fewer = λ e. absurd (cc);
   same = λ e. (refl, refl);
   finished = λ e lane low high. absurd (omega (arith, low, high));
 }
 
-finished_more : (index : ℕ) (story : List Told) → ((lane : ℕ) → 1 ≤ lane → lane ≤ index → IsFinished (state_of story) lane) → IsFinished (state_of story) (index + 1) → (lane : ℕ) → 1 ≤ lane → lane ≤ index + 1 → (lane ≡ index + 1) ⊎ (lane ≢ index + 1) → IsFinished (state_of story) lane
+finished_more : (index : ℕ) (story : List StoryStep) → ((lane : ℕ) → 1 ≤ lane → lane ≤ index → IsFinished (state_of story) lane) → IsFinished (state_of story) (index + 1) → (lane : ℕ) → 1 ≤ lane → lane ≤ index + 1 → (lane ≡ index + 1) ⊎ (lane ≢ index + 1) → IsFinished (state_of story) lane
 finished_more index story before here lane low high (inl e) = subst (IsFinished (state_of story)) (sym e) here
 finished_more index story before here lane low high (inr differs) = before lane low (omega (arith, high, differs))
 
 -- and one in which one lane more did
-pub round_on : (more turned : Bool) (index : ℕ) (old now new : List Told) (before mid after : List LaneTurn) → TakesRound more index old now before mid → TakesTurn (Ok turned) now new mid after (index + 1) → TakesRound (more || turned) (index + 1) old new before after
+pub round_on : (more turned : Bool) (index : ℕ) (old now new : List StoryStep) (before mid after : List LaneProgress) → TakesRound more index old now before mid → TakesTurn (Ok turned) now new mid after (index + 1) → TakesRound (more || turned) (index + 1) old new before after
 round_on true true index old now new before mid after h turn = record {
   fewer = λ e. (let so_far = h.fewer refl in omega (arith, so_far, turn));
   same = λ e. absurd (cc);
@@ -73,6 +73,6 @@ round_on false false index old now new before mid after h turn =
     }
 
 -- where no lane had a turn left all commands are finished
-pub rounds_end : (more : Bool) (old new : List Told) (before after : List LaneTurn) → more ≡ false → StandAt new after → length after ≡ length before → TakesRound more (length before) old new before after → all_done (state_of new) ≡ true
+pub rounds_end : (more : Bool) (old new : List StoryStep) (before after : List LaneProgress) → more ≡ false → StandAt new after → length after ≡ length before → TakesRound more (length before) old new before after → all_done (state_of new) ≡ true
 rounds_end more old new before after e stand count h =
     all_finished (state_of new) (λ lane low high. h.finished e lane low (omega (arith, high, stand.count, count)))

@@ -10,8 +10,8 @@ use Rattle.std.proofs.lemmas.Bool.Decides.{nat_tests}
 use Rattle.cc_names.specs.declared.commands.Phase.{Phase}
 use Rattle.cc_names.specs.declared.memory.Or.{Or}
 use Rattle.cc_names.specs.declared.memory.Or.TheVariants.{NoMemory, Is}
-use Rattle.cc_names.specs.declared.steps.Told.{Told}
-use Rattle.cc_names.specs.declared.steps.Told.TheVariants as told
+use Rattle.cc_names.specs.declared.steps.StoryStep.{StoryStep}
+use Rattle.cc_names.specs.declared.steps.StoryStep.TheVariants as story_steps
 use Rattle.cc_names.specs.Counts.{raised}
 use Rattle.cc_outside.specs.Feeds.{AppendsFront}
 use Rattle.cc_outside.specs.Moments.{moment_at}
@@ -91,12 +91,12 @@ ended s n e done =
     ap₂ ◌&&◌ began done
 
 -- the replies that the core gives are those that its steps leave
-replies_same : (s : State) (replies : Replies) (story : List Told) → replies_over replies_after s replies story ≡ replies_from s replies story
+replies_same : (s : State) (replies : Replies) (story : List StoryStep) → replies_over replies_after s replies story ≡ replies_from s replies story
 replies_same s replies [] = refl
 replies_same s replies (x ∷ story) = replies_same (after s x) (replies_after s x replies) story
 
 -- the phase that ended, as it is printed
-ended_as : List Told → ℕ → EndedPhase
+ended_as : List StoryStep → ℕ → EndedPhase
 ended_as story number = record { number = number; phase = (state_of story).phase; replies = replies_of story }
 
 last_is : (s : State) (number : ℕ) (is : Bool) (one two : Replies) → is ≡ true → s.number ≡ number → one ≡ two → phase_where is (record { number = s.number; phase = s.phase; replies = one }) ≡ record { number = number; phase = s.phase; replies = two } ∷ []
@@ -104,7 +104,7 @@ last_is s number is one two e at same =
     ap (λ b. phase_where b (record { number = s.number; phase = s.phase; replies = one })) e
     ∙ ap₂ (λ n r. let p : EndedPhase = record { number = n; phase = s.phase; replies = r } in p ∷ []) at same
 
-given_more : (old new : List Told) (phase : Phase) (moment number : ℕ) → GoesInPhase phase moment old new → all_done (state_of new) ≡ true → number ≡ (state_of old).number + 1 → ended_phases new ≡ ended_phases old ++ ended_as new number ∷ []
+given_more : (old new : List StoryStep) (phase : Phase) (moment number : ℕ) → GoesInPhase phase moment old new → all_done (state_of new) ≡ true → number ≡ (state_of old).number + 1 → ended_phases new ≡ ended_phases old ++ ended_as new number ∷ []
 unfolding ended_as
 given_more old new phase moment number goes done e =
     ap₂ (λ front last. front ++ last) goes.earlier
@@ -121,14 +121,14 @@ one_fails ended = or_false (phase_fails ended)
     or_false true = refl
     or_false false = refl
 
-rendered_more : (old new : List Told) (phase : Phase) (moment number : ℕ) → GoesInPhase phase moment old new → all_done (state_of new) ≡ true → number ≡ (state_of old).number + 1 → transcripts (ended_phases new) ≡ transcripts (ended_phases old) ++ transcript number (state_of new).phase (replies_of new)
+rendered_more : (old new : List StoryStep) (phase : Phase) (moment number : ℕ) → GoesInPhase phase moment old new → all_done (state_of new) ≡ true → number ≡ (state_of old).number + 1 → transcripts (ended_phases new) ≡ transcripts (ended_phases old) ++ transcript number (state_of new).phase (replies_of new)
 unfolding ended_as
 rendered_more old new phase moment number goes done e =
     ap transcripts (given_more old new phase moment number goes done e)
     ∙ flat_map-append transcript_of (ended_phases old) (ended_as new number ∷ [])
     ∙ ap (λ text. transcripts (ended_phases old) ++ text) (one_text (ended_as new number))
 
-failures_more : (old new : List Told) (phase : Phase) (moment number : ℕ) (before now : Bool) → GoesInPhase phase moment old new → all_done (state_of new) ≡ true → number ≡ (state_of old).number + 1 → list_any phase_fails (ended_phases old) ≡ before → now ≡ lanes_fail 1 (state_of new).phase.lanes (replies_of new) → list_any phase_fails (ended_phases new) ≡ (before || now)
+failures_more : (old new : List StoryStep) (phase : Phase) (moment number : ℕ) (before now : Bool) → GoesInPhase phase moment old new → all_done (state_of new) ≡ true → number ≡ (state_of old).number + 1 → list_any phase_fails (ended_phases old) ≡ before → now ≡ lanes_fail 1 (state_of new).phase.lanes (replies_of new) → list_any phase_fails (ended_phases new) ≡ (before || now)
 unfolding ended_as
 failures_more old new phase moment number before now goes done e was is =
     ap (list_any phase_fails) (given_more old new phase moment number goes done e)
@@ -136,7 +136,7 @@ failures_more old new phase moment number before now goes done e was is =
     ∙ ap₂ (λ a b. a || b) was (one_fails (ended_as new number) ∙ sym is)
 
 -- nothing has been run
-pub run_starts : (story : List Told) (held clock : Option (List ℕ)) (first : ℕ) → IsJustOpened story → HasRunPhases [] story (record { held = held; holds = held; moments = clock; first = first; reading = first }) false
+pub run_starts : (story : List StoryStep) (held clock : Option (List ℕ)) (first : ℕ) → IsJustOpened story → HasRunPhases [] story (record { held = held; holds = held; moments = clock; first = first; reading = first }) false
 run_starts story held clock first just = record {
   opened = ap is_opened is;
   phases_are = ap phases_begun is;
@@ -148,19 +148,19 @@ run_starts story held clock first just = record {
   written = subst (Appends held held) (sym (ap (λ s. transcripts (ended_phases s)) is)) (nothing_more held);
 }
   where
-    is : story ≡ told.Opened just.rows just.counts just.tells ∷ []
+    is : story ≡ story_steps.Opened just.rows just.counts just.tells ∷ []
     is = just.is
 
 one_more : (phases : List Phase) (phase : Phase) → length (phases ++ phase ∷ []) ≡ suc (length phases)
 one_more phases phase = omega (arith, length-append phases (phase ∷ []))
 
 -- the moments of a phase more
-moments_on : (told : List ℕ) (old new : List Told) (first reading count moment : ℕ) → moments_begun new ≡ moments_begun old ++ moment ∷ [] → moments_begun old ≡ clock_moments told first count → reading ≡ raised first count → moment ≡ min (moment_at told reading) last_moment → moments_begun new ≡ clock_moments told first (suc count)
+moments_on : (told : List ℕ) (old new : List StoryStep) (first reading count moment : ℕ) → moments_begun new ≡ moments_begun old ++ moment ∷ [] → moments_begun old ≡ clock_moments told first count → reading ≡ raised first count → moment ≡ min (moment_at told reading) last_moment → moments_begun new ≡ clock_moments told first (suc count)
 moments_on told old new first reading count moment is before at now =
     is ∙ ap₂ (λ ms m. ms ++ m ∷ []) before (now ∙ ap (λ r. min (moment_at told r) last_moment) at) ∙ sym (clock_more told first count)
 
 -- one phase more has been run
-pub run_goes_on : (phases : List Phase) (phase : Phase) (old new : List Told) (outside : Outside) (holds : Option (List ℕ)) (reading moment number : ℕ) (failed more : Bool) → HasRunPhases phases old outside failed → RunsPhase phase moment old new → more ≡ lanes_fail 1 (state_of new).phase.lanes (replies_of new) → IfSome outside.moments (λ told. moment ≡ min (moment_at told outside.reading) last_moment) → reading ≡ raised outside.reading 1 → number ≡ length phases + 1 → Appends outside.holds holds (transcript number (state_of new).phase (replies_of new)) → HasRunPhases (phases ++ phase ∷ []) new (record { held = outside.held; holds = holds; moments = outside.moments; first = outside.first; reading = reading }) (failed || more)
+pub run_goes_on : (phases : List Phase) (phase : Phase) (old new : List StoryStep) (outside : Outside) (holds : Option (List ℕ)) (reading moment number : ℕ) (failed more : Bool) → HasRunPhases phases old outside failed → RunsPhase phase moment old new → more ≡ lanes_fail 1 (state_of new).phase.lanes (replies_of new) → IfSome outside.moments (λ told. moment ≡ min (moment_at told outside.reading) last_moment) → reading ≡ raised outside.reading 1 → number ≡ length phases + 1 → Appends outside.holds holds (transcript number (state_of new).phase (replies_of new)) → HasRunPhases (phases ++ phase ∷ []) new (record { held = outside.held; holds = holds; moments = outside.moments; first = outside.first; reading = reading }) (failed || more)
 run_goes_on phases phase old new outside holds reading moment number failed more so_far runs fails told reads count wrote = record {
   opened = runs.goes.opened;
   phases_are = runs.goes.phases ∙ ap (λ ps. ps ++ phase ∷ []) so_far.phases_are;
@@ -176,11 +176,11 @@ run_goes_on phases phase old new outside holds reading moment number failed more
       (appends_more outside.held outside.holds holds (transcripts (ended_phases old)) (transcript number (state_of new).phase (replies_of new)) so_far.written wrote);
 }
 
-moments_kept : (told : List ℕ) (story : List Told) (first count : ℕ) → moments_begun story ≡ clock_moments told first count → moments_begun story ≡ clock_moments told first (length (moments_begun story))
+moments_kept : (told : List ℕ) (story : List StoryStep) (first count : ℕ) → moments_begun story ≡ clock_moments told first count → moments_begun story ≡ clock_moments told first (length (moments_begun story))
 moments_kept told story first count is = is ∙ ap (clock_moments told first) (sym (clock_length told first count) ∙ sym (ap length is))
 
 -- the last phase, as it is printed where its commands are all finished
-abbrev last_given : List Told → List EndedPhase
+abbrev last_given : List StoryStep → List EndedPhase
 last_given story = last_phase (state_of story) (replies_over replies_after start no_replies story)
 
 -- the clock was read for the phase that began last, and for one that did not begin
@@ -195,7 +195,7 @@ read_by NoMemory count outside is = inl is
 read_by (Is fault) count outside is = is
 
 -- the run was given up for want of memory
-pub run_leaves : (phases rest all : List Phase) (phase : Phase) (old new : List Told) (outside : Outside) (moment reading : ℕ) (failed : Bool) → HasRunPhases phases old outside failed → LeavesPhase phase moment old new → IfSome outside.moments (λ told. moment ≡ min (moment_at told outside.reading) last_moment) → phases ++ phase ∷ rest ≡ all → reading ≡ raised outside.reading 1 → IsRunGivenUp NoMemory all new (record outside { reading = reading })
+pub run_leaves : (phases rest all : List Phase) (phase : Phase) (old new : List StoryStep) (outside : Outside) (moment reading : ℕ) (failed : Bool) → HasRunPhases phases old outside failed → LeavesPhase phase moment old new → IfSome outside.moments (λ told. moment ≡ min (moment_at told outside.reading) last_moment) → phases ++ phase ∷ rest ≡ all → reading ≡ raised outside.reading 1 → IsRunGivenUp NoMemory all new (record outside { reading = reading })
 run_leaves phases rest all phase old new outside moment reading failed so_far (inl is) told whole reads = record {
   opened = ap is_opened is ∙ so_far.opened;
   begun = (phase ∷ rest, sym whole ∙ ap (λ ps. ps ++ phase ∷ rest) (sym (ap phases_begun is ∙ so_far.phases_are)));
@@ -224,12 +224,12 @@ run_leaves phases rest all phase old new outside moment reading failed so_far (i
   cut_at = tt;
 }
 
-cut_in : (cut : Or WriteFault) (story : List Told) (old new : Option (List ℕ)) → IsCutAtLast story (transcripts (earlier_phases story)) old new → IsCutBy cut story old new
+cut_in : (cut : Or WriteFault) (story : List StoryStep) (old new : Option (List ℕ)) → IsCutAtLast story (transcripts (earlier_phases story)) old new → IsCutBy cut story old new
 cut_in NoMemory story old new h = tt
 cut_in (Is fault) story old new h = h
 
 -- the run was given up in a transcript
-pub run_is_cut : (cut : Or WriteFault) (phases rest all : List Phase) (phase : Phase) (old new : List Told) (outside : Outside) (holds : Option (List ℕ)) (moment reading number : ℕ) (failed : Bool) → HasRunPhases phases old outside failed → RunsPhase phase moment old new → IfSome outside.moments (λ told. moment ≡ min (moment_at told outside.reading) last_moment) → number ≡ length phases + 1 → phases ++ phase ∷ rest ≡ all → AppendsFront outside.holds holds (transcript number (state_of new).phase (replies_of new)) → reading ≡ raised outside.reading 1 → IsRunGivenUp cut all new (record outside { holds = holds; reading = reading })
+pub run_is_cut : (cut : Or WriteFault) (phases rest all : List Phase) (phase : Phase) (old new : List StoryStep) (outside : Outside) (holds : Option (List ℕ)) (moment reading number : ℕ) (failed : Bool) → HasRunPhases phases old outside failed → RunsPhase phase moment old new → IfSome outside.moments (λ told. moment ≡ min (moment_at told outside.reading) last_moment) → number ≡ length phases + 1 → phases ++ phase ∷ rest ≡ all → AppendsFront outside.holds holds (transcript number (state_of new).phase (replies_of new)) → reading ≡ raised outside.reading 1 → IsRunGivenUp cut all new (record outside { holds = holds; reading = reading })
 run_is_cut cut phases rest all phase old new outside holds moment reading number failed so_far runs told count whole wrote reads =
     let begun : phases_begun new ≡ phases ++ phase ∷ [] = runs.goes.phases ∙ ap (λ ps. ps ++ phase ∷ []) so_far.phases_are in
     record {

@@ -58,7 +58,7 @@ module _ (at old new : Shown) (h : IsSince at old) (counted : KeepsCount old new
   since_begins (Err error) lane ok err = since_same err
 
   since_tried : (lane unit : ℕ) (turn : UnitTurn) → Tries old.story new.story lane unit turn → IsSince at new
-  since_tried lane unit turns.Settled is = since_on at old new h counted is.0.phase
+  since_tried lane unit turns.Concluded is = since_on at old new h counted is.0.phase
   since_tried lane unit (turns.NotReady earlier) is = since_on at old new h counted (subst (λ s. SamePhase (state_of old.story) (state_of s)) (sym is.0) (record { phase = refl; number = refl; moment = refl }))
   since_tried lane unit (turns.Run script targets) is = since_on at old new h counted is.0.phase
   since_tried lane unit turns.Faulted is = since_on at old new h counted is.phase
@@ -68,7 +68,7 @@ module _ (at old new : Shown) (h : IsSince at old) (counted : KeepsCount old new
   since_tries (Err error) lane unit ok err = since_same err
 
   since_carried : (lane unit : ℕ) (came : Carried) → IsCarried old.story new.story lane unit came → IsSince at new
-  since_carried lane unit carried.Settled is = since_on at old new h counted is.0.phase
+  since_carried lane unit carried.Concluded is = since_on at old new h counted is.0.phase
   since_carried lane unit carried.Faulted is = since_on at old new h counted is.phase
 
   pub since_carries : (result : Result Carried NoMemory) (lane unit : ℕ) → IfOk result (λ came. IsCarried old.story new.story lane unit came) → OnErr result (new ≡ old) → IsSince at new

@@ -13,9 +13,9 @@ use Rattle.cc_names.specs.declared.commands.Command.{Command}
 use Rattle.cc_names.specs.declared.commands.Lane.{Lane}
 use Rattle.cc_names.specs.declared.commands.Phase.{Phase}
 use Rattle.carried_out.specs.CarriedOut.{is_carried_out, IsLaneCarriedOut, AreCarriedOut}
+use Rattle.legal_history.specs.Stories.Commanded.{command_of}
 use Rattle.legal_history.specs.Stories.Lanes.{IsFinished, IsWithin, count_of}
 use Rattle.legal_history.specs.Stories.States.{State, done_of, with_done, command_behind, lanes_done, all_done}
-use Rattle.clearmake.specs.Nexts.{waiting}
 
 pub done_same : (done : List (ℕ × ℕ)) (lane : ℕ) → done_of (with_done done lane) lane ≡ done_of done lane + 1
 done_same done lane =
@@ -39,7 +39,7 @@ behind_is : (done : ℕ) (found : Option Lane) (command : Command) → option_an
 behind_is done None command e = absurd (cc)
 behind_is done (Some lane) command e = slice_get_within lane.commands done command e
 
-pub waits_below : (s : State) (lane : ℕ) (command : Command) → waiting s lane ≡ Some command → done_of s.done lane < count_of (lane_at s.phase lane)
+pub waits_below : (s : State) (lane : ℕ) (command : Command) → command_of s lane ≡ Some command → done_of s.done lane < count_of (lane_at s.phase lane)
 waits_below s lane command e = behind_is (done_of s.done lane) (lane_at s.phase lane) command e
 
 past : (xs : List Command) (n : ℕ) → slice_get xs n ≡ None → length xs ≤ n
@@ -52,7 +52,7 @@ none_behind done None e = omega arith
 none_behind done (Some lane) e = past lane.commands done e
 
 -- a lane where no command waits is finished
-pub finished_where : (s : State) (lane : ℕ) → IsWithin s lane → waiting s lane ≡ None → IsFinished s lane
+pub finished_where : (s : State) (lane : ℕ) → IsWithin s lane → command_of s lane ≡ None → IsFinished s lane
 finished_where s lane within e = let h = none_behind (done_of s.done lane) (lane_at s.phase lane) e in omega arith
 
 -- the command that waits in a phase whose commands are carried out is carried out
@@ -74,7 +74,7 @@ behind_carried : (done : ℕ) (found : Option Lane) → IfSome found IsLaneCarri
 behind_carried done None h = tt
 behind_carried done (Some lane) h = command_carried lane.commands done h
 
-pub waiting_carried : (s : State) (lane : ℕ) → AreCarriedOut s.phase → IfSome (waiting s lane) (λ command. is_carried_out command ≡ true)
+pub waiting_carried : (s : State) (lane : ℕ) → AreCarriedOut s.phase → IfSome (command_of s lane) (λ command. is_carried_out command ≡ true)
 waiting_carried s lane h = behind_carried (done_of s.done lane) (lane_at s.phase lane) (at_carried s.phase lane h)
 
 -- lanes that are each finished, from number n on

@@ -5,8 +5,8 @@ use Rattle.cc_names.specs.declared.replies.Reply.{Reply}
 use Rattle.cc_names.specs.declared.replies.Reply.TheVariants as replies
 use Rattle.cc_names.specs.declared.rows.Tag.{Tag}
 use Rattle.cc_names.specs.declared.steps.Step.TheVariants as steps
-use Rattle.cc_names.specs.declared.steps.Told.{Told}
-use Rattle.cc_names.specs.declared.steps.Told.TheVariants as told
+use Rattle.cc_names.specs.declared.steps.StoryStep.{StoryStep}
+use Rattle.cc_names.specs.declared.steps.StoryStep.TheVariants as story_steps
 use Rattle.base_core.proofs.Story.Growing.{state_from-more}
 use Rattle.legal_history.proofs.Stories.Fronts.{rest_is_legal}
 use Rattle.base_core.specs.Story.Replying.{in_lane, reply_to_end, no_replies, replies_after}
@@ -22,8 +22,8 @@ use Rattle.session_run.specs.Story.FromNothing.{end_from_nothing, told_after, te
 use Rattle.session_run.specs.Story.Rendered.{Replies, closed_by, closed_over, replies_over, last_phase, rendered, transcripts}
 
 -- the law of builds, at each front of a history
-pub record Law (story : List Told) : Type 0 where
-  pub complete : (front rest : List Told) (lane : ℕ) (build : Build) → story ≡ front ++ rest → build_of (state_of front).active lane ≡ Some build → is_complete build ≡ true → reply_of (state_of front).base build ≡ reply_from_nothing (state_of front).base build
+pub record Law (story : List StoryStep) : Type 0 where
+  pub complete : (front rest : List StoryStep) (lane : ℕ) (build : Build) → story ≡ front ++ rest → build_of (state_of front).active lane ≡ Some build → is_complete build ≡ true → reply_of (state_of front).base build ≡ reply_from_nothing (state_of front).base build
 
 -- the build of a command is the active one of its lane
 where_same : (is : Bool) (kept build : Build) → only_where is (Some kept) ≡ Some build → Some kept ≡ Some build
@@ -47,13 +47,13 @@ chosen_same true fault one two h = refl
 chosen_same false fault one two h = h refl
 
 -- a step after which both folds reply the same
-SameEnd : State → Told → Type 0
-SameEnd s (told.Other (steps.End tag)) = reply_to_end s.base (build_by s tag) ≡ end_from_nothing s.base (build_by s tag)
+SameEnd : State → StoryStep → Type 0
+SameEnd s (story_steps.Other (steps.End tag)) = reply_to_end s.base (build_by s tag) ≡ end_from_nothing s.base (build_by s tag)
 SameEnd s x = Unit {0}
 
-same_end : (story front rest : List Told) (x : Told) → Law story → story ≡ front ++ rest → Lawful (state_of front) x → SameEnd (state_of front) x
+same_end : (story front rest : List StoryStep) (x : StoryStep) → Law story → story ≡ front ++ rest → Lawful (state_of front) x → SameEnd (state_of front) x
 unfolding SameEnd
-same_end story front rest (told.Other (steps.End tag)) law grows ends =
+same_end story front rest (story_steps.Other (steps.End tag)) law grows ends =
     let s = state_of front in
     let build = ends.build in
     let complete : build.faulted ≡ false → reply_of s.base build ≡ reply_from_nothing s.base build =
@@ -63,16 +63,16 @@ same_end story front rest (told.Other (steps.End tag)) law grows ends =
     ∙ ap (end_from_nothing s.base) (sym ends.active)
 same_end story front rest x law grows lawful = tt
 
-step_same : (s : State) (replies : Replies) (x : Told) → SameEnd s x → replies_after s x replies ≡ told_after s x replies
+step_same : (s : State) (replies : Replies) (x : StoryStep) → SameEnd s x → replies_after s x replies ≡ told_after s x replies
 unfolding SameEnd
-step_same s replies (told.Other (steps.End tag)) h = ap (λ reply lane. replies lane ++ in_lane lane tag reply) h
+step_same s replies (story_steps.Other (steps.End tag)) h = ap (λ reply lane. replies lane ++ in_lane lane tag reply) h
 step_same s replies x h = refl
 
-AllSame : State → List Told → Type 0
+AllSame : State → List StoryStep → Type 0
 AllSame s [] = Unit {0}
 AllSame s (x ∷ story) = SameEnd s x × AllSame (after s x) story
 
-all_same : (story front rest : List Told) → Law story → story ≡ front ++ rest → LegalFrom (state_of front) rest → AllSame (state_of front) rest
+all_same : (story front rest : List StoryStep) → Law story → story ≡ front ++ rest → LegalFrom (state_of front) rest → AllSame (state_of front) rest
 unfolding AllSame
 all_same story front [] law grows lawful = tt
 all_same story front (x ∷ rest) law grows lawful =
@@ -82,21 +82,21 @@ all_same story front (x ∷ rest) law grows lawful =
           (all_same story (front ++ x ∷ []) rest law (grows ∙ sym (append_assoc front (x ∷ []) rest)) (subst (λ s. LegalFrom s rest) (sym more) lawful.1)),
     )
 
-closed_same : (s : State) (replies : Replies) (story : List Told) → AllSame s story → closed_over replies_after s replies story ≡ closed_over told_after s replies story
+closed_same : (s : State) (replies : Replies) (story : List StoryStep) → AllSame s story → closed_over replies_after s replies story ≡ closed_over told_after s replies story
 unfolding AllSame
 closed_same s replies [] h = refl
 closed_same s replies (x ∷ story) h =
     ap (λ phases. closed_by s replies x ++ phases)
     (ap (λ r. closed_over replies_after (after s x) r story) (step_same s replies x h.0) ∙ closed_same (after s x) (told_after s x replies) story h.1)
 
-over_same : (s : State) (replies : Replies) (story : List Told) → AllSame s story → replies_over replies_after s replies story ≡ replies_over told_after s replies story
+over_same : (s : State) (replies : Replies) (story : List StoryStep) → AllSame s story → replies_over replies_after s replies story ≡ replies_over told_after s replies story
 unfolding AllSame
 over_same s replies [] h = refl
 over_same s replies (x ∷ story) h =
     ap (λ r. replies_over replies_after (after s x) r story) (step_same s replies x h.0) ∙ over_same (after s x) (told_after s x replies) story h.1
 
 -- Along a legal story the text by the units' own outcomes is the one that building from nothing tells.
-same_text : (story : List Told) → Law story → Legal story → rendered story ≡ text_from_nothing story
+same_text : (story : List StoryStep) → Law story → Legal story → rendered story ≡ text_from_nothing story
 same_text story law legal =
     let same = all_same story [] story law refl legal in
     ap transcripts (ap₂ (λ front replies. front ++ last_phase (state_of story) replies) (closed_same start no_replies story same) (over_same start no_replies story same))
@@ -108,11 +108,11 @@ some_same one two e = ap (λ o. elim o [ None ↦ one | Some build ↦ build ]) 
 pub ends_over : (s : State) (tag : Tag) (build : Build) → EndsBuild s tag → build_by s tag ≡ Some build → (is_complete build || build.faulted) ≡ true
 ends_over s tag build ends is = subst (λ b. (is_complete b || b.faulted) ≡ true) (some_same ends.build build (sym ends.active ∙ is)) ends.over
 
-pub are_from_nothing : (story : List Told) → Law story → Legal story → AreFromNothing story
+pub are_from_nothing : (story : List StoryStep) → Law story → Legal story → AreFromNothing story
 are_from_nothing story law legal = record {
   text = same_text story law legal;
   each = λ front rest tag build grows is sound.
-      let ends : EndsBuild (state_of front) tag = (rest_is_legal start front (told.Other (steps.End tag) ∷ rest) (subst Legal grows legal)).0 in
-      law.complete front (told.Other (steps.End tag) ∷ rest) tag.lane build grows (is_active (state_of front) tag build is)
+      let ends : EndsBuild (state_of front) tag = (rest_is_legal start front (story_steps.Other (steps.End tag) ∷ rest) (subst Legal grows legal)).0 in
+      law.complete front (story_steps.Other (steps.End tag) ∷ rest) tag.lane build grows (is_active (state_of front) tag build is)
       (over_complete (is_complete build) build.faulted (ends_over (state_of front) tag build ends is) sound);
 }

@@ -3,8 +3,8 @@ use Rattle.std.proofs.Common.{◌≡◌, ◌+◌, true, List, [], ◌∷◌, ◌
 use Rattle.std.proofs.lemmas.List.{append-nil}
 use Rattle.cc_names.specs.declared.steps.Step.{Step}
 use Rattle.cc_names.specs.declared.steps.Step.TheVariants as steps
-use Rattle.cc_names.specs.declared.steps.Told.{Told}
-use Rattle.cc_names.specs.declared.steps.Told.TheVariants as told
+use Rattle.cc_names.specs.declared.steps.StoryStep.{StoryStep}
+use Rattle.cc_names.specs.declared.steps.StoryStep.TheVariants as story_steps
 use Rattle.legal_history.specs.Stories.States.{State, start}
 use Rattle.legal_history.specs.Stories.Steps.{after, after_step, state_from, state_of}
 use Rattle.clearmake.specs.Going.{SamePhase}
@@ -13,31 +13,31 @@ use Rattle.session_run.specs.Running.Lanes.{Goes}
 use Rattle.session_run.specs.Story.Begun.{phases_begun, moments_begun, first_step, is_opened}
 use Rattle.session_run.specs.Story.Rendered.{Replies, closed_by, closed_over, earlier_phases, replies_over}
 
-pub state_more : (s : State) (story more : List Told) → state_from s (story ++ more) ≡ state_from (state_from s story) more
+pub state_more : (s : State) (story more : List StoryStep) → state_from s (story ++ more) ≡ state_from (state_from s story) more
 state_more s [] more = refl
 state_more s (x ∷ story) more = state_more (after s x) story more
 
-pub phases_more : (story more : List Told) → phases_begun (story ++ more) ≡ phases_begun story ++ phases_begun more
+pub phases_more : (story more : List StoryStep) → phases_begun (story ++ more) ≡ phases_begun story ++ phases_begun more
 phases_more [] more = refl
-phases_more (told.Plan phase moment ∷ story) more = ap (λ phases. phase ∷ phases) (phases_more story more)
+phases_more (story_steps.PhaseBegun phase moment ∷ story) more = ap (λ phases. phase ∷ phases) (phases_more story more)
 phases_more (x ∷ story) more = phases_more story more
 
-pub moments_more : (story more : List Told) → moments_begun (story ++ more) ≡ moments_begun story ++ moments_begun more
+pub moments_more : (story more : List StoryStep) → moments_begun (story ++ more) ≡ moments_begun story ++ moments_begun more
 moments_more [] more = refl
-moments_more (told.Plan phase moment ∷ story) more = ap (λ moments. moment ∷ moments) (moments_more story more)
+moments_more (story_steps.PhaseBegun phase moment ∷ story) more = ap (λ moments. moment ∷ moments) (moments_more story more)
 moments_more (x ∷ story) more = moments_more story more
 
-pub closed_more : (leave : State → Told → Replies → Replies) (s : State) (replies : Replies) (story more : List Told) → closed_over leave s replies (story ++ more) ≡ closed_over leave s replies story ++ closed_over leave (state_from s story) (replies_over leave s replies story) more
+pub closed_more : (leave : State → StoryStep → Replies → Replies) (s : State) (replies : Replies) (story more : List StoryStep) → closed_over leave s replies (story ++ more) ≡ closed_over leave s replies story ++ closed_over leave (state_from s story) (replies_over leave s replies story) more
 closed_more leave s replies [] more = refl
 closed_more leave s replies (x ∷ story) more =
     ap (λ phases. closed_by s replies x ++ phases) (closed_more leave (after s x) (leave s x replies) story more)
     ∙ sym (append_assoc (closed_by s replies x) (closed_over leave (after s x) (leave s x replies) story) (closed_over leave (state_from (after s x) story) (replies_over leave (after s x) (leave s x replies) story) more))
 
-pub opened_more : (story more : List Told) → is_opened story ≡ true → is_opened (story ++ more) ≡ is_opened story
+pub opened_more : (story more : List StoryStep) → is_opened story ≡ true → is_opened (story ++ more) ≡ is_opened story
 opened_more [] more e = absurd (cc)
 opened_more (x ∷ story) more e = refl
 
-pub first_more : (story more : List Told) → is_opened story ≡ true → first_step (story ++ more) ≡ first_step story
+pub first_more : (story more : List StoryStep) → is_opened story ≡ true → first_step (story ++ more) ≡ first_step story
 first_more [] more e = absurd (cc)
 first_more (x ∷ story) more e = refl
 
@@ -46,51 +46,51 @@ number_step : (s : State) (step : Step) → (after_step s step).number ≡ s.num
 number_step s (steps.Refused tag refusal) = refl
 number_step s step = refl
 
-number_from : (s : State) (story : List Told) → (state_from s story).number ≡ s.number + length (phases_begun story)
+number_from : (s : State) (story : List StoryStep) → (state_from s story).number ≡ s.number + length (phases_begun story)
 number_from s [] = omega arith
-number_from s (told.Plan phase moment ∷ story) =
-    let h = number_from (after s (told.Plan phase moment)) story in
+number_from s (story_steps.PhaseBegun phase moment ∷ story) =
+    let h = number_from (after s (story_steps.PhaseBegun phase moment)) story in
     omega (arith, h)
-number_from s (told.Opened rows counts tells ∷ story) = number_from (after s (told.Opened rows counts tells)) story
-number_from s (told.Commit row tick ∷ story) = number_from (after s (told.Commit row tick)) story
-number_from s (told.Other step ∷ story) =
-    number_from (after s (told.Other step)) story ∙ ap (λ n. n + length (phases_begun story)) (number_step s step)
+number_from s (story_steps.Opened rows counts tells ∷ story) = number_from (after s (story_steps.Opened rows counts tells)) story
+number_from s (story_steps.Commit row tick ∷ story) = number_from (after s (story_steps.Commit row tick)) story
+number_from s (story_steps.Other step ∷ story) =
+    number_from (after s (story_steps.Other step)) story ∙ ap (λ n. n + length (phases_begun story)) (number_step s step)
 
 none_long : {A : Type 0} (xs : List A) → length xs ≡ 0 → xs ≡ []
 none_long [] e = refl
 none_long (x ∷ xs) e = absurd (omega (arith, e))
 
 -- steps that leave the number of the last phase begin none
-pub no_phases : (s : State) (more : List Told) → (state_from s more).number ≡ s.number → phases_begun more ≡ []
+pub no_phases : (s : State) (more : List StoryStep) → (state_from s more).number ≡ s.number → phases_begun more ≡ []
 no_phases s more same = none_long (phases_begun more) (omega (arith, number_from s more, same))
 
-no_moments : (more : List Told) → phases_begun more ≡ [] → moments_begun more ≡ []
+no_moments : (more : List StoryStep) → phases_begun more ≡ [] → moments_begun more ≡ []
 no_moments [] e = refl
-no_moments (told.Plan phase moment ∷ more) e = absurd (cc)
-no_moments (told.Opened rows counts tells ∷ more) e = no_moments more e
-no_moments (told.Commit row tick ∷ more) e = no_moments more e
-no_moments (told.Other step ∷ more) e = no_moments more e
+no_moments (story_steps.PhaseBegun phase moment ∷ more) e = absurd (cc)
+no_moments (story_steps.Opened rows counts tells ∷ more) e = no_moments more e
+no_moments (story_steps.Commit row tick ∷ more) e = no_moments more e
+no_moments (story_steps.Other step ∷ more) e = no_moments more e
 
-rest_none : (x : Told) (more : List Told) → phases_begun (x ∷ more) ≡ [] → phases_begun more ≡ []
-rest_none (told.Plan phase moment) more e = absurd (cc)
-rest_none (told.Opened rows counts tells) more e = e
-rest_none (told.Commit row tick) more e = e
-rest_none (told.Other step) more e = e
+rest_none : (x : StoryStep) (more : List StoryStep) → phases_begun (x ∷ more) ≡ [] → phases_begun more ≡ []
+rest_none (story_steps.PhaseBegun phase moment) more e = absurd (cc)
+rest_none (story_steps.Opened rows counts tells) more e = e
+rest_none (story_steps.Commit row tick) more e = e
+rest_none (story_steps.Other step) more e = e
 
-closes_no_phase : (s : State) (replies : Replies) (x : Told) (more : List Told) → phases_begun (x ∷ more) ≡ [] → closed_by s replies x ≡ []
-closes_no_phase s replies (told.Plan phase moment) more e = absurd (cc)
-closes_no_phase s replies (told.Opened rows counts tells) more e = refl
-closes_no_phase s replies (told.Commit row tick) more e = refl
-closes_no_phase s replies (told.Other step) more e = refl
+closes_no_phase : (s : State) (replies : Replies) (x : StoryStep) (more : List StoryStep) → phases_begun (x ∷ more) ≡ [] → closed_by s replies x ≡ []
+closes_no_phase s replies (story_steps.PhaseBegun phase moment) more e = absurd (cc)
+closes_no_phase s replies (story_steps.Opened rows counts tells) more e = refl
+closes_no_phase s replies (story_steps.Commit row tick) more e = refl
+closes_no_phase s replies (story_steps.Other step) more e = refl
 
-closes_none : (leave : State → Told → Replies → Replies) (s : State) (replies : Replies) (more : List Told) → phases_begun more ≡ [] → closed_over leave s replies more ≡ []
+closes_none : (leave : State → StoryStep → Replies → Replies) (s : State) (replies : Replies) (more : List StoryStep) → phases_begun more ≡ [] → closed_over leave s replies more ≡ []
 closes_none leave s replies [] e = refl
 closes_none leave s replies (x ∷ more) e =
     ap (λ phases. phases ++ closed_over leave (after s x) (leave s x replies) more) (closes_no_phase s replies x more e)
     ∙ closes_none leave (after s x) (leave s x replies) more (rest_none x more e)
 
 -- a story that goes on by steps that leave the last phase
-pub goes_on : (old new more : List Told) → new ≡ old ++ more → SamePhase (state_of old) (state_of new) → is_opened old ≡ true → Goes old new
+pub goes_on : (old new more : List StoryStep) → new ≡ old ++ more → SamePhase (state_of old) (state_of new) → is_opened old ≡ true → Goes old new
 goes_on old new more grows same opened =
     let state : state_of new ≡ state_from (state_of old) more = ap state_of grows ∙ state_more start old more in
     let none = no_phases (state_of old) more (ap (λ s. s.number) (sym state) ∙ same.number) in

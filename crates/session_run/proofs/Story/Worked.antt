@@ -8,8 +8,8 @@ use Rattle.cc_names.specs.declared.refusals.Refusal.TheVariants.{ViewExists}
 use Rattle.cc_names.specs.declared.rows.Deed.TheVariants as deeds
 use Rattle.cc_names.specs.declared.rows.Tag.{Tag}
 use Rattle.cc_names.specs.declared.steps.Step.TheVariants as steps
-use Rattle.cc_names.specs.declared.steps.Told.{Told}
-use Rattle.cc_names.specs.declared.steps.Told.TheVariants as told
+use Rattle.cc_names.specs.declared.steps.StoryStep.{StoryStep}
+use Rattle.cc_names.specs.declared.steps.StoryStep.TheVariants as story_steps
 use Rattle.cc_names.specs.declared.steps.Counts.{Counts}
 use Rattle.session_run.specs.Calls.Asked.{is_run}
 use Rattle.session_run.specs.Promises.Headline.{clock_moments}
@@ -29,16 +29,16 @@ tag phase command = record { phase = phase; lane = 1; command = command }
 no_counts : Counts
 no_counts = record { ticks = 0; faults = 0 }
 
-first_command : List Told
+first_command : List StoryStep
 first_command =
-    told.Opened [] no_counts true ∷ told.Plan saves 5 ∷ told.Commit (record { tag = tag 1 1; moment = 5; deed = deeds.Mkview (codes "v") }) 1 ∷ []
+    story_steps.Opened [] no_counts true ∷ story_steps.PhaseBegun saves 5 ∷ story_steps.Commit (record { tag = tag 1 1; moment = 5; deed = deeds.Mkview (codes "v") }) 1 ∷ []
 
-first_phase : List Told
+first_phase : List StoryStep
 first_phase =
-    first_command ++ told.Commit (record { tag = tag 1 2; moment = 5; deed = deeds.Put (codes "v") (codes "in") (codes "hi\n") }) 2 ∷ []
+    first_command ++ story_steps.Commit (record { tag = tag 1 2; moment = 5; deed = deeds.Put (codes "v") (codes "in") (codes "hi\n") }) 2 ∷ []
 
-two_phases : List Told
-two_phases = first_phase ++ told.Plan again 6 ∷ told.Other (steps.Refused (tag 2 1) ViewExists) ∷ []
+two_phases : List StoryStep
+two_phases = first_phase ++ story_steps.PhaseBegun again 6 ∷ story_steps.Other (steps.Refused (tag 2 1) ViewExists) ∷ []
 
 -- a phase is rendered once its commands are all finished
 unfinished : rendered first_command ≡ []

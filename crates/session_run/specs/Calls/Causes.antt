@@ -1,7 +1,7 @@
 -- The cause of each status of a call.
 use Rattle.std.specs.Prelude.{◌≡◌, ℕ, ◌+◌, ◌<◌, ◌≤◌, ◌⊎◌, Bool, true, false, Option, is_some, IfSome, List, [], length}
 use Rattle.std.specs.Io.KnownBytes.{IsAtEnd}
-use Rattle.cc_names.specs.declared.steps.Told.{Told}
+use Rattle.cc_names.specs.declared.steps.StoryStep.{StoryStep}
 use Rattle.cc_names.specs.Counts.{raised, Rose, RoseAbove, RoseAtMost, rises}
 use Rattle.cc_outside.specs.Sights.{SinkSight, SourceSight}
 use Rattle.disk_model.specs.Devices.{bytes_of}
@@ -42,6 +42,10 @@ intake_of words before after = record {
 abbrev pub sink_faults : SinkSight → SinkSight → Change ℕ
 sink_faults before after = record { before = before.faults; after = after.faults }
 
+-- how a disk was seen before and after
+abbrev pub disk_sights : Sight → Sight → Change Sight
+disk_sights before after = record { before = before; after = after }
+
 -- the words have the form, and the source was read to its end, which came within the limit
 pub record IsRead (intake : Intake) : Type 0 where
   pub words : is_run intake.words ≡ true
@@ -52,7 +56,7 @@ pub record IsRead (intake : Intake) : Type 0 where
   pub bytes : IfSome intake.text.before (λ bytes. length bytes ≡ count)
 
 -- a whole run: the source's bytes spell a session, a base was opened, and each command is finished
-pub record IsWhole (intake : Intake) (story : List Told) : Type 0 where
+pub record IsWhole (intake : Intake) (story : List StoryStep) : Type 0 where
   pub read : IsRead intake
   pub session : IfSome intake.text.before (λ bytes. is_session bytes ≡ true)
   pub opened : is_opened story ≡ true
@@ -89,7 +93,7 @@ abbrev pub disk_rose : Change Sight → Bool
 disk_rose disk = rises disk.before.faults disk.after.faults
 
 -- no base was opened, and no call was made on the disk
-pub record IsUntouched (disk : Change Sight) (story : List Told) : Type 0 where
+pub record IsUntouched (disk : Change Sight) (story : List StoryStep) : Type 0 where
   pub disk_is : disk.after ≡ disk.before
   pub story_is : story ≡ []
 
@@ -105,7 +109,7 @@ DiskUndamaged disk = IfTold disk.before.told (λ d. IsUndamaged (frames (bytes_o
 -- *The cause of each status*. Memory may run out anywhere, but where no base was opened it hides no fault of the disk. The other
 -- causes exclude one another, a failed source and a failed sink aside, so each status but those comes exactly where its cause
 -- does, unless the sink fails or memory runs out. Where the disk failed and a base was opened, each command is finished.
-abbrev pub HasCause : Status → Intake → Change ℕ → Change Sight → List Told → Type 0
+abbrev pub HasCause : Status → Intake → Change ℕ → Change Sight → List StoryStep → Type 0
 HasCause statuses.Good intake sink_faults disk story = IsWhole intake story × (has_failure story ≡ false) × (disk_rose disk ≡ false) × DiskUndamaged disk
 HasCause statuses.SomeFailed intake sink_faults disk story = IsWhole intake story × (has_failure story ≡ true) × (disk_rose disk ≡ false) × DiskUndamaged disk
 HasCause statuses.BadWords intake sink_faults disk story = (is_run intake.words ≡ false) × IsUnread intake × IsUntouched disk story
@@ -129,7 +133,7 @@ pub record FindsDamage (status : Status) (intake : Intake) (disk : Change Sight)
   pub damaged : (row : ℕ) → IsToldToOpen intake → is_some disk.before.told ≡ true → DiskDamaged disk row → disk_rose disk ≡ false → is_cut status ≡ false → status ≡ statuses.Damaged row
 
 -- *The disk of a call that read no session*, whatever the status: no base was opened, and no call was made on the disk.
-pub record LeavesAlone (intake : Intake) (disk : Change Sight) (story : List Told) : Type 0 where
+pub record LeavesAlone (intake : Intake) (disk : Change Sight) (story : List StoryStep) : Type 0 where
   pub unless_asked : IsAsked intake ⊎ IsUntouched disk story
 
 -- *How far a source is read*, whatever the status: it gave at most one byte more than a text may have, and where the words are

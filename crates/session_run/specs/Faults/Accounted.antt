@@ -1,8 +1,9 @@
--- What a history says of the device calls of its session: which command met which fault, and what became of the files.
+-- What a history says of the device calls of its session: between which two ends, of commits or faults, each failed call lies,
+-- and what became of the files. Calls do not say which command made them.
 use Rattle.std.specs.Prelude.{◌≡◌, ◌≤◌, ◌+◌, ◌⊎◌, Bool, true, false, List, [], ◌∷◌}
 use Rattle.cc_names.specs.declared.steps.Step.TheVariants as steps
-use Rattle.cc_names.specs.declared.steps.Told.{Told}
-use Rattle.cc_names.specs.declared.steps.Told.TheVariants as told
+use Rattle.cc_names.specs.declared.steps.StoryStep.{StoryStep}
+use Rattle.cc_names.specs.declared.steps.StoryStep.TheVariants as story_steps
 use Rattle.disk_model.specs.Counting.{next_count}
 use Rattle.disk_model.specs.Told.{Sight, IfTold, Both}
 use Rattle.legal_history.specs.Stories.Steps.{state_of}
@@ -24,9 +25,9 @@ pub record Settles (ajar : Bool) (old new : Sight) : Type 0 where
 -- The steps of a history behind its first, from the disk as the base was opened to the disk as it came back. The disk was
 -- called within commits and faults alone, and each of these has its counts as its own call began and as it ended. Behind the
 -- last step the journal was settled.
-pub record CountsFrom (opened after : Sight) (story : List Told) : Type 0 where
-  pub first : Told
-  pub steps : List Told
+pub record CountsFrom (opened after : Sight) (story : List StoryStep) : Type 0 where
+  pub first : StoryStep
+  pub steps : List StoryStep
   pub ended : Sight
   pub story_is : story ≡ first ∷ steps
   pub counts : CountsSteps steps opened ended
@@ -35,21 +36,21 @@ pub record CountsFrom (opened after : Sight) (story : List Told) : Type 0 where
 -- *Whose fault*: opening counted no fault, and from then on the count rose at the faults of the history, and once more at most as
 -- the journal was settled, by the counts of some disk between one step and the next. Where the disk tells its device, the calls
 -- that it tells say at which tick each of them failed.
-pub record IsAccountedFor (disk : Change Sight) (story : List Told) : Type 0 where
+pub record IsAccountedFor (disk : Change Sight) (story : List StoryStep) : Type 0 where
   pub opened : Sight
   pub sound : opened.faults ≡ disk.before.faults
   pub counted : CountsFrom opened disk.after story
   pub calls : IfTold disk.after.told (IsBlamed disk.before.ticks story)
 
 -- whether no row was committed and the disk failed under none
-abbrev pub is_calm : List Told → Bool
+abbrev pub is_calm : List StoryStep → Bool
 is_calm [] = true
-is_calm (told.Commit row tick ∷ story) = false
-is_calm (told.Other (steps.Fault tag left before faults tick) ∷ story) = false
+is_calm (story_steps.Commit row tick ∷ story) = false
+is_calm (story_steps.Other (steps.Fault tag left before faults tick) ∷ story) = false
 is_calm (x ∷ story) = is_calm story
 
 -- *The files*: the file of objects is as it was, and where no row was committed, and the disk failed under none, so is the
 -- journal.
-pub record KeepsFiles (disk : Change Sight) (story : List Told) : Type 0 where
+pub record KeepsFiles (disk : Change Sight) (story : List StoryStep) : Type 0 where
   pub objects : Both SameObjects disk.before.told disk.after.told
   pub files : is_calm story ≡ true → Both SameFiles disk.before.told disk.after.told

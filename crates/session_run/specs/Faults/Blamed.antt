@@ -2,8 +2,8 @@
 use Rattle.std.specs.Prelude.{◌≡◌, ℕ, ◌+◌, ◌-◌, ◌^◌, ◌<◌, ◌≤◌, Bool, true, false, if◌then◌else◌, List, [], ◌∷◌, length, reverse, take, drop}
 use Rattle.std.specs.List.{list_all}
 use Rattle.cc_names.specs.declared.steps.Step.TheVariants as steps
-use Rattle.cc_names.specs.declared.steps.Told.{Told}
-use Rattle.cc_names.specs.declared.steps.Told.TheVariants as told
+use Rattle.cc_names.specs.declared.steps.StoryStep.{StoryStep}
+use Rattle.cc_names.specs.declared.steps.StoryStep.TheVariants as story_steps
 use Rattle.disk_model.specs.Devices.{Device, Event, failures}
 use Rattle.legal_history.specs.Stories.States.{End}
 use Rattle.legal_history.specs.Stories.Steps.{state_of}
@@ -23,10 +23,10 @@ MeetsFault failed before faults tick calls = tick < 2 ^ 64 - 1 → (before ≡ f
 
 -- Over the steps of a history, with how many of the calls had failed by the newest end before: from one end to a commit's tick no
 -- call failed, and from one end to a fault's tick exactly one did.
-abbrev pub FailsAtFaults : ℕ → List Event → List Told → Type 0
+abbrev pub FailsAtFaults : ℕ → List Event → List StoryStep → Type 0
 FailsAtFaults failed calls [] = Unit {0}
-FailsAtFaults failed calls (told.Commit row tick ∷ steps) = (failed_by tick calls ≡ failed) × FailsAtFaults failed calls steps
-FailsAtFaults failed calls (told.Other (steps.Fault tag left before faults tick) ∷ steps) =
+FailsAtFaults failed calls (story_steps.Commit row tick ∷ steps) = (failed_by tick calls ≡ failed) × FailsAtFaults failed calls steps
+FailsAtFaults failed calls (story_steps.Other (steps.Fault tag left before faults tick) ∷ steps) =
     MeetsFault failed before faults tick calls × FailsAtFaults (failed_by tick calls) calls steps
 FailsAtFaults failed calls (step ∷ steps) = FailsAtFaults failed calls steps
 
@@ -49,7 +49,7 @@ reads_first (event ∷ calls) = if is_read event then reads_first calls else lis
 -- *Whose fault*, by the calls on a device of which so many had been made as it was handed in: those that opened the base read,
 -- none of them failed that another read follows, and no call behind them reads; and a call failed at each fault of the history,
 -- at no commit, and behind the last end as its journal was settled alone.
-pub record IsBlamed (handed : ℕ) (story : List Told) (d : Device) : Type 0 where
+pub record IsBlamed (handed : ℕ) (story : List StoryStep) (d : Device) : Type 0 where
   pub opening : reads_first (drop handed (reverse d.calls)) ≡ true
   pub ends : FailsAtFaults (failed_by handed (reverse d.calls)) (reverse d.calls) story
   pub behind : RestsBehind handed (state_of story).ends (reverse d.calls)

@@ -1,8 +1,8 @@
 -- What a stop at any device call finds on the disk: the last promise of the headline.
 use Rattle.std.specs.Prelude.{◌≡◌, ℕ, ◌-◌, ◌^◌, ◌<◌, ◌≤◌, true, false, Some, is_some, List, [], ◌∷◌}
 use Rattle.cc_names.specs.declared.steps.Step.TheVariants as steps
-use Rattle.cc_names.specs.declared.steps.Told.{Told}
-use Rattle.cc_names.specs.declared.steps.Told.TheVariants as told
+use Rattle.cc_names.specs.declared.steps.StoryStep.{StoryStep}
+use Rattle.cc_names.specs.declared.steps.StoryStep.TheVariants as story_steps
 use Rattle.disk_model.specs.Devices.{MayLeave, bytes_of, file_of}
 use Rattle.disk_model.specs.Files.{stable}
 use Rattle.disk_model.specs.Told.{Sight, Both, IfTold}
@@ -21,9 +21,9 @@ abbrev pub IsHandedIn : Sight → Type 0
 IsHandedIn disk = IfTold disk.told (λ d. (file_of 0 d ≡ stable (bytes_of 0 d)) × (file_of 1 d ≡ stable (bytes_of 1 d)))
 
 -- the counts of the disk's faults before and after each fault of a story, in order
-abbrev pub rises_of : List Told → List (ℕ × ℕ)
+abbrev pub rises_of : List StoryStep → List (ℕ × ℕ)
 rises_of [] = []
-rises_of (told.Other (steps.Fault tag left before after tick) ∷ story) = (before, after) ∷ rises_of story
+rises_of (story_steps.Other (steps.Fault tag left before after tick) ∷ story) = (before, after) ∷ rises_of story
 rises_of (x ∷ story) = rises_of story
 
 -- each of these rises is one of its own, behind those before it, and all lie within two counts
@@ -43,7 +43,7 @@ IsMended s disk = faults_of s.opened s.ends ≡ disk.faults → disk.faults < 2 
 -- of all commits and no more where the history has no fault, and where the count of the disk's faults stands as the last fault
 -- left it, below its last number. Each fault of the history has a rise of that count of its own, within those of the call, and
 -- each commit and fault ended at a call that the disk has counted.
-pub record KeepsPrefix (before after : Sight) (story : List Told) : Type 0 where
+pub record KeepsPrefix (before after : Sight) (story : List StoryStep) : Type 0 where
   pub opening : Opening
   pub opened : (state_of story).opened ≡ Some opening
   pub ticks : ticks_of (state_of story).opened (state_of story).ends ≤ after.ticks
@@ -59,14 +59,14 @@ abbrev pub KeepsFrames : Sight → Sight → Type 0
 KeepsFrames before after = IfTold before.told (λ d. IfTold after.told (λ e. (k : ℕ) (image : List ℕ) → before.ticks < k → MayLeave 0 e k image → frames image ≡ frames (bytes_of 0 d)))
 
 -- whatever a stop may find of a story opens again, to a base that is sound where the opened one was
-abbrev pub AllOpenAgain : List Told → Type 0
+abbrev pub AllOpenAgain : List StoryStep → Type 0
 AllOpenAgain story = (opening : Opening) (k : ℕ) (found : List (List ℕ))
     → (state_of story).opened ≡ Some opening
     → MayBeFound opening (state_of story).ends k found → OpensAgain opening.base found
 
 -- *Stopped*: what a stop at each device call finds, from what the disk told as it was handed in and as it came back. Where no
 -- base was opened both files are as they were.
-pub record IsStopped (before after : Sight) (story : List Told) : Type 0 where
+pub record IsStopped (before after : Sight) (story : List StoryStep) : Type 0 where
   pub tells : is_some after.told ≡ is_some before.told
   pub on_base : is_opened story ≡ true → KeepsPrefix before after story
   pub on_none : is_opened story ≡ false → KeepsFrames before after

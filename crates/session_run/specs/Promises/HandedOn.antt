@@ -1,6 +1,6 @@
 -- That soundness is handed on from one call to the next.
 use Rattle.std.specs.Prelude.{◌≡◌, ℕ, ◌<◌, true, Option, Some, List}
-use Rattle.cc_names.specs.declared.steps.Told.{Told}
+use Rattle.cc_names.specs.declared.steps.StoryStep.{StoryStep}
 use Rattle.disk_model.specs.Devices.{Device, MayLeave, bytes_of}
 use Rattle.disk_model.specs.Told.{Sight}
 use Rattle.session_run.specs.Faults.Stopped.{IsStopped}
@@ -14,7 +14,7 @@ use Rattle.session_run.specs.declared.statuses.Status.{Status}
 -- from nothing is that of the call before.
 abbrev pub SoundnessIsHandedOn : Type 0
 SoundnessIsHandedOn = (before after next : Sight) (left read : Device) (k : ℕ)
-    (story later : List Told) (status : Status) (held holds : Option (List ℕ))
+    (story later : List StoryStep) (status : Status) (held holds : Option (List ℕ))
     → IsStopped before after story → is_opened story ≡ true
     → after.told ≡ Some left → before.ticks < k → MayLeave 0 left k (bytes_of 0 read)
     → next.told ≡ Some read → IsOneHistory status later next held holds

@@ -8,16 +8,17 @@
 -- A call of the program is seen as plain values: its words, what the source had left and gave, what the sink holds, what the
 -- clock tells, what the disk tells as it was handed in and as it came back, its status, and the story of the base that it
 -- opened, which is empty where it opened none. Each record is one promise of the sentence, `IsStopped` in `Stopped` the last
--- of them; `HasCause` adds when each status comes, `IsAccountedFor` in `Accounted` which command met which fault, `Objects` which
--- objects a scrub takes and that those that views hold are live, `Reused` which objects builds take in place of runs. What they
--- say of bytes, moments and stops holds where the source, the sink, the clock and the disk tell them.
+-- of them; `HasCause` adds when each status comes, `IsAccountedFor` in `Accounted` between which two ends, of commits
+-- or faults, each failed call on the disk lies, `Objects` which objects a scrub takes and that those that views hold are live,
+-- `Reused` which objects builds take in place of runs. What they say of bytes, moments and stops holds where the source, the
+-- sink, the clock and the disk tell them.
 use Rattle.std.specs.Prelude.{◌≡◌, ◌≢◌, ◌⊎◌, ℕ, zero, suc, ◌+◌, ◌<◌, min, true, false, Option, Some, IfSome, Err, List, [], ◌∷◌, ◌++◌, length}
 use Rattle.std.specs.Io.KnownBytes.{Appends}
 use Rattle.cc_names.specs.declared.refusals.SessionError.{SessionError}
 use Rattle.cc_names.specs.declared.rows.Tag.{Tag}
 use Rattle.cc_names.specs.declared.steps.Step.TheVariants as steps
-use Rattle.cc_names.specs.declared.steps.Told.{Told}
-use Rattle.cc_names.specs.declared.steps.Told.TheVariants as told
+use Rattle.cc_names.specs.declared.steps.StoryStep.{StoryStep}
+use Rattle.cc_names.specs.declared.steps.StoryStep.TheVariants as story_steps
 use Rattle.cc_names.specs.Counts.{raised}
 use Rattle.cc_outside.specs.Feeds.{AppendsFront}
 use Rattle.cc_outside.specs.Moments.{moment_at}
@@ -58,14 +59,14 @@ ReadsTimes count readings = readings.after ≡ raised readings.before count
 
 -- The clock was read once for each phase that began. Where memory ran out it may have been read once more, for a phase that did
 -- not begin.
-pub record ReadsClock (status : Status) (story : List Told) (readings : Change ℕ) : Type 0 where
+pub record ReadsClock (status : Status) (story : List StoryStep) (readings : Change ℕ) : Type 0 where
   pub once : status ≢ statuses.NoMemory → ReadsTimes (length (phases_begun story)) readings
   pub most : ReadsTimes (length (phases_begun story)) readings ⊎ ReadsTimes (length (phases_begun story) + 1) readings
 
 -- *The session*, where the words are those of a run: the phases of the history are the first of the session that the source's
 -- bytes spell, and all of them where it was run through; where the bytes spell none the history is empty. Their moments are
 -- the clock's, in order, which is read once a phase.
-pub record IsSession (status : Status) (story : List Told) (intake : Intake) (clock : Option (List ℕ)) (readings : Change ℕ) : Type 0 where
+pub record IsSession (status : Status) (story : List StoryStep) (intake : Intake) (clock : Option (List ℕ)) (readings : Change ℕ) : Type 0 where
   pub begun : is_run intake.words ≡ true → IfSome intake.text.before (λ bytes. IsFront (phases_begun story) (phases_spelled bytes))
   pub all : is_run intake.words ≡ true → is_through status story ≡ true → IfSome intake.text.before (λ bytes. phases_begun story ≡ phases_spelled bytes)
   pub none : is_run intake.words ≡ true → IfSome intake.text.before (λ bytes. is_session bytes ≡ false → story ≡ [])
@@ -73,22 +74,22 @@ pub record IsSession (status : Status) (story : List Told) (intake : Intake) (cl
   pub read : ReadsClock status story readings
 
 -- a sink that failed took the transcripts of all phases but the last, and each command of these phases is finished
-pub record IsCutAtLast (story : List Told) (earlier : List ℕ) (old new : Option (List ℕ)) : Type 0 where
+pub record IsCutAtLast (story : List StoryStep) (earlier : List ℕ) (old new : Option (List ℕ)) : Type 0 where
   pub begun : 0 < length (phases_begun story)
   pub finished : all_done (state_of story) ≡ true
   pub written : (more : List ℕ) × Appends old new (earlier ++ more)
 
 -- the story begins with the base that the disk stood for as it was handed in, and with the disk's counts then
-pub record BeginsOn (disk : Sight) (story : List Told) : Type 0 where
+pub record BeginsOn (disk : Sight) (story : List StoryStep) : Type 0 where
   pub base : Base
   pub handed : Handed
   pub on : IsBaseOn disk base handed
-  pub first : first_step story ≡ Some (told.Opened (oldest_first base) handed.counts handed.tells)
+  pub first : first_step story ≡ Some (story_steps.Opened (oldest_first base) handed.counts handed.tells)
 
 -- *One legal history*: the story is legal, of the base that the disk stood for, so a phase begins where each command of the
 -- one before is finished. Each command of the last phase is finished too where the session was run through, and where the
 -- sink failed.
-pub record IsOneHistory (status : Status) (story : List Told) (disk : Sight) (old new : Option (List ℕ)) : Type 0 where
+pub record IsOneHistory (status : Status) (story : List StoryStep) (disk : Sight) (old new : Option (List ℕ)) : Type 0 where
   pub legal : Legal story
   pub base : is_opened story ≡ true → BeginsOn disk story
   pub complete : is_through status story ≡ true → all_done (state_of story) ≡ true
@@ -96,17 +97,17 @@ pub record IsOneHistory (status : Status) (story : List Told) (disk : Sight) (ol
 
 -- *Commanded*: each build of the history that ends is the one of its lane's clearmake, whose build from nothing at the reference
 -- rows, on the versions that the view selects there, has the same units.
-pub record AreOfTheirCommands (story : List Told) : Type 0 where
-  pub each : (front rest : List Told) (tag : Tag) (build : Build)
-      → story ≡ front ++ told.Other (steps.End tag) ∷ rest
+pub record AreOfTheirCommands (story : List StoryStep) : Type 0 where
+  pub each : (front rest : List StoryStep) (tag : Tag) (build : Build)
+      → story ≡ front ++ story_steps.Other (steps.End tag) ∷ rest
       → build_by (state_of front) tag ≡ Some build → IsOfCommand (state_of front) tag.lane build
 
 -- *Builds as from nothing*: what the units of each build of the history have come to, where it ends and no disk failed under it,
 -- is replied as its build from nothing is. So the text of the history is the one that building from nothing tells.
-pub record AreFromNothing (story : List Told) : Type 0 where
+pub record AreFromNothing (story : List StoryStep) : Type 0 where
   pub text : rendered story ≡ text_from_nothing story
-  pub each : (front rest : List Told) (tag : Tag) (build : Build)
-      → story ≡ front ++ told.Other (steps.End tag) ∷ rest
+  pub each : (front rest : List StoryStep) (tag : Tag) (build : Build)
+      → story ≡ front ++ story_steps.Other (steps.End tag) ∷ rest
       → build_by (state_of front) tag ≡ Some build → build.faulted ≡ false
       → reply_of (state_of front).base build ≡ reply_from_nothing (state_of front).base build
 
@@ -127,7 +128,7 @@ pub record PrintsFront (intake : Intake) (faults : Change ℕ) (disk : Change Si
 -- *Printed replies*: what the sink holds more is the text of the history, where a base was opened; else it is the
 -- status's line. Where the sink failed it is a front of the history's text, or of the line of the cause that had come. Where
 -- memory ran out it is a front of the history's text; where no base was opened, nothing.
-pub record ArePrinted (status : Status) (story : List Told) (intake : Intake) (faults : Change ℕ) (disk : Change Sight) (old new : Option (List ℕ)) : Type 0 where
+pub record ArePrinted (status : Status) (story : List StoryStep) (intake : Intake) (faults : Change ℕ) (disk : Change Sight) (old new : Option (List ℕ)) : Type 0 where
   pub whole : is_opened story ≡ true → is_cut status ≡ false → Appends old new (rendered story)
   pub front : is_opened story ≡ true → is_cut status ≡ true → AppendsFront old new (rendered story)
   pub line : is_opened story ≡ false → is_cut status ≡ false → PrintsLine status intake.text.before old new

@@ -1,7 +1,7 @@
 -- What the turns of lanes, and a phase of them, do to the story.
 use Rattle.std.specs.Prelude.{◌≡◌, ◌≢◌, ℕ, ◌+◌, ◌≤◌, true, ◌⊎◌, List, [], ◌∷◌, ◌++◌}
 use Rattle.cc_names.specs.declared.commands.Phase.{Phase}
-use Rattle.cc_names.specs.declared.steps.Told.{Told}
+use Rattle.cc_names.specs.declared.steps.StoryStep.{StoryStep}
 use Rattle.legal_history.specs.Stories.Lanes.{IsFinished, IsWithin}
 use Rattle.legal_history.specs.Stories.States.{all_done, done_of}
 use Rattle.legal_history.specs.Stories.Steps.{state_of}
@@ -9,7 +9,7 @@ use Rattle.session_run.specs.Story.Begun.{phases_begun, moments_begun, first_ste
 use Rattle.session_run.specs.Story.Rendered.{earlier_phases, ended_phases}
 
 -- a story that goes on within its last phase
-pub record Goes (old new : List Told) : Type 0 where
+pub record Goes (old new : List StoryStep) : Type 0 where
   pub phases : phases_begun new ≡ phases_begun old
   pub moments : moments_begun new ≡ moments_begun old
   pub phase : (state_of new).phase ≡ (state_of old).phase
@@ -19,19 +19,19 @@ pub record Goes (old new : List Told) : Type 0 where
   pub opened : is_opened new ≡ is_opened old
 
 -- a story went on by commands of one lane
-pub record GoesInLane (lane : ℕ) (old new : List Told) : Type 0 where
+pub record GoesInLane (lane : ℕ) (old new : List StoryStep) : Type 0 where
   pub goes : Goes old new
   pub others : (k : ℕ) → k ≢ lane → done_of (state_of new).done k ≡ done_of (state_of old).done k
   pub within : IsWithin (state_of new) lane
 
 -- a story went on until the first lanes had finished their commands
-pub record GoesInLanes (lanes : ℕ) (old new : List Told) : Type 0 where
+pub record GoesInLanes (lanes : ℕ) (old new : List StoryStep) : Type 0 where
   pub goes : Goes old new
   pub within : (k : ℕ) → IsWithin (state_of new) k
   pub finished : (k : ℕ) → 1 ≤ k → k ≤ lanes → IsFinished (state_of new) k
 
 -- a phase began at a moment, and the story went on within it
-pub record GoesInPhase (phase : Phase) (moment : ℕ) (old new : List Told) : Type 0 where
+pub record GoesInPhase (phase : Phase) (moment : ℕ) (old new : List StoryStep) : Type 0 where
   pub phases : phases_begun new ≡ phases_begun old ++ phase ∷ []
   pub moments : moments_begun new ≡ moments_begun old ++ moment ∷ []
   pub is_last : (state_of new).phase ≡ phase
@@ -41,10 +41,10 @@ pub record GoesInPhase (phase : Phase) (moment : ℕ) (old new : List Told) : Ty
   pub earlier : earlier_phases new ≡ ended_phases old
 
 -- a phase began, and all its commands are finished
-pub record RunsPhase (phase : Phase) (moment : ℕ) (old new : List Told) : Type 0 where
+pub record RunsPhase (phase : Phase) (moment : ℕ) (old new : List StoryStep) : Type 0 where
   pub goes : GoesInPhase phase moment old new
   pub finished : all_done (state_of new) ≡ true
 
 -- memory ran out before a phase began, or in it
-abbrev pub LeavesPhase : Phase → ℕ → List Told → List Told → Type 0
+abbrev pub LeavesPhase : Phase → ℕ → List StoryStep → List StoryStep → Type 0
 LeavesPhase phase moment old new = (new ≡ old) ⊎ GoesInPhase phase moment old new

@@ -7,8 +7,8 @@ use Rattle.cc_names.specs.declared.commands.Phase.{Phase}
 use Rattle.cc_names.specs.declared.memory.Or.{Or}
 use Rattle.cc_names.specs.declared.memory.Or.TheVariants.{NoMemory, Is}
 use Rattle.cc_names.specs.declared.steps.Counts.{Counts}
-use Rattle.cc_names.specs.declared.steps.Told.{Told}
-use Rattle.cc_names.specs.declared.steps.Told.TheVariants as told
+use Rattle.cc_names.specs.declared.steps.StoryStep.{StoryStep}
+use Rattle.cc_names.specs.declared.steps.StoryStep.TheVariants as story_steps
 use Rattle.cc_names.specs.Counts.{raised}
 use Rattle.cc_outside.specs.Feeds.{AppendsFront}
 use Rattle.cc_outside.specs.Sights.{ClockSight, SinkSight}
@@ -25,11 +25,11 @@ use Rattle.session_run.specs.declared.statuses.Status.{Status}
 use Rattle.session_run.specs.declared.statuses.Status.TheVariants as statuses
 
 -- a base was opened, and nothing was done since
-pub record IsJustOpened (story : List Told) : Type 0 where
+pub record IsJustOpened (story : List StoryStep) : Type 0 where
   pub rows : List Plain
   pub counts : Counts
   pub tells : Bool
-  pub is : story ≡ told.Opened rows counts tells ∷ []
+  pub is : story ≡ story_steps.Opened rows counts tells ∷ []
 
 -- a phase that can be run: it has the form of one, and each of its commands is carried out
 pub record IsReadyPhase (phase : Phase) : Type 0 where
@@ -55,7 +55,7 @@ outside_of sink new_sink clock new_clock =
     record { held = sink.held; holds = new_sink.held; moments = clock.told; first = clock.readings; reading = new_clock.readings }
 
 -- these phases have been run, and their transcripts written
-pub record HasRunPhases (phases : List Phase) (story : List Told) (outside : Outside) (failed : Bool) : Type 0 where
+pub record HasRunPhases (phases : List Phase) (story : List StoryStep) (outside : Outside) (failed : Bool) : Type 0 where
   pub opened : is_opened story ≡ true
   pub phases_are : phases_begun story ≡ phases
   pub number : (state_of story).number ≡ length phases
@@ -66,7 +66,7 @@ pub record HasRunPhases (phases : List Phase) (story : List Told) (outside : Out
   pub written : Appends outside.held outside.holds (rendered story)
 
 -- where the sink failed, its last transcript is cut
-abbrev pub IsCutBy : Or WriteFault → List Told → Option (List ℕ) → Option (List ℕ) → Type 0
+abbrev pub IsCutBy : Or WriteFault → List StoryStep → Option (List ℕ) → Option (List ℕ) → Type 0
 IsCutBy NoMemory story old new = Unit {0}
 IsCutBy (Is fault) story old new = IsCutAtLast story (earlier_text story) old new
 
@@ -76,7 +76,7 @@ ReadsBy NoMemory count outside = (outside.reading ≡ raised outside.first count
 ReadsBy (Is fault) count outside = outside.reading ≡ raised outside.first count
 
 -- the run of these phases was given up
-pub record IsRunGivenUp (cut : Or WriteFault) (phases : List Phase) (story : List Told) (outside : Outside) : Type 0 where
+pub record IsRunGivenUp (cut : Or WriteFault) (phases : List Phase) (story : List StoryStep) (outside : Outside) : Type 0 where
   pub opened : is_opened story ≡ true
   pub begun : IsFront (phases_begun story) phases
   pub moments_are : IfSome outside.moments (λ told. moments_begun story ≡ clock_moments told outside.first (length (moments_begun story)))
@@ -99,6 +99,6 @@ run_status (Err NoMemory) rose = statuses.NoMemory
 run_status (Err (Is fault)) rose = statuses.WriteFault
 
 -- the phases were run, or their run was given up
-abbrev pub HasRunSo : Result Bool (Or WriteFault) → List Phase → List Told → Outside → Type 0
+abbrev pub HasRunSo : Result Bool (Or WriteFault) → List Phase → List StoryStep → Outside → Type 0
 HasRunSo (Ok failed) phases story outside = HasRunPhases phases story outside failed
 HasRunSo (Err cut) phases story outside = IsRunGivenUp cut phases story outside

@@ -8,8 +8,8 @@ use Rattle.cc_names.specs.declared.commands.Lane.{Lane}
 use Rattle.cc_names.specs.declared.commands.Phase.{Phase}
 use Rattle.cc_names.specs.declared.replies.Reply.{Reply}
 use Rattle.cc_names.specs.declared.replies.Reply.TheVariants as replies
-use Rattle.cc_names.specs.declared.steps.Told.{Told}
-use Rattle.cc_names.specs.declared.steps.Told.TheVariants as told
+use Rattle.cc_names.specs.declared.steps.StoryStep.{StoryStep}
+use Rattle.cc_names.specs.declared.steps.StoryStep.TheVariants as story_steps
 use Rattle.reply_text.specs.Replies.{render, is_made_line}
 use Rattle.legal_history.specs.Stories.States.{State, all_done, start}
 use Rattle.legal_history.specs.Stories.Steps.{after, state_of}
@@ -39,31 +39,31 @@ abbrev pub last_phase : State → Replies → List EndedPhase
 last_phase s replies = phase_where (is_ended s) (record { number = s.number; phase = s.phase; replies = replies })
 
 -- the phase that a step closes: a phase that begins closes the one before it
-abbrev pub closed_by : State → Replies → Told → List EndedPhase
-closed_by s replies (told.Plan phase moment) = last_phase s replies
+abbrev pub closed_by : State → Replies → StoryStep → List EndedPhase
+closed_by s replies (story_steps.PhaseBegun phase moment) = last_phase s replies
 closed_by s replies step = []
 
 -- the replies after the steps of a story, where each step leaves them so
-abbrev pub replies_over : (State → Told → Replies → Replies) → State → Replies → List Told → Replies
+abbrev pub replies_over : (State → StoryStep → Replies → Replies) → State → Replies → List StoryStep → Replies
 replies_over leave s replies [] = replies
 replies_over leave s replies (x ∷ story) = replies_over leave (after s x) (leave s x replies) story
 
 -- the phases that the steps of a story close
-abbrev pub closed_over : (State → Told → Replies → Replies) → State → Replies → List Told → List EndedPhase
+abbrev pub closed_over : (State → StoryStep → Replies → Replies) → State → Replies → List StoryStep → List EndedPhase
 closed_over leave s replies [] = []
 closed_over leave s replies (x ∷ story) = closed_by s replies x ++ closed_over leave (after s x) (leave s x replies) story
 
 -- the phases of a story in order, the last one where all its commands are finished, where each step leaves the replies so
-abbrev pub ended_over : (State → Told → Replies → Replies) → List Told → List EndedPhase
+abbrev pub ended_over : (State → StoryStep → Replies → Replies) → List StoryStep → List EndedPhase
 ended_over leave story =
     closed_over leave start no_replies story ++ last_phase (state_of story) (replies_over leave start no_replies story)
 
 -- all phases of a story but the last
-abbrev pub earlier_phases : List Told → List EndedPhase
+abbrev pub earlier_phases : List StoryStep → List EndedPhase
 earlier_phases story = closed_over replies_after start no_replies story
 
 -- the phases of a story in order, the last one where all its commands are finished
-abbrev pub ended_phases : List Told → List EndedPhase
+abbrev pub ended_phases : List StoryStep → List EndedPhase
 ended_phases story = ended_over replies_after story
 
 -- the lines of lanes that are numbered from n on
@@ -88,11 +88,11 @@ abbrev pub transcripts : List EndedPhase → List ℕ
 transcripts phases = flat_map transcript_of phases
 
 -- the transcripts of all phases of a story but the last
-abbrev pub earlier_text : List Told → List ℕ
+abbrev pub earlier_text : List StoryStep → List ℕ
 earlier_text story = transcripts (earlier_phases story)
 
 -- The text of a story: the transcripts of its phases in order, the last one where all its commands are finished.
-abbrev pub rendered : List Told → List ℕ
+abbrev pub rendered : List StoryStep → List ℕ
 rendered story = transcripts (ended_phases story)
 
 -- whether a command failed, by its reply: it was refused, or it built and a unit is not made
@@ -111,5 +111,5 @@ abbrev pub phase_fails : EndedPhase → Bool
 phase_fails ended = lanes_fail 1 ended.phase.lanes ended.replies
 
 -- Whether a command of a story failed.
-abbrev pub has_failure : List Told → Bool
+abbrev pub has_failure : List StoryStep → Bool
 has_failure story = list_any phase_fails (ended_phases story)

@@ -1,4 +1,4 @@
-// Sessions that build.
+//! Sessions that build.
 
 use super::{BUILT, KEPT, Runtime, failing_disk, outcome_on};
 use session_run::Status;

@@ -1,4 +1,4 @@
-// Sessions on disks that fail.
+//! Sessions on disks that fail.
 
 use super::{BUILT, FIRST, Runtime, assert_one_of, calls_on, failing_disk, outcome_on, rows_in};
 use disk_model::Disk;

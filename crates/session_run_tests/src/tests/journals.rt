@@ -1,4 +1,4 @@
-// Journals that are found: whole, cut short, damaged, and written by a run before.
+//! Journals that are found: whole, cut short, damaged, and written by a run before.
 
 use super::{BUILT, FIRST, KEPT, Runtime, assert_outcome, disk_with, journal_of, outcome_on};
 use std::alloc::Global;

@@ -1,4 +1,4 @@
-// The clock: it is read once for each phase, and the rows of a phase carry its moment.
+//! The clock: it is read once for each phase, and the rows of a phase carry its moment.
 
 use super::{Runtime, ended_by, failing_disk, session};
 use cc_names::memory::NoMemory;

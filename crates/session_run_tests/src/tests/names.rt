@@ -1,4 +1,4 @@
-// Which words are names and paths, where a faulty one is wrong, and what they print.
+//! Which words are names and paths, where a faulty one is wrong, and what they print.
 
 use cc_names::memory::{NoMemory, Or};
 use cc_names::names::{Name, NameFault};

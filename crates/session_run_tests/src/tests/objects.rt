@@ -1,4 +1,4 @@
-// The file of objects, which no session touches so far.
+//! The file of objects, which no session touches so far.
 
 use super::{FIRST, Runtime, disk_of, journal_of, outcome_on};
 use std::alloc::Global;

@@ -1,5 +1,5 @@
-// Stops and faults as a build publishes an object with two targets, and as another view winks it in: built again, both targets
-// come to the same.
+//! Stops and faults as a build publishes an object with two targets, and as another view winks it in: built again, both targets
+//! come to the same.
 
 use super::stops::stopped_at;
 use super::{Runtime, assert_outcome, calls_on, disk_with, failing_disk, outcome_on};

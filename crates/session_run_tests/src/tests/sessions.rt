@@ -1,4 +1,4 @@
-// Sessions that save, and those that are none.
+//! Sessions that save, and those that are none.
 
 use super::{Asked, assert_one_of, assert_outcome, failing_disk, outcome_by, outcome_on};
 use std::alloc::Global;

@@ -1,4 +1,4 @@
-// Sources and sinks that fail, and texts that are too long.
+//! Sources and sinks that fail, and texts that are too long.
 
 use super::{
     Asked, FIRST, Outcome, Runtime, assert_outcome, failing_disk, outcome_by, outcome_on, rows_in,

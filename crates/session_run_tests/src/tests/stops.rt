@@ -1,4 +1,4 @@
-// What stops leave of the journal of a session.
+//! What stops leave of the journal of a session.
 
 ghost use Rattle.std.specs.Prelude.{◌≡◌};
 

@@ -1,4 +1,4 @@
-// How often each script is run and asks the gate.
+//! How often each script is run and asks the gate.
 
 use super::assert_session_at;
 use crate::gates::{Counting, Runs};

@@ -1,4 +1,4 @@
-// Scripts that meet: of two lanes and of one build, where a builder steals, and where a unit is released or laid twice.
+//! Scripts that meet: of two lanes and of one build, where a builder steals, and where a unit is released or laid twice.
 
 use super::assert_held;
 use crate::fronts::ONE_FILE;

@@ -1,4 +1,4 @@
-// Builds that are held while another lane goes on: what they read is what it was as they began, and their views are left alone.
+//! Builds that are held while another lane goes on: what they read is what it was as they began, and their views are left alone.
 
 use super::assert_held;
 use crate::gates::{About, GatePoint, Hold};

@@ -1,4 +1,4 @@
-// Patterns against paths: `true` where the pattern matches.
+//! Patterns against paths: `true` where the pattern matches.
 
 use cc_names::paths::Path;
 use spec_text::{Matches, Spec};

@@ -23,7 +23,7 @@ pub struct Tally {
 }
 
 impl Storied for Tally {
-    type Told = Note;
+    type Step = Note;
 
     ghost story = { λ tally. tally.notes.items };
 }

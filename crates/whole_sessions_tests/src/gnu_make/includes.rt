@@ -1,4 +1,4 @@
-// Which files a makefile is read from.
+//! Which files a makefile is read from.
 
 use super::assert_makes;
 use std::test::Fail;

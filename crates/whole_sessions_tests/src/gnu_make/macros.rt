@@ -1,4 +1,4 @@
-// What macros mean.
+//! What macros mean.
 
 use super::assert_makes;
 use std::test::Fail;

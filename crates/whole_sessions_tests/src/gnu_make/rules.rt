@@ -1,4 +1,4 @@
-// Which targets are made, from what.
+//! Which targets are made, from what.
 
 use super::assert_makes;
 use std::test::Fail;

@@ -1,4 +1,4 @@
-// What scripts write.
+//! What scripts write.
 
 use super::assert_makes;
 use std::test::Fail;

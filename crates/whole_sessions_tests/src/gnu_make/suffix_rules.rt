@@ -1,4 +1,4 @@
-// Which suffix rule serves a target.
+//! Which suffix rule serves a target.
 
 use super::assert_makes;
 use std::test::Fail;

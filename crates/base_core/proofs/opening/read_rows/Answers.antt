@@ -6,7 +6,7 @@ use Rattle.cc_names.specs.declared.rows.Deed.{Deed}
 use Rattle.legal_history.specs.Base.Rows.{Base, size}
 use Rattle.legal_history.specs.Base.Fits.{deed_fits, fits, row_limit}
 use Rattle.base_core.specs.Bases.Reading.{IsReadSoFar, ReadsOn}
-use Rattle.base_core.proofs.Bases.ReadRows.{reads_then, row_fits}
+use Rattle.base_core.proofs.Bases.ReadRows.{reads_then, row_fits, stops_behind}
 use Rattle.base_core.proofs.opening.read_rows.Goals as goal
 
 -- what holds of an Ok holds where there is no Err
@@ -62,3 +62,7 @@ returns-in-Ok-None-clause-reads g c = reads_then g.D.Disk.sight c.args.journal.n
 
 pub returns-in-Err-clause-reads : goal.returns-in-Err-clause-reads
 returns-in-Err-clause-reads g c = reads_then g.D.Disk.sight c.args.journal.now c.frames.journal c.read_row.new.journal c.frames.invariant.reads c.in-Err.ensures.reads
+
+pub returns-in-Err-clause-err : goal.returns-in-Err-clause-err
+returns-in-Err-clause-err g c =
+    stops_behind g.D.Disk.sight c.in-Err.cause c.args.journal.now c.frames.journal _ c.frames.invariant.reads c.frames.invariant.sound c.in-Err.ensures.err

@@ -2,7 +2,7 @@ use Rattle.std.proofs.Common.{◌≡◌, ℕ, List, [], ◌∷◌, ◌++◌, ref
 use Rattle.std.proofs.lemmas.Result.{err_from_is_err_and}
 use Rattle.build_script.specs.MadeOf.{made_of}
 use Rattle.build_script.specs.Making.{output_at, preprocessing, resumed}
-use Rattle.build_script.specs.Opens.{rests_of}
+use Rattle.build_script.specs.OpenTexts.{rests_of}
 use Rattle.build_script.specs.Parts.{gives, own_of}
 use Rattle.build_script.specs.Run.{expanded, depth_limit}
 use Rattle.build_script.proofs.CarriedLemmas.{carried_over, carried_as, carried_here, and_then-done}

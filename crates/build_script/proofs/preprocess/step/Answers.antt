@@ -4,7 +4,7 @@ use Rattle.build_script.specs.Forms.{lines_in}
 use Rattle.build_script.specs.Includes.{include_of}
 use Rattle.build_script.specs.MadeOf.{made_of}
 use Rattle.build_script.specs.Making.{output_at, resumed, includes, preprocessing, made_with}
-use Rattle.build_script.specs.Opens.{rest_of, rests_of}
+use Rattle.build_script.specs.OpenTexts.{rest_of, rests_of}
 use Rattle.build_script.specs.Parts.{own_of}
 use Rattle.build_script.specs.Run.{Made, and_then, unless_fault, expanded, depth_limit}
 use Rattle.build_script.proofs.CarriedLemmas.{carried_as, carried_here, carried_then, carried_failed, carried_given_up}

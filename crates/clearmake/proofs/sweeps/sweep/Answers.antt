@@ -14,7 +14,7 @@ pub loop-unit-preserved : goal.loop-unit-preserved
 loop-unit-preserved g c = (
   later_on c.args.pass c.loop-unit.pass c.drive-next.result.0 c.loop-unit.invariant.0 c.drive-next.ensures.pass,
   one_more c.loop-unit.pass.seen c.drive-next.result.0.seen c.args.context.now.tag c.args.context.now.count c.loop-unit.unit c.loop-unit.invariant.1 c.drive-next.ensures.pass.begins
-      (subst (λ (d : Driven). IsDriven d c.drive-next.result.0.seen c.args.context.now.tag c.args.context.now.count c.loop-unit.unit) c.in-Settled.is c.drive-next.ensures.driven),
+      (subst (λ (d : Driven). IsDriven d c.drive-next.result.0.seen c.args.context.now.tag c.args.context.now.count c.loop-unit.unit) c.in-Concluded.is c.drive-next.ensures.driven),
 )
 
 pub returns-clause-swept : goal.returns-clause-swept

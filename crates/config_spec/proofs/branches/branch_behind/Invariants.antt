@@ -5,5 +5,5 @@ use Rattle.config_spec.proofs.branches.branch_behind.Given as goal
 -- the names that are left lead on from the branch so far
 abbrev pub invariant-loop-name : goal.invariant-loop-name
 invariant-loop-name g l =
-    let changes = (g.S.Sources.selectables l.sources).tree in
+    let changes = (g.S.Selectable.selectables l.sources).tree in
     branch_from changes l.element l.element l.names ≡ branch_from changes l.element l.branch (drop l.name-index l.names)

@@ -1,12 +1,12 @@
 use Rattle.std.proofs.Common.{sym, ap, ◌∙◌}
 use Rattle.cc_names.specs.Paths.{names_of}
-use Rattle.config_spec.specs.Sights.{verdict}
+use Rattle.config_spec.specs.Verdicts.{verdict}
 use Rattle.config_spec.proofs.Steps.{rule_decides, rule_passes}
 use Rattle.config_spec.proofs.picks.pick_from.Goals as goal
 
 pub returns-in-Some : goal.returns-in-Some
 returns-in-Some g c =
-    let sources = g.S.Sources.selectables c.args.sources.now in
+    let sources = g.S.Selectable.selectables c.args.sources.now in
     let names = names_of c.args.path.now in
     let said = c.in-Some.ensures in
     sym (c.loop-rule.invariant ∙ rule_decides sources c.args.element names c.rules-rule-items.result.now c.loop-rule.rule-index c.rule-item.result c.in-Some.picked
@@ -14,7 +14,7 @@ returns-in-Some g c =
 
 pub loop-rule-preserved : goal.loop-rule-preserved
 loop-rule-preserved g c =
-    let sources = g.S.Sources.selectables c.args.sources.now in
+    let sources = g.S.Selectable.selectables c.args.sources.now in
     let names = names_of c.args.path.now in
     let said = c.in_default.ensures in
     c.loop-rule.invariant ∙ rule_passes sources c.args.element names c.rules-rule-items.result.now c.loop-rule.rule-index c.rule-item.result

@@ -6,5 +6,5 @@ use Rattle.config_spec.proofs.picks.pick_from.Given as goal
 -- what is picked is what the rules that are left pick
 abbrev pub invariant-loop-rule : goal.invariant-loop-rule
 invariant-loop-rule g l =
-    let sources = g.S.Sources.selectables l.sources in
+    let sources = g.S.Selectable.selectables l.sources in
     pick sources l.element (names_of l.path) l.spec ≡ pick sources l.element (names_of l.path) (drop l.rule-index l.rule-items)

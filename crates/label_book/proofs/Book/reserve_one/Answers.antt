@@ -1,145 +1,102 @@
-use Rattle.std.proofs.Common.{◌≡◌, ℕ, true, cond, eqb, nat_eq, [], ◌∷◌, ◌++◌, length, get_or, map, reverse, Some, refl, sym, ap, ◌∙◌, arith, rules}
-use Rattle.std.specs.HashMap.{get}
-use Rattle.std.proofs.lemmas.List.{get_or_default, length-reverse}
+use Rattle.std.proofs.Common.{◌≡◌, true, ltb, vec_len, vec_capacity, get_or, sym, ap, subst, ◌∙◌, arith, rules}
+use Rattle.std.specs.List.{list_any}
 use Rattle.std.proofs.lemmas.Bool.Decides.{nat_tests}
 use Rattle.std.proofs.lemmas.Grind.{common_steps}
-use Rattle.cc_names.specs.Falling.{Falls}
-use Rattle.cc_names.specs.Keys.{key_of}
-use Rattle.label_book.specs.Marks.{of_pair}
-use Rattle.label_book.specs.Holding.{row_of_move, is_pair, newest_with, IsPlaceOf, HasNoPlace}
-use Rattle.label_book.specs.declared.held.Held.{Held}
-use Rattle.label_book.proofs.Added.{same_pair, same_changes}
-use Rattle.label_book.proofs.InBook.{SameHead, moves_set, held_added}
+use Rattle.label_book.specs.Marks.{is_that}
+use Rattle.label_book.specs.Holding.{MovesOn, MoveList, all_held, held_in, is_pair, ready_pairs, IsPlaceOf, HasNoPlace}
+use Rattle.label_book.proofs.Added.{same_pair}
+use Rattle.label_book.proofs.Entries.{held_grown, held_push, step_grown, step_same, writes}
+use Rattle.label_book.proofs.Found.{no_key}
+use Rattle.label_book.proofs.Kept.{kept_set, kept_grown, kept_push}
 use Rattle.label_book.proofs.Newest.{is_itself}
-use Rattle.label_book.proofs.Pairs.{of_pair_push}
-use Rattle.label_book.proofs.Ready.{has_room, pair_of, set_ready, set_keeps, push_ready, push_keeps}
+use Rattle.label_book.proofs.Ready.{has_room, set_ready, push_ready}
 use Rattle.label_book.proofs.Book.reserve_one.Goals as goal
 
 -- the label keeps its changes on the element
 pub invariant_of-self : goal.invariant_of-self
 invariant_of-self c =
-    let all = c.self.inside.held.items in
-    let p = c.in-Some.place in
-    let on = c.index_mut-held.result.now in
-    let held : Held = record { label = on.label; element = on.element; namesake = on.namesake; moves = c.reserve.new.self } in
-    let place : IsPlaceOf c.args.label.now c.args.element all p = search rules in
-    let there : get_or all p on ≡ on = search rules in
-    let at : (d : Held) → get_or all p d ≡ on = λ d. get_or_default all p d on place.within ∙ there in
-    let same : (d : Held) → SameHead held (get_or all p d) = λ d. rw (at d) (record { label = refl; element = refl; namesake = refl }) in
-    let items : c.reserve.new.self.items ≡ on.moves.items = c.reserve.ensures.items in
-    let moves : (d : Held) → held.moves.items ≡ (get_or all p d).moves.items = λ d. rw (at d) items in
-    let falls : Falls (map row_of_move (reverse on.moves.items)) = rw there at (c.self.invariant.fall p on place.within) in
-    moves_set all _ c.self.invariant p held place.within same (rw items falls)
+    let names = c.self.inside.labels.keys in
+    let entries = c.self.inside.moves.entries in
+    let place : IsPlaceOf c.args.label.now c.args.element (all_held names entries) c.in-Some.place = search rules in
+    step_same names entries c.self.invariant c.in-Some.place c.index_mut-moves.result.now c.reserve.new.self c.index_mut-moves.ensures.value place.within c.reserve.ensures.items
 
-pub invariant_of-self-in_err-reserve-in-Some : goal.invariant_of-self-in_err-reserve-in-Some
-invariant_of-self-in_err-reserve-in-Some c =
-    let all = c.self.inside.held.items in
-    let p = c.in-Some.place in
-    let on = c.index_mut-held.result.now in
-    let held : Held = record { label = on.label; element = on.element; namesake = on.namesake; moves = c.reserve.new.self } in
-    let place : IsPlaceOf c.args.label.now c.args.element all p = search rules in
-    let there : get_or all p on ≡ on = search rules in
-    let at : (d : Held) → get_or all p d ≡ on = λ d. get_or_default all p d on place.within ∙ there in
-    let same : (d : Held) → SameHead held (get_or all p d) = λ d. rw (at d) (record { label = refl; element = refl; namesake = refl }) in
-    let items : c.reserve.new.self.items ≡ on.moves.items = c.reserve.ensures.items in
-    let moves : (d : Held) → held.moves.items ≡ (get_or all p d).moves.items = λ d. rw (at d) items in
-    let falls : Falls (map row_of_move (reverse on.moves.items)) = rw there at (c.self.invariant.fall p on place.within) in
-    moves_set all _ c.self.invariant p held place.within same (rw items falls)
+pub invariant_of-self-in-Some : goal.invariant_of-self-in-Some
+invariant_of-self-in-Some c =
+    let names = c.self.inside.labels.keys in
+    let entries = c.self.inside.moves.entries in
+    let place : IsPlaceOf c.args.label.now c.args.element (all_held names entries) c.in-Some.place = search rules in
+    step_same names entries c.self.invariant c.in-Some.place c.index_mut-moves.result.now c.reserve.new.self c.index_mut-moves.ensures.value place.within c.reserve.ensures.items
 
-pub returns-in_err-reserve-in-Some-clause-kept : goal.returns-in_err-reserve-in-Some-clause-kept
-returns-in_err-reserve-in-Some-clause-kept c =
-    let all = c.self.inside.held.items in
-    let p = c.in-Some.place in
-    let on = c.index_mut-held.result.now in
-    let held : Held = record { label = on.label; element = on.element; namesake = on.namesake; moves = c.reserve.new.self } in
-    let place : IsPlaceOf c.args.label.now c.args.element all p = search rules in
-    let there : get_or all p on ≡ on = search rules in
-    let at : (d : Held) → get_or all p d ≡ on = λ d. get_or_default all p d on place.within ∙ there in
-    let same : (d : Held) → SameHead held (get_or all p d) = λ d. rw (at d) (record { label = refl; element = refl; namesake = refl }) in
-    let items : c.reserve.new.self.items ≡ on.moves.items = c.reserve.ensures.items in
-    let moves : (d : Held) → held.moves.items ≡ (get_or all p d).moves.items = λ d. rw (at d) items in
-    let grows : (d : Held) → has_room (get_or all p d) ≡ true → has_room held ≡ true = λ d room.
-    let roomy : has_room on ≡ true = rw (at d) at room in
-    grind (arith, nat_tests, c.reserve.ensures.len, c.reserve.ensures.capacity) in
-    rw (← c.self.view_is) (record {
-      pairs = λ l e. ap (of_pair l e) (same_changes all p held place.within same moves);
-      ready = λ l e is. set_keeps l e all p held place.within (λ d. ap pair_of (sym (at d))) grows is;
-    })
+pub returns-in_err-reserve-clause-kept : goal.returns-in_err-reserve-clause-kept
+returns-in_err-reserve-clause-kept c =
+    let names = c.self.inside.labels.keys in
+    let entries = c.self.inside.moves.entries in
+    let place : IsPlaceOf c.args.label.now c.args.element (all_held names entries) c.in-Some.place = search rules in
+    rw (← c.self.view_is)
+    (kept_set names entries c.in-Some.place c.index_mut-moves.result.now c.reserve.new.self place.within c.index_mut-moves.ensures.value c.reserve.ensures.items c.reserve.ensures.len c.reserve.ensures.capacity)
 
-pub returns-in_ok-reserve-in-Some-clause-kept : goal.returns-in_ok-reserve-in-Some-clause-kept
-returns-in_ok-reserve-in-Some-clause-kept c =
-    let all = c.self.inside.held.items in
-    let p = c.in-Some.place in
-    let on = c.index_mut-held.result.now in
-    let held : Held = record { label = on.label; element = on.element; namesake = on.namesake; moves = c.reserve.new.self } in
-    let place : IsPlaceOf c.args.label.now c.args.element all p = search rules in
-    let there : get_or all p on ≡ on = search rules in
-    let at : (d : Held) → get_or all p d ≡ on = λ d. get_or_default all p d on place.within ∙ there in
-    let same : (d : Held) → SameHead held (get_or all p d) = λ d. rw (at d) (record { label = refl; element = refl; namesake = refl }) in
-    let items : c.reserve.new.self.items ≡ on.moves.items = c.reserve.ensures.items in
-    let moves : (d : Held) → held.moves.items ≡ (get_or all p d).moves.items = λ d. rw (at d) items in
-    let grows : (d : Held) → has_room (get_or all p d) ≡ true → has_room held ≡ true = λ d room.
-    let roomy : has_room on ≡ true = rw (at d) at room in
-    grind (arith, nat_tests, c.reserve.ensures.len, c.reserve.ensures.capacity) in
-    rw (← c.self.view_is) (record {
-      pairs = λ l e. ap (of_pair l e) (same_changes all p held place.within same moves);
-      ready = λ l e is. set_keeps l e all p held place.within (λ d. ap pair_of (sym (at d))) grows is;
-    })
+pub returns-in-Some-clause-kept : goal.returns-in-Some-clause-kept
+returns-in-Some-clause-kept c =
+    let names = c.self.inside.labels.keys in
+    let entries = c.self.inside.moves.entries in
+    let place : IsPlaceOf c.args.label.now c.args.element (all_held names entries) c.in-Some.place = search rules in
+    rw (← c.self.view_is)
+    (kept_set names entries c.in-Some.place c.index_mut-moves.result.now c.reserve.new.self place.within c.index_mut-moves.ensures.value c.reserve.ensures.items c.reserve.ensures.len c.reserve.ensures.capacity)
 
 -- it has room there
-pub returns-in_ok-reserve-in-Some-clause-ready : goal.returns-in_ok-reserve-in-Some-clause-ready
-returns-in_ok-reserve-in-Some-clause-ready c =
-    let all = c.self.inside.held.items in
+pub returns-in-Some-clause-ready : goal.returns-in-Some-clause-ready
+returns-in-Some-clause-ready c =
+    let names = c.self.inside.labels.keys in
+    let entries = c.self.inside.moves.entries in
+    let all = all_held names entries in
     let p = c.in-Some.place in
-    let on = c.index_mut-held.result.now in
-    let held : Held = record { label = on.label; element = on.element; namesake = on.namesake; moves = c.reserve.new.self } in
-    let place : IsPlaceOf c.args.label.now c.args.element all p = search rules in
-    let there : get_or all p on ≡ on = search rules in
-    let at : (d : Held) → get_or all p d ≡ on = λ d. get_or_default all p d on place.within ∙ there in
-    let same : (d : Held) → SameHead held (get_or all p d) = λ d. rw (at d) (record { label = refl; element = refl; namesake = refl }) in
-    let room : has_room held ≡ true = grind (arith, nat_tests, common_steps, c.reserve.ensures.ok, c.in_ok-reserve-in-Some.was) in
-    set_ready c.args.label.now c.args.element all p held place.within (same_pair c.args.label.now c.args.element held (get_or all p on) (same on) ∙ place.is on) room
+    let l = c.args.label.now in
+    let e = c.args.element in
+    let place : IsPlaceOf l e all p = search rules in
+    let write = writes names entries p c.reserve.new.self place.within in
+    let roomy : ltb (vec_len c.reserve.new.self) (vec_capacity c.reserve.new.self) ≡ true = grind (arith, nat_tests, common_steps, c.reserve.ensures.ok, c.in_ok-reserve.was) in
+    let room : has_room write.held ≡ true = ap (λ (m : MoveList). ltb (vec_len m) (vec_capacity m)) write.written ∙ roomy in
+    subst (λ after. list_any (is_that l e) (ready_pairs after) ≡ true) (sym write.set)
+    (set_ready l e all p write.held place.within (same_pair l e write.held (get_or all p write.held) (write.same write.held) ∙ place.is write.held) room)
 
--- a label that is new on the element has no change yet
-pub invariant_of-self-in-Ok : goal.invariant_of-self-in-Ok
-invariant_of-self-in-Ok c =
-    let all = c.self.inside.held.items in
-    let label = c.in_ok-label-in-None.label in
-    let held : Held = record { label = label; element = c.args.element; namesake = c.copied-namesake.result; moves = c.reserve_exact.new.self } in
-    let same_label : label ≡ c.args.label.now = search rules in
-    let pushed : c.push.new.self.items ≡ all ++ held ∷ [] = search rules in
-    let absent : HasNoPlace c.args.label.now c.args.element all = search rules in
-    let key = key_of c.self.inside.hashing c.args.element label in
-    let same_key : c.key_of-key.result ≡ key = c.key_of-key.ensures in
-    let found : c.copied-namesake.result ≡ get nat_eq c.self.inside.newest c.key_of-key.result = search rules in
-    let link : c.copied-namesake.result ≡ newest_with c.self.inside.hashing key (reverse all) = found ∙ c.self.invariant.newest c.key_of-key.result ∙ ap (λ k. newest_with c.self.inside.hashing k (reverse all)) same_key in
-    let count : c.len-place.result ≡ length (reverse all) = grind (arith, common_steps, length-reverse all) in
-    let newest : (k : ℕ) → get nat_eq c.insert.new.self k ≡ newest_with c.self.inside.hashing k (held ∷ reverse all) = λ k.
-    c.in-Ok.ensures.updates.0 k
-    ∙ ap (λ q. cond (eqb q k) (Some c.len-place.result) (get nat_eq c.reserve-in-None.new.self k)) same_key
-    ∙ ap (λ n. cond (eqb key k) (Some n) (get nat_eq c.reserve-in-None.new.self k)) count
-    ∙ ap (λ o. cond (eqb key k) (Some (length (reverse all))) o) (c.reserve-in-None.ensures.entries.2 k ∙ c.self.invariant.newest k) in
-    rw pushed (held_added all _ (get nat_eq c.insert.new.self) held c.self.invariant (rw same_label absent) (c.reserve_exact.ensures.items ∙ c.new-moves.ensures.items) link newest)
+-- a label may be new, while no change is
+pub returns-in_err-label-clause-kept : goal.returns-in_err-label-clause-kept
+returns-in_err-label-clause-kept c =
+    rw (← c.self.view_is) (kept_grown c.self.inside.labels.keys c.place_of_label.new.labels.keys c.self.inside.moves.entries c.place_of_label.ensures.grown c.self.invariant.named)
 
-pub returns-in-Ok-clause-kept : goal.returns-in-Ok-clause-kept
-returns-in-Ok-clause-kept c =
-    let all = c.self.inside.held.items in
-    let label = c.in_ok-label-in-None.label in
-    let held : Held = record { label = label; element = c.args.element; namesake = c.copied-namesake.result; moves = c.reserve_exact.new.self } in
-    let same_label : label ≡ c.args.label.now = search rules in
-    let pushed : c.push.new.self.items ≡ all ++ held ∷ [] = search rules in
-    rw (← c.self.view_is, pushed) (record {
-      pairs = λ l e. of_pair_push l e all held (c.reserve_exact.ensures.items ∙ c.new-moves.ensures.items);
-      ready = λ l e is. push_keeps l e all held is;
-    })
+pub returns-in_err-put_last-clause-kept : goal.returns-in_err-put_last-clause-kept
+returns-in_err-put_last-clause-kept c =
+    rw (← c.self.view_is, c.in_err-put_last.ensures.unchanged)
+    (kept_grown c.self.inside.labels.keys c.place_of_label.new.labels.keys c.self.inside.moves.entries c.place_of_label.ensures.grown c.self.invariant.named)
 
-pub returns-in-Ok-clause-ready : goal.returns-in-Ok-clause-ready
-returns-in-Ok-clause-ready c =
-    let all = c.self.inside.held.items in
-    let label = c.in_ok-label-in-None.label in
-    let held : Held = record { label = label; element = c.args.element; namesake = c.copied-namesake.result; moves = c.reserve_exact.new.self } in
-    let same_label : label ≡ c.args.label.now = search rules in
-    let pushed : c.push.new.self.items ≡ all ++ held ∷ [] = search rules in
-    let room : has_room held ≡ true = grind (arith, nat_tests, common_steps, c.reserve_exact.ensures.ok, c.in_ok-reserve_exact-in-None.was) in
-    let is : is_pair c.args.label.now c.args.element held ≡ true = rw same_label (is_itself c.args.label.now c.args.element) in
-    rw pushed (push_ready c.args.label.now c.args.element all held is room)
+-- what stands nowhere has no key
+pub put_last-requires : goal.put_last-requires
+put_last-requires c =
+    let names = c.self.inside.labels.keys in
+    let entries = c.self.inside.moves.entries in
+    let more = c.place_of_label.new.labels.keys in
+    let l = c.args.label.now in
+    let e = c.args.element in
+    let absent : HasNoPlace l e (all_held names entries) = search rules in
+    let still : HasNoPlace l e (all_held more entries) = subst (HasNoPlace l e) (sym (held_grown names more entries c.place_of_label.ensures.grown c.self.invariant.named)) absent in
+    let step = step_grown names entries c.self.invariant more c.place_of_label.ensures.grown c.place_of_label.ensures.apart in
+    no_key more step.apart entries step.named l e c.in_ok-label.label c.in_ok-label.ensures.place still
+
+-- the label has no change yet on the element
+pub returns-clause-kept : goal.returns-clause-kept
+returns-clause-kept c =
+    let entry : MovesOn = (record { label = c.in_ok-label.label; element = c.args.element }, c.in_ok-moves.moves) in
+    rw (← c.self.view_is, c.in_ok-put_last.ensures.put)
+    (kept_push c.self.inside.labels.keys c.place_of_label.new.labels.keys c.self.inside.moves.entries entry c.place_of_label.ensures.grown c.self.invariant.named c.in_ok-moves.ensures.items)
+
+pub returns-clause-ready : goal.returns-clause-ready
+returns-clause-ready c =
+    let l = c.args.label.now in
+    let e = c.args.element in
+    let entries = c.self.inside.moves.entries in
+    let more = c.place_of_label.new.labels.keys in
+    let entry : MovesOn = (record { label = c.in_ok-label.label; element = e }, c.in_ok-moves.moves) in
+    let held = held_in more entry in
+    let room : has_room held ≡ true = grind (arith, nat_tests, common_steps, c.in_ok-moves.ensures.len, c.in_ok-moves.ensures.capacity) in
+    let is : is_pair l e held ≡ true = rw c.in_ok-label.ensures.place.is (is_itself l e) in
+    rw c.in_ok-put_last.ensures.put (rw (held_push more entries entry) (push_ready l e (all_held more entries) held is room))

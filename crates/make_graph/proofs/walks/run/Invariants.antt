@@ -1,5 +1,5 @@
 use Rattle.std.proofs.Common.{◌≡◌, ◌≤◌, ◌+◌, ◌∷◌, [], length}
-use Rattle.make_graph.specs.Frames.{resume, news}
+use Rattle.make_graph.specs.Visits.{resume, news}
 use Rattle.make_graph.proofs.walks.run.Given as goal
 
 abbrev pub invariant-loop-turn : goal.invariant-loop-turn

@@ -1,7 +1,7 @@
 use Rattle.std.proofs.Common.{◌<◌, ◌∙◌, sym, subst, length, arith}
 use Rattle.make_text.specs.Statements.{macros_of}
 use Rattle.make_text.specs.Macros.{expansion_of}
-use Rattle.make_text.specs.Steps.{automatic_of, opened_of, IsOutcome}
+use Rattle.make_text.specs.Steps.{automatic_of, opened_of, IsExpandedText}
 use Rattle.make_text.proofs.ExpansionLemmas.{no_dollar}
 use Rattle.make_text.proofs.RunLemmas.{runs_longer}
 use Rattle.make_text.proofs.StepLemmas.{is_started, too_long}
@@ -18,13 +18,13 @@ pub returns-in-Ends : goal.returns-in-Ends
 returns-in-Ends c =
     let total = expansion_of (macros_of c.args.macros.now) (automatic_of c.args.automatic.now) c.args.text.now in
     let went = rw c.in-Ends.is at (c.in_ok-step.ensures.went total c.steps.invariant.1) in
-    subst (λ t. IsOutcome t c.bounded.result) (sym went.0) c.bounded.ensures
+    subst (λ t. IsExpandedText t c.bounded.result) (sym went.0) c.bounded.ensures
 
 pub returns-in-Loops : goal.returns-in-Loops
 returns-in-Loops c =
     let total = expansion_of (macros_of c.args.macros.now) (automatic_of c.args.automatic.now) c.args.text.now in
     let went = rw c.in-Loops.is at (c.in_ok-step.ensures.went total c.steps.invariant.1) in
-    subst (λ t. IsOutcome t c.bounded-in-Loops.result) (sym went) c.bounded-in-Loops.ensures
+    subst (λ t. IsExpandedText t c.bounded-in-Loops.result) (sym went) c.bounded-in-Loops.ensures
 
 pub returns-then-len-gt-EXPANSION_LIMIT : goal.returns-then-len-gt-EXPANSION_LIMIT
 returns-then-len-gt-EXPANSION_LIMIT c =

@@ -4,7 +4,7 @@ use Rattle.std.proofs.lemmas.List.{length-set, set-set}
 use Rattle.std.proofs.lemmas.Result.{err_from_is_err_and}
 use Rattle.legal_history.specs.Stories.Steps.{state_of}
 use Rattle.session_run.specs.Running.Turns.{MovesTo, StandAt, StandsAt, turns_left, with_turn}
-use Rattle.session_run.specs.declared.turns.LaneTurn.TheVariants as lane_turns
+use Rattle.session_run.specs.declared.turns.LaneProgress.TheVariants as lane_progress
 use Rattle.session_run.proofs.Running.TurnSteps.{goes_in_lane, put_same, rests_in_lane, stand_dropped, stand_on}
 use Rattle.session_run.proofs.Running.TurnsLeft.{fewer_left}
 use Rattle.session_run.proofs.Running.Within.{finished_where}
@@ -29,11 +29,11 @@ returns-in_err-next-clause-turn g c =
     rw p.1 (ap (λ core. core.story) c.in_err-next.ensures.err)
 
 pub returns-in_err-next-clause-count : goal.returns-in_err-next-clause-count
-returns-in_err-next-clause-count g c = ap length c.take-turn.ensures.left ∙ length-set c.args.turns.now (c.args.lane - 1) lane_turns.Command
+returns-in_err-next-clause-count g c = ap length c.take-turn.ensures.left ∙ length-set c.args.turns.now (c.args.lane - 1) lane_progress.Command
 
 pub returns-in-Some-clause-stand : goal.returns-in-Some-clause-stand
 returns-in-Some-clause-stand g c =
-    let after = c.put.ensures ∙ ap (λ turns. with_turn turns c.args.lane c.in-Some.next) c.take-turn.ensures.left ∙ set-set c.args.turns.now (c.args.lane - 1) lane_turns.Command c.in-Some.next in
+    let after = c.put.ensures ∙ ap (λ turns. with_turn turns c.args.lane c.in-Some.next) c.take-turn.ensures.left ∙ set-set c.args.turns.now (c.args.lane - 1) lane_progress.Command c.in-Some.next in
     let moves = subst (MovesTo c.args.core.now.story c.move_on.new.core.story c.args.lane c.take-turn.result) c.in-Some.is c.in_ok-next.ensures.ok in
     subst (StandAt c.move_on.new.core.story) (sym after)
     (stand_on c.a_story_goes_later.ensures c.a_lane_is_within_its_commands.ensures c.a_started_unit_sees_the_same_later.ensures.run
@@ -46,14 +46,14 @@ returns-in-Some-clause-goes g c =
 
 pub returns-in-Some-clause-turn : goal.returns-in-Some-clause-turn
 returns-in-Some-clause-turn g c =
-    let after = c.put.ensures ∙ ap (λ turns. with_turn turns c.args.lane c.in-Some.next) c.take-turn.ensures.left ∙ set-set c.args.turns.now (c.args.lane - 1) lane_turns.Command c.in-Some.next in
+    let after = c.put.ensures ∙ ap (λ turns. with_turn turns c.args.lane c.in-Some.next) c.take-turn.ensures.left ∙ set-set c.args.turns.now (c.args.lane - 1) lane_progress.Command c.in-Some.next in
     let moves = subst (MovesTo c.args.core.now.story c.move_on.new.core.story c.args.lane c.take-turn.result) c.in-Some.is c.in_ok-next.ensures.ok in
     subst (λ turns. turns_left (state_of c.move_on.new.core.story) 1 turns < turns_left (state_of c.args.core.now.story) 1 c.args.turns.now) (sym after)
     (fewer_left c.a_lane_is_within_its_commands.ensures c.args.core.now.story c.move_on.new.core.story c.args.turns.now c.args.lane c.take-turn.result c.in-Some.next c.requires.stand c.requires.from c.requires.upto c.take-turn.ensures.turn c.legal.ensures moves)
 
 pub returns-in-Some-clause-count : goal.returns-in-Some-clause-count
 returns-in-Some-clause-count g c =
-    let after = c.put.ensures ∙ ap (λ turns. with_turn turns c.args.lane c.in-Some.next) c.take-turn.ensures.left ∙ set-set c.args.turns.now (c.args.lane - 1) lane_turns.Command c.in-Some.next in
+    let after = c.put.ensures ∙ ap (λ turns. with_turn turns c.args.lane c.in-Some.next) c.take-turn.ensures.left ∙ set-set c.args.turns.now (c.args.lane - 1) lane_progress.Command c.in-Some.next in
     ap length after ∙ length-set c.args.turns.now (c.args.lane - 1) c.in-Some.next
 
 pub returns-in-None-clause-stand : goal.returns-in-None-clause-stand
@@ -76,4 +76,4 @@ returns-in-None-clause-turn g c =
     )
 
 pub returns-in-None-clause-count : goal.returns-in-None-clause-count
-returns-in-None-clause-count g c = ap length c.take-turn.ensures.left ∙ length-set c.args.turns.now (c.args.lane - 1) lane_turns.Command
+returns-in-None-clause-count g c = ap length c.take-turn.ensures.left ∙ length-set c.args.turns.now (c.args.lane - 1) lane_progress.Command

@@ -11,10 +11,10 @@ try_unit-requires g c =
     let built = c.requires.built in
     (c.args.count, record { build = built.build; active = built.active; of_units = built.of_units; few = built.few }, c.requires.within)
 
-pub returns-in-Settled-clause-ok : goal.returns-in-Settled-clause-ok
-returns-in-Settled-clause-ok g c =
+pub returns-in-Concluded-clause-ok : goal.returns-in-Concluded-clause-ok
+returns-in-Concluded-clause-ok g c =
     tried_moves c.args.core.now.story c.try_unit.new.self.story c.args.lane c.args.unit c.args.count c.requires
-    (subst (Tries c.args.core.now.story c.try_unit.new.self.story c.args.lane c.args.unit) c.in-Settled.is c.in_ok-try_unit.ensures.ok)
+    (subst (Tries c.args.core.now.story c.try_unit.new.self.story c.args.lane c.args.unit) c.in-Concluded.is c.in_ok-try_unit.ensures.ok)
 
 pub returns-in-Run-clause-ok : goal.returns-in-Run-clause-ok
 returns-in-Run-clause-ok g c =

@@ -34,11 +34,11 @@ pub returns-in-Err : goal.returns-in-Err
 returns-in-Err g c =
     let cause = c.in-Err.field-0.cause in
     let rose = c.has_risen.ensures ∙ ap₂ rises c.counts-before.ensures.faults c.counts.ensures.faults in
-    let faults : Change _ = record { before = (g.K.Sink.sight c.args.sink.now).faults; after = (g.K.Sink.sight c.refuse.new.sink).faults } in
+    let faults : Change _ = record { before = (g.K.Sink.sight c.args.sink.now).faults; after = (g.K.Sink.sight c.write_unstarted.new.sink).faults } in
     inr (record {
       because = cause;
       fails = c.in-Err.ensures.err;
       empty = c.empty.ensures;
       unread = refl;
-      wrote = subst (λ unstarted. WritesUnstarted unstarted c.refuse.result (g.K.Sink.sight c.args.sink.now).held (g.K.Sink.sight c.refuse.new.sink).held faults) (c.of_unopened-unstarted.ensures ∙ ap (of_unopened cause) rose) c.refuse.ensures;
+      wrote = subst (λ unstarted. WritesUnstarted unstarted c.write_unstarted.result (g.K.Sink.sight c.args.sink.now).held (g.K.Sink.sight c.write_unstarted.new.sink).held faults) (c.of_unopened-unstarted.ensures ∙ ap (of_unopened cause) rose) c.write_unstarted.ensures;
     })

@@ -30,13 +30,13 @@ invariant_of-self c =
     namesake ∙ ap (λ q. newest_with c.self.inside.hashing q (reverse made)) same in
     let count : c.len.result ≡ length (reverse made) = grind (arith, common_steps, length-reverse made) in
     let named = key_of c.self.inside.hashing c.args.element c.args.name in
-    let newest : (k : ℕ) → get nat_eq c.put_within.new.map k ≡ newest_with c.self.inside.hashing k (m ∷ reverse made) = λ k.
-    c.put_within.ensures.gets k
+    let newest : (k : ℕ) → get nat_eq c.put_newest.new.newest k ≡ newest_with c.self.inside.hashing k (m ∷ reverse made) = λ k.
+    c.put_newest.ensures.gets k
     ∙ ap (λ q. cond (eqb q k) (Some c.len.result) (get nat_eq c.self.inside.newest k)) c.key_of-key.ensures
     ∙ ap (λ n. cond (eqb named k) (Some n) (get nat_eq c.self.inside.newest k)) count
     ∙ ap (λ o. cond (eqb named k) (Some (length (reverse made))) o) (c.self.invariant.newest k) in
     rw (c.push_reserved.ensures.items, c.push_reserved-2.ensures.items, reverse-append made (m ∷ []), reverse-append branches (b ∷ []))
-    (branch_added m b (reverse made) (reverse branches) _ _ _ c.self.invariant refl refl refl c.new-later.ensures.items above link newest)
+    (branch_added m b (reverse made) (reverse branches) _ _ c.self.invariant refl refl refl c.new-later.ensures.items above link newest)
 
 -- branches that have room keep it
 pub returns : goal.returns
@@ -47,8 +47,6 @@ returns c =
     let b : Branch = record { row = c.args.row; moment = c.args.moment; later = c.new-later.result } in
     rw (← c.self.view_is) (record {
       changes = rw (c.push_reserved.ensures.items, reverse-append made (m ∷ [])) refl;
-      contents = search rules;
       room = search rules;
-      content_room = search rules;
       ready = λ q other is. rw c.push_reserved-2.ensures.items (push_keeps q items b is);
     })

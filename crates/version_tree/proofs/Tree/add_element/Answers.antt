@@ -18,7 +18,7 @@ invariant_of-self c =
     let b : Branch = record { row = c.args.row; moment = c.args.moment; later = c.new-later.result } in
     let above : IsAbove c.args.row (map row_of_made (reverse made)) = rw (rows_of_made (reverse made)) at (rw (← c.self.view_is) at c.requires.above) in
     rw (c.push_reserved.ensures.items, c.push_reserved-2.ensures.items, reverse-append made (m ∷ []), reverse-append branches (b ∷ []))
-    (branch_added m b (reverse made) (reverse branches) _ _ _ c.self.invariant refl refl refl c.new-later.ensures.items above (λ key has. cc) c.self.invariant.newest)
+    (branch_added m b (reverse made) (reverse branches) _ _ c.self.invariant refl refl refl c.new-later.ensures.items above (λ key has. cc) c.self.invariant.newest)
 
 -- branches that have room keep it
 pub returns : goal.returns
@@ -29,8 +29,6 @@ returns c =
     let b : Branch = record { row = c.args.row; moment = c.args.moment; later = c.new-later.result } in
     rw (← c.self.view_is) (record {
       changes = rw (c.push_reserved.ensures.items, reverse-append made (m ∷ [])) refl;
-      contents = search rules;
       room = search rules;
-      content_room = search rules;
       ready = λ q other is. rw c.push_reserved-2.ensures.items (push_keeps q items b is);
     })

@@ -42,7 +42,7 @@ invariant_of-self c =
     let above : IsAbove c.args.row (map row_of_made (reverse made)) = rw (rows_of_made (reverse made)) at (rw (← c.self.view_is) at c.requires.above) in
     let same_row : on.row ≡ c.args.branch = rw (at on) at (row_there items c.args.branch place c.self.invariant.branches_fall within found on) in
     rw (c.push_reserved.ensures.items, reverse-append made (m ∷ []))
-    (version_added m (reverse made) items place b c.args.row c.args.moment c.args.branch _ _ c.self.invariant refl above within found same_row
+    (version_added m (reverse made) items place b c.args.row c.args.moment c.args.branch _ c.self.invariant refl above within found same_row
     (λ d. ap (λ (x : Branch). x.moment) (sym (at d)))
     (λ d. rw (at d) c.push_reserved-in-Some.ensures.items))
 
@@ -69,8 +69,6 @@ returns c =
     let there = row_there items c.args.branch place c.self.invariant.branches_fall within found in
     rw (← c.self.view_is) (record {
       changes = rw (c.push_reserved.ensures.items, reverse-append made (m ∷ [])) refl;
-      contents = search rules;
       room = search rules;
-      content_room = search rules;
       ready = λ q other is. others_keep q items place b within (λ d. rw (there d) other) is;
     })

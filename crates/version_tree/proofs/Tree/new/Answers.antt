@@ -16,5 +16,4 @@ invariant_of-result c =
     let made : c.push.new.self.items ≡ m ∷ [] = search rules in
     let branches : c.push-2.new.self.items ≡ b ∷ [] = search rules in
     let none : (key : ℕ) → get nat_eq c.new-2.result key ≡ None = λ key. search rules in
-    let nothing : (v : ℕ) → get nat_eq c.new-3.result v ≡ None = λ v. search rules in
-    rw (made, branches) (branch_added m b [] [] _ _ _ (nothing_in_step c.args.hashing (get nat_eq c.new-2.result) (get nat_eq c.new-3.result) none nothing) refl refl refl c.new.ensures.items tt (λ key has. cc) none)
+    rw (made, branches) (branch_added m b [] [] _ _ (nothing_in_step c.args.hashing (get nat_eq c.new-2.result) none) refl refl refl c.new.ensures.items tt (λ key has. cc) none)

@@ -1,6 +1,6 @@
 -- The later of the row that began the checkout and of the row that changed the name in it.
 use Rattle.std.proofs.Common.{refl, sym, ap, ap₂, ◌∙◌}
-use Rattle.view_lookup.specs.Ended.{later}
+use Rattle.view_lookup.specs.Lifetimes.{later}
 use Rattle.view_lookup.specs.Entries.{begun_effect, changed_effect, entry_effect}
 use Rattle.view_lookup.specs.LookUps.{left_by}
 use Rattle.view_lookup.proofs.Endings.{newest_of_two}

@@ -1,11 +1,12 @@
 -- The rows up to the version, and the newest of them that alters the name.
 use Rattle.std.proofs.Common.{◌≡◌, ℕ, suc, ◌+◌, ◌≤◌, min, nat_lt, Bool, true, false, Option, List, refl, sym, ap, ◌∙◌, arith}
 use Rattle.std.proofs.lemmas.Bool.Decides.{nat_tests}
+use Rattle.legal_history.specs.Base.Closures.{greater_of}
 use Rattle.legal_history.specs.Base.Rows.{Base, first_rows, size}
 use Rattle.legal_history.proofs.Bases.Stay.{all_rows}
-use Rattle.view_lookup.specs.ChangeCovers.{altered_effect}
+use Rattle.view_lookup.specs.ChangeBearings.{altered_effect}
 use Rattle.view_lookup.specs.LookUps.{last_of}
-use Rattle.view_lookup.specs.ToldOn.{altered_by, at_least}
+use Rattle.view_lookup.specs.ToldOn.{altered_by}
 use Rattle.view_lookup.proofs.catalogs.told_on.Goals as goal
 
 -- the rows up to a version, however far behind it lies
@@ -28,10 +29,10 @@ pub returns-in-None : goal.returns-in-None
 returns-in-None c =
     let b = c.args.rows.now in
     let here : c.first_rows-rows.result ≡ first_rows (min c.args.version (size b) + 1) b = c.first_rows-rows.ensures ∙ ap (λ n. first_rows (n + 1) b) (c.min.ensures ∙ ap (min c.args.version) c.size.ensures.size) in
-    sym (ap (at_least c.args.branch) (told c.args.branch c.args.name.now b c.first_rows-rows.result c.args.version c.last.result here c.last.ensures ∙ c.in-None.is))
+    sym (ap (greater_of c.args.branch) (told c.args.branch c.args.name.now b c.first_rows-rows.result c.args.version c.last.result here c.last.ensures ∙ c.in-None.is))
 
 pub returns-in-Some : goal.returns-in-Some
 returns-in-Some c =
     let b = c.args.rows.now in
     let here : c.first_rows-rows.result ≡ first_rows (min c.args.version (size b) + 1) b = c.first_rows-rows.ensures ∙ ap (λ n. first_rows (n + 1) b) (c.min.ensures ∙ ap (min c.args.version) c.size.ensures.size) in
-    c.max.ensures ∙ sym (ap (at_least c.args.branch) (told c.args.branch c.args.name.now b c.first_rows-rows.result c.args.version c.last.result here c.last.ensures ∙ c.in-Some.is))
+    c.max.ensures ∙ sym (ap (greater_of c.args.branch) (told c.args.branch c.args.name.now b c.first_rows-rows.result c.args.version c.last.result here c.last.ensures ∙ c.in-Some.is))

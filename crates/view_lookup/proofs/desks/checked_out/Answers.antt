@@ -4,7 +4,7 @@ use Rattle.std.specs.Prelude.{option_map}
 use Rattle.legal_history.specs.Base.Rows.{size}
 use Rattle.legal_history.specs.Base.Views.{out_effect}
 use Rattle.view_lookup.specs.Effects.{end_effect, taken_effect, kept_checkout, plain_checkout}
-use Rattle.view_lookup.specs.Ended.{within}
+use Rattle.view_lookup.specs.Lifetimes.{within}
 use Rattle.view_lookup.specs.LookUps.{newest}
 use Rattle.view_lookup.proofs.Endings.{last_within, newest_mapped, within_mapped, ended_by}
 use Rattle.view_lookup.proofs.Parts.{out_parts, plain_again}

@@ -4,7 +4,7 @@ use Rattle.std.specs.Prelude.{option_map}
 use Rattle.legal_history.specs.Base.Rows.{size}
 use Rattle.legal_history.specs.Base.Views.{making_effect}
 use Rattle.view_lookup.specs.Effects.{end_effect, desk_effect, saved_effect, map_effect, map_told, row_of_kept}
-use Rattle.view_lookup.specs.Ended.{within, later}
+use Rattle.view_lookup.specs.Lifetimes.{within, later}
 use Rattle.view_lookup.specs.LookUps.{newest}
 use Rattle.view_lookup.proofs.Endings.{ended_by, last_within, newest_mapped, newest_of_two}
 use Rattle.view_lookup.proofs.Parts.{making_parts, text_effect}

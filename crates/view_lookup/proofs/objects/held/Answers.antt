@@ -1,7 +1,7 @@
 -- The newest row of the object, unless the view ended behind it.
 use Rattle.std.proofs.Common.{refl, sym, ap₂, ◌∙◌}
 use Rattle.view_lookup.specs.Effects.{gone_effect, object_effect}
-use Rattle.view_lookup.specs.Ended.{within}
+use Rattle.view_lookup.specs.Lifetimes.{within}
 use Rattle.view_lookup.proofs.Endings.{last_within}
 use Rattle.view_lookup.proofs.Holdings.{held_by_last, held_effect}
 use Rattle.view_lookup.proofs.objects.held.Goals as goal

@@ -1,7 +1,7 @@
 -- The later of the row that began the view's life and of the row that set the spec.
 use Rattle.std.proofs.Common.{refl, sym, ap, ap₂, ◌∙◌}
 use Rattle.view_lookup.specs.Effects.{life_effect, set_effect, spec_row_effect}
-use Rattle.view_lookup.specs.Ended.{later}
+use Rattle.view_lookup.specs.Lifetimes.{later}
 use Rattle.view_lookup.specs.LookUps.{left_by}
 use Rattle.view_lookup.proofs.Endings.{newest_of_two}
 use Rattle.view_lookup.proofs.Newest.{last_by_newest}

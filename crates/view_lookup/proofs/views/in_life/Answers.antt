@@ -1,6 +1,6 @@
 -- what is told of is left where it lies behind the last end
 use Rattle.std.proofs.Common.{ap, ◌∙◌}
-use Rattle.view_lookup.specs.Ended.{within}
+use Rattle.view_lookup.specs.Lifetimes.{within}
 use Rattle.view_lookup.proofs.views.in_life.Goals as goal
 
 pub returns-in-Some : goal.returns-in-Some

@@ -3,7 +3,7 @@ use Rattle.std.proofs.Common.{sym, ap, ◌∙◌}
 use Rattle.legal_history.specs.Base.Rows.{size}
 use Rattle.legal_history.specs.Base.Views.{private_effect}
 use Rattle.view_lookup.specs.Effects.{end_effect, file_effect}
-use Rattle.view_lookup.specs.Ended.{within}
+use Rattle.view_lookup.specs.Lifetimes.{within}
 use Rattle.view_lookup.specs.LookUps.{newest}
 use Rattle.view_lookup.proofs.Endings.{ended_by, last_within}
 use Rattle.view_lookup.proofs.Parts.{private_parts}

@@ -4,8 +4,8 @@ use Rattle.cleartool.specs.Naming.{name_told}
 use Rattle.cc_names.specs.Formed.{Plain}
 use Rattle.cc_names.specs.declared.replies.Reply.TheVariants as replies
 use Rattle.cc_names.specs.declared.steps.Step.TheVariants as steps
-use Rattle.cc_names.specs.declared.steps.Told.{Told}
-use Rattle.cc_names.specs.declared.steps.Told.TheVariants as told
+use Rattle.cc_names.specs.declared.steps.StoryStep.{StoryStep}
+use Rattle.cc_names.specs.declared.steps.StoryStep.TheVariants as story_steps
 use Rattle.legal_history.specs.Base.Fits.{fits}
 use Rattle.legal_history.specs.Commands.Decisions.{Makes}
 use Rattle.legal_history.specs.Stories.States.{decided}
@@ -27,7 +27,7 @@ use Rattle.base_core.proofs.Story.Counts.{shown_of}
 use Rattle.base_core.proofs.core_value.Core.commit.Goals as goal
 
 -- what is kept, whatever became of the row
-kept_append : (log new : Logged) (lanes : List LaneKept) (now : ℕ) (story : List Told) (row : Plain) (lane : ℕ) (name : Option (List ℕ)) (count : Option ℕ) (appended : Appended) → log.story ≡ story → lane ≡ row.tag.lane → IsCoreKept log lanes now → IsRowToCommit (state_of story) row
+kept_append : (log new : Logged) (lanes : List LaneKept) (now : ℕ) (story : List StoryStep) (row : Plain) (lane : ℕ) (name : Option (List ℕ)) (count : Option ℕ) (appended : Appended) → log.story ≡ story → lane ≡ row.tag.lane → IsCoreKept log lanes now → IsRowToCommit (state_of story) row
     → name_told (row ∷ log.base) row.deed ≡ name → count_told row.deed ≡ count → Appends log new row None appended → IsCoreKept new (with_reply lanes lane (append_reply appended name count)) now
 kept_append log new lanes now story row lane name count appends.Committed same at_lane h next named counted became =
     let done : IsCommitted log new row = became in
@@ -39,18 +39,18 @@ kept_append log new lanes now story row lane name count appends.Faulted same at_
     (kept_next_fault log lanes now story row lane done.left done.before done.faults done.tick done.sight done.rose done.later done.leaves done.ticked same at_lane h next done.formed)
 
 -- the story went on by a step of that kind
-acts_so : (log new : Logged) (story : List Told) (row : Plain) (appended : Appended) → log.story ≡ story → IsRowToCommit (state_of story) row → Appends log new row None appended → Acts story new.story row.tag.lane (append_done appended)
+acts_so : (log new : Logged) (story : List StoryStep) (row : Plain) (appended : Appended) → log.story ≡ story → IsRowToCommit (state_of story) row → Appends log new row None appended → Acts story new.story row.tag.lane (append_done appended)
 acts_so log new story row appends.Committed same next became =
     let done : IsCommitted log new row = became in
     record {
-      step = told.Commit row done.tick;
-      grows = ap (λ (l : Logged). l.story) done.grows ∙ ap (λ t. t ++ told.Commit row done.tick ∷ []) same;
+      step = story_steps.Commit row done.tick;
+      grows = ap (λ (l : Logged). l.story) done.grows ∙ ap (λ t. t ++ story_steps.Commit row done.tick ∷ []) same;
       is = (next.of_next.next, next.at_moment, subst (λ t. decided (state_of story) t ≡ Some (Ok (Makes row.deed))) next.of_next.next next.made);
     }
 acts_so log new story row appends.Faulted same next became =
     let done : IsFaulted log new row None = became in
     next_faults story new.story row done.left done.before done.faults done.tick
-    (ap (λ (l : Logged). l.story) done.grows ∙ ap (λ t. t ++ told.Other (steps.Fault row.tag done.left done.before done.faults done.tick) ∷ []) same) next
+    (ap (λ (l : Logged). l.story) done.grows ∙ ap (λ t. t ++ story_steps.Other (steps.Fault row.tag done.left done.before done.faults done.tick) ∷ []) same) next
 
 -- and that step says what became of the disk's counts
 counts_so : (log new : Logged) (old : Shown) (row : Plain) (appended : Appended) → shown_of log ≡ old → Appends log new row None appended → KeepsCount old (shown_of new)
@@ -58,7 +58,7 @@ counts_so log new old row appends.Committed view became =
     let done : IsCommitted log new row = became in
     subst (λ (shown : Shown). KeepsCount shown (shown_of new)) view
     (record {
-      steps = told.Commit row done.tick ∷ [];
+      steps = story_steps.Commit row done.tick ∷ [];
       grows = ap (λ (l : Logged). l.story) done.grows;
       counts = (done.sight, (done.at, done.spent, done.faults, done.fit, done.writes), ap (λ (l : Logged). l.sight) done.grows);
     })
@@ -66,7 +66,7 @@ counts_so log new old row appends.Faulted view became =
     let done : IsFaulted log new row None = became in
     subst (λ (shown : Shown). KeepsCount shown (shown_of new)) view
     (record {
-      steps = told.Other (steps.Fault row.tag done.left done.before done.faults done.tick) ∷ [];
+      steps = story_steps.Other (steps.Fault row.tag done.left done.before done.faults done.tick) ∷ [];
       grows = ap (λ (l : Logged). l.story) done.grows;
       counts = (done.sight, (done.counted, done.told, done.one, done.at, done.spent, done.fit, done.writes), ap (λ (l : Logged). l.sight) done.grows);
     })

@@ -2,12 +2,12 @@
 use Rattle.std.proofs.Common.{◌≡◌, ◌<◌, Some, length, refl, ap, sym, subst, ◌∙◌}
 use Rattle.std.specs.Prelude.{IsSome}
 use Rattle.cc_names.specs.declared.steps.Step.TheVariants as steps
+use Rattle.legal_history.specs.Stories.Commanded.{command_of}
 use Rattle.legal_history.specs.Stories.States.{next_tag}
 use Rattle.legal_history.specs.Stories.Steps.{state_of}
 use Rattle.base_core.specs.Logging.Appending.{Appends, IsCommitted, IsFaulted}
 use Rattle.clearmake.specs.Going.{GoesOn, HasOutcome, Finishes}
 use Rattle.base_core.specs.Keeping.Kept.{IsCoreKept}
-use Rattle.clearmake.specs.Nexts.{waiting}
 use Rattle.base_core.specs.Logging.Logs.{with_step, with_step_on}
 use Rattle.base_core.proofs.Building.BrokenBuilds.{kept_broken_object, broken_object_finishes}
 use Rattle.base_core.proofs.Keeping.Idle.{some_same}
@@ -21,7 +21,7 @@ pub tag-tag-requires : goal.tag-tag-requires
 tag-tag-requires g c =
     let gives = gives_here c.self.inside.log c.self.inside.lanes c.self.inside.moment c.args.self.now.story c.args.lane c.args.unit c.args.row c.args.object (ap (λ v. v.story) c.self.view_is) c.self.invariant c.requires c.a_build_is_consistent.ensures in
     let waits = (c.self.invariant.builds.kept c.args.lane gives.build gives.active).waits in
-    subst (λ v. IsSome (waiting (state_of v.story) c.args.lane)) c.self.view_is
+    subst (λ v. IsSome (command_of (state_of v.story) c.args.lane)) c.self.view_is
     (builds_waits (state_of c.self.inside.log.story) c.args.lane (next_tag (state_of c.self.inside.log.story) c.args.lane) waits)
 
 pub append-requires-clause-fits : goal.append-requires-clause-fits

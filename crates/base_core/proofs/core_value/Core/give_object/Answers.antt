@@ -4,17 +4,14 @@ use Rattle.std.proofs.lemmas.Option.{slice_get_within}
 use Rattle.legal_history.specs.Builds.Active.{unit_at}
 use Rattle.legal_history.specs.Builds.Reuse.{reusable}
 use Rattle.legal_history.specs.Stories.Steps.{state_of}
-use Rattle.base_core.proofs.Building.FoundBuilds.{finds_so, found_is, view_there}
+use Rattle.base_core.proofs.Building.FoundBuilds.{finds_so, found_is}
 use Rattle.base_core.proofs.Keeping.Idle.{some_same}
 use Rattle.base_core.proofs.core_value.Core.give_object.Goals as goal
 
-pub reusable-requires-clause-unit : goal.reusable-requires-clause-unit
-reusable-requires-clause-unit g c =
+pub reusable-requires : goal.reusable-requires
+reusable-requires g c =
     let is : c.requires.build ≡ c.build_at.result.now = some_same c.requires.build c.build_at.result.now (sym c.requires.active ∙ c.build_at.ensures.active) in
-    subst (λ b. c.args.unit < length b.units) is (slice_get_within c.requires.build.units c.args.unit c.requires.unit c.requires.is_unit)
-
-pub reusable-requires-clause-view : goal.reusable-requires-clause-view
-reusable-requires-clause-view g c = view_there (state_of c.args.self.now.story) c.args.lane c.build_at.result.now c.rows.result c.build_at.ensures.kept c.rows.ensures
+    record { unit = subst (λ b. c.args.unit < length b.units) is (slice_get_within c.requires.build.units c.args.unit c.requires.unit c.requires.is_unit) }
 
 pub wink-requires : goal.wink-requires
 wink-requires g c =

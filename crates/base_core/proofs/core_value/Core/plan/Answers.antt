@@ -20,4 +20,4 @@ returns g c =
     plans_so (state_of c.args.self.now.story) c.args.lane c.occasion-occasion.result.taken c.occasion-occasion.result.tag c.in_ok-command.command (view_of c.in_ok-command.command) c.rows.result c.occasion-occasion.result.busy c.plan_build.result
     c.requires.builds c.requires.free c.in_ok-command.ensures.next c.occasion-occasion.ensures.tag c.rows.ensures
     (c.occasion-occasion.ensures.busy ∙ ap (building (state_of c.args.self.now.story).active) c.view_of.ensures)
-    c.occasion-occasion.ensures.taken (λ scene meets. c.plan_build.ensures.planned scene meets) c.plan_build.ensures.view c.plan_build.ensures.formed c.plan_build.ensures.room
+    c.occasion-occasion.ensures.taken (λ scene meets. c.plan_build.ensures.planned scene meets) c.plan_build.ensures.formed c.plan_build.ensures.room

@@ -6,12 +6,9 @@ use Rattle.legal_history.specs.Builds.Active.{came_to, unit_at}
 use Rattle.legal_history.specs.Builds.Choices.{here}
 use Rattle.legal_history.specs.Stories.Steps.{state_of}
 use Rattle.clearmake.specs.Calls.{IsRunOfUnit}
-use Rattle.base_core.proofs.Building.FoundBuilds.{if_ok, view_there}
+use Rattle.base_core.proofs.Building.FoundBuilds.{if_ok}
 use Rattle.base_core.proofs.Keeping.Idle.{some_same}
 use Rattle.base_core.proofs.core_value.Core.run.Goals as goal
-
-pub run_unit-requires-clause-view : goal.run_unit-requires-clause-view
-run_unit-requires-clause-view g c = view_there (state_of c.args.self.now.story) c.args.lane c.build_at.result.now c.rows.result c.build_at.ensures.kept c.rows.ensures
 
 pub returns : goal.returns
 returns g c =

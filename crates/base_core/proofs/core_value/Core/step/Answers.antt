@@ -3,13 +3,10 @@ use Rattle.std.proofs.Common.{◌≡◌, ◌<◌, length, sym, subst, ◌∙◌,
 use Rattle.build_core.specs.UnitSteps.{IsStep}
 use Rattle.legal_history.specs.Stories.Steps.{state_of}
 use Rattle.base_core.specs.Calls.BuildCalls.{StepsTo}
-use Rattle.base_core.proofs.Building.FoundBuilds.{if_ok, view_there}
+use Rattle.base_core.proofs.Building.FoundBuilds.{if_ok}
 use Rattle.base_core.proofs.Keeping.Idle.{some_same}
 use Rattle.base_core.proofs.Building.StepsSo.{steps_so}
 use Rattle.base_core.proofs.core_value.Core.step.Goals as goal
-
-pub step-requires-clause-view : goal.step-requires-clause-view
-step-requires-clause-view g c = view_there (state_of c.args.self.now.story) c.args.lane c.build_at.result.now c.rows.result c.build_at.ensures.kept c.rows.ensures
 
 pub returns : goal.returns
 returns g c =
