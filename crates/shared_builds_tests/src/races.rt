@@ -121,12 +121,13 @@ fn object_of(lane: u32) -> &'static str {
 }
 
 fn command(alloc: Global, lane: u32, act: Act) -> Result<String, AllocError> {
-    match act {
-        Act::Save => format!(in alloc; "save w{lane} note\n"),
-        Act::Label => format!(in alloc; "mklabel w{lane} REL in\n"),
-        Act::Build => format!(in alloc; "clearmake w{lane}\n"),
-        Act::Branch => format!(in alloc; "mkbranch w{lane} -nco fix in\n"),
-    }
+    let (word, rest) = match act {
+        Act::Save => ("save", " note"),
+        Act::Label => ("mklabel", " REL in"),
+        Act::Build => ("clearmake", ""),
+        Act::Branch => ("mkbranch", " -nco fix in"),
+    };
+    format!(in alloc; "{word} w{lane}{rest}\n")
 }
 
 fn session(alloc: Global, start: Start) -> Result<String, AllocError> {
