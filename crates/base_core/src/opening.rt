@@ -1,13 +1,13 @@
 //! How a base is opened: the rows of its journal are read one by one, and each has to fit those before it.
 
-ghost use Rattle.std.specs.Prelude.{◌≡◌, ◌&&◌, [], ◌∷◌, true, IfOk, IfErr, OnOk};
+ghost use Rattle.std.specs.Prelude.{◌≡◌, ◌&&◌, [], ◌∷◌, true, IfSome, IfNone, IfOk, IfErr, OnOk};
 ghost use Rattle.carried_out.specs.CarriedOut.{is_made};
 ghost use Rattle.legal_history.specs.Base.Fits.{fits};
 ghost use Rattle.disk_model.specs.Devices.{file_of, bytes_of};
 ghost use Rattle.disk_model.specs.Files.{stable};
 ghost use Rattle.disk_model.specs.Told.{IfTold};
 ghost use Rattle.base_core.specs.Bases.Opening.{StopsBy, IsOpened, FailsToOpen};
-ghost use Rattle.base_core.specs.Bases.Reading.{OnlyReads, NextIs, IsMissed, IsNextRow, IsNoRow, IsReadSoFar, ReadsOn, IsReadThrough};
+ghost use Rattle.base_core.specs.Bases.Reading.{OnlyReads, NextIs, IsMisfit, IsMissed, IsNextRow, IsNoRow, IsReadSoFar, ReadsOn, IsReadThrough};
 
 use crate::logs::Log;
 use carried_out::is_made;
@@ -65,6 +65,18 @@ fn may_follow(alloc: Global, rows: &FirstRows<'_>, row: &Row) -> Result<bool, No
     }
 }
 
+/// Why a row may not follow, or nothing where it may.
+fn misfit(alloc: Global, rows: &FirstRows<'_>, row: &Row) -> Option<OpenCause>
+    ensures fits { IfNone result ((is_made row.now.deed && fits rows.now row.now.deed) ≡ true) }
+    ensures misses { IfSome result (IsMisfit rows.now row.now.deed) }
+{
+    match may_follow(alloc, rows, row) {
+        Ok(true) => None,
+        Ok(false) => Some(OpenCause::Damaged(rows.size())),
+        Err(NoMemory) => Some(OpenCause::NoMemory),
+    }
+}
+
 /// The row that the payload of the next frame spells, where what is carried out so far makes it and it fits the rows before.
 fn next_row(
     alloc: Global,
@@ -75,15 +87,14 @@ fn next_row(
     ensures ok { IfOk result (IsNextRow rows.now payload.now) }
     ensures err { IfErr result (IsNoRow rows.now payload.now) }
 {
-    let number = rows.size();
-    match read(alloc, hashing, payload) {
-        Ok(row) => match may_follow(alloc, rows, &row) {
-            Ok(true) => Ok(row),
-            Ok(false) => Err(OpenCause::Damaged(number)),
-            Err(NoMemory) => Err(OpenCause::NoMemory),
-        },
-        Err(Or::NoMemory) => Err(OpenCause::NoMemory),
-        Err(Or::Is(_)) => Err(OpenCause::Damaged(number)),
+    let row = match read(alloc, hashing, payload) {
+        Ok(row) => row,
+        Err(Or::NoMemory) => return Err(OpenCause::NoMemory),
+        Err(Or::Is(_)) => return Err(OpenCause::Damaged(rows.size())),
+    };
+    match misfit(alloc, rows, &row) {
+        None => Ok(row),
+        Some(cause) => Err(cause),
     }
 }
 

@@ -7,6 +7,9 @@ use Rattle.legal_history.specs.Base.Fits.{fits}
 use Rattle.row_form.specs.Spelled.{spelled}
 use Rattle.row_form.proofs.ExactRow.{one_spelling}
 use Rattle.base_core.specs.Bases.Opening.{IsUnfit}
+use Rattle.base_core.specs.Bases.Reading.{IsMisfit, IsNextRow, IsNoRow}
+use Rattle.base_core.specs.declared.opening.OpenCause.{OpenCause}
+use Rattle.base_core.specs.declared.opening.OpenCause.TheVariants as causes
 use Rattle.base_core.specs.Story.Readable.{IsReadable}
 
 -- a payload that spells a row which does not fit spells none that does
@@ -28,3 +31,17 @@ unmade_or_unfit b payload row is formed misses = by (is_made row.deed) refl miss
     by : (t : Bool) → is_made row.deed ≡ t → (t && fits b row.deed) ≡ false → IsUnfit b payload
     by true made misfit = unfit_row b payload row is (record { formed = formed; made = made }) misfit
     by false unmade misfit = unmade_row b payload row is formed unmade
+
+-- a payload that spells a row which may not follow gives no row, for the same cause
+pub misfit_gives_none : (b : Base) (payload : List ℕ) (row : Plain) (cause : OpenCause) → payload ≡ spelled row → IsFormed row → IsMisfit b row.deed cause → IsNoRow b payload cause
+misfit_gives_none b payload row (causes.Damaged n) is formed h = (h.0, unmade_or_unfit b payload row is formed h.1)
+misfit_gives_none b payload row causes.DiskFault is formed h = absurd h
+misfit_gives_none b payload row causes.NoMemory is formed h = tt
+
+-- a payload that spells a row which may follow gives it
+pub follows : (b : Base) (payload : List ℕ) (row : Plain) → payload ≡ spelled row → IsFormed row → (is_made row.deed && fits b row.deed) ≡ true → IsNextRow b payload row
+follows b payload row is formed may = by (is_made row.deed) refl may
+  where
+    by : (t : Bool) → is_made row.deed ≡ t → (t && fits b row.deed) ≡ true → IsNextRow b payload row
+    by true made fit = record { spells = is; readable = record { formed = formed; made = made }; fits = fit }
+    by false made fit = absurd (cc)

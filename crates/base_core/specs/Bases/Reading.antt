@@ -1,6 +1,8 @@
 -- How the rows of a journal are read.
-use Rattle.std.specs.Prelude.{◌≡◌, ◌≤◌, ℕ, Bool, true, Option, Some, None, List, [], ◌∷◌, ◌++◌}
+use Rattle.std.specs.Prelude.{◌≡◌, ◌≤◌, ◌&&◌, ℕ, Bool, true, false, Option, Some, None, List, [], ◌∷◌, ◌++◌}
+use Rattle.carried_out.specs.CarriedOut.{is_made}
 use Rattle.cc_names.specs.Formed.{Plain}
+use Rattle.cc_names.specs.declared.rows.Deed.{Deed}
 use Rattle.disk_model.specs.Devices.{LeavesNow}
 use Rattle.disk_model.specs.Told.{Sight, IfTold, Both}
 use Rattle.legal_history.specs.Base.Rows.{Base, size}
@@ -45,6 +47,12 @@ abbrev pub IsMissed : OpenCause → ℕ → ℕ → Type 0
 IsMissed (causes.Damaged n) old new = ⊥
 IsMissed causes.DiskFault old new = rises old new ≡ true
 IsMissed causes.NoMemory old new = new ≡ old
+
+-- why a row of this deed may not follow a base
+abbrev pub IsMisfit : Base → Deed → OpenCause → Type 0
+IsMisfit b deed (causes.Damaged n) = (n ≡ size b) × ((is_made deed && fits b deed) ≡ false)
+IsMisfit b deed causes.DiskFault = ⊥
+IsMisfit b deed causes.NoMemory = Unit {0}
 
 -- a payload spells this row, which is readable and fits a base
 pub record IsNextRow (b : Base) (payload : List ℕ) (row : Plain) : Type 0 where
