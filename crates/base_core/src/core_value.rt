@@ -95,7 +95,8 @@ impl<D: Disk> Core<D> {
         requires carried_out { AreCarriedOut phase }
         requires few { (state_of self.old.story).number + 1 < 2 ^ 32 }
         requires in_time { moment ≤ last_moment }
-        ensures ok { OnOk result (self.new.story ≡ self.old.story ++ story_steps.PhaseBegun phase moment ∷ []) }
+        ensures ok { OnOk result
+            (self.new.story ≡ self.old.story ++ story_steps.PhaseBegun phase moment ∷ []) }
         ensures err { OnErr result (self.new ≡ self.old) }
         ensures counted { KeepsCount self.old self.new }
     {

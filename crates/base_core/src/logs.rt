@@ -145,7 +145,8 @@ impl<D: Disk> Log<D> {
         handed: Counts,
         journal: Journal<D>,
     ) -> Result<Log<D>, Journal<D>>
-        requires { IsBacked (state_of (story_steps.Opened (oldest_first rows.base) handed D.tells ∷ []))
+        requires { IsBacked
+            (state_of (story_steps.Opened (oldest_first rows.base) handed D.tells ∷ []))
             (D.sight journal.disk) journal.list journal.loose journal.ended journal.left
             journal.settled }
         ensures ok { IfOk result
