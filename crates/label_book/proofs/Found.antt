@@ -10,7 +10,7 @@ use Rattle.std.proofs.lemmas.List.{get_or-map, length-map}
 use Rattle.std.proofs.lemmas.List.Quantifiers.{position-Some}
 use Rattle.std.proofs.lemmas.Map.Made.{AllPairs-from_IsDistinct, is_some-lookup}
 use Rattle.std.proofs.lemmas.Slice.Eq.{bytes_eq-Decides}
-use Rattle.label_book.specs.Holding.{MovesOn, is_pair, is_same, held_in, all_held, AreNamed, IsPlaceOfLabel, IsPlaceOf, HasNoPlace}
+use Rattle.label_book.specs.Holding.{MovesByPlace, is_pair, is_same, held_in, all_held, AreNamed, IsPlaceOfLabel, IsPlaceOf, HasNoPlace}
 use Rattle.label_book.specs.declared.held.LabelOn.{LabelOn}
 use Rattle.label_book.proofs.Newest.{is_itself}
 use Rattle.label_book.proofs.Pairs.{bool_cases, both_hold, pair_is}
@@ -37,7 +37,7 @@ each_fails test (x ∷ xs) none (suc k) d within = each_fails test xs (rest (tes
     rest false b none = none
 
 -- where each key fails a test, nothing is found
-no_lookup : (test : LabelOn → Bool) (entries : List MovesOn) → ((k : ℕ) (d : MovesOn) → k < length entries → test (get_or entries k d).0 ≡ false) → lookup test entries ≡ None
+no_lookup : (test : LabelOn → Bool) (entries : List MovesByPlace) → ((k : ℕ) (d : MovesByPlace) → k < length entries → test (get_or entries k d).0 ≡ false) → lookup test entries ≡ None
 no_lookup test [] fails = refl
 no_lookup test (entry ∷ entries) fails = rw (fails 0 entry (omega arith)) (no_lookup test entries (λ k d within. fails (suc k) d (omega arith)))
 
@@ -48,10 +48,10 @@ label_found l names n found =
     record { within = within; is = sym ((bytes_eq-Decides l (get_or names n [])).0 is) }
 
 -- a label without a place stands on no element
-pub label_absent : (l : List ℕ) (e : ℕ) (names : List (List ℕ)) (entries : List MovesOn) → AreNamed names entries → list_any (bytes_eq l) names ≡ false → HasNoPlace l e (all_held names entries)
+pub label_absent : (l : List ℕ) (e : ℕ) (names : List (List ℕ)) (entries : List MovesByPlace) → AreNamed names entries → list_any (bytes_eq l) names ≡ false → HasNoPlace l e (all_held names entries)
 label_absent l e names entries named none = record {
   none = λ k d within.
-      let f : MovesOn = (record { label = 0; element = 0 }, d.moves) in
+      let f : MovesByPlace = (record { label = 0; element = 0 }, d.moves) in
       let in_range : k < length entries = omega (arith, length-map entries (held_in names)) in
       let entry = get_or entries k f in
       let fails : bytes_eq l (get_or names entry.0.label []) ≡ false = each_fails (bytes_eq l) names none entry.0.label [] (named k f in_range) in
@@ -67,9 +67,9 @@ decides one two = (
   λ is. rw is (rw ((Decides-eqb two.label two.label).1 refl) ((Decides-eqb two.element two.element).1 refl)),
 )
 
-module _ (names : List (List ℕ)) (apart : IsDistinct bytes_eq names) (entries : List MovesOn) (named : AreNamed names entries) (l : List ℕ) (e n : ℕ) (place : IsPlaceOfLabel l names n) where
+module _ (names : List (List ℕ)) (apart : IsDistinct bytes_eq names) (entries : List MovesByPlace) (named : AreNamed names entries) (l : List ℕ) (e n : ℕ) (place : IsPlaceOfLabel l names n) where
   -- an entry is about the label on the element where its key is that
-  key_of_pair : (entry : MovesOn) → entry.0.label < length names → is_pair l e (held_in names entry) ≡ true → is_same (record { label = n; element = e }) entry.0 ≡ true
+  key_of_pair : (entry : MovesByPlace) → entry.0.label < length names → is_pair l e (held_in names entry) ≡ true → is_same (record { label = n; element = e }) entry.0 ≡ true
   key_of_pair entry within is =
       let (label, element) = pair_is l e (held_in names entry) is in
       let there : get_or names n [] ≡ get_or names entry.0.label [] = place.is ∙ label in
@@ -81,7 +81,7 @@ module _ (names : List (List ℕ)) (apart : IsDistinct bytes_eq names) (entries 
       (decides (record { label = n; element = e }) entry.0).1
       (ap (λ m. record { label = m; element = e }) number ∙ ap (λ m. record { label = entry.0.label; element = m }) element)
 
-  pair_of_key : (entry : MovesOn) → is_same (record { label = n; element = e }) entry.0 ≡ true → is_pair l e (held_in names entry) ≡ true
+  pair_of_key : (entry : MovesByPlace) → is_same (record { label = n; element = e }) entry.0 ≡ true → is_pair l e (held_in names entry) ≡ true
   pair_of_key entry is =
       let key = (decides (record { label = n; element = e }) entry.0).0 is in
       let label : l ≡ get_or names entry.0.label [] = sym place.is ∙ ap (λ (k : LabelOn). get_or names k.label []) key in
@@ -91,15 +91,15 @@ module _ (names : List (List ℕ)) (apart : IsDistinct bytes_eq names) (entries 
   found_at p found distinct =
       let key : LabelOn = record { label = n; element = e } in
       let (within, is, before) = position-Some (is_same key) (keys_of entries) p key found in
-      let in_range : p < length entries = omega (arith, length-map entries (λ (entry : MovesOn). entry.0)) in
-      let key_at : (k : ℕ) (f : MovesOn) → k < length entries → get_or (keys_of entries) k key ≡ (get_or entries k f).0 = λ k f lt. get_or-map (λ (entry : MovesOn). entry.0) entries k f key lt in
+      let in_range : p < length entries = omega (arith, length-map entries (λ (entry : MovesByPlace). entry.0)) in
+      let key_at : (k : ℕ) (f : MovesByPlace) → k < length entries → get_or (keys_of entries) k key ≡ (get_or entries k f).0 = λ k f lt. get_or-map (λ (entry : MovesByPlace). entry.0) entries k f key lt in
       record {
         within = omega (arith, length-map entries (held_in names));
         is = λ d.
-            let f : MovesOn = (key, d.moves) in
+            let f : MovesByPlace = (key, d.moves) in
             rw (get_or-map (held_in names) entries p f d in_range) (pair_of_key (get_or entries p f) (rw (key_at p f in_range) at is));
         alone = λ k d lt apart.
-            let f : MovesOn = (key, d.moves) in
+            let f : MovesByPlace = (key, d.moves) in
             let k_in_range : k < length entries = omega (arith, length-map entries (held_in names)) in
             let entry = get_or entries k f in
             rw (get_or-map (held_in names) entries k f d k_in_range) (elim (bool_cases (is_pair l e (held_in names entry))) [
@@ -107,7 +107,7 @@ module _ (names : List (List ℕ)) (apart : IsDistinct bytes_eq names) (entries 
                   let one : key ≡ get_or (keys_of entries) p key = (decides key (get_or (keys_of entries) p key)).0 is in
                   let two : key ≡ entry.0 = (decides key entry.0).0 (key_of_pair entry (named k f k_in_range) pair) in
                   absurd (alone_at (keys_of entries) p k key (AllPairs-from_IsDistinct decides (keys_of entries) distinct) within
-                  (omega (arith, length-map entries (λ (entry : MovesOn). entry.0))) (sym one ∙ two ∙ sym (key_at k f k_in_range)) apart)
+                  (omega (arith, length-map entries (λ (entry : MovesByPlace). entry.0))) (sym one ∙ two ∙ sym (key_at k f k_in_range)) apart)
               | inr fails ↦ fails
             ]);
       }
@@ -122,12 +122,12 @@ module _ (names : List (List ℕ)) (apart : IsDistinct bytes_eq names) (entries 
   absent None is = record {
     none = λ k d within.
         let key : LabelOn = record { label = n; element = e } in
-        let f : MovesOn = (key, d.moves) in
+        let f : MovesByPlace = (key, d.moves) in
         let in_range : k < length entries = omega (arith, length-map entries (held_in names)) in
         let entry = get_or entries k f in
         let lacks : list_any (is_same key) (keys_of entries) ≡ false = sym (is_some-lookup (is_same key) entries) ∙ sym is in
         let fails : is_same key entry.0 ≡ false =
-        ap (is_same key) (sym (get_or-map (λ (entry : MovesOn). entry.0) entries k f key in_range)) ∙ each_fails (is_same key) (keys_of entries) lacks k key (omega (arith, length-map entries (λ (entry : MovesOn). entry.0))) in
+        ap (is_same key) (sym (get_or-map (λ (entry : MovesByPlace). entry.0) entries k f key in_range)) ∙ each_fails (is_same key) (keys_of entries) lacks k key (omega (arith, length-map entries (λ (entry : MovesByPlace). entry.0))) in
         rw (get_or-map (held_in names) entries k f d in_range) (elim (bool_cases (is_pair l e (held_in names entry))) [
           | inl pair ↦ cc (key_of_pair entry (named k f in_range) pair)
           | inr is_not ↦ is_not

@@ -4,7 +4,7 @@ use Rattle.std.specs.Map.{values_of}
 use Rattle.std.proofs.lemmas.Bool.Decides.{nat_tests}
 use Rattle.indexmap.specs.IndexMap.{set_value_at}
 use Rattle.label_book.specs.Marks.{KeepsAll, of_pair}
-use Rattle.label_book.specs.Holding.{MovesOn, Held, MoveList, all_held, held_in, AreNamed, HasGrown}
+use Rattle.label_book.specs.Holding.{MovesByPlace, Held, MoveList, all_held, held_in, AreNamed, HasGrown}
 use Rattle.label_book.specs.BookFields.{marks_in}
 use Rattle.label_book.proofs.Added.{same_changes}
 use Rattle.label_book.proofs.Entries.{held_moves, held_push, held_grown, writes}
@@ -12,7 +12,7 @@ use Rattle.label_book.proofs.Pairs.{of_pair_push}
 use Rattle.label_book.proofs.Ready.{has_room, set_keeps, push_keeps}
 
 -- with at least as much room for the same moves
-pub kept_set : (names : List (List ℕ)) (entries : List MovesOn) (p : ℕ) (old new : MoveList) → p < length (all_held names entries) → slice_get (values_of entries) p ≡ Some old
+pub kept_set : (names : List (List ℕ)) (entries : List MovesByPlace) (p : ℕ) (old new : MoveList) → p < length (all_held names entries) → slice_get (values_of entries) p ≡ Some old
     → new.items ≡ old.items → vec_len new ≡ vec_len old → vec_capacity old ≤ vec_capacity new
     → KeepsAll (marks_in (all_held names entries)) (marks_in (all_held names (set_value_at entries p new)))
 kept_set names entries p old new within is items len room =
@@ -28,14 +28,14 @@ kept_set names entries p old new within is items len room =
     })
 
 -- with more names
-pub kept_grown : (old new : List (List ℕ)) (entries : List MovesOn) → HasGrown old new → AreNamed old entries → KeepsAll (marks_in (all_held old entries)) (marks_in (all_held new entries))
+pub kept_grown : (old new : List (List ℕ)) (entries : List MovesByPlace) → HasGrown old new → AreNamed old entries → KeepsAll (marks_in (all_held old entries)) (marks_in (all_held new entries))
 kept_grown old new entries grown named = subst (λ after. KeepsAll (marks_in (all_held old entries)) (marks_in after)) (sym (held_grown old new entries grown named)) (record {
   pairs = λ l e. refl;
   ready = λ l e is. is;
 })
 
 -- with more names, and one entry more that has no moves
-pub kept_push : (old new : List (List ℕ)) (entries : List MovesOn) (entry : MovesOn) → HasGrown old new → AreNamed old entries → entry.1.items ≡ []
+pub kept_push : (old new : List (List ℕ)) (entries : List MovesByPlace) (entry : MovesByPlace) → HasGrown old new → AreNamed old entries → entry.1.items ≡ []
     → KeepsAll (marks_in (all_held old entries)) (marks_in (all_held new (entries ++ entry ∷ [])))
 kept_push old new entries entry grown named empty =
     let all = all_held old entries in

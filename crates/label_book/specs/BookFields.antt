@@ -4,7 +4,7 @@ use Rattle.std.specs.Str.{bytes_eq}
 use Rattle.std.specs.List.{IsDistinct}
 use Rattle.cc_names.specs.Falling.{Falls}
 use Rattle.label_book.specs.Marks.{Marks}
-use Rattle.label_book.specs.Holding.{MovesOn, Held, row_of_move, all_changes, all_held, ready_pairs, AreNamed}
+use Rattle.label_book.specs.Holding.{MovesByPlace, Held, row_of_move, all_changes, all_held, ready_pairs, AreNamed}
 use Rattle.label_book.specs.declared.Book.TheInside.{Inside}
 
 -- what contracts see of labels on elements
@@ -16,10 +16,10 @@ abbrev pub marks_of : Inside → Marks
 marks_of inside = marks_in (all_held inside.labels.keys inside.moves.entries)
 
 -- each name stands once, each label has one, and the changes of each label on each element are in order of rows
-pub record InStep (names : List (List ℕ)) (entries : List MovesOn) : Type 0 where
+pub record InStep (names : List (List ℕ)) (entries : List MovesByPlace) : Type 0 where
   pub apart : IsDistinct bytes_eq names
   pub named : AreNamed names entries
-  pub fall : (p : ℕ) (d : MovesOn) → p < length entries → Falls (map row_of_move (reverse (slice_index_or entries p d).1.items))
+  pub fall : (p : ℕ) (d : MovesByPlace) → p < length entries → Falls (map row_of_move (reverse (slice_index_or entries p d).1.items))
 
 -- the fields of a book are in step
 abbrev pub IsInStep : Inside → Type 0

@@ -60,19 +60,20 @@ abbrev pub is_same : LabelOn → LabelOn → Bool
 is_same one two = (one.label == two.label) && (one.element == two.element)
 
 -- a label on an element with its moves, where the label is told by its place
-abbrev pub MovesOn : Type 0
-MovesOn = LabelOn × MoveList
+abbrev pub MovesByPlace : Type 0
+MovesByPlace = LabelOn × MoveList
 
 -- the same by the label's name, among these names
-abbrev pub held_in : List (List ℕ) → MovesOn → Held
+abbrev pub held_in : List (List ℕ) → MovesByPlace → Held
 held_in names entry = record { label = slice_index_or names entry.0.label []; element = entry.0.element; moves = entry.1 }
 
-abbrev pub all_held : List (List ℕ) → List MovesOn → List Held
+-- the same of all of them
+abbrev pub all_held : List (List ℕ) → List MovesByPlace → List Held
 all_held names entries = map (held_in names) entries
 
 -- each label has a name
-abbrev pub AreNamed : List (List ℕ) → List MovesOn → Type 0
-AreNamed names entries = (p : ℕ) (d : MovesOn) → p < length entries → (slice_index_or entries p d).0.label < length names
+abbrev pub AreNamed : List (List ℕ) → List MovesByPlace → Type 0
+AreNamed names entries = (p : ℕ) (d : MovesByPlace) → p < length entries → (slice_index_or entries p d).0.label < length names
 
 -- each name keeps its place, and there may be more
 pub record HasGrown (old new : List (List ℕ)) : Type 0 where

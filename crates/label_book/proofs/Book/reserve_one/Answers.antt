@@ -3,7 +3,7 @@ use Rattle.std.specs.List.{list_any}
 use Rattle.std.proofs.lemmas.Bool.Decides.{nat_tests}
 use Rattle.std.proofs.lemmas.Grind.{common_steps}
 use Rattle.label_book.specs.Marks.{is_that}
-use Rattle.label_book.specs.Holding.{MovesOn, MoveList, all_held, held_in, is_pair, ready_pairs, IsPlaceOf, HasNoPlace}
+use Rattle.label_book.specs.Holding.{MovesByPlace, MoveList, all_held, held_in, is_pair, ready_pairs, IsPlaceOf, HasNoPlace}
 use Rattle.label_book.proofs.Added.{same_pair}
 use Rattle.label_book.proofs.Entries.{held_grown, held_push, step_grown, step_same, writes}
 use Rattle.label_book.proofs.Found.{no_key}
@@ -85,7 +85,7 @@ put_last-requires c =
 -- the label has no change yet on the element
 pub returns-clause-kept : goal.returns-clause-kept
 returns-clause-kept c =
-    let entry : MovesOn = (record { label = c.in_ok-label.label; element = c.args.element }, c.in_ok-moves.moves) in
+    let entry : MovesByPlace = (record { label = c.in_ok-label.label; element = c.args.element }, c.in_ok-moves.moves) in
     rw (← c.self.view_is, c.in_ok-put_last.ensures.put)
     (kept_push c.self.inside.labels.keys c.place_of_label.new.labels.keys c.self.inside.moves.entries entry c.place_of_label.ensures.grown c.self.invariant.named c.in_ok-moves.ensures.items)
 
@@ -95,7 +95,7 @@ returns-clause-ready c =
     let e = c.args.element in
     let entries = c.self.inside.moves.entries in
     let more = c.place_of_label.new.labels.keys in
-    let entry : MovesOn = (record { label = c.in_ok-label.label; element = e }, c.in_ok-moves.moves) in
+    let entry : MovesByPlace = (record { label = c.in_ok-label.label; element = e }, c.in_ok-moves.moves) in
     let held = held_in more entry in
     let room : has_room held ≡ true = grind (arith, nat_tests, common_steps, c.in_ok-moves.ensures.len, c.in_ok-moves.ensures.capacity) in
     let is : is_pair l e held ≡ true = rw c.in_ok-label.ensures.place.is (is_itself l e) in
