@@ -3,7 +3,7 @@
 
     tools/gnu_make_files.py [MAKE]
 
-MAKE is the program, /usr/bin/make where it is not given. Reads the tables of crates/whole_sessions_tests/src/gnu_make: each case
+MAKE is the program, /usr/bin/make where it is not given. Reads the tables of crates/session_tables/data/tables/gnu_make: each case
 has the saves of a view, a build, and a `cat` of each file that the build makes, with what these reply. MAKE is run with the words
 of the build, and nothing of the surroundings but a PATH, in a new folder with these saves. What it leaves there beside them has
 to be these files, with these texts. Prints each case that differs and how many were run; ends with 1 where one differs. It
@@ -14,15 +14,13 @@ import subprocess
 import sys
 import tempfile
 
-TABLES = pathlib.Path(__file__).resolve().parent.parent / "crates/whole_sessions_tests/src/gnu_make"
-ESCAPES = {r"\t": "\t", r"\"": '"', r"\\": "\\"}
+TABLES = pathlib.Path(__file__).resolve().parent.parent / "crates/session_tables/data/tables/gnu_make"
 
 
-def cases_of(source):
-    """The cases of the table in a Rattle file, each a session and what its last commands reply."""
-    table = re.search(r'^const CASES: &str = "\\\n(.*?)";$', source, re.MULTILINE | re.DOTALL).group(1)
-    text = re.sub(r'\\[t"\\]', lambda escape: ESCAPES[escape.group()], table)
-    return [case.split("----\n") for case in text.split("====\n")]
+def cases_of(table):
+    """The cases of a table, each a session and what its last commands reply."""
+    _head, *cases = table.split("====\n")
+    return [case.split("----\n...\n") for case in cases]
 
 
 def files_saved(session):
@@ -71,7 +69,7 @@ def files_left(make, saved, words):
 def main():
     make = sys.argv[1] if len(sys.argv) > 1 else "/usr/bin/make"
     count, differ = 0, 0
-    for source in sorted(TABLES.glob("*.rt")):
+    for source in sorted(TABLES.glob("*.txt")):
         for session, replies in cases_of(source.read_text()):
             saved, words, wanted = parts_of(session, replies)
             count += 1

@@ -17,14 +17,15 @@ use std::sync::Wait;
 use std::test::Fail;
 use std::thread::Threads;
 
-mod builds;
 mod faults;
 mod journals;
+mod lanes;
+mod limits;
+mod misfits;
 mod moments;
 mod names;
 mod objects;
 mod reuse_stops;
-mod sessions;
 mod sources;
 mod stops;
 
@@ -40,10 +41,6 @@ const FIRST: &str =
 // How that build is replied.
 const BUILT: &str =
     "  out built 3 98ea6e4f216f2fb4b69fff9b3a44842c38686ca685f3f55dc48c5d3fb1107be4\n";
-
-// The same where it has nothing to do.
-const KEPT: &str =
-    "  out kept 3 98ea6e4f216f2fb4b69fff9b3a44842c38686ca685f3f55dc48c5d3fb1107be4\n";
 
 // Which words a call has, and which of its reads and of its writes fails, counted from 1; 0 is none.
 #[derive(Clone, Copy)]

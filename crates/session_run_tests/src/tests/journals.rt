@@ -1,24 +1,10 @@
 //! Journals that are found: whole, cut short, damaged, and written by a run before.
 
-use super::{BUILT, FIRST, KEPT, Runtime, assert_outcome, disk_with, journal_of, outcome_on};
+use super::{BUILT, FIRST, Runtime, assert_outcome, disk_with, journal_of, outcome_on};
 use std::alloc::Global;
 use std::test::Fail;
 
 const VIEWS: &str = "phase\nlane a\nmkview v\nmkview w\n";
-
-#[test]
-fn a_base_is_found_again(rt: HostRuntime) -> Result<(), Fail> {
-    let alloc = rt.alloc();
-    let journal = journal_of(&rt, alloc, FIRST)?;
-    let disk = disk_with(alloc, journal.as_slice())?;
-    let session = "phase\nlane a\nmkview v\nclearmake v out\n";
-    let again = outcome_on(&rt, alloc, session, disk)?;
-    let written = format!(in alloc;
-        "phase 1\nlane a\n1 mkview refused C2 ViewExists\n2 clearmake ok\n{KEPT}"
-    )?;
-    assert_outcome(&rt, &again, 1, written.as_str(), 4);
-    Ok(())
-}
 
 // The journal of a first build, the first byte of whose object is `j` in place of `h`.
 fn with_another_object(rt: &impl Runtime, alloc: Global) -> Result<Vec<u8>, Fail> {
@@ -45,7 +31,7 @@ fn a_wrong_byte_of_an_object_is_kept_with_it(rt: HostRuntime) -> Result<(), Fail
 }
 
 // What an empty session comes to on a disk that holds this journal, which stays as it is.
-fn assert_found(
+pub(super) fn assert_found(
     rt: &impl Runtime,
     alloc: Global,
     journal: &[u8],

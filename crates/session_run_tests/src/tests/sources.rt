@@ -24,6 +24,7 @@ fn a_source_and_a_sink_that_fail_are_told(rt: HostRuntime) -> Result<(), Fail> {
         ("f run", 1, 1, 6, "", 0),
         ("f", 0, 1, 6, "", 0),
         ("f", 1, 0, 2, "bad words\n", 0),
+        ("f big 1 0", 1, 0, 2, "bad words\n", 0),
         ("f run run", 1, 0, 2, "bad words\n", 0),
     ] {
         let asked = Asked {

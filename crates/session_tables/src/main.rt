@@ -1,0 +1,133 @@
+//! Runs the sessions of the tables in `data/`.
+//!
+//! What it is for: the gate sees that sessions come to what the tables say, to the byte: what each command answers, why each is
+//! refused and which reason is told where there are two, what queries print, what builds make and reuse, that makefiles mean what
+//! they mean under GNU make, and what a base goes on with that is opened again. A table is a text, so a case costs no proof.
+//!
+//! What it promises: nothing beside `session_run::run_words`. It is a program whose printed text the gate compares: how many tables
+//! and cases were run, and above that each case that comes to something else.
+//!
+//! What it stands on: `session_run` for sessions, `disk_model` and `cc_outside` for what is outside of them, `cc_names` for words,
+//! and `anyhow` for what stops it.
+#![tactic(auto)]
+
+mod cases;
+mod files;
+mod runs;
+mod tables;
+
+use crate::cases::first_difference;
+use crate::files::{names_in, text_of};
+use crate::tables::{Front, Table, front_of, table_of};
+use anyhow::{Context, Result};
+use std::process::ExitCode;
+use std::sync::Wait;
+use std::thread::Threads;
+use std::{env, io};
+
+/// How many tables and cases were run, and how many cases came to something else.
+#[derive(Clone, Copy, Default)]
+struct Tally {
+    tables: usize,
+    cases: usize,
+    differing: usize,
+}
+
+impl Tally {
+    fn and(self, more: Tally) -> Tally {
+        Tally {
+            tables: self.tables.saturating_add(more.tables),
+            cases: self.cases.saturating_add(more.cases),
+            differing: self.differing.saturating_add(more.differing),
+        }
+    }
+}
+
+/// Runs the cases of a table, and prints each that comes to something else.
+fn run_cases<R: Threads + Wait + Sync>(
+    threads: &R,
+    rt: &HostRuntime,
+    name: &str,
+    front: Front<'_>,
+    table: Table<'_>,
+) -> Result<Tally> {
+    let (mut cases, mut differing) = (0_usize, 0_usize);
+    for case in table.cases.split("====\n") {
+        cases = cases.saturating_add(1);
+        if let Some(told) = first_difference(threads, rt, front, table.clock, case)? {
+            differing = differing.saturating_add(1);
+            println!(rt; "{name}: a case comes to\n{told}and not to what it says:\n{case}")?;
+        }
+    }
+    Ok(Tally {
+        tables: 1,
+        cases,
+        differing,
+    })
+}
+
+/// Runs a table of the folder: the table and its front are read, and its cases run.
+fn run_table<R: Threads + Wait + Sync>(
+    threads: &R,
+    rt: &HostRuntime,
+    folder: &str,
+    name: &str,
+) -> Result<Tally> {
+    let text = text_of(rt, folder, "tables", name)?;
+    let table = table_of(text.as_str()).context(format_args!("{name} is no table"))?;
+    let file = format!(in rt.alloc(); "{}.txt", table.front)?;
+    let front = text_of(rt, folder, "fronts", file.as_str())?;
+    let front = front_of(front.as_str()).context(format_args!("{file} is no front"))?;
+    run_cases(threads, rt, name, front, table)
+}
+
+/// Runs the tables on one subject.
+fn run_subject<R: Threads + Wait + Sync>(
+    threads: &R,
+    rt: &HostRuntime,
+    folder: &str,
+    subject: &str,
+) -> Result<Tally> {
+    let tables = format!(in rt.alloc(); "{folder}/tables/{subject}")?;
+    let mut tally = Tally::default();
+    for name in names_in(rt, tables.as_str())? {
+        let table = format!(in rt.alloc(); "{subject}/{name}")?;
+        tally = tally.and(run_table(threads, rt, folder, table.as_str())?);
+    }
+    Ok(tally)
+}
+
+/// Runs all tables of a folder, subject by subject in the order of their names.
+fn run_folder<R: Threads + Wait + Sync>(
+    threads: &R,
+    rt: &HostRuntime,
+    folder: &str,
+) -> Result<Tally> {
+    let tables = format!(in rt.alloc(); "{folder}/tables")?;
+    let mut tally = Tally::default();
+    for subject in names_in(rt, tables.as_str())? {
+        tally = tally.and(run_subject(threads, rt, folder, subject.as_str())?);
+    }
+    Ok(tally)
+}
+
+/// The folder of the tables: the first word behind the program's name, else the one that it runs in.
+fn folder_given(rt: &HostRuntime) -> io::Result<String> {
+    match env::args(rt)?.nth(1) {
+        Some(folder) => Ok(folder),
+        None => Ok(String::from_str(rt.alloc(), ".")?),
+    }
+}
+
+fn main(rt: HostRuntime) -> Result<ExitCode> {
+    let folder = folder_given(&rt)?;
+    // Only `main` may lend the handle of the process for threads, to a parameter with their bounds.
+    let tally = run_folder(&rt, &rt, folder.as_str())?;
+    let Tally {
+        tables,
+        cases,
+        differing,
+    } = tally;
+    println!(rt; "{tables} tables, {cases} cases, {differing} differ")?;
+    Ok(ExitCode::from(u8::from(differing > 0)))
+}
