@@ -1,7 +1,8 @@
 #!/usr/bin/env python3
 """Runs the gate and prints what it cost, a line a crate.
 
-Usage: gate_times.py [RT'S WORDS], at the top of the repository. Without words it runs `rt ci --anew`.
+Usage: gate_times.py [RT'S WORDS], at the top of the repository. Without words it runs the gate from nothing: `rt ci --anew` where
+the kit's rt has that word, and keeps what it passed, else `rt ci`.
 
 It looks once a second at the provers that run below it, and adds up their processor time: the proof of each crate, a program's
 builds counted in; the proof of its tests; and its must-fail edits with the proof of the crate over which they are tried. A prover
@@ -86,8 +87,14 @@ def line(name, row):
     return f"| {name} | " + " | ".join(f"{row[kind]:.0f}" for kind in KINDS) + " |"
 
 
+def from_nothing():
+    """The words by which the kit's rt runs the gate from nothing."""
+    told = subprocess.run(["rt", "help"], capture_output=True, text=True, check=False)
+    return ["ci", "--anew"] if "--anew" in told.stdout + told.stderr else ["ci"]
+
+
 def main():
-    last, status, wall, sums = measured(["rt"] + (sys.argv[1:] or ["ci", "--anew"]))
+    last, status, wall, sums = measured(["rt"] + (sys.argv[1:] or from_nothing()))
     whole = {kind: sum(row[kind] for row in sums.values()) for kind in KINDS}
     print(last)
     print(f"{wall:.0f} s, {sum(whole.values()) / 60:.0f} processor minutes of provers, {os.cpu_count()} processors\n")

@@ -25,7 +25,7 @@ use vob_journal::Journal;
 #[derive(Clone, Copy, Debug, PartialEq, Eq)]
 pub enum OpenCause {
     /// The frame of this number, counted from 1, is the first that spells no row, or whose row does not fit those before
-    /// it.
+    /// it or is of a deed that is not made so far.
     Damaged(u64),
     DiskFault,
     NoMemory,

@@ -78,7 +78,7 @@ pub record IsUnreadable (b : Base) (build : Build) (n : ℕ) (unit : Unit) (faul
 abbrev pub IsNext : Base → Build → ℕ → Unit → UnitStep → Type 0
 IsNext b build n unit next.Concluded = ⊥
 IsNext b build n unit (next.NotReady m) = Awaits build unit m
-IsNext b build n unit (next.Settle end) = EndsEarly (first_rows build.rows b) build unit end
+IsNext b build n unit (next.EndEarly end) = EndsEarly (first_rows build.rows b) build unit end
 IsNext b build n unit (next.Keep id) = Keeps b build n unit id
 IsNext b build n unit (next.Wink id) = Winks b build n unit id
 IsNext b build n unit (next.Start script targets) = Starts b build n unit script targets

@@ -31,7 +31,7 @@ pub enum UnitStep {
     /// It waits for this unit, the first of those that make its prerequisites and have no outcome.
     NotReady(u32),
     /// It ends without a run and without an object.
-    Settle(UnitEnd),
+    EndEarly(UnitEnd),
     /// It keeps this object, which its build's view holds at every target.
     Keep(u64),
     /// Its build's view takes this object in, which it does not hold at every target.
@@ -147,7 +147,7 @@ fn next(
         return Ok(UnitStep::NotReady(other));
     }
     if let Some(end) = end_without_run(alloc, rows, build, unit)? {
-        return Ok(UnitStep::Settle(end));
+        return Ok(UnitStep::EndEarly(end));
     }
     reuse_or_start(alloc, rows, build, number, unit)
 }

@@ -22,13 +22,14 @@ name_on changes branch element =
 abbrev pub name_of_new : List TreeChange → Option ℕ → List ℕ → List ℕ
 name_of_new changes above name = behind_slashes (codes "main" ∷ (names_above changes above ++ name ∷ [])) ++ 47 ∷ decimal 0
 
--- the version that a row of this deed takes out or makes, by the row's own number
+-- the version that the command of a row of this deed is replied, by the row's own number: what a checkout takes out, and what a
+-- branch or a checkin makes
 abbrev pub version_told : ℕ → Deed → Option ℕ
 version_told n (deeds.Checkout v e origin reserved) = Some origin
 version_told n (deeds.Branch v e origin name out) = Some n
 version_told n (deeds.Checkin v e) = Some n
 version_told n deed = None
 
--- the name of the version that the newest row of a base takes out or makes
+-- the name that the command of the newest row of a base is replied
 abbrev pub name_told : Base → Deed → Option (List ℕ)
 name_told b deed = option_map (version_name b) (version_told (length b) deed)

@@ -207,8 +207,8 @@ fn next_name(
     }
 }
 
-/// The name of the version that a row of this deed takes out or makes, as it is once the row is there; none where it does
-/// neither.
+/// The name that the command of a row of this deed is replied, as it is once the row is there: that of the version which a
+/// checkout takes out, or which a branch or a checkin makes; none for any other deed.
 /// Takes time linear in the name, and for each branch in it time logarithmic in the changes.
 pub fn name_told(alloc: Global, rows: &FirstRows<'_>, deed: &Deed) -> Result<Option<Text>, NoMemory>
     ensures { (row : Plain)

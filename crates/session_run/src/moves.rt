@@ -123,7 +123,8 @@ fn finish<D: Disk>(
     requires stands { HasUnitLeft (state_of core.old.story) lane unit count }
     requires ran { IsRunOfUnit (state_of core.old.story) lane unit (ran_of ended) }
     ensures ok { IfOk result
-        (λ next. MovesOn core.old.story core.new.story lane (lane_progress.Ran unit count ended) next) }
+        (λ next. MovesOn core.old.story core.new.story lane
+        (lane_progress.Ran unit count ended) next) }
     ensures err { OnErr result (core.new ≡ core.old) }
     ensures counted { KeepsCount core.old core.new }
 {

@@ -22,8 +22,13 @@ pub(crate) fn first_difference<R: Threads + Wait + Sync>(
             .split_once("----\n")
             .context("a session has no line `----` behind it")?;
         let session = format!(in rt.alloc(); "{}{session}", before.asked)?;
-        let Outcome { told, journal } =
-            outcome_on(threads, rt, clock, base.as_slice(), session.as_str())?;
+        let Outcome { told, journal } = outcome_on(
+            threads,
+            rt,
+            clock,
+            base.as_slice(),
+            session.as_str(),
+        )?;
         if !is_told(told.as_str(), before.told, wanted) {
             return Ok(Some(told));
         }

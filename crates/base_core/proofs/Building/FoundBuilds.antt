@@ -16,7 +16,7 @@ use Rattle.legal_history.specs.Stories.Lawful.{Legal}
 use Rattle.legal_history.specs.Stories.States.{State, next_tag}
 use Rattle.legal_history.specs.Stories.Steps.{state_of}
 use Rattle.clearmake.specs.Calls.{HasScript, IsCarried, IsRunOfUnit, IsStarted, Tries}
-use Rattle.base_core.specs.Calls.BuildCalls.{MaySettle, MayWink, HasRun, Noted, turn_of}
+use Rattle.base_core.specs.Calls.BuildCalls.{MayConclude, MayWink, HasRun, Noted, turn_of}
 use Rattle.base_core.specs.Calls.Building.{IsBuildKept}
 use Rattle.clearmake.specs.declared.turns.Carried.{Carried}
 use Rattle.clearmake.specs.declared.turns.Carried.TheVariants as carried
@@ -57,7 +57,7 @@ runs_so s lane n ran h = record {
 }
 
 -- where its run failed, it may be concluded so
-pub fails_so : (s : State) (lane n : ℕ) (ran : Ran) (fault : ScriptFault) → HasRun s lane n ran → ran.result ≡ Err fault → MaySettle s lane n (ends.Failed (faults.Script fault))
+pub fails_so : (s : State) (lane n : ℕ) (ran : Ran) (fault : ScriptFault) → HasRun s lane n ran → ran.result ≡ Err fault → MayConclude s lane n (ends.Failed (faults.Script fault))
 fails_so s lane n ran fault h failed = record {
   build = h.build;
   active = h.active;

@@ -56,7 +56,7 @@ steps_so s b lane n build step kept active within consistent same h = here step 
       waits = h.next.waits;
       earlier = awaits_earlier s.base build n m h.unit consistent h.is_unit h.next;
     }
-    here (next.Settle end) h = record {
+    here (next.EndEarly end) h = record {
       build = build;
       active = active;
       within = within;

@@ -56,7 +56,7 @@ pub record Noted (old new : List StoryStep) (lane n : ℕ) (came : Came) : Type 
   pub came_to_it : came_to build n ≡ Some came
 
 -- unit n of a lane's build may be concluded so without a row
-pub record MaySettle (s : State) (lane n : ℕ) (end : UnitEnd) : Type 0 where
+pub record MayConclude (s : State) (lane n : ℕ) (end : UnitEnd) : Type 0 where
   pub build : Build
   pub active : build_of s.active lane ≡ Some build
   pub within : n < length build.units
@@ -90,8 +90,8 @@ pub record MayWink (s : State) (lane n id : ℕ) : Type 0 where
 abbrev pub StepsTo : State → ℕ → ℕ → UnitStep → Type 0
 StepsTo s lane n next.Concluded = HasOutcome s lane n
 StepsTo s lane n (next.NotReady m) = WaitsFor s lane n m
-StepsTo s lane n (next.Settle end) = MaySettle s lane n end
-StepsTo s lane n (next.Keep id) = MaySettle s lane n (Kept id)
+StepsTo s lane n (next.EndEarly end) = MayConclude s lane n end
+StepsTo s lane n (next.Keep id) = MayConclude s lane n (Kept id)
 StepsTo s lane n (next.Wink id) = MayWink s lane n id
 StepsTo s lane n (next.Start script targets) = MayStart s lane n None × HasScript s lane n script targets
 StepsTo s lane n (next.Unreadable fault) = MayStart s lane n (Some fault)

@@ -30,8 +30,8 @@ fn count_told(deed: &Deed) -> Option<u64>
     }
 }
 
-/// The reply to the command of a row that was committed: the version of this name, where it takes out or makes one, the
-/// number of things that it names, where that is replied, else that all is well.
+/// The reply to the command of a row that was committed: the version of this name, or the number of things that the row
+/// names, where such a one is replied, else that all is well.
 fn row_reply(name: Option<Text>, count: Option<u64>) -> Reply
     ensures { result ≡ row_reply name count }
 {

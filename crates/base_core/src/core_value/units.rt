@@ -46,7 +46,7 @@ impl<D: Disk> Core<D> {
     ghost use Rattle.legal_history.specs.Builds.Turns.{came_by_start};
     ghost use Rattle.legal_history.specs.Stories.Steps.{state_of};
     ghost use Rattle.clearmake.specs.Calls.{IsBuilding, IsCarried, IsRunOfUnit, IsStarted, Concludes, Tries};
-    ghost use Rattle.base_core.specs.Calls.BuildCalls.{HasRun, MaySettle, MayStart, Noted, Notes, StepsTo};
+    ghost use Rattle.base_core.specs.Calls.BuildCalls.{HasRun, MayConclude, MayStart, Noted, Notes, StepsTo};
     ghost use Rattle.base_core.specs.Story.Counted.{KeepsCount};
     ghost use Rattle.clearmake.specs.Going.{HasOutcome};
 
@@ -70,7 +70,7 @@ impl<D: Disk> Core<D> {
         unit: u32,
         end: UnitEnd,
     ) -> Result<(), NoMemory>
-        requires { MaySettle (state_of self.old.story) lane unit end }
+        requires { MayConclude (state_of self.old.story) lane unit end }
         ensures ok { OnOk result (Concludes self.old.story self.new.story lane unit) }
         ensures err { OnErr result (self.new ≡ self.old) }
         ensures counted { KeepsCount self.old self.new }
@@ -132,7 +132,7 @@ impl<D: Disk> Core<D> {
         match self.step(alloc, lane, unit)? {
             UnitStep::Concluded => Ok(UnitTurn::Concluded),
             UnitStep::NotReady(earlier) => Ok(UnitTurn::NotReady(earlier)),
-            UnitStep::Settle(end) => {
+            UnitStep::EndEarly(end) => {
                 self.conclude(alloc, lane, unit, end)?;
                 Ok(UnitTurn::Concluded)
             }
