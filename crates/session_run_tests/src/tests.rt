@@ -23,7 +23,6 @@ mod lanes;
 mod limits;
 mod misfits;
 mod moments;
-mod names;
 mod objects;
 mod reuse_stops;
 mod sources;
