@@ -43,7 +43,8 @@ pub(crate) fn first_difference<R: Threads + Wait + Sync>(
 fn is_told(written: &str, before: &str, wanted: &str) -> bool {
     match (written.strip_prefix(before), wanted.strip_prefix("...\n")) {
         (Some(written), Some(end)) => written.ends_with(end),
-        (Some(written), None) => is_as_wanted(written, wanted),
+        (Some(written), None) if wanted.contains(" shared ") => is_as_wanted(written, wanted),
+        (Some(written), None) => written == wanted,
         (None, _) => false,
     }
 }
