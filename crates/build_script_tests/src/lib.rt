@@ -1,6 +1,7 @@
-//! Tests of `build_script`, in a crate of their own so that `build_script` is proved apart from them.
+//! Tests of `build_script` that no table of `session_tables` can be, in a crate of their own so that `build_script` is proved
+//! apart from them.
 //!
-//! What it is for: what runs of scripts give, write and read, and each of their faults.
+//! What it is for: what runs make of texts that do not end in a newline, or that are longer than an output may be.
 //!
 //! What it promises: nothing; it is only run.
 //!
@@ -8,12 +9,6 @@
 #![tactic(auto)]
 
 #[cfg(test)]
-mod includes;
-#[cfg(test)]
-mod lines;
-#[cfg(test)]
-mod long_outputs;
-#[cfg(test)]
 mod running;
 #[cfg(test)]
-mod runs;
+mod texts;

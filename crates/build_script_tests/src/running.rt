@@ -1,6 +1,6 @@
-//! Runs over files in memory, and what they came to in words.
+//! Runs over two files in memory, and what they wrote.
 
-ghost use Rattle.std.specs.Prelude.{◌<◌, ◌^◌, Some, length, option_map};
+ghost use Rattle.std.specs.Prelude.{Some, option_map};
 ghost use Rattle.std.specs.Str.{bytes_eq};
 ghost use Rattle.std.specs.HashMap.{get};
 ghost use Rattle.build_script.specs.Answers.{IsAnswer};
@@ -10,7 +10,6 @@ use build_script::outcomes::Ended;
 use build_script::run::run;
 use build_script::scripts::Script;
 use cc_names::paths::Path;
-use cc_names::refusals::ScriptFault;
 use cc_names::texts::Text;
 use std::alloc::{AllocError, Global};
 use std::collections::HashMap;
@@ -19,9 +18,9 @@ use std::test::Fail;
 
 // Some files, each made by row 1.
 #[derive(Drop)]
-pub(crate) struct SomeFiles {
+struct SomeFiles {
     alloc: Global,
-    pub(crate) texts: HashMap<Path, Text>,
+    texts: HashMap<Path, Text>,
 }
 
 impl Files for SomeFiles {
@@ -53,60 +52,45 @@ fn found(alloc: Global, text: &Text) -> Got
     }
 }
 
-pub(crate) fn files_of(alloc: Global, table: &[(&str, &str)]) -> Result<SomeFiles, Fail> {
+// The file `in`, which has this text, and `h`, which has `foo` and no newline.
+fn files_of(alloc: Global, text: &[u8]) -> Result<SomeFiles, Fail> {
     let mut texts = HashMap::new(alloc);
-    for (path, text) in table {
-        let path = Path::read(alloc, path.as_bytes())?;
-        texts.insert(path, Text::from_bytes(alloc, text.as_bytes())?)?;
-    }
+    let main = Path::read(alloc, b"in")?;
+    texts.insert(main, Text::from_bytes(alloc, text)?)?;
+    let other = Path::read(alloc, b"h")?;
+    texts.insert(other, Text::from_bytes(alloc, b"foo")?)?;
     Ok(SomeFiles { alloc, texts })
 }
 
-pub(crate) fn words_of_fault(alloc: Global, fault: &ScriptFault) -> Result<String, AllocError> {
-    match fault {
-        ScriptFault::Absent(path) => format!(in alloc; "Absent {path}"),
-        ScriptFault::BadLine(line) => format!(in alloc; "BadLine {line}"),
-        ScriptFault::TooBig(path) => format!(in alloc; "TooBig {path}"),
-        ScriptFault::IncludeDepth(path) => format!(in alloc; "IncludeDepth {path}"),
-        ScriptFault::Failed(line) => format!(in alloc; "Failed {line}"),
-        ScriptFault::StrayWrite(path) => format!(in alloc; "StrayWrite {path}"),
-        ScriptFault::NotWritten(path) => format!(in alloc; "NotWritten {path}"),
-    }
-}
-
-// What a run came to: the outputs, each in brackets, or the fault; and then the reads.
+// The text of the one output of a run, or that there is a fault.
 fn words_of(alloc: Global, ended: &Ended) -> Result<String, AllocError> {
     let mut words = String::new(alloc);
     match &ended.result {
         Ok(outcome) => {
             for output in outcome.outputs.as_slice() {
-                let output = format!(in alloc; "[{output}]")?;
+                let output = format!(in alloc; "{output}")?;
                 words.push_str(output.as_str())?;
             }
         }
-        Err(fault) => words.push_str(words_of_fault(alloc, fault)?.as_str())?,
-    }
-    words.push_str(" <")?;
-    for read in ended.reads.as_slice() {
-        let read = format!(in alloc; " {read}")?;
-        words.push_str(read.as_str())?;
+        Err(_) => words.push_str("fault")?,
     }
     Ok(words)
 }
 
-// A run with the targets `out` and `log`.
-pub(crate) fn run_text(
+/// What a run with the target `out` writes over the files of `files_of`.
+pub(crate) fn run_over(
     alloc: Global,
     hashing: RandomState,
+    text: &[u8],
     script: &str,
-    files: &mut SomeFiles,
-) -> Result<String, Fail>
-    requires { length script.now < 2 ^ 32 }
-{
+) -> Result<String, Fail> {
+    if script.len() >= 1000 {
+        return Ok(String::from_str(alloc, "a long script")?);
+    }
     let script = Script::read(alloc, script.as_bytes())?;
     let mut targets = Vec::new(alloc);
     targets.push(Path::read(alloc, b"out")?)?;
-    targets.push(Path::read(alloc, b"log")?)?;
-    let ended = run(alloc, hashing, &script, targets.as_slice(), files)?;
+    let mut files = files_of(alloc, text)?;
+    let ended = run(alloc, hashing, &script, targets.as_slice(), &mut files)?;
     Ok(words_of(alloc, &ended)?)
 }

@@ -21,8 +21,6 @@ mod sources;
 mod std_sink;
 mod std_source;
 mod system_clock;
-#[cfg(test)]
-mod tests;
 
 pub use clocks::Clock;
 pub use gates::{Gate, OpenGate};

@@ -1,25 +1,26 @@
-//! What stops leave of a disk in memory, its record of calls, and what real files hold.
+//! What stops leave of a disk in memory, and what real files hold.
 
 ghost use Rattle.std.specs.Prelude.{◌≡◌, ◌≤◌, IfOk, length};
 
-use disk_model::{Call, Counts, Disk, DiskFault, FileDisk, MemoryDisk, TracedCall, Trouble};
+use disk_model::{Disk, FileDisk, MemoryDisk, Trouble};
 use std::alloc::Global;
 use std::fs;
 use std::process::Abort;
 use std::test::Fail;
-
-const NO_CALLS: Counts = Counts {
-    ticks: 0,
-    faults: 0,
-};
 
 fn put(rt: &impl Abort, disk: &mut MemoryDisk, place: u64, piece: &[u8]) -> bool {
     assert!(rt; place <= disk.bytes(0).len() as u64);
     disk.write_at(0, place, piece).is_ok()
 }
 
-fn tell_counts(rt: &impl Abort, counts: Counts, ticks: u64, faults: u64) {
-    assert_eq!(rt; counts, Counts { ticks, faults });
+/// An `x` is written over the `b` of `abcd` and synced; `yz` is written from the `d` on and not synced; and a write of `??` over
+/// the first two bytes fails, once half of it is written.
+fn written_disk(rt: &impl Abort, alloc: Global) -> Result<MemoryDisk, Fail> {
+    let mut disk = MemoryDisk::new(alloc, b"abcd", b"o", &[4])?;
+    let first = put(rt, &mut disk, 1, b"x") && disk.sync(0).is_ok();
+    let second = put(rt, &mut disk, 3, b"yz") && !put(rt, &mut disk, 0, b"??");
+    assert!(rt; first && second);
+    Ok(disk)
 }
 
 /// What a stop at a call leaves of the journal, by the pick.
@@ -34,24 +35,13 @@ fn tell_stop(
     assert!(rt; 1 <= call && call - 1 <= disk.counts().ticks);
     let left = disk.crash(alloc, call, pick)?;
     assert_eq!(rt; left.bytes(0), found);
-    assert_eq!(rt; left.counts(), NO_CALLS);
     Ok(())
-}
-
-/// An `x` is written over the `b` of `abcd` and synced; then `yz` is written from the `d` on and not synced.
-fn written_disk(rt: &impl Abort, alloc: Global) -> Result<MemoryDisk, Fail> {
-    let mut disk = MemoryDisk::new(alloc, b"abcd", b"o", &[])?;
-    let first = put(rt, &mut disk, 1, b"x") && disk.sync(0).is_ok();
-    let second = put(rt, &mut disk, 3, b"yz");
-    assert!(rt; first && second);
-    Ok(disk)
 }
 
 #[test]
 fn a_stop_keeps_what_the_pick_says(rt: HostRuntime) -> Result<(), Fail> {
-    let alloc = rt.alloc();
-    let disk = written_disk(&rt, alloc)?;
-    // the stop, the pick, and what is found; 4 is after the last call
+    let disk = written_disk(&rt, rt.alloc())?;
+    // the stop, the pick, and what is found; 5 is after the last call
     let table: [(u64, u64, &[u8]); 11] = [
         (1, 0, b"abcd"),
         (1, 1, b"axcd"),
@@ -61,50 +51,13 @@ fn a_stop_keeps_what_the_pick_says(rt: HostRuntime) -> Result<(), Fail> {
         (3, 0, b"axcd"),
         (3, 1, b"axcyz"),
         (3, 7, b"axc\x07\x07"),
-        (4, 0, b"axcd"),
-        (4, 1, b"axcyz"),
-        (4, 7, b"axc\x07\x07"),
+        (5, 0, b"axcd"),
+        (5, 1, b"?xcyz"),
+        (5, 7, b"\x07\x07c\x07\x07"),
     ];
     for (call, pick, found) in table {
-        tell_stop(&rt, alloc, &disk, call, pick, found)?;
+        tell_stop(&rt, rt.alloc(), &disk, call, pick, found)?;
     }
-    Ok(())
-}
-
-#[test]
-fn a_failed_write_spoils_its_range(rt: HostRuntime) -> Result<(), Fail> {
-    let alloc = rt.alloc();
-    let mut disk = MemoryDisk::new(alloc, b"abcd", b"", &[1])?;
-    assert!(rt; !put(&rt, &mut disk, 1, b"xyz"));
-    assert_eq!(rt; disk.bytes(0), b"axyd".as_slice());
-    tell_counts(&rt, disk.counts(), 1, 1);
-    tell_stop(&rt, alloc, &disk, 1, 0, b"abcd")?;
-    tell_stop(&rt, alloc, &disk, 2, 7, b"a\x07\x07\x07")
-}
-
-fn letter_of(call: &Call) -> u8 {
-    match call {
-        Call::Length { .. } => b'L',
-        Call::Read { .. } => b'R',
-        Call::Write { .. } => b'W',
-        Call::Tear { .. } => b'T',
-        Call::Sync { .. } => b'S',
-    }
-}
-
-#[test]
-fn calls_fail_where_they_are_to(rt: HostRuntime) -> Result<(), Fail> {
-    let mut disk = MemoryDisk::new(rt.alloc(), b"abcd", b"", &[1, 3])?;
-    let first = disk.length(0).is_err() && disk.length(0) == Ok(4);
-    let second = disk.sync(1).is_err() && disk.sync(0).is_ok();
-    assert!(rt; first && second);
-    tell_counts(&rt, disk.counts(), 4, 2);
-    let mut letters = [0u8; 2];
-    for (letter, traced) in letters.iter_mut().zip(disk.trace()) {
-        assert_eq!(rt; traced.failed_before, 1);
-        *letter = letter_of(&traced.call);
-    }
-    assert_eq!(rt; &letters, b"LS");
     Ok(())
 }
 
@@ -116,23 +69,24 @@ fn files_of(rt: &HostRuntime, name: &str) -> Result<FileDisk<HostRuntime>, Fail>
     Ok(FileDisk::new(rt.clone()?, journal, objects))
 }
 
-/// Writes both files, one over the end of the other's first write, and syncs them.
+/// Writes seven bytes into each file, the last of them over the end of the others, and syncs them.
 fn write_both(rt: &impl Abort, disk: &mut FileDisk<HostRuntime>) {
-    let journal = disk.write_at(0, 0, b"hello").is_ok() && disk.write_at(0, 1, b"a").is_ok();
+    let journal = disk.write_at(0, 0, b"journey").is_ok() && disk.write_at(0, 5, b"al").is_ok();
     let objects = disk.write_at(1, 0, b"object").is_ok() && disk.write_at(1, 5, b"ts").is_ok();
     let synced = disk.sync(0).is_ok() && disk.sync(1).is_ok();
     assert!(rt; journal && objects && synced);
 }
 
-/// Whether a file of the disk holds these seven bytes or fewer, by its length and a read.
+/// Whether a file of the disk holds these seven bytes, by its length and a read.
 fn tell_file(rt: &impl Abort, disk: &mut FileDisk<HostRuntime>, file: u8, wanted: &[u8]) {
-    assert!(rt; file <= 1 && wanted.len() <= 7);
+    assert!(rt; file <= 1);
     let mut found = [0u8; 7];
-    let found = &mut found[..wanted.len()];
-    let length = disk.length(file);
-    let read = disk.read_at(file, 0, found).is_ok();
-    assert!(rt; length == Ok(wanted.len() as u64) && read);
-    assert_eq!(rt; &*found, wanted);
+    let is_long = disk.length(file) == Ok(7);
+    let is_read = disk.read_at(file, 0, found.as_mut_slice()).is_ok();
+    assert!(rt;
+        is_long && is_read && found.as_slice() == wanted,
+        "file {file}"
+    );
 }
 
 /// What one disk has written in both files and synced, another finds, which opens them after it.
@@ -142,10 +96,8 @@ fn another_disk_finds_what_was_written(rt: HostRuntime) -> Result<(), Fail> {
     write_both(&rt, &mut disk);
     drop(disk);
     let mut disk = files_of(&rt, "disk_model_again")?;
-    for (file, wanted) in [(0, b"hallo".as_slice()), (1, b"objects".as_slice())] {
-        tell_file(&rt, &mut disk, file, wanted);
-    }
-    tell_counts(&rt, disk.counts(), 4, 0);
+    tell_file(&rt, &mut disk, 0, b"journal");
+    tell_file(&rt, &mut disk, 1, b"objects");
     fs::remove_file(&rt, "disk_model_again")?;
     fs::remove_file(&rt, "disk_model_again.objects")?;
     Ok(())

@@ -17,8 +17,6 @@ ghost use Rattle.label_book.specs.Marks.{rows_of_pair, has_room, AddsChange, Kee
 
 mod held;
 pub mod laws;
-#[cfg(test)]
-mod tests;
 
 use cc_names::memory::NoMemory;
 use cc_names::names::Name;

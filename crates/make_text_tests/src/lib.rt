@@ -1,6 +1,7 @@
-//! The tests of `make_text`, in a crate of their own so that it is proved apart from them.
+//! The test of `make_text` that no table of `session_tables` can be, in a crate of its own so that `make_text` is proved apart
+//! from it.
 //!
-//! What it is for: tables of makefiles, right and wrong, and what is read of them.
+//! What it is for: a makefile of more macros than a table has lines.
 //!
 //! What it promises: nothing; it is only run.
 //!
@@ -8,14 +9,4 @@
 #![tactic(auto)]
 
 #[cfg(test)]
-mod causes;
-#[cfg(test)]
-mod expansions;
-#[cfg(test)]
-mod files;
-#[cfg(test)]
-mod limits;
-#[cfg(test)]
-mod makefiles;
-#[cfg(test)]
-mod two_causes;
+mod many_macros;

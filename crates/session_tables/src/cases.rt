@@ -1,39 +1,125 @@
 //! A case: one session or several, each on the base that the one before leaves, and what they come to.
 
-use crate::runs::{Outcome, outcome_on};
+use crate::asked::Asked;
+use crate::journals::{journal_for, journals_stopped};
+use crate::runs::{Host, Outcome, disk_with, outcome_on};
 use crate::tables::{Front, NOTHING};
 use anyhow::{Context, Result};
+use disk_model::MemoryDisk;
 use std::sync::Wait;
 use std::thread::Threads;
 
-/// What the first session of a case comes to that comes to something else than the case says. The front stands before the first
-/// session; the first one is run on an empty base.
-pub(crate) fn first_difference<R: Threads + Wait + Sync>(
-    threads: &R,
-    rt: &HostRuntime,
+// A session of a case, and what is wanted of it: one text, or one of several.
+#[derive(Clone, Copy)]
+struct Part<'a> {
+    asked: Asked<'a>,
+    wanted: &'a str,
+}
+
+fn part_of(text: &str) -> Result<Part<'_>> {
+    let (asked, wanted) = text
+        .split_once("----\n")
+        .context("a session has no line `----` behind it")?;
+    let asked = Asked::of(asked)?;
+    Ok(Part { asked, wanted })
+}
+
+// What a session comes to: what is wanted, and the disk that the next one goes on with; or something else.
+#[derive(Drop)]
+enum Found {
+    Wanted(MemoryDisk),
+    Other(String),
+}
+
+fn found_of(outcome: Outcome, front: Front<'_>, part: Part<'_>) -> Found {
+    let Outcome { told, disk } = outcome;
+    let is_wanted = part
+        .wanted
+        .split("----\n")
+        .any(|wanted| is_told(told.as_str(), front.told, wanted));
+    if is_wanted {
+        Found::Wanted(disk)
+    } else {
+        Found::Other(told)
+    }
+}
+
+// A session behind a front, on what the one before left.
+fn run_next<R: Threads + Wait + Sync>(
+    host: &Host<'_, R>,
     front: Front<'_>,
-    clock: &str,
+    part: Part<'_>,
+    left: &MemoryDisk,
+) -> Result<Found> {
+    let journal = journal_for(host.rt.alloc(), part.asked, left.bytes(0))?;
+    let outcome = outcome_on(host, journal.as_slice(), front.asked, part.asked)?;
+    Ok(found_of(outcome, front, part))
+}
+
+// A session on what each stop may leave of the one before, which stays the one before.
+fn run_stopped<R: Threads + Wait + Sync>(
+    host: &Host<'_, R>,
+    part: Part<'_>,
+    left: MemoryDisk,
+) -> Result<Found> {
+    for journal in journals_stopped(host.rt.alloc(), part.asked, &left)? {
+        let outcome = outcome_on(host, journal.as_slice(), "", part.asked)?;
+        if let Found::Other(told) = found_of(outcome, NOTHING, part) {
+            return Ok(Found::Other(told));
+        }
+    }
+    Ok(Found::Wanted(left))
+}
+
+// What the first session of a case comes to that comes to something else than the case says. The front stands before the first
+// session; the first one is run on an empty base.
+fn difference_in<R: Threads + Wait + Sync>(
+    host: &Host<'_, R>,
+    front: Front<'_>,
     case: &str,
 ) -> Result<Option<String>> {
     let mut before = front;
-    let mut base = Vec::new(rt.alloc());
+    let mut left = disk_with(host.rt.alloc(), &[], &[])?;
     for part in case.split("++++\n") {
-        let (session, wanted) = part
-            .split_once("----\n")
-            .context("a session has no line `----` behind it")?;
-        let session = format!(in rt.alloc(); "{}{session}", before.asked)?;
-        let Outcome { told, journal } = outcome_on(
-            threads,
-            rt,
-            clock,
-            base.as_slice(),
-            session.as_str(),
-        )?;
-        if !is_told(told.as_str(), before.told, wanted) {
+        let part = part_of(part)?;
+        let found = if part.asked.setting("stopped at ").is_some() {
+            run_stopped(host, part, left)?
+        } else {
+            run_next(host, before, part, &left)?
+        };
+        left = match found {
+            Found::Wanted(disk) => disk,
+            Found::Other(told) => return Ok(Some(told)),
+        };
+        before = NOTHING;
+    }
+    Ok(None)
+}
+
+// A case that is run once for each number: the first and the last of them, and its text.
+fn each_of(case: &str) -> Option<(u64, u64, &str)> {
+    let (numbers, case) = case.strip_prefix("each ")?.split_once("\n")?;
+    let (first, last) = numbers.split_once(" to ")?;
+    Some((first.parse::<u64>().ok()?, last.parse::<u64>().ok()?, case))
+}
+
+/// What the first session of a case comes to that comes to something else than the case says. A case that begins with a line
+/// `each FIRST to LAST` is run for each of these numbers, with that in place of `EACH`.
+pub(crate) fn first_difference<R: Threads + Wait + Sync>(
+    host: &Host<'_, R>,
+    front: Front<'_>,
+    case: &str,
+) -> Result<Option<String>> {
+    let Some((first, last, case)) = each_of(case) else {
+        return difference_in(host, front, case);
+    };
+    for number in first..=last {
+        let number = format!(in host.rt.alloc(); "{number}")?;
+        let case = case.replace(host.rt.alloc(), "EACH", number.as_str())?;
+        if let Some(told) = difference_in(host, front, case.as_str())? {
+            let told = format!(in host.rt.alloc(); "with {number}:\n{told}")?;
             return Ok(Some(told));
         }
-        before = NOTHING;
-        base = journal;
     }
     Ok(None)
 }

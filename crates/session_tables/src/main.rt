@@ -1,23 +1,31 @@
-//! Runs the sessions of the tables in `data/`.
+//! Runs the sessions of the tables in `data/`, and then two sessions on real files.
 //!
 //! What it is for: the gate sees that sessions come to what the tables say, to the byte: what each command answers, why each is
 //! refused and which reason is told where there are two, what queries print, what builds make and reuse, that makefiles mean what
-//! they mean under GNU make, and what a base goes on with that is opened again. A table is a text, so a case costs no proof.
+//! they mean under GNU make, what a base goes on with that is opened again, what is told and left where a disk, a source or a sink
+//! fails, what stops leave, and how damaged journals are told. A table is a text, so a case costs no proof. And it sees that a base
+//! of real files goes on with what was written to them.
 //!
 //! What it promises: nothing beside `session_run::run_words`. It is a program whose printed text the gate compares: how many tables
-//! and cases were run, and above that each case that comes to something else.
+//! and cases were run, above that each case that comes to something else, and below it what the sessions on real files write.
 //!
 //! What it stands on: `session_run` for sessions, `disk_model` and `cc_outside` for what is outside of them, `cc_names` for words,
-//! and `anyhow` for what stops it.
+//! `hex` for the bytes of journals, and `anyhow` for what stops it.
 #![tactic(auto)]
 
+mod asked;
 mod cases;
 mod files;
+mod journals;
+mod reopened;
 mod runs;
 mod tables;
+mod told;
 
 use crate::cases::first_difference;
 use crate::files::{names_in, text_of};
+use crate::reopened::run_reopened;
+use crate::runs::Host;
 use crate::tables::{Front, Table, front_of, table_of};
 use anyhow::{Context, Result};
 use std::process::ExitCode;
@@ -51,10 +59,15 @@ fn run_cases<R: Threads + Wait + Sync>(
     front: Front<'_>,
     table: Table<'_>,
 ) -> Result<Tally> {
+    let host = Host {
+        threads,
+        rt,
+        clock: table.clock,
+    };
     let (mut cases, mut differing) = (0_usize, 0_usize);
     for case in table.cases.split("====\n") {
         cases = cases.saturating_add(1);
-        if let Some(told) = first_difference(threads, rt, front, table.clock, case)? {
+        if let Some(told) = first_difference(&host, front, case)? {
             differing = differing.saturating_add(1);
             println!(rt; "{name}: a case comes to\n{told}and not to what it says:\n{case}")?;
         }
@@ -129,5 +142,6 @@ fn main(rt: HostRuntime) -> Result<ExitCode> {
         differing,
     } = tally;
     println!(rt; "{tables} tables, {cases} cases, {differing} differ")?;
-    Ok(ExitCode::from(u8::from(differing > 0)))
+    let status = run_reopened(&rt, &rt)?;
+    Ok(ExitCode::from(status.max(u8::from(differing > 0))))
 }

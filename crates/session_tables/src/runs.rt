@@ -4,6 +4,8 @@ ghost use Rattle.std.specs.Prelude.{IfOk};
 ghost use Rattle.disk_model.specs.MemoryDisks.{sight_of};
 ghost use Rattle.session_run.specs.Faults.Stopped.{IsHandedIn};
 
+use crate::asked::{Asked, numbers_of};
+use crate::told::told_of;
 use anyhow::{Result, ensure};
 use cc_names::memory::NoMemory;
 use cc_names::texts::Text;
@@ -15,80 +17,122 @@ use std::hash::RandomState;
 use std::sync::Wait;
 use std::thread::Threads;
 
-/// What a session comes to: what it writes with a line of its status and its rows, and the journal that it leaves.
+/// What stands in the file of objects of each base, which no session touches so far.
+pub(crate) const OBJECTS: &[u8] = b"\x01objects\0of\xffa base";
+
+/// What sessions are run with: threads, the runtime, and the moments that the clock tells, in seconds since 1970.
+#[derive(Drop)]
+pub(crate) struct Host<'a, R> {
+    pub(crate) threads: &'a R,
+    pub(crate) rt: &'a HostRuntime,
+    pub(crate) clock: &'a str,
+}
+
+/// What a session comes to: what is told of it, and the disk that it leaves.
 #[derive(Drop)]
 pub(crate) struct Outcome {
     pub(crate) told: String,
-    pub(crate) journal: Vec<u8>,
+    pub(crate) disk: MemoryDisk,
 }
 
-// A clock that tells these moments, in seconds since 1970; the last of them for good.
+// A clock that tells these moments; the last of them for good.
 fn clock_of(alloc: Global, moments: &str) -> Result<ListClock> {
-    let mut told = Vec::new(alloc);
-    for moment in moments.split(' ') {
-        told.push(moment.parse::<u64>()?)?;
-    }
+    let told = numbers_of(alloc, moments)?;
     ensure!(!told.is_empty(), "a clock tells a moment");
     Ok(ListClock::new(alloc, told.as_slice())?)
 }
 
-// A disk with this journal and no objects.
-fn disk_with(alloc: Global, journal: &[u8]) -> Result<MemoryDisk, NoMemory>
+/// A disk with this journal, whose calls of these numbers fail.
+pub(crate) fn disk_with(alloc: Global, journal: &[u8], fail: &[u64]) -> Result<MemoryDisk, NoMemory>
     ensures { IfOk result (λ disk. IsHandedIn (sight_of disk)) }
 {
-    MemoryDisk::new(alloc, journal, &[], &[])
+    MemoryDisk::new(alloc, journal, OBJECTS, fail)
 }
 
-fn words_of_run(alloc: Global) -> Result<Vec<Text>, NoMemory> {
+/// The words of a call, which stand in a line.
+pub(crate) fn words_of(alloc: Global, line: &str) -> Result<Vec<Text>, NoMemory> {
     let mut words = Vec::new(alloc);
-    for word in ["f", "run"] {
+    for word in line.split(' ') {
         words.push(Text::from_bytes(alloc, word.as_bytes())?)?;
     }
     Ok(words)
 }
 
+// The text of a session behind that of a front. Where a number of bytes is asked for, a note fills it up to so many.
+fn bytes_of(alloc: Global, front: &str, asked: Asked<'_>) -> Result<Vec<u8>> {
+    let text = format!(in alloc; "{front}{}", asked.text)?;
+    let mut bytes = text.as_str().as_bytes().to_vec(alloc)?;
+    if let Some(size) = asked.setting("the text has ") {
+        bytes.resize(size.parse::<usize>()?, b'#')?;
+    }
+    Ok(bytes)
+}
+
+// What is outside of a session beside its disk and its clock, and which of the disk's calls fail.
+#[derive(Drop)]
+struct Outside {
+    words: Vec<Text>,
+    source: MemorySource,
+    sink: MemorySink,
+    fail: Vec<u64>,
+}
+
+fn source_of(alloc: Global, front: &str, asked: Asked<'_>) -> Result<MemorySource> {
+    let text = bytes_of(alloc, front, asked)?;
+    let fail = asked.numbers(alloc, "the source fails at ")?;
+    Ok(MemorySource::new(alloc, text.as_slice(), fail.as_slice())?)
+}
+
+fn sink_of(alloc: Global, asked: Asked<'_>) -> Result<MemorySink> {
+    let fail = asked.numbers(alloc, "the sink fails at ")?;
+    Ok(MemorySink::new(alloc, fail.as_slice())?)
+}
+
+fn outside_of(alloc: Global, front: &str, asked: Asked<'_>) -> Result<Outside> {
+    Ok(Outside {
+        words: words_of(alloc, asked.setting("words ").unwrap_or("f run"))?,
+        source: source_of(alloc, front, asked)?,
+        sink: sink_of(alloc, asked)?,
+        fail: asked.numbers(alloc, "the disk fails at ")?,
+    })
+}
+
 // A session is run on a base with this journal.
 fn ended_on<R: Threads + Wait + Sync>(
-    threads: &R,
-    rt: &HostRuntime,
-    clock: &mut ListClock,
+    host: &Host<'_, R>,
     journal: &[u8],
-    session: &str,
-    sink: &mut MemorySink,
+    outside: &mut Outside,
 ) -> Result<SessionResult<MemoryDisk>> {
-    let alloc = rt.alloc();
-    let words = words_of_run(alloc)?;
-    let mut source = MemorySource::new(alloc, session.as_bytes(), &[])?;
-    let hashing = RandomState::new(rt)?;
-    let disk = disk_with(alloc, journal)?;
+    let alloc = host.rt.alloc();
+    let mut clock = clock_of(alloc, host.clock)?;
+    let hashing = RandomState::new(host.rt)?;
+    let disk = disk_with(alloc, journal, outside.fail.as_slice())?;
     Ok(run_words(
-        threads,
+        host.threads,
         alloc,
         hashing,
         &OpenGate,
-        words.as_slice(),
-        &mut source,
-        sink,
+        outside.words.as_slice(),
+        &mut outside.source,
+        &mut outside.sink,
         disk,
-        clock,
+        &mut clock,
     ))
 }
 
-/// What a session comes to on a base with this journal, under a clock that tells these moments.
+/// What a session comes to behind the text of a front, on a base with this journal.
 pub(crate) fn outcome_on<R: Threads + Wait + Sync>(
-    threads: &R,
-    rt: &HostRuntime,
-    moments: &str,
+    host: &Host<'_, R>,
     journal: &[u8],
-    session: &str,
+    front: &str,
+    asked: Asked<'_>,
 ) -> Result<Outcome> {
-    let alloc = rt.alloc();
-    let mut clock = clock_of(alloc, moments)?;
-    let mut sink = MemorySink::new(alloc, &[])?;
-    let ended = ended_on(threads, rt, &mut clock, journal, session, &mut sink)?;
-    let (status, rows) = (ended.status.code(), ended.history.rows().len());
-    let written = Text::from_bytes(alloc, sink.bytes())?;
-    let told = format!(in alloc; "{written}status {status}, {rows} rows\n")?;
-    let journal = ended.disk.bytes(0).to_vec(alloc)?;
-    Ok(Outcome { told, journal })
+    let alloc = host.rt.alloc();
+    let mut outside = outside_of(alloc, front, asked)?;
+    let ended = ended_on(host, journal, &mut outside)?;
+    let told = told_of(alloc, asked, outside.sink.bytes(), &ended)?;
+    Ok(Outcome {
+        told,
+        disk: ended.disk,
+    })
 }

@@ -1,6 +1,6 @@
-//! The tests of `session_text`, which need nothing private of it.
+//! The tests of `session_text` that no table of `session_tables` can have.
 //!
-//! What it is for: tables of lines, right and wrong, and what is read of them.
+//! What it is for: each byte at each place of a line and of a text, and a session of the greatest size.
 //!
 //! What it promises: nothing; it is only run.
 //!
@@ -8,12 +8,6 @@
 #![tactic(auto)]
 
 #[cfg(test)]
-mod causes;
-#[cfg(test)]
-mod commands;
-#[cfg(test)]
-mod reading;
+mod places;
 #[cfg(test)]
 mod sizes;
-#[cfg(test)]
-mod turns;

@@ -1,105 +1,78 @@
-//! Sessions of many phases, lanes and commands, and of the greatest size.
+//! A session of the greatest size.
 
-use crate::reading::phases_in;
-use cc_names::commands::{Command, Phase};
+use crate::places::read_bytes;
+use cc_names::commands::Command;
+use session_text::CommandsLeft;
 use std::alloc::Global;
 use std::hash::RandomState;
-use std::process::Abort;
 use std::test::Fail;
 
-fn shape_of(phases: &[Phase]) -> (usize, usize, usize) {
-    let mut lanes = 0usize;
-    let mut commands = 0usize;
-    for phase in phases {
-        lanes = lanes.saturating_add(phase.lanes.len());
-        for lane in phase.lanes.as_slice() {
-            commands = commands.saturating_add(lane.commands.len());
-        }
-    }
-    (phases.len(), lanes, commands)
-}
+// A save of a text of 16,515,009 bytes: its line makes 64 bytes with those above it.
+const ABOVE: &[u8] = b"#23456789 123456789 123456789 12\nphase\nlane a\nsave v inputs.txt\n";
 
-fn assert_shape(
-    rt: &impl Abort,
-    alloc: Global,
-    hashing: RandomState,
-    text: &[u8],
-    shape: (usize, usize, usize),
-) -> Result<(), Fail> {
-    assert!(rt; text.len() < 100_000);
-    let phases = phases_in(alloc, hashing, text)?;
-    assert_eq!(rt; shape_of(phases.as_slice()), shape);
-    Ok(())
-}
-
-#[test]
-fn phases_and_lanes_are_counted(rt: HostRuntime) -> Result<(), Fail> {
-    let hashing = RandomState::new(&rt)?;
-    for (text, shape) in [
-        ("", (0, 0, 0)),
-        ("# note\n", (0, 0, 0)),
-        ("phase\n", (1, 0, 0)),
-        ("phase\n\nphase", (2, 0, 0)),
-        (
-            "phase\nlane a\nlane b\nmkview v\nphase\nlane a\nmkview w\nmkview x\n",
-            (2, 3, 3),
-        ),
-    ] {
-        assert_shape(&rt, rt.alloc(), hashing, text.as_bytes(), shape)?;
-    }
-    Ok(())
-}
-
-// A text of exactly 2^24 bytes: a save whose body is lines of 63 bytes behind the bar.
-fn largest(alloc: Global) -> Result<Vec<u8>, Fail> {
-    let mut text = Vec::with_capacity(alloc, 16_777_216)?;
-    text.extend_from_slice(
-        b"#23456789 123456789 123456789 12\nphase\nlane a\nsave v inputs.txt\n",
-    )?;
-    let line = [b'|'; 64];
+// Bytes, and 262,143 lines behind them of 63 bytes and a newline where `bar` is one byte. The bytes between bar and newline are
+// all the same, each byte but a newline in its turn.
+fn lines_behind(alloc: Global, above: &[u8], bar: &[u8]) -> Result<Vec<u8>, Fail> {
+    let mut text = above.to_vec(alloc)?;
+    let mut byte = 0u8;
     for _ in 0..262_143 {
-        text.extend_from_slice(&line[..63])?;
+        byte = byte.wrapping_add(if byte == 9 { 2 } else { 1 });
+        text.extend_from_slice(bar)?;
+        text.extend_from_slice(&[byte; 62])?;
         text.push(b'\n')?;
     }
     Ok(text)
 }
 
-// The text of the one command of the one lane.
-fn body_in(phases: &[Phase]) -> Option<&[u8]> {
-    let [phase] = phases else {
-        return None;
+// The commands of the first lane of a text.
+fn first_lane(
+    alloc: Global,
+    hashing: RandomState,
+    text: &[u8],
+) -> Result<Option<CommandsLeft>, Fail> {
+    if text.len() > 16_777_216 {
+        return Err(Fail::new("a long text"));
+    }
+    let mut phases = read_bytes(alloc, hashing, text)?.into_phases();
+    let Some(phase) = phases.next()? else {
+        return Ok(None);
     };
-    let [lane] = phase.lanes.as_slice() else {
-        return None;
+    let mut lanes = phase.lanes()?;
+    let Some(lane) = lanes.next(alloc)? else {
+        return Ok(None);
     };
-    match lane.commands.as_slice() {
-        [Command::Save { text, .. }] => Some(text.as_bytes()),
-        _ => None,
+    let (_name, left) = lane.into_parts();
+    Ok(Some(left))
+}
+
+// Whether a command saves this text.
+fn saves(command: &Command, wanted: &[u8]) -> bool {
+    match command {
+        Command::Save { text, .. } => text.as_bytes() == wanted,
+        _ => false,
+    }
+}
+
+// Whether the first command of the commands that are left saves this text.
+fn is_saved_first(alloc: Global, left: &CommandsLeft, wanted: &[u8]) -> Result<bool, Fail> {
+    let command = left.peek(alloc)?;
+    Ok(matches!(&command, Some(command) if saves(command, wanted)))
+}
+
+// Whether a text is a session whose first command saves this text.
+fn is_saved(alloc: Global, hashing: RandomState, text: &[u8], wanted: &[u8]) -> Result<bool, Fail> {
+    match first_lane(alloc, hashing, text)? {
+        Some(left) => is_saved_first(alloc, &left, wanted),
+        None => Ok(false),
     }
 }
 
 #[test]
-fn a_body_keeps_each_byte(rt: HostRuntime) -> Result<(), Fail> {
-    let alloc = rt.alloc();
+fn the_largest_text_is_read_byte_by_byte(rt: HostRuntime) -> Result<(), Fail> {
+    let text = lines_behind(rt.alloc(), ABOVE, b"|")?;
+    let wanted = lines_behind(rt.alloc(), b"", b"")?;
+    assert_eq!(rt; (text.len(), wanted.len()), (16_777_216, 16_515_009));
     let hashing = RandomState::new(&rt)?;
-    for byte in 0..=255u8 {
-        if byte != b'\n' {
-            let mut text = b"phase\nlane a\nsave v in\n|".to_vec(alloc)?;
-            text.push(byte)?;
-            assert!(rt; text.len() < 10_000);
-            let phases = phases_in(alloc, hashing, text.as_slice())?;
-            assert_eq!(rt; body_in(phases.as_slice()), Some([byte, b'\n'].as_slice()));
-        }
-    }
-    Ok(())
-}
-
-#[test]
-fn the_largest_text_is_read(rt: HostRuntime) -> Result<(), Fail> {
-    let text = largest(rt.alloc())?;
-    assert_eq!(rt; text.len(), 16_777_216);
-    let phases = phases_in(rt.alloc(), RandomState::new(&rt)?, text.as_slice())?;
-    let length = body_in(phases.as_slice()).map(|body| body.len());
-    assert_eq!(rt; length, Some(16_515_009));
+    assert!(rt; is_saved(rt.alloc(), hashing, text.as_slice(), wanted.as_slice())?);
     Ok(())
 }

@@ -152,3 +152,11 @@ fn large_sessions_are_run(rt: HostRuntime) -> Result<(), Fail> {
     }
     Ok(())
 }
+
+// No contract says that there is memory for it.
+#[test]
+fn the_greatest_session_is_made(rt: HostRuntime) -> Result<(), Fail> {
+    let text = make_session(rt.alloc(), 7, 1000)?;
+    assert_eq!(rt; text.as_bytes().len(), 94292);
+    Ok(())
+}

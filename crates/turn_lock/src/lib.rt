@@ -16,8 +16,6 @@ mod moves;
 mod rule;
 mod sleepers;
 mod story;
-#[cfg(test)]
-mod tests;
 
 pub use lock::{Held, Pass, TurnLock};
 pub use story::Storied;
