@@ -11,7 +11,7 @@ use Rattle.cc_names.specs.Cuts.{is_newline}
 use Rattle.cc_names.proofs.Splits.{Some-given}
 use Rattle.memchr.specs.Find.{OccursAt, FindsNeedle}
 use Rattle.memchr.proofs.lemmas.MatchLemmas.{OccursAt-part, OccursAt-from_part}
-use Rattle.build_script.specs.Forms.{before_lines, lines_in, first_lines, replaced_behind, replaced}
+use Rattle.script_grammar.specs.Forms.{before_lines, lines_in, first_lines, replaced_behind, replaced}
 
 none-given : (b : Bool) (n : ℕ) → (if b then Some n else None) ≡ None → b ≡ false
 none-given true n h = cc

@@ -4,19 +4,19 @@ use Rattle.std.specs.Prelude.{nat_lt}
 use Rattle.std.proofs.lemmas.List.{map-append, reverse-append, length-reverse, length-map}
 use borrow.Author.Tests.{ltb-true, ltb-false}
 use Rattle.cc_names.specs.declared.refusals.ScriptFault.{ScriptFault}
-use Rattle.build_script.specs.Forms.{lines_in}
+use Rattle.script_grammar.specs.Forms.{lines_in}
 use Rattle.cc_names.specs.Paths.{is_root}
-use Rattle.build_script.specs.Includes.{include_of, under}
-use Rattle.build_script.specs.Lines.{path_in}
+use Rattle.script_grammar.specs.Includes.{include_of, under}
+use Rattle.script_grammar.specs.Lines.{path_in}
 use Rattle.build_script.specs.Making.{includes, resumed}
 use Rattle.build_script.specs.OpenTexts.{rest_of, rests_of}
-use Rattle.build_script.specs.Parts.{Performed, Gave, Halted}
-use Rattle.build_script.specs.Run.{Asking, Done, Asks, and_then, unless_fault, Made, Output, Preprocessing, expanded, lines_expanded, line_expanded, included, said, depth_limit, traced}
-use Rattle.build_script.specs.Standings.{Standing, texts}
-use Rattle.build_script.specs.declared.halts.Halt.{Halt}
-use Rattle.build_script.specs.declared.halts.Halt.TheVariants.{Fault, GivenUp, NoMemory}
+use Rattle.script_grammar.specs.Parts.{Performed, Gave, Halted}
+use Rattle.script_grammar.specs.Run.{Asking, Done, Asks, and_then, unless_fault, Made, Output, Preprocessing, expanded, lines_expanded, line_expanded, included, said, depth_limit, traced}
+use Rattle.script_grammar.specs.Standings.{Standing, texts}
+use Rattle.script_grammar.specs.declared.halts.Halt.{Halt}
+use Rattle.script_grammar.specs.declared.halts.Halt.TheVariants.{Fault, GivenUp, NoMemory}
 use Rattle.build_script.specs.declared.open_texts.OpenText.{OpenText}
-use Rattle.build_script.proofs.CarriedLemmas.{carried_lifted, and_then-assoc, and_then-done}
+use Rattle.script_grammar.proofs.CarriedLemmas.{carried_lifted, and_then-assoc, and_then-done}
 
 pub lt_true : (m n : ℕ) → m < n → nat_lt m n ≡ true
 lt_true m n h = by (nat_lt m n) refl

@@ -1,9 +1,6 @@
-pub mod CarriedLemmas
 pub mod FormLemmas
-pub mod FrameLemmas
 pub mod IncludeLemmas
 pub mod LineLemmas
 pub mod RunLemmas
 pub mod SaidLemmas
 pub mod WordLemmas
-pub mod Worked

@@ -4,8 +4,8 @@ use Rattle.std.specs.Prelude.{codes}
 use Rattle.std.specs.Str.{bytes_eq}
 use Rattle.cc_names.specs.Paths.{path_before}
 use Rattle.cc_names.specs.declared.refusals.ScriptFault.{ScriptFault}
-use Rattle.build_script.specs.Lines.{directory_of, directories_of, line_before}
-use Rattle.build_script.specs.declared.lines.Line.{Line}
+use Rattle.script_grammar.specs.Lines.{directory_of, directories_of, line_before}
+use Rattle.script_grammar.specs.declared.lines.Line.{Line}
 
 -- paths that were read before those that follow
 abbrev pub paths_onto : List (List ℕ) → Option (List (List ℕ)) → Option (List (List ℕ))

@@ -7,12 +7,12 @@ use Rattle.cc_names.specs.declared.refusals.ScriptFault.{ScriptFault}
 use Rattle.std.specs.List.{list_any}
 use Rattle.std.specs.Str.{bytes_eq}
 use Rattle.std.proofs.lemmas.Slice.Eq.{bytes_eq-Decides}
-use Rattle.build_script.specs.declared.lines.Line.{Line}
-use Rattle.build_script.specs.declared.lines.Line.TheVariants.{Empty, Makes, Fail}
+use Rattle.script_grammar.specs.declared.lines.Line.{Line}
+use Rattle.script_grammar.specs.declared.lines.Line.TheVariants.{Empty, Makes, Fail}
 use Rattle.build_script.specs.Progress.{HoldsEach}
 use Rattle.cc_names.specs.Files.{Files}
-use Rattle.build_script.specs.Run.{Ran, Traced, carried_out, traced, State, Asking, Done, and_then, unless_fault, noted, write_output, after_line, after_lines}
-use Rattle.build_script.specs.Standings.{IsAmong, AreAmong}
+use Rattle.script_grammar.specs.Run.{Ran, Traced, carried_out, traced, State, Asking, Done, and_then, unless_fault, noted, write_output, after_line, after_lines}
+use Rattle.script_grammar.specs.Standings.{IsAmong, AreAmong}
 use Rattle.cc_names.specs.declared.refusals.ScriptFault.TheVariants.{StrayWrite}
 
 -- words with a space between each two are the first and the others behind a space each

@@ -4,10 +4,10 @@ use Rattle.std.specs.Prelude.{nat_lt}
 use borrow.Author.Tests.{ltb-true, ltb-false}
 use Rattle.cc_names.specs.declared.refusals.ScriptFault.{ScriptFault}
 use Rattle.cc_names.specs.declared.refusals.ScriptFault.TheVariants.{TooBig}
-use Rattle.build_script.specs.Parts.{Gave}
-use Rattle.build_script.specs.Run.{Output, Made, said, output_limit}
-use Rattle.build_script.specs.declared.halts.Halt.{Halt}
-use Rattle.build_script.specs.declared.halts.Halt.TheVariants.{Fault, GivenUp, NoMemory}
+use Rattle.script_grammar.specs.Parts.{Gave}
+use Rattle.script_grammar.specs.Run.{Output, Made, said, output_limit}
+use Rattle.script_grammar.specs.declared.halts.Halt.{Halt}
+use Rattle.script_grammar.specs.declared.halts.Halt.TheVariants.{Fault, GivenUp, NoMemory}
 
 -- more behind what was said, unless that was a fault
 abbrev pub then_said : Output → List ℕ → Result Made ScriptFault → Result Made ScriptFault

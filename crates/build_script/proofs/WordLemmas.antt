@@ -2,7 +2,7 @@
 use Rattle.std.proofs.Common.{◌≡◌, ℕ, suc, ◌+◌, ◌-◌, ◌<◌, min, true, false, List, [], ◌∷◌, ◌++◌, length, map, refl, ap, if◌then◌else◌, subst, arith, append_assoc, Bor}
 use Rattle.std.specs.List.{flat_map, IsChunkByPrefix}
 use Rattle.std.proofs.lemmas.List.{map-append}
-use Rattle.build_script.specs.Words.{is_alike, before_runs, runs, arrows, words, words_of_run}
+use Rattle.script_grammar.specs.Words.{is_alike, before_runs, runs, arrows, words, words_of_run}
 
 -- what follows a run is not of its kind
 abbrev Ends : ℕ → List ℕ → Type 0

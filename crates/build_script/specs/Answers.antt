@@ -3,7 +3,7 @@ use Rattle.std.specs.Prelude.{◌≡◌, ℕ, Option, Some, None}
 use Rattle.cc_names.specs.Counts.{Rose}
 use Rattle.build_script.specs.declared.files.Got.{Got}
 use Rattle.build_script.specs.declared.files.Got.TheVariants as gots
-use Rattle.build_script.specs.Standings.{Standing}
+use Rattle.script_grammar.specs.Standings.{Standing}
 
 -- an answer by what stands at the path; `Broken` comes only where its count rose
 abbrev pub IsAnswer : Got → Option Standing → ℕ → ℕ → Type 0

@@ -3,9 +3,9 @@ use Rattle.std.specs.Prelude.{ℕ, Result, Ok, Err, List}
 use Rattle.cc_names.specs.declared.memory.Or.{Or}
 use Rattle.cc_names.specs.declared.memory.Or.TheVariants.{NoMemory, Is}
 use Rattle.cc_names.specs.declared.refusals.ScriptFault.{ScriptFault}
-use Rattle.build_script.specs.Run.{Ran}
-use Rattle.build_script.specs.Parts.{IsGivenUpFor}
-use Rattle.build_script.specs.declared.files.GivenUp.{GivenUp}
+use Rattle.script_grammar.specs.Run.{Ran}
+use Rattle.script_grammar.specs.Parts.{IsGivenUpFor}
+use Rattle.script_grammar.specs.declared.files.GivenUp.{GivenUp}
 use Rattle.build_script.specs.declared.outcomes.Written.{Written}
 use Rattle.build_script.specs.declared.outcomes.Ended.{Ended}
 

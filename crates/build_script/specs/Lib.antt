@@ -1,14 +1,6 @@
 pub mod Answers
 pub mod Ended
-pub mod Forms
-pub mod Frame
-pub mod Includes
-pub mod Lines
 pub mod MadeOf
 pub mod Making
 pub mod OpenTexts
-pub mod Parts
 pub mod Progress
-pub mod Run
-pub mod Standings
-pub mod Words

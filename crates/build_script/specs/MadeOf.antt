@@ -1,5 +1,5 @@
 -- What the code's own record of what a line has made stands for.
-use Rattle.build_script.specs.Run.{Made}
+use Rattle.script_grammar.specs.Run.{Made}
 use Rattle.build_script.specs.declared.making.Made.{Made as CodeMade}
 
 abbrev pub made_of : CodeMade → Made

@@ -3,8 +3,8 @@ use Rattle.std.specs.Prelude.{ℕ, zero, suc, ◌+◌, ◌-◌, ◌*◌, Result,
 use Rattle.cc_names.specs.Files.{Files}
 use Rattle.cc_names.specs.declared.refusals.ScriptFault.{ScriptFault}
 use Rattle.cc_names.specs.declared.refusals.ScriptFault.TheVariants.{IncludeDepth}
-use Rattle.build_script.specs.Forms.{whole, first_lines, replaced, digest_line, linked_text}
-use Rattle.build_script.specs.Run.{Asking, Done, and_then, unless_fault, Output, Made, Found, Preprocessing, included, expanded, depth_limit, output_limit, probe_limit}
+use Rattle.script_grammar.specs.Forms.{whole, first_lines, replaced, digest_line, linked_text}
+use Rattle.script_grammar.specs.Run.{Asking, Done, and_then, unless_fault, Output, Made, Found, Preprocessing, included, expanded, depth_limit, output_limit, probe_limit}
 use Rattle.build_script.specs.declared.forms.Form.{Form}
 use Rattle.build_script.specs.declared.forms.Form.TheVariants as forms
 

@@ -2,8 +2,8 @@
 use Rattle.std.specs.Prelude.{◌≡◌, ℕ, List}
 use Rattle.std.specs.List.{list_any}
 use Rattle.std.specs.Str.{bytes_eq}
-use Rattle.build_script.specs.Parts.{own_of}
-use Rattle.build_script.specs.Run.{State}
+use Rattle.script_grammar.specs.Parts.{own_of}
+use Rattle.script_grammar.specs.Run.{State}
 use Rattle.build_script.specs.declared.progress.Progress.{Progress}
 
 -- a run by the code's record of it

@@ -1,11 +1,12 @@
 //! The files that a run reads.
 
 ghost use Rattle.std.specs.Prelude.{◌≡◌, ℕ, Option, List};
-ghost use Rattle.build_script.specs.Standings.{Standing, Stays, IsAmong};
+ghost use Rattle.script_grammar.specs.Standings.{Standing, Stays, IsAmong};
 ghost use Rattle.build_script.specs.Answers.{IsAnswer};
 
 use cc_names::paths::Path;
 use cc_names::texts::Text;
+pub use script_grammar::files::GivenUp;
 
 /// What the files answer for a path.
 #[derive(Debug, Drop)]
@@ -17,13 +18,6 @@ pub enum Got {
     /// It cannot be told any more.
     Broken,
     NoMemory,
-}
-
-/// Why a run was given up.
-#[derive(Clone, Copy, Debug, PartialEq, Eq)]
-pub enum GivenUp {
-    /// The files answered `Broken`.
-    Broken,
 }
 
 /// The files that a run may read: for each path a row and its text, or nothing. No call changes that.

@@ -1,7 +1,7 @@
 //! What commands make of a text.
 
 ghost use Rattle.std.specs.Prelude.{◌≡◌, ◌+◌, ◌<◌, ◌++◌, ◌∷◌, [], IfOk, MatchOption, length, take};
-ghost use Rattle.build_script.specs.Forms.{lines_in, first_lines, digest_line, linked_text};
+ghost use Rattle.script_grammar.specs.Forms.{lines_in, first_lines, digest_line, linked_text};
 
 use cc_names::cuts::first_newline;
 use cc_names::memory::NoMemory;

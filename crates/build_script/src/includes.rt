@@ -1,7 +1,7 @@
 //! Which lines include a file, and where it is looked for.
 
 ghost use Rattle.std.specs.Prelude.{◌≡◌, ◌++◌, ◌∷◌, IfOk};
-ghost use Rattle.build_script.specs.Includes.{without_newline, quoted, include_of, under};
+ghost use Rattle.script_grammar.specs.Includes.{without_newline, quoted, include_of, under};
 
 use crate::lines::read_path;
 use cc_names::memory::NoMemory;

@@ -1,7 +1,7 @@
 //! What the lines of a script say.
 
 ghost use Rattle.std.specs.Prelude.{◌≡◌, ◌+◌, ◌≤◌, ◌^◌, IfOk, length, map, reverse};
-ghost use Rattle.build_script.specs.Lines.{path_in, paths_of, cat_of, link_of, directory_of, directories_of, preprocess_of, preprocess_of_reversed, only_path, substitute_of, head_by, head_of, digest_of, work_of, appends_of, makes, fail_of, line_of_reversed, line_of};
+ghost use Rattle.script_grammar.specs.Lines.{path_in, paths_of, cat_of, link_of, directory_of, directories_of, preprocess_of, preprocess_of_reversed, only_path, substitute_of, head_by, head_of, digest_of, work_of, appends_of, makes, fail_of, line_of_reversed, line_of};
 
 use crate::words::{without_at, words};
 use cc_names::lists::List;
@@ -9,41 +9,8 @@ use cc_names::memory::{NoMemory, Or};
 use cc_names::numbers::number;
 use cc_names::paths::Path;
 use cc_names::texts::Text;
+use script_grammar::lines::{Line, Work};
 use std::alloc::Global;
-
-/// What a line makes of its words.
-#[derive(Debug, Drop)]
-pub enum Work {
-    /// `echo WORD ..`: the words with one space between, and a newline.
-    Echo(List<Text>),
-    /// `cat P ..`: the texts one after the other.
-    Cat(List<Path>),
-    /// `pp -I D .. P`: the text, each include line replaced by what it includes.
-    Preprocess { directories: List<Path>, path: Path },
-    /// `sub A B P`: the text, each occurrence of the one word replaced by the other.
-    Substitute { from: Text, to: Text, path: Path },
-    /// `head N P`: the first lines.
-    Head { lines: u64, path: Path },
-    /// `sha P`: the SHA-256.
-    Digest(Path),
-    /// `link P ..`: each text behind a line that says its path and length.
-    Link(List<Path>),
-}
-
-/// One line of a script.
-#[derive(Debug, Drop)]
-pub enum Line {
-    /// A line without a word.
-    Empty,
-    /// A line whose work goes to the output: behind what it has, for `>>`, or in its place, for `>`.
-    Makes {
-        work: Work,
-        appends: bool,
-        output: Path,
-    },
-    /// `fail`, at the line of this number.
-    Fail(u32),
-}
 
 /// A word as a path, or nothing where it is none.
 pub(crate) fn read_path(alloc: Global, word: &[u8]) -> Result<Option<Path>, NoMemory>

@@ -2,16 +2,14 @@
 
 ghost use Rattle.std.specs.Prelude.{◌≡◌, ◌+◌, ◌++◌, ◌∷◌, [], ℕ, List, Ok, IfOk, OnOk, length, map, nat_lt};
 ghost use Rattle.std.specs.List.{flat_map, join_with_byte};
-ghost use Rattle.build_script.specs.Run.{Done, Asks, TextOf, and_then, see, present, text_at, noted, said, with_part, with_parts, parts_of, output_limit};
-ghost use Rattle.build_script.specs.Forms.{replaced};
+ghost use Rattle.script_grammar.specs.Run.{Done, Asks, TextOf, and_then, see, present, text_at, noted, said, with_part, with_parts, parts_of, output_limit};
+ghost use Rattle.script_grammar.specs.Forms.{replaced};
 ghost use Rattle.build_script.specs.Making.{form_of, made_with, output_at};
-ghost use Rattle.build_script.specs.Parts.{Performed, Gave, gives, own_of};
+ghost use Rattle.script_grammar.specs.Parts.{Performed, Gave, gives, own_of};
 ghost use Rattle.build_script.specs.MadeOf.{made_of};
 
 use crate::files::{Files, GivenUp, Got};
 use crate::forms::{Form, digest_line, first_lines, linked_text};
-use crate::halts::Halt;
-use crate::lines::Work;
 use crate::preprocess::preprocess;
 use cc_names::memory::NoMemory;
 use cc_names::paths::Path;
@@ -19,6 +17,8 @@ use cc_names::refusals::ScriptFault;
 use cc_names::texts::Text;
 use indexmap::IndexSet;
 use memchr::memmem;
+use script_grammar::halts::Halt;
+use script_grammar::lines::Work;
 use std::alloc::Global;
 use std::collections::HashMap;
 use std::hash::RandomState;

@@ -1,18 +1,17 @@
 //! `pp`: a text with each include line replaced by the text that it includes.
 
 ghost use Rattle.std.specs.Prelude.{◌≡◌, ◌+◌, ◌-◌, ◌<◌, ◌≤◌, ◌∷◌, ℕ, List, Err, IfOk, OnOk, OnSome, length};
-ghost use Rattle.build_script.specs.Run.{Preprocessed, probed, found_or, expanded, with_part, depth_limit};
+ghost use Rattle.script_grammar.specs.Run.{Preprocessed, probed, found_or, expanded, with_part, depth_limit};
 ghost use Rattle.std.specs.List.{filter_map};
 ghost use Rattle.cc_names.specs.declared.refusals.ScriptFault.TheVariants.{Absent};
-ghost use Rattle.build_script.specs.Includes.{probes_of, under};
+ghost use Rattle.script_grammar.specs.Includes.{probes_of, under};
 ghost use Rattle.build_script.specs.Making.{output_at, resumed, left_of, includes, preprocessing, made_with, found_with};
 ghost use Rattle.build_script.specs.OpenTexts.{rest_of, rests_of};
-ghost use Rattle.build_script.specs.Parts.{Performed, Gave, gives, own_of};
+ghost use Rattle.script_grammar.specs.Parts.{Performed, Gave, gives, own_of};
 ghost use Rattle.build_script.specs.MadeOf.{made_of};
 
 use crate::files::Files;
 use crate::forms::split_first_line;
-use crate::halts::Halt;
 use crate::includes::{include_of, under};
 use crate::making::{Made, Making, say, see, text_at};
 use crate::open_texts::OpenText;
@@ -21,6 +20,7 @@ use cc_names::paths::Path;
 use cc_names::refusals::ScriptFault;
 use cc_names::texts::Text;
 use indexmap::IndexSet;
+use script_grammar::halts::Halt;
 use std::alloc::Global;
 use std::hash::RandomState;
 

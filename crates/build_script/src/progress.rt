@@ -3,13 +3,11 @@
 ghost use Rattle.std.specs.Prelude.{◌≡◌, ◌++◌, [], ℕ, List, Ok, IfOk, OnOk, length};
 ghost use Rattle.std.specs.List.{list_any};
 ghost use Rattle.std.specs.Str.{bytes_eq};
-ghost use Rattle.build_script.specs.Run.{begun, wrote, write_output, after_line, outputs_of, nothing_written};
-ghost use Rattle.build_script.specs.Parts.{Performed, Gave, gives, own_of};
+ghost use Rattle.script_grammar.specs.Run.{begun, wrote, write_output, after_line, outputs_of, nothing_written};
+ghost use Rattle.script_grammar.specs.Parts.{Performed, Gave, gives, own_of};
 ghost use Rattle.build_script.specs.Progress.{state_of};
 
 use crate::files::Files;
-use crate::halts::Halt;
-use crate::lines::{Line, Work};
 use crate::making::{Made, Making, Outputs, make};
 use cc_names::lists::List;
 use cc_names::memory::NoMemory;
@@ -17,6 +15,8 @@ use cc_names::paths::Path;
 use cc_names::refusals::ScriptFault;
 use cc_names::texts::Text;
 use indexmap::IndexSet;
+use script_grammar::halts::Halt;
+use script_grammar::lines::{Line, Work};
 use std::alloc::Global;
 use std::hash::RandomState;
 

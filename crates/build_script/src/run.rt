@@ -1,15 +1,13 @@
 //! A run of a script.
 
 ghost use Rattle.std.specs.Prelude.{◌≡◌, ℕ, List, IfOk, IfErr};
-ghost use Rattle.build_script.specs.Run.{after_lines, run_from, run_of_lines, carried_out};
-ghost use Rattle.build_script.specs.Standings.{Stays, texts};
-ghost use Rattle.build_script.specs.Parts.{Performed, gives};
+ghost use Rattle.script_grammar.specs.Run.{after_lines, run_from, run_of_lines, carried_out};
+ghost use Rattle.script_grammar.specs.Standings.{Stays, texts};
+ghost use Rattle.script_grammar.specs.Parts.{Performed, gives};
 ghost use Rattle.build_script.specs.Progress.{state_of, HoldsEach};
 ghost use Rattle.build_script.specs.Ended.{ran_of, IsGivenUp};
 
 use crate::files::{Files, GivenUp};
-use crate::halts::Halt;
-use crate::lines::Line;
 use crate::making::note;
 use crate::outcomes::{Ended, Written};
 use crate::progress::{Progress, outputs};
@@ -19,6 +17,8 @@ use cc_names::memory::{NoMemory, Or};
 use cc_names::paths::Path;
 use cc_names::texts::Text;
 use indexmap::IndexSet;
+use script_grammar::halts::Halt;
+use script_grammar::lines::Line;
 use std::alloc::{AllocError, Global};
 use std::hash::RandomState;
 

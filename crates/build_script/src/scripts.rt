@@ -4,12 +4,13 @@ ghost use Rattle.std.specs.Prelude.{◌≡◌, ◌+◌, ◌<◌, ◌^◌, ◌∷
 ghost use Rattle.std.specs.List.{slice_split};
 ghost use Rattle.cc_names.specs.Answers.{Gives};
 ghost use Rattle.cc_names.specs.Cuts.{is_newline};
-ghost use Rattle.build_script.specs.Lines.{pieces, size_of, script_of};
+ghost use Rattle.script_grammar.specs.Lines.{pieces, size_of, script_of};
 
-use crate::lines::{Line, read_line};
+use crate::lines::read_line;
 use cc_names::cuts::first_newline;
 use cc_names::memory::Or;
 use cc_names::refusals::ScriptFault;
+use script_grammar::lines::Line;
 use std::alloc::Global;
 use std::marker::Model;
 
@@ -21,7 +22,7 @@ pub struct Script {
 
 impl Model for Script {
     ghost use Rattle.std.specs.Prelude.{List};
-    ghost use Rattle.build_script.specs.declared.lines.Line.{Line};
+    ghost use Rattle.script_grammar.specs.declared.lines.Line.{Line};
 
     ghost Value = { List Line };
 

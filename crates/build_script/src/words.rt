@@ -1,7 +1,7 @@
 //! The words of a line.
 
 ghost use Rattle.std.specs.Prelude.{◌≡◌, ◌+◌, ◌++◌, IfOk, OnOk, map};
-ghost use Rattle.build_script.specs.Words.{is_arrow, is_alike, arrows, words_of_run, words, without_at};
+ghost use Rattle.script_grammar.specs.Words.{is_arrow, is_alike, arrows, words_of_run, words, without_at};
 
 use cc_names::cuts::is_blank;
 use std::alloc::{AllocError, Global};

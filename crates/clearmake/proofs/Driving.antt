@@ -9,7 +9,7 @@ use Rattle.cc_names.specs.declared.desks.Next.TheVariants as nexts
 use Rattle.cc_names.specs.declared.memory.NoMemory.{NoMemory}
 use Rattle.cc_names.specs.declared.rows.Tag.{Tag}
 use Rattle.cc_names.specs.declared.steps.StoryStep.{StoryStep}
-use Rattle.build_script.specs.Run.{Ran}
+use Rattle.script_grammar.specs.Run.{Ran}
 use Rattle.legal_history.specs.Stories.Lawful.{Legal}
 use Rattle.legal_history.specs.Stories.Steps.{state_of}
 use Rattle.clearmake.specs.Building.{IsOpened, opened_of}

@@ -8,8 +8,8 @@ use Rattle.cc_names.specs.declared.desks.Next.TheVariants as nexts
 use Rattle.cc_names.specs.declared.rows.Tag.{Tag}
 use Rattle.cc_names.specs.declared.steps.StoryStep.{StoryStep}
 use Rattle.cc_names.specs.declared.units.Unit.{Unit}
-use Rattle.build_script.specs.Run.{Ran}
-use Rattle.build_script.specs.Standings.{Standing}
+use Rattle.script_grammar.specs.Run.{Ran}
+use Rattle.script_grammar.specs.Standings.{Standing}
 use Rattle.legal_history.specs.Base.Rows.{Base}
 use Rattle.legal_history.specs.Builds.Active.{Build, build_of, came_to, is_outcome, unit_at}
 use Rattle.legal_history.specs.Builds.Choices.{text_of_row, visible}

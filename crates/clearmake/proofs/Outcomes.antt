@@ -8,11 +8,11 @@ use Rattle.cc_names.specs.declared.memory.Or.TheVariants.{NoMemory, Is}
 use Rattle.cc_names.specs.declared.rows.Tag.{Tag}
 use Rattle.cc_names.specs.declared.steps.StoryStep.{StoryStep}
 use Rattle.build_script.specs.Ended.{IsGivenUp, ran_of}
-use Rattle.build_script.specs.Run.{Ran, carried_out, run_of, run_of_lines}
-use Rattle.build_script.specs.Standings.{Standing, text_of, texts}
-use Rattle.build_script.specs.declared.files.GivenUp.{GivenUp}
-use Rattle.build_script.specs.declared.files.GivenUp.TheVariants.{Broken}
-use Rattle.build_script.specs.declared.lines.Line.{Line}
+use Rattle.script_grammar.specs.Run.{Ran, carried_out, run_of, run_of_lines}
+use Rattle.script_grammar.specs.Standings.{Standing, text_of, texts}
+use Rattle.script_grammar.specs.declared.files.GivenUp.{GivenUp}
+use Rattle.script_grammar.specs.declared.files.GivenUp.TheVariants.{Broken}
+use Rattle.script_grammar.specs.declared.lines.Line.{Line}
 use Rattle.build_script.specs.declared.outcomes.Ended.{Ended}
 use Rattle.legal_history.specs.Base.Rows.{Base}
 use Rattle.legal_history.specs.Base.Texts.{text}

@@ -3,7 +3,7 @@ use Rattle.std.proofs.Common.{◌≡◌, refl, ap, sym, subst, ◌∙◌, ℕ, �
 use mathlib.Core.List.{IsPrefix}
 use Rattle.cc_names.specs.declared.rows.Tag.{Tag}
 use Rattle.cc_names.specs.declared.steps.StoryStep.{StoryStep}
-use Rattle.build_script.specs.Standings.{Standing}
+use Rattle.script_grammar.specs.Standings.{Standing}
 use Rattle.build_script.specs.declared.files.Got.{Got}
 use Rattle.build_script.specs.declared.files.Got.TheVariants as gots
 use Rattle.legal_history.specs.Stories.Lawful.{Legal}

@@ -5,9 +5,9 @@ use Rattle.cc_names.specs.declared.desks.Begun.{Begun}
 use Rattle.cc_names.specs.declared.desks.Begun.TheVariants as begins
 use Rattle.cc_names.specs.declared.steps.StoryStep.{StoryStep}
 use Rattle.cc_names.specs.declared.units.Unit.{Unit}
-use Rattle.build_script.specs.Lines.{script_of}
-use Rattle.build_script.specs.Run.{Ran}
-use Rattle.build_script.specs.declared.lines.Line.{Line}
+use Rattle.script_grammar.specs.Lines.{script_of}
+use Rattle.script_grammar.specs.Run.{Ran}
+use Rattle.script_grammar.specs.declared.lines.Line.{Line}
 use Rattle.legal_history.specs.Builds.Active.{Build, build_of, came_to, is_outcome, unit_at, unit_with}
 use Rattle.legal_history.specs.Builds.Choices.{here}
 use Rattle.legal_history.specs.Builds.Fresh.{script_text}

@@ -6,10 +6,10 @@ use Rattle.cc_names.specs.declared.memory.Or.TheVariants.{NoMemory, Is}
 use Rattle.cc_names.specs.declared.rows.Tag.{Tag}
 use Rattle.cc_names.specs.declared.steps.StoryStep.{StoryStep}
 use Rattle.build_script.specs.Ended.{ran_of}
-use Rattle.build_script.specs.Standings.{Standing}
+use Rattle.script_grammar.specs.Standings.{Standing}
 use Rattle.build_script.specs.declared.files.Got.{Got}
 use Rattle.build_script.specs.declared.files.Got.TheVariants as gots
-use Rattle.build_script.specs.declared.files.GivenUp.{GivenUp}
+use Rattle.script_grammar.specs.declared.files.GivenUp.{GivenUp}
 use Rattle.build_script.specs.declared.outcomes.Ended.{Ended}
 use Rattle.legal_history.specs.Stories.States.{State}
 use Rattle.legal_history.specs.Stories.Steps.{state_of}

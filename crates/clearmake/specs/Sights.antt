@@ -1,7 +1,7 @@
 -- What the script of a unit finds at a path.
 use Rattle.std.specs.Prelude.{◌≡◌, ℕ, Option, Some, None, option_map, option_and_then, List}
 use Rattle.cc_names.specs.declared.units.Unit as units
-use Rattle.build_script.specs.Standings.{Standing}
+use Rattle.script_grammar.specs.Standings.{Standing}
 use Rattle.build_script.specs.declared.files.Got.{Got}
 use Rattle.build_script.specs.declared.files.Got.TheVariants as gots
 use Rattle.legal_history.specs.Base.Rows.{Base}

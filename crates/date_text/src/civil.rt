@@ -4,8 +4,7 @@ ghost use Rattle.std.specs.Prelude.{◌≡◌, ◌≤◌, ◌<◌, ◌^◌, pos,
 ghost use Rattle.jiff_core.specs.Calendar.{days_in_month};
 ghost use Rattle.jiff_core.specs.Date.{epoch_day};
 
-use jiff::ToSpan;
-use jiff::civil::{Date, date};
+use jiff_core::civil::Date;
 
 /// The parts of a moment in UTC: a month counts from 1, and so does a day of it.
 #[derive(Clone, Copy)]
@@ -24,7 +23,7 @@ fn date_after(days: u64) -> Date
     ensures value { epoch_day result ≡ pos days }
     ensures year { pos 1970 ≤ℤ result.year }
 {
-    date(1970, 1, 1).checked_add((days as i64).days()).unwrap()
+    Date::from_unix_epoch_day(days as i64).unwrap()
 }
 
 impl Civil {
@@ -41,9 +40,9 @@ impl Civil {
         let date = date_after(moment / 86400);
         let second = moment % 86400;
         Civil {
-            year: date.year() as u64,
-            month: date.month() as u64,
-            day: date.day() as u64,
+            year: date.year as u64,
+            month: date.month as u64,
+            day: date.day as u64,
             hour: second / 3600,
             minute: second / 60 % 60,
             second: second % 60,

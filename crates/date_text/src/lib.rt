@@ -6,7 +6,7 @@
 //! What it promises: `read` gives a moment exactly for the dates of the years 1970 to 9999, and else the place of the
 //! first field that is wrong; `print` gives the one date of a moment. Neither takes memory.
 //!
-//! What it stands on: `jiff` and `jiff_core` for the calendar.
+//! What it stands on: `jiff_core`, the calendar of `jiff`.
 #![tactic(auto)]
 
 mod civil;
@@ -16,6 +16,3 @@ mod reading;
 
 pub use printing::{DateText, print};
 pub use reading::{BadDate, read};
-
-#[cfg(test)]
-mod tests;

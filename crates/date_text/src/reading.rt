@@ -8,7 +8,7 @@ ghost use Rattle.date_text.specs.Dates.{date_of, parts_from, month_place, moment
 
 use crate::civil::Civil;
 use crate::fields::{day_length, fields, first_wrong, month_place, piece, value};
-use jiff::civil::Date;
+use jiff_core::civil::Date;
 
 /// Bytes are no date: the place, counted from 0, where the first wrong field begins.
 #[derive(Clone, Copy, Debug, PartialEq, Eq)]
@@ -48,7 +48,7 @@ fn days_since_1970(date: Date) -> u64
     ensures value { pos result ≡ epoch_day date }
     ensures bound { result < 2 ^ 31 }
 {
-    date.to_plain().to_unix_epoch_day() as u64
+    date.to_unix_epoch_day() as u64
 }
 
 /// The moment of these parts. Where the month lacks the day, the day is wrong, which stands at the front of its text.

@@ -8,14 +8,14 @@ use Rattle.std.specs.Result.{result_ok}
 use Rattle.cc_names.specs.Names.{unless_fault}
 use Rattle.cc_names.specs.Paths.{path_fault, is_root}
 use Rattle.cc_names.specs.declared.names.NameFault.{NameFault}
-use Rattle.make_text.specs.WordPaths.{path_in, unless_root, with_path, each_once}
-use Rattle.make_text.specs.Contents.{Contents}
-use Rattle.make_text.specs.Rules.{Inference, MakeRule}
-use Rattle.make_text.specs.Serving.{helped, prerequisites_of, without_rule}
-use Rattle.make_text.specs.Units.{is_target}
+use Rattle.make_grammar.specs.WordPaths.{path_in, unless_root, with_path, each_once}
+use Rattle.make_grammar.specs.Contents.{Contents}
+use Rattle.make_grammar.specs.Rules.{Inference, MakeRule}
+use Rattle.make_grammar.specs.Serving.{helped, prerequisites_of, without_rule}
+use Rattle.make_grammar.specs.Units.{is_target}
 use Rattle.make_text.proofs.OnceLemmas.{with_joined}
-use Rattle.make_text.specs.Macros.{is_among}
-use Rattle.make_text.specs.Numbers.{number_from}
+use Rattle.make_grammar.specs.Macros.{is_among}
+use Rattle.make_grammar.specs.Numbers.{number_from}
 
 pub numbered_among : {A : Type 0} (targets : A → List (List ℕ)) (n : ℕ) (path : List ℕ) (xs : List A) → is_some (number_from targets n path xs) ≡ is_among (flat_map targets xs) path
 numbered_among targets n path [] = refl

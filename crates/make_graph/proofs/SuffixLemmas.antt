@@ -7,9 +7,9 @@ use Rattle.std.proofs.lemmas.Slice.Eq.{bytes_eq-Decides, ends_is}
 use Rattle.std.specs.List.{ends_with}
 use Rattle.std.specs.Option.{is_some}
 use Rattle.std.specs.Str.{bytes_eq}
-use Rattle.make_text.specs.Contents.{Contents}
-use Rattle.make_text.specs.Rules.{SuffixRule, Inference}
-use Rattle.make_text.specs.Serving.{first_inference, inference_at, stem_of}
+use Rattle.make_grammar.specs.Contents.{Contents}
+use Rattle.make_grammar.specs.Rules.{SuffixRule, Inference}
+use Rattle.make_grammar.specs.Serving.{first_inference, inference_at, stem_of}
 use Rattle.make_graph.specs.Suffixes.{last_dotted, suffix_of, is_dotted, are_dotted, key_of, next_of, place_of, rule_at}
 
 -- ---- the suffix of bytes

@@ -1,9 +1,9 @@
 -- Steps of a walk that keeps its own stack.
 use Rattle.std.proofs.Common.{◌≡◌, refl, sym, ap, ◌∙◌, subst, ℕ, zero, suc, ◌+◌, ◌-◌, ◌<◌, ◌≤◌, Option, Some, None, Result, Ok, Err, List, [], ◌∷◌, ◌++◌, length, drop, set, slice_get, arith, add-zero}
-use Rattle.make_text.specs.Walks.{Walk, number_of, prerequisites_at, opened, closed, and_then, each_of, take_path}
-use Rattle.make_text.specs.Rules.{Serving}
-use Rattle.make_text.specs.declared.walks.Mark.{Mark}
-use Rattle.make_text.specs.declared.walks.Mark.TheVariants.{New, Open, Done}
+use Rattle.make_grammar.specs.Walks.{Walk, number_of, prerequisites_at, opened, closed, and_then, each_of, take_path}
+use Rattle.make_grammar.specs.Rules.{Serving}
+use Rattle.make_grammar.specs.declared.walks.Mark.{Mark}
+use Rattle.make_grammar.specs.declared.walks.Mark.TheVariants.{New, Open, Done}
 use Rattle.make_graph.specs.Visits.{meeting_at, meeting, entered, behind, next_of, finish, resume, new_one, news}
 use Rattle.make_graph.specs.declared.walks.Visit.{Visit}
 use Rattle.make_graph.specs.declared.walks.Meeting.{Meeting}

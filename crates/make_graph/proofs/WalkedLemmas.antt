@@ -2,9 +2,9 @@
 use Rattle.std.proofs.Common.{◌≡◌, refl, sym, ap, ◌∙◌, ℕ, ◌+◌, ◌<◌, Some, None, List, [], ◌∷◌, ◌++◌, length, map, filter_map, drop, get_or, slice_get, append_assoc, drop-cons, add-one}
 use Rattle.std.specs.List.{cons_option}
 use Rattle.cc_names.specs.declared.units.Unit.{Unit}
-use Rattle.make_text.specs.Contents.{Contents}
-use Rattle.make_text.specs.Graphs.{unit_of, walked}
-use Rattle.make_text.specs.Rules.{Serving}
+use Rattle.make_grammar.specs.Contents.{Contents}
+use Rattle.make_grammar.specs.Graphs.{unit_of, walked}
+use Rattle.make_grammar.specs.Rules.{Serving}
 
 pub walked_more : (make : Contents) (units : List Serving) (done all : List Unit) (order : List ℕ) (i n : ℕ) (s : Serving) → i < length order → get_or order i 0 ≡ n → slice_get units n ≡ Some s →
     done ++ walked make units (drop i order) ≡ all → (done ++ unit_of make s ∷ []) ++ walked make units (drop (i + 1) order) ≡ all

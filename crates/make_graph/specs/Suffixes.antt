@@ -4,7 +4,7 @@ use Rattle.std.specs.declared.random_state.RandomState.{RandomState}
 use Rattle.std.specs.HashMap.{HashMap, get}
 use Rattle.std.specs.List.{list_any, list_all}
 use Rattle.std.specs.Str.{bytes_eq}
-use Rattle.make_text.specs.Rules.{SuffixRule}
+use Rattle.make_grammar.specs.Rules.{SuffixRule}
 
 -- the bytes from the last `.` on; else these
 abbrev pub last_dotted : List ℕ → List ℕ → List ℕ

@@ -5,8 +5,8 @@ use Rattle.std.specs.HashMap.{HashMap, get}
 use Rattle.std.specs.List.{range_with_len}
 use Rattle.std.specs.Str.{bytes_eq}
 use Rattle.cc_names.specs.declared.units.Unit.{Unit}
-use Rattle.make_text.specs.Numbers.{number_from}
-use Rattle.make_text.specs.UnitLaws.{made_by_unit}
+use Rattle.make_grammar.specs.Numbers.{number_from}
+use Rattle.make_grammar.specs.UnitLaws.{made_by_unit}
 use Rattle.make_graph.specs.NumberSets.{AreClosures}
 use Rattle.make_graph.specs.Waits.{makers_of, dependants_of}
 

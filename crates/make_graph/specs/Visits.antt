@@ -8,10 +8,10 @@ use Rattle.cc_names.specs.declared.memory.Or.{Or}
 use Rattle.cc_names.specs.declared.memory.Or.TheVariants.{NoMemory, Is}
 use Rattle.cc_names.specs.declared.refusals.GraphFault.{GraphFault}
 use Rattle.cc_names.specs.declared.refusals.GraphFault.TheVariants.{Cycle}
-use Rattle.make_text.specs.Walks.{Walk, number_of, prerequisites_at, closed, and_then, each_of, take_path}
-use Rattle.make_text.specs.Rules.{Serving}
-use Rattle.make_text.specs.declared.walks.Mark.{Mark}
-use Rattle.make_text.specs.declared.walks.Mark.TheVariants.{New, Open, Done}
+use Rattle.make_grammar.specs.Walks.{Walk, number_of, prerequisites_at, closed, and_then, each_of, take_path}
+use Rattle.make_grammar.specs.Rules.{Serving}
+use Rattle.make_grammar.specs.declared.walks.Mark.{Mark}
+use Rattle.make_grammar.specs.declared.walks.Mark.TheVariants.{New, Open, Done}
 use Rattle.make_graph.specs.declared.walks.Visit.{Visit}
 use Rattle.make_graph.specs.declared.walks.Meeting.{Meeting}
 use Rattle.make_graph.specs.declared.walks.Meeting.TheVariants.{Past, Again, Enter}

@@ -3,8 +3,8 @@ use Rattle.std.specs.Prelude.{ℕ, zero, suc, ◌==◌, Bool, true, false, List,
 use Rattle.std.specs.List.{list_any, list_all, filter_map, range_with_len}
 use Rattle.cc_names.specs.Versions.{is_number}
 use Rattle.cc_names.specs.declared.units.Unit.{Unit}
-use Rattle.make_text.specs.Numbers.{number_from}
-use Rattle.make_text.specs.UnitLaws.{made_by_unit}
+use Rattle.make_grammar.specs.Numbers.{number_from}
+use Rattle.make_grammar.specs.UnitLaws.{made_by_unit}
 
 -- the number of the unit that makes a path
 abbrev pub unit_of : List Unit → List ℕ → Option ℕ

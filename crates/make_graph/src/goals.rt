@@ -2,8 +2,8 @@
 
 ghost use Rattle.std.specs.Prelude.{◌≡◌, ℕ, List, Bool, not, find, option_copied};
 ghost use Rattle.std.specs.List.{flat_map};
-ghost use Rattle.make_text.specs.WordPaths.{begins_with_period};
-ghost use Rattle.make_text.specs.Units.{targets_of, made_by};
+ghost use Rattle.make_grammar.specs.WordPaths.{begins_with_period};
+ghost use Rattle.make_grammar.specs.Units.{targets_of, made_by};
 
 use cc_names::paths::Path;
 use cc_names::units::{Unit, UnitScript};

@@ -2,9 +2,9 @@
 
 ghost use Rattle.std.specs.Prelude.{◌≡◌, [], ◌∷◌, ◌++◌, IfOk, OnOk, not, map, filter, fold, option_copied};
 ghost use Rattle.std.specs.List.{filter_map};
-ghost use Rattle.make_text.specs.WordPaths.{with_path};
-ghost use Rattle.make_text.specs.Serving.{stem_of, source_at, inference_at, first_inference, inference, may_be_served, with_first, by_suffix, by_itself, helped, inference_for, serving_of, bare_rule, serving_alone, without_rule, servings};
-ghost use Rattle.make_text.specs.Units.{is_target};
+ghost use Rattle.make_grammar.specs.WordPaths.{with_path};
+ghost use Rattle.make_grammar.specs.Serving.{stem_of, source_at, inference_at, first_inference, inference, may_be_served, with_first, by_suffix, by_itself, helped, inference_for, serving_of, bare_rule, serving_alone, without_rule, servings};
+ghost use Rattle.make_grammar.specs.Units.{is_target};
 ghost use Rattle.make_graph.specs.Numbered.{KnowsRules};
 
 use crate::goals::Exists;
@@ -34,7 +34,7 @@ pub(crate) struct Inference {
 }
 
 impl Model for Inference {
-    ghost use Rattle.make_text.specs.Rules.{Inference};
+    ghost use Rattle.make_grammar.specs.Rules.{Inference};
 
     ghost Value = { Inference };
 
@@ -51,8 +51,8 @@ pub(crate) struct Serving {
 }
 
 impl Model for Serving {
-    ghost use Rattle.make_text.specs.Rules.{Serving};
-    ghost use Rattle.make_text.specs.Serving.{helped};
+    ghost use Rattle.make_grammar.specs.Rules.{Serving};
+    ghost use Rattle.make_grammar.specs.Serving.{helped};
 
     ghost Value = { Serving };
 

@@ -3,9 +3,9 @@
 ghost use Rattle.std.specs.Prelude.{◌≡◌, ◌<◌, ◌^◌, ℕ, IfOk, Some, length};
 ghost use Rattle.std.specs.List.{list_all};
 ghost use Rattle.cc_names.specs.Answers.{Gives};
-ghost use Rattle.make_text.specs.Graphs.{graph_of};
-ghost use Rattle.make_text.specs.Numbers.{number_from};
-ghost use Rattle.make_text.specs.UnitLaws.{made_by_unit};
+ghost use Rattle.make_grammar.specs.Graphs.{graph_of};
+ghost use Rattle.make_grammar.specs.Numbers.{number_from};
+ghost use Rattle.make_grammar.specs.UnitLaws.{made_by_unit};
 ghost use Rattle.make_graph.specs.Waits.{closure_of, dependants_of, is_done, is_in, is_marked, is_ready, makers_of, prerequisites_at};
 
 use crate::closures::{Closure, of_unit};

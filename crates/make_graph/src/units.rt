@@ -3,12 +3,12 @@
 ghost use Rattle.std.specs.Prelude.{◌≡◌, ◌<◌, ◌||◌, ◌∷◌, [], Ok, not, is_some, find, length, IfOk, option_copied, slice_get};
 ghost use Rattle.cc_names.specs.Answers.{Gives};
 ghost use Rattle.cc_names.specs.Paths.{root};
-ghost use Rattle.make_text.specs.Contents.{expansion};
-ghost use Rattle.make_text.specs.Graphs.{first_of, first_target, script_for, unit_of, walked, graph_by, graph_of, unless_cycle};
+ghost use Rattle.make_grammar.specs.Contents.{expansion};
+ghost use Rattle.make_grammar.specs.Graphs.{first_of, first_target, script_for, unit_of, walked, graph_by, graph_of, unless_cycle};
 ghost use Rattle.make_graph.specs.Items.{result_items};
-ghost use Rattle.make_text.specs.Serving.{servings};
-ghost use Rattle.make_text.specs.Walks.{number_of, walk_of};
-ghost use Rattle.make_text.specs.Units.{script_of_unit};
+ghost use Rattle.make_grammar.specs.Serving.{servings};
+ghost use Rattle.make_grammar.specs.Walks.{number_of, walk_of};
+ghost use Rattle.make_grammar.specs.Units.{script_of_unit};
 ghost use Rattle.make_graph.specs.Visits.{KnowsUnits, GivesWalk};
 ghost use Rattle.make_graph.specs.Numbered.{KnowsRules};
 

@@ -2,8 +2,8 @@
 
 ghost use Rattle.std.specs.Prelude.{◌≡◌, ◌≤◌, ◌+◌, ◌<◌, ◌++◌, [], ◌∷◌, ℕ, OnOk, IfOk, IfSome, ◌^◌, length, slice_get, slice_set, option_copied, suc, replicate, Ok};
 ghost use Rattle.cc_names.specs.Answers.{Gives};
-ghost use Rattle.make_text.specs.Walks.{number_of, prerequisites_at, closed, take_path, walk_of};
-ghost use Rattle.make_text.specs.declared.walks.Mark.TheVariants.{New};
+ghost use Rattle.make_grammar.specs.Walks.{number_of, prerequisites_at, closed, take_path, walk_of};
+ghost use Rattle.make_grammar.specs.declared.walks.Mark.TheVariants.{New};
 ghost use Rattle.make_graph.specs.Visits.{KnowsUnits, meeting, entered, behind, next_of, resume, Goes, news};
 
 use crate::numbers::{Numbers, number};
@@ -11,7 +11,7 @@ use crate::serving::Serving;
 use cc_names::lists::List;
 use cc_names::memory::{NoMemory, Or};
 use cc_names::paths::Path;
-use make_text::walks::Mark;
+use make_grammar::walks::Mark;
 use std::alloc::Global;
 use std::hash::RandomState;
 use std::marker::Model;
@@ -24,7 +24,7 @@ pub(crate) struct Walk {
 }
 
 impl Model for Walk {
-    ghost use Rattle.make_text.specs.Walks.{Walk};
+    ghost use Rattle.make_grammar.specs.Walks.{Walk};
 
     ghost Value = { Walk };
 

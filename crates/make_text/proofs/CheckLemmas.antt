@@ -7,17 +7,17 @@ use Rattle.cc_names.specs.Answers.{FaultIs}
 use Rattle.cc_names.specs.declared.memory.Or.{Or}
 use Rattle.cc_names.specs.declared.memory.Or.TheVariants.{NoMemory, Is}
 use Rattle.cc_names.specs.declared.refusals.MakeError.{MakeError}
-use Rattle.make_text.specs.Grammar.{at_place, fault_or, macros_fault}
+use Rattle.make_grammar.specs.Grammar.{at_place, fault_or, macros_fault}
 use Rattle.std.specs.Prelude.{if◌then◌else◌}
 use Rattle.cc_names.specs.declared.commands.Macro.{Macro}
 use Rattle.cc_names.specs.declared.refusals.MakeCause.{MakeCause}
 use Rattle.cc_names.specs.declared.refusals.MakeCause.TheVariants.{LineTooLong, MacroLoop}
 use Rattle.make_text.specs.Expanding.{refer, goes_on, left_of, still, Admits}
-use Rattle.make_text.specs.Macros.{Reference, Expansion, plain, followed, is_too_long, no_automatic}
+use Rattle.make_grammar.specs.Macros.{Reference, Expansion, plain, followed, is_too_long, no_automatic}
 use Rattle.make_text.specs.MacroChecks.{AtEndUnless, Finds, definition_at, macro_fault_of}
 use Rattle.make_text.specs.Runs.{Runs, HasNamesApart, macro_at, len_in, result_in, EndsIn}
 use Rattle.make_text.specs.States.{state_at}
-use Rattle.make_text.specs.Statements.{Definition, macros_of, expansion_fault, fault_at}
+use Rattle.make_grammar.specs.Statements.{Definition, macros_of, expansion_fault, fault_at}
 use Rattle.make_text.specs.Steps.{opened_of, IsRunning, IsAtEnd, Referred}
 use Rattle.make_text.specs.declared.expansions.Expanding.{Expanding}
 use Rattle.make_text.specs.declared.states.State.{State}

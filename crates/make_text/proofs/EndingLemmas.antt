@@ -6,10 +6,10 @@ use Rattle.cc_names.specs.declared.commands.Macro.{Macro}
 use Rattle.cc_names.specs.declared.memory.Or.{Or}
 use Rattle.cc_names.specs.declared.memory.Or.TheVariants.{NoMemory, Is}
 use Rattle.cc_names.specs.declared.refusals.MakeError.{MakeError}
-use Rattle.make_text.specs.Contents.{Contents}
-use Rattle.make_text.specs.Grammar.{checked, fault_or, unless_fault, lines_read, makefile_of_text}
+use Rattle.make_grammar.specs.Contents.{Contents}
+use Rattle.make_grammar.specs.Grammar.{checked, fault_or, unless_fault, lines_read, makefile_of_text}
 use Rattle.make_text.specs.MacroChecks.{Finds}
-use Rattle.make_text.specs.Statements.{Reading}
+use Rattle.make_grammar.specs.Statements.{Reading}
 
 -- the first fault that is found
 pub first_found : (U : Type 0) (fault : Or MakeError) (found later : Option MakeError) (make : Contents) → Finds {U = U} {E = MakeError} (Err fault) found → FaultIs fault (unless_fault (fault_or found later) make)

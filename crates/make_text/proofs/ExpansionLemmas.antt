@@ -7,9 +7,9 @@ use Rattle.std.proofs.lemmas.Slice.Eq.{bytes_eq-Decides}
 use Rattle.std.proofs.lemmas.Bool.{false_from_ne_true}
 use Rattle.cc_names.specs.declared.commands.Macro.{Macro}
 use Rattle.std.specs.List.{position}
-use Rattle.make_text.specs.Lines.{is_dollar}
+use Rattle.make_grammar.specs.Lines.{is_dollar}
 use Rattle.make_text.proofs.PieceLemmas.{plain_all}
-use Rattle.make_text.specs.Macros.{Piece, Byte, Reference, Expansion, plain, loop, followed, expansion_of, pieces_of, piece_expansion, pieces_expansion, value_in, is_among}
+use Rattle.make_grammar.specs.Macros.{Piece, Byte, Reference, Expansion, plain, loop, followed, expansion_of, pieces_of, piece_expansion, pieces_expansion, value_in, is_among}
 use Rattle.make_text.specs.Expanding.{Memo, Opened, names_of, refer, goes_on, left_of, still, Admits, AreKnown, Gives, AllGive}
 
 -- ---- expansions one after the other

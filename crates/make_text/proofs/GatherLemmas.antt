@@ -3,13 +3,13 @@ use Rattle.std.proofs.Common.{◌≡◌, refl, sym, ap, ◌∙◌, subst, ⊎_el
 use Rattle.std.proofs.Math.ListN.{set}
 use Rattle.std.proofs.lemmas.List.Sums.{fold-append}
 use Rattle.make_text.proofs.OnceLemmas.{not_none, with_again, still_included, with_joined}
-use Rattle.make_text.proofs.Places.{same_or_not, from_other}
-use Rattle.make_text.specs.Contents.{RuleLine, rule_without, is_suffix_rule}
+use Rattle.make_grammar.proofs.Places.{same_or_not, from_other}
+use Rattle.make_grammar.specs.Contents.{RuleLine, rule_without, is_suffix_rule}
 use Rattle.make_text.specs.Gathering.{prerequisites_in, prerequisites_at, HasPut}
 use Rattle.make_text.specs.Joining.{joined_with, joined_at, rule_of}
-use Rattle.make_text.specs.Rules.{MakeRule}
-use Rattle.make_text.specs.Serving.{prerequisites_of}
-use Rattle.make_text.specs.WordPaths.{with_path}
+use Rattle.make_grammar.specs.Rules.{MakeRule}
+use Rattle.make_grammar.specs.Serving.{prerequisites_of}
+use Rattle.make_grammar.specs.WordPaths.{with_path}
 use Rattle.make_text.specs.declared.joining.JoinedRule.{JoinedRule}
 
 -- what a rule is made of, by its lines

@@ -8,14 +8,14 @@ use Rattle.std.specs.List.{list_any}
 use Rattle.std.specs.Option.{option_or}
 use Rattle.std.proofs.Math.ListN.{set}
 use Rattle.make_text.proofs.OnceLemmas.{with_again}
-use Rattle.make_text.specs.Contents.{RuleLine, groups_of, made_with, with_line, rule_without, with_target}
+use Rattle.make_grammar.specs.Contents.{RuleLine, groups_of, made_with, with_line, rule_without, with_target}
 use Rattle.make_text.specs.Joining.{joined_with, joined_at, rule_of, rules_of, joined_targets, made_together, KnowsJoined, HasJoined, HasLonger, HasNew, HasTarget}
 use Rattle.make_text.specs.SuffixRules.{is_in_group}
 use Rattle.make_text.specs.declared.joining.JoinedRule.{JoinedRule}
-use Rattle.make_text.specs.Macros.{is_among}
-use Rattle.make_text.specs.Numbers.{number_from}
-use Rattle.make_text.specs.Units.{targets_of}
-use Rattle.make_text.specs.Rules.{MakeRule}
+use Rattle.make_grammar.specs.Macros.{is_among}
+use Rattle.make_grammar.specs.Numbers.{number_from}
+use Rattle.make_grammar.specs.Units.{targets_of}
+use Rattle.make_grammar.specs.Rules.{MakeRule}
 
 -- numbers are counted on from the first
 least_of : {A : Type 0} (targets : A → List (List ℕ)) (path : List ℕ) (xs : List A) (n i : ℕ) → number_from targets n path xs ≡ Some i → n ≤ i

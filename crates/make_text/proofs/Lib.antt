@@ -6,16 +6,6 @@ pub mod StateLemmas
 pub mod RunLemmas
 pub mod MacroLemmas
 pub mod StepLemmas
-mod Places
-mod NumberLaws
-mod WalkLaws
-mod ServingLaws
-pub mod UnitLaws
-mod RuleWordLaws
-mod RuleLineLaws
-mod GroupLaws
-mod JoinedLaws
-pub mod FormedMakefiles
 pub mod WordLemmas
 pub mod SideLemmas
 pub mod ReaderLemmas
@@ -26,5 +16,3 @@ pub mod OnceLemmas
 pub mod NumberLemmas
 pub mod JoinLemmas
 pub mod GatherLemmas
-mod WorkedGraphs
-mod WorkedMakefiles

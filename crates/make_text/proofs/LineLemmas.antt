@@ -7,10 +7,10 @@ use Rattle.std.proofs.lemmas.List.Sums.{fails_before_first}
 use Rattle.std.proofs.lemmas.List.Splits.{slice_split_none, slice_split_first, length-slice_split}
 use borrow.Author.Tests.{ltb-true, ltb-false}
 use Rattle.cc_names.specs.Cuts.{is_newline}
-use Rattle.make_text.specs.Lines.{is_joined}
-use Rattle.make_text.specs.LogicalLines.{next_number, past_blanks, part_of, without_last, before_line, last_line, ended_line, lines_from}
+use Rattle.make_grammar.specs.Lines.{is_joined}
+use Rattle.make_grammar.specs.LogicalLines.{next_number, past_blanks, part_of, without_last, before_line, last_line, ended_line, lines_from}
 use Rattle.make_text.specs.JoinedLines.{joined_onto}
-use Rattle.make_text.specs.declared.logical_lines.LogicalLine.{LogicalLine}
+use Rattle.make_grammar.specs.declared.logical_lines.LogicalLine.{LogicalLine}
 
 -- ---- cutting at the first newline
 

@@ -8,9 +8,9 @@ use Rattle.std.proofs.lemmas.Bool.{cases_eq}
 use Rattle.std.proofs.lemmas.Slice.Eq.{bytes_eq-Decides}
 use Rattle.std.proofs.lemmas.Map.Made.{AllPairs-from_IsDistinct}
 use borrow.Author.Tests.{ltb-true, ltb-false}
-use Rattle.make_text.specs.Macros.{value_in}
+use Rattle.make_grammar.specs.Macros.{value_in}
 use Rattle.make_text.specs.MacroEntries.{macro_in, macros_in, definition_in, definitions_in}
-use Rattle.make_text.specs.Statements.{Definition, macros_of, has_fixed, with_definition}
+use Rattle.make_grammar.specs.Statements.{Definition, macros_of, has_fixed, with_definition}
 use Rattle.make_text.specs.declared.macros.Defined.{Defined}
 use Rattle.indexmap.specs.IndexMap.{insert_entry}
 use Rattle.std.specs.Map.{lookup}

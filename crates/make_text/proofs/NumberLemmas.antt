@@ -1,8 +1,8 @@
 -- Numbers that are given to paths one after the other are those of what makes them first.
 use Rattle.std.proofs.Common.{◌≡◌, refl, sym, ap, ◌∙◌, ℕ, ◌+◌, ◌<◌, Bool, true, false, ◌||◌, Option, Some, None, List, [], ◌∷◌, ◌++◌, length, drop, get_or, if◌then◌else◌, drop-cons, add-one, arith}
 use Rattle.std.specs.Str.{bytes_eq}
-use Rattle.make_text.specs.Macros.{is_among}
-use Rattle.make_text.specs.Numbers.{number_from}
+use Rattle.make_grammar.specs.Macros.{is_among}
+use Rattle.make_grammar.specs.Numbers.{number_from}
 use Rattle.make_text.specs.Numbered.{with_numbers, number_or}
 
 had_stays : (number : ℕ) (paths : List (List ℕ)) (other : List ℕ) (had : ℕ) → with_numbers number paths other (Some had) ≡ Some had

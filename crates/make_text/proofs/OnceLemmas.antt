@@ -5,8 +5,8 @@ use Rattle.std.proofs.Math.Seq.{drop-cons}
 use Rattle.std.proofs.lemmas.List.Sums.{fold-append}
 use Rattle.std.proofs.lemmas.Slice.Eq.{bytes_eq-Decides}
 use Rattle.std.specs.Str.{bytes_eq}
-use Rattle.make_text.specs.Macros.{is_among}
-use Rattle.make_text.specs.WordPaths.{with_path, once_joined}
+use Rattle.make_grammar.specs.Macros.{is_among}
+use Rattle.make_grammar.specs.WordPaths.{with_path, once_joined}
 use Rattle.make_text.proofs.ReaderLemmas.{among_all}
 
 or_second : (a b : Bool) → b ≡ true → (a || b) ≡ true

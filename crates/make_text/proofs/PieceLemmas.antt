@@ -4,11 +4,11 @@ use Rattle.std.specs.Prelude.{nat_lt, if◌then◌else◌}
 use Rattle.std.specs.List.{list_any, position, position_or_len}
 use Rattle.std.proofs.lemmas.List.{append-nil, take_all, drop_all}
 use borrow.Author.Tests.{ltb-true, ltb-false}
-use Rattle.make_text.specs.Lines.{is_dollar}
+use Rattle.make_grammar.specs.Lines.{is_dollar}
 use Rattle.make_text.specs.Scanning.{pieces_in}
 use Rattle.make_text.specs.declared.pieces.Part as lent
 use Rattle.make_text.specs.declared.pieces.Part.TheVariants as variants
-use Rattle.make_text.specs.Macros.{Piece, Byte, Bad, Dollar, Name, pieces_from, pieces_of, named, is_bad}
+use Rattle.make_grammar.specs.Macros.{Piece, Byte, Bad, Dollar, Name, pieces_from, pieces_of, named, is_bad}
 
 -- ---- up to the first `$`
 

@@ -12,14 +12,14 @@ use Rattle.cc_names.specs.declared.memory.Or.TheVariants.{NoMemory, Is}
 use Rattle.cc_names.specs.declared.refusals.MakeCause.{MakeCause}
 use Rattle.cc_names.specs.declared.refusals.MakeCause.TheVariants.{BadLine, BadMacro, TwoScripts}
 use Rattle.cc_names.specs.declared.refusals.MakeError.{MakeError}
-use Rattle.make_text.specs.Contents.{RuleLine}
-use Rattle.make_text.specs.Lines.{is_blank_line}
-use Rattle.make_text.specs.LogicalLines.{logical_lines}
-use Rattle.make_text.specs.Macros.{is_among, has_bad_dollar}
-use Rattle.make_text.specs.WordPaths.{with_path}
+use Rattle.make_grammar.specs.Contents.{RuleLine}
+use Rattle.make_grammar.specs.Lines.{is_blank_line}
+use Rattle.make_grammar.specs.LogicalLines.{logical_lines}
+use Rattle.make_grammar.specs.Macros.{is_among, has_bad_dollar}
+use Rattle.make_grammar.specs.WordPaths.{with_path}
 use Rattle.make_text.specs.ReadingSteps.{Leaves, counted_file, with_newest_line, newest_with}
 use Rattle.make_text.specs.Readers.{Keeps, older_of, open_rule, script_tested}
-use Rattle.make_text.specs.Statements.{Reading, fault_at, and_then, unless_cause, cause_or, where_so, has_twice, is_scripted, is_second_script, include_paths, script_line, script_line_of, with_script_line, included, read_lines, with_text, within_limits}
+use Rattle.make_grammar.specs.Statements.{Reading, fault_at, and_then, unless_cause, cause_or, where_so, has_twice, is_scripted, is_second_script, include_paths, script_line, script_line_of, with_script_line, included, read_lines, with_text, within_limits}
 use Rattle.make_text.proofs.ExpansionLemmas.{same_bytes}
 
 -- ---- paths among others

@@ -7,7 +7,7 @@ use Rattle.std.proofs.lemmas.List.Sums.{sum_by-cons, sum_by-set}
 use Rattle.std.proofs.lemmas.Bool.{cases_eq}
 use Rattle.std.proofs.lemmas.Slice.Eq.{bytes_eq-Decides}
 use Rattle.cc_names.specs.declared.commands.Macro.{Macro}
-use Rattle.make_text.specs.Macros.{Piece, Byte, Reference, Automatic, Bad, Expansion, plain, followed, pieces_of, expansion_of, value_in, is_among}
+use Rattle.make_grammar.specs.Macros.{Piece, Byte, Reference, Automatic, Bad, Expansion, plain, followed, pieces_of, expansion_of, value_in, is_among}
 use Rattle.make_text.specs.Expanding.{Opened, names_of, refer, goes_on, left_of, still, Admits}
 use Rattle.make_text.specs.Runs.{macro_at, HasNamesApart, result_in, EndsIn, is_begun, untouched, Runs}
 use Rattle.make_text.specs.States.{state_at}

@@ -9,10 +9,10 @@ use Rattle.cc_names.specs.declared.memory.Or.{Or}
 use Rattle.cc_names.specs.declared.memory.Or.TheVariants.{NoMemory, Is}
 use Rattle.cc_names.specs.declared.refusals.MakeCause.{MakeCause}
 use Rattle.cc_names.specs.declared.refusals.MakeCause.TheVariants.{LineTooLong, MacroLoop}
-use Rattle.make_text.specs.Macros.{Expansion, plain, followed, is_too_long}
+use Rattle.make_grammar.specs.Macros.{Expansion, plain, followed, is_too_long}
 use Rattle.make_text.specs.RuleLines.{rule_of_sides, expanded_sides}
-use Rattle.make_text.specs.Statements.{or_cause, cause_or, expansion_fault, expanded_by, before_mark, mark_of, is_grouped, rule_expansion, rule_bytes_fault, rule_words_fault, rule_words}
-use Rattle.make_text.specs.declared.rule_lines.RuleWords.{RuleWords}
+use Rattle.make_grammar.specs.Statements.{or_cause, cause_or, expansion_fault, expanded_by, before_mark, mark_of, is_grouped, rule_expansion, rule_bytes_fault, rule_words_fault, rule_words}
+use Rattle.make_grammar.specs.declared.rule_lines.RuleWords.{RuleWords}
 
 -- where there is something, there was no cause
 no_cause : {A : Type 0} (o : Option MakeCause) (x y : A) → Ok y ≡ or_cause o x → (o ≡ None) × (y ≡ x)

@@ -5,7 +5,7 @@ use Rattle.std.proofs.lemmas.List.{reverse-append, get_or_append_left, get_or_pu
 use Rattle.std.proofs.lemmas.List.Sums.{sum_by-cons, sum_by-set}
 use Rattle.std.proofs.lemmas.Bool.{cases_eq, lt-ltb}
 use Rattle.cc_names.specs.declared.commands.Macro.{Macro}
-use Rattle.make_text.specs.Macros.{Piece, Reference, Expansion, expansion_of, is_too_long, plain, pieces_of, value_in}
+use Rattle.make_grammar.specs.Macros.{Piece, Reference, Expansion, expansion_of, is_too_long, plain, pieces_of, value_in}
 use Rattle.make_text.specs.Expanding.{Opened}
 use Rattle.make_text.specs.Runs.{macro_at, HasNamesApart, untouched, Runs, work}
 use Rattle.make_text.specs.States.{state_at}

@@ -5,10 +5,10 @@ use Rattle.std.proofs.lemmas.Slice.Eq.{bytes_eq-Decides}
 use Rattle.std.proofs.lemmas.Bool.{false_from_ne_true}
 use Rattle.std.specs.Str.{bytes_eq}
 use Rattle.std.specs.List.{list_any}
-use Rattle.make_text.specs.Contents.{suffix_rule_of}
-use Rattle.make_text.specs.Macros.{is_among}
+use Rattle.make_grammar.specs.Contents.{suffix_rule_of}
+use Rattle.make_grammar.specs.Macros.{is_among}
 use Rattle.make_text.specs.SuffixRules.{begins_with, behind_front, begins_from, is_pair_from, suffix_rules_from}
-use Rattle.make_text.specs.Rules.{MakeRule, SuffixRule}
+use Rattle.make_grammar.specs.Rules.{MakeRule, SuffixRule}
 use Rattle.make_text.proofs.ExpansionLemmas.{same_bytes, neither}
 use Rattle.make_text.proofs.ReaderLemmas.{bytes_eq_swapped}
 

@@ -4,10 +4,10 @@ use Rattle.std.specs.List.{list_all}
 use Rattle.cc_names.specs.Paths.{path_before}
 use Rattle.cc_names.specs.declared.refusals.MakeCause.{MakeCause}
 use Rattle.cc_names.specs.declared.refusals.MakeCause.TheVariants.{BadPath}
-use Rattle.make_text.proofs.ServingLaws.{same_path}
-use Rattle.make_text.specs.WordPaths.{path_in, paths_of}
+use Rattle.make_grammar.proofs.ServingLaws.{same_path}
+use Rattle.make_grammar.specs.WordPaths.{path_in, paths_of}
 use Rattle.make_text.specs.RuleLines.{below_root}
-use Rattle.make_text.specs.Statements.{is_path, or_cause, where_so}
+use Rattle.make_grammar.specs.Statements.{is_path, or_cause, where_so}
 
 -- the paths that words are, are the words
 paths_are : (words : List (List ℕ)) → paths_of words ≡ (if list_all is_path words then Some words else None)

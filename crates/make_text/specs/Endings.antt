@@ -1,9 +1,9 @@
 -- What is tested behind the last line of a makefile.
 use Rattle.std.specs.Prelude.{Result, Ok}
 use Rattle.cc_names.specs.declared.refusals.MakeError.{MakeError}
-use Rattle.make_text.specs.Contents.{Contents}
-use Rattle.make_text.specs.Grammar.{checked}
-use Rattle.make_text.specs.Statements.{Reading}
+use Rattle.make_grammar.specs.Contents.{Contents}
+use Rattle.make_grammar.specs.Grammar.{checked}
+use Rattle.make_grammar.specs.Statements.{Reading}
 
 -- what a makefile says by what was read of it, or the first fault behind its last line
 abbrev pub checked_reading : Reading → Result Contents MakeError

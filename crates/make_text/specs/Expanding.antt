@@ -2,7 +2,7 @@
 -- that were.
 use Rattle.std.specs.Prelude.{◌≡◌, ℕ, ◌-◌, ◌≤◌, false, Option, Some, None, List, [], ◌∷◌, ◌++◌, length, map, take, drop}
 use Rattle.cc_names.specs.declared.commands.Macro.{Macro}
-use Rattle.make_text.specs.Macros.{Piece, Reference, Expansion, plain, followed, pieces_of, pieces_expansion, reference_expansion, value_in, is_among}
+use Rattle.make_grammar.specs.Macros.{Piece, Reference, Expansion, plain, followed, pieces_of, pieces_expansion, reference_expansion, value_in, is_among}
 
 -- what is known of the macros whose expansion came to an end: its bytes
 abbrev pub Memo : Type 0

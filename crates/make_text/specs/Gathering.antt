@@ -1,7 +1,7 @@
 -- All that rules are made of, by the rule lines that are joined to them.
 use Rattle.std.specs.Prelude.{◌≡◌, ℕ, Bool, true, Option, Some, None, List, [], fold, slice_get}
-use Rattle.make_text.specs.Contents.{RuleLine}
-use Rattle.make_text.specs.WordPaths.{with_path}
+use Rattle.make_grammar.specs.Contents.{RuleLine}
+use Rattle.make_grammar.specs.WordPaths.{with_path}
 
 -- the prerequisites of a line, if there is one
 abbrev pub prerequisites_in : Option RuleLine → List (List ℕ)

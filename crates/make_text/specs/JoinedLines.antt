@@ -3,9 +3,9 @@ use Rattle.std.specs.Prelude.{◌≡◌, ℕ, ◌<◌, true, false, Option, Some
 use Rattle.std.specs.List.{slice_split}
 use Rattle.std.specs.Borrow.{Bor}
 use Rattle.cc_names.specs.Cuts.{is_newline}
-use Rattle.make_text.specs.Lines.{is_joined}
-use Rattle.make_text.specs.LogicalLines.{without_last}
-use Rattle.make_text.specs.declared.logical_lines.LogicalLine.{LogicalLine}
+use Rattle.make_grammar.specs.Lines.{is_joined}
+use Rattle.make_grammar.specs.LogicalLines.{without_last}
+use Rattle.make_grammar.specs.declared.logical_lines.LogicalLine.{LogicalLine}
 
 -- a text is cut into its first line and what stands behind the newline, if there is one
 abbrev pub CutsLine : List ℕ → List ℕ → Option (Bor (List ℕ)) → Type 0

@@ -3,9 +3,9 @@ use Rattle.std.specs.Prelude.{◌≡◌, ℕ, ◌&&◌, Option, Some, None, List
 use Rattle.std.specs.declared.random_state.RandomState.{RandomState}
 use Rattle.std.specs.HashMap.{HashMap, get}
 use Rattle.std.specs.Str.{bytes_eq}
-use Rattle.make_text.specs.Contents.{RuleLine, groups_of, with_line, rule_without, with_target}
-use Rattle.make_text.specs.Numbers.{number_from}
-use Rattle.make_text.specs.Rules.{MakeRule}
+use Rattle.make_grammar.specs.Contents.{RuleLine, groups_of, with_line, rule_without, with_target}
+use Rattle.make_grammar.specs.Numbers.{number_from}
+use Rattle.make_grammar.specs.Rules.{MakeRule}
 use Rattle.make_text.specs.declared.joining.JoinedRule.{JoinedRule}
 
 -- a rule with this line joined to it, if there is one

@@ -4,8 +4,8 @@ use Rattle.cc_names.specs.declared.commands.Macro.{Macro}
 use Rattle.cc_names.specs.declared.memory.Or.{Or}
 use Rattle.cc_names.specs.declared.memory.Or.TheVariants.{NoMemory, Is}
 use Rattle.cc_names.specs.declared.refusals.MakeCause.{MakeCause}
-use Rattle.make_text.specs.Macros.{Expansion, plain, followed, reference_expansion}
-use Rattle.make_text.specs.Statements.{Definition, expansion_fault}
+use Rattle.make_grammar.specs.Macros.{Expansion, plain, followed, reference_expansion}
+use Rattle.make_grammar.specs.Statements.{Definition, expansion_fault}
 use Rattle.make_text.specs.Steps.{IsAtEnd}
 use Rattle.make_text.specs.declared.expansions.Expanding.{Expanding}
 

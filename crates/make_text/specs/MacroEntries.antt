@@ -1,7 +1,7 @@
 -- The macros that a map holds by their names.
 use Rattle.std.specs.Prelude.{ℕ, List, map}
 use Rattle.cc_names.specs.declared.commands.Macro.{Macro}
-use Rattle.make_text.specs.Statements.{Definition}
+use Rattle.make_grammar.specs.Statements.{Definition}
 use Rattle.make_text.specs.declared.macros.Defined.{Defined}
 
 -- an entry of the map as a macro, and as a definition

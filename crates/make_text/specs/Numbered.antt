@@ -1,7 +1,7 @@
 -- Numbers that are given to paths one after the other.
 use Rattle.std.specs.Prelude.{ℕ, Option, Some, None, List, fold, if◌then◌else◌}
 use Rattle.std.specs.Str.{bytes_eq}
-use Rattle.make_text.specs.Numbers.{number_from}
+use Rattle.make_grammar.specs.Numbers.{number_from}
 
 -- the number that a path had, else this one where it is the path that gets it
 abbrev pub with_number : ℕ → List ℕ → List ℕ → Option ℕ → Option ℕ

@@ -4,10 +4,10 @@ use Rattle.cc_names.specs.Answers.{FaultIs}
 use Rattle.cc_names.specs.declared.memory.Or.{Or}
 use Rattle.cc_names.specs.declared.refusals.MakeCause.TheVariants.{BadLine, BadMacro, TwoScripts}
 use Rattle.cc_names.specs.declared.refusals.MakeError.{MakeError}
-use Rattle.make_text.specs.Contents.{RuleLine}
-use Rattle.make_text.specs.Macros.{is_among, has_bad_dollar}
+use Rattle.make_grammar.specs.Contents.{RuleLine}
+use Rattle.make_grammar.specs.Macros.{is_among, has_bad_dollar}
 use Rattle.make_text.specs.ReadingSteps.{ended_rule}
-use Rattle.make_text.specs.Statements.{Reading, fault_at, unless_cause, cause_or, where_so, is_scripted, is_second_script, macros_of, include_words, include_line, within_limits}
+use Rattle.make_grammar.specs.Statements.{Reading, fault_at, unless_cause, cause_or, where_so, is_scripted, is_second_script, macros_of, include_words, include_line, within_limits}
 
 -- the rule lines behind the newest
 abbrev pub older_of : List RuleLine → List RuleLine

@@ -4,12 +4,12 @@ use Rattle.std.specs.List.{list_any}
 use Rattle.cc_names.specs.Answers.{FaultIs}
 use Rattle.cc_names.specs.declared.memory.Or.{Or}
 use Rattle.cc_names.specs.declared.refusals.MakeError.{MakeError}
-use Rattle.make_text.specs.Contents.{RuleLine}
-use Rattle.make_text.specs.Macros.{is_among}
-use Rattle.make_text.specs.WordPaths.{with_path}
-use Rattle.make_text.specs.Statements.{Definition, Reading, with_definition, with_script_line, with_suffixes, suffixes_name, phony_name, is_special, plain_targets, and_then, read_line, within_limits}
-use Rattle.make_text.specs.declared.logical_lines.LogicalLine.{LogicalLine}
-use Rattle.make_text.specs.declared.rule_lines.RuleWords.{RuleWords}
+use Rattle.make_grammar.specs.Contents.{RuleLine}
+use Rattle.make_grammar.specs.Macros.{is_among}
+use Rattle.make_grammar.specs.WordPaths.{with_path}
+use Rattle.make_grammar.specs.Statements.{Definition, Reading, with_definition, with_script_line, with_suffixes, suffixes_name, phony_name, is_special, plain_targets, and_then, read_line, within_limits}
+use Rattle.make_grammar.specs.declared.logical_lines.LogicalLine.{LogicalLine}
+use Rattle.make_grammar.specs.declared.rule_lines.RuleWords.{RuleWords}
 
 -- unless memory ran out, a call left what reading gives, or answered the fault that it gives
 abbrev pub Leaves : {U X E : Type 0} → Result U (Or E) → X → Result X E → Type 0

@@ -5,8 +5,8 @@ use Rattle.cc_names.specs.declared.commands.Macro.{Macro}
 use Rattle.cc_names.specs.Cuts.{words_of}
 use Rattle.cc_names.specs.declared.refusals.MakeCause.{MakeCause}
 use Rattle.cc_names.specs.declared.refusals.MakeCause.TheVariants.{BadPath}
-use Rattle.make_text.specs.Statements.{or_cause, where_so, is_path, expanded_by, before_mark, rule_expansion, expansion_fault, rule_words_fault}
-use Rattle.make_text.specs.declared.rule_lines.RuleWords.{RuleWords}
+use Rattle.make_grammar.specs.Statements.{or_cause, where_so, is_path, expanded_by, before_mark, rule_expansion, expansion_fault, rule_words_fault}
+use Rattle.make_grammar.specs.declared.rule_lines.RuleWords.{RuleWords}
 
 -- words that are paths below the root, or that one is none
 abbrev pub below_root : List (List ℕ) → Result (List (List ℕ)) MakeCause

@@ -2,7 +2,7 @@
 -- macro, and the bytes that were written.
 use Rattle.std.specs.Prelude.{◌≡◌, ℕ, ◌+◌, ◌*◌, ◌≤◌, ◌<◌, Bool, true, false, Option, Some, None, List, [], length, take, drop, sum_by, slice_index_or}
 use Rattle.cc_names.specs.declared.commands.Macro.{Macro}
-use Rattle.make_text.specs.Macros.{Piece, Expansion, plain, followed, value_in, is_among}
+use Rattle.make_grammar.specs.Macros.{Piece, Expansion, plain, followed, value_in, is_among}
 use Rattle.make_text.specs.Expanding.{Memo, Opened, names_of, goes_on, left_of, still, AreKnown, AllGive}
 use Rattle.make_text.specs.States.{state_at}
 use Rattle.make_text.specs.declared.states.State.{State}

@@ -1,6 +1,6 @@
 -- The pieces of a text, one after the other.
 use Rattle.std.specs.Prelude.{◌≡◌, ℕ, ◌<◌, ◌≤◌, List, [], ◌∷◌, ◌++◌, length, map}
-use Rattle.make_text.specs.Macros.{Piece, Byte, Reference, Automatic, Bad, Scan, pieces_from, pieces_of}
+use Rattle.make_grammar.specs.Macros.{Piece, Byte, Reference, Automatic, Bad, Scan, pieces_from, pieces_of}
 use Rattle.make_text.specs.declared.pieces.Part as lent
 use Rattle.make_text.specs.declared.pieces.Part.TheVariants as variants
 

@@ -1,7 +1,7 @@
 -- The kind of a line as contracts see it, and how it is found byte by byte.
 use Rattle.std.specs.Prelude.{ℕ, List, ◌++◌, reverse}
-use Rattle.make_text.specs.LogicalLines.{past_blanks}
-use Rattle.make_text.specs.LineKinds.{Kind, Blank, Include, Assignment, Rule, Unclosed, Neither}
+use Rattle.make_grammar.specs.LogicalLines.{past_blanks}
+use Rattle.make_grammar.specs.LineKinds.{Kind, Blank, Include, Assignment, Rule, Unclosed, Neither}
 use Rattle.make_text.specs.declared.line_kinds.Kind as lent
 use Rattle.make_text.specs.declared.line_kinds.Kind.TheVariants as variants
 

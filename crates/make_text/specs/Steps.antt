@@ -1,7 +1,7 @@
 -- The steps by which the code expands a text.
 use Rattle.std.specs.Prelude.{◌≡◌, ℕ, ◌-◌, ◌<◌, ◌≤◌, true, false, Some, None, List, [], ◌∷◌, ◌++◌, length, map, reverse, take, drop, slice_set, option_copied, All}
 use Rattle.cc_names.specs.declared.commands.Macro.{Macro}
-use Rattle.make_text.specs.Macros.{Piece, Expansion, plain, in_script, is_too_long, value_in}
+use Rattle.make_grammar.specs.Macros.{Piece, Expansion, plain, in_script, is_too_long, value_in}
 use Rattle.make_text.specs.Expanding.{Opened}
 use Rattle.make_text.specs.Runs.{Runs, work, macro_at, IsFound, EndsIn}
 use Rattle.make_text.specs.States.{state_at}

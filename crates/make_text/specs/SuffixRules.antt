@@ -2,9 +2,9 @@
 use Rattle.std.specs.Prelude.{ℕ, Bool, ◌&&◌, not, Option, Some, None, List, ◌++◌, length, take, drop, flat_map, if◌then◌else◌}
 use Rattle.std.specs.List.{list_any}
 use Rattle.std.specs.Str.{bytes_eq}
-use Rattle.make_text.specs.Contents.{is_pair_of, suffix_rule_of}
-use Rattle.make_text.specs.Macros.{is_among}
-use Rattle.make_text.specs.Rules.{MakeRule, SuffixRule}
+use Rattle.make_grammar.specs.Contents.{is_pair_of, suffix_rule_of}
+use Rattle.make_grammar.specs.Macros.{is_among}
+use Rattle.make_grammar.specs.Rules.{MakeRule, SuffixRule}
 
 -- whether bytes begin with others
 abbrev pub begins_with : List ℕ → List ℕ → Bool

@@ -2,12 +2,12 @@
 
 ghost use Rattle.std.specs.Prelude.{◌≡◌, ℕ, List, Option, IfOk, flat_map, option_copied, unwrap_or, []};
 ghost use Rattle.cc_names.specs.Answers.{Gives};
-ghost use Rattle.make_text.specs.Contents.{unless_too_long, expansion};
-ghost use Rattle.make_text.specs.Grammar.{makefile_of};
-ghost use Rattle.make_text.specs.Serving.{prerequisites_of};
-ghost use Rattle.make_text.specs.Statements.{macros_of};
-ghost use Rattle.make_text.specs.WordPaths.{each_once};
-ghost use Rattle.make_text.specs.Macros.{Expansion, is_among, in_script};
+ghost use Rattle.make_grammar.specs.Contents.{unless_too_long, expansion};
+ghost use Rattle.make_grammar.specs.Grammar.{makefile_of};
+ghost use Rattle.make_grammar.specs.Serving.{prerequisites_of};
+ghost use Rattle.make_grammar.specs.Statements.{macros_of};
+ghost use Rattle.make_grammar.specs.WordPaths.{each_once};
+ghost use Rattle.make_grammar.specs.Macros.{Expansion, is_among, in_script};
 ghost use Rattle.make_text.specs.Steps.{automatic_of, IsExpandedText};
 
 use crate::endings::checked;
@@ -21,6 +21,7 @@ use cc_names::paths::Path;
 use cc_names::refusals::MakeError;
 use cc_names::texts::Text;
 use indexmap::IndexSet;
+pub use make_grammar::contents::Expanded;
 use std::alloc::Global;
 use std::hash::RandomState;
 use std::marker::Model;
@@ -36,15 +37,6 @@ pub trait Texts {
         ensures { option_copied result ≡ texts self.now path.now };
 }
 
-/// A script whose macros were expanded.
-#[derive(Debug, Drop)]
-pub enum Expanded {
-    /// It passes 65,536 bytes.
-    TooLong,
-    /// Its lines, each ended by a newline.
-    Lines(Text),
-}
-
 /// A makefile. Contracts see it as what it says.
 #[derive(Drop)]
 pub struct Makefile {
@@ -58,10 +50,10 @@ pub struct Makefile {
 
 impl Model for Makefile {
     ghost use Rattle.std.specs.Prelude.{◌≡◌, flat_map};
-    ghost use Rattle.make_text.specs.Contents.{Contents};
-    ghost use Rattle.make_text.specs.Serving.{prerequisites_of};
-    ghost use Rattle.make_text.specs.Statements.{macros_of};
-    ghost use Rattle.make_text.specs.WordPaths.{each_once};
+    ghost use Rattle.make_grammar.specs.Contents.{Contents};
+    ghost use Rattle.make_grammar.specs.Serving.{prerequisites_of};
+    ghost use Rattle.make_grammar.specs.Statements.{macros_of};
+    ghost use Rattle.make_grammar.specs.WordPaths.{each_once};
 
     ghost Value = { Contents };
 

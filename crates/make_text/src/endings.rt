@@ -2,13 +2,13 @@
 
 ghost use Rattle.std.specs.Prelude.{◌≡◌, IfOk, filter, flat_map, not, reverse};
 ghost use Rattle.cc_names.specs.Answers.{Gives};
-ghost use Rattle.make_text.specs.Contents.{groups_of, is_suffix_rule, joined_rules, suffix_rules_of};
-ghost use Rattle.make_text.specs.Grammar.{contents_of, ending_fault, phony_fault};
+ghost use Rattle.make_grammar.specs.Contents.{groups_of, is_suffix_rule, joined_rules, suffix_rules_of};
+ghost use Rattle.make_grammar.specs.Grammar.{contents_of, ending_fault, phony_fault};
 ghost use Rattle.make_text.specs.Endings.{checked_reading};
 ghost use Rattle.make_text.specs.Joining.{KnowsGroups, rules_of};
 ghost use Rattle.make_text.specs.MacroChecks.{Finds};
-ghost use Rattle.make_text.specs.Serving.{prerequisites_of};
-ghost use Rattle.make_text.specs.WordPaths.{each_once};
+ghost use Rattle.make_grammar.specs.Serving.{prerequisites_of};
+ghost use Rattle.make_grammar.specs.WordPaths.{each_once};
 
 use crate::contents::Makefile;
 use crate::gathering::gather;

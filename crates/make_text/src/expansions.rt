@@ -1,10 +1,10 @@
 //! What a text expands to, by the macros of a makefile.
 
 ghost use Rattle.std.specs.Prelude.{◌≡◌, ◌<◌, IfOk, [], length, replicate};
-ghost use Rattle.make_text.specs.Macros.{Expansion, plain, expansion_of, is_too_long};
+ghost use Rattle.make_grammar.specs.Macros.{Expansion, plain, expansion_of, is_too_long};
 ghost use Rattle.make_text.specs.Runs.{HasNamesApart, len_in};
 ghost use Rattle.make_text.specs.States.{state_at};
-ghost use Rattle.make_text.specs.Statements.{macros_of};
+ghost use Rattle.make_grammar.specs.Statements.{macros_of};
 ghost use Rattle.make_text.specs.Steps.{automatic_of, IsRunning, work_of, EndsSafely, MacroEnded, RefersSafely, Referred, Took, Went, FallsBelow, IsSomeRun, IsExpandedText};
 ghost use Rattle.make_text.specs.declared.states.State.TheVariants as variants;
 

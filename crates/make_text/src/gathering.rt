@@ -3,8 +3,8 @@
 ghost use Rattle.std.specs.Prelude.{◌≡◌, true, false, IfOk, OnOk, flat_map, fold, slice_get, slice_set, unwrap_or};
 ghost use Rattle.make_text.specs.Gathering.{prerequisites_at, HasPut};
 ghost use Rattle.make_text.specs.Joining.{rule_of, rules_of};
-ghost use Rattle.make_text.specs.Serving.{prerequisites_of};
-ghost use Rattle.make_text.specs.WordPaths.{with_path, each_once};
+ghost use Rattle.make_grammar.specs.Serving.{prerequisites_of};
+ghost use Rattle.make_grammar.specs.WordPaths.{with_path, each_once};
 
 use crate::joining::JoinedRule;
 use crate::kept_lines::RuleLine;

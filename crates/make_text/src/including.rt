@@ -2,15 +2,15 @@
 
 ghost use Rattle.std.specs.Prelude.{◌≡◌, OnOk};
 ghost use Rattle.cc_names.specs.Answers.{Gives};
-ghost use Rattle.make_text.specs.Grammar.{lines_behind, lines_read};
-ghost use Rattle.make_text.specs.LogicalLines.{logical_lines};
+ghost use Rattle.make_grammar.specs.Grammar.{lines_behind, lines_read};
+ghost use Rattle.make_grammar.specs.LogicalLines.{logical_lines};
 ghost use Rattle.make_text.specs.ReadingSteps.{Leaves, counted_line_read};
 ghost use Rattle.make_text.specs.Readers.{Keeps};
-ghost use Rattle.make_text.specs.Statements.{included, include_line, read_line, read_lines};
+ghost use Rattle.make_grammar.specs.Statements.{included, include_line, read_line, read_lines};
 
 use crate::contents::Texts;
 use crate::line_kinds::{Kind, line_kind, trimmed, without_comment};
-use crate::logical_lines::{LogicalLine, LogicalLines};
+use crate::logical_lines::LogicalLines;
 use crate::readers::Reader;
 use crate::readings::{Reading, fault_at};
 use crate::words::is_script_line;
@@ -18,6 +18,7 @@ use cc_names::commands::Macro;
 use cc_names::memory::Or;
 use cc_names::paths::Path;
 use cc_names::refusals::{MakeCause, MakeError};
+use make_grammar::logical_lines::LogicalLine;
 use std::alloc::Global;
 use std::hash::RandomState;
 use std::rc::Rc;

@@ -1,9 +1,9 @@
 //! The rules that rule lines are joined to.
 
 ghost use Rattle.std.specs.Prelude.{◌≡◌, ◌<◌, ◌^◌, ◌-◌, ◌∷◌, [], Some, true, IfOk, OnOk, find, length, option_copied, slice_get};
-ghost use Rattle.make_text.specs.Contents.{groups_of, made_with, with_rule_line, joined_rules};
+ghost use Rattle.make_grammar.specs.Contents.{groups_of, made_with, with_rule_line, joined_rules};
 ghost use Rattle.make_text.specs.Joining.{joined_at, rule_of, rules_of, KnowsJoined, made_together, KnowsGroups, HasJoined, HasNew, HasLonger, HasTarget};
-ghost use Rattle.make_text.specs.Macros.{is_among};
+ghost use Rattle.make_grammar.specs.Macros.{is_among};
 
 use crate::kept_lines::RuleLine;
 use crate::numbers::{Numbers, number, number_all, put};

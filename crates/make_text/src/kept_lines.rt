@@ -1,7 +1,7 @@
 //! The rule lines that were read.
 
 ghost use Rattle.std.specs.Prelude.{◌≡◌, ◌&&◌, [], ◌∷◌, ◌++◌, drop, None, IfOk, OnOk, is_some, option_copied, option_map, unwrap_or};
-ghost use Rattle.make_text.specs.Statements.{with_script_line};
+ghost use Rattle.make_grammar.specs.Statements.{with_script_line};
 
 use cc_names::copies::Copied;
 use cc_names::lists::List;
@@ -26,7 +26,7 @@ pub(crate) struct RuleLine {
 
 impl Model for RuleLine {
     ghost use Rattle.std.specs.Option.{option_map};
-    ghost use Rattle.make_text.specs.Contents.{RuleLine};
+    ghost use Rattle.make_grammar.specs.Contents.{RuleLine};
 
     ghost Value = { RuleLine };
 

@@ -1,15 +1,13 @@
-//! Makefiles, in the subset of POSIX make that the builds here use: what a makefile says, and the units of a build.
+//! The reader of makefiles, in the subset of POSIX make that the builds here use.
 //!
 //! What it is for: `contents::Makefile::read` reads a makefile with the files that it includes and the macros of the command
-//! line, and `expand` a script of it. The definition of the list of units, and of the refusals that come in its place, stands
-//! here too, for the crates above.
+//! line, and `expand` a script of it.
 //!
 //! What it promises: texts are read as a makefile exactly where its grammar says so, with the first line that fails, in its
-//! file, and the cause; and a script expands as defined. By law every makefile that is read is formed, and over any such makefile
-//! the units of a build are in order and formed.
+//! file, and the cause; and a script expands as defined.
 //!
-//! What it stands on: `cc_names` for paths, texts, units and causes, and for the lines of a text and their words;
-//! `indexmap` for macros by name and for paths in order, each once.
+//! What it stands on: `make_grammar` for the definitions; `cc_names` for paths, texts, units and causes, and for the lines of a
+//! text and their words; `indexmap` for macros by name and for paths in order, each once.
 #![tactic(auto)]
 
 pub mod contents;
@@ -19,7 +17,6 @@ mod gathering;
 mod including;
 mod joining;
 mod kept_lines;
-pub mod laws;
 mod line_kinds;
 mod logical_lines;
 mod macro_checks;
@@ -33,6 +30,5 @@ pub mod rules;
 mod special_targets;
 mod states;
 mod suffix_rules;
-pub mod walks;
 pub mod word_paths;
 mod words;

@@ -2,13 +2,14 @@
 
 ghost use Rattle.std.specs.Prelude.{◌≡◌, ◌<◌, ◌+◌, [], option_copied, IfSome, length, take, drop, slice_index};
 ghost use Rattle.std.specs.List.{position};
-ghost use Rattle.make_text.specs.LineKinds.{is_hash, without_comment, trimmed, behind_include, behind_byte, is_within, decides, decided, kind_from, line_kind};
-ghost use Rattle.make_text.specs.declared.line_kinds.Position.TheVariants.{Outside};
+ghost use Rattle.make_grammar.specs.LineKinds.{is_hash, without_comment, trimmed, behind_include, behind_byte, is_within, decides, decided, kind_from, line_kind};
+ghost use Rattle.make_grammar.specs.declared.line_kinds.Position.TheVariants.{Outside};
 ghost use Rattle.make_text.specs.SeenKinds.{seen, onto, past_end_blanks};
 
 use crate::logical_lines::past_blanks;
 use crate::words::is_blank_line;
 use cc_names::cuts::is_blank;
+use make_grammar::line_kinds::Position;
 
 /// What a line is. A line of a kind has both sides of the byte that decides it.
 #[derive(Drop)]
@@ -25,17 +26,6 @@ pub(crate) enum Kind<'a> {
     Unclosed,
     /// None of these.
     Neither,
-}
-
-/// Where a byte stands by the macro references.
-#[derive(Clone, Copy, Drop)]
-pub(crate) enum Position {
-    /// Outside them.
-    Outside,
-    /// Directly behind a `$`.
-    Dollar,
-    /// Before this byte, which closes one.
-    Within(u8),
 }
 
 fn first_hash(line: &[u8]) -> Option<usize>

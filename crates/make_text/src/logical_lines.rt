@@ -3,21 +3,15 @@
 ghost use Rattle.std.specs.Prelude.{◌≡◌, ◌<◌, ◌∷◌, [], IfOk, MatchOption, Some, true, false, length};
 ghost use Rattle.std.specs.List.{slice_split};
 ghost use Rattle.cc_names.specs.Cuts.{is_newline};
-ghost use Rattle.make_text.specs.LogicalLines.{next_number, past_blanks, lines_from, logical_lines};
+ghost use Rattle.make_grammar.specs.LogicalLines.{next_number, past_blanks, lines_from, logical_lines};
 ghost use Rattle.make_text.specs.JoinedLines.{CutsLine, CutsBackslash, JoinsLine};
 
 use cc_names::cuts::{first_newline, is_blank};
 use cc_names::memory::NoMemory;
 use cc_names::texts::Text;
+use make_grammar::logical_lines::LogicalLine;
 use std::alloc::Global;
 use std::marker::Model;
-
-/// A line, with what a backslash before its newline joins to it, and the number of its first line.
-#[derive(Drop)]
-pub(crate) struct LogicalLine {
-    pub(crate) number: u32,
-    pub(crate) bytes: Text,
-}
 
 /// The logical lines that are left of a text. Contracts see them as their list.
 pub(crate) struct LogicalLines<'a> {
@@ -29,8 +23,8 @@ impl<'a> Model for LogicalLines<'a> {
     ghost use Rattle.std.specs.Prelude.{List, false};
     ghost use Rattle.std.specs.List.{slice_split};
     ghost use Rattle.cc_names.specs.Cuts.{is_newline};
-    ghost use Rattle.make_text.specs.LogicalLines.{lines_from};
-    ghost use Rattle.make_text.specs.declared.logical_lines.LogicalLine.{LogicalLine};
+    ghost use Rattle.make_grammar.specs.LogicalLines.{lines_from};
+    ghost use Rattle.make_grammar.specs.declared.logical_lines.LogicalLine.{LogicalLine};
 
     ghost Value = { List LogicalLine };
 

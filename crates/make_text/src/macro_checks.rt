@@ -1,11 +1,11 @@
 //! What is tested of each macro behind the last line: whether its expansion is too long, or meets itself.
 
 ghost use Rattle.std.specs.Prelude.{◌≡◌, ◌<◌, ◌-◌, [], IfOk, length};
-ghost use Rattle.make_text.specs.Grammar.{macros_fault};
+ghost use Rattle.make_grammar.specs.Grammar.{macros_fault};
 ghost use Rattle.make_text.specs.MacroChecks.{AtEndUnless, RunsTo, Finds, macro_fault_of};
-ghost use Rattle.make_text.specs.Macros.{Expansion};
+ghost use Rattle.make_grammar.specs.Macros.{Expansion};
 ghost use Rattle.make_text.specs.Runs.{HasNamesApart, macro_at};
-ghost use Rattle.make_text.specs.Statements.{macros_of, expansion_fault};
+ghost use Rattle.make_grammar.specs.Statements.{macros_of, expansion_fault};
 ghost use Rattle.make_text.specs.Steps.{automatic_of, IsAtEnd, IsRunning, IsSomeRun};
 
 use crate::expansions::{Automatic, EXPANSION_LIMIT, Expanding, Step};

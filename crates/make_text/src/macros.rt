@@ -4,7 +4,7 @@ ghost use Rattle.std.specs.Prelude.{◌≡◌, ◌<◌, ◌&&◌, not, IfOk, OnO
 ghost use Rattle.make_text.specs.MacroChecks.{definition_at};
 ghost use Rattle.make_text.specs.MacroEntries.{definition_in};
 ghost use Rattle.make_text.specs.Runs.{macro_at, HasNamesApart, IsFound};
-ghost use Rattle.make_text.specs.Statements.{macros_of, has_fixed, with_definition};
+ghost use Rattle.make_grammar.specs.Statements.{macros_of, has_fixed, with_definition};
 
 use cc_names::memory::NoMemory;
 use cc_names::paths::Path;
@@ -58,7 +58,7 @@ pub(crate) struct MacroTable {
 
 impl Model for MacroTable {
     ghost use Rattle.std.specs.Prelude.{List};
-    ghost use Rattle.make_text.specs.Statements.{Definition};
+    ghost use Rattle.make_grammar.specs.Statements.{Definition};
     ghost use Rattle.make_text.specs.MacroEntries.{definitions_in};
 
     ghost Value = { List Definition };

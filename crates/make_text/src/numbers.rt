@@ -4,7 +4,7 @@ ghost use Rattle.std.specs.Prelude.{◌≡◌, ◌<◌, ◌^◌, ℕ, List, OnOk
 ghost use Rattle.std.specs.HashMap.{get};
 ghost use Rattle.std.specs.Str.{bytes_eq};
 ghost use Rattle.make_text.specs.Joining.{made_together};
-ghost use Rattle.make_text.specs.Numbers.{number_from};
+ghost use Rattle.make_grammar.specs.Numbers.{number_from};
 ghost use Rattle.make_text.specs.Numbered.{with_number, with_numbers};
 
 use crate::kept_lines::RuleLine;

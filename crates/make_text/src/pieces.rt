@@ -2,8 +2,8 @@
 
 ghost use Rattle.std.specs.Prelude.{◌≡◌, ◌<◌, ◌==◌, ◌∷◌, [], IfSome, length, slice_index};
 ghost use Rattle.std.specs.List.{list_all, position};
-ghost use Rattle.make_text.specs.Lines.{is_dollar};
-ghost use Rattle.make_text.specs.Macros.{is_word_byte, is_macro_byte, is_macro_name, is_automatic, single, named, Dollar, Name, has_bad_dollar};
+ghost use Rattle.make_grammar.specs.Lines.{is_dollar};
+ghost use Rattle.make_grammar.specs.Macros.{is_word_byte, is_macro_byte, is_macro_name, is_automatic, single, named, Dollar, Name, has_bad_dollar};
 ghost use Rattle.make_text.specs.Scanning.{pieces_in, CutsFrom, CutsPart};
 
 /// A part of a text: bytes that stand for themselves, or a reference.

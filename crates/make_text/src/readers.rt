@@ -1,16 +1,16 @@
 //! A makefile that is being read, and the lines that include no file.
 
 ghost use Rattle.std.specs.Prelude.{◌≡◌, ℕ, List, IfOk, OnOk, Some, true};
-ghost use Rattle.make_text.specs.Grammar.{nothing_read, with_overrides};
-ghost use Rattle.make_text.specs.Macros.{is_among};
+ghost use Rattle.make_grammar.specs.Grammar.{nothing_read, with_overrides};
+ghost use Rattle.make_grammar.specs.Macros.{is_among};
 ghost use Rattle.make_text.specs.ReadingSteps.{Leaves, counted_file};
 ghost use Rattle.make_text.specs.Readers.{Keeps, older_of, open_rule, script_tested, OpensInclude};
-ghost use Rattle.make_text.specs.Statements.{assignment, override, has_twice, is_scripted, is_second_script, rule_line, script_line, with_rule, within_limits};
+ghost use Rattle.make_grammar.specs.Statements.{assignment, override, has_twice, is_scripted, is_second_script, rule_line, script_line, with_rule, within_limits};
 
 use crate::kept_lines::RuleLine;
 use crate::pieces::has_bad_dollar;
 use crate::readings::{Reading, fault_at};
-use crate::rule_lines::{RuleWords, read_include_line, read_rule_line};
+use crate::rule_lines::{read_include_line, read_rule_line};
 use crate::special_targets::{has_some, put_paths};
 use crate::words::is_blank_line;
 use cc_names::commands::Macro;
@@ -19,6 +19,7 @@ use cc_names::memory::{NoMemory, Or};
 use cc_names::paths::Path;
 use cc_names::refusals::{MakeCause, MakeError};
 use indexmap::IndexSet;
+use make_grammar::rule_lines::RuleWords;
 use std::alloc::Global;
 use std::hash::RandomState;
 use std::rc::Rc;

@@ -2,15 +2,15 @@
 
 ghost use Rattle.std.specs.Prelude.{◌≡◌, ◌+◌, IfOk, OnOk, option_copied, reverse, slice_get};
 ghost use Rattle.cc_names.specs.Answers.{FaultIs};
-ghost use Rattle.make_text.specs.Grammar.{nothing_read};
+ghost use Rattle.make_grammar.specs.Grammar.{nothing_read};
 ghost use Rattle.make_text.specs.MacroEntries.{definition_in};
 ghost use Rattle.make_text.specs.Readers.{open_rule};
 ghost use Rattle.make_text.specs.ReadingSteps.{Leaves, counted_line, counted_file, with_defined, ended_rule, with_special, with_newest_line, line_of_words, with_next_rule};
-ghost use Rattle.make_text.specs.Statements.{fault_at, assignment, override, with_rule, within_limits};
+ghost use Rattle.make_grammar.specs.Statements.{fault_at, assignment, override, with_rule, within_limits};
 
 use crate::kept_lines::RuleLine;
 use crate::macros::{Defined, MacroTable};
-use crate::rule_lines::{RuleWords, macro_fault};
+use crate::rule_lines::macro_fault;
 use crate::special_targets::{
     first_suffixes, has_special, is_named, plain_targets, put_paths, put_suffixes,
 };
@@ -20,6 +20,7 @@ use cc_names::paths::Path;
 use cc_names::refusals::{MakeCause, MakeError};
 use cc_names::texts::Text;
 use indexmap::IndexSet;
+use make_grammar::rule_lines::RuleWords;
 use std::alloc::Global;
 use std::hash::RandomState;
 use std::marker::Model;
@@ -47,7 +48,7 @@ pub(crate) struct Reading {
 
 impl Model for Reading {
     ghost use Rattle.std.specs.Prelude.{reverse};
-    ghost use Rattle.make_text.specs.Statements.{Reading};
+    ghost use Rattle.make_grammar.specs.Statements.{Reading};
 
     ghost Value = { Reading };
 

@@ -6,10 +6,10 @@ ghost use Rattle.std.specs.Str.{bytes_eq};
 ghost use Rattle.cc_names.specs.Answers.{Gives};
 ghost use Rattle.cc_names.specs.Cuts.{words_of};
 ghost use Rattle.cc_names.specs.declared.refusals.MakeCause.TheVariants as causes;
-ghost use Rattle.make_text.specs.Lines.{is_byte};
-ghost use Rattle.make_text.specs.Macros.{Expansion, followed, plain, is_among, is_macro_name, has_bad_dollar, expansion_of, no_automatic};
+ghost use Rattle.make_grammar.specs.Lines.{is_byte};
+ghost use Rattle.make_grammar.specs.Macros.{Expansion, followed, plain, is_among, is_macro_name, has_bad_dollar, expansion_of, no_automatic};
 ghost use Rattle.make_text.specs.Steps.{IsExpandedText};
-ghost use Rattle.make_text.specs.Statements.{macros_of, expanded_by, or_cause, where_so, macro_fault, expansion_fault, is_special, suffixes_name, is_suffix_byte, is_suffix, is_grouped, before_mark, mark_of, is_semicolon, rule_bytes_fault, line_words_fault, rule_words, include_words_fault, include_words};
+ghost use Rattle.make_grammar.specs.Statements.{macros_of, expanded_by, or_cause, where_so, macro_fault, expansion_fault, is_special, suffixes_name, is_suffix_byte, is_suffix, is_grouped, before_mark, mark_of, is_semicolon, rule_bytes_fault, line_words_fault, rule_words, include_words_fault, include_words};
 ghost use Rattle.make_text.specs.RuleLines.{below_root, rule_of_paths, rule_of_words, rule_of_sides, expanded_sides};
 
 use crate::expansions::{Automatic, EXPANSION_LIMIT, ExpandedText, expand};
@@ -23,15 +23,8 @@ use cc_names::names::is_name_byte;
 use cc_names::paths::Path;
 use cc_names::refusals::MakeCause;
 use cc_names::texts::Text;
+use make_grammar::rule_lines::RuleWords;
 use std::alloc::Global;
-
-/// The words of a rule line, and whether its targets are made together. All of them are paths below the root.
-#[derive(Drop)]
-pub(crate) struct RuleWords {
-    pub(crate) is_group: bool,
-    pub(crate) targets: List<Path>,
-    pub(crate) prerequisites: List<Path>,
-}
 
 /// The fault of a macro's name and value.
 pub(crate) fn macro_fault(name: &[u8], value: &[u8]) -> Option<MakeCause>

@@ -1,7 +1,7 @@
 //! The rules of a makefile.
 
 ghost use Rattle.std.specs.Prelude.{◌≡◌, ◌==◌, ◌&&◌, [], IfOk, OnOk, is_some, length, option_copied, option_map};
-ghost use Rattle.make_text.specs.Contents.{rule_without, with_line};
+ghost use Rattle.make_grammar.specs.Contents.{rule_without, with_line};
 
 use crate::kept_lines::RuleLine;
 use crate::special_targets::put_paths;
@@ -30,8 +30,8 @@ pub struct MakeRule {
 impl Model for MakeRule {
     ghost use Rattle.std.specs.Prelude.{map};
     ghost use Rattle.std.specs.Option.{option_map};
-    ghost use Rattle.make_text.specs.Rules.{MakeRule};
-    ghost use Rattle.make_text.specs.WordPaths.{once_joined};
+    ghost use Rattle.make_grammar.specs.Rules.{MakeRule};
+    ghost use Rattle.make_grammar.specs.WordPaths.{once_joined};
 
     ghost Value = { MakeRule };
 
@@ -53,7 +53,7 @@ pub struct SuffixRule {
 }
 
 impl Model for SuffixRule {
-    ghost use Rattle.make_text.specs.Rules.{SuffixRule};
+    ghost use Rattle.make_grammar.specs.Rules.{SuffixRule};
 
     ghost Value = { SuffixRule };
 

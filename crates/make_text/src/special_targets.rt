@@ -2,10 +2,10 @@
 
 ghost use Rattle.std.specs.Prelude.{◌≡◌, IfOk, OnOk, fold, filter, not};
 ghost use Rattle.std.specs.List.{list_any};
-ghost use Rattle.make_text.specs.Grammar.{first_suffixes};
-ghost use Rattle.make_text.specs.Macros.{is_among};
-ghost use Rattle.make_text.specs.WordPaths.{with_path};
-ghost use Rattle.make_text.specs.Statements.{is_special, plain_targets, with_suffixes};
+ghost use Rattle.make_grammar.specs.Grammar.{first_suffixes};
+ghost use Rattle.make_grammar.specs.Macros.{is_among};
+ghost use Rattle.make_grammar.specs.WordPaths.{with_path};
+ghost use Rattle.make_grammar.specs.Statements.{is_special, plain_targets, with_suffixes};
 
 use crate::rule_lines::is_special;
 use crate::word_paths::{each_once, read_paths};

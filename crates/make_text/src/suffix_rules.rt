@@ -3,10 +3,10 @@
 ghost use Rattle.std.specs.Prelude.{◌≡◌, ◌++◌, [], IfOk, OnOk, filter, flat_map, map, option_copied, unwrap_or};
 ghost use Rattle.std.specs.List.{list_any};
 ghost use Rattle.std.specs.Str.{bytes_eq};
-ghost use Rattle.make_text.specs.Contents.{groups_of, is_pair_of, is_suffix_rule, suffix_rule_of, suffix_rules_of};
+ghost use Rattle.make_grammar.specs.Contents.{groups_of, is_pair_of, is_suffix_rule, suffix_rule_of, suffix_rules_of};
 ghost use Rattle.make_text.specs.Joining.{KnowsGroups};
 ghost use Rattle.make_text.specs.SuffixRules.{is_pair_from, is_in_group, is_suffix_target, behind_front, begins_from, begins_with, suffix_rules_from};
-ghost use Rattle.make_text.specs.Macros.{is_among};
+ghost use Rattle.make_grammar.specs.Macros.{is_among};
 
 use crate::joining::group;
 use crate::kept_lines::RuleLine;

@@ -1,7 +1,7 @@
 //! Words as paths.
 
 ghost use Rattle.std.specs.Prelude.{◌≡◌, IfOk, map, option_map};
-ghost use Rattle.make_text.specs.WordPaths.{path_in, paths_of, each_once};
+ghost use Rattle.make_grammar.specs.WordPaths.{path_in, paths_of, each_once};
 
 use cc_names::lists::List;
 use cc_names::memory::{NoMemory, Or};

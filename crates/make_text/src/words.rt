@@ -2,7 +2,7 @@
 
 ghost use Rattle.std.specs.Prelude.{◌≡◌, IfOk, map};
 ghost use Rattle.cc_names.specs.Cuts.{is_blank, words_of};
-ghost use Rattle.make_text.specs.Lines.{is_script_line, is_blank_line};
+ghost use Rattle.make_grammar.specs.Lines.{is_script_line, is_blank_line};
 
 use cc_names::cuts::{Words, is_blank};
 use std::alloc::{AllocError, Global};

@@ -5,7 +5,7 @@ use Rattle.std.specs.Prelude.{is_some, bytes_eq, if◌then◌else◌}
 use Rattle.cc_names.specs.Files.{Files}
 use Rattle.cc_names.specs.declared.steps.UnitEnd.TheVariants.{Kept}
 use Rattle.cc_names.specs.declared.units.Unit.{Unit}
-use Rattle.build_script.specs.Run.{run}
+use Rattle.script_grammar.specs.Run.{run}
 use Rattle.legal_history.specs.Base.Rows.{Base, first_rows, only_where}
 use Rattle.legal_history.specs.Builds.Active.{Build, Came, Started, Concluded, Given, object_of}
 use Rattle.legal_history.specs.Builds.Choices.{unit_of_member, object_among, text_of_row, visible, here}

@@ -6,14 +6,14 @@ use Rattle.cc_names.specs.declared.commands.Macro.{Macro}
 use Rattle.cc_names.specs.declared.refusals.GraphFault.{GraphFault}
 use Rattle.cc_names.specs.declared.refusals.MakeError.{MakeError}
 use Rattle.cc_names.specs.declared.units.Unit.{Unit}
-use Rattle.make_text.specs.Contents.{Contents}
-use Rattle.make_text.specs.Grammar.{makefile_of}
-use Rattle.make_text.specs.Graphs.{graph_of, units_of, units_at, units}
-use Rattle.make_text.specs.Numbers.{number_from as number_of}
-use Rattle.make_text.specs.UnitLaws.{IsFormed, InOrder as AreOrdered, made_by_unit}
-use Rattle.make_text.specs.Units.{unless_refused, main_file}
-use Rattle.make_text.proofs.FormedMakefiles.{makefiles_are_formed}
-use Rattle.make_text.proofs.UnitLaws as laws
+use Rattle.make_grammar.specs.Contents.{Contents}
+use Rattle.make_grammar.specs.Grammar.{makefile_of}
+use Rattle.make_grammar.specs.Graphs.{graph_of, units_of, units_at, units}
+use Rattle.make_grammar.specs.Numbers.{number_from as number_of}
+use Rattle.make_grammar.specs.UnitLaws.{IsFormed, InOrder as AreOrdered, made_by_unit}
+use Rattle.make_grammar.specs.Units.{unless_refused, main_file}
+use Rattle.make_grammar.proofs.FormedMakefiles.{makefiles_are_formed}
+use Rattle.make_grammar.proofs.UnitLaws as laws
 use Rattle.legal_history.specs.Builds.Active.{number_from}
 use Rattle.legal_history.specs.Base.Closures.{is_among}
 use Rattle.legal_history.specs.Builds.Consistency.{InOrder}

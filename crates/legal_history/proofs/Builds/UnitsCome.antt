@@ -8,8 +8,8 @@ use Rattle.cc_names.specs.declared.rows.Tag.{Tag}
 use Rattle.cc_names.specs.declared.steps.UnitEnd.{UnitEnd}
 use Rattle.cc_names.specs.declared.steps.UnitEnd.TheVariants as ends
 use Rattle.cc_names.specs.declared.units.Unit.{Unit}
-use Rattle.build_script.specs.Lines.{script_of}
-use Rattle.build_script.specs.declared.lines.Line.{Line}
+use Rattle.script_grammar.specs.Lines.{script_of}
+use Rattle.script_grammar.specs.declared.lines.Line.{Line}
 use Rattle.legal_history.specs.Base.Rows.{Base, size, first_rows}
 use Rattle.legal_history.specs.Builds.Active.{Build, Started, Concluded, Given, build_of, came_to, is_outcome, object_of, unit_at}
 use Rattle.legal_history.specs.Builds.Choices.{here, text_of_row, visible}

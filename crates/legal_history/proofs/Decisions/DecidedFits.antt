@@ -20,7 +20,7 @@ use Rattle.cc_names.specs.declared.rows.Kind.TheVariants.{File, Directory}
 use Rattle.cc_names.specs.declared.rows.Placed.{Placed}
 use Rattle.cc_names.specs.declared.rows.TypeKind.TheVariants as type_kinds
 use Rattle.cc_names.specs.declared.units.Unit.{Unit}
-use Rattle.make_text.specs.Graphs.{units}
+use Rattle.make_grammar.specs.Graphs.{units}
 use Rattle.legal_history.specs.Base.Rows.{Base, size}
 use Rattle.legal_history.specs.Commands.Found.{for_object}
 use Rattle.legal_history.specs.Commands.Tests.{needs_view}

@@ -18,7 +18,7 @@ use Rattle.cc_names.specs.declared.selection.Rule.{Rule}
 use Rattle.cc_names.specs.declared.selection.Seen.{Seen}
 use Rattle.cc_names.specs.declared.selection.Seen.TheVariants.{Private, Element, Unselected, Nothing}
 use Rattle.cc_names.specs.declared.units.Unit.{Unit}
-use Rattle.make_text.specs.Graphs.{units}
+use Rattle.make_grammar.specs.Graphs.{units}
 use Rattle.legal_history.specs.Base.Rows.{size}
 use Rattle.legal_history.specs.Builds.Active.{Active, building, reserved}
 use Rattle.legal_history.specs.Commands.CheckoutLines.{checkout_of, checkout_by_rule, checkout_tests, checkout_deed, branch_by, deciding_rule}

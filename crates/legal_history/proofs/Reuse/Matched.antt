@@ -8,9 +8,9 @@ use Rattle.cc_names.specs.declared.rows.Deed.{Deed}
 use Rattle.cc_names.specs.declared.rows.Deed.TheVariants as deeds
 use Rattle.cc_names.specs.declared.rows.ReadOf.{ReadOf}
 use Rattle.cc_names.specs.declared.units.Unit.{Unit}
-use Rattle.build_script.specs.Frame.{Agree}
-use Rattle.build_script.specs.Run.{Ran, run}
-use Rattle.build_script.proofs.FrameLemmas.{run_framed}
+use Rattle.script_grammar.specs.Frame.{Agree}
+use Rattle.script_grammar.specs.Run.{Ran, run}
+use Rattle.script_grammar.proofs.FrameLemmas.{run_framed}
 use Rattle.legal_history.specs.Base.Rows.{Base, first_rows, deed_at}
 use Rattle.legal_history.specs.Builds.Active.{Build}
 use Rattle.legal_history.specs.Base.Changes.{targets_of, targets_of_deed}

@@ -5,7 +5,7 @@ use Rattle.cc_names.specs.Formed.{Plain}
 use Rattle.cc_names.specs.declared.rows.Deed.{Deed}
 use Rattle.cc_names.specs.declared.rows.Deed.TheVariants as deeds
 use Rattle.cc_names.specs.declared.rows.ReadOf.{ReadOf}
-use Rattle.build_script.specs.Run.{Ran, run}
+use Rattle.script_grammar.specs.Run.{Ran, run}
 use Rattle.legal_history.specs.Base.Rows.{Base, size, row_at, deed_of, deed_at}
 use Rattle.legal_history.specs.Base.Changes.{targets_of_deed}
 use Rattle.legal_history.specs.Base.Closures.{entries_of_deed, is_publish_deed}

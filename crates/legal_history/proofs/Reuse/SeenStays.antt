@@ -1,7 +1,7 @@
 -- What a unit of a consistent build sees, and what its run gives on it, stays when rows are added.
 use Rattle.std.proofs.Common.{◌≡◌, refl, ap, sym, subst, ◌∙◌, ℕ, ◌<◌, Option, Some, None, List, ◌++◌}
 use Rattle.cc_names.specs.declared.units.Unit.{Unit}
-use Rattle.build_script.specs.Run.{run}
+use Rattle.script_grammar.specs.Run.{run}
 use Rattle.legal_history.specs.Base.Rows.{Base, size, first_rows}
 use Rattle.legal_history.specs.Builds.Active.{Build}
 use Rattle.legal_history.specs.Builds.Choices.{here, text_of_row, visible, visible_in}

@@ -6,7 +6,7 @@ use Rattle.cc_names.specs.declared.commands.Command.TheVariants as commands
 use Rattle.cc_names.specs.declared.refusals.Refusal.{Refusal}
 use Rattle.cc_names.specs.declared.rows.Tag.{Tag}
 use Rattle.cc_names.specs.declared.units.Unit.{Unit}
-use Rattle.make_text.specs.Graphs.{units}
+use Rattle.make_grammar.specs.Graphs.{units}
 use Rattle.legal_history.specs.Builds.Active.{Active, Build, Came, build_of, building}
 use Rattle.legal_history.specs.Commands.Decisions.{Scene, Begins, first_refusal}
 use Rattle.legal_history.specs.Builds.Fresh.{texts}

@@ -14,7 +14,7 @@ use Rattle.cc_names.specs.declared.steps.Step.TheVariants as steps
 use Rattle.cc_names.specs.declared.steps.StoryStep.{StoryStep}
 use Rattle.cc_names.specs.declared.steps.StoryStep.TheVariants as story_steps
 use Rattle.cc_names.specs.declared.units.Unit.{Unit}
-use Rattle.make_text.specs.Graphs.{units}
+use Rattle.make_grammar.specs.Graphs.{units}
 use Rattle.legal_history.specs.Builds.Active.{Build, build_of}
 use Rattle.legal_history.specs.Stories.Committing.{FaultsAt, MakesRow}
 use Rattle.legal_history.specs.Commands.Decisions.{Answers, Begins, Decision, Makes, Scene, first_refusal, needs_room, unless_refused}

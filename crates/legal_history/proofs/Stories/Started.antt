@@ -4,7 +4,7 @@ use Rattle.std.specs.Bool.{⊤}
 use Rattle.std.specs.List.{AllByRecursion, list_any}
 use Rattle.std.specs.Option.{option_or}
 use Rattle.cc_names.specs.declared.units.Unit.{Unit}
-use Rattle.build_script.specs.Run.{run}
+use Rattle.script_grammar.specs.Run.{run}
 use Rattle.legal_history.specs.Base.Rows.{Base, first_rows, only_where}
 use Rattle.legal_history.specs.Builds.Active.{Build, is_outcome, object_of}
 use Rattle.legal_history.specs.Builds.Choices.{Member, unit_of_member, members_from, members_before, object_among, here, text_of_row, visible}

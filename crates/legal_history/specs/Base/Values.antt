@@ -8,7 +8,7 @@ use Rattle.cc_names.specs.declared.refusals.ScriptFault.{ScriptFault}
 use Rattle.cc_names.specs.declared.rows.Deed.{Deed}
 use Rattle.cc_names.specs.declared.rows.Deed.TheVariants as deeds
 use Rattle.cc_names.specs.declared.rows.ReadOf.{ReadOf}
-use Rattle.build_script.specs.Run.{Ran, run}
+use Rattle.script_grammar.specs.Run.{Ran, run}
 use Rattle.legal_history.specs.Base.Rows.{Base, size, deed_at, only_where}
 use Rattle.legal_history.specs.Base.Changes.{live, targets_of}
 use Rattle.legal_history.specs.Base.Closures.{is_publish}

@@ -9,7 +9,7 @@ use Rattle.cc_names.specs.declared.rows.Deed.TheVariants as deeds
 use Rattle.cc_names.specs.declared.rows.ReadOf.{ReadOf}
 use Rattle.cc_names.specs.declared.refusals.ScriptFault.{ScriptFault}
 use Rattle.cc_names.specs.declared.units.Unit.{Unit}
-use Rattle.build_script.specs.Run.{Ran, run}
+use Rattle.script_grammar.specs.Run.{Ran, run}
 use Rattle.legal_history.specs.Base.Rows.{Base, first_rows, only_where}
 use Rattle.legal_history.specs.Builds.Active.{Build, Came, came_to, object_of}
 use Rattle.legal_history.specs.Builds.Fresh.{script_text}

@@ -11,8 +11,8 @@ use Rattle.cc_names.specs.declared.steps.UnitEnd.TheVariants.{Failed}
 use Rattle.cc_names.specs.declared.units.Unit.{Unit}
 use Rattle.cc_names.specs.declared.units.UnitScript.{UnitScript}
 use Rattle.cc_names.specs.declared.units.UnitScript.TheVariants as scripts
-use Rattle.build_script.specs.Run.{run}
-use Rattle.make_text.specs.Graphs.{units}
+use Rattle.script_grammar.specs.Run.{run}
+use Rattle.make_grammar.specs.Graphs.{units}
 use Rattle.legal_history.specs.Base.Rows.{Base}
 use Rattle.legal_history.specs.Base.Seen.{file_at, directory_at}
 use Rattle.legal_history.specs.Builds.Serials.{Outcome, Made, Without, Finished, unit_of, early_end, standing_in, needed}

@@ -8,7 +8,7 @@ use Rattle.cc_names.specs.declared.steps.UnitEnd.TheVariants.{Kept, Failed, Bloc
 use Rattle.cc_names.specs.declared.units.Unit.{Unit}
 use Rattle.cc_names.specs.declared.units.UnitScript.{UnitScript}
 use Rattle.cc_names.specs.declared.units.UnitScript.TheVariants as scripts
-use Rattle.make_text.specs.Graphs.{first_target}
+use Rattle.make_grammar.specs.Graphs.{first_target}
 use Rattle.legal_history.specs.Base.Rows.{only_where}
 use Rattle.legal_history.specs.Base.Closures.{is_among}
 use Rattle.legal_history.specs.Commands.FileLines.{parent}

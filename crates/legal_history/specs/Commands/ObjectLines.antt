@@ -6,7 +6,7 @@ use Rattle.cc_names.specs.declared.commands.Macro.{Macro}
 use Rattle.cc_names.specs.declared.refusals.Refusal.{Refusal}
 use Rattle.cc_names.specs.declared.rows.Deed.TheVariants as deeds
 use Rattle.cc_names.specs.declared.units.Unit.{Unit}
-use Rattle.make_text.specs.Graphs.{units}
+use Rattle.make_grammar.specs.Graphs.{units}
 use Rattle.legal_history.specs.Base.Rows.{Base, size}
 use Rattle.legal_history.specs.Base.Changes.{held, live}
 use Rattle.legal_history.specs.Commands.Decisions.{Scene, Decision, first_refusal, makes, answers, begins}

@@ -1,6 +1,6 @@
 use Rattle.std.proofs.Common.{◌≡◌, ◌+◌, ◌-◌, ◌∷◌, [], ◌<◌, ◌==◌, false, ℕ, List, length, take, drop, ap, sym, ◌∙◌, arith}
 use Rattle.std.proofs.lemmas.Grind.{common_steps}
-use Rattle.build_script.specs.Forms.{lines_in}
+use Rattle.script_grammar.specs.Forms.{lines_in}
 use Rattle.build_script.proofs.FormLemmas.{lines_in-at, lines_in-none}
 use Rattle.build_script.proofs.forms.split_first_line.Goals as goal
 

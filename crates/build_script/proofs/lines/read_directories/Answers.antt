@@ -1,6 +1,6 @@
 use Rattle.std.proofs.Common.{◌≡◌, None, Some, Option, List, ℕ, ap, sym, ◌∙◌, map}
 use Rattle.cc_names.specs.Paths.{path_before}
-use Rattle.build_script.specs.Lines.{directory_of, directories_of}
+use Rattle.script_grammar.specs.Lines.{directory_of, directories_of}
 use Rattle.build_script.proofs.LineLemmas.{paths_onto, directories_cut, onto_path}
 use Rattle.build_script.proofs.lines.read_directories.Goals as goal
 

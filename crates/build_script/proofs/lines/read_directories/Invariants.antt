@@ -1,5 +1,5 @@
 use Rattle.std.proofs.Common.{◌≡◌, map}
-use Rattle.build_script.specs.Lines.{directories_of}
+use Rattle.script_grammar.specs.Lines.{directories_of}
 use Rattle.build_script.proofs.LineLemmas.{paths_onto}
 use Rattle.build_script.proofs.lines.read_directories.Given as goal
 

@@ -1,5 +1,5 @@
 use Rattle.std.proofs.Common.{◌≡◌, map, drop}
-use Rattle.build_script.specs.Lines.{paths_of}
+use Rattle.script_grammar.specs.Lines.{paths_of}
 use Rattle.build_script.proofs.LineLemmas.{paths_onto}
 use Rattle.build_script.proofs.lines.read_paths.Given as goal
 

@@ -1,5 +1,5 @@
 use Rattle.std.proofs.Common.{refl}
-use Rattle.build_script.proofs.CarriedLemmas.{carried_ask}
+use Rattle.script_grammar.proofs.CarriedLemmas.{carried_ask}
 use Rattle.build_script.proofs.making.ask.Goals as goal
 
 pub returns-in-Found : goal.returns-in-Found

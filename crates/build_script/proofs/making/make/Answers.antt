@@ -1,5 +1,5 @@
 use Rattle.std.proofs.Common.{sym}
-use Rattle.build_script.proofs.CarriedLemmas.{carried_as, and_then-done}
+use Rattle.script_grammar.proofs.CarriedLemmas.{carried_as, and_then-done}
 use Rattle.build_script.proofs.making.make.Goals as goal
 
 pub returns-in-Preprocess : goal.returns-in-Preprocess

@@ -1,9 +1,9 @@
 use Rattle.std.proofs.lemmas.Result.{err_from_is_err_and}
 use Rattle.build_script.specs.MadeOf.{made_of}
 use Rattle.build_script.specs.Making.{form_of, output_at}
-use Rattle.build_script.specs.Parts.{gives}
-use Rattle.build_script.specs.Run.{Done, said}
-use Rattle.build_script.proofs.CarriedLemmas.{carried_then, carried_failed, carried_pure}
+use Rattle.script_grammar.specs.Parts.{gives}
+use Rattle.script_grammar.specs.Run.{Done, said}
+use Rattle.script_grammar.proofs.CarriedLemmas.{carried_then, carried_failed, carried_pure}
 use Rattle.build_script.proofs.making.pour.Goals as goal
 
 pub returns-in_err-text : goal.returns-in_err-text

@@ -2,9 +2,9 @@ use Rattle.std.proofs.Common.{◌+◌, ℕ, List, map, drop, ap}
 use Rattle.std.proofs.lemmas.Result.{err_from_is_err_and}
 use Rattle.build_script.specs.MadeOf.{made_of}
 use Rattle.build_script.specs.Making.{form_of, output_at}
-use Rattle.build_script.specs.Parts.{own_of}
-use Rattle.build_script.specs.Run.{TextOf, with_parts}
-use Rattle.build_script.proofs.CarriedLemmas.{carried_step, carried_halt}
+use Rattle.script_grammar.specs.Parts.{own_of}
+use Rattle.script_grammar.specs.Run.{TextOf, with_parts}
+use Rattle.script_grammar.proofs.CarriedLemmas.{carried_step, carried_halt}
 use Rattle.build_script.proofs.RunLemmas.{item_at}
 use Rattle.build_script.proofs.making.pour_all.Goals as goal
 

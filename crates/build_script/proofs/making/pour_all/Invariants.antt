@@ -1,8 +1,8 @@
 use Rattle.std.proofs.Common.{ℕ, List, Ok, map, drop}
 use Rattle.build_script.specs.MadeOf.{made_of}
 use Rattle.build_script.specs.Making.{form_of, output_at}
-use Rattle.build_script.specs.Parts.{Performed, own_of}
-use Rattle.build_script.specs.Run.{TextOf, with_parts}
+use Rattle.script_grammar.specs.Parts.{Performed, own_of}
+use Rattle.script_grammar.specs.Run.{TextOf, with_parts}
 use Rattle.build_script.proofs.making.pour_all.Given as goal
 
 abbrev pub invariant-loop-path : goal.invariant-loop-path

@@ -1,10 +1,10 @@
 use Rattle.std.proofs.Common.{◌≡◌, ◌+◌, ◌-◌, ◌<◌, ◌++◌, ℕ, List, length, take, drop, sym, ap, ◌∙◌, arith, subst}
 use Rattle.std.proofs.lemmas.Result.{err_from_is_err_and}
 use Rattle.std.proofs.lemmas.Grind.{common_steps}
-use Rattle.build_script.specs.Forms.{replaced_behind}
+use Rattle.script_grammar.specs.Forms.{replaced_behind}
 use Rattle.build_script.specs.MadeOf.{made_of}
 use Rattle.build_script.specs.Making.{output_at}
-use Rattle.build_script.specs.Run.{said}
+use Rattle.script_grammar.specs.Run.{said}
 use Rattle.build_script.proofs.FormLemmas.{replaced-at, replaced-none}
 use Rattle.build_script.proofs.SaidLemmas.{gave_front, gave_rest}
 use Rattle.build_script.proofs.making.say_replaced.Goals as goal

@@ -1,8 +1,8 @@
 use Rattle.std.proofs.Common.{◌≡◌, ◌<◌, length}
-use Rattle.build_script.specs.Forms.{replaced_behind, replaced}
+use Rattle.script_grammar.specs.Forms.{replaced_behind, replaced}
 use Rattle.build_script.specs.MadeOf.{made_of}
 use Rattle.build_script.specs.Making.{output_at}
-use Rattle.build_script.specs.Run.{said}
+use Rattle.script_grammar.specs.Run.{said}
 use Rattle.build_script.proofs.making.say_replaced.Given as goal
 
 abbrev pub invariant-loop-place : goal.invariant-loop-place

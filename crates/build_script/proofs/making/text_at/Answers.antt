@@ -1,7 +1,7 @@
 use Rattle.std.proofs.lemmas.Result.{err_from_is_err_and}
-use Rattle.build_script.specs.Parts.{own_of, gives}
-use Rattle.build_script.specs.Run.{Done, present}
-use Rattle.build_script.proofs.CarriedLemmas.{carried_then, carried_failed, carried_as, carried_pure, seen_then}
+use Rattle.script_grammar.specs.Parts.{own_of, gives}
+use Rattle.script_grammar.specs.Run.{Done, present}
+use Rattle.script_grammar.proofs.CarriedLemmas.{carried_then, carried_failed, carried_as, carried_pure, seen_then}
 use Rattle.build_script.proofs.making.text_at.Goals as goal
 
 pub returns-in_err-found : goal.returns-in_err-found

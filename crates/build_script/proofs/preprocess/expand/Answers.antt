@@ -3,9 +3,9 @@ use Rattle.std.proofs.lemmas.Result.{err_from_is_err_and}
 use Rattle.build_script.specs.MadeOf.{made_of}
 use Rattle.build_script.specs.Making.{output_at, preprocessing, resumed}
 use Rattle.build_script.specs.OpenTexts.{rests_of}
-use Rattle.build_script.specs.Parts.{gives, own_of}
-use Rattle.build_script.specs.Run.{expanded, depth_limit}
-use Rattle.build_script.proofs.CarriedLemmas.{carried_over, carried_as, carried_here, and_then-done}
+use Rattle.script_grammar.specs.Parts.{gives, own_of}
+use Rattle.script_grammar.specs.Run.{expanded, depth_limit}
+use Rattle.script_grammar.proofs.CarriedLemmas.{carried_over, carried_as, carried_here, and_then-done}
 use Rattle.build_script.proofs.IncludeLemmas.{carried_ended, rests_pushed}
 use Rattle.build_script.proofs.preprocess.expand.Goals as goal
 

@@ -2,8 +2,8 @@ use Rattle.std.proofs.Common.{Ok, length}
 use Rattle.build_script.specs.MadeOf.{made_of}
 use Rattle.build_script.specs.Making.{output_at, preprocessing, resumed, left_of}
 use Rattle.build_script.specs.OpenTexts.{rests_of}
-use Rattle.build_script.specs.Parts.{Performed, own_of}
-use Rattle.build_script.specs.Run.{expanded, depth_limit}
+use Rattle.script_grammar.specs.Parts.{Performed, own_of}
+use Rattle.script_grammar.specs.Run.{expanded, depth_limit}
 use Rattle.build_script.proofs.preprocess.expand.Given as goal
 
 abbrev pub invariant-loop-innermost : goal.invariant-loop-innermost

@@ -1,11 +1,11 @@
 use Rattle.std.proofs.Common.{◌≡◌, ◌+◌, ◌≤◌, ℕ, List, [], ◌∷◌, length, drop, refl, sym, ap, ◌∙◌, arith}
 use Rattle.std.specs.List.{filter_map}
 use Rattle.std.proofs.lemmas.Result.{err_from_is_err_and}
-use Rattle.build_script.specs.Includes.{under}
+use Rattle.script_grammar.specs.Includes.{under}
 use Rattle.build_script.specs.Making.{found_with}
-use Rattle.build_script.specs.Parts.{gives, own_of}
-use Rattle.build_script.specs.Run.{probed}
-use Rattle.build_script.proofs.CarriedLemmas.{carried_over, carried_as, carried_pure}
+use Rattle.script_grammar.specs.Parts.{gives, own_of}
+use Rattle.script_grammar.specs.Run.{probed}
+use Rattle.script_grammar.proofs.CarriedLemmas.{carried_over, carried_as, carried_pure}
 use Rattle.build_script.proofs.IncludeLemmas.{carried_ended, carried_passed, all_dropped}
 use Rattle.build_script.proofs.RunLemmas.{item_at}
 use Rattle.build_script.proofs.preprocess.find_under.Goals as goal

@@ -1,8 +1,8 @@
 use Rattle.std.proofs.Common.{Ok, ◌≤◌, drop}
 use Rattle.std.specs.List.{filter_map}
-use Rattle.build_script.specs.Includes.{under}
-use Rattle.build_script.specs.Parts.{Performed, own_of}
-use Rattle.build_script.specs.Run.{probed}
+use Rattle.script_grammar.specs.Includes.{under}
+use Rattle.script_grammar.specs.Parts.{Performed, own_of}
+use Rattle.script_grammar.specs.Run.{probed}
 use Rattle.build_script.proofs.preprocess.find_under.Given as goal
 
 abbrev pub invariant-loop-directory : goal.invariant-loop-directory

@@ -1,7 +1,7 @@
 use Rattle.std.proofs.Common.{◌≡◌, ◌+◌, ◌-◌, suc, arith}
 use Rattle.build_script.specs.Making.{output_at, preprocessing, made_with}
-use Rattle.build_script.specs.Parts.{own_of}
-use Rattle.build_script.specs.Run.{Found, expanded, depth_limit}
+use Rattle.script_grammar.specs.Parts.{own_of}
+use Rattle.script_grammar.specs.Run.{Found, expanded, depth_limit}
 use Rattle.build_script.proofs.IncludeLemmas.{carried_shown}
 use Rattle.build_script.proofs.preprocess.include.Goals as goal
 

@@ -2,9 +2,9 @@ use Rattle.std.proofs.Common.{List, ℕ}
 use Rattle.std.proofs.lemmas.Result.{err_from_is_err_and}
 use Rattle.build_script.specs.MadeOf.{made_of}
 use Rattle.build_script.specs.Making.{output_at, preprocessing}
-use Rattle.build_script.specs.Parts.{own_of}
-use Rattle.build_script.specs.Run.{expanded, depth_limit}
-use Rattle.build_script.proofs.CarriedLemmas.{carried_then, carried_failed}
+use Rattle.script_grammar.specs.Parts.{own_of}
+use Rattle.script_grammar.specs.Run.{expanded, depth_limit}
+use Rattle.script_grammar.proofs.CarriedLemmas.{carried_then, carried_failed}
 use Rattle.build_script.proofs.preprocess.preprocess.Goals as goal
 
 pub returns-in_err-text : goal.returns-in_err-text

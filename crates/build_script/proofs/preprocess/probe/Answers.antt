@@ -1,8 +1,8 @@
 use Rattle.std.proofs.Common.{◌≡◌, ◌+◌, true, arith}
 use Rattle.std.specs.Prelude.{nat_lt}
-use Rattle.build_script.specs.Parts.{own_of}
-use Rattle.build_script.specs.Run.{found_or, probed, probe_limit}
-use Rattle.build_script.proofs.CarriedLemmas.{carried_as, seen_then}
+use Rattle.script_grammar.specs.Parts.{own_of}
+use Rattle.script_grammar.specs.Run.{found_or, probed, probe_limit}
+use Rattle.script_grammar.proofs.CarriedLemmas.{carried_as, seen_then}
 use Rattle.build_script.proofs.IncludeLemmas.{lt_true, carried_shown}
 use Rattle.build_script.proofs.preprocess.probe.Goals as goal
 

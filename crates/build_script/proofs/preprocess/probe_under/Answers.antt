@@ -1,6 +1,6 @@
 use Rattle.std.proofs.Common.{◌≡◌, ℕ, Option, Some, None, List, sym, ap, ◌∙◌}
 use Rattle.std.specs.List.{filter_map}
-use Rattle.build_script.specs.Includes.{under}
+use Rattle.script_grammar.specs.Includes.{under}
 use Rattle.build_script.proofs.preprocess.probe_under.Goals as goal
 
 pub returns-clause-went : goal.returns-clause-went

@@ -1,13 +1,13 @@
 use Rattle.std.proofs.Common.{◌≡◌, ◌+◌, ◌-◌, ℕ, suc, Some, None, Ok, List, ◌∷◌, length, refl, sym, ap, ◌∙◌, arith}
 use Rattle.std.proofs.lemmas.Result.{err_from_is_err_and}
-use Rattle.build_script.specs.Forms.{lines_in}
-use Rattle.build_script.specs.Includes.{include_of}
+use Rattle.script_grammar.specs.Forms.{lines_in}
+use Rattle.script_grammar.specs.Includes.{include_of}
 use Rattle.build_script.specs.MadeOf.{made_of}
 use Rattle.build_script.specs.Making.{output_at, resumed, includes, preprocessing, made_with}
 use Rattle.build_script.specs.OpenTexts.{rest_of, rests_of}
-use Rattle.build_script.specs.Parts.{own_of}
-use Rattle.build_script.specs.Run.{Made, and_then, unless_fault, expanded, depth_limit}
-use Rattle.build_script.proofs.CarriedLemmas.{carried_as, carried_here, carried_then, carried_failed, carried_given_up}
+use Rattle.script_grammar.specs.Parts.{own_of}
+use Rattle.script_grammar.specs.Run.{Made, and_then, unless_fault, expanded, depth_limit}
+use Rattle.script_grammar.proofs.CarriedLemmas.{carried_as, carried_here, carried_then, carried_failed, carried_given_up}
 use Rattle.build_script.proofs.IncludeLemmas.{carried_unsaid, lines_behind, rests_length, resumed-said, resumed-unsaid, resumed-included}
 use Rattle.build_script.proofs.preprocess.step.Goals as goal
 

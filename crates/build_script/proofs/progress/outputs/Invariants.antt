@@ -1,7 +1,7 @@
 use Rattle.std.proofs.Common.{◌≡◌, drop}
 use Rattle.build_script.proofs.RunLemmas.{outputs_onto}
-use Rattle.build_script.specs.Parts.{own_of}
-use Rattle.build_script.specs.Run.{outputs_of}
+use Rattle.script_grammar.specs.Parts.{own_of}
+use Rattle.script_grammar.specs.Run.{outputs_of}
 use Rattle.build_script.proofs.progress.outputs.Given as goal
 
 abbrev pub invariant-loop-target : goal.invariant-loop-target

@@ -1,5 +1,5 @@
-use Rattle.build_script.specs.Run.{run_of_lines}
-use Rattle.build_script.specs.Standings.{texts}
+use Rattle.script_grammar.specs.Run.{run_of_lines}
+use Rattle.script_grammar.specs.Standings.{texts}
 use Rattle.build_script.proofs.RunLemmas.{among_themselves, came_to}
 use Rattle.build_script.proofs.run.run.Goals as goal
 use Rattle.build_script.proofs.run.run.Goals.{in-Ok, in-Err-Fault}

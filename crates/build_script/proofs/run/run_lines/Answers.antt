@@ -1,9 +1,9 @@
 use Rattle.std.proofs.Common.{◌+◌, List, drop, ap}
 use Rattle.std.proofs.lemmas.Result.{err_from_is_err_and}
 use Rattle.build_script.specs.Progress.{state_of}
-use Rattle.build_script.specs.Run.{after_lines}
-use Rattle.build_script.specs.declared.lines.Line.{Line}
-use Rattle.build_script.proofs.CarriedLemmas.{carried_step, carried_halt}
+use Rattle.script_grammar.specs.Run.{after_lines}
+use Rattle.script_grammar.specs.declared.lines.Line.{Line}
+use Rattle.script_grammar.proofs.CarriedLemmas.{carried_step, carried_halt}
 use Rattle.build_script.proofs.RunLemmas.{item_at}
 use Rattle.build_script.proofs.run.run_lines.Goals as goal
 

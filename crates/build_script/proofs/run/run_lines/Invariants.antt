@@ -1,7 +1,7 @@
 use Rattle.std.proofs.Common.{Ok, drop}
-use Rattle.build_script.specs.Parts.{Performed}
+use Rattle.script_grammar.specs.Parts.{Performed}
 use Rattle.build_script.specs.Progress.{state_of}
-use Rattle.build_script.specs.Run.{after_lines}
+use Rattle.script_grammar.specs.Run.{after_lines}
 use Rattle.build_script.proofs.run.run_lines.Given as goal
 
 abbrev pub invariant-loop-line : goal.invariant-loop-line

@@ -1,9 +1,9 @@
 use Rattle.std.proofs.Common.{sym, ap}
 use Rattle.std.proofs.lemmas.Result.{err_from_is_err_and}
-use Rattle.build_script.specs.Parts.{gives}
+use Rattle.script_grammar.specs.Parts.{gives}
 use Rattle.build_script.specs.Progress.{state_of}
-use Rattle.build_script.specs.Run.{State, Done, outputs_of}
-use Rattle.build_script.proofs.CarriedLemmas.{carried_then, carried_failed, carried_as, carried_pure}
+use Rattle.script_grammar.specs.Run.{State, Done, outputs_of}
+use Rattle.script_grammar.proofs.CarriedLemmas.{carried_then, carried_failed, carried_as, carried_pure}
 use Rattle.build_script.proofs.RunLemmas.{after_lines_same}
 use Rattle.build_script.proofs.run.run_whole.Goals as goal
 

@@ -1,5 +1,5 @@
 use Rattle.std.proofs.Common.{◌≡◌, ◌++◌, ◌∷◌, ap, sym, ◌∙◌, map, List, ℕ}
-use Rattle.build_script.specs.Words.{arrows}
+use Rattle.script_grammar.specs.Words.{arrows}
 use Rattle.build_script.proofs.WordLemmas.{arrows_cut, pushed}
 use Rattle.build_script.proofs.words.push_arrows.Goals as goal
 

@@ -1,5 +1,5 @@
 use Rattle.std.proofs.Common.{◌≡◌, ◌++◌, map}
-use Rattle.build_script.specs.Words.{arrows}
+use Rattle.script_grammar.specs.Words.{arrows}
 use Rattle.build_script.proofs.words.push_arrows.Given as goal
 
 abbrev pub invariant-loop-pair : goal.invariant-loop-pair

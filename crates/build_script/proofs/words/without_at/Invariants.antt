@@ -1,5 +1,5 @@
 use Rattle.std.proofs.Common.{◌≡◌, length}
-use Rattle.build_script.specs.Words.{without_at}
+use Rattle.script_grammar.specs.Words.{without_at}
 use Rattle.build_script.proofs.words.without_at.Given as goal
 
 abbrev pub invariant-loop-byte : goal.invariant-loop-byte

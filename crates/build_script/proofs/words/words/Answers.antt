@@ -1,6 +1,6 @@
 use Rattle.std.proofs.Common.{◌≡◌, ◌++◌, append_assoc, rules}
 use Rattle.std.proofs.lemmas.List.Sorted.{answers_always}
-use Rattle.build_script.specs.Words.{is_alike, words, words_of_run}
+use Rattle.script_grammar.specs.Words.{is_alike, words, words_of_run}
 use Rattle.build_script.proofs.WordLemmas.{words_cut}
 use Rattle.build_script.proofs.words.words.Goals as goal
 

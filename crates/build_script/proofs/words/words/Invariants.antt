@@ -1,5 +1,5 @@
 use Rattle.std.proofs.Common.{◌≡◌, ◌++◌, map}
-use Rattle.build_script.specs.Words.{words}
+use Rattle.script_grammar.specs.Words.{words}
 use Rattle.build_script.proofs.words.words.Given as goal
 
 abbrev pub invariant-loop-run : goal.invariant-loop-run

@@ -1,6 +1,6 @@
 use Rattle.std.proofs.Common.{ap, ◌∙◌, filter, fold, not, List, ℕ}
-use Rattle.make_text.specs.Units.{is_target}
-use Rattle.make_text.specs.WordPaths.{with_path}
+use Rattle.make_grammar.specs.Units.{is_target}
+use Rattle.make_grammar.specs.WordPaths.{with_path}
 use Rattle.make_graph.proofs.ServingLemmas.{put_both}
 use Rattle.make_graph.proofs.serving.gather_without_rule.Goals as goal
 

@@ -1,7 +1,7 @@
 -- The rules for the suffix of a path serve it as all rules do.
 use Rattle.std.proofs.Common.{◌≡◌, ◌<◌, sym, ap, subst, ◌∙◌, None, drop, length, arith}
-use Rattle.make_text.specs.Rules.{SuffixRule}
-use Rattle.make_text.specs.Serving.{first_inference, inference_at, stem_of}
+use Rattle.make_grammar.specs.Rules.{SuffixRule}
+use Rattle.make_grammar.specs.Serving.{first_inference, inference_at, stem_of}
 use Rattle.make_graph.specs.Suffixes.{key_of, place_of, rule_at}
 use Rattle.make_graph.proofs.SuffixLemmas.{AreDotted, first_found, next_found, next_keyed, not_some, place_keyed}
 use Rattle.make_graph.proofs.serving.infer_first.Goals as goal

@@ -1,5 +1,5 @@
 use Rattle.std.proofs.Common.{◌≡◌, ◌-◌, ◌<◌, drop, length}
-use Rattle.make_text.specs.Serving.{first_inference}
+use Rattle.make_grammar.specs.Serving.{first_inference}
 use Rattle.make_graph.specs.Suffixes.{key_of, rule_at}
 use Rattle.make_graph.proofs.serving.infer_first.Given as goal
 

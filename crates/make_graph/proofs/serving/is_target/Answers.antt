@@ -1,5 +1,5 @@
 use Rattle.std.proofs.Common.{ap, ◌∙◌, is_some}
-use Rattle.make_text.specs.Units.{targets_of}
+use Rattle.make_grammar.specs.Units.{targets_of}
 use Rattle.make_graph.proofs.ServingLemmas.{numbered_among}
 use Rattle.make_graph.proofs.serving.is_target.Goals as goal
 

@@ -1,5 +1,5 @@
 use Rattle.std.proofs.Common.{◌≡◌, ◌++◌, drop, map}
-use Rattle.make_text.specs.Serving.{serving_of}
+use Rattle.make_grammar.specs.Serving.{serving_of}
 use Rattle.make_graph.proofs.serving.own_servings.Given as goal
 
 abbrev pub invariant-loop-rule : goal.invariant-loop-rule

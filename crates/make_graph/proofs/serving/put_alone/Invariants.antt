@@ -1,5 +1,5 @@
 use Rattle.std.proofs.Common.{◌≡◌, ◌++◌, drop, filter_map}
-use Rattle.make_text.specs.Serving.{serving_alone}
+use Rattle.make_grammar.specs.Serving.{serving_alone}
 use Rattle.make_graph.proofs.serving.put_alone.Given as goal
 
 abbrev pub invariant-loop-path : goal.invariant-loop-path

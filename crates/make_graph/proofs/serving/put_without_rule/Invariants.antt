@@ -1,6 +1,6 @@
 use Rattle.std.proofs.Common.{◌≡◌, drop, filter, fold, not}
-use Rattle.make_text.specs.WordPaths.{with_path}
-use Rattle.make_text.specs.Units.{is_target}
+use Rattle.make_grammar.specs.WordPaths.{with_path}
+use Rattle.make_grammar.specs.Units.{is_target}
 use Rattle.make_graph.proofs.serving.put_without_rule.Given as goal
 
 abbrev pub invariant-loop-path : goal.invariant-loop-path

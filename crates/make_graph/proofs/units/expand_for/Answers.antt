@@ -1,6 +1,6 @@
 use Rattle.std.proofs.Common.{ap, ◌∙◌, option_copied}
-use Rattle.make_text.specs.Contents.{expansion}
-use Rattle.make_text.specs.Graphs.{first_of, first_target}
+use Rattle.make_grammar.specs.Contents.{expansion}
+use Rattle.make_grammar.specs.Graphs.{first_of, first_target}
 use Rattle.make_graph.proofs.units.expand_for.Goals as goal
 
 pub returns : goal.returns

@@ -1,6 +1,6 @@
 use Rattle.std.proofs.Common.{◌≡◌, ◌||◌, not, drop, is_some}
 use Rattle.std.specs.Prelude.{find}
-use Rattle.make_text.specs.Walks.{number_of}
+use Rattle.make_grammar.specs.Walks.{number_of}
 use Rattle.make_graph.proofs.units.missing.Given as goal
 
 abbrev pub invariant-loop-goal : goal.invariant-loop-goal

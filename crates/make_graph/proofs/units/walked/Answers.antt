@@ -1,5 +1,5 @@
 use Rattle.std.proofs.Common.{◌≡◌, ◌+◌, ◌++◌, ◌∷◌, [], ap, sym, ◌∙◌, refl, drop, get_or, option_copied}
-use Rattle.make_text.specs.Graphs.{unit_of, walked}
+use Rattle.make_grammar.specs.Graphs.{unit_of, walked}
 use Rattle.make_graph.proofs.WalkedLemmas.{walked_more, walked_past}
 use Rattle.make_graph.proofs.units.walked.Goals as goal
 use Rattle.make_graph.proofs.units.walked.Goals.{in-Some+in_ok-unit_of+in_ok-push, in_default}

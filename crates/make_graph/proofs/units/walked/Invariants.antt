@@ -1,5 +1,5 @@
 use Rattle.std.proofs.Common.{◌≡◌, ◌++◌, drop}
-use Rattle.make_text.specs.Graphs.{walked}
+use Rattle.make_grammar.specs.Graphs.{walked}
 use Rattle.make_graph.proofs.units.walked.Given as goal
 
 abbrev pub invariant-loop-number : goal.invariant-loop-number

@@ -1,5 +1,5 @@
 use Rattle.std.proofs.Common.{◌≡◌, ◌<◌, ◌++◌, [], ◌∷◌, Some, Err, length, ap, sym, ◌∙◌, option_copied, append_assoc, length-append, arith}
-use Rattle.make_text.specs.Walks.{Walk, number_of, opened}
+use Rattle.make_grammar.specs.Walks.{Walk, number_of, opened}
 use Rattle.make_graph.specs.Visits.{entered, behind, next_of, resume, news}
 use Rattle.make_graph.specs.declared.walks.Visit.{Visit}
 use Rattle.make_graph.proofs.VisitLemmas.{step_close, step_past, step_again, step_enter, news_opened, news_closed, entered_new}

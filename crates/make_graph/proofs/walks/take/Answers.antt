@@ -1,5 +1,5 @@
 use Rattle.std.proofs.Common.{Ok, ap, sym, ◌∙◌, subst, [], ◌∷◌, Result, List, ℕ, arith}
-use Rattle.make_text.specs.Walks.{Walk, number_of}
+use Rattle.make_grammar.specs.Walks.{Walk, number_of}
 use Rattle.make_graph.specs.Visits.{Goes, entered, resume, news}
 use Rattle.make_graph.specs.declared.walks.Visit.{Visit}
 use Rattle.make_graph.proofs.VisitLemmas.{news_opened, news_few, entered_new, enter_first}

@@ -1,5 +1,5 @@
 use Rattle.std.proofs.Common.{◌≡◌, suc, drop, length}
-use Rattle.make_text.specs.Walks.{each_of, take_path, walk_of}
+use Rattle.make_grammar.specs.Walks.{each_of, take_path, walk_of}
 use Rattle.make_graph.proofs.walks.walk_over.Given as goal
 
 abbrev pub invariant-loop-goal : goal.invariant-loop-goal

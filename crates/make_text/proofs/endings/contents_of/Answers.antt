@@ -1,10 +1,10 @@
 use Rattle.std.proofs.Common.{◌≡◌, ap, sym, ◌∙◌, ℕ, List, filter, flat_map, not, reverse}
 use Rattle.cc_names.specs.declared.commands.Macro.{Macro}
-use Rattle.make_text.specs.Contents.{Contents, RuleLine, groups_of, joined_rules, is_suffix_rule, suffix_rules_of}
-use Rattle.make_text.specs.Rules.{MakeRule, SuffixRule}
-use Rattle.make_text.specs.Serving.{prerequisites_of}
-use Rattle.make_text.specs.Statements.{Definition, macros_of}
-use Rattle.make_text.specs.WordPaths.{each_once}
+use Rattle.make_grammar.specs.Contents.{Contents, RuleLine, groups_of, joined_rules, is_suffix_rule, suffix_rules_of}
+use Rattle.make_grammar.specs.Rules.{MakeRule, SuffixRule}
+use Rattle.make_grammar.specs.Serving.{prerequisites_of}
+use Rattle.make_grammar.specs.Statements.{Definition, macros_of}
+use Rattle.make_grammar.specs.WordPaths.{each_once}
 use Rattle.make_text.proofs.GatherLemmas.{kept_prerequisites}
 use Rattle.make_text.proofs.endings.contents_of.Goals as goal
 

@@ -1,5 +1,5 @@
 use Rattle.std.proofs.Common.{◌≡◌, filter, not}
-use Rattle.make_text.specs.Contents.{groups_of, is_suffix_rule}
+use Rattle.make_grammar.specs.Contents.{groups_of, is_suffix_rule}
 use Rattle.make_text.specs.Joining.{rules_of}
 use Rattle.make_text.proofs.endings.part_rules.Given as goal
 

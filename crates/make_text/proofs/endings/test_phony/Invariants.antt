@@ -1,5 +1,5 @@
 use Rattle.std.proofs.Common.{◌≡◌, drop}
-use Rattle.make_text.specs.Grammar.{phony_fault}
+use Rattle.make_grammar.specs.Grammar.{phony_fault}
 use Rattle.make_text.proofs.endings.test_phony.Given as goal
 
 abbrev pub invariant-loop-line : goal.invariant-loop-line

@@ -1,6 +1,6 @@
 use Rattle.std.proofs.Common.{◌<◌, ◌∙◌, sym, subst, length, arith}
-use Rattle.make_text.specs.Statements.{macros_of}
-use Rattle.make_text.specs.Macros.{expansion_of}
+use Rattle.make_grammar.specs.Statements.{macros_of}
+use Rattle.make_grammar.specs.Macros.{expansion_of}
 use Rattle.make_text.specs.Steps.{automatic_of, opened_of, IsExpandedText}
 use Rattle.make_text.proofs.ExpansionLemmas.{no_dollar}
 use Rattle.make_text.proofs.RunLemmas.{runs_longer}

@@ -1,6 +1,6 @@
 use Rattle.std.proofs.Common.{[]}
-use Rattle.make_text.specs.Statements.{macros_of}
-use Rattle.make_text.specs.Macros.{expansion_of}
+use Rattle.make_grammar.specs.Statements.{macros_of}
+use Rattle.make_grammar.specs.Macros.{expansion_of}
 use Rattle.make_text.specs.Steps.{automatic_of, IsRunning, work_of}
 use Rattle.make_text.specs.Runs.{HasNamesApart}
 use Rattle.make_text.proofs.expansions.expand.Given as goal

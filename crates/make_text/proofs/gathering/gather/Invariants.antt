@@ -1,8 +1,8 @@
 use Rattle.std.proofs.Common.{◌≡◌, flat_map, fold, drop}
 use Rattle.make_text.specs.Gathering.{HasPut}
 use Rattle.make_text.specs.Joining.{rules_of}
-use Rattle.make_text.specs.Serving.{prerequisites_of}
-use Rattle.make_text.specs.WordPaths.{with_path, each_once}
+use Rattle.make_grammar.specs.Serving.{prerequisites_of}
+use Rattle.make_grammar.specs.WordPaths.{with_path, each_once}
 use Rattle.make_text.proofs.gathering.gather.Given as goal
 
 abbrev pub invariant-loop-rule : goal.invariant-loop-rule

@@ -1,9 +1,9 @@
 use Rattle.std.proofs.Common.{◌≡◌, ap, ◌∙◌, sym, subst, Ok, ℕ, suc, ◌-◌, ◌<◌, List, ◌∷◌, drop, length, arith}
 use Rattle.std.proofs.Math.Seq.{drop-cons}
 use Rattle.cc_names.specs.Answers.{FaultIs}
-use Rattle.make_text.specs.LogicalLines.{logical_lines}
+use Rattle.make_grammar.specs.LogicalLines.{logical_lines}
 use Rattle.make_text.specs.ReadingSteps.{Leaves, counted_file}
-use Rattle.make_text.specs.Statements.{included, include_line, include_paths, read_lines, within_limits}
+use Rattle.make_grammar.specs.Statements.{included, include_line, include_paths, read_lines, within_limits}
 use Rattle.make_text.proofs.ReaderLemmas.{paths_fault, included_is}
 use Rattle.make_text.proofs.including.+files.Goals as goal
 

@@ -1,7 +1,7 @@
 use Rattle.std.proofs.Common.{◌≡◌, ◌+◌, ◌*◌, Ok, drop, length}
-use Rattle.make_text.specs.LogicalLines.{logical_lines}
+use Rattle.make_grammar.specs.LogicalLines.{logical_lines}
 use Rattle.make_text.specs.Readers.{Keeps}
-use Rattle.make_text.specs.Statements.{included, include_line, include_paths, read_lines}
+use Rattle.make_grammar.specs.Statements.{included, include_line, include_paths, read_lines}
 use Rattle.make_text.proofs.including.+files.Given as goal
 
 abbrev pub decreases-included : goal.decreases-included

@@ -1,5 +1,5 @@
 use Rattle.std.proofs.Common.{◌≡◌, ap, ◌∙◌}
-use Rattle.make_text.specs.Contents.{with_line}
+use Rattle.make_grammar.specs.Contents.{with_line}
 use Rattle.make_text.specs.Joining.{joined_with, joined_at}
 use Rattle.make_text.proofs.ReaderLemmas.{on_ok}
 use Rattle.make_text.proofs.joining.join_number.Goals as goal

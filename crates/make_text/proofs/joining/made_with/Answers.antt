@@ -1,5 +1,5 @@
 use Rattle.std.proofs.Common.{◌≡◌, ◌∙◌, ◌∷◌, [], List, ℕ}
-use Rattle.make_text.specs.Contents.{groups_of, made_with}
+use Rattle.make_grammar.specs.Contents.{groups_of, made_with}
 use Rattle.make_text.proofs.JoinLemmas.{if_ok, made_found, made_none}
 use Rattle.make_text.proofs.joining.made_with.Goals as goal
 

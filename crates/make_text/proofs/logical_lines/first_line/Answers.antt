@@ -1,7 +1,7 @@
 use Rattle.std.proofs.Common.{◌∷◌, [], ◌∙◌, sym, ap, length, ◌<◌, false}
 use Rattle.std.specs.List.{slice_split}
 use Rattle.cc_names.specs.Cuts.{is_newline}
-use Rattle.make_text.specs.LogicalLines.{lines_from, next_number}
+use Rattle.make_grammar.specs.LogicalLines.{lines_from, next_number}
 use Rattle.make_text.proofs.LineLemmas.{first_last, first_apart, first_joined_step}
 use Rattle.make_text.proofs.logical_lines.first_line.Goals as goal
 

@@ -1,7 +1,7 @@
 use Rattle.std.proofs.Common.{◌≡◌, ℕ, length, true}
 use Rattle.std.specs.List.{slice_split}
 use Rattle.cc_names.specs.Cuts.{is_newline}
-use Rattle.make_text.specs.LogicalLines.{lines_from}
+use Rattle.make_grammar.specs.LogicalLines.{lines_from}
 use Rattle.make_text.specs.JoinedLines.{joined_onto}
 use Rattle.make_text.proofs.logical_lines.join_lines.Given as goal
 

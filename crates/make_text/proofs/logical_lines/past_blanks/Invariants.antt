@@ -1,5 +1,5 @@
 use Rattle.std.proofs.Common.{◌≡◌, length}
-use Rattle.make_text.specs.LogicalLines.{past_blanks}
+use Rattle.make_grammar.specs.LogicalLines.{past_blanks}
 use Rattle.make_text.proofs.logical_lines.past_blanks.Given as goal
 
 abbrev pub invariant-loop-byte : goal.invariant-loop-byte

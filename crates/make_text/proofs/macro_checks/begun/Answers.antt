@@ -1,4 +1,4 @@
-use Rattle.make_text.specs.Statements.{macros_of}
+use Rattle.make_grammar.specs.Statements.{macros_of}
 use Rattle.make_text.specs.Steps.{automatic_of}
 use Rattle.make_text.proofs.CheckLemmas.{at_start}
 use Rattle.make_text.proofs.macro_checks.begun.Goals as goal

@@ -2,7 +2,7 @@ use Rattle.std.proofs.Common.{◌∙◌, sym, subst, Some, None, ◌<◌, ℕ, L
 use Rattle.std.proofs.lemmas.List.{length-map}
 use Rattle.cc_names.specs.Answers.{FaultIs}
 use Rattle.make_text.specs.MacroChecks.{definition_at}
-use Rattle.make_text.specs.Statements.{macro_of, macros_of, fault_at}
+use Rattle.make_grammar.specs.Statements.{macro_of, macros_of, fault_at}
 use Rattle.make_text.proofs.CheckLemmas.{macros_step, finds_fault, named_at}
 use Rattle.make_text.proofs.macro_checks.test_macros.Goals as goal
 

@@ -1,6 +1,6 @@
 use Rattle.std.proofs.Common.{◌≡◌, drop}
-use Rattle.make_text.specs.Grammar.{macros_fault}
-use Rattle.make_text.specs.Statements.{macros_of}
+use Rattle.make_grammar.specs.Grammar.{macros_fault}
+use Rattle.make_grammar.specs.Statements.{macros_of}
 use Rattle.make_text.specs.Steps.{automatic_of, IsAtEnd}
 use Rattle.make_text.proofs.macro_checks.test_macros.Given as goal
 

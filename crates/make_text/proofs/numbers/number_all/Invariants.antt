@@ -1,7 +1,7 @@
 use Rattle.std.proofs.Common.{◌≡◌, ℕ, List, drop}
 use Rattle.std.specs.HashMap.{get}
 use Rattle.std.specs.Str.{bytes_eq}
-use Rattle.make_text.specs.Numbers.{number_from}
+use Rattle.make_grammar.specs.Numbers.{number_from}
 use Rattle.make_text.specs.Numbered.{number_or}
 use Rattle.make_text.proofs.numbers.number_all.Given as goal
 

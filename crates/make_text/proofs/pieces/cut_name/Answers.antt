@@ -1,6 +1,6 @@
 use Rattle.std.proofs.Common.{◌++◌, ◌+◌, ◌∙◌, sym, ap, drop, arith, length-drop}
 use Rattle.std.proofs.lemmas.List.{take_rest}
-use Rattle.make_text.specs.Macros.{pieces_of}
+use Rattle.make_grammar.specs.Macros.{pieces_of}
 use Rattle.make_text.specs.Scanning.{pieces_in}
 use Rattle.make_text.proofs.PieceLemmas.{name_to, name_open}
 use Rattle.make_text.proofs.pieces.cut_name.Goals as goal

@@ -1,7 +1,7 @@
 use Rattle.std.proofs.Common.{◌≡◌, Some, ◌∙◌, sym, ap, arith, length-drop}
 use Rattle.std.proofs.lemmas.List.{take_rest}
 use Rattle.std.specs.List.{position}
-use Rattle.make_text.specs.Lines.{is_dollar}
+use Rattle.make_grammar.specs.Lines.{is_dollar}
 use Rattle.make_text.proofs.PieceLemmas.{plain_all, plain_to, dollar_first}
 use Rattle.make_text.proofs.pieces.cut_part.Goals as goal
 

@@ -1,6 +1,6 @@
 use Rattle.std.proofs.Common.{◌∙◌, sym, ap}
 use Rattle.std.specs.List.{list_any}
-use Rattle.make_text.specs.Macros.{is_bad, pieces_of}
+use Rattle.make_grammar.specs.Macros.{is_bad, pieces_of}
 use Rattle.make_text.proofs.PieceLemmas.{sound_part}
 use Rattle.make_text.proofs.pieces.has_bad_dollar.Goals as goal
 

@@ -1,5 +1,5 @@
 use Rattle.std.proofs.Common.{◌≡◌, length}
-use Rattle.make_text.specs.Macros.{has_bad_dollar}
+use Rattle.make_grammar.specs.Macros.{has_bad_dollar}
 use Rattle.make_text.proofs.pieces.has_bad_dollar.Given as goal
 
 abbrev pub invariant-parts : goal.invariant-parts

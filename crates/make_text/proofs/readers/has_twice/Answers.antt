@@ -1,9 +1,9 @@
 use Rattle.std.proofs.Common.{◌≡◌, ◌∙◌, sym, ap, ◌||◌, ◌<◌, ◌+◌, ◌∷◌, List, ℕ, drop, arith, add-one, length, suc}
 use Rattle.std.proofs.Math.Seq.{drop-cons}
 use Rattle.std.specs.List.{list_any}
-use Rattle.make_text.specs.Macros.{is_among}
-use Rattle.make_text.specs.WordPaths.{with_path}
-use Rattle.make_text.specs.Statements.{has_twice}
+use Rattle.make_grammar.specs.Macros.{is_among}
+use Rattle.make_grammar.specs.WordPaths.{with_path}
+use Rattle.make_grammar.specs.Statements.{has_twice}
 use Rattle.make_text.proofs.ReaderLemmas.{none_seen, twice_step}
 use Rattle.make_text.proofs.readers.has_twice.Goals as goal
 

@@ -1,7 +1,7 @@
 use Rattle.std.proofs.Common.{◌≡◌, ◌||◌, drop}
 use Rattle.std.specs.List.{list_any}
-use Rattle.make_text.specs.Macros.{is_among}
-use Rattle.make_text.specs.Statements.{has_twice}
+use Rattle.make_grammar.specs.Macros.{is_among}
+use Rattle.make_grammar.specs.Statements.{has_twice}
 use Rattle.make_text.proofs.readers.has_twice.Given as goal
 
 abbrev pub invariant-loop-path : goal.invariant-loop-path

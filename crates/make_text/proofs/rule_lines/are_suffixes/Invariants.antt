@@ -1,6 +1,6 @@
 use Rattle.std.proofs.Common.{◌≡◌, map, drop}
 use Rattle.std.specs.List.{list_all}
-use Rattle.make_text.specs.Statements.{is_suffix}
+use Rattle.make_grammar.specs.Statements.{is_suffix}
 use Rattle.make_text.proofs.rule_lines.are_suffixes.Given as goal
 
 abbrev pub invariant-loop-word : goal.invariant-loop-word

@@ -1,6 +1,6 @@
 use Rattle.std.proofs.Common.{◌≡◌, map, drop}
-use Rattle.make_text.specs.Macros.{is_among}
-use Rattle.make_text.specs.Statements.{suffixes_name}
+use Rattle.make_grammar.specs.Macros.{is_among}
+use Rattle.make_grammar.specs.Statements.{suffixes_name}
 use Rattle.make_text.proofs.rule_lines.names_suffixes.Given as goal
 
 abbrev pub invariant-loop-word : goal.invariant-loop-word

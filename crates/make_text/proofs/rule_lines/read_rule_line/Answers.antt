@@ -1,7 +1,7 @@
 use Rattle.std.proofs.Common.{sym, subst}
 use Rattle.cc_names.specs.Answers.{Gives}
 use Rattle.make_text.specs.RuleLines.{rule_of_sides}
-use Rattle.make_text.specs.Statements.{macros_of, is_grouped}
+use Rattle.make_grammar.specs.Statements.{macros_of, is_grouped}
 use Rattle.make_text.proofs.SideLemmas.{line_fault, line_words}
 use Rattle.make_text.proofs.rule_lines.read_rule_line.Goals as goal
 

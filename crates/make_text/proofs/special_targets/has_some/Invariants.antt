@@ -1,6 +1,6 @@
 use Rattle.std.proofs.Common.{◌≡◌, drop}
 use Rattle.std.specs.List.{list_any}
-use Rattle.make_text.specs.Macros.{is_among}
+use Rattle.make_grammar.specs.Macros.{is_among}
 use Rattle.make_text.proofs.special_targets.has_some.Given as goal
 
 abbrev pub invariant-loop-path : goal.invariant-loop-path

@@ -1,6 +1,6 @@
 use Rattle.std.proofs.Common.{◌≡◌, drop}
 use Rattle.std.specs.List.{list_any}
-use Rattle.make_text.specs.Statements.{is_special}
+use Rattle.make_grammar.specs.Statements.{is_special}
 use Rattle.make_text.proofs.special_targets.has_special.Given as goal
 
 abbrev pub invariant-loop-target : goal.invariant-loop-target

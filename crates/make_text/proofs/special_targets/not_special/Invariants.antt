@@ -1,5 +1,5 @@
 use Rattle.std.proofs.Common.{◌≡◌, ◌++◌, filter, not, drop}
-use Rattle.make_text.specs.Statements.{is_special}
+use Rattle.make_grammar.specs.Statements.{is_special}
 use Rattle.make_text.proofs.special_targets.not_special.Given as goal
 
 abbrev pub invariant-loop-target : goal.invariant-loop-target

@@ -1,5 +1,5 @@
 use Rattle.std.proofs.Common.{◌≡◌, fold, drop}
-use Rattle.make_text.specs.WordPaths.{with_path}
+use Rattle.make_grammar.specs.WordPaths.{with_path}
 use Rattle.make_text.proofs.special_targets.put_paths.Given as goal
 
 abbrev pub invariant-loop-path : goal.invariant-loop-path

@@ -1,6 +1,6 @@
 use Rattle.std.proofs.Common.{◌≡◌, drop}
 use Rattle.std.specs.List.{list_any}
-use Rattle.make_text.specs.Contents.{groups_of}
+use Rattle.make_grammar.specs.Contents.{groups_of}
 use Rattle.make_text.specs.SuffixRules.{is_suffix_target}
 use Rattle.make_text.proofs.suffix_rules.has_suffix_target.Given as goal
 

@@ -1,6 +1,6 @@
 use Rattle.std.proofs.Common.{◌≡◌, drop}
 use Rattle.std.specs.List.{list_any}
-use Rattle.make_text.specs.Contents.{is_pair_of}
+use Rattle.make_grammar.specs.Contents.{is_pair_of}
 use Rattle.make_text.specs.SuffixRules.{is_pair_from}
 use Rattle.make_text.proofs.suffix_rules.is_pair_of.Given as goal
 

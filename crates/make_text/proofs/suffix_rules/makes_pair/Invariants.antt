@@ -1,5 +1,5 @@
 use Rattle.std.proofs.Common.{◌≡◌, ◌++◌, drop}
-use Rattle.make_text.specs.Macros.{is_among}
+use Rattle.make_grammar.specs.Macros.{is_among}
 use Rattle.make_text.proofs.suffix_rules.makes_pair.Given as goal
 
 abbrev pub invariant-loop-target : goal.invariant-loop-target

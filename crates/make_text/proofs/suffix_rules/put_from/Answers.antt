@@ -1,6 +1,6 @@
 use Rattle.std.proofs.Common.{◌≡◌, ◌++◌, [], List, filter, ap, sym, ◌∙◌, arith}
 use Rattle.std.proofs.lemmas.List.{append-nil, nil_from_length}
-use Rattle.make_text.specs.Rules.{SuffixRule}
+use Rattle.make_grammar.specs.Rules.{SuffixRule}
 use Rattle.make_text.specs.SuffixRules.{begins_from}
 use Rattle.make_text.proofs.SuffixLemmas.{all_begin, none_begin}
 use Rattle.make_text.proofs.suffix_rules.put_from.Goals as goal

@@ -1,5 +1,5 @@
 use Rattle.std.proofs.Common.{◌≡◌, ◌++◌, drop, map, flat_map}
-use Rattle.make_text.specs.Contents.{suffix_rule_of}
+use Rattle.make_grammar.specs.Contents.{suffix_rule_of}
 use Rattle.make_text.proofs.suffix_rules.put_pair.Given as goal
 
 abbrev pub invariant-loop-rule : goal.invariant-loop-rule

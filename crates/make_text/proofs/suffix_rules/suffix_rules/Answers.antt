@@ -1,6 +1,6 @@
 use Rattle.std.proofs.Common.{◌≡◌, ap, ◌∙◌, sym, [], arith}
 use Rattle.std.proofs.lemmas.List.{nil_from_length}
-use Rattle.make_text.specs.Contents.{suffix_rules_of}
+use Rattle.make_grammar.specs.Contents.{suffix_rules_of}
 use Rattle.make_text.proofs.SuffixLemmas.{no_rules}
 use Rattle.make_text.proofs.suffix_rules.suffix_rules.Goals as goal
 

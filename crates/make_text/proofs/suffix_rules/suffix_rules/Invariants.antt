@@ -1,5 +1,5 @@
 use Rattle.std.proofs.Common.{◌≡◌, ◌++◌, drop, flat_map}
-use Rattle.make_text.specs.Contents.{suffix_rules_of}
+use Rattle.make_grammar.specs.Contents.{suffix_rules_of}
 use Rattle.make_text.specs.SuffixRules.{suffix_rules_from}
 use Rattle.make_text.proofs.suffix_rules.suffix_rules.Given as goal
 

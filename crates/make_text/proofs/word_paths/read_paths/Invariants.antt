@@ -1,5 +1,5 @@
 use Rattle.std.proofs.Common.{◌≡◌, map, drop}
-use Rattle.make_text.specs.WordPaths.{paths_of}
+use Rattle.make_grammar.specs.WordPaths.{paths_of}
 use Rattle.make_text.proofs.RuleLemmas.{paths_onto}
 use Rattle.make_text.proofs.word_paths.read_paths.Given as goal
 

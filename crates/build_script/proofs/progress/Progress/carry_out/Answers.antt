@@ -1,7 +1,7 @@
 use Rattle.std.proofs.Common.{◌≡◌, sym, ◌∙◌, true, false, refl}
 use Rattle.std.specs.List.{list_any}
 use Rattle.std.specs.Str.{bytes_eq}
-use Rattle.build_script.proofs.CarriedLemmas.{carried_pure}
+use Rattle.script_grammar.proofs.CarriedLemmas.{carried_pure}
 use Rattle.build_script.proofs.RunLemmas.{any-turned}
 use Rattle.build_script.proofs.progress.Progress.carry_out.Goals as goal
 

@@ -1,8 +1,8 @@
 use Rattle.std.proofs.Common.{Ok, ◌++◌, refl}
 use Rattle.std.proofs.lemmas.Result.{err_from_is_err_and}
-use Rattle.build_script.specs.Parts.{own_of}
-use Rattle.build_script.specs.Run.{Made, Done, begun, wrote}
-use Rattle.build_script.proofs.CarriedLemmas.{carried_then, carried_failed, carried_pure, carried_given_up}
+use Rattle.script_grammar.specs.Parts.{own_of}
+use Rattle.script_grammar.specs.Run.{Made, Done, begun, wrote}
+use Rattle.script_grammar.proofs.CarriedLemmas.{carried_then, carried_failed, carried_pure, carried_given_up}
 use Rattle.build_script.proofs.progress.Progress.write.Goals as goal
 
 pub returns-in_err-make : goal.returns-in_err-make

@@ -1,6 +1,6 @@
 use Rattle.std.proofs.Common.{◌≡◌, ◌+◌, ◌≤◌, length}
 use Rattle.std.specs.Prelude.{option_copied}
-use Rattle.build_script.specs.Lines.{lines_from, pieces, size_of, script_of}
+use Rattle.script_grammar.specs.Lines.{lines_from, pieces, size_of, script_of}
 use Rattle.build_script.proofs.LineLemmas.{lines_onto}
 use Rattle.build_script.proofs.scripts.Script.read.Given as goal
 

@@ -4,7 +4,7 @@ use Rattle.std.proofs.lemmas.Bool.{cases_eq}
 use Rattle.std.proofs.lemmas.List.{get_or_default, get_or-set_same, get_or-set_other, length-set}
 use Rattle.std.specs.HashMap.{get}
 use Rattle.std.specs.Str.{bytes_eq}
-use Rattle.make_text.specs.Rules.{SuffixRule}
+use Rattle.make_grammar.specs.Rules.{SuffixRule}
 use Rattle.make_graph.specs.Suffixes.{key_of, next_of, place_of, rule_at}
 use Rattle.make_graph.proofs.SuffixLemmas.{place_put}
 use Rattle.make_graph.proofs.suffix_tables.SuffixTable.of.Goals as goal

@@ -1,7 +1,7 @@
 use Rattle.std.proofs.Common.{ap, ◌∙◌, option_copied}
-use Rattle.make_text.specs.Contents.{unless_too_long, expansion}
-use Rattle.make_text.specs.Macros.{expansion_of}
-use Rattle.make_text.specs.Statements.{macros_of}
+use Rattle.make_grammar.specs.Contents.{unless_too_long, expansion}
+use Rattle.make_grammar.specs.Macros.{expansion_of}
+use Rattle.make_grammar.specs.Statements.{macros_of}
 use Rattle.make_text.proofs.contents.Makefile.expand.Goals as goal
 
 pub returns : goal.returns

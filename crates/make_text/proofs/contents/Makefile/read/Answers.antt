@@ -1,6 +1,6 @@
 use Rattle.std.proofs.Common.{ap, ◌∙◌, sym, subst, ℕ, List}
 use Rattle.cc_names.specs.Answers.{FaultIs, Gives}
-use Rattle.make_text.specs.Grammar.{checked, lines_read}
+use Rattle.make_grammar.specs.Grammar.{checked, lines_read}
 use Rattle.make_text.proofs.EndingLemmas.{checked_fault, makefile_is}
 use Rattle.make_text.proofs.contents.Makefile.read.Goals as goal
 

@@ -1,5 +1,5 @@
 use Rattle.std.proofs.Common.{ap, ◌∙◌, sym, true, false, ◌-◌, ◌<◌, length, arith}
-use Rattle.make_text.specs.Statements.{macros_of}
+use Rattle.make_grammar.specs.Statements.{macros_of}
 use Rattle.make_text.specs.Steps.{automatic_of, opened_of}
 use Rattle.make_text.proofs.CheckLemmas.{part_of_whole, part_too_long, looped_end, at_end}
 use Rattle.make_text.proofs.RunLemmas.{runs_longer}

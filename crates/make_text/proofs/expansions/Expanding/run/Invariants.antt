@@ -1,7 +1,7 @@
 use Rattle.std.proofs.Common.{[]}
-use Rattle.make_text.specs.Macros.{Expansion}
+use Rattle.make_grammar.specs.Macros.{Expansion}
 use Rattle.make_text.specs.Runs.{HasNamesApart}
-use Rattle.make_text.specs.Statements.{macros_of}
+use Rattle.make_grammar.specs.Statements.{macros_of}
 use Rattle.make_text.specs.Steps.{automatic_of, IsRunning, IsSomeRun, work_of}
 use Rattle.make_text.proofs.expansions.Expanding.run.Given as goal
 

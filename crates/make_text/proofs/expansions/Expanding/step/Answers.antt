@@ -1,7 +1,7 @@
 use Rattle.std.proofs.Common.{◌≡◌, [], ◌<◌, refl, arith}
 use Rattle.std.proofs.lemmas.List.{nil_from_length}
-use Rattle.make_text.specs.Statements.{macros_of}
-use Rattle.make_text.specs.Macros.{Expansion}
+use Rattle.make_grammar.specs.Statements.{macros_of}
+use Rattle.make_grammar.specs.Macros.{Expansion}
 use Rattle.make_text.specs.Steps.{automatic_of, MacroEnded, IsRunning, Took, Went, FallsBelow, work_of}
 use Rattle.make_text.specs.declared.expansions.Expanding.{Expanding}
 use Rattle.make_text.proofs.StepLemmas.{ends_safely, ended_went, ended_falls, took_went, took_falls, where_ok}

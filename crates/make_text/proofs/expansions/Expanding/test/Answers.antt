@@ -2,9 +2,9 @@ use Rattle.std.proofs.Common.{◌≡◌, ap, ◌∙◌, sym, true, ◌-◌, [], 
 use Rattle.cc_names.specs.declared.refusals.MakeCause.{MakeCause}
 use Rattle.make_text.specs.Expanding.{refer}
 use Rattle.make_text.specs.MacroChecks.{AtEndUnless, RunsTo, macro_fault_of}
-use Rattle.make_text.specs.Macros.{Expansion}
+use Rattle.make_grammar.specs.Macros.{Expansion}
 use Rattle.make_text.specs.Runs.{macro_at}
-use Rattle.make_text.specs.Statements.{macros_of}
+use Rattle.make_grammar.specs.Statements.{macros_of}
 use Rattle.make_text.specs.Steps.{automatic_of, IsRunning}
 use Rattle.make_text.specs.declared.expansions.Step.TheVariants.{Loops}
 use Rattle.make_text.proofs.CheckLemmas.{total_of, total_is, begins, referred_goes, part_of_whole, known_result, at_end}

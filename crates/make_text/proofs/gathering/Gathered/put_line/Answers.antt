@@ -1,5 +1,5 @@
 use Rattle.std.proofs.Common.{ap, ◌∙◌, fold}
-use Rattle.make_text.specs.WordPaths.{with_path}
+use Rattle.make_grammar.specs.WordPaths.{with_path}
 use Rattle.make_text.proofs.GatherLemmas.{put_step}
 use Rattle.make_text.proofs.gathering.Gathered.put_line.Goals as goal
 

@@ -1,6 +1,6 @@
 use Rattle.std.proofs.Common.{◌≡◌, flat_map, fold, drop}
 use Rattle.make_text.specs.Gathering.{prerequisites_at, HasPut}
-use Rattle.make_text.specs.WordPaths.{with_path}
+use Rattle.make_grammar.specs.WordPaths.{with_path}
 use Rattle.make_text.proofs.gathering.Gathered.put_lines.Given as goal
 
 abbrev pub invariant-loop-number : goal.invariant-loop-number

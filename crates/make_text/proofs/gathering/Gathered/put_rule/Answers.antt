@@ -1,7 +1,7 @@
 use Rattle.std.proofs.Common.{◌≡◌, ap, ◌∙◌, flat_map, fold, List, ℕ}
 use Rattle.make_text.specs.Gathering.{prerequisites_at}
 use Rattle.make_text.specs.Joining.{rule_of}
-use Rattle.make_text.specs.WordPaths.{with_path}
+use Rattle.make_grammar.specs.WordPaths.{with_path}
 use Rattle.make_text.proofs.GatherLemmas.{put_joined}
 use Rattle.make_text.proofs.ReaderLemmas.{on_ok}
 use Rattle.make_text.proofs.gathering.Gathered.put_rule.Goals as goal

@@ -2,7 +2,7 @@ use Rattle.std.proofs.Common.{◌≡◌, ◌+◌, ap, sym, ◌∙◌, length, Li
 use Rattle.std.specs.HashMap.{get}
 use Rattle.std.specs.Str.{bytes_eq}
 use Rattle.make_text.specs.Joining.{joined_targets}
-use Rattle.make_text.specs.Numbers.{number_from}
+use Rattle.make_grammar.specs.Numbers.{number_from}
 use Rattle.make_text.specs.Numbered.{with_numbers}
 use Rattle.make_text.specs.declared.joining.JoinedRule.{JoinedRule}
 use Rattle.make_text.proofs.NumberLemmas.{numbered_new}

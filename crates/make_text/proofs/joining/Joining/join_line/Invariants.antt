@@ -1,5 +1,5 @@
 use Rattle.std.proofs.Common.{◌≡◌, fold, drop}
-use Rattle.make_text.specs.Contents.{groups_of, with_target}
+use Rattle.make_grammar.specs.Contents.{groups_of, with_target}
 use Rattle.make_text.specs.Joining.{rules_of, KnowsJoined}
 use Rattle.make_text.proofs.joining.Joining.join_line.Given as goal
 

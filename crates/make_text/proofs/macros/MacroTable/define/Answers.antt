@@ -1,6 +1,6 @@
 use Rattle.std.proofs.Common.{ap, ◌∙◌, sym, not, ◌&&◌}
 use Rattle.make_text.specs.MacroEntries.{definition_in, definitions_in}
-use Rattle.make_text.specs.Statements.{has_fixed, with_definition}
+use Rattle.make_grammar.specs.Statements.{has_fixed, with_definition}
 use Rattle.make_text.proofs.MacroLemmas.{kept, added}
 use Rattle.make_text.proofs.macros.MacroTable.define.Goals as goal
 

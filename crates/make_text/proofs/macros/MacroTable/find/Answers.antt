@@ -2,7 +2,7 @@ use Rattle.std.proofs.Common.{ap, ◌∙◌, map, subst, sym}
 use Rattle.std.specs.List.{position}
 use Rattle.std.specs.Str.{bytes_eq}
 use Rattle.make_text.specs.Runs.{IsFound}
-use Rattle.make_text.specs.Statements.{macros_of}
+use Rattle.make_grammar.specs.Statements.{macros_of}
 use Rattle.make_text.proofs.MacroLemmas.{found, macros_of_entries}
 use Rattle.make_text.proofs.macros.MacroTable.find.Goals as goal
 

@@ -1,5 +1,5 @@
 use Rattle.std.proofs.Common.{ap, ◌∙◌}
-use Rattle.make_text.specs.Statements.{has_fixed}
+use Rattle.make_grammar.specs.Statements.{has_fixed}
 use Rattle.make_text.proofs.MacroLemmas.{is_fixed_in, fixed_of}
 use Rattle.make_text.proofs.macros.MacroTable.has_fixed.Goals as goal
 

@@ -1,6 +1,6 @@
 use Rattle.std.proofs.Common.{ap, ◌∙◌, subst, sym}
 use Rattle.make_text.specs.Runs.{HasNamesApart}
-use Rattle.make_text.specs.Statements.{macros_of}
+use Rattle.make_grammar.specs.Statements.{macros_of}
 use Rattle.make_text.proofs.MacroLemmas.{names_apart, macros_of_entries}
 use Rattle.make_text.proofs.macros.MacroTable.len.Goals as goal
 

@@ -1,6 +1,6 @@
 use Rattle.std.proofs.Common.{◌≡◌, ap, ◌∙◌, subst, sym}
 use Rattle.make_text.specs.Runs.{macro_at}
-use Rattle.make_text.specs.Statements.{macros_of}
+use Rattle.make_grammar.specs.Statements.{macros_of}
 use Rattle.make_text.proofs.MacroLemmas.{macros_of_entries, value_at}
 use Rattle.make_text.proofs.macros.MacroTable.value.Goals as goal
 

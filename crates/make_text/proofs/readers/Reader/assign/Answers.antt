@@ -1,5 +1,5 @@
 use Rattle.make_text.specs.Readers.{Keeps}
-use Rattle.make_text.specs.Statements.{macro_fault}
+use Rattle.make_grammar.specs.Statements.{macro_fault}
 use Rattle.make_text.proofs.ReaderLemmas.{left_kept}
 use Rattle.make_text.proofs.readers.Reader.assign.Goals as goal
 

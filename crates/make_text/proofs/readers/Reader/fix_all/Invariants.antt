@@ -1,5 +1,5 @@
 use Rattle.std.proofs.Common.{◌≡◌, drop}
-use Rattle.make_text.specs.Grammar.{with_overrides}
+use Rattle.make_grammar.specs.Grammar.{with_overrides}
 use Rattle.make_text.specs.Readers.{Keeps}
 use Rattle.make_text.proofs.readers.Reader.fix_all.Given as goal
 

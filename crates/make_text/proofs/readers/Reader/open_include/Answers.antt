@@ -1,7 +1,7 @@
 use Rattle.std.proofs.Common.{ap, ◌∙◌, sym, subst, List}
 use Rattle.cc_names.specs.Answers.{FaultIs}
 use Rattle.make_text.specs.ReadingSteps.{ended_rule}
-use Rattle.make_text.specs.Statements.{Definition, Reading, macros_of, include_words, include_by_words, within_limits}
+use Rattle.make_grammar.specs.Statements.{Definition, Reading, macros_of, include_words, include_by_words, within_limits}
 use Rattle.make_text.proofs.ReaderLemmas.{paths_fault}
 use Rattle.make_text.proofs.readers.Reader.open_include.Goals as goal
 

@@ -1,6 +1,6 @@
 use Rattle.std.proofs.Common.{ap, ◌∙◌, sym, subst, Ok, List, ℕ}
 use Rattle.cc_names.specs.Answers.{FaultIs}
-use Rattle.make_text.specs.Statements.{Definition, rule_by_words, rule_words, macros_of, fault_at}
+use Rattle.make_grammar.specs.Statements.{Definition, rule_by_words, rule_words, macros_of, fault_at}
 use Rattle.make_text.proofs.readers.Reader.rule_line.Goals as goal
 
 pub returns-in_ok-add_rule-in-Ok-clause-read : goal.returns-in_ok-add_rule-in-Ok-clause-read

@@ -2,7 +2,7 @@ use Rattle.std.proofs.Common.{ap, ◌∙◌, sym, subst, Ok}
 use Rattle.cc_names.specs.Answers.{FaultIs}
 use Rattle.make_text.specs.ReadingSteps.{with_newest_line}
 use Rattle.make_text.specs.Readers.{script_tested, older_of}
-use Rattle.make_text.specs.Statements.{Reading, and_then}
+use Rattle.make_grammar.specs.Statements.{Reading, and_then}
 use Rattle.make_text.proofs.ReaderLemmas.{script_line_is, then_fault}
 use Rattle.make_text.proofs.readers.Reader.script_line.Goals as goal
 

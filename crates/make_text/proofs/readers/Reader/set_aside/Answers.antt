@@ -1,7 +1,7 @@
 use Rattle.std.proofs.Common.{◌≡◌, ap, ◌∙◌, sym, List, ℕ, fold}
-use Rattle.make_text.specs.Macros.{is_among}
-use Rattle.make_text.specs.WordPaths.{with_path}
-use Rattle.make_text.specs.Statements.{is_scripted}
+use Rattle.make_grammar.specs.Macros.{is_among}
+use Rattle.make_grammar.specs.WordPaths.{with_path}
+use Rattle.make_grammar.specs.Statements.{is_scripted}
 use Rattle.make_text.proofs.ReaderLemmas.{aside, on_ok}
 use Rattle.make_text.proofs.readers.Reader.set_aside.Goals as goal
 

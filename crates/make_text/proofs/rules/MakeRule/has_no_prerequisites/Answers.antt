@@ -1,6 +1,6 @@
 use Rattle.std.proofs.Common.{◌≡◌, ap, ◌∙◌, ◌==◌, false, length, map, arith}
-use Rattle.make_text.specs.Rules.{MakeRule}
-use Rattle.make_text.specs.WordPaths.{once_joined}
+use Rattle.make_grammar.specs.Rules.{MakeRule}
+use Rattle.make_grammar.specs.WordPaths.{once_joined}
 use Rattle.make_text.proofs.OnceLemmas.{some_later}
 use Rattle.make_text.proofs.rules.MakeRule.has_no_prerequisites.Goals as goal
 

@@ -1,5 +1,5 @@
 use Rattle.std.proofs.Common.{◌≡◌, map, drop}
-use Rattle.make_text.specs.WordPaths.{once_joined}
+use Rattle.make_grammar.specs.WordPaths.{once_joined}
 use Rattle.make_text.proofs.rules.MakeRule.has_no_prerequisites.Given as goal
 
 abbrev pub invariant-loop-part : goal.invariant-loop-part

@@ -1,5 +1,5 @@
 use Rattle.std.proofs.Common.{◌≡◌, fold, map, drop}
-use Rattle.make_text.specs.WordPaths.{with_path, once_joined}
+use Rattle.make_grammar.specs.WordPaths.{with_path, once_joined}
 use Rattle.make_text.proofs.rules.MakeRule.put_prerequisites.Given as goal
 
 abbrev pub invariant-loop-part : goal.invariant-loop-part

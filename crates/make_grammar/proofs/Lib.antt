@@ -1,0 +1,12 @@
+pub mod Places
+pub mod NumberLaws
+pub mod WalkLaws
+pub mod ServingLaws
+pub mod UnitLaws
+pub mod RuleWordLaws
+pub mod RuleLineLaws
+pub mod GroupLaws
+pub mod JoinedLaws
+pub mod FormedMakefiles
+pub mod WorkedGraphs
+pub mod WorkedMakefiles

@@ -1,0 +1,5 @@
+use Rattle.make_grammar.proofs.UnitLaws as units
+use Rattle.make_grammar.proofs.laws.units_formed.Goals as goal
+
+pub returns : goal.returns
+returns c = units.units_formed

@@ -1,0 +1,15 @@
+pub mod Lines
+pub mod WordPaths
+pub mod LogicalLines
+pub mod LineKinds
+pub mod Macros
+pub mod Rules
+pub mod Contents
+pub mod Statements
+pub mod Grammar
+pub mod Numbers
+pub mod Serving
+pub mod Walks
+pub mod Units
+pub mod Graphs
+pub mod UnitLaws

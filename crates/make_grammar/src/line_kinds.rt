@@ -1,0 +1,12 @@
+//! Where a byte of a line stands by the macro references in it.
+
+/// Where a byte stands by the macro references.
+#[derive(Clone, Copy, Drop)]
+pub enum Position {
+    /// Outside them.
+    Outside,
+    /// Directly behind a `$`.
+    Dollar,
+    /// Before this byte, which closes one.
+    Within(u8),
+}

@@ -1,0 +1,3 @@
+pub mod CarriedLemmas
+pub mod FrameLemmas
+mod Worked
