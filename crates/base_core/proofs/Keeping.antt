@@ -1,5 +1,6 @@
 -- What a core keeps after one more step.
 pub mod Beginning
+pub mod Freshly
 pub mod Idle
 pub mod KeptBuilds
 pub mod KeptReplies

@@ -2,6 +2,4 @@
 pub mod CountRows
 pub mod Counts
 pub mod Growing
-pub mod Naming
-pub mod Stories
 pub mod WorkedReplies

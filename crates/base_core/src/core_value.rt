@@ -7,10 +7,7 @@ mod looks;
 mod unit_rows;
 mod units;
 
-use crate::history::History;
 use crate::lanes::Lanes;
-use crate::logs::Log;
-use crate::opening::{OpenFault, open_log};
 use crate::phases::last_phase;
 use cc_names::memory::NoMemory;
 use cc_names::replies::Reply;
@@ -20,6 +17,7 @@ use session_text::PhaseText;
 use std::alloc::Global;
 use std::hash::RandomState;
 use std::marker::Model;
+use story_log::{History, Log, OpenFault, open_log};
 
 /// A base with its story, on a disk. Contracts see it as the story, and the disk's counts and device.
 #[derive(Drop)]
@@ -52,10 +50,10 @@ impl<D: Disk> Core<D> {
     ghost use Rattle.legal_history.specs.Stories.Lawful.{last_moment, Legal};
     ghost use Rattle.base_core.specs.Keeping.Kept.{command_limit};
     ghost use Rattle.base_core.specs.Story.Replying.{replies_of};
-    ghost use Rattle.base_core.specs.Stopping.Backed.{IsSettled, IsAccounted, may_be_open};
+    ghost use Rattle.story_log.specs.Stopping.Backed.{IsSettled, IsAccounted, may_be_open};
     ghost use Rattle.base_core.specs.Story.Counted.{KeepsCount};
-    ghost use Rattle.base_core.specs.Bases.Opening.{OpensCore, FailsToOpen};
-    ghost use Rattle.base_core.specs.Story.Readable.{IsReadable, TellsOnly};
+    ghost use Rattle.story_log.specs.Bases.Opening.{OpensCore, FailsToOpen};
+    ghost use Rattle.story_log.specs.Story.Readable.{IsReadable, TellsOnly};
     ghost use Rattle.disk_model.specs.Counting.{next_count};
     ghost use Rattle.disk_model.specs.Devices.{file_of, bytes_of};
     ghost use Rattle.disk_model.specs.Files.{stable};

@@ -4,9 +4,9 @@ use Rattle.std.specs.List.{AllByRecursion, flat_map}
 use Rattle.cc_names.specs.Files.{Files}
 use Rattle.cc_names.specs.Paths.{root}
 use Rattle.cc_names.specs.declared.refusals.ScriptFault.{ScriptFault}
-use Rattle.build_script.specs.Lines.{script_of}
-use Rattle.build_script.specs.Run.{State, Done, after_lines, output_before, outputs_of, nothing_written, run_of, run, traced}
-use Rattle.build_script.specs.declared.lines.Line.{Line}
+use Rattle.script_grammar.specs.Lines.{script_of}
+use Rattle.script_grammar.specs.Run.{State, Done, after_lines, output_before, outputs_of, nothing_written, run_of, run, traced}
+use Rattle.script_grammar.specs.declared.lines.Line.{Line}
 use Rattle.build_core.proofs.RunsGo.{Ends, Leads, leads_done, leads_then, AreReads, reads_wider}
 use Rattle.build_core.proofs.RunsPaths.{line_paths, script_paths}
 use Rattle.build_core.proofs.RunsScripts.{ArePaths, script_read}

@@ -7,8 +7,8 @@ use Rattle.cc_names.specs.Files.{Files}
 use Rattle.cc_names.specs.Formed.{IsBelowRoot}
 use Rattle.cc_names.specs.Paths.{IsPath, root, is_root}
 use Rattle.cc_names.specs.declared.refusals.ScriptFault.{ScriptFault}
-use Rattle.build_script.specs.Run.{Asking, Done, Traced, traced, noted, and_then, unless_fault, see, present, text_at}
-use Rattle.build_script.proofs.CarriedLemmas.{traced-and_then}
+use Rattle.script_grammar.specs.Run.{Asking, Done, Traced, traced, noted, and_then, unless_fault, see, present, text_at}
+use Rattle.script_grammar.proofs.CarriedLemmas.{traced-and_then}
 use Rattle.build_core.proofs.RunsEach.{each_of_both}
 
 -- what holds where there was no fault

@@ -4,11 +4,11 @@ use Rattle.std.specs.List.{AllByRecursion}
 use Rattle.cc_names.specs.Files.{Files}
 use Rattle.cc_names.specs.declared.refusals.ScriptFault.{ScriptFault}
 use Rattle.cc_names.specs.declared.units.Unit.{Unit}
-use Rattle.build_script.proofs.FrameLemmas.{traced_same}
-use Rattle.build_script.specs.Lines.{script_of}
-use Rattle.build_script.specs.Run.{Asking, Ran, carried_out, run_of, run_of_lines, traced}
-use Rattle.build_script.specs.Standings.{text_of, texts}
-use Rattle.build_script.specs.declared.lines.Line.{Line}
+use Rattle.script_grammar.proofs.FrameLemmas.{traced_same}
+use Rattle.script_grammar.specs.Lines.{script_of}
+use Rattle.script_grammar.specs.Run.{Asking, Ran, carried_out, run_of, run_of_lines, traced}
+use Rattle.script_grammar.specs.Standings.{text_of, texts}
+use Rattle.script_grammar.specs.declared.lines.Line.{Line}
 use Rattle.legal_history.specs.Base.Rows.{Base}
 use Rattle.legal_history.specs.Builds.Active.{Build, unit_at}
 use Rattle.legal_history.specs.Builds.Choices.{here, text_of_row, visible}

@@ -2,9 +2,9 @@
 use Rattle.std.proofs.Common.{ℕ, Result, Ok, Err, List, [], ◌∷◌}
 use Rattle.std.specs.List.{flat_map}
 use Rattle.cc_names.specs.declared.refusals.ScriptFault.{ScriptFault}
-use Rattle.build_script.specs.Run.{Part, Says, TextOf, Preprocessed, parts_of}
-use Rattle.build_script.specs.declared.lines.Line.{Line}
-use Rattle.build_script.specs.declared.lines.Line.TheVariants.{Empty, Makes, Fail}
+use Rattle.script_grammar.specs.Run.{Part, Says, TextOf, Preprocessed, parts_of}
+use Rattle.script_grammar.specs.declared.lines.Line.{Line}
+use Rattle.script_grammar.specs.declared.lines.Line.TheVariants.{Empty, Makes, Fail}
 
 -- of a part, of a line, and of a text that was read
 abbrev pub part_paths : Part → List (List ℕ)

@@ -10,10 +10,10 @@ use Rattle.cc_names.specs.Paths.{IsPath, root, is_root, path_fault}
 use Rattle.cc_names.specs.declared.names.NameFault.{NameFault}
 use Rattle.cc_names.specs.declared.refusals.ScriptFault.{ScriptFault}
 use Rattle.cc_names.specs.declared.refusals.ScriptFault.TheVariants.{Absent, TooBig, IncludeDepth}
-use Rattle.build_script.specs.Forms.{lines_in}
-use Rattle.build_script.specs.Includes.{without_newline, include_start, quoted, include_of, under, probes_of}
-use Rattle.build_script.specs.Lines.{path_in}
-use Rattle.build_script.specs.Run.{Asking, Done, traced, noted, and_then, see, output_limit, probe_limit, Output, Made, said, Found, found_or, probed, Preprocessing, included, line_expanded, lines_expanded, expanded}
+use Rattle.script_grammar.specs.Forms.{lines_in}
+use Rattle.script_grammar.specs.Includes.{without_newline, include_start, quoted, include_of, under, probes_of}
+use Rattle.script_grammar.specs.Lines.{path_in}
+use Rattle.script_grammar.specs.Run.{Asking, Done, traced, noted, and_then, see, output_limit, probe_limit, Output, Made, said, Found, found_or, probed, Preprocessing, included, line_expanded, lines_expanded, expanded}
 use Rattle.build_core.proofs.RunsGo.{Ends, Leads, ends_so, leads_done, leads_then, AreReads, reads_wider, noted_more, the_root}
 
 -- a word that is read as a path is one

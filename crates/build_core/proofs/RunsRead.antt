@@ -5,8 +5,8 @@ use Rattle.std.proofs.lemmas.Cmp.{nat_list_eq_equiv}
 use Rattle.std.specs.List.{IsDistinct, list_any}
 use Rattle.std.specs.Str.{bytes_eq}
 use Rattle.cc_names.specs.Files.{Files}
-use Rattle.build_script.specs.Lines.{script_of}
-use Rattle.build_script.specs.Run.{Asking, Done, Asks, traced, noted, run, run_of}
+use Rattle.script_grammar.specs.Lines.{script_of}
+use Rattle.script_grammar.specs.Run.{Asking, Done, Asks, traced, noted, run, run_of}
 
 noted_once : (reads : List (List ℕ)) (path : List ℕ) → IsDistinct bytes_eq reads → IsDistinct bytes_eq (noted reads path)
 noted_once reads path once = by (list_any (bytes_eq path) reads) refl

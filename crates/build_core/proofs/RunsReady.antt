@@ -15,8 +15,8 @@ use Rattle.legal_history.proofs.Bases.Owned.{and_first}
 use Rattle.build_core.proofs.RunsEach.{each_at}
 use Rattle.build_core.proofs.RunsSeen.{makes_no_root}
 use Rattle.build_core.specs.BuildForms.{IsUnitFormed}
-use Rattle.make_text.specs.Macros.{expansion_limit}
-use Rattle.make_text.specs.UnitLaws.{IsShort}
+use Rattle.make_grammar.specs.Macros.{expansion_limit}
+use Rattle.make_grammar.specs.UnitLaws.{IsShort}
 use Rattle.build_core.specs.Publishing.{HasObjects, CanPublish}
 
 -- a base has no more rows than it may have

@@ -8,14 +8,14 @@ use Rattle.cc_names.specs.Cuts.{is_newline}
 use Rattle.cc_names.specs.Numbers.{number_of}
 use Rattle.cc_names.specs.Paths.{IsPath, path_before}
 use Rattle.cc_names.specs.declared.refusals.ScriptFault.{ScriptFault}
-use Rattle.build_script.specs.Lines.{path_in, paths_of, cat_of, link_of, directories_of, preprocess_of, preprocess_of_reversed, only_path, substitute_of, head_by, head_of, digest_of, work_of, appends_of, makes, line_of, line_of_reversed, line_before, lines_from, script_of}
-use Rattle.build_script.specs.Forms.{whole, linked_text}
-use Rattle.build_script.specs.Run.{TextOf, parts_of}
-use Rattle.build_script.specs.Words.{words, without_at}
-use Rattle.build_script.specs.declared.lines.Line.{Line}
-use Rattle.build_script.specs.declared.lines.Line.TheVariants.{Empty, Makes, Fail}
-use Rattle.build_script.specs.declared.lines.Work.{Work}
-use Rattle.build_script.specs.declared.lines.Work.TheVariants.{Echo, Cat, Preprocess, Substitute, Head, Digest, Link}
+use Rattle.script_grammar.specs.Lines.{path_in, paths_of, cat_of, link_of, directories_of, preprocess_of, preprocess_of_reversed, only_path, substitute_of, head_by, head_of, digest_of, work_of, appends_of, makes, line_of, line_of_reversed, line_before, lines_from, script_of}
+use Rattle.script_grammar.specs.Forms.{whole, linked_text}
+use Rattle.script_grammar.specs.Run.{TextOf, parts_of}
+use Rattle.script_grammar.specs.Words.{words, without_at}
+use Rattle.script_grammar.specs.declared.lines.Line.{Line}
+use Rattle.script_grammar.specs.declared.lines.Line.TheVariants.{Empty, Makes, Fail}
+use Rattle.script_grammar.specs.declared.lines.Work.{Work}
+use Rattle.script_grammar.specs.declared.lines.Work.TheVariants.{Echo, Cat, Preprocess, Substitute, Head, Digest, Link}
 use Rattle.build_core.proofs.RunsEach.{each_of_both}
 use Rattle.build_core.proofs.RunsPaths.{part_paths, line_paths, script_paths}
 use Rattle.build_core.proofs.RunsProbed.{word_is}

@@ -5,9 +5,9 @@ use Rattle.std.specs.List.{AllByRecursion}
 use Rattle.cc_names.specs.Files.{Files}
 use Rattle.cc_names.specs.declared.commands.Macro.{Macro}
 use Rattle.cc_names.specs.declared.units.Unit.{Unit}
-use Rattle.make_text.specs.Graphs.{units}
-use Rattle.make_text.specs.UnitLaws.{IsUnit}
-use Rattle.make_text.proofs.UnitLaws as laws
+use Rattle.make_grammar.specs.Graphs.{units}
+use Rattle.make_grammar.specs.UnitLaws.{IsUnit}
+use Rattle.make_grammar.proofs.UnitLaws as laws
 use Rattle.legal_history.proofs.Builds.OrderedUnits.{of_formed}
 use Rattle.build_core.specs.BuildForms.{IsUnitFormed}
 

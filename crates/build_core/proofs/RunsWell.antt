@@ -6,10 +6,10 @@ use Rattle.std.specs.Str.{bytes_eq}
 use Rattle.cc_names.specs.Files.{Files}
 use Rattle.cc_names.specs.Paths.{IsPath, root}
 use Rattle.cc_names.specs.declared.refusals.ScriptFault.TheVariants.{StrayWrite, Failed}
-use Rattle.build_script.specs.Run.{State, Done, Part, Says, TextOf, Preprocessed, Preprocessing, parts_of, Output, Made, said, text_at, expanded, depth_limit, with_part, with_parts, begun, wrote, write_output, after_line, after_lines}
-use Rattle.build_script.specs.declared.lines.Line.{Line}
-use Rattle.build_script.specs.declared.lines.Line.TheVariants.{Empty, Makes, Fail}
-use Rattle.build_script.specs.declared.lines.Work.{Work}
+use Rattle.script_grammar.specs.Run.{State, Done, Part, Says, TextOf, Preprocessed, Preprocessing, parts_of, Output, Made, said, text_at, expanded, depth_limit, with_part, with_parts, begun, wrote, write_output, after_line, after_lines}
+use Rattle.script_grammar.specs.declared.lines.Line.{Line}
+use Rattle.script_grammar.specs.declared.lines.Line.TheVariants.{Empty, Makes, Fail}
+use Rattle.script_grammar.specs.declared.lines.Work.{Work}
 use Rattle.build_core.proofs.RunsEach.{each_of_first, each_of_second}
 use Rattle.build_core.proofs.RunsGo.{Leads, ends_so, leads_done, leads_then, AreReads, reads_wider, text_leads}
 use Rattle.build_core.proofs.RunsPaths.{part_paths, line_paths}

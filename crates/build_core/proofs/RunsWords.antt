@@ -2,7 +2,7 @@
 use Rattle.std.proofs.Common.{◌≡◌, refl, ap, ◌∙◌, ℕ, suc, ◌+◌, ◌==◌, ◌≤◌, Bool, true, false, cond, List, [], ◌∷◌, length, if◌then◌else◌, arith, length-append}
 use Rattle.std.specs.List.{flat_map, slice_split, onto_first}
 use Rattle.cc_names.specs.Cuts.{is_blank}
-use Rattle.build_script.specs.Words.{is_alike, is_arrow, before_runs, runs, arrows, words_of_run, words, without_at}
+use Rattle.script_grammar.specs.Words.{is_alike, is_arrow, before_runs, runs, arrows, words_of_run, words, without_at}
 
 -- how many bytes some texts have in all
 abbrev pub total : List (List ℕ) → ℕ

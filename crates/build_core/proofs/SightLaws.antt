@@ -1,7 +1,7 @@
 -- The texts that the script of a unit finds are those of the rows that the unit sees.
 use Rattle.std.specs.Prelude.{◌≡◌, ℕ, Option, Some, None, option_map, option_and_then, List, refl}
 use Rattle.cc_names.specs.declared.units.Unit.{Unit}
-use Rattle.build_script.specs.Standings.{Standing, text_of, texts}
+use Rattle.script_grammar.specs.Standings.{Standing, text_of, texts}
 use Rattle.legal_history.specs.Base.Rows.{Base}
 use Rattle.legal_history.specs.Builds.Active.{Build}
 use Rattle.legal_history.specs.Builds.Choices.{visible, text_of_row}

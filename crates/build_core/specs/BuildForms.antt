@@ -5,7 +5,7 @@ use Rattle.cc_names.specs.Formed.{AreTargets}
 use Rattle.cc_names.specs.Names.{IsName}
 use Rattle.cc_names.specs.declared.units.Unit.{Unit}
 use Rattle.legal_history.specs.Builds.Active.{Build}
-use Rattle.make_text.specs.UnitLaws.{IsShort}
+use Rattle.make_grammar.specs.UnitLaws.{IsShort}
 
 -- the form of a unit: its targets are those of a row, and its script is within the limit
 abbrev pub IsUnitFormed : Unit → Type 0

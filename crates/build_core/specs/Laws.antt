@@ -8,7 +8,7 @@ use Rattle.cc_names.specs.declared.units.Unit.{Unit}
 use Rattle.legal_history.specs.Base.Rows.{Base}
 use Rattle.legal_history.specs.Builds.Active.{Build, unit_at}
 use Rattle.legal_history.specs.Builds.Consistency.{IsConsistent}
-use Rattle.make_text.specs.Graphs.{units}
+use Rattle.make_grammar.specs.Graphs.{units}
 use Rattle.build_core.specs.BuildForms.{IsUnitFormed}
 use Rattle.build_core.specs.Publishing.{CanPublish}
 

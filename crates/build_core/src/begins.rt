@@ -11,7 +11,7 @@ ghost use Rattle.legal_history.specs.Commands.Decisions.{Scene, first_refusal, n
 ghost use Rattle.legal_history.specs.Builds.Consistency.{InOrder};
 ghost use Rattle.legal_history.specs.Builds.Fresh.{texts};
 ghost use Rattle.legal_history.specs.Commands.ObjectLines.{clearmake, clearmake_tests};
-ghost use Rattle.make_text.specs.Graphs.{units};
+ghost use Rattle.make_grammar.specs.Graphs.{units};
 ghost use Rattle.build_core.specs.BuildForms.{IsBuildFormed};
 ghost use Rattle.build_core.specs.Plans.{Meets, AreUnits, Begun, Plans};
 

@@ -1,7 +1,7 @@
 //! What a unit of a build comes to without a run.
 
 ghost use Rattle.std.specs.Prelude.{◌≡◌, ◌<◌, ◌^◌, Bool, true, length, find, option_copied, IfOk, IfSome};
-ghost use Rattle.make_text.specs.Graphs.{first_target};
+ghost use Rattle.make_grammar.specs.Graphs.{first_target};
 ghost use Rattle.legal_history.specs.Commands.FileLines.{parent};
 ghost use Rattle.legal_history.specs.Builds.Fresh.{sees_directory, sees_file};
 ghost use Rattle.legal_history.specs.Builds.Serials.{is_missing, is_bad, standing_or_file, no_directory, no_script, outside};

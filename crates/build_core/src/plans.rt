@@ -3,9 +3,9 @@
 ghost use Rattle.std.specs.Prelude.{◌≡◌, Ok, is_some, option_copied, IfOk};
 ghost use Rattle.cc_names.specs.Answers.{Gives};
 ghost use Rattle.cc_names.specs.Paths.{path_of};
-ghost use Rattle.make_text.specs.Grammar.{makefile_of};
-ghost use Rattle.make_text.specs.Graphs.{graph_of, units, units_at, units_of};
-ghost use Rattle.make_text.specs.Units.{main_file, refusal_of, unless_refused};
+ghost use Rattle.make_grammar.specs.Grammar.{makefile_of};
+ghost use Rattle.make_grammar.specs.Graphs.{graph_of, units, units_at, units_of};
+ghost use Rattle.make_grammar.specs.Units.{main_file, refusal_of, unless_refused};
 
 use cc_names::commands::Macro;
 use cc_names::memory::{NoMemory, Or};

@@ -3,7 +3,7 @@
 ghost use Rattle.std.specs.Prelude.{◌≡◌, ◌<◌, ◌^◌, true, Some, Ok, length, IfOk};
 ghost use Rattle.cc_names.specs.declared.units.Unit as units;
 ghost use Rattle.build_script.specs.Ended.{ran_of};
-ghost use Rattle.build_script.specs.Lines.{script_of};
+ghost use Rattle.script_grammar.specs.Lines.{script_of};
 ghost use Rattle.legal_history.specs.Builds.Active.{unit_at};
 ghost use Rattle.legal_history.specs.Builds.Choices.{here};
 ghost use Rattle.legal_history.specs.Builds.Fresh.{script_text};

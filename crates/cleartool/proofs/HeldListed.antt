@@ -26,9 +26,10 @@ use Rattle.legal_history.specs.Queries.ListingTexts.{held_line, held_lines, lsdo
 use Rattle.legal_history.proofs.Bases.HeldObjects.{held_in_order}
 use Rattle.view_lookup.specs.Made.{is_target}
 use Rattle.view_lookup.specs.LookUps.{last_of}
-use Rattle.view_lookup.specs.Owned.{gives_view, paths_given, was_given}
+use Rattle.view_lookup.specs.Giving.{gives_view}
+use Rattle.cleartool.specs.Owned.{paths_given, was_given}
 use Rattle.view_lookup.specs.Lifetimes.{ended_or}
-use Rattle.view_lookup.proofs.GivenRows.{AreDeeds, deeds_below}
+use Rattle.cleartool.proofs.GivenRows.{AreDeeds, deeds_below}
 use Rattle.view_lookup.proofs.Holdings.{held_by_last, held_effect, same_view_path}
 use Rattle.view_lookup.proofs.Newest.{no_later}
 use Rattle.cleartool.specs.HeldObjects.{line_at}

@@ -13,3 +13,7 @@ pub mod Behind
 pub mod LesserPaths
 pub mod LeastInputs
 pub mod DifferingPaths
+pub mod PathSets
+pub mod GivenRows
+pub mod HoldersFound
+pub mod LabelsFound

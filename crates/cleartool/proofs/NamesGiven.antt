@@ -15,7 +15,8 @@ use Rattle.legal_history.proofs.Bases.NewVersions.{branch_makes, checkin_makes}
 use Rattle.legal_history.proofs.Bases.Owned.{row_fits, rows_below, third_of}
 use Rattle.legal_history.proofs.Bases.VersionsStay.{version_stays}
 use Rattle.legal_history.proofs.Stories.Goes.{same_number}
-use Rattle.view_lookup.specs.Owned.{gives_in, is_name, name_given, was_named}
+use Rattle.view_lookup.specs.Giving.{gives_in}
+use Rattle.cleartool.specs.Owned.{is_name, name_given, was_named}
 use Rattle.view_lookup.proofs.EntryEdits.{found_with, found_without}
 
 or_first : (a b : Bool) → a ≡ true → (a || b) ≡ true

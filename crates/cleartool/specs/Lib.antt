@@ -8,3 +8,5 @@ pub mod Listed
 pub mod Recorded
 pub mod Covering
 pub mod Differences
+pub mod LabelSets
+pub mod Owned

@@ -20,7 +20,7 @@ use Rattle.legal_history.specs.Commands.Decisions.{Answers, Scene, answers}
 use Rattle.legal_history.specs.Queries.ListingTexts.{name_line, object_line}
 use Rattle.legal_history.specs.Queries.QueryLines.{ls_tests}
 use Rattle.legal_history.specs.Queries.VersionNames.{line}
-use Rattle.view_lookup.specs.Owned.{is_name, was_given, was_named}
+use Rattle.cleartool.specs.Owned.{is_name, was_given, was_named}
 
 -- the line of a name with what stands there
 abbrev pub line_of : Base → List ℕ → List ℕ → List ℕ → Seen → List ℕ

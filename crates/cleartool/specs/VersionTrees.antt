@@ -8,7 +8,7 @@ use Rattle.legal_history.specs.Base.Changes.{tree}
 use Rattle.legal_history.specs.Base.Rows.{Base}
 use Rattle.legal_history.specs.Queries.ElementTexts.{branch_lines, branches_leaving, in_brackets, labels_on}
 use Rattle.legal_history.specs.Queries.VersionNames.{at_version, line, version_name}
-use Rattle.view_lookup.specs.LabelSets.{labels_at}
+use Rattle.cleartool.specs.LabelSets.{labels_at}
 use Rattle.cleartool.specs.declared.version_trees.Part.{Part}
 use Rattle.cleartool.specs.declared.version_trees.Part.TheVariants.{Branch, Versions}
 

@@ -12,6 +12,7 @@ ghost use Rattle.cleartool.specs.Descriptions.{label_line};
 
 use crate::found::find_selected;
 use crate::lines::push_line;
+use crate::sets::version_labels::{labels_of, labels_on};
 use crate::version_names::version_name;
 use cc_names::memory::{NoMemory, Or};
 use cc_names::names::Name;
@@ -21,7 +22,7 @@ use cc_names::refusals::Refusal;
 use cc_names::selection::Picked;
 use cc_names::texts::Text;
 use std::alloc::Global;
-use view_lookup::{FirstRows, checked_out, is_directory_element, labels_of, labels_on};
+use view_lookup::{FirstRows, checked_out, is_directory_element};
 
 /// The word for the kind of an element.
 fn kind_word(is_directory: bool) -> &'static [u8]

@@ -8,6 +8,8 @@ ghost use Rattle.cleartool.specs.Answering.{AnswersAs};
 ghost use Rattle.cleartool.specs.HeldObjects.{line_at};
 
 use crate::lines::push_object;
+use crate::sets::holders::count_holders;
+use crate::sets::owned_paths::paths_owned;
 use cc_names::memory::{NoMemory, Or};
 use cc_names::names::Name;
 use cc_names::numbers::push_number;
@@ -15,7 +17,7 @@ use cc_names::paths::Path;
 use cc_names::refusals::Refusal;
 use cc_names::texts::Text;
 use std::alloc::Global;
-use view_lookup::{FirstRows, count_holders, held, paths_owned, view_row};
+use view_lookup::{FirstRows, held, view_row};
 
 /// Adds the line of the object that the view holds at a path, with the number of views that hold it; nothing where it holds none.
 fn push_held(

@@ -6,7 +6,7 @@ ghost use Rattle.legal_history.specs.Commands.Decisions.{Scene};
 ghost use Rattle.legal_history.specs.Queries.ElementTexts.{branch_lines, branches_leaving, in_brackets, lsvtree_text};
 ghost use Rattle.legal_history.specs.Queries.QueryLines.{lsvtree};
 ghost use Rattle.legal_history.specs.Queries.VersionNames.{at_version, branch_name, line, version_name};
-ghost use Rattle.view_lookup.specs.LabelSets.{labels_at};
+ghost use Rattle.cleartool.specs.LabelSets.{labels_at};
 ghost use Rattle.cleartool.specs.Answering.{AnswersAs};
 ghost use Rattle.cleartool.specs.VersionTrees.{AreLabels, left_lines, part_lines, steps_left, steps_of};
 ghost use Rattle.cleartool.specs.declared.version_trees.Part.TheVariants as parts;
@@ -14,6 +14,7 @@ ghost use Rattle.cleartool.specs.declared.version_trees.Part.TheVariants as part
 use crate::bracketed::push_brackets;
 use crate::found::find_selected;
 use crate::lines::push_at_version;
+use crate::sets::version_labels::{VersionLabels, labels_of, labels_on};
 use crate::version_names::{branch_name, version_name};
 use cc_names::memory::{NoMemory, Or};
 use cc_names::names::Name;
@@ -21,9 +22,7 @@ use cc_names::paths::Path;
 use cc_names::refusals::Refusal;
 use cc_names::texts::Text;
 use std::alloc::Global;
-use view_lookup::{
-    FirstRows, VersionLabels, branches_leaving, labels_of, labels_on, version_numbered,
-};
+use view_lookup::{FirstRows, branches_leaving, version_numbered};
 
 /// A part of a tree of versions that is left to tell, in which no branch lies deeper than this.
 #[derive(Clone, Copy)]

@@ -7,7 +7,6 @@ ghost use Rattle.session_run.specs.Promises.Headline.{AreFromNothing, AreOfTheir
 ghost use Rattle.session_run.specs.Promises.Objects.{HeldObjectsAreLive, ScrubsListWhatIsDue};
 ghost use Rattle.session_run.specs.Promises.Reused.{HaveTheirOutcomes, NewBaseWasSound, OfEachLegal, PassNothingOver, RecordWhatTheyRead, TakeWhatTheySee, WasSound};
 
-use base_core::laws::a_found_base_is_sound;
 use legal_history::laws::builds::{
     a_build_is_as_from_nothing, a_build_is_of_its_command,
     an_ended_build_has_its_outcomes_from_nothing,
@@ -19,6 +18,7 @@ use legal_history::laws::stories::{
 use legal_history::laws::taken::{
     a_published_record_is_what_was_read, a_taken_record_is_seen, nothing_is_passed_over,
 };
+use story_log::laws::a_found_base_is_sound;
 
 /// Promises `SoundnessIsHandedOn`: a call that opens what a stop of an earlier call left begins on a sound base, where the
 /// earlier one did.

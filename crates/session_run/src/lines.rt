@@ -1,7 +1,7 @@
 //! The line that is written where no base is opened. It is made without memory, so that memory that runs out never hides a cause.
 
 ghost use Rattle.std.specs.Prelude.{◌≡◌, ◌≤◌, length};
-ghost use Rattle.base_core.specs.declared.opening.OpenCause.TheVariants as opens;
+ghost use Rattle.story_log.specs.declared.opening.OpenCause.TheVariants as opens;
 ghost use Rattle.session_run.specs.declared.sessions.Unstarted.TheVariants as why;
 ghost use Rattle.session_run.specs.Calls.Causes.{sink_faults};
 ghost use Rattle.session_run.specs.Calls.Statuses.{cause_word};
@@ -10,10 +10,10 @@ ghost use Rattle.session_run.specs.Running.Unstarted.{unstarted_status, unstarte
 use crate::sessions::Unstarted;
 use crate::statuses::Status;
 use arrayvec::ArrayString;
-use base_core::OpenCause;
 use cc_names::refusals::{SessionCause, SessionError};
 use cc_outside::{Sink, write_whole};
 use itoa::Buffer;
+use story_log::OpenCause;
 
 fn cause_word(cause: SessionCause) -> &'static str
     ensures word { result.now ≡ cause_word cause }

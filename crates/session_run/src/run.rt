@@ -3,7 +3,7 @@
 ghost use Rattle.std.specs.Prelude.{◌≡◌, true};
 ghost use Rattle.legal_history.specs.Base.Values.{IsSound};
 ghost use Rattle.legal_history.specs.Stories.Steps.{state_of};
-ghost use Rattle.base_core.specs.Stopping.Backed.{may_be_open};
+ghost use Rattle.story_log.specs.Stopping.Backed.{may_be_open};
 ghost use Rattle.cc_names.specs.Counts.{rises};
 ghost use Rattle.disk_model.specs.Told.{IfTold, IsCounted};
 ghost use Rattle.disk_model.specs.Devices.{file_of, bytes_of};
@@ -25,8 +25,7 @@ use crate::phases::run_phases;
 use crate::sessions::{Unstarted, session_given};
 use crate::statuses::Status;
 use crate::threads::Host;
-use base_core::laws::a_stop_opens_again;
-use base_core::{Core, History, OpenCause, OpenFault};
+use base_core::Core;
 use cc_names::memory::Or;
 use cc_names::texts::Text;
 use cc_outside::{Clock, Gate, Sink, Source, WriteFault};
@@ -36,6 +35,8 @@ use std::alloc::Global;
 use std::hash::RandomState;
 use std::sync::Wait;
 use std::thread::Threads;
+use story_log::laws::a_stop_opens_again;
+use story_log::{History, OpenCause, OpenFault};
 
 /// How a call ended: its status, the disk, and the history of the base that it opened, which is empty where it opened none.
 #[derive(Drop)]

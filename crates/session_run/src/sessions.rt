@@ -5,7 +5,6 @@ ghost use Rattle.session_run.specs.Calls.Causes.{intake_of, TakesNoMore};
 ghost use Rattle.session_run.specs.Running.Unstarted.{GivesPhases, IsUnstarted, of_unread, of_unsaid};
 
 use crate::words::is_run;
-use base_core::OpenCause;
 use cc_names::memory::{NoMemory, Or};
 use cc_names::refusals::SessionError;
 use cc_names::texts::Text;
@@ -13,6 +12,7 @@ use cc_outside::{Source, Unread, read_whole};
 use session_text::{PhaseText, read};
 use std::alloc::Global;
 use std::hash::RandomState;
+use story_log::OpenCause;
 
 /// The most bytes of a session's text.
 pub(crate) const TEXT_LIMIT: usize = 16_777_216;

@@ -35,8 +35,4 @@ pub mod ListingsStay
 pub mod ReservedOnce
 mod WorkedPools
 pub mod Walked
-pub mod LabelsFound
 pub mod LeavingTold
-pub mod PathSets
-pub mod GivenRows
-pub mod HoldersFound

@@ -26,6 +26,4 @@ pub mod Subjects
 pub mod ToldOn
 pub mod Walks
 pub mod Histories
-pub mod LabelSets
-pub mod Owned
 pub mod Giving

@@ -420,7 +420,7 @@ impl<'a> FirstRows<'a> {
     }
 
     /// That they are a base. Does nothing.
-    pub(crate) fn are_base(&self)
+    pub fn are_base(&self)
         ensures { is_base self.now ≡ true }
     {
         let _count = self.count;

@@ -26,7 +26,6 @@ mod fitting_elements;
 mod given_names;
 mod growth;
 mod history;
-mod holders;
 mod labels;
 mod leaving;
 mod listings;
@@ -49,8 +48,6 @@ mod subjects;
 mod texts;
 mod trees;
 mod types;
-mod version_labels;
-mod version_names;
 mod view_specs;
 mod views;
 mod walks;
@@ -63,28 +60,26 @@ pub use checkins::{
 pub use desks::{Checkout, checked_out, has_out, making};
 pub use directories::{has_name, has_out_by_name, is_directory_element, is_file_element};
 pub use fitting::{ROW_LIMIT, fits};
-pub use given_names::names_given;
+pub use given_names::rows_naming;
 pub use history::history_of;
-pub use holders::count_holders;
 pub use labels::{has_label, holder};
 pub use leaving::branches_leaving;
 pub use listings::is_publish;
 pub use merges::arrow_row;
+pub use numbered::targets_of;
 pub use objects::{held, held_at_all, live};
-pub use owned::paths_owned;
+pub use owned::rows_owning;
 pub use picks::pick;
 pub use pool::{RecordTest, newest_object, publishes};
 pub use reservations::{other_reserver, reserver};
-pub use scrubs::{is_held, may_be_scrubbed};
+pub use scrubs::{holds_one, is_held, may_be_scrubbed, winks_of};
 pub use seen::{at, file_at, is_directory, kind_of};
 pub use standings::oldest_out;
 pub use texts::{text_at, text_of};
 pub use trees::{
-    branch_named, branch_of_version, has_branch, is_latest, is_version_of, latest_beside,
-    latest_version, name_of_branch, origin_of, version_id_of, version_numbered,
+    branch_named, branch_of_version, has_branch, is_latest, is_number, is_version_of,
+    latest_beside, latest_version, name_of_branch, origin_of, version_id_of, version_numbered,
 };
 pub use types::{is_branch_type, is_label_type, is_type_taken, kind_of_type};
-pub use version_labels::{VersionLabels, labels_of, labels_on};
-pub use version_names::version_named;
 pub use view_specs::{rules, spec_text};
 pub use views::{private, view_row};

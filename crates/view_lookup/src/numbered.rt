@@ -19,7 +19,7 @@ pub(crate) fn row_of(rows: &[Row], number: u64) -> Option<&Row>
 }
 
 /// The targets of the object of this number, among the rows from row 1 on. Takes constant time.
-pub(crate) fn targets_of(rows: &[Row], object: u64) -> &[Path]
+pub fn targets_of(rows: &[Row], object: u64) -> &[Path]
     ensures targets { result.now ≡ targets_of (reverse rows.now) object }
     ensures below { AllByRecursion IsBelowRoot result.now }
 {

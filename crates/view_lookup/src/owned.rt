@@ -1,24 +1,17 @@
-//! What a view has had of its own: the paths at which it put private files or came to hold objects.
+//! The rows that gave a view something: a private file, or an object.
 
-ghost use Rattle.std.specs.Prelude.{◌≡◌, ◌||◌, ℕ, true, List, IfOk, OnOk};
-ghost use Rattle.std.specs.List.{AllByRecursion};
-ghost use Rattle.cc_names.specs.Formed.{IsBelowRoot};
-ghost use Rattle.legal_history.specs.Base.Closures.{is_among};
-ghost use Rattle.legal_history.specs.Base.Rows.{deed_at};
-ghost use Rattle.view_lookup.specs.Owned.{gives_view, is_given_by, paths_by, was_given};
+ghost use Rattle.std.specs.Prelude.{◌≡◌, IfOk};
+ghost use Rattle.view_lookup.specs.Giving.{gives_view, own_effect};
+ghost use Rattle.view_lookup.specs.Walks.{all_told};
 
-use crate::bases::{FirstRows, row_at};
+use crate::bases::FirstRows;
 use crate::look_ups::{Does, LookUp, only_if};
-use crate::numbered::targets_of;
 use crate::subjects::Subject;
 use crate::views::same_name;
 use cc_names::memory::NoMemory;
 use cc_names::names::Name;
-use cc_names::paths::Path;
 use cc_names::rows::Deed;
 use std::alloc::Global;
-use std::collections::BTreeSet;
-use std::slice;
 
 /// What a view puts or comes to hold.
 #[derive(Clone, Copy)]
@@ -60,72 +53,11 @@ fn gives_view(view: &Name, deed: &Deed) -> bool
     }
 }
 
-/// The paths at which the row of a number gave its view a private file or an object.
-fn paths_by<'a>(rows: &FirstRows<'a>, number: u64) -> &'a [Path]
-    ensures paths { result.now ≡ paths_by rows.now (deed_at rows.now number) }
-    ensures below { AllByRecursion IsBelowRoot result.now }
+/// The numbers of the rows by which a view put a private file or came to hold an object, the newest first. Takes time linear in
+/// them, and in the rows with the view's key.
+pub fn rows_owning(alloc: Global, rows: &FirstRows<'_>, view: &Name) -> Result<Vec<u64>, NoMemory>
+    ensures { IfOk result
+        (λ numbers. numbers.items ≡ all_told (own_effect view.now) rows.now) }
 {
-    match row_at(rows, number) {
-        None => &[],
-        Some(row) => match row.deed() {
-            Deed::Put { path, .. } => slice::from_ref(path),
-            Deed::Publish { targets, .. } => targets.as_slice(),
-            Deed::Wink { object, .. } => targets_of(rows.as_slice(), *object),
-            _ => &[],
-        },
-    }
-}
-
-/// Adds these paths.
-fn add_all(alloc: Global, found: &mut BTreeSet<Path>, paths: &[Path]) -> Result<(), NoMemory>
-    ensures { OnOk result
-        ((path : List ℕ)
-        → is_among path found.new.keys
-        ≡ (is_among path paths.now || is_among path found.old.keys)) }
-{
-    for path in paths {
-        found.insert(path.copy(alloc)?)?;
-    }
-    Ok(())
-}
-
-/// Adds the paths at which the row of a number gave something.
-fn add_row(
-    alloc: Global,
-    found: &mut BTreeSet<Path>,
-    rows: &FirstRows<'_>,
-    number: u64,
-) -> Result<(), NoMemory>
-    ensures found { OnOk result
-        ((path : List ℕ)
-        → is_among path found.new.keys
-        ≡ (is_given_by rows.now path number || is_among path found.old.keys)) }
-    ensures below { (path : List ℕ)
-        → is_given_by rows.now path number ≡ true
-        → IsBelowRoot path }
-{
-    add_all(alloc, found, paths_by(rows, number))
-}
-
-/// The paths at which a view ever put a private file or came to hold an object, whether it has one there still or not. Takes time
-/// linear in the rows by which it did, times logarithmic in the paths.
-pub fn paths_owned(
-    alloc: Global,
-    rows: &FirstRows<'_>,
-    view: &Name,
-) -> Result<BTreeSet<Path>, NoMemory>
-    ensures found { IfOk result
-        (λ found. (path : List ℕ)
-        → is_among path found.keys ≡ was_given rows.now view.now path rows.now) }
-    ensures below { OnOk result
-        ((path : List ℕ)
-        → was_given rows.now view.now path rows.now ≡ true
-        → IsBelowRoot path) }
-{
-    let numbers = rows.all_told(alloc, &OwnOf { view })?;
-    let mut found = BTreeSet::new(alloc);
-    for number in &numbers {
-        add_row(alloc, &mut found, rows, *number)?;
-    }
-    Ok(found)
+    rows.all_told(alloc, &OwnOf { view })
 }

@@ -1,11 +1,12 @@
 //! Which objects some view holds, and which may be scrubbed.
 
-ghost use Rattle.std.specs.Prelude.{◌≡◌};
+ghost use Rattle.std.specs.Prelude.{◌≡◌, IfOk};
 ghost use Rattle.cc_names.specs.References.{is_held};
 ghost use Rattle.legal_history.specs.Base.Changes.{held};
 ghost use Rattle.legal_history.specs.Base.Conditions.{may_be_scrubbed};
 ghost use Rattle.legal_history.specs.Base.Rows.{deed_at};
-ghost use Rattle.view_lookup.specs.Effects.{held_by_maker, holds_one};
+ghost use Rattle.view_lookup.specs.Effects.{held_by_maker, holds_one, winked_effect};
+ghost use Rattle.view_lookup.specs.Walks.{all_told};
 
 use crate::bases::{FirstRows, row_at};
 use crate::look_ups::{Does, LookUp, only_if};
@@ -13,12 +14,14 @@ use crate::numbered::targets_of;
 use crate::objects::{held, live};
 use crate::subjects::Subject;
 use crate::trees::is_number;
+use cc_names::memory::NoMemory;
 use cc_names::names::Name;
 use cc_names::paths::Path;
 use cc_names::rows::Deed;
+use std::alloc::Global;
 
 /// Whether a view holds an object at one of these paths.
-pub(crate) fn holds_one(rows: &FirstRows<'_>, view: &Name, object: u64, targets: &[Path]) -> bool
+pub fn holds_one(rows: &FirstRows<'_>, view: &Name, object: u64, targets: &[Path]) -> bool
     ensures { result ≡ holds_one rows.now view.now object targets.now }
 {
     targets
@@ -28,9 +31,9 @@ pub(crate) fn holds_one(rows: &FirstRows<'_>, view: &Name, object: u64, targets:
 
 /// The winks of an object by views that hold it still in these rows.
 #[derive(Clone, Copy)]
-pub(crate) struct WinkedOf<'a> {
-    pub(crate) rows: &'a FirstRows<'a>,
-    pub(crate) object: u64,
+struct WinkedOf<'a> {
+    rows: &'a FirstRows<'a>,
+    object: u64,
 }
 
 impl LookUp for WinkedOf<'_> {
@@ -62,6 +65,15 @@ impl LookUp for WinkedOf<'_> {
     }
 
     ghost covered = { λ it. winked_covered it.rows.now it.object };
+}
+
+/// The numbers of the rows by which views that hold an object still winked it in, the newest first. Takes for each wink of it the
+/// time of `holds_one`.
+pub fn winks_of(alloc: Global, rows: &FirstRows<'_>, object: u64) -> Result<Vec<u64>, NoMemory>
+    ensures { IfOk result
+        (λ numbers. numbers.items ≡ all_told (winked_effect rows.now object) rows.now) }
+{
+    rows.all_told(alloc, &WinkedOf { rows, object })
 }
 
 /// Whether the view of the row that made an object holds it at one of its targets.

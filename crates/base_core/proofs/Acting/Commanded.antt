@@ -16,7 +16,7 @@ use Rattle.carried_out.specs.CarriedOut.{AreCarriedOut, IsLaneCarriedOut, is_car
 use Rattle.base_core.specs.Keeping.Kept.{command_limit}
 use Rattle.clearmake.specs.Nexts.{jobs_of, next_by, next_of}
 use Rattle.base_core.proofs.Building.UnitRows.{all_at}
-use Rattle.base_core.proofs.Keeping.Idle.{some_same}
+use Rattle.story_log.proofs.Cases.{some_same}
 
 -- what holds of all commands of all lanes holds of the one that is next
 in_lane : (Q : Lane → Type 0) (P : Command → Type 0) → ((lane : Lane) → Q lane → AllByRecursion P lane.commands) → (phase : Phase) (lane done : ℕ) (command : Command) → AllByRecursion Q phase.lanes

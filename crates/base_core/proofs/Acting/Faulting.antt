@@ -15,16 +15,16 @@ use Rattle.legal_history.specs.Stories.Committing.{LeavesRow, MayCommit}
 use Rattle.cc_names.specs.Counts.{rises}
 use Rattle.cc_names.specs.declared.desks.Done.TheVariants.{Faulted}
 use Rattle.base_core.specs.Calls.Acting.{Acts, IsRowToCommit, FinishesCommand}
-use Rattle.base_core.specs.Logging.Appending.{MayLeaveRow}
+use Rattle.story_log.specs.Logging.Appending.{MayLeaveRow}
 use Rattle.base_core.specs.Keeping.Kept.{IsCoreKept}
 use Rattle.base_core.specs.Keeping.Lanes.{LaneKept, with_reply}
-use Rattle.base_core.specs.Logging.Logs.{Logged, with_step_on}
-use Rattle.base_core.specs.Story.Readable.{IsReadable}
+use Rattle.story_log.specs.Logging.Logs.{Logged, with_step_on}
+use Rattle.story_log.specs.Story.Readable.{IsReadable}
 use Rattle.base_core.specs.Story.Replying.{in_lane, reply_to_fault, replies_of}
 use Rattle.base_core.proofs.Keeping.Idle.{decided_is_free}
 use Rattle.base_core.proofs.Keeping.KeptBuilds.{same_rows}
 use Rattle.base_core.proofs.Keeping.KeptSteps.{kept_finished}
-use Rattle.base_core.proofs.Story.Naming.{left_named}
+use Rattle.story_log.proofs.Story.Naming.{left_named}
 
 -- what a fault left is what it may leave
 pub leaves_so : (s : State) (row : Plain) (left : Option Plain) → MayCommit s row → MayLeaveRow s row left → LeavesRow s row.tag left

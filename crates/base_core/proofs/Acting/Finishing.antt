@@ -16,8 +16,8 @@ use Rattle.legal_history.specs.Stories.Steps.{after, state_of}
 use Rattle.base_core.specs.Calls.Acting.{FinishesCommand, IsRowToCommit, IsNextAnswer, IsNextRefusal}
 use Rattle.base_core.specs.Keeping.Kept.{IsCoreKept}
 use Rattle.base_core.specs.Keeping.Lanes.{LaneKept, with_reply}
-use Rattle.base_core.specs.Logging.Logs.{Logged, with_row, with_step}
-use Rattle.base_core.specs.Story.Readable.{IsReadable}
+use Rattle.story_log.specs.Logging.Logs.{Logged, with_row, with_step}
+use Rattle.story_log.specs.Story.Readable.{IsReadable}
 use Rattle.base_core.specs.Story.Replying.{in_lane, replies_of, reply_to_answer, reply_to_row}
 use Rattle.base_core.proofs.Keeping.Idle.{decided_is_free}
 use Rattle.base_core.proofs.Keeping.KeptBuilds.{same_rows, more_rows}

@@ -9,9 +9,9 @@ use Rattle.legal_history.specs.Stories.States.{State, start, ticks_of}
 use Rattle.legal_history.specs.Stories.Steps.{state_of}
 use Rattle.legal_history.specs.Stories.Lawful.{Legal}
 use Rattle.legal_history.proofs.Stories.SoundStories.{base_fits}
-use Rattle.base_core.proofs.Story.Growing.{state_from-more, legal_more}
-use Rattle.base_core.proofs.Keeping.Idle.{both}
-use Rattle.base_core.proofs.Logging.Rising.{rises_more}
+use Rattle.story_log.proofs.Story.Growing.{state_from-more, legal_more}
+use Rattle.story_log.proofs.Cases.{both}
+use Rattle.story_log.proofs.Logging.Rising.{rises_more}
 
 -- the base of the story with the row committed is a base
 pub may_fits : (story : List StoryStep) (row : Plain) → Legal story → MayCommit (state_of story) row → fits (state_of story).base row.deed ≡ true

@@ -18,25 +18,25 @@ use Rattle.legal_history.specs.Stories.Committing.{LeavesRow, MayCommit}
 use Rattle.legal_history.specs.Stories.Lawful.{EndsBuild}
 use Rattle.legal_history.specs.Stories.States.{State, Faulted, start, done_of, with_done, next_tag, build_by, ticks_of, faults_of}
 use Rattle.legal_history.specs.Stories.Steps.{after, state_of, done_by_fault, faulted_in, without_build}
-use Rattle.base_core.specs.Logging.Appending.{MayLeaveRow}
+use Rattle.story_log.specs.Logging.Appending.{MayLeaveRow}
 use Rattle.base_core.specs.Calls.Building.{IsBuildKept}
 use Rattle.clearmake.specs.Going.{SamePhase, Finishes}
 use Rattle.base_core.specs.Keeping.Kept.{IsStoryKept, IsPhaseKept, AreReplies, AreBuilds, IsCoreKept}
 use Rattle.base_core.specs.Keeping.Lanes.{LaneKept, lane_kept, commands_at, replies_at, builds_in, with_closed}
-use Rattle.base_core.specs.Logging.Logs.{Logged, with_step, with_step_on}
-use Rattle.base_core.specs.Story.Readable.{IsReadable}
+use Rattle.story_log.specs.Logging.Logs.{Logged, with_step, with_step_on}
+use Rattle.story_log.specs.Story.Readable.{IsReadable}
 use Rattle.base_core.specs.Story.Replying.{in_lane, reply_to_fault, reply_to_end, replies_of}
 use Rattle.build_core.proofs.SlotLaws.{put_numbered, without_numbered}
 use Rattle.base_core.proofs.Building.Closing.{build_is_by, builds_closed}
 use Rattle.base_core.proofs.Acting.Faulting.{leaves_so}
-use Rattle.base_core.proofs.Story.Growing.{state_from-more}
+use Rattle.story_log.proofs.Story.Growing.{state_from-more}
 use Rattle.base_core.proofs.Keeping.KeptBuilds.{same_rows}
 use Rattle.base_core.proofs.Keeping.KeptReplies.{replies_more, replies_stay, replies_are_same}
 use Rattle.base_core.proofs.Keeping.KeptSteps.{phase_stays, story_more}
 use Rattle.base_core.proofs.Keeping.LaneCounts.{done_same, done_other}
 use Rattle.base_core.proofs.Keeping.LaneSets.{builds_count}
 use Rattle.base_core.proofs.Keeping.LaneSlots.{found_put, lane_slot}
-use Rattle.base_core.proofs.Story.Naming.{left_named}
+use Rattle.story_log.proofs.Story.Naming.{left_named}
 use Rattle.base_core.proofs.Building.UnitRows.{Gives}
 
 either : (b : Bool) → (b || true) ≡ true

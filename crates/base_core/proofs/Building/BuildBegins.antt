@@ -14,7 +14,7 @@ use Rattle.legal_history.specs.Stories.Steps.{after, begun, state_of, with_build
 use Rattle.base_core.specs.Calls.Building.{IsBuildKept}
 use Rattle.base_core.specs.Keeping.Kept.{IsCoreKept}
 use Rattle.base_core.specs.Keeping.Lanes.{LaneKept, put_build}
-use Rattle.base_core.specs.Logging.Logs.{Logged, with_step}
+use Rattle.story_log.specs.Logging.Logs.{Logged, with_step}
 use Rattle.base_core.specs.Story.Replying.{replies_of}
 use Rattle.base_core.proofs.Keeping.Idle.{decided_is_free}
 use Rattle.base_core.proofs.Keeping.KeptBuilds.{same_rows}

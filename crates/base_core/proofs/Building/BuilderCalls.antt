@@ -9,7 +9,7 @@ use Rattle.legal_history.specs.Builds.Active.{Build, build_of}
 use Rattle.legal_history.specs.Stories.States.{State}
 use Rattle.clearmake.specs.Calls.{IsBuilding, WasStarted, is_released, released}
 use Rattle.clearmake.specs.Sights.{IsFetched, sees, standing_at}
-use Rattle.base_core.proofs.Keeping.Idle.{some_same}
+use Rattle.story_log.proofs.Cases.{some_same}
 
 -- a unit that was started is one of the build
 pub started_within : (s : State) (lane n : ℕ) (build : Build) → build_of s.active lane ≡ Some build → WasStarted s lane n → n < length build.units

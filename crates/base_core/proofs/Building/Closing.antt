@@ -18,10 +18,10 @@ use Rattle.base_core.specs.Calls.Building.{IsBuildKept}
 use Rattle.clearmake.specs.Going.{SamePhase}
 use Rattle.base_core.specs.Keeping.Kept.{AreBuilds, IsPhaseKept, IsCoreKept}
 use Rattle.base_core.specs.Keeping.Lanes.{LaneKept, lane_kept, commands_at, replies_at, builds_in, with_closed}
-use Rattle.base_core.specs.Logging.Logs.{Logged, with_step}
+use Rattle.story_log.specs.Logging.Logs.{Logged, with_step}
 use Rattle.base_core.specs.Story.Replying.{in_lane, reply_to_end, replies_of}
 use Rattle.build_core.proofs.SlotLaws.{without_numbered}
-use Rattle.base_core.proofs.Story.Growing.{state_from-more}
+use Rattle.story_log.proofs.Story.Growing.{state_from-more}
 use Rattle.base_core.proofs.Keeping.KeptBuilds.{KeepsRows, same_rows, builds_put}
 use Rattle.base_core.proofs.Keeping.KeptReplies.{replies_more}
 use Rattle.base_core.proofs.Keeping.KeptSteps.{phase_stays, story_more}

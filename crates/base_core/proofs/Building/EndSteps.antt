@@ -15,10 +15,10 @@ use Rattle.clearmake.specs.Calls.{IsOver}
 use Rattle.clearmake.specs.Going.{Finishes}
 use Rattle.base_core.specs.Keeping.Kept.{IsCoreKept}
 use Rattle.base_core.specs.Keeping.Lanes.{LaneKept, with_closed}
-use Rattle.base_core.specs.Logging.Logs.{Logged, with_step}
+use Rattle.story_log.specs.Logging.Logs.{Logged, with_step}
 use Rattle.base_core.proofs.Building.Closing.{kept_end}
-use Rattle.base_core.proofs.Story.Growing.{state_from-more}
-use Rattle.base_core.proofs.Keeping.Idle.{some_same}
+use Rattle.story_log.proofs.Story.Growing.{state_from-more}
+use Rattle.story_log.proofs.Cases.{some_same}
 use Rattle.base_core.proofs.Keeping.LaneCounts.{done_same, done_other}
 use Rattle.base_core.proofs.Keeping.LaneSlots.{lane_slot}
 

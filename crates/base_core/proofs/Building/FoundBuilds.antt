@@ -6,8 +6,8 @@ use Rattle.cc_names.specs.declared.refusals.ScriptFault.{ScriptFault}
 use Rattle.cc_names.specs.declared.refusals.UnitFault.TheVariants as faults
 use Rattle.cc_names.specs.declared.steps.StoryStep.{StoryStep}
 use Rattle.cc_names.specs.declared.steps.UnitEnd.TheVariants as ends
-use Rattle.build_script.specs.Run.{Ran}
-use Rattle.build_script.specs.declared.lines.Line.{Line}
+use Rattle.script_grammar.specs.Run.{Ran}
+use Rattle.script_grammar.specs.declared.lines.Line.{Line}
 use Rattle.legal_history.specs.Builds.Active.{Build, Came, Started, Concluded, Given, build_of, came_to, is_outcome}
 use Rattle.legal_history.specs.Builds.Reuse.{reusable}
 use Rattle.legal_history.specs.Builds.UnitTurns.{IsRunning}
@@ -23,9 +23,9 @@ use Rattle.clearmake.specs.declared.turns.Carried.TheVariants as carried
 use Rattle.clearmake.specs.Going.{BuildsOn, GoesOn}
 use Rattle.base_core.specs.Keeping.Kept.{IsCoreKept}
 use Rattle.base_core.specs.Keeping.Lanes.{LaneKept}
-use Rattle.base_core.specs.Logging.Logs.{Logged}
+use Rattle.story_log.specs.Logging.Logs.{Logged}
 use Rattle.base_core.proofs.Building.Closing.{build_is_by}
-use Rattle.base_core.proofs.Keeping.Idle.{some_same}
+use Rattle.story_log.proofs.Cases.{some_same}
 
 -- what holds of a value that was answered
 pub if_ok : {A E : Type 0} (r : Result A E) (P Q : A → Type 0) → ((a : A) → P a → Q a) → IfOk r P → IfOk r Q

@@ -10,15 +10,15 @@ use Rattle.legal_history.specs.Stories.States.{State}
 use Rattle.legal_history.specs.Stories.Steps.{after, state_of, with_came}
 use Rattle.legal_history.specs.Stories.Lawful.{Lawful}
 use Rattle.base_core.specs.Calls.Building.{IsBuildKept}
-use Rattle.base_core.specs.Story.Faults.{is_fault}
+use Rattle.story_log.specs.Story.Faults.{is_fault}
 use Rattle.base_core.specs.Keeping.Kept.{IsCoreKept}
 use Rattle.base_core.specs.Keeping.Lanes.{LaneKept, put_build}
-use Rattle.base_core.specs.Logging.Logs.{Logged, with_step}
-use Rattle.base_core.specs.Story.Readable.{IsReadable}
+use Rattle.story_log.specs.Logging.Logs.{Logged, with_step}
+use Rattle.story_log.specs.Story.Readable.{IsReadable}
 use Rattle.base_core.specs.Story.Replying.{replies_after, replies_of}
 use Rattle.base_core.proofs.Keeping.KeptBuilds.{same_rows}
 use Rattle.base_core.proofs.Keeping.KeptSteps.{kept_put}
-use Rattle.base_core.proofs.Story.Naming.{names_none}
+use Rattle.story_log.proofs.Story.Naming.{names_none}
 use Rattle.base_core.proofs.Keeping.Reserving.{rows_for}
 
 -- a build with what one of its units has come to is kept as it was

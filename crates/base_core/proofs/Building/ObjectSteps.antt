@@ -16,18 +16,18 @@ use Rattle.base_core.specs.Calls.BuildCalls.{GivesObject}
 use Rattle.clearmake.specs.Going.{BuildsOn, GoesOn, HasOutcome}
 use Rattle.base_core.specs.Keeping.Kept.{IsCoreKept}
 use Rattle.base_core.specs.Keeping.Lanes.{LaneKept, build_at, put_build}
-use Rattle.base_core.specs.Logging.Logs.{Logged, with_row}
+use Rattle.story_log.specs.Logging.Logs.{Logged, with_row}
 use Rattle.base_core.specs.Story.Replying.{in_lane, replies_of}
 use Rattle.base_core.proofs.Acting.Fitting.{may_fits}
 use Rattle.base_core.proofs.Building.Noting.{noted_kept}
 use Rattle.base_core.proofs.Building.UnitNotes.{outcome_noted}
 use Rattle.base_core.proofs.Building.UnitRows.{Gives, given_state, gives_so}
-use Rattle.base_core.proofs.Keeping.Idle.{some_same}
+use Rattle.story_log.proofs.Cases.{some_same}
 use Rattle.base_core.proofs.Keeping.KeptBuilds.{more_rows}
 use Rattle.base_core.proofs.Keeping.KeptSteps.{kept_put}
 use Rattle.base_core.proofs.Keeping.LaneSlots.{lane_slot, found_put}
 use Rattle.base_core.proofs.Keeping.Reserving.{rows_for}
-use Rattle.base_core.proofs.Story.Growing.{state_from-more}
+use Rattle.story_log.proofs.Story.Growing.{state_from-more}
 
 -- the row in the log's own story
 pub gives_here : (log : Logged) (lanes : List LaneKept) (now : ℕ) (story : List StoryStep) (lane n : ℕ) (row : Plain) (object : ℕ) → log.story ≡ story → IsCoreKept log lanes now → GivesObject (state_of story) lane n row object → BuildIsConsistent → Gives (state_of log.story) lane n row object

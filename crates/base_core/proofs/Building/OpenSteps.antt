@@ -18,8 +18,8 @@ use Rattle.base_core.specs.Calls.Building.{IsNextBuild}
 use Rattle.clearmake.specs.Going.{GoesOn, Finishes}
 use Rattle.base_core.specs.Keeping.Kept.{IsCoreKept}
 use Rattle.base_core.specs.Keeping.Lanes.{LaneKept, put_build}
-use Rattle.base_core.specs.Logging.Logs.{Logged, with_step}
-use Rattle.base_core.proofs.Story.Growing.{state_from-more}
+use Rattle.story_log.specs.Logging.Logs.{Logged, with_step}
+use Rattle.story_log.proofs.Story.Growing.{state_from-more}
 use Rattle.base_core.proofs.Keeping.Idle.{decided_is_free, not_both}
 use Rattle.base_core.proofs.Keeping.LaneCounts.{done_same, done_other}
 use Rattle.base_core.proofs.Keeping.LaneSlots.{found_put}

@@ -26,7 +26,7 @@ use Rattle.legal_history.specs.Stories.States.{State, next_tag}
 use Rattle.legal_history.specs.Builds.UnitTurns.{ComesTo, EndsEarly}
 use Rattle.legal_history.specs.Builds.Turns.{early}
 use Rattle.clearmake.specs.Nexts.{next_of, next_by}
-use Rattle.base_core.proofs.Keeping.Idle.{some_same}
+use Rattle.story_log.proofs.Cases.{some_same}
 
 -- a lane that is to build waits with a command
 pub builds_waits : (s : State) (lane : ℕ) (tag : Tag) → next_of s lane ≡ nexts.Build tag → IsSome (command_of s lane)

@@ -14,11 +14,11 @@ use Rattle.base_core.specs.Calls.BuildCalls.{Notes, Noted}
 use Rattle.clearmake.specs.Going.{BuildsOn}
 use Rattle.base_core.specs.Keeping.Kept.{IsCoreKept}
 use Rattle.base_core.specs.Keeping.Lanes.{LaneKept, build_at, put_build}
-use Rattle.base_core.specs.Logging.Logs.{Logged, with_step}
+use Rattle.story_log.specs.Logging.Logs.{Logged, with_step}
 use Rattle.base_core.specs.Story.Replying.{replies_after, replies_by, replies_of}
-use Rattle.base_core.specs.Story.Telling.{stands_alone}
-use Rattle.base_core.proofs.Story.Growing.{state_from-more}
-use Rattle.base_core.proofs.Keeping.Idle.{some_same}
+use Rattle.story_log.specs.Story.Telling.{stands_alone}
+use Rattle.story_log.proofs.Story.Growing.{state_from-more}
+use Rattle.story_log.proofs.Cases.{some_same}
 use Rattle.base_core.proofs.Keeping.LaneCounts.{one_or_two}
 use Rattle.base_core.proofs.Keeping.LaneSlots.{lane_slot, found_put, found_else}
 use Rattle.base_core.proofs.Building.Noting.{kept_note}

@@ -34,7 +34,7 @@ use Rattle.base_core.specs.Calls.BuildCalls.{GivesObject, Published, WinkedIn, I
 use Rattle.base_core.specs.Calls.Building.{IsBuildKept}
 use Rattle.base_core.specs.Story.Replying.{reply_to_row}
 use Rattle.base_core.proofs.Building.Closing.{build_is_by}
-use Rattle.base_core.proofs.Keeping.Idle.{some_same}
+use Rattle.story_log.proofs.Cases.{some_same}
 
 -- the state after a row that gives unit n of a lane's build an object
 abbrev pub given_state : State → ℕ → ℕ → Build → Plain → ℕ → ℕ → State

@@ -16,10 +16,12 @@ use Rattle.legal_history.specs.Stories.States.{State, start, all_done, done_of}
 use Rattle.legal_history.specs.Stories.Steps.{after, state_of}
 use Rattle.base_core.specs.Keeping.Kept.{last_phase, command_limit, IsStoryKept, IsPhaseKept, AreBuilds, IsCoreKept}
 use Rattle.base_core.specs.Keeping.Lanes.{LaneKept, no_lane, builds_in, begun_lane, fresh_lanes, commands_at, room_at}
-use Rattle.base_core.specs.Logging.Logs.{Logged, with_phase}
+use Rattle.story_log.specs.Logging.Logs.{Logged, with_phase}
 use Rattle.base_core.specs.Story.Replying.{no_replies}
-use Rattle.base_core.proofs.Story.Growing.{state_from-more, replies_from-more}
-use Rattle.base_core.proofs.Keeping.Idle.{nobody_builds, some_same}
+use Rattle.story_log.proofs.Story.Growing.{state_from-more}
+use Rattle.base_core.proofs.Story.Growing.{replies_from-more}
+use Rattle.base_core.proofs.Keeping.Idle.{nobody_builds}
+use Rattle.story_log.proofs.Cases.{some_same}
 use Rattle.base_core.proofs.Keeping.KeptSteps.{log_more, story_more}
 use Rattle.base_core.proofs.Keeping.LaneSets.{builds_count}
 use Rattle.base_core.proofs.Keeping.Phases.{last_phase-more}

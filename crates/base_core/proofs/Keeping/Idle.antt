@@ -19,22 +19,14 @@ use Rattle.legal_history.specs.Stories.States.{State, scene, done_of, command_be
 use Rattle.legal_history.specs.Stories.Steps.{state_of}
 use Rattle.base_core.specs.Keeping.Kept.{IsCoreKept}
 use Rattle.base_core.specs.Keeping.Lanes.{LaneKept, builds_in}
-use Rattle.base_core.specs.Logging.Logs.{Logged}
+use Rattle.story_log.specs.Logging.Logs.{Logged}
 use Rattle.clearmake.specs.Nexts.{next_by, next_of}
 use Rattle.build_core.proofs.SlotLaws.{find_numbered}
+use Rattle.story_log.proofs.Cases.{both}
 
 -- nothing is not something
 pub not_both : {A : Type 0} (found : Option A) (a : A) → found ≡ None → found ≡ Some a → ⊥
 not_both found a none some = cc
-
--- one thing is the other
-pub some_same : {A : Type 0} (one other : A) → Some one ≡ Some other → one ≡ other
-some_same one other e = cc
-
--- both of two tests hold
-pub both : (a b : Bool) → (a && b) ≡ true → (a ≡ true) × (b ≡ true)
-both true b h = (refl, h)
-both false b h = absurd (cc)
 
 -- behind the last command of a lane there is none
 none_behind : (done : List (ℕ × ℕ)) (n i : ℕ) (lanes : List Lane) → lanes_done done n lanes ≡ true → option_and_then (command_behind (done_of done (n + i))) (slice_get lanes i) ≡ None

@@ -11,7 +11,8 @@ use Rattle.legal_history.specs.Stories.Steps.{after, state_of}
 use Rattle.base_core.specs.Keeping.Kept.{AreReplies}
 use Rattle.base_core.specs.Keeping.Lanes.{LaneKept, no_lane, commands_at, replies_at, room_at}
 use Rattle.base_core.specs.Story.Replying.{in_lane, replies_after, replies_of, no_replies}
-use Rattle.base_core.proofs.Story.Growing.{state_from-more, replies_from-more}
+use Rattle.story_log.proofs.Story.Growing.{state_from-more}
+use Rattle.base_core.proofs.Story.Growing.{replies_from-more}
 use Rattle.base_core.proofs.Keeping.LaneCounts.{done_same, done_other, in_same, in_other, one_or_two}
 use Rattle.base_core.proofs.Keeping.LaneSets.{shared}
 

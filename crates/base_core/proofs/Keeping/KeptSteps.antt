@@ -21,18 +21,19 @@ use Rattle.base_core.specs.Calls.Building.{IsBuildKept}
 use Rattle.clearmake.specs.Going.{SamePhase}
 use Rattle.base_core.specs.Keeping.Kept.{IsStoryKept, IsPhaseKept, AreBuilds, IsCoreKept}
 use Rattle.base_core.specs.Keeping.Lanes.{LaneKept, lane_kept, commands_at, replies_at, builds_in, with_reply, put_build}
-use Rattle.base_core.specs.Logging.Logs.{Logged}
-use Rattle.base_core.specs.Story.Readable.{IsReadable, NamesOnly}
+use Rattle.story_log.specs.Logging.Logs.{Logged}
+use Rattle.story_log.specs.Story.Readable.{IsReadable, NamesOnly}
 use Rattle.base_core.specs.Story.Replying.{in_lane, replies_after, replies_of}
 use Rattle.build_core.proofs.SlotLaws.{put_numbered}
-use Rattle.base_core.proofs.Story.Growing.{state_from-more, legal_more}
-use Rattle.base_core.proofs.Keeping.Idle.{not_both, some_same}
+use Rattle.story_log.proofs.Story.Growing.{state_from-more, legal_more}
+use Rattle.base_core.proofs.Keeping.Idle.{not_both}
+use Rattle.story_log.proofs.Cases.{some_same}
 use Rattle.base_core.proofs.Keeping.KeptBuilds.{KeepsRows, stays, builds_stay, builds_put}
 use Rattle.base_core.proofs.Keeping.KeptReplies.{replies_more, replies_stay, same_where_set}
 use Rattle.base_core.proofs.Keeping.LaneCounts.{done_other}
 use Rattle.base_core.proofs.Keeping.LaneSets.{builds_count, builds_same, builds_set}
 use Rattle.base_core.proofs.Keeping.LaneSlots.{slot_of}
-use Rattle.base_core.proofs.Story.Naming.{names_more}
+use Rattle.story_log.proofs.Story.Naming.{names_more}
 use Rattle.base_core.proofs.Keeping.Reserving.{rows_for}
 
 -- the log with one more step, which leads to this base

@@ -15,7 +15,7 @@ use Rattle.legal_history.specs.Stories.States.{State, command_behind, done_of}
 use Rattle.legal_history.specs.Stories.Steps.{state_of}
 use Rattle.base_core.specs.Keeping.Kept.{IsCoreKept}
 use Rattle.base_core.specs.Keeping.Lanes.{LaneKept, build_at, builds_in, replies_at, room_at}
-use Rattle.base_core.specs.Logging.Logs.{Logged}
+use Rattle.story_log.specs.Logging.Logs.{Logged}
 use Rattle.base_core.proofs.Keeping.Idle.{build_in_slot, not_both}
 use Rattle.base_core.proofs.Keeping.LaneSets.{builds_count, builds_held}
 use Rattle.base_core.proofs.Keeping.SlotLists.{build_nowhere, build_zero}

@@ -12,7 +12,7 @@ use Rattle.legal_history.specs.Stories.Steps.{state_of}
 use Rattle.base_core.specs.Calls.Acting.{IsRowToCommit, IsNextAnswer, IsNextRefusal}
 use Rattle.base_core.specs.Keeping.Kept.{IsCoreKept}
 use Rattle.base_core.specs.Keeping.Lanes.{LaneKept}
-use Rattle.base_core.specs.Logging.Logs.{Logged}
+use Rattle.story_log.specs.Logging.Logs.{Logged}
 use Rattle.base_core.proofs.Keeping.Idle.{decided_waits}
 use Rattle.base_core.proofs.Keeping.LaneSlots.{HasRoom, has_room}
 use Rattle.base_core.proofs.Building.UnitCalls.{builds_waits}

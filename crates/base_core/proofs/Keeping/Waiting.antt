@@ -22,7 +22,7 @@ use Rattle.legal_history.specs.Stories.Steps.{state_of}
 use Rattle.base_core.specs.Keeping.Kept.{command_limit, IsCoreKept}
 use Rattle.base_core.specs.Keeping.Lanes.{LaneKept, no_lane, next_of_kept, next_in}
 use Rattle.clearmake.specs.Nexts.{next_by, next_of}
-use Rattle.base_core.specs.Logging.Logs.{Logged}
+use Rattle.story_log.specs.Logging.Logs.{Logged}
 use Rattle.base_core.proofs.Acting.Commanded.{next_is_formed, next_is_carried_out}
 use Rattle.base_core.proofs.Keeping.Idle.{not_both}
 

@@ -4,7 +4,7 @@ use Rattle.std.proofs.lemmas.List.{append-nil}
 use Rattle.cc_names.specs.declared.steps.StoryStep.{StoryStep}
 use Rattle.disk_model.specs.Told.{Sight}
 use Rattle.base_core.specs.Story.Counted.{CountsSteps, KeepsCount}
-use Rattle.base_core.specs.Logging.Logs.{Logged}
+use Rattle.story_log.specs.Logging.Logs.{Logged}
 use Rattle.base_core.specs.Story.Shown.{Shown}
 
 -- steps, and then more steps

@@ -14,7 +14,7 @@ use Rattle.cc_names.specs.declared.steps.StoryStep.TheVariants as story_steps
 use Rattle.cc_names.specs.declared.units.Unit.{Unit}
 use Rattle.build_core.specs.declared.steps.UnitStep.{UnitStep}
 use Rattle.build_core.specs.declared.steps.UnitStep.TheVariants as next
-use Rattle.build_script.specs.Run.{Ran}
+use Rattle.script_grammar.specs.Run.{Ran}
 use Rattle.legal_history.specs.Base.Rows.{size}
 use Rattle.legal_history.specs.Builds.Active.{Build, Came, Started, build_of, came_to, is_outcome, unit_at}
 use Rattle.legal_history.specs.Builds.Choices.{here, publish_of}
@@ -32,9 +32,9 @@ use Rattle.clearmake.specs.declared.turns.Carried.TheVariants as carried
 use Rattle.clearmake.specs.declared.turns.UnitTurn.{UnitTurn}
 use Rattle.clearmake.specs.declared.turns.UnitTurn.TheVariants as turns
 use Rattle.base_core.specs.Calls.Building.{IsBuildKept}
-use Rattle.base_core.specs.Story.Faults.{is_fault}
+use Rattle.story_log.specs.Story.Faults.{is_fault}
 use Rattle.base_core.specs.Story.Replying.{replies_by}
-use Rattle.base_core.specs.Story.Telling.{stands_alone}
+use Rattle.story_log.specs.Story.Telling.{stands_alone}
 
 -- By this step, which names no row, unit n of a lane's build comes to something, and no command is replied.
 pub record Notes (s : State) (lane n : ℕ) (step : Step) (came : Came) : Type 0 where

@@ -14,8 +14,8 @@ use Rattle.legal_history.specs.Stories.Steps.{state_of}
 use Rattle.legal_history.specs.Stories.Lawful.{Legal, last_moment}
 use Rattle.base_core.specs.Calls.Building.{IsBuildKept}
 use Rattle.base_core.specs.Keeping.Lanes.{LaneKept, builds_in, commands_at, replies_at, room_at}
-use Rattle.base_core.specs.Logging.Logs.{Logged}
-use Rattle.base_core.specs.Story.Readable.{IsReadable, TellsOnly}
+use Rattle.story_log.specs.Logging.Logs.{Logged}
+use Rattle.story_log.specs.Story.Readable.{IsReadable, TellsOnly}
 use Rattle.base_core.specs.Story.Replying.{replies_of}
 
 -- the most bytes of a text, and members of a list, of a command

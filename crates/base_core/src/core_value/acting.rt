@@ -1,11 +1,10 @@
 //! How a core carries out commands that build nothing.
 
 ghost use Rattle.std.specs.Prelude.{◌≡◌};
-ghost use Rattle.base_core.specs.Logging.Appending.{append_reply, append_done};
+ghost use Rattle.base_core.specs.Calls.Answering.{append_reply, append_done};
 ghost use Rattle.base_core.specs.Story.Replying.{count_told, row_reply};
 
 use super::Core;
-use crate::logs::Appended;
 use cc_names::copies::Copied;
 use cc_names::desks::Done;
 use cc_names::memory::{NoMemory, Or};
@@ -18,6 +17,7 @@ use checkout_desk::{decide, view_of};
 use cleartool::{answer, is_query, name_told};
 use disk_model::Disk;
 use std::alloc::Global;
+use story_log::Appended;
 
 /// How many things a row of this deed names, where its command is replied their number.
 fn count_told(deed: &Deed) -> Option<u64>

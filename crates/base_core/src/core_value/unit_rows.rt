@@ -2,7 +2,6 @@
 //! that the unit may reuse.
 
 use super::Core;
-use crate::logs::Appended;
 use build_core::{Came, a_unit_may_publish, publish_row, reusable, wink_row};
 use cc_names::lists::List;
 use cc_names::memory::NoMemory;
@@ -16,6 +15,7 @@ use disk_model::Disk;
 use legal_history::laws::builds::a_build_is_consistent;
 use legal_history::laws::taken::what_is_found_after_the_start_is_not_held;
 use std::alloc::Global;
+use story_log::Appended;
 
 impl<D: Disk> Core<D> {
     ghost use Rattle.std.specs.Prelude.{◌≡◌, Ok, OnErr, IfOk};

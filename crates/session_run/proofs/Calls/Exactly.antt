@@ -5,8 +5,8 @@ use Rattle.cc_names.specs.declared.steps.StoryStep.{StoryStep}
 use Rattle.disk_model.specs.Devices.{Device, bytes_of}
 use Rattle.disk_model.specs.Told.{Sight, IfTold}
 use Rattle.vob_journal.specs.Frames.{frames}
-use Rattle.base_core.specs.Bases.Opening.{IsDamaged, IsUndamaged}
-use Rattle.base_core.proofs.Bases.Damages.{damaged_once}
+use Rattle.story_log.specs.Bases.Opening.{IsDamaged, IsUndamaged}
+use Rattle.story_log.proofs.Bases.Damages.{damaged_once}
 use Rattle.session_run.specs.Calls.Asked.{is_run, is_session, text_limit}
 use Rattle.session_run.specs.Calls.Causes.{Change, Intake, DiskDamaged, FindsDamage, HasCause, IsToldToOpen, disk_rose}
 use Rattle.session_run.specs.Calls.Statuses.{is_cut}

@@ -1,6 +1,6 @@
 -- Which status tells which reason why a session is not started.
 use Rattle.std.proofs.Common.{◌≡◌, refl}
-use Rattle.base_core.specs.declared.opening.OpenCause.TheVariants as opens
+use Rattle.story_log.specs.declared.opening.OpenCause.TheVariants as opens
 use Rattle.session_run.specs.Running.Unstarted.{unstarted_status}
 use Rattle.session_run.specs.declared.sessions.Unstarted.{Unstarted}
 use Rattle.session_run.specs.declared.sessions.Unstarted.TheVariants as why

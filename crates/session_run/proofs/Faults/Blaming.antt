@@ -18,8 +18,8 @@ use Rattle.legal_history.specs.Stories.Steps.{after, state_from, state_of}
 use Rattle.vob_journal.specs.Added.{Adds, WritesOn, is_read, may_read, may_write}
 use Rattle.vob_journal.proofs.Adding.{adds_none, adds_then}
 use Rattle.vob_journal.proofs.Telling.{both_map, both_then}
-use Rattle.base_core.specs.Stopping.Backed.{may_be_open}
-use Rattle.base_core.specs.Stopping.Standing.{tick_of}
+use Rattle.story_log.specs.Stopping.Backed.{may_be_open}
+use Rattle.story_log.specs.Stopping.Standing.{tick_of}
 use Rattle.base_core.specs.Story.Counted.{CountsStep, CountsSteps}
 use Rattle.session_run.specs.Faults.Accounted.{CountsFrom, Settles}
 use Rattle.session_run.specs.Faults.Blamed.{failed_by, MeetsFault, FailsAtFaults, SettlesBehind, RestsBehind, reads_first, IsBlamed}

@@ -10,7 +10,7 @@ use Rattle.legal_history.specs.Stories.Steps.{after, state_from, state_of}
 use Rattle.vob_journal.specs.Added.{WritesOn}
 use Rattle.vob_journal.specs.Reads.{SameFiles, SameObjects}
 use Rattle.vob_journal.proofs.Telling.{both_map, both_then}
-use Rattle.base_core.specs.Stopping.Backed.{may_be_open}
+use Rattle.story_log.specs.Stopping.Backed.{may_be_open}
 use Rattle.base_core.specs.Story.Counted.{CountsStep, CountsSteps}
 use Rattle.session_run.specs.Calls.Causes.{Change}
 use Rattle.session_run.specs.Faults.Accounted.{CountsFrom, KeepsFiles, is_calm}

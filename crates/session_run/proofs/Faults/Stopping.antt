@@ -18,12 +18,12 @@ use Rattle.vob_journal.specs.Frames.{frames}
 use Rattle.vob_journal.specs.Reads.{SameFiles}
 use Rattle.vob_journal.proofs.Journals.{stable_image}
 use Rattle.vob_journal.proofs.Staying.{told_stay}
-use Rattle.base_core.specs.Stopping.Backed.{IsAccounted, IsSettled}
-use Rattle.base_core.specs.Stopping.Founds.{OpensAgain}
-use Rattle.base_core.specs.Stopping.Standing.{MayBeFound}
-use Rattle.base_core.specs.Story.Telling.{oldest_first}
-use Rattle.base_core.proofs.Stopping.Backing.{left_within_calls}
-use Rattle.base_core.proofs.Keeping.Idle.{some_same}
+use Rattle.story_log.specs.Stopping.Backed.{IsAccounted, IsSettled}
+use Rattle.story_log.specs.Stopping.Founds.{OpensAgain}
+use Rattle.story_log.specs.Stopping.Standing.{MayBeFound}
+use Rattle.story_log.specs.Story.Telling.{oldest_first}
+use Rattle.story_log.proofs.Stopping.Backing.{left_within_calls}
+use Rattle.story_log.proofs.Cases.{some_same}
 use Rattle.session_run.specs.Faults.Stopped.{AllOpenAgain, AreApart, IsHandedIn, IsMended, IsStopped, KeepsFrames, rises_of}
 use Rattle.session_run.specs.Promises.Headline.{BeginsOn}
 use Rattle.session_run.specs.Story.Begun.{first_step, is_opened}

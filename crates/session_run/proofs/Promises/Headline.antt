@@ -19,13 +19,13 @@ use Rattle.disk_model.specs.Told.{Sight, Both, IsCounted}
 use Rattle.vob_journal.specs.Reads.{SameFiles}
 use Rattle.vob_journal.proofs.Staying.{told_stay}
 use Rattle.vob_journal.specs.Frames.{frames}
-use Rattle.base_core.specs.Stopping.Backed.{IsAccounted, may_be_open}
+use Rattle.story_log.specs.Stopping.Backed.{IsAccounted, may_be_open}
 use Rattle.base_core.specs.Story.Counted.{KeepsCount}
-use Rattle.base_core.specs.Bases.Opening.{FailsToOpen, OpensCore, StopsBy}
+use Rattle.story_log.specs.Bases.Opening.{FailsToOpen, OpensCore, StopsBy}
 use Rattle.base_core.specs.Story.Shown.{Shown}
-use Rattle.base_core.specs.Story.Telling.{oldest_first}
-use Rattle.base_core.specs.declared.opening.OpenCause.{OpenCause}
-use Rattle.base_core.specs.declared.opening.OpenCause.TheVariants as opens
+use Rattle.story_log.specs.Story.Telling.{oldest_first}
+use Rattle.story_log.specs.declared.opening.OpenCause.{OpenCause}
+use Rattle.story_log.specs.declared.opening.OpenCause.TheVariants as opens
 use Rattle.legal_history.specs.Stories.Steps.{state_of}
 use Rattle.legal_history.specs.Stories.Lawful.{Legal}
 use Rattle.session_run.specs.Calls.Asked.{is_session, is_read, phases_spelled}
@@ -43,7 +43,7 @@ use Rattle.session_run.specs.declared.sessions.Unstarted.{Unstarted}
 use Rattle.session_run.specs.declared.sessions.Unstarted.TheVariants as why
 use Rattle.session_run.specs.declared.statuses.Status.{Status}
 use Rattle.session_run.specs.declared.statuses.Status.TheVariants as statuses
-use Rattle.base_core.proofs.Bases.Damages.{undamaged_on}
+use Rattle.story_log.proofs.Bases.Damages.{undamaged_on}
 use Rattle.session_run.proofs.Faults.Blaming.{blamed}
 use Rattle.session_run.proofs.Faults.Files.{closed_files, keeps_files}
 use Rattle.session_run.proofs.Faults.Stopping.{keeps_prefix, stays_closed, stays_untouched}

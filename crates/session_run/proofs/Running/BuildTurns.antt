@@ -3,12 +3,12 @@ use Rattle.std.proofs.Common.{◌≡◌, ◌≢◌, ℕ, ◌+◌, ◌<◌, ◌�
 use Rattle.cc_names.specs.declared.steps.StoryStep.{StoryStep}
 use Rattle.cc_names.specs.declared.units.Unit.{Unit}
 use Rattle.build_script.specs.Ended.{ran_of}
-use Rattle.build_script.specs.declared.lines.Line.{Line}
+use Rattle.script_grammar.specs.declared.lines.Line.{Line}
 use Rattle.build_script.specs.declared.outcomes.Ended.{Ended}
 use Rattle.clearmake.specs.Calls.{IsBuilding, IsOver, IsRunOfUnit, IsStarted, Concludes, WaitsFor}
 use Rattle.clearmake.specs.Going.{GoesOn, HasOutcome}
 use Rattle.base_core.proofs.Building.Goings.{goes_nowhere as stays}
-use Rattle.base_core.proofs.Keeping.Idle.{some_same}
+use Rattle.story_log.proofs.Cases.{some_same}
 use Rattle.legal_history.specs.Builds.Active.{Build, build_of, came_to, is_outcome}
 use Rattle.legal_history.specs.Builds.Turns.{all_over}
 use Rattle.legal_history.specs.Stories.States.{State}

@@ -5,8 +5,8 @@ use Rattle.std.proofs.lemmas.List.{get_or-set_other, get_or-set_same, length-set
 use Rattle.cc_names.specs.declared.steps.StoryStep.{StoryStep}
 use Rattle.carried_out.specs.CarriedOut.{AreCarriedOut}
 use Rattle.build_script.specs.Ended.{ran_of}
-use Rattle.build_script.specs.Run.{Ran}
-use Rattle.build_script.specs.declared.lines.Line.{Line}
+use Rattle.script_grammar.specs.Run.{Ran}
+use Rattle.script_grammar.specs.declared.lines.Line.{Line}
 use Rattle.clearmake.specs.Calls.{IsRunOfUnit, IsStarted}
 use Rattle.clearmake.specs.Going.{SamePhase}
 use Rattle.legal_history.specs.Builds.Active.{Build, build_of, is_outcome}

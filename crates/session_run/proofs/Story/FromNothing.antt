@@ -7,7 +7,7 @@ use Rattle.cc_names.specs.declared.rows.Tag.{Tag}
 use Rattle.cc_names.specs.declared.steps.Step.TheVariants as steps
 use Rattle.cc_names.specs.declared.steps.StoryStep.{StoryStep}
 use Rattle.cc_names.specs.declared.steps.StoryStep.TheVariants as story_steps
-use Rattle.base_core.proofs.Story.Growing.{state_from-more}
+use Rattle.story_log.proofs.Story.Growing.{state_from-more}
 use Rattle.legal_history.proofs.Stories.Fronts.{rest_is_legal}
 use Rattle.base_core.specs.Story.Replying.{in_lane, reply_to_end, no_replies, replies_after}
 use Rattle.legal_history.specs.Builds.Replied.{reply_of, reply_from_nothing}

@@ -7,7 +7,7 @@ use Rattle.cc_outside.specs.Sights.{SinkSight, SourceSight}
 use Rattle.disk_model.specs.Devices.{bytes_of}
 use Rattle.disk_model.specs.Told.{Sight, IfTold}
 use Rattle.vob_journal.specs.Frames.{frames}
-use Rattle.base_core.specs.Bases.Opening.{IsDamaged, IsUndamaged}
+use Rattle.story_log.specs.Bases.Opening.{IsDamaged, IsUndamaged}
 use Rattle.legal_history.specs.Stories.States.{all_done}
 use Rattle.legal_history.specs.Stories.Steps.{state_of}
 use Rattle.session_run.specs.Calls.Asked.{text_limit, is_run, is_session}

@@ -9,7 +9,7 @@ use Rattle.disk_model.specs.Told.{Sight, IfTold, Both}
 use Rattle.legal_history.specs.Stories.Steps.{state_of}
 use Rattle.vob_journal.specs.Added.{WritesOn}
 use Rattle.vob_journal.specs.Reads.{SameFiles, SameObjects}
-use Rattle.base_core.specs.Stopping.Backed.{may_be_open}
+use Rattle.story_log.specs.Stopping.Backed.{may_be_open}
 use Rattle.base_core.specs.Story.Counted.{CountsSteps}
 use Rattle.session_run.specs.Calls.Causes.{Change}
 use Rattle.session_run.specs.Faults.Blamed.{IsBlamed}

@@ -8,8 +8,8 @@ use Rattle.disk_model.specs.Devices.{Device, Event, failures}
 use Rattle.legal_history.specs.Stories.States.{End}
 use Rattle.legal_history.specs.Stories.Steps.{state_of}
 use Rattle.vob_journal.specs.Added.{is_read, may_write}
-use Rattle.base_core.specs.Stopping.Backed.{may_be_open}
-use Rattle.base_core.specs.Stopping.Standing.{tick_of}
+use Rattle.story_log.specs.Stopping.Backed.{may_be_open}
+use Rattle.story_log.specs.Stopping.Standing.{tick_of}
 
 -- how many calls had failed by a tick, of all calls on a device, the oldest first
 abbrev pub failed_by : ℕ → List Event → ℕ

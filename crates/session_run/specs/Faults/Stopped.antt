@@ -11,9 +11,9 @@ use Rattle.legal_history.specs.Stories.Steps.{state_of}
 use Rattle.cc_names.specs.Counts.{rises}
 use Rattle.vob_journal.specs.Frames.{frames}
 use Rattle.vob_journal.specs.Reads.{SameFiles}
-use Rattle.base_core.specs.Stopping.Backed.{IsSettled}
-use Rattle.base_core.specs.Stopping.Founds.{OpensAgain}
-use Rattle.base_core.specs.Stopping.Standing.{MayBeFound}
+use Rattle.story_log.specs.Stopping.Backed.{IsSettled}
+use Rattle.story_log.specs.Stopping.Founds.{OpensAgain}
+use Rattle.story_log.specs.Stopping.Standing.{MayBeFound}
 use Rattle.session_run.specs.Story.Begun.{is_opened}
 
 -- what a call asks of its disk: where it tells its files, both are on the disk as they read

@@ -10,9 +10,9 @@ use Rattle.vob_journal.specs.Added.{Adds, may_read}
 use Rattle.vob_journal.specs.Reads.{SameFiles}
 use Rattle.legal_history.specs.Stories.Steps.{state_of}
 use Rattle.legal_history.specs.Stories.Lawful.{Legal}
-use Rattle.base_core.specs.Stopping.Backed.{IsAccounted}
-use Rattle.base_core.specs.Bases.Opening.{FailsToOpen}
-use Rattle.base_core.specs.declared.opening.OpenCause.{OpenCause}
+use Rattle.story_log.specs.Stopping.Backed.{IsAccounted}
+use Rattle.story_log.specs.Bases.Opening.{FailsToOpen}
+use Rattle.story_log.specs.declared.opening.OpenCause.{OpenCause}
 use Rattle.session_run.specs.Calls.Causes.{Change, disk_rose}
 use Rattle.session_run.specs.Faults.Accounted.{CountsFrom}
 use Rattle.session_run.specs.Faults.Stopped.{AllOpenAgain, IsMended}

@@ -11,8 +11,8 @@ use Rattle.cc_outside.specs.Feeds.{AppendsFront}
 use Rattle.cc_outside.specs.declared.sources.Unread.{Unread}
 use Rattle.cc_outside.specs.declared.sources.Unread.TheVariants.{Fault}
 use Rattle.cc_outside.specs.declared.sources.Unread.TheVariants as unreads
-use Rattle.base_core.specs.declared.opening.OpenCause.{OpenCause}
-use Rattle.base_core.specs.declared.opening.OpenCause.TheVariants as opens
+use Rattle.story_log.specs.declared.opening.OpenCause.{OpenCause}
+use Rattle.story_log.specs.declared.opening.OpenCause.TheVariants as opens
 use Rattle.session_text.specs.Sessions.{session_of}
 use Rattle.session_run.specs.Calls.Asked.{is_run, is_session, phases_spelled}
 use Rattle.session_run.specs.Calls.Causes.{Change, Intake, IsRead, IsUnread, SourceFailed, GaveTooMuch}

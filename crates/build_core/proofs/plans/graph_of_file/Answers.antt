@@ -1,8 +1,8 @@
 -- the graph is that of the makefile that was read
 use Rattle.std.proofs.Common.{sym, subst}
 use Rattle.cc_names.specs.Answers.{Gives}
-use Rattle.make_text.specs.Grammar.{makefile_of}
-use Rattle.make_text.specs.Graphs.{units_of}
+use Rattle.make_grammar.specs.Grammar.{makefile_of}
+use Rattle.make_grammar.specs.Graphs.{units_of}
 use Rattle.build_core.proofs.plans.graph_of_file.Goals as goal
 
 pub returns-in-Ok : goal.returns-in-Ok

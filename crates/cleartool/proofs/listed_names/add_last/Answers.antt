@@ -1,8 +1,8 @@
 -- The last name is among the names then.
 use Rattle.std.proofs.Common.{ℕ, List, ◌||◌, Option, ap, sym, ◌∙◌}
 use Rattle.legal_history.specs.Base.Closures.{is_among}
-use Rattle.view_lookup.specs.Owned.{is_name}
-use Rattle.view_lookup.proofs.PathSets.{one_inserted}
+use Rattle.cleartool.specs.Owned.{is_name}
+use Rattle.cleartool.proofs.PathSets.{one_inserted}
 use Rattle.cleartool.proofs.listed_names.add_last.Goals as goal
 
 pub returns-in_ok-insert-in-Some : goal.returns-in_ok-insert-in-Some

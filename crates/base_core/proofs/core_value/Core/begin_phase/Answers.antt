@@ -3,7 +3,7 @@ use Rattle.std.proofs.Common.{◌≡◌, ◌+◌, ◌<◌, ◌^◌, true, ap, sy
 use Rattle.legal_history.specs.Stories.States.{all_done}
 use Rattle.legal_history.specs.Stories.Steps.{state_of}
 use Rattle.base_core.specs.Keeping.Kept.{IsCoreKept}
-use Rattle.base_core.specs.Logging.Logs.{with_phase}
+use Rattle.story_log.specs.Logging.Logs.{with_phase}
 use Rattle.base_core.proofs.Keeping.Beginning.{kept_plan}
 use Rattle.base_core.proofs.core_value.Core.begin_phase.Goals as goal
 

@@ -13,13 +13,14 @@ use Rattle.legal_history.specs.Stories.Steps.{state_of}
 use Rattle.base_core.specs.Calls.Acting.{Acts, IsRowToCommit}
 use Rattle.base_core.specs.Keeping.Kept.{IsCoreKept}
 use Rattle.base_core.specs.Keeping.Lanes.{LaneKept, with_reply}
-use Rattle.base_core.specs.Logging.Appending.{IsCommitted, IsFaulted, Appends, append_reply, append_done}
-use Rattle.base_core.specs.Logging.Logs.{Logged}
+use Rattle.story_log.specs.Logging.Appending.{IsCommitted, IsFaulted, Appends}
+use Rattle.base_core.specs.Calls.Answering.{append_reply, append_done}
+use Rattle.story_log.specs.Logging.Logs.{Logged}
 use Rattle.base_core.specs.Story.Counted.{KeepsCount}
 use Rattle.base_core.specs.Story.Replying.{count_told, row_reply}
 use Rattle.base_core.specs.Story.Shown.{Shown}
-use Rattle.base_core.specs.declared.logs.Appended.{Appended}
-use Rattle.base_core.specs.declared.logs.Appended.TheVariants as appends
+use Rattle.story_log.specs.declared.logs.Appended.{Appended}
+use Rattle.story_log.specs.declared.logs.Appended.TheVariants as appends
 use Rattle.base_core.proofs.Acting.Faulting.{kept_next_fault, next_faults}
 use Rattle.base_core.proofs.Acting.Finishing.{kept_next_row}
 use Rattle.base_core.proofs.Keeping.Rooms.{row_has_room}

@@ -5,12 +5,12 @@ use Rattle.cc_names.specs.declared.steps.Step.TheVariants as steps
 use Rattle.legal_history.specs.Stories.Commanded.{command_of}
 use Rattle.legal_history.specs.Stories.States.{next_tag}
 use Rattle.legal_history.specs.Stories.Steps.{state_of}
-use Rattle.base_core.specs.Logging.Appending.{Appends, IsCommitted, IsFaulted}
+use Rattle.story_log.specs.Logging.Appending.{Appends, IsCommitted, IsFaulted}
 use Rattle.clearmake.specs.Going.{GoesOn, HasOutcome, Finishes}
 use Rattle.base_core.specs.Keeping.Kept.{IsCoreKept}
-use Rattle.base_core.specs.Logging.Logs.{with_step, with_step_on}
+use Rattle.story_log.specs.Logging.Logs.{with_step, with_step_on}
 use Rattle.base_core.proofs.Building.BrokenBuilds.{kept_broken_object, broken_object_finishes}
-use Rattle.base_core.proofs.Keeping.Idle.{some_same}
+use Rattle.story_log.proofs.Cases.{some_same}
 use Rattle.base_core.proofs.Keeping.LaneSlots.{lane_slot, slot_there}
 use Rattle.base_core.proofs.Keeping.Rooms.{build_has_room}
 use Rattle.base_core.proofs.Building.ObjectSteps.{gives_here, kept_object, object_so, object_fits}

@@ -5,7 +5,7 @@ use Rattle.legal_history.specs.Stories.States.{next_tag}
 use Rattle.legal_history.specs.Stories.Steps.{state_of}
 use Rattle.clearmake.specs.Going.{Finishes}
 use Rattle.base_core.specs.Keeping.Kept.{IsCoreKept}
-use Rattle.base_core.specs.Logging.Logs.{with_step}
+use Rattle.story_log.specs.Logging.Logs.{with_step}
 use Rattle.base_core.proofs.Story.Counts.{log_stays}
 use Rattle.base_core.proofs.Building.EndSteps.{kept_ended, ended_finishes}
 use Rattle.base_core.proofs.Building.FoundBuilds.{build_kept}

@@ -1,7 +1,7 @@
 -- the tail is settled: what is kept then
 use Rattle.std.proofs.Common.{sym, subst}
 use Rattle.base_core.specs.Keeping.Kept.{IsCoreKept}
-use Rattle.base_core.proofs.Bases.Freshly.{kept_sight}
+use Rattle.base_core.proofs.Keeping.Freshly.{kept_sight}
 use Rattle.base_core.proofs.core_value.Core.finish.Goals as goal
 
 pub invariant_of-self : goal.invariant_of-self

@@ -5,7 +5,7 @@ use Rattle.legal_history.specs.Builds.Active.{unit_at}
 use Rattle.legal_history.specs.Builds.Reuse.{reusable}
 use Rattle.legal_history.specs.Stories.Steps.{state_of}
 use Rattle.base_core.proofs.Building.FoundBuilds.{finds_so, found_is}
-use Rattle.base_core.proofs.Keeping.Idle.{some_same}
+use Rattle.story_log.proofs.Cases.{some_same}
 use Rattle.base_core.proofs.core_value.Core.give_object.Goals as goal
 
 pub reusable-requires : goal.reusable-requires

@@ -5,7 +5,7 @@ use Rattle.legal_history.specs.Builds.Active.{build_of}
 use Rattle.legal_history.specs.Stories.Steps.{state_of}
 use Rattle.base_core.specs.Calls.BuildCalls.{Noted}
 use Rattle.base_core.specs.Keeping.Kept.{IsCoreKept}
-use Rattle.base_core.proofs.Keeping.Idle.{some_same}
+use Rattle.story_log.proofs.Cases.{some_same}
 use Rattle.base_core.proofs.Keeping.LaneSlots.{lane_slot, slot_there}
 use Rattle.base_core.proofs.Building.UnitNotes.{kept_noted, noted_so}
 use Rattle.base_core.proofs.Story.Counts.{log_stays}

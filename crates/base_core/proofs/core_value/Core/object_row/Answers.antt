@@ -8,7 +8,7 @@ use Rattle.legal_history.specs.Builds.Reuse.{reusable}
 use Rattle.legal_history.specs.Stories.Steps.{state_of}
 use Rattle.base_core.specs.Calls.BuildCalls.{IsObjectRow}
 use Rattle.base_core.proofs.Building.FoundBuilds.{if_ok}
-use Rattle.base_core.proofs.Keeping.Idle.{some_same}
+use Rattle.story_log.proofs.Cases.{some_same}
 use Rattle.base_core.proofs.core_value.Core.object_row.Goals as goal
 
 pub publish_row-requires-clause-formed : goal.publish_row-requires-clause-formed

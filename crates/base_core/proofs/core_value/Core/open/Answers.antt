@@ -1,7 +1,7 @@
 -- a base is opened
 use Rattle.std.proofs.Common.{sym, subst}
 use Rattle.base_core.specs.Keeping.Kept.{IsCoreKept}
-use Rattle.base_core.proofs.Bases.Freshly.{kept_opened, opens_so}
+use Rattle.base_core.proofs.Keeping.Freshly.{kept_opened, opens_so}
 use Rattle.base_core.proofs.core_value.Core.open.Goals as goal
 
 pub invariant_of-result : goal.invariant_of-result

@@ -5,7 +5,7 @@ use Rattle.legal_history.specs.Stories.Steps.{state_of}
 use Rattle.clearmake.specs.Calls.{IsBuilding}
 use Rattle.clearmake.specs.Going.{GoesOn}
 use Rattle.base_core.specs.Keeping.Kept.{IsCoreKept}
-use Rattle.base_core.specs.Logging.Logs.{with_step}
+use Rattle.story_log.specs.Logging.Logs.{with_step}
 use Rattle.base_core.proofs.Building.OpenSteps.{kept_opened, opened_so}
 use Rattle.base_core.proofs.Story.Counts.{log_stays}
 use Rattle.base_core.proofs.core_value.Core.open_build.Goals as goal

@@ -4,7 +4,7 @@ use Rattle.cc_names.specs.declared.replies.Reply.TheVariants as replies
 use Rattle.cc_names.specs.declared.steps.Step.TheVariants as steps
 use Rattle.base_core.specs.Keeping.Kept.{IsCoreKept}
 use Rattle.base_core.specs.Keeping.Lanes.{with_reply}
-use Rattle.base_core.specs.Logging.Logs.{with_step}
+use Rattle.story_log.specs.Logging.Logs.{with_step}
 use Rattle.base_core.proofs.Story.Counts.{log_stays}
 use Rattle.base_core.proofs.Acting.Finishing.{kept_next_refusal}
 use Rattle.base_core.proofs.Keeping.Rooms.{refusal_has_room}

@@ -7,7 +7,7 @@ use Rattle.legal_history.specs.Builds.Choices.{here}
 use Rattle.legal_history.specs.Stories.Steps.{state_of}
 use Rattle.clearmake.specs.Calls.{IsRunOfUnit}
 use Rattle.base_core.proofs.Building.FoundBuilds.{if_ok}
-use Rattle.base_core.proofs.Keeping.Idle.{some_same}
+use Rattle.story_log.proofs.Cases.{some_same}
 use Rattle.base_core.proofs.core_value.Core.run.Goals as goal
 
 pub returns : goal.returns

@@ -4,7 +4,7 @@ use Rattle.build_core.specs.UnitSteps.{IsStep}
 use Rattle.legal_history.specs.Stories.Steps.{state_of}
 use Rattle.base_core.specs.Calls.BuildCalls.{StepsTo}
 use Rattle.base_core.proofs.Building.FoundBuilds.{if_ok}
-use Rattle.base_core.proofs.Keeping.Idle.{some_same}
+use Rattle.story_log.proofs.Cases.{some_same}
 use Rattle.base_core.proofs.Building.StepsSo.{steps_so}
 use Rattle.base_core.proofs.core_value.Core.step.Goals as goal
 

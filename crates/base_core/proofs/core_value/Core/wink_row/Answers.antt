@@ -5,7 +5,7 @@ use Rattle.cc_names.specs.declared.rows.Deed.TheVariants as deeds
 use Rattle.legal_history.specs.Stories.Steps.{state_of}
 use Rattle.base_core.specs.Calls.BuildCalls.{IsWinkRow}
 use Rattle.base_core.proofs.Building.FoundBuilds.{if_ok}
-use Rattle.base_core.proofs.Keeping.Idle.{some_same}
+use Rattle.story_log.proofs.Cases.{some_same}
 use Rattle.base_core.proofs.core_value.Core.wink_row.Goals as goal
 
 pub returns : goal.returns

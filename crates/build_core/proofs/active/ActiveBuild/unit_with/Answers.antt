@@ -1,6 +1,6 @@
 use Rattle.std.proofs.Common.{◌≡◌, ◌<◌, ap, sym, subst, ◌∙◌, length, IfSome}
-use Rattle.make_text.specs.Numbers.{number_from as number_of}
-use Rattle.make_text.specs.UnitLaws.{made_by_unit}
+use Rattle.make_grammar.specs.Numbers.{number_from as number_of}
+use Rattle.make_grammar.specs.UnitLaws.{made_by_unit}
 use Rattle.legal_history.specs.Builds.Active.{Build, unit_with}
 use Rattle.legal_history.proofs.Builds.OrderedUnits.{same_number}
 use Rattle.build_core.proofs.UnitNumbers.{within}

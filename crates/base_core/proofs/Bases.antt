@@ -1,7 +1,0 @@
--- How a base is opened.
-pub mod Damages
-pub mod Freshly
-pub mod OpenedBases
-pub mod OpeningStep
-pub mod ReadRows
-pub mod Unfit

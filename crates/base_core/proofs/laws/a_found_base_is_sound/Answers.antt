@@ -1,6 +1,0 @@
--- what was found opens to a sound base
-use Rattle.base_core.proofs.Stopping.FoundBases.{found_is_sound}
-use Rattle.base_core.proofs.laws.a_found_base_is_sound.Goals as goal
-
-pub returns : goal.returns
-returns c = λ opened base disk device handed is again on sound. found_is_sound opened base disk device handed is again on sound

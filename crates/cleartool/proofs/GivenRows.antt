@@ -1,0 +1,60 @@
+-- The rows that give views something, and names in directories, are told by the walk along their marks.
+use Rattle.std.proofs.Common.{◌≡◌, ℕ, ◌≤◌, ◌==◌, Bool, true, false, ◌&&◌, ◌||◌, List, [], ◌∷◌, length, Some, refl, ap, ap₂, ◌∙◌, arith}
+use Rattle.std.specs.Prelude.{is_some, option_and_then}
+use Rattle.std.specs.List.{list_any}
+use Rattle.std.proofs.lemmas.Bool.Decides.{nat_tests}
+use Rattle.cc_names.specs.Formed.{Plain}
+use Rattle.cc_names.specs.Last.{Sets, only_if}
+use Rattle.cc_names.specs.Versions.{put_if}
+use Rattle.legal_history.specs.Base.Closures.{is_among}
+use Rattle.legal_history.specs.Base.Rows.{Base, size, deed_at, deed_of, row_at}
+use Rattle.view_lookup.specs.Giving.{gives_in, gives_view, naming_effect, own_effect}
+use Rattle.view_lookup.specs.LookUps.{told}
+use Rattle.cleartool.specs.Owned.{is_given_by, is_name, name_at, name_given, paths_by, was_given, was_named}
+use Rattle.view_lookup.specs.Walks.{all_told}
+
+-- whether one of some numbers passes, with one more where a test holds
+pub any_put : (p : ℕ → Bool) (test : Bool) (n : ℕ) (ns : List ℕ) → list_any p (put_if test n ns) ≡ ((test && p n) || list_any p ns)
+any_put p true n ns = refl
+any_put p false n ns = refl
+
+pub told_where : (test : Bool) (n m : ℕ) → is_some (told n (only_if test (Sets m))) ≡ test
+told_where true n m = refl
+told_where false n m = refl
+
+pub deed_here : (row : Plain) (older : Base) → deed_at (row ∷ older) (size older) ≡ Some row.deed
+deed_here row older = ap (λ is. deed_of (elim is [ true ↦ Some row | false ↦ row_at older (size older) ])) (same (size older))
+  where
+    same : (n : ℕ) → (n == n) ≡ true
+    same n = grind (arith, nat_tests)
+
+pub deed_there : (row : Plain) (older : Base) (n : ℕ) → n ≤ length older → deed_at (row ∷ older) n ≡ deed_at older n
+deed_there row older n low =
+    let apart : (size older == n) ≡ false = grind (arith, nat_tests, low) in
+    ap (λ is. deed_of (elim is [ true ↦ Some row | false ↦ row_at older n ])) apart
+
+-- the deeds of some rows of a base are those of the base
+abbrev pub AreDeeds : Base → Base → Type 0
+AreDeeds b rows = (n : ℕ) → n ≤ length rows → deed_at b n ≡ deed_at rows n
+
+pub deeds_below : (b : Base) (row : Plain) (older : Base) → AreDeeds b (row ∷ older) → AreDeeds b older
+deeds_below b row older agree = λ n low. agree n (omega (arith, low)) ∙ deed_there row older n low
+
+pub deed_newest : (b : Base) (row : Plain) (older : Base) → AreDeeds b (row ∷ older) → deed_at b (size older) ≡ Some row.deed
+deed_newest b row older agree = agree (size older) (omega arith) ∙ deed_here row older
+
+pub paths_told : (b : Base) (v path : List ℕ) (rows : Base) → AreDeeds b rows → list_any (is_given_by b path) (all_told (own_effect v) rows) ≡ was_given b v path rows
+paths_told b v path [] agree = refl
+paths_told b v path (row ∷ older) agree =
+    any_put (is_given_by b path) (is_some (told (size older) (own_effect v older row.deed))) (size older) (all_told (own_effect v) older)
+    ∙ ap₂ (λ (one more : Bool). one || more)
+    (ap₂ (λ (one two : Bool). one && two) (told_where (gives_view v row.deed) (size older) (size older)) (ap (λ deed. is_among path (paths_by b deed)) (deed_newest b row older agree)))
+    (paths_told b v path older (deeds_below b row older agree))
+
+pub names_told : (b : Base) (d : ℕ) (name : List ℕ) (rows : Base) → AreDeeds b rows → list_any (λ n. is_name name (name_at b n)) (all_told (naming_effect d) rows) ≡ was_named d name rows
+names_told b d name [] agree = refl
+names_told b d name (row ∷ older) agree =
+    any_put (λ n. is_name name (name_at b n)) (is_some (told (size older) (naming_effect d older row.deed))) (size older) (all_told (naming_effect d) older)
+    ∙ ap₂ (λ (one more : Bool). one || more)
+    (ap₂ (λ (one two : Bool). one && two) (told_where (gives_in d row.deed) (size older) (size older)) (ap (λ deed. is_name name (option_and_then name_given deed)) (deed_newest b row older agree)))
+    (names_told b d name older (deeds_below b row older agree))

@@ -1,0 +1,90 @@
+//! How many views hold an object.
+
+ghost use Rattle.std.specs.Prelude.{◌≡◌, ◌||◌, ℕ, List, IfOk, OnOk};
+ghost use Rattle.std.specs.List.{list_any};
+ghost use Rattle.std.specs.Option.{option_copied};
+ghost use Rattle.cc_names.specs.References.{count};
+ghost use Rattle.legal_history.specs.Base.Changes.{held};
+ghost use Rattle.legal_history.specs.Base.Closures.{is_among};
+ghost use Rattle.legal_history.specs.Base.Rows.{deed_at};
+ghost use Rattle.cleartool.specs.Owned.{is_name, maker_by, winker, winker_at};
+
+use crate::sets::given_names::add_name;
+use cc_names::memory::NoMemory;
+use cc_names::names::Name;
+use cc_names::rows::Deed;
+use std::alloc::Global;
+use std::collections::BTreeSet;
+use view_lookup::{FirstRows, holds_one, row_at, winks_of};
+
+/// The view of the row that made an object, where it holds it.
+fn maker_of<'a>(rows: &FirstRows<'a>, object: u64) -> Option<&'a Name>
+    ensures { option_copied result ≡ maker_by rows.now object (deed_at rows.now object) }
+{
+    match row_at(rows, object) {
+        None => None,
+        Some(row) => match row.deed() {
+            Deed::Publish { view, targets, .. } => {
+                if holds_one(rows, view, object, targets.as_slice()) {
+                    Some(view)
+                } else {
+                    None
+                }
+            }
+            _ => None,
+        },
+    }
+}
+
+/// The view of a wink.
+fn winker(deed: &Deed) -> Option<&Name>
+    ensures { option_copied result ≡ winker deed.now }
+{
+    match deed {
+        Deed::Wink { view, .. } => Some(view),
+        _ => None,
+    }
+}
+
+/// The view whose wink the row of a number is.
+fn winker_at<'a>(rows: &FirstRows<'a>, number: u64) -> Option<&'a Name>
+    ensures { option_copied result ≡ winker_at rows.now number }
+{
+    let row = row_at(rows, number)?;
+    winker(row.deed())
+}
+
+/// Adds the views whose winks the rows of these numbers are.
+fn add_winkers(
+    alloc: Global,
+    views: &mut BTreeSet<Name>,
+    rows: &FirstRows<'_>,
+    winks: &[u64],
+) -> Result<(), NoMemory>
+    ensures { OnOk result
+        ((view : List ℕ)
+        → is_among view views.new.keys
+        ≡ (list_any (λ n. is_name view (winker_at rows.now n)) winks.now
+        || is_among view views.old.keys)) }
+{
+    for wink in winks {
+        add_name(alloc, views, winker_at(rows, *wink))?;
+    }
+    Ok(())
+}
+
+/// How many views hold the object. Takes for each of its targets the time of `held`: once for the view that made it, and once for
+/// each wink of it.
+pub(crate) fn count_holders(
+    alloc: Global,
+    rows: &FirstRows<'_>,
+    object: u64,
+) -> Result<usize, NoMemory>
+    ensures { IfOk result (λ views. views ≡ count (held rows.now) object) }
+{
+    let mut views = BTreeSet::new(alloc);
+    add_name(alloc, &mut views, maker_of(rows, object))?;
+    let winks = winks_of(alloc, rows, object)?;
+    add_winkers(alloc, &mut views, rows, &winks)?;
+    Ok(views.len())
+}

@@ -1,0 +1,5 @@
+pub mod Bases
+pub mod Cases
+pub mod Logging
+pub mod Stopping
+pub mod Story

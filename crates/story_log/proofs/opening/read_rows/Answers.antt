@@ -1,0 +1,68 @@
+-- one more row was read
+use Rattle.std.proofs.Common.{◌≡◌, ◌<◌, ◌&&◌, ◌∷◌, Bool, true, false, Some, Result, Ok, Err, length, nat_lt, refl, ap, sym, subst, ◌∙◌, arith}
+use Rattle.std.proofs.lemmas.Bool.{ltb-true}
+use Rattle.std.specs.Prelude.{is_err, OnOk}
+use Rattle.cc_names.specs.declared.rows.Deed.{Deed}
+use Rattle.legal_history.specs.Base.Rows.{Base, size}
+use Rattle.legal_history.specs.Base.Fits.{deed_fits, fits, row_limit}
+use Rattle.story_log.specs.Bases.Reading.{IsReadSoFar, ReadsOn}
+use Rattle.story_log.proofs.Bases.ReadRows.{reads_then, row_fits, stops_behind}
+use Rattle.story_log.proofs.opening.read_rows.Goals as goal
+
+-- what holds of an Ok holds where there is no Err
+of_ok : {X E : Type 0} {A : Type 0} (r : Result X E) → is_err r ≡ false → OnOk r A → A
+of_ok (Ok x) e a = a
+of_ok (Err x) e a = absurd (cc)
+
+-- a row that fits finds fewer rows than there may be
+below_limit : (b : Base) (deed : Deed) → fits b deed ≡ true → size b < row_limit
+below_limit b deed fit = by (nat_lt (size b) row_limit) refl fit
+  where
+    by : (is : Bool) → nat_lt (size b) row_limit ≡ is → (is && deed_fits b deed) ≡ true → size b < row_limit
+    by true is fit = ltb-true _ _ is
+    by false is fit = absurd (cc)
+
+pub frames-smaller : goal.frames-smaller
+frames-smaller g c =
+    let sight = g.D.Disk.sight in
+    let found : ReadsOn sight c.all.result (Some c.in-Ok-Some.row) c.read_row.new.journal = subst (λ f. ReadsOn sight c.all.result f c.read_row.new.journal) c.in-Ok-Some.field-0-is c.in-Ok-Some.ensures.ok in
+    let count = ap length (of_ok c.add_row.result (sym c.is_err.ensures.value ∙ c.if-is_err.false) c.add_row.ensures) in
+    let all = ap length c.all.ensures in
+    let below = below_limit c.all.result c.in-Ok-Some.row.deed (row_fits c.all.result c.in-Ok-Some.row found.good) in
+    omega (arith, count, all, below)
+
+pub frames-preserved : goal.frames-preserved
+frames-preserved g c =
+    let sight = g.D.Disk.sight in
+    let found : ReadsOn sight c.all.result (Some c.in-Ok-Some.row) c.read_row.new.journal = subst (λ f. ReadsOn sight c.all.result f c.read_row.new.journal) c.in-Ok-Some.field-0-is c.in-Ok-Some.ensures.ok in
+    let grown : c.add_row.new.rows.base ≡ c.in-Ok-Some.row ∷ c.all.result = of_ok c.add_row.result (sym c.is_err.ensures.value ∙ c.if-is_err.false) c.add_row.ensures ∙ ap (λ (before : Base). c.in-Ok-Some.row ∷ before) (sym c.all.ensures) in
+    record {
+      reads = reads_then sight c.args.journal.now c.frames.journal c.read_row.new.journal c.frames.invariant.reads c.in-Ok-Some.ensures.reads;
+      so_far = subst (λ (b : Base). IsReadSoFar sight b c.read_row.new.journal) (sym grown) found;
+      sound = c.in-Ok-Some.ensures.sound ∙ c.frames.invariant.sound;
+    }
+
+pub returns-then-is_err-clause-reads : goal.returns-then-is_err-clause-reads
+returns-then-is_err-clause-reads g c = reads_then g.D.Disk.sight c.args.journal.now c.frames.journal c.read_row.new.journal c.frames.invariant.reads c.in-Ok-Some.ensures.reads
+
+pub add_row-requires-clause-fits : goal.add_row-requires-clause-fits
+add_row-requires-clause-fits g c =
+    let sight = g.D.Disk.sight in
+    let found : ReadsOn sight c.all.result (Some c.in-Ok-Some.row) c.read_row.new.journal = subst (λ f. ReadsOn sight c.all.result f c.read_row.new.journal) c.in-Ok-Some.field-0-is c.in-Ok-Some.ensures.ok in
+    subst (λ b. fits b c.in-Ok-Some.row.deed ≡ _) c.all.ensures (row_fits c.all.result c.in-Ok-Some.row found.good)
+
+pub add_row-requires-clause-made : goal.add_row-requires-clause-made
+add_row-requires-clause-made g c =
+    let sight = g.D.Disk.sight in
+    let found : ReadsOn sight c.all.result (Some c.in-Ok-Some.row) c.read_row.new.journal = subst (λ f. ReadsOn sight c.all.result f c.read_row.new.journal) c.in-Ok-Some.field-0-is c.in-Ok-Some.ensures.ok in
+    found.readable.0.made
+
+pub returns-in-Ok-None-clause-reads : goal.returns-in-Ok-None-clause-reads
+returns-in-Ok-None-clause-reads g c = reads_then g.D.Disk.sight c.args.journal.now c.frames.journal c.read_row.new.journal c.frames.invariant.reads c.in-Ok-None.ensures.reads
+
+pub returns-in-Err-clause-reads : goal.returns-in-Err-clause-reads
+returns-in-Err-clause-reads g c = reads_then g.D.Disk.sight c.args.journal.now c.frames.journal c.read_row.new.journal c.frames.invariant.reads c.in-Err.ensures.reads
+
+pub returns-in-Err-clause-err : goal.returns-in-Err-clause-err
+returns-in-Err-clause-err g c =
+    stops_behind g.D.Disk.sight c.in-Err.cause c.args.journal.now c.frames.journal _ c.frames.invariant.reads c.frames.invariant.sound c.in-Err.ensures.err

@@ -1,0 +1,14 @@
+use Rattle.std.proofs.Common.{◌≡◌, ◌-◌, length}
+use Rattle.legal_history.specs.Base.Fits.{row_limit}
+use Rattle.story_log.specs.Bases.Reading.{OnlyReads, IsReadSoFar}
+use Rattle.story_log.proofs.opening.read_rows.Given as goal
+
+abbrev pub invariant-frames : goal.invariant-frames
+invariant-frames g l = record {
+  reads : OnlyReads g.D.Disk.sight l.initial.journal l.journal;
+  so_far : IsReadSoFar g.D.Disk.sight l.rows.base l.journal;
+  sound : (g.D.Disk.sight l.journal.disk).faults ≡ (g.D.Disk.sight l.initial.journal.disk).faults;
+}
+
+abbrev pub decreases-frames : goal.decreases-frames
+decreases-frames g l = row_limit - length l.rows.base

@@ -1,0 +1,86 @@
+-- How the rows of a journal are read.
+use Rattle.std.specs.Prelude.{◌≡◌, ◌≤◌, ◌&&◌, ℕ, Bool, true, false, Option, Some, None, List, [], ◌∷◌, ◌++◌}
+use Rattle.carried_out.specs.CarriedOut.{is_made}
+use Rattle.cc_names.specs.Formed.{Plain}
+use Rattle.cc_names.specs.declared.rows.Deed.{Deed}
+use Rattle.disk_model.specs.Devices.{LeavesNow}
+use Rattle.disk_model.specs.Told.{Sight, IfTold, Both}
+use Rattle.legal_history.specs.Base.Rows.{Base, size}
+use Rattle.legal_history.specs.Base.Fits.{fits, is_base}
+use Rattle.cc_names.specs.Counts.{rises}
+use Rattle.row_form.specs.Spelled.{spelled}
+use Rattle.vob_journal.specs.Added.{Adds, may_read}
+use Rattle.vob_journal.specs.Answered.{Gives}
+use Rattle.vob_journal.specs.Frames.{frames}
+use Rattle.vob_journal.specs.Moves.{Moves}
+use Rattle.vob_journal.specs.Reads.{SameFiles}
+use Rattle.vob_journal.specs.Shown.{Shown}
+use Rattle.story_log.specs.Bases.Opening.{IsUnfit}
+use Rattle.story_log.specs.Story.Readable.{IsReadable, AreReadable}
+use Rattle.story_log.specs.Stopping.Standing.{payloads}
+use Rattle.story_log.specs.declared.opening.OpenCause.{OpenCause}
+use Rattle.story_log.specs.declared.opening.OpenCause.TheVariants as causes
+
+-- What reading leaves of a journal with nothing loose: its list, which each stop since finds, and both files as they were.
+pub record OnlyReads {D : Type 0} (sight : D → Sight) (old new : Shown D) : Type 0 where
+  pub list : new.list ≡ old.list
+  pub left : new.left ≡ old.left
+  pub ticks : (sight old.disk).ticks ≤ (sight new.disk).ticks
+  pub stops : Both (Moves old.list [] old.list []) (sight old.disk).told (sight new.disk).told
+  pub adds : Both (Adds may_read) (sight old.disk).told (sight new.disk).told
+  pub files : Both SameFiles (sight old.disk).told (sight new.disk).told
+
+-- the end of a list was read where nothing was found
+abbrev pub EndsAt : Option (List ℕ) → Bool → Type 0
+EndsAt None ended = ended ≡ true
+EndsAt (Some payload) ended = Unit {0}
+
+-- the next payload, or the end of the list, and nothing is loose there either
+pub record NextIs {D : Type 0} (sight : D → Sight) (found : Option (List ℕ)) (old new : Shown D) : Type 0 where
+  pub loose : new.loose ≡ []
+  pub ends : EndsAt found new.ended
+  pub sound : (sight new.disk).faults ≡ (sight old.disk).faults
+  pub gives : IfTold (sight old.disk).told (λ _. Gives found old.rest new.rest)
+
+-- why no payload was read, with the disk's counts of faults before and after
+abbrev pub IsMissed : OpenCause → ℕ → ℕ → Type 0
+IsMissed (causes.Damaged n) old new = ⊥
+IsMissed causes.DiskFault old new = rises old new ≡ true
+IsMissed causes.NoMemory old new = new ≡ old
+
+-- why a row of this deed may not follow a base
+abbrev pub IsMisfit : Base → Deed → OpenCause → Type 0
+IsMisfit b deed (causes.Damaged n) = (n ≡ size b) × ((is_made deed && fits b deed) ≡ false)
+IsMisfit b deed causes.DiskFault = ⊥
+IsMisfit b deed causes.NoMemory = Unit {0}
+
+-- a payload spells this row, which is readable and fits a base
+pub record IsNextRow (b : Base) (payload : List ℕ) (row : Plain) : Type 0 where
+  pub spells : payload ≡ spelled row
+  pub readable : IsReadable row
+  pub fits : fits b row.deed ≡ true
+
+-- why a payload gave no row behind a base
+abbrev pub IsNoRow : Base → List ℕ → OpenCause → Type 0
+IsNoRow b payload (causes.Damaged n) = (n ≡ size b) × IsUnfit b payload
+IsNoRow b payload causes.DiskFault = ⊥
+IsNoRow b payload causes.NoMemory = Unit {0}
+
+-- What was read so far is a base of readable rows, and the journal's list is theirs and what is still to be read.
+pub record IsReadSoFar {D : Type 0} (sight : D → Sight) (base : Base) (journal : Shown D) : Type 0 where
+  pub good : is_base base ≡ true
+  pub readable : AreReadable base
+  pub loose : journal.loose ≡ []
+  pub now : IfTold (sight journal.disk).told (λ d. (image : List ℕ) → LeavesNow 0 d image → frames image ≡ journal.list)
+  pub list_is : IfTold (sight journal.disk).told (λ _. journal.list ≡ payloads base ++ journal.rest)
+
+-- the whole journal was read: its list is that of this base
+pub record IsReadThrough {D : Type 0} (sight : D → Sight) (base : Base) (journal : Shown D) : Type 0 where
+  pub so_far : IsReadSoFar sight base journal
+  pub ended : journal.ended ≡ true
+  pub nothing : IfTold (sight journal.disk).told (λ _. journal.rest ≡ [])
+
+-- behind the base that was read there is one more row, or the end
+abbrev pub ReadsOn : {D : Type 0} → (D → Sight) → Base → Option Plain → Shown D → Type 0
+ReadsOn sight base None journal = IsReadThrough sight base journal
+ReadsOn sight base (Some row) journal = IsReadSoFar sight (row ∷ base) journal

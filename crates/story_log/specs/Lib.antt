@@ -1,0 +1,4 @@
+pub mod Bases
+pub mod Logging
+pub mod Stopping
+pub mod Story

@@ -1,0 +1,70 @@
+-- What became of a row that was to be committed.
+use Rattle.std.specs.Prelude.{◌≡◌, ℕ, ◌<◌, ◌≤◌, ◌⊎◌, true, false, Option, Some, None, List}
+use Rattle.cc_names.specs.Formed.{Plain, IsFormed}
+use Rattle.cc_names.specs.declared.steps.Step.{Step}
+use Rattle.cc_names.specs.declared.steps.Step.TheVariants as steps
+use Rattle.cc_names.specs.declared.steps.StoryStep.TheVariants as story_steps
+use Rattle.disk_model.specs.Counting.{next_count}
+use Rattle.disk_model.specs.Told.{Sight, Both, IsCounted}
+use Rattle.legal_history.specs.Stories.States.{State, ticks_of, faults_of, hanging}
+use Rattle.legal_history.specs.Stories.Steps.{state_of}
+use Rattle.cc_names.specs.Counts.{rises}
+use Rattle.vob_journal.specs.Added.{WritesOn}
+use Rattle.story_log.specs.Story.Faults.{is_fault}
+use Rattle.story_log.specs.Logging.Logs.{Logged, with_row, with_step, with_step_on}
+use Rattle.story_log.specs.Story.Telling.{stands_alone}
+use Rattle.story_log.specs.declared.logs.Appended.{Appended}
+use Rattle.story_log.specs.declared.logs.Appended.TheVariants as appends
+
+-- what a fault may leave behind the base: nothing, the row that was to be committed, or what the fault before it left
+abbrev pub MayLeaveRow : State → Plain → Option Plain → Type 0
+MayLeaveRow s row None = Unit {0}
+MayLeaveRow s row (Some left) = (left ≡ row) ⊎ (hanging s.ends ≡ Some left)
+
+-- the row was committed at a later tick than any end before
+pub record IsCommitted (old new : Logged) (row : Plain) : Type 0 where
+  pub tick : ℕ
+  pub sight : Sight
+  pub formed : IsFormed row
+  pub grows : new ≡ with_row old row tick sight
+  pub ticked : rises (ticks_of (state_of old.story).opened (state_of old.story).ends) tick ≡ true
+  pub at : tick ≡ sight.ticks
+  pub spent : old.sight.ticks < tick
+  pub faults : sight.faults ≡ old.sight.faults
+  pub fit : IsCounted sight
+  pub writes : Both WritesOn old.sight.told sight.told
+
+-- a step that names no row and no phase, and is no fault of the disk
+abbrev pub IsQuiet : Step → Type 0
+IsQuiet step = (stands_alone step ≡ true) × (is_fault (story_steps.Other step) ≡ false)
+
+-- with the step that a fault brings with it
+abbrev pub with_ending : Logged → Option Step → Logged
+with_ending log None = log
+with_ending log (Some step) = with_step log step
+
+-- the disk failed while the row was to be committed: at one call, by which its count of faults went on to the next
+pub record IsFaulted (old new : Logged) (row : Plain) (ending : Option Step) : Type 0 where
+  pub left : Option Plain
+  pub before : ℕ
+  pub faults : ℕ
+  pub tick : ℕ
+  pub sight : Sight
+  pub formed : IsFormed row
+  pub grows : new ≡ with_ending (with_step_on old (steps.Fault row.tag left before faults tick) sight) ending
+  pub rose : rises before faults ≡ true
+  pub later : faults_of (state_of old.story).opened (state_of old.story).ends ≤ before
+  pub leaves : MayLeaveRow (state_of old.story) row left
+  pub ticked : rises (ticks_of (state_of old.story).opened (state_of old.story).ends) tick ≡ true
+  pub counted : before ≡ old.sight.faults
+  pub one : faults ≡ next_count before
+  pub told : faults ≡ sight.faults
+  pub at : tick ≡ sight.ticks
+  pub spent : rises old.sight.ticks tick ≡ true
+  pub fit : IsCounted sight
+  pub writes : Both WritesOn old.sight.told sight.told
+
+-- what became of a row
+abbrev pub Appends : Logged → Logged → Plain → Option Step → Appended → Type 0
+Appends old new row ending appends.Committed = IsCommitted old new row
+Appends old new row ending appends.Faulted = IsFaulted old new row ending

@@ -1,0 +1,61 @@
+-- How steps that name rows and phases by their numbers are told: a commit with its row, the beginning of a phase with that phase.
+use Rattle.std.specs.Bool.{⊤}
+use Rattle.std.specs.Prelude.{◌≡◌, ℕ, ◌+◌, ◌-◌, ◌≤◌, Bool, true, false, List, [], ◌∷◌, ◌++◌, length, reverse, take, drop}
+use Rattle.cc_names.specs.Formed.{Plain}
+use Rattle.cc_names.specs.declared.commands.Phase.{Phase}
+use Rattle.cc_names.specs.declared.steps.Step.{Step}
+use Rattle.cc_names.specs.declared.steps.Step.TheVariants as steps
+use Rattle.cc_names.specs.declared.steps.StoryStep.{StoryStep}
+use Rattle.cc_names.specs.declared.steps.StoryStep.TheVariants as story_steps
+use Rattle.legal_history.specs.Base.Rows.{Base}
+use Rattle.story_log.specs.Story.Handed.{Handed}
+
+-- the rows of a base, oldest first, as a story tells them
+abbrev pub oldest_first : Base → List Plain
+oldest_first base = reverse base
+
+-- The steps as they are told: the opened rows first, with how the disk was handed in, then each commit with the next row and
+-- each beginning of a phase with the next one.
+abbrev pub story_of : Handed → List Step → List Plain → List Phase → List StoryStep
+story_of h [] rows phases = []
+story_of h (steps.Opened n ∷ more) rows phases = story_steps.Opened (take (n - 1) rows) h.counts h.tells ∷ story_of h more (drop (n - 1) rows) phases
+story_of h (steps.PhaseBegun number moment ∷ more) rows [] = []
+story_of h (steps.PhaseBegun number moment ∷ more) rows (phase ∷ phases) = story_steps.PhaseBegun phase moment ∷ story_of h more rows phases
+story_of h (steps.Commit tag number tick ∷ more) [] phases = []
+story_of h (steps.Commit tag number tick ∷ more) (row ∷ rows) phases = story_steps.Commit row tick ∷ story_of h more rows phases
+story_of h (step ∷ more) rows phases = story_steps.Other step ∷ story_of h more rows phases
+
+-- The rows and the phases are those that the steps name, in their order, where rows are numbered from n on and p phases
+-- went before: each commit has its row's tag and number, each beginning of a phase the number of that phase.
+abbrev pub AreTold : ℕ → ℕ → List Step → List Plain → List Phase → Type 0
+AreTold n p [] [] [] = ⊤
+AreTold n p [] [] (phase ∷ phases) = ⊥
+AreTold n p [] (row ∷ rows) phases = ⊥
+AreTold n p (steps.Opened m ∷ more) rows phases = (1 ≤ m) × (m - 1 ≤ length rows) × AreTold (n + (m - 1)) p more (drop (m - 1) rows) phases
+AreTold n p (steps.PhaseBegun number moment ∷ more) rows [] = ⊥
+AreTold n p (steps.PhaseBegun number moment ∷ more) rows (phase ∷ phases) = (number ≡ p + 1) × AreTold n (p + 1) more rows phases
+AreTold n p (steps.Commit tag number tick ∷ more) [] phases = ⊥
+AreTold n p (steps.Commit tag number tick ∷ more) (row ∷ rows) phases = (row.tag ≡ tag) × (number ≡ n) × AreTold (n + 1) p more rows phases
+AreTold n p (step ∷ more) rows phases = AreTold n p more rows phases
+
+-- whether a step is told as it stands: it names no row and no phase
+abbrev pub stands_alone : Step → Bool
+stands_alone (steps.Opened rows) = false
+stands_alone (steps.PhaseBegun number moment) = false
+stands_alone (steps.Commit tag number tick) = false
+stands_alone step = true
+
+-- the rows of a story, in their order: those of the base that was opened, and that of each commit
+abbrev pub rows_told : List StoryStep → List Plain
+rows_told [] = []
+rows_told (story_steps.Opened rows counts tells ∷ story) = rows ++ rows_told story
+rows_told (story_steps.Commit row tick ∷ story) = row ∷ rows_told story
+rows_told (step ∷ story) = rows_told story
+
+-- some steps tell a story, with the rows and phases that they name
+pub record TellsStory (kept : List Step) (story : List StoryStep) : Type 0 where
+  pub handed : Handed
+  pub rows : List Plain
+  pub phases : List Phase
+  pub told : AreTold 1 0 kept rows phases
+  pub is : story ≡ story_of handed kept rows phases

@@ -1,0 +1,90 @@
+//! What a session leaves: the rows, the phases and the steps of its story.
+
+ghost use Rattle.std.specs.Prelude.{◌≡◌, []};
+
+use cc_names::rows::Row;
+use cc_names::steps::{Counts, Step};
+use disk_model::Disk;
+use session_text::PhaseText;
+use std::alloc::Global;
+use std::marker::{Model, PhantomData};
+
+/// The story of a session with the rows and phases that it names, the phases kept as their text. Contracts see it as the story,
+/// each commit told with its row and each beginning of a phase with that phase. A session that opened no base has the empty story. Whether the
+/// disk told its device is a part of the story, and known by the disk's type alone.
+#[derive(Drop)]
+pub struct History<D: Disk> {
+    rows: Vec<Row>,
+    phases: Vec<PhaseText>,
+    steps: Vec<Step>,
+    handed: Counts,
+    on: PhantomData<D>,
+}
+
+impl<D: Disk> Model for History<D> {
+    ghost use Rattle.std.specs.Prelude.{List};
+    ghost use Rattle.cc_names.specs.declared.steps.StoryStep.{StoryStep};
+    ghost use Rattle.story_log.specs.Story.Handed.{handed_in};
+    ghost use Rattle.story_log.specs.Story.Telling.{story_of, AreTold};
+
+    ghost Value = { List StoryStep };
+
+    ghost view = { λ h.
+        story_of (handed_in h.handed D.tells) h.steps.items h.rows.items h.phases.items };
+
+    ghost invariant = { λ h. AreTold 1 0 h.steps.items h.rows.items h.phases.items };
+}
+
+impl<D: Disk> History<D> {
+    ghost use Rattle.story_log.specs.Story.Handed.{handed_in};
+    ghost use Rattle.story_log.specs.Story.Telling.{story_of, AreTold, rows_told, TellsStory};
+
+    /// The history of a session that opened no base. Takes no memory.
+    pub fn empty(alloc: Global) -> History<D>
+        ensures { result ≡ [] }
+    {
+        History {
+            rows: Vec::new(alloc),
+            phases: Vec::new(alloc),
+            steps: Vec::new(alloc),
+            handed: Counts {
+                ticks: 0,
+                faults: 0,
+            },
+            on: PhantomData,
+        }
+    }
+
+    /// The history of these steps with the rows and phases that they name, in their order.
+    pub fn of(
+        rows: Vec<Row>,
+        phases: Vec<PhaseText>,
+        steps: Vec<Step>,
+        handed: Counts,
+    ) -> History<D>
+        requires { AreTold 1 0 steps.items rows.items phases.items }
+        ensures { result ≡ story_of (handed_in handed D.tells) steps.items rows.items phases.items }
+    {
+        History {
+            rows,
+            phases,
+            steps,
+            handed,
+            on: PhantomData,
+        }
+    }
+
+    /// The rows from row 1 on: those of the opened base, and behind them that of each commit.
+    pub fn rows(&self) -> &[Row]
+        ensures { result.now ≡ rows_told self.now }
+    {
+        self.rows.as_slice()
+    }
+
+    /// The steps, oldest first. With the rows and the phases that they name by number they tell the story.
+    pub fn steps(&self) -> &[Step]
+        ensures { TellsStory result.now self.now }
+    {
+        self.steps.as_slice()
+    }
+}

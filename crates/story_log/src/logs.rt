@@ -1,0 +1,314 @@
+//! The story of a core, with the rows and the phases that it names, and the journal that keeps the rows.
+
+ghost use Rattle.std.specs.Prelude.{◌≡◌, ◌+◌, ◌<◌, ◌≤◌, ◌^◌, ◌++◌, ◌∷◌, [], length, true, false, IfOk, OnOk, OnErr, option_copied};
+ghost use Rattle.row_form.specs.Spelled.{spelled};
+ghost use Rattle.story_log.specs.Logging.Leaving.{left_in};
+ghost use Rattle.std.specs.Vec.{vec_len, vec_capacity};
+ghost use Rattle.std.specs.Option.{option_to_list};
+
+use crate::history::History;
+use cc_names::copies::Copied;
+use cc_names::memory::NoMemory;
+use cc_names::names::Name;
+use cc_names::paths::Path;
+use cc_names::rows::Row;
+use cc_names::steps::{Counts, Step};
+use disk_model::{Disk, DiskFault};
+use row_form::spell;
+use session_text::PhaseText;
+use std::alloc::Global;
+use std::marker::Model;
+use view_lookup::{FirstRows, Rows};
+use vob_journal::{Frame, Journal, Left};
+
+/// What became of a row that was to be committed.
+#[derive(Clone, Copy, Debug, PartialEq, Eq)]
+pub enum Appended {
+    Committed,
+    /// The disk failed.
+    Faulted,
+}
+
+/// Steps as they are kept, with the rows and the phases that they name by number, and the journal of the rows. Contracts see
+/// it as the story that the steps tell, the base of these rows, the phases, and the disk's counts and device.
+#[derive(Drop)]
+pub struct Log<D: Disk> {
+    rows: Rows,
+    phases: Vec<PhaseText>,
+    steps: Vec<Step>,
+    /// The disk's counts as it was handed in.
+    handed: Counts,
+    journal: Journal<D>,
+}
+
+impl<D: Disk> Model for Log<D> {
+    ghost use Rattle.story_log.specs.Story.Handed.{handed_in};
+    ghost use Rattle.story_log.specs.Logging.Logs.{Logged, IsLogged};
+    ghost use Rattle.story_log.specs.Story.Telling.{oldest_first, story_of};
+
+    ghost Value = { Logged };
+
+    ghost view = { λ log. record {
+      story = story_of (handed_in log.handed D.tells) log.steps.items
+          (oldest_first log.rows.base) log.phases.items;
+      base = log.rows.base;
+      phases = log.phases.items;
+      sight = D.sight log.journal.disk;
+    } };
+
+    ghost invariant = { λ log.
+        IsLogged (handed_in log.handed D.tells) log.steps.items log.rows.base log.phases.items
+        (D.sight log.journal.disk) log.journal.list log.journal.loose log.journal.ended
+        log.journal.left log.journal.settled };
+}
+
+/// The frame of a row. A row that is spelled in 2^32 bytes or more counts as want of memory.
+fn frame_of(alloc: Global, row: &Row) -> Result<Frame, NoMemory>
+    ensures { IfOk result (λ frame. frame ≡ spelled row.now) }
+{
+    let payload = spell(alloc, row)?;
+    if payload.as_bytes().len() > u32::MAX as usize {
+        return Err(NoMemory);
+    }
+    Frame::of(alloc, payload.as_bytes())
+}
+
+/// The row that may be found behind the rows: what the newest fault left, if no row was committed since. Looks at the steps
+/// since the newest commit or fault.
+fn left_behind(steps: &[Step]) -> Option<&Row>
+    ensures { option_copied result ≡ left_in steps.now }
+{
+    let mut rest = steps;
+    while let Some((step, earlier)) = rest.split_last() {
+        match step {
+            Step::Commit { .. } => return None,
+            Step::Fault { left, .. } => return left.as_ref(),
+            _ => rest = earlier,
+        }
+    }
+    None
+}
+
+/// A copy of that row.
+fn copy_left(alloc: Global, steps: &[Step]) -> Result<Option<Row>, NoMemory>
+    ensures { IfOk result (λ left. left ≡ left_in steps.now) }
+{
+    match left_behind(steps) {
+        None => Ok(None),
+        Some(row) => Ok(Some(row.copy(alloc)?)),
+    }
+}
+
+/// A step and the one that it brings with it, for which there is room.
+fn push_both(steps: &mut Vec<Step>, step: Step, ending: Option<Step>)
+    requires { vec_len steps.old + 2 ≤ vec_capacity steps.old }
+    ensures { steps.new.items ≡ steps.old.items ++ step ∷ option_to_list ending }
+{
+    steps.push_reserved(step);
+    if let Some(ending) = ending {
+        steps.push_reserved(ending);
+    }
+}
+
+fn push_step(steps: &mut Vec<Step>, step: Step) -> Result<(), NoMemory>
+    ensures ok { OnOk result (steps.new.items ≡ steps.old.items ++ step ∷ []) }
+    ensures err { OnErr result (steps.new.items ≡ steps.old.items) }
+{
+    steps.push(step)?;
+    Ok(())
+}
+
+impl<D: Disk> Log<D> {
+    ghost use Rattle.std.specs.Prelude.{◌≡◌, ◌+◌, ◌<◌, ◌^◌, ◌++◌, ◌∷◌, [], length, true, false, IfOk, IfErr, IfSome, OnOk, OnErr, MatchResult};
+    ghost use Rattle.cc_names.specs.declared.steps.StoryStep.TheVariants as story_steps;
+    ghost use Rattle.disk_model.specs.Counting.{next_count};
+    ghost use Rattle.disk_model.specs.Told.{IfTold};
+    ghost use Rattle.legal_history.specs.Stories.States.{faults_of};
+    ghost use Rattle.legal_history.specs.Stories.Steps.{state_of};
+    ghost use Rattle.cc_names.specs.Counts.{rises};
+    ghost use Rattle.story_log.specs.Logging.Appending.{Appends, IsQuiet};
+    ghost use Rattle.story_log.specs.Stopping.Backed.{IsBacked, IsSettled, IsAccounted, may_be_open};
+    ghost use Rattle.story_log.specs.Story.Handed.{handed_in};
+    ghost use Rattle.story_log.specs.Story.Faults.{is_fault};
+    ghost use Rattle.story_log.specs.Logging.Logs.{opened_log, with_phase, with_step, with_sight};
+    ghost use Rattle.story_log.specs.Story.Telling.{oldest_first, stands_alone};
+    ghost use Rattle.carried_out.specs.CarriedOut.{is_made};
+    ghost use Rattle.disk_model.specs.Told.{Both};
+    ghost use Rattle.legal_history.specs.Base.Fits.{fits};
+    ghost use Rattle.vob_journal.specs.Added.{WritesOn};
+
+    /// The story of a base that was opened, whose rows are those of the journal. The journal comes back where
+    /// memory runs out.
+    pub fn open(
+        alloc: Global,
+        rows: Rows,
+        handed: Counts,
+        journal: Journal<D>,
+    ) -> Result<Log<D>, Journal<D>>
+        requires { IsBacked
+            (state_of (story_steps.Opened (oldest_first rows.base) handed D.tells ∷ []))
+            (D.sight journal.disk) journal.list journal.loose journal.ended journal.left
+            journal.settled }
+        ensures ok { IfOk result
+            (λ log. log ≡ opened_log rows.base (handed_in handed D.tells) (D.sight journal.disk)) }
+        ensures err { IfErr result (λ back. back ≡ journal) }
+    {
+        let mut steps = Vec::new(alloc);
+        let opened = Step::Opened {
+            rows: rows.all().size(),
+        };
+        if push_step(&mut steps, opened).is_err() {
+            return Err(journal);
+        }
+        Ok(Log {
+            rows,
+            phases: Vec::new(alloc),
+            steps,
+            handed,
+            journal,
+        })
+    }
+
+    /// Tells that a phase began. An `Err` changes nothing.
+    pub fn begin_phase(&mut self, phase: PhaseText, moment: u64) -> Result<(), NoMemory>
+        requires few { length self.old.phases + 1 < 2 ^ 32 }
+        ensures ok { OnOk result (self.new ≡ with_phase self.old phase moment) }
+        ensures err { OnErr result (self.new ≡ self.old) }
+    {
+        self.phases.reserve(1)?;
+        let number = self.phases.len() as u32 + 1;
+        push_step(
+            &mut self.steps,
+            Step::PhaseBegun {
+                phase: number,
+                moment,
+            },
+        )?;
+        self.phases.push_reserved(phase);
+        Ok(())
+    }
+
+    /// Commits a row: it is appended to the journal and then told, or the fault of the disk is told, and behind it the step
+    /// that it brings with it. Takes all memory first; an `Err` changes nothing. Takes time linear in the row, in the steps
+    /// since the last commit or fault, and in the row that a fault left there.
+    pub fn append(
+        &mut self,
+        alloc: Global,
+        row: Row,
+        ending: Option<Step>,
+    ) -> Result<Appended, NoMemory>
+        requires fits { fits self.old.base row.deed ≡ true }
+        requires made { is_made row.deed ≡ true }
+        requires ending { IfSome ending IsQuiet }
+        ensures ok { IfOk result (λ done. Appends self.old self.new row ending done) }
+        ensures err { OnErr result (self.new ≡ self.old) }
+    {
+        let frame = frame_of(alloc, &row)?;
+        let earlier = copy_left(alloc, self.steps.as_slice())?;
+        self.rows.reserve(row.deed())?;
+        self.steps.reserve(2)?;
+        let tag = row.tag();
+        let number = self.rows.all().size();
+        let before = self.journal.counts().faults;
+        if let Ok(tick) = self.journal.append(&frame) {
+            self.steps.push_reserved(Step::Commit { tag, number, tick });
+            self.rows.push(row);
+            return Ok(Appended::Committed);
+        }
+        let counts = self.journal.counts();
+        let left = match self.journal.left() {
+            Left::Nothing => None,
+            Left::Earlier => earlier,
+            Left::InFlight => Some(row),
+        };
+        let fault = Step::Fault {
+            tag,
+            left,
+            before,
+            after: counts.faults,
+            tick: counts.ticks,
+        };
+        push_both(&mut self.steps, fault, ending);
+        Ok(Appended::Faulted)
+    }
+
+    /// Tells a step that names no row and no phase, and is no fault of the disk. An `Err` changes nothing.
+    pub fn tell(&mut self, step: Step) -> Result<(), NoMemory>
+        requires alone { stands_alone step ≡ true }
+        requires sound { is_fault (story_steps.Other step) ≡ false }
+        ensures ok { OnOk result (self.new ≡ with_step self.old step) }
+        ensures err { OnErr result (self.new ≡ self.old) }
+    {
+        push_step(&mut self.steps, step)?;
+        Ok(())
+    }
+
+    /// Settles the journal's tail where a fault left it open; elsewhere it makes no device call, and changes nothing.
+    /// Afterwards no stop finds more than the rows.
+    pub fn settle(&mut self) -> Result<(), DiskFault>
+        ensures same { self.new ≡ with_sight self.old self.new.sight }
+        ensures ok { OnOk result (IsSettled (state_of self.new.story) self.new.sight) }
+        ensures err { OnErr result
+            (rises (faults_of (state_of self.new.story).opened (state_of self.new.story).ends)
+            self.new.sight.faults ≡ true) }
+        ensures faults { MatchResult result (λ _. self.new.sight.faults ≡ self.old.sight.faults)
+            (λ _. self.new.sight.faults ≡ next_count self.old.sight.faults) }
+        ensures few { self.new.sight.ticks ≤ self.old.sight.ticks + 2 }
+        ensures writes { Both WritesOn self.old.sight.told self.new.sight.told }
+        ensures rests { may_be_open (state_of self.old.story).ends ≡ false → self.new ≡ self.old }
+    {
+        match self.journal.left() {
+            Left::Nothing => Ok(()),
+            _ => self.journal.settle(),
+        }
+    }
+
+    /// The disk's counts.
+    pub fn counts(&self) -> Counts
+        ensures ticks { result.ticks ≡ self.now.sight.ticks }
+        ensures faults { result.faults ≡ self.now.sight.faults }
+    {
+        self.journal.counts()
+    }
+
+    /// The base, all its rows.
+    pub fn rows(&self) -> FirstRows<'_>
+        ensures { result ≡ self.now.base }
+    {
+        self.rows.all()
+    }
+
+    /// Has at hand what a view sees in the first rows where a unit of these targets is likely to ask, as `Rows::remember` does.
+    pub fn remember(&mut self, view: &Name, count: u64, targets: &[Path])
+        ensures { self.new ≡ self.old }
+    {
+        self.rows.remember(view, count, targets);
+    }
+
+    /// The phases that began.
+    pub fn phases(&self) -> &[PhaseText]
+        ensures { result.now ≡ self.now.phases }
+    {
+        self.phases.as_slice()
+    }
+
+    /// The disk, and the history of the story. Takes no memory.
+    pub fn into_parts(self) -> (D, History<D>)
+        ensures disk { D.sight result.0 ≡ self.sight }
+        ensures history { result.1 ≡ self.story }
+        ensures backed { IsAccounted (state_of self.story) self.sight }
+    {
+        let Log {
+            rows,
+            phases,
+            steps,
+            handed,
+            journal,
+        } = self;
+        let _now = journal.counts();
+        (
+            journal.into_disk(),
+            History::of(rows.into_vec(), phases, steps, handed),
+        )
+    }
+}

@@ -1,0 +1,210 @@
+//! How a base is opened: the rows of its journal are read one by one, and each has to fit those before it.
+
+ghost use Rattle.std.specs.Prelude.{◌≡◌, ◌&&◌, [], ◌∷◌, true, IfSome, IfNone, IfOk, IfErr, OnOk};
+ghost use Rattle.carried_out.specs.CarriedOut.{is_made};
+ghost use Rattle.legal_history.specs.Base.Fits.{fits};
+ghost use Rattle.disk_model.specs.Devices.{file_of, bytes_of};
+ghost use Rattle.disk_model.specs.Files.{stable};
+ghost use Rattle.disk_model.specs.Told.{IfTold};
+ghost use Rattle.story_log.specs.Bases.Opening.{StopsBy, IsOpened, FailsToOpen};
+ghost use Rattle.story_log.specs.Bases.Reading.{OnlyReads, NextIs, IsMisfit, IsMissed, IsNextRow, IsNoRow, IsReadSoFar, ReadsOn, IsReadThrough};
+
+use crate::logs::Log;
+use carried_out::is_made;
+use cc_names::memory::{NoMemory, Or};
+use cc_names::rows::Row;
+use cc_names::texts::Text;
+use disk_model::Disk;
+use row_form::read;
+use std::alloc::Global;
+use std::hash::RandomState;
+use view_lookup::{FirstRows, Rows, fits};
+use vob_journal::Journal;
+
+/// Why a base cannot be opened.
+#[derive(Clone, Copy, Debug, PartialEq, Eq)]
+pub enum OpenCause {
+    /// The frame of this number, counted from 1, is the first that spells no row, or whose row does not fit those before
+    /// it or is of a deed that is not made so far.
+    Damaged(u64),
+    DiskFault,
+    NoMemory,
+}
+
+/// A base that could not be opened, with its disk.
+#[derive(Drop)]
+pub struct OpenFault<D: Disk> {
+    pub cause: OpenCause,
+    pub disk: D,
+}
+
+/// The next payload of a journal with nothing loose, or None at its end.
+fn next_payload<D: Disk>(alloc: Global, journal: &mut Journal<D>) -> Result<Option<Text>, OpenCause>
+    requires { journal.old.loose ≡ [] }
+    ensures reads { OnlyReads D.sight journal.old journal.new }
+    ensures ok { IfOk result (λ found. NextIs D.sight found journal.old journal.new) }
+    ensures err { IfErr result
+        (λ cause.
+        IsMissed cause (D.sight journal.old.disk).faults (D.sight journal.new.disk).faults) }
+{
+    match journal.next(alloc) {
+        Ok(payload) => Ok(payload),
+        Err(Or::NoMemory) => Err(OpenCause::NoMemory),
+        Err(Or::Is(_)) => Err(OpenCause::DiskFault),
+    }
+}
+
+/// Whether what is carried out so far makes a row, and it fits the rows before. Fails only where memory runs out.
+fn may_follow(alloc: Global, rows: &FirstRows<'_>, row: &Row) -> Result<bool, NoMemory>
+    ensures { IfOk result (λ is. is ≡ (is_made row.now.deed && fits rows.now row.now.deed)) }
+{
+    if is_made(row.deed()) {
+        fits(alloc, rows, row)
+    } else {
+        Ok(false)
+    }
+}
+
+/// Why a row may not follow, or nothing where it may.
+fn misfit(alloc: Global, rows: &FirstRows<'_>, row: &Row) -> Option<OpenCause>
+    ensures fits { IfNone result ((is_made row.now.deed && fits rows.now row.now.deed) ≡ true) }
+    ensures misses { IfSome result (IsMisfit rows.now row.now.deed) }
+{
+    match may_follow(alloc, rows, row) {
+        Ok(true) => None,
+        Ok(false) => Some(OpenCause::Damaged(rows.size())),
+        Err(NoMemory) => Some(OpenCause::NoMemory),
+    }
+}
+
+/// The row that the payload of the next frame spells, where what is carried out so far makes it and it fits the rows before.
+fn next_row(
+    alloc: Global,
+    hashing: RandomState,
+    rows: &FirstRows<'_>,
+    payload: &[u8],
+) -> Result<Row, OpenCause>
+    ensures ok { IfOk result (IsNextRow rows.now payload.now) }
+    ensures err { IfErr result (IsNoRow rows.now payload.now) }
+{
+    let row = match read(alloc, hashing, payload) {
+        Ok(row) => row,
+        Err(Or::NoMemory) => return Err(OpenCause::NoMemory),
+        Err(Or::Is(_)) => return Err(OpenCause::Damaged(rows.size())),
+    };
+    match misfit(alloc, rows, &row) {
+        None => Ok(row),
+        Some(cause) => Err(cause),
+    }
+}
+
+/// The next row of a journal behind those that were read, or None at its end.
+fn read_row<D: Disk>(
+    alloc: Global,
+    hashing: RandomState,
+    journal: &mut Journal<D>,
+    rows: &FirstRows<'_>,
+) -> Result<Option<Row>, OpenCause>
+    requires { IsReadSoFar D.sight rows.now journal.old }
+    ensures reads { OnlyReads D.sight journal.old journal.new }
+    ensures ok { IfOk result (λ found. ReadsOn D.sight rows.now found journal.new) }
+    ensures sound { OnOk result
+        ((D.sight journal.new.disk).faults ≡ (D.sight journal.old.disk).faults) }
+    ensures err { IfErr result
+        (λ cause.
+        StopsBy (D.sight journal.old.disk).told (λ _. journal.old.list) cause
+        (D.sight journal.old.disk).faults (D.sight journal.new.disk).faults) }
+{
+    let payload = match next_payload(alloc, journal) {
+        Ok(Some(payload)) => payload,
+        Ok(None) => return Ok(None),
+        Err(cause) => return Err(cause),
+    };
+    match next_row(alloc, hashing, rows, payload.as_bytes()) {
+        Ok(row) => Ok(Some(row)),
+        Err(cause) => Err(cause),
+    }
+}
+
+/// Adds a row that fits. Fails only where memory runs out.
+fn add_row(rows: &mut Rows, row: Row) -> Result<(), NoMemory>
+    requires fits { fits rows.old.base row.deed ≡ true }
+    requires made { is_made row.deed ≡ true }
+    ensures { OnOk result (rows.new.base ≡ row ∷ rows.old.base) }
+{
+    rows.reserve(row.deed())?;
+    rows.push(row);
+    Ok(())
+}
+
+/// The rows of a journal, read to its end: each spells a row that fits those before it.
+fn read_rows<D: Disk>(
+    alloc: Global,
+    hashing: RandomState,
+    journal: &mut Journal<D>,
+) -> Result<Rows, OpenCause>
+    requires { IsReadSoFar D.sight [] journal.old }
+    ensures reads { OnlyReads D.sight journal.old journal.new }
+    ensures ok { IfOk result (λ rows. IsReadThrough D.sight rows.base journal.new) }
+    ensures sound { OnOk result
+        ((D.sight journal.new.disk).faults ≡ (D.sight journal.old.disk).faults) }
+    ensures err { IfErr result
+        (λ cause.
+        StopsBy (D.sight journal.old.disk).told (λ _. journal.old.list) cause
+        (D.sight journal.old.disk).faults (D.sight journal.new.disk).faults) }
+{
+    let Ok(mut rows) = Rows::new(alloc, hashing) else {
+        return Err(OpenCause::NoMemory);
+    };
+    'frames: loop {
+        match read_row(alloc, hashing, journal, &rows.all()) {
+            Ok(Some(row)) => {
+                if add_row(&mut rows, row).is_err() {
+                    return Err(OpenCause::NoMemory);
+                }
+            }
+            Ok(None) => return Ok(rows),
+            Err(cause) => return Err(cause),
+        }
+    }
+}
+
+/// Opens the log of the base that a disk stands for. Reads the journal once, and writes nothing. Takes time linear in the
+/// journal's bytes, and for each row that of `fits`.
+pub fn open_log<D: Disk>(
+    alloc: Global,
+    hashing: RandomState,
+    disk: D,
+) -> Result<Log<D>, OpenFault<D>>
+    requires { IfTold (D.sight disk).told (λ d. file_of 0 d ≡ stable (bytes_of 0 d)) }
+    ensures ok { IfOk result (λ log. IsOpened (D.sight disk) log) }
+    ensures err { IfErr result
+        (λ fault. FailsToOpen (D.sight disk) fault.cause (D.sight fault.disk)) }
+{
+    let handed = disk.counts();
+    let mut journal = match Journal::open(disk) {
+        Ok(journal) => journal,
+        Err(disk) => {
+            return Err(OpenFault {
+                cause: OpenCause::DiskFault,
+                disk,
+            });
+        }
+    };
+    let rows = match read_rows(alloc, hashing, &mut journal) {
+        Ok(rows) => rows,
+        Err(cause) => {
+            return Err(OpenFault {
+                cause,
+                disk: journal.into_disk(),
+            });
+        }
+    };
+    match Log::open(alloc, rows, handed, journal) {
+        Ok(log) => Ok(log),
+        Err(journal) => Err(OpenFault {
+            cause: OpenCause::NoMemory,
+            disk: journal.into_disk(),
+        }),
+    }
+}

@@ -1,8 +1,0 @@
-use Rattle.std.proofs.Common.{◌≡◌, ◌||◌, ℕ, List, drop}
-use Rattle.legal_history.specs.Base.Closures.{is_among}
-use Rattle.view_lookup.proofs.owned.add_all.Given as goal
-
--- the paths that are left, and those that were found
-abbrev pub invariant-loop-path : goal.invariant-loop-path
-invariant-loop-path l =
-    (path : List ℕ) → (is_among path (drop l.path-index l.paths) || is_among path l.found.keys) ≡ (is_among path l.paths || is_among path l.initial.found.keys)
