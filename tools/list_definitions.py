@@ -3,7 +3,7 @@
 
 Usage: list_definitions.py, at the top of the repository.
 
-The model is what stands in the specs/ folders of cc_names, spec_text and legal_history. For each file the section has the first
+The model is what stands in the specs/ folders of cc_names, spec_text, the two grammars and legal_history. For each file the section has the first
 sentence of its head comment and the names of its definitions, in their order.
 """
 import pathlib
@@ -11,9 +11,9 @@ import re
 import textwrap
 
 INDEX = pathlib.Path("docs/DEFINITIONS.md")
-CRATES = ["cc_names", "spec_text", "legal_history"]
+CRATES = ["cc_names", "spec_text", "make_grammar", "script_grammar", "legal_history"]
 HEAD = "# Every definition by its file"
-ABOUT = "Of the three crates in which the model stands. Made by `tools/list_definitions.py`; each definition has its comment there."
+ABOUT = "Of the five crates in which the model stands. Made by `tools/list_definitions.py`; each definition has its comment there."
 ALONE = re.compile(r"(?:abbrev (?:pub )?|pub record |pub data |pub (?=\S+ : ))(\S+)")
 MUTUAL = re.compile(r"  pub (\S+) : ")
 
