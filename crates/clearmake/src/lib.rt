@@ -9,8 +9,8 @@
 //! when it began, whatever other threads did meanwhile, and each unit is finished by the run of its own script. It is not
 //! promised that threads get on, nor which of them does what.
 //!
-//! What it stands on: `turn_lock` for the lock, `legal_history` for stories and their laws, `build_script` for runs,
-//! `cc_outside` for the gate, `cc_names` for plain data, and `crossbeam_deque`.
+//! What it stands on: `turn_lock` for the lock, `legal_history` for stories and their laws, `build_script` and `script_grammar`
+//! for runs, `cc_outside` for the gate, `cc_names` for plain data, and `crossbeam_deque`.
 #![tactic(auto)]
 
 mod before_threads;

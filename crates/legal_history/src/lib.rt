@@ -13,7 +13,8 @@
 //! view covers a record, running the record again gives what it has stored.
 //!
 //! What it stands on: `cc_names` for plain data, names and the changes of the indexes, `spec_text` for config specs,
-//! `date_text` for dates, `make_text` for the units of a build, `build_script` for the runs of scripts, and `sha2` for digests.
+//! `date_text` for dates, `make_grammar` for the units of a build, `script_grammar` for the runs of scripts, and `sha2` for
+//! digests.
 #![tactic(auto)]
 
 pub mod laws;

@@ -8,8 +8,8 @@
 //! `closure` gives the units that a unit stands on, by law all of them and no others, `dependants` those that have a
 //! prerequisite of its making, and `ready` says whether those of its own prerequisites are done.
 //!
-//! What it stands on: `make_text` for makefiles and the definition of units, `cc_names` for paths, units and faults,
-//! `indexmap` for paths without a rule in their order, each once.
+//! What it stands on: `make_grammar` for the definition of units, `make_text` for makefiles, `cc_names` for paths, units and
+//! faults, `indexmap` for paths without a rule in their order, each once.
 #![tactic(auto)]
 
 pub mod closures;
