@@ -10,6 +10,7 @@ use build_script::outcomes::Ended;
 use build_script::run::run;
 use build_script::scripts::Script;
 use cc_names::paths::Path;
+use cc_names::refusals::ScriptFault;
 use cc_names::texts::Text;
 use std::alloc::{AllocError, Global};
 use std::collections::HashMap;
@@ -62,7 +63,7 @@ fn files_of(alloc: Global, text: &[u8]) -> Result<SomeFiles, Fail> {
     Ok(SomeFiles { alloc, texts })
 }
 
-// The text of the one output of a run, or that there is a fault.
+// The text of the one output of a run, or that it would be too big, or that there is another fault.
 fn words_of(alloc: Global, ended: &Ended) -> Result<String, AllocError> {
     let mut words = String::new(alloc);
     match &ended.result {
@@ -72,7 +73,8 @@ fn words_of(alloc: Global, ended: &Ended) -> Result<String, AllocError> {
                 words.push_str(output.as_str())?;
             }
         }
-        Err(_) => words.push_str("fault")?,
+        Err(ScriptFault::TooBig(_)) => words.push_str("too big")?,
+        Err(_) => words.push_str("another fault")?,
     }
     Ok(words)
 }

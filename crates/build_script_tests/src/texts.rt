@@ -67,7 +67,7 @@ const LONG: [(&str, Option<usize>); 6] = [
 
 // The length of what was written.
 fn length_of(said: &str) -> Option<usize> {
-    if said == "fault" {
+    if said == "too big" {
         None
     } else {
         Some(said.len())

@@ -69,9 +69,9 @@ fn files_of(rt: &HostRuntime, name: &str) -> Result<FileDisk<HostRuntime>, Fail>
     Ok(FileDisk::new(rt.clone()?, journal, objects))
 }
 
-/// Writes seven bytes into each file, the last of them over the end of the others, and syncs them.
+/// Writes seven bytes into each file, the last of them within the others or over their end, and syncs them.
 fn write_both(rt: &impl Abort, disk: &mut FileDisk<HostRuntime>) {
-    let journal = disk.write_at(0, 0, b"journey").is_ok() && disk.write_at(0, 5, b"al").is_ok();
+    let journal = disk.write_at(0, 0, b"jo?rnal").is_ok() && disk.write_at(0, 2, b"u").is_ok();
     let objects = disk.write_at(1, 0, b"object").is_ok() && disk.write_at(1, 5, b"ts").is_ok();
     let synced = disk.sync(0).is_ok() && disk.sync(1).is_ok();
     assert!(rt; journal && objects && synced);

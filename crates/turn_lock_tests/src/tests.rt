@@ -1,6 +1,7 @@
-//! Each lane's notes stand in a closed tally in their order, and a value that no lock was made round comes back.
-
-ghost use Rattle.std.specs.Prelude.{◌^◌, ◌<◌, ◌≤◌};
+//! Each lane's notes stand in the story of a closed tally in their order, and a value that no lock was made round comes back.
+ghost use Rattle.std.specs.Prelude.{◌≡◌, ℕ, ◌^◌, ◌<◌, ◌≤◌, map, IfSome};
+ghost use Rattle.std.specs.List.{range_with_len};
+ghost use mathlib.Core.List.{Sublist};
 
 use std::alloc::{AllocError, Global};
 use std::process::Abort;
@@ -20,6 +21,12 @@ fn noted_by_lanes<R: Threads + Wait + Sync>(
     count: u32,
 ) -> Option<Tally>
     requires { (1 ≤ lanes) × (lanes < 2 ^ 16) }
+    ensures { IfSome result
+        (λ tally.
+        (lane : ℕ)
+        → lane < lanes
+        → Sublist (map (λ n. record { lane = lane; number = n }) (range_with_len 0 count))
+        tally.notes.items) }
 {
     let empty = Tally {
         notes: Vec::new(alloc),
@@ -30,32 +37,40 @@ fn noted_by_lanes<R: Threads + Wait + Sync>(
     if noted { Some(tally) } else { None }
 }
 
-// Whether each lane's notes stand in the tally in their order, and nothing else does.
-fn is_in_order(alloc: Global, tally: &Tally, lanes: usize, count: u32) -> Result<bool, AllocError> {
+// Each lane's notes stand in the tally in their order, and nothing else does.
+fn check_order<R: Abort>(
+    rt: &R,
+    alloc: Global,
+    tally: &Tally,
+    lanes: usize,
+    count: u32,
+) -> Result<(), AllocError> {
     let mut next = vec![in alloc; 0u32; lanes]?;
     for note in tally.notes.iter() {
         let Some(expected) = next.get_mut(note.lane as usize) else {
-            return Ok(false);
+            panic!(rt; "a note of lane {}", note.lane);
         };
-        if note.number != *expected {
-            return Ok(false);
-        }
+        assert_eq!(rt; note.number, *expected, "lane {}", note.lane);
         *expected = expected.wrapping_add(1);
     }
-    Ok(next.iter().all(|written| *written == count))
+    assert!(rt;
+        next.iter().all(|written| *written == count),
+        "a note is missing"
+    );
+    Ok(())
 }
 
 #[test]
 fn two_threads_of_many_turns(rt: HostRuntime) -> Result<(), Fail> {
     let tally = noted_by_lanes(&rt, rt.alloc(), 2, 20000).ok_or("no memory")?;
-    assert!(rt; is_in_order(rt.alloc(), &tally, 2, 20000)?);
+    check_order(&rt, rt.alloc(), &tally, 2, 20000)?;
     Ok(())
 }
 
 #[test]
 fn nine_lanes_forked_by_halving(rt: HostRuntime) -> Result<(), Fail> {
     let tally = noted_by_lanes(&rt, rt.alloc(), 9, 300).ok_or("no memory")?;
-    assert!(rt; is_in_order(rt.alloc(), &tally, 9, 300)?);
+    check_order(&rt, rt.alloc(), &tally, 9, 300)?;
     Ok(())
 }
 
@@ -63,11 +78,12 @@ fn nine_lanes_forked_by_halving(rt: HostRuntime) -> Result<(), Fail> {
 #[test]
 fn the_value_comes_back(rt: HostRuntime) -> Result<(), Fail> {
     let mut notes = Vec::new(rt.alloc());
-    notes.push(Note { lane: 0, number: 0 })?;
+    notes.push(Note { lane: 3, number: 7 })?;
     let back = match TurnLock::new(rt.alloc(), Tally { notes }, 1) {
         Ok((lock, pass)) => lock.close(pass),
         Err(back) => back,
     };
-    assert!(rt; is_in_order(rt.alloc(), &back, 1, 1)?);
+    assert_eq!(rt; back.notes.len(), 1);
+    assert_eq!(rt; (back.notes[0].lane, back.notes[0].number), (3, 7));
     Ok(())
 }
