@@ -53,7 +53,8 @@ impl<D: Disk> Core<D> {
     ghost use Rattle.story_log.specs.Stopping.Backed.{IsSettled, IsAccounted, may_be_open};
     ghost use Rattle.base_core.specs.Story.Counted.{KeepsCount};
     ghost use Rattle.story_log.specs.Bases.Opening.{OpensCore, FailsToOpen};
-    ghost use Rattle.story_log.specs.Story.Readable.{IsReadable, TellsOnly};
+    ghost use Rattle.story_log.specs.Story.Formed.{TellsOnly};
+    ghost use Rattle.cc_names.specs.Formed.{IsFormed};
     ghost use Rattle.disk_model.specs.Counting.{next_count};
     ghost use Rattle.disk_model.specs.Devices.{file_of, bytes_of};
     ghost use Rattle.disk_model.specs.Files.{stable};
@@ -161,7 +162,7 @@ impl<D: Disk> Core<D> {
         ensures disk { D.sight result.0 ≡ self.sight }
         ensures history { result.1 ≡ self.story }
         ensures legal { Legal self.story }
-        ensures readable { TellsOnly IsReadable self.story }
+        ensures formed { TellsOnly IsFormed self.story }
         ensures stopped { IsAccounted (state_of self.story) self.sight }
     {
         let Core {

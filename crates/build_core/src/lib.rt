@@ -15,9 +15,8 @@
 //!
 //! What it stands on: `clearmake` for what builders on threads ask of a build, `make_text` for makefiles, `make_grammar` for
 //! the definition of units, `make_graph` for the units of a makefile that was read, `view_lookup` for what a view sees,
-//! `build_script` and `script_grammar` for scripts, `session_text` for the form of commands, `carried_out` for the deeds of its
-//! rows, `reply_text` for digests, `legal_history` for the model of builds and of their replies, `cc_names` for paths, units
-//! and refusals.
+//! `build_script` and `script_grammar` for scripts, `session_text` for the form of commands, `reply_text` for
+//! digests, `legal_history` for the model of builds and of their replies, `cc_names` for paths, units and refusals.
 #![tactic(auto)]
 
 mod active;

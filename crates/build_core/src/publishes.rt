@@ -2,7 +2,6 @@
 
 ghost use Rattle.std.specs.Prelude.{◌≡◌, ◌<◌, ◌≤◌, ◌^◌, true, Some, length, map, IfOk};
 ghost use Rattle.legal_history.specs.Stories.Lawful.{last_moment};
-ghost use Rattle.carried_out.specs.CarriedOut.{is_made};
 ghost use Rattle.cc_names.specs.declared.units.Unit as units;
 ghost use Rattle.legal_history.specs.Builds.Active.{unit_at};
 ghost use Rattle.legal_history.specs.Builds.Choices.{as_entry, in_order, visible};
@@ -81,7 +80,6 @@ pub fn publish_row(
     ensures row { (it : units.Unit)
         → unit_at build.now unit ≡ Some it
         → IfOk result (λ row. IsPublishOf rows.now build.now unit it moment row) }
-    ensures made { IfOk result (λ row. is_made row.deed ≡ true) }
 {
     rows.size();
     let found = rows_read(alloc, rows, build, unit, reads)?;

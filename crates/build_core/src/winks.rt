@@ -3,7 +3,6 @@
 ghost use Rattle.std.specs.Prelude.{◌≡◌, ◌≤◌, true, IfOk};
 ghost use Rattle.cc_names.specs.declared.rows.Deed.TheVariants as deeds;
 ghost use Rattle.legal_history.specs.Stories.Lawful.{last_moment};
-ghost use Rattle.carried_out.specs.CarriedOut.{is_made};
 
 use crate::active::ActiveBuild;
 use cc_names::memory::NoMemory;
@@ -27,7 +26,6 @@ pub fn wink_row(
           moment = moment;
           deed = deeds.Wink build.now.view object;
         }) }
-    ensures made { IfOk result (λ row. is_made row.deed ≡ true) }
 {
     let view = build.view().copy(alloc)?;
     Ok(Row::of(build.tag(), moment, Deed::Wink { view, object }))

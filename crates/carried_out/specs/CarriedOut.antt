@@ -1,4 +1,4 @@
--- What the program carries out so far: the commands, and the deeds that its rows may have.
+-- Which commands the program carries out so far.
 use Rattle.std.specs.Prelude.{◌≡◌, Bool, true, false}
 use Rattle.std.specs.List.{AllByRecursion}
 use Rattle.cc_names.specs.declared.commands.Command.{Command}
@@ -6,8 +6,6 @@ use Rattle.cc_names.specs.declared.commands.Command.TheVariants as commands
 use Rattle.cc_names.specs.declared.commands.Lane.{Lane}
 use Rattle.cc_names.specs.declared.commands.Phase.{Phase}
 use Rattle.cc_names.specs.declared.commands.Session.{Session}
-use Rattle.cc_names.specs.declared.rows.Deed.{Deed}
-use Rattle.cc_names.specs.declared.rows.Deed.TheVariants as deeds
 
 -- whether a command is carried out
 abbrev pub is_carried_out : Command → Bool
@@ -42,30 +40,6 @@ is_carried_out (commands.Catcr view path) = true
 is_carried_out (commands.Diffcr view path other second) = true
 is_carried_out (commands.Covers seer view path) = true
 is_carried_out command = false
-
--- whether a command that is carried out, or a unit of a build, may make a row of this deed
-abbrev pub is_made : Deed → Bool
-is_made (deeds.Mkview view) = true
-is_made (deeds.Rmview view) = true
-is_made (deeds.Setcs view text) = true
-is_made (deeds.Mkelem view directory name kind out) = true
-is_made (deeds.Checkout view element origin reserved) = true
-is_made (deeds.Branch view element origin name out) = true
-is_made (deeds.Save view element text) = true
-is_made (deeds.Checkin view element) = true
-is_made (deeds.Uncheckout view element) = true
-is_made (deeds.Rmname view directory name) = true
-is_made (deeds.Mv view directory from_name to_name) = true
-is_made (deeds.Put view path text) = true
-is_made (deeds.Rm view path) = true
-is_made (deeds.Mktype kind name) = true
-is_made (deeds.Label label element version) = true
-is_made (deeds.Unlabel label element) = true
-is_made (deeds.Publish view targets script entries outputs) = true
-is_made (deeds.Wink view object) = true
-is_made (deeds.Drop view path) = true
-is_made (deeds.Scrub objects) = true
-is_made deed = false
 
 -- All commands of a lane are carried out.
 abbrev pub IsLaneCarriedOut : Lane → Type 0

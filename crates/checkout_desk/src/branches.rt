@@ -6,7 +6,6 @@ ghost use Rattle.cc_names.specs.Formed.{IsTypeName};
 ghost use Rattle.legal_history.specs.Base.Fits.{row_limit};
 ghost use Rattle.legal_history.specs.Commands.CheckoutLines.{mkbranch, mkbranch_of, out_unless};
 ghost use Rattle.legal_history.specs.Commands.Decisions.{Scene};
-ghost use Rattle.carried_out.specs.CarriedOut.{is_made};
 ghost use Rattle.checkout_desk.specs.Deciding.{Sees, Decides};
 
 use crate::checkout_needs::needs_not_out;
@@ -45,7 +44,6 @@ fn mkbranch_of(
         → Sees scene rows.now now view.now occasion.busy occasion.taken
         → Decides occasion.tag occasion.moment result
         (mkbranch_of scene view.now nco branch.now selected.element selected.picked) }
-    ensures made { IfOk result (λ row. is_made row.deed ≡ true) }
     ensures room { OnOk result (occasion.taken < row_limit) }
 {
     needs_not_out(checked_out(rows, view, selected.element))?;
@@ -78,7 +76,6 @@ pub fn mkbranch(
         → Sees scene rows.now now view.now occasion.busy occasion.taken
         → Decides occasion.tag occasion.moment result
         (mkbranch scene view.now nco branch.now path.now) }
-    ensures made { IfOk result (λ row. is_made row.deed ≡ true) }
     ensures room { OnOk result (occasion.taken < row_limit) }
 {
     let selected = find_selected_idle(alloc, rows, view, path, occasion.busy)?;

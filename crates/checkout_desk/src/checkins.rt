@@ -7,7 +7,6 @@ ghost use Rattle.legal_history.specs.Commands.CheckoutLines.{changes_unless, che
 ghost use Rattle.legal_history.specs.Commands.CheckoutTests.{needs_change};
 ghost use Rattle.legal_history.specs.Commands.Decisions.{Scene, first_refusal};
 ghost use Rattle.view_lookup.specs.Effects.{plain_checkout};
-ghost use Rattle.carried_out.specs.CarriedOut.{is_made};
 ghost use Rattle.checkout_desk.specs.Deciding.{Sees, Decides, Tests};
 
 use crate::checkout_needs::{needs_change, needs_latest_origin, needs_no_other, needs_out};
@@ -56,7 +55,6 @@ fn checkin_of(
         → Sees scene rows.now now view.now occasion.busy occasion.taken
         → Decides occasion.tag occasion.moment result
         (checkin_of scene view.now identical path.now element) }
-    ensures made { IfOk result (λ row. is_made row.deed ≡ true) }
     ensures room { OnOk result (occasion.taken < row_limit) }
 {
     let taken = checked_out(rows, view, element);
@@ -88,7 +86,6 @@ pub fn checkin(
         → Sees scene rows.now now view.now occasion.busy occasion.taken
         → Decides occasion.tag occasion.moment result
         (checkin scene view.now identical path.now) }
-    ensures made { IfOk result (λ row. is_made row.deed ≡ true) }
     ensures room { OnOk result (occasion.taken < row_limit) }
 {
     let element = find_standing_idle(alloc, rows, view, path, occasion.busy)?;
@@ -109,7 +106,6 @@ fn uncheckout_of(
         → Sees scene rows.now now view.now occasion.busy occasion.taken
         → Decides occasion.tag occasion.moment result
         (uncheckout_of scene view.now path.now element) }
-    ensures made { IfOk result (λ row. is_made row.deed ≡ true) }
     ensures room { OnOk result (occasion.taken < row_limit) }
 {
     needs_out(alloc, path, checked_out(rows, view, element))?;
@@ -134,7 +130,6 @@ pub fn uncheckout(
     ensures decided { (scene : Scene) (now : ℕ)
         → Sees scene rows.now now view.now occasion.busy occasion.taken
         → Decides occasion.tag occasion.moment result (uncheckout scene view.now path.now) }
-    ensures made { IfOk result (λ row. is_made row.deed ≡ true) }
     ensures room { OnOk result (occasion.taken < row_limit) }
 {
     let element = find_standing_idle(alloc, rows, view, path, occasion.busy)?;

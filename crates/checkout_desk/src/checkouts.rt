@@ -8,7 +8,6 @@ ghost use Rattle.legal_history.specs.Base.Fits.{row_limit};
 ghost use Rattle.legal_history.specs.Commands.CheckoutLines.{branch_by, checkout, checkout_by, checkout_deed, checkout_of, deciding_rule, out_by};
 ghost use Rattle.legal_history.specs.Commands.Decisions.{Scene, first_refusal};
 ghost use Rattle.legal_history.specs.Commands.Tests.{needs_branch_type, needs_no_branch};
-ghost use Rattle.carried_out.specs.CarriedOut.{is_made};
 ghost use Rattle.checkout_desk.specs.Deciding.{Sees, Decides, Tests};
 
 use crate::checkout_needs::{needs_checkout_rule, needs_latest, needs_not_out, needs_unreserved};
@@ -106,7 +105,6 @@ fn checkout_deed(
         ≡ checkout_deed view.now unreserved selected.element selected.picked
         (option_copied branch.entry)) }
     ensures formed { IfOk result IsDeedFormed }
-    ensures made { IfOk result (λ deed. is_made deed ≡ true) }
 {
     let view = view.copy(alloc)?;
     match branch {
@@ -140,7 +138,6 @@ fn checkout_of(
         → Sees scene rows.now now view.now occasion.busy occasion.taken
         → Decides occasion.tag occasion.moment result
         (checkout_of scene view.now unreserved selected.element selected.picked) }
-    ensures made { IfOk result (λ row. is_made row.deed ≡ true) }
     ensures room { OnOk result (occasion.taken < row_limit) }
 {
     needs_not_out(checked_out(rows, view, selected.element))?;
@@ -168,7 +165,6 @@ pub fn checkout(
         → Sees scene rows.now now view.now occasion.busy occasion.taken
         → Decides occasion.tag occasion.moment result
         (checkout scene view.now unreserved path.now) }
-    ensures made { IfOk result (λ row. is_made row.deed ≡ true) }
     ensures room { OnOk result (occasion.taken < row_limit) }
 {
     let selected = find_selected_idle(alloc, rows, view, path, occasion.busy)?;

@@ -7,7 +7,7 @@ ghost use Rattle.session_text.specs.Formed.{IsCommand};
 ghost use Rattle.legal_history.specs.Base.Fits.{row_limit};
 ghost use Rattle.legal_history.specs.Commands.Decisions.{Scene};
 ghost use Rattle.legal_history.specs.Commands.Lines.{decision};
-ghost use Rattle.carried_out.specs.CarriedOut.{is_carried_out, is_made};
+ghost use Rattle.carried_out.specs.CarriedOut.{is_carried_out};
 ghost use Rattle.legal_history.specs.Queries.QueryLines.{is_query};
 ghost use Rattle.checkout_desk.specs.Deciding.{Decides, DecidesIfAny, IfNone, IfRow, Sees};
 
@@ -49,7 +49,6 @@ fn decide_row(
     ensures decided { (scene : Scene) (now : ℕ)
         → Sees scene rows.now now (view_of command.now) occasion.busy occasion.taken
         → Decides occasion.tag occasion.moment result (decision scene command.now) }
-    ensures made { IfOk result (λ row. is_made row.deed ≡ true) }
     ensures room { OnOk result (occasion.taken < row_limit) }
 {
     match command {
@@ -117,7 +116,6 @@ pub fn decide(
         → Sees scene rows.now occasion.moment (view_of command.now) occasion.busy occasion.taken
         → DecidesIfAny occasion.tag occasion.moment result (decision scene command.now) }
     ensures nothing { IfNone result (is_some (scrub_age command.now) ≡ true) }
-    ensures made { IfRow result (λ row. is_made row.deed ≡ true) }
     ensures room { IfRow result (λ row. occasion.taken < row_limit) }
 {
     match command {

@@ -6,7 +6,6 @@ ghost use Rattle.cc_names.specs.Formed.{IsBelowRoot};
 ghost use Rattle.legal_history.specs.Base.Fits.{row_limit};
 ghost use Rattle.legal_history.specs.Commands.Decisions.{Scene};
 ghost use Rattle.legal_history.specs.Commands.DirectoryLines.{mkelem, mkelem_in};
-ghost use Rattle.carried_out.specs.CarriedOut.{is_made};
 ghost use Rattle.checkout_desk.specs.Deciding.{Sees, Decides};
 
 use crate::found::{find_directory_out, last_name};
@@ -38,7 +37,6 @@ fn mkelem_in(
         → Sees scene rows.now now view.now occasion.busy occasion.taken
         → Decides occasion.tag occasion.moment result
         (mkelem_in scene view.now nco kind path.now directory) }
-    ensures made { IfOk result (λ row. is_made row.deed ≡ true) }
     ensures room { OnOk result (occasion.taken < row_limit) }
 {
     let name = last_name(alloc, path)?;
@@ -70,7 +68,6 @@ pub fn mkelem(
     ensures decided { (scene : Scene) (now : ℕ)
         → Sees scene rows.now now view.now occasion.busy occasion.taken
         → Decides occasion.tag occasion.moment result (mkelem scene view.now nco kind path.now) }
-    ensures made { IfOk result (λ row. is_made row.deed ≡ true) }
     ensures room { OnOk result (occasion.taken < row_limit) }
 {
     let directory = find_directory_out(alloc, rows, view, path, occasion.busy)?;

@@ -11,7 +11,6 @@ ghost use Rattle.legal_history.specs.Commands.Found.{for_element, for_selected};
 ghost use Rattle.legal_history.specs.Commands.LabelLines.{mklabel, mklabel_of, needs_label, needs_label_free, needs_version_picked, rmlabel, rmlabel_of};
 ghost use Rattle.legal_history.specs.Commands.Tests.{needs_view};
 ghost use Rattle.view_lookup.specs.Effects.{plain_checkout};
-ghost use Rattle.carried_out.specs.CarriedOut.{is_made};
 ghost use Rattle.checkout_desk.specs.Deciding.{Sees, Decides, Finds, Tests, apart};
 
 use crate::checkout_needs::needs_not_out;
@@ -76,7 +75,6 @@ fn mklabel_of(
         → Sees scene rows.now now view.now occasion.busy occasion.taken
         → Decides occasion.tag occasion.moment result
         (mklabel_of scene view.now replace label.now selected.element selected.picked) }
-    ensures made { IfOk result (λ row. is_made row.deed ≡ true) }
     ensures room { OnOk result (occasion.taken < row_limit) }
 {
     needs_label_type(alloc, rows, label)?;
@@ -125,7 +123,6 @@ pub fn mklabel(
         → Sees scene rows.now now view.now occasion.busy occasion.taken
         → Decides occasion.tag occasion.moment result
         (mklabel scene view.now replace label.now path.now) }
-    ensures made { IfOk result (λ row. is_made row.deed ≡ true) }
     ensures room { OnOk result (occasion.taken < row_limit) }
 {
     let selected = find_selected_in(alloc, rows, view, path)?;
@@ -163,7 +160,6 @@ fn rmlabel_of(
         → Sees scene rows.now now view busy occasion.taken
         → Decides occasion.tag occasion.moment result
         (rmlabel_of scene label.now path.now element) }
-    ensures made { IfOk result (λ row. is_made row.deed ≡ true) }
     ensures room { OnOk result (occasion.taken < row_limit) }
 {
     needs_label_type(alloc, rows, label)?;
@@ -209,7 +205,6 @@ pub fn rmlabel(
         → Sees scene rows.now now view.now occasion.busy occasion.taken
         → Decides occasion.tag occasion.moment result
         (rmlabel scene view.now label.now path.now) }
-    ensures made { IfOk result (λ row. is_made row.deed ≡ true) }
     ensures room { OnOk result (occasion.taken < row_limit) }
 {
     let element = find_standing_in(alloc, rows, view, path)?;

@@ -12,7 +12,6 @@ ghost use Rattle.legal_history.specs.Base.Fits.{row_limit};
 ghost use Rattle.legal_history.specs.Commands.Decisions.{Scene, first_refusal, needs_room};
 ghost use Rattle.legal_history.specs.Commands.DirectoryLines.{mv, mv_in, mv_tests, renamed, rmname, rmname_in};
 ghost use Rattle.cc_names.specs.declared.rows.Tag.{Tag};
-ghost use Rattle.carried_out.specs.CarriedOut.{is_made};
 ghost use Rattle.checkout_desk.specs.Deciding.{Sees, Decides, Tests};
 
 use crate::checkout_needs::needs_not_out;
@@ -53,7 +52,6 @@ fn rmname_in(
         → Sees scene rows.now now view.now occasion.busy occasion.taken
         → Decides occasion.tag occasion.moment result
         (rmname_in scene view.now path.now directory) }
-    ensures made { IfOk result (λ row. is_made row.deed ≡ true) }
     ensures room { OnOk result (occasion.taken < row_limit) }
 {
     let name = last_name(alloc, path)?;
@@ -81,7 +79,6 @@ pub fn rmname(
     ensures decided { (scene : Scene) (now : ℕ)
         → Sees scene rows.now now view.now occasion.busy occasion.taken
         → Decides occasion.tag occasion.moment result (rmname scene view.now path.now) }
-    ensures made { IfOk result (λ row. is_made row.deed ≡ true) }
     ensures room { OnOk result (occasion.taken < row_limit) }
 {
     let directory = find_directory_out(alloc, rows, view, path, occasion.busy)?;
@@ -143,7 +140,6 @@ fn mv_in(
         → Sees scene rows.now now view.now occasion.busy occasion.taken
         → Decides occasion.tag occasion.moment result
         (mv_in scene view.now path.now name.now directory) }
-    ensures made { IfOk result (λ row. is_made row.deed ≡ true) }
     ensures room { OnOk result (occasion.taken < row_limit) }
 {
     let from_name = mv_tests(alloc, rows, view, path, name, directory, occasion.taken)?;
@@ -171,7 +167,6 @@ pub fn mv(
     ensures decided { (scene : Scene) (now : ℕ)
         → Sees scene rows.now now view.now occasion.busy occasion.taken
         → Decides occasion.tag occasion.moment result (mv scene view.now path.now name.now) }
-    ensures made { IfOk result (λ row. is_made row.deed ≡ true) }
     ensures room { OnOk result (occasion.taken < row_limit) }
 {
     let directory = find_directory_out(alloc, rows, view, path, occasion.busy)?;

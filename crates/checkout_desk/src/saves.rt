@@ -9,7 +9,6 @@ ghost use Rattle.legal_history.specs.Base.Views.{out};
 ghost use Rattle.legal_history.specs.Commands.Decisions.{Scene, first_refusal, needs_room};
 ghost use Rattle.legal_history.specs.Commands.FileLines.{save, save_deed, save_tests, saves_at, saves_element};
 ghost use Rattle.legal_history.specs.Base.Conditions.{is_directory};
-ghost use Rattle.carried_out.specs.CarriedOut.{is_made};
 ghost use Rattle.checkout_desk.specs.Deciding.{Sees, Decides, Tests};
 ghost use Rattle.cc_names.specs.declared.rows.Tag.{Tag};
 
@@ -106,7 +105,6 @@ fn save_deed(
     requires short { length text.now ≤ 16777216 }
     ensures deed { IfOk result (λ deed. deed ≡ save_deed view.now path.now text.now seen) }
     ensures formed { IfOk result IsDeedFormed }
-    ensures made { IfOk result (λ deed. is_made deed ≡ true) }
 {
     let view = view.copy(alloc)?;
     match seen {
@@ -143,7 +141,6 @@ pub fn save(
     ensures decided { (scene : Scene) (now : ℕ)
         → Sees scene rows.now now view.now occasion.busy occasion.taken
         → Decides occasion.tag occasion.moment result (save scene view.now path.now text.now) }
-    ensures made { IfOk result (λ row. is_made row.deed ≡ true) }
     ensures room { OnOk result (occasion.taken < row_limit) }
 {
     let seen = at(rows, view, path);

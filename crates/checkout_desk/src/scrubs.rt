@@ -5,7 +5,6 @@ ghost use Rattle.std.specs.List.Sorted.{IsStrictlySortedBy};
 ghost use Rattle.std.specs.Ordering.{nat_cmp};
 ghost use Rattle.legal_history.specs.Stories.Lawful.{last_moment};
 ghost use Rattle.cc_names.specs.Formed.{IsListOf, IsLong};
-ghost use Rattle.carried_out.specs.CarriedOut.{is_made};
 ghost use Rattle.legal_history.specs.Base.Closures.{is_publish_deed};
 ghost use Rattle.legal_history.specs.Base.Fits.{row_limit};
 ghost use Rattle.legal_history.specs.Base.Rows.{row_at};
@@ -87,7 +86,6 @@ pub fn scrub(
     ensures decided { (scene : Scene) (view : List ℕ)
         → Sees scene rows.now occasion.moment view occasion.busy occasion.taken
         → DecidesIfAny occasion.tag occasion.moment result (scrub scene age) }
-    ensures made { IfRow result (λ row. is_made row.deed ≡ true) }
     ensures room { IfRow result (λ row. occasion.taken < row_limit) }
 {
     let objects = due(alloc, rows, occasion.moment, age)?;

@@ -4,7 +4,6 @@ ghost use Rattle.std.specs.Prelude.{◌≡◌, ℕ, Option, List, ◌<◌, ◌�
 ghost use Rattle.legal_history.specs.Stories.Lawful.{last_moment};
 ghost use Rattle.cc_names.specs.Formed.{IsTypeName};
 ghost use Rattle.cc_names.specs.declared.rows.Tag.{Tag};
-ghost use Rattle.carried_out.specs.CarriedOut.{is_made};
 ghost use Rattle.legal_history.specs.Base.Fits.{row_limit};
 ghost use Rattle.legal_history.specs.Commands.Decisions.{Scene};
 ghost use Rattle.legal_history.specs.Commands.LabelLines.{mktype};
@@ -44,7 +43,6 @@ pub fn mktype(
     ensures decided { (scene : Scene) (now : ℕ) (view : List ℕ) (busy : Option Tag)
         → Sees scene rows.now now view busy occasion.taken
         → Decides occasion.tag occasion.moment result (mktype scene kind name.now) }
-    ensures made { IfOk result (λ row. is_made row.deed ≡ true) }
     ensures room { OnOk result (occasion.taken < row_limit) }
 {
     needs_free_type(alloc, rows, name)?;

@@ -2,7 +2,6 @@
 
 ghost use Rattle.std.specs.Prelude.{◌≡◌, ℕ, List, Option, ◌<◌, ◌≤◌, IfOk, OnOk, true};
 ghost use Rattle.legal_history.specs.Stories.Lawful.{last_moment};
-ghost use Rattle.carried_out.specs.CarriedOut.{is_made};
 ghost use Rattle.legal_history.specs.Commands.Decisions.{Scene};
 ghost use Rattle.legal_history.specs.Commands.FileLines.{mkview, rmview};
 ghost use Rattle.legal_history.specs.Base.Fits.{row_limit};
@@ -41,7 +40,6 @@ pub fn mkview(
     ensures decided { (scene : Scene) (now : ℕ) (other : List ℕ) (busy : Option Tag)
         → Sees scene rows.now now other busy occasion.taken
         → Decides occasion.tag occasion.moment result (mkview scene view.now) }
-    ensures made { IfOk result (λ row. is_made row.deed ≡ true) }
     ensures room { OnOk result (occasion.taken < row_limit) }
 {
     needs_new_view(rows, view)?;
@@ -77,7 +75,6 @@ pub fn rmview(
     ensures decided { (scene : Scene) (now : ℕ)
         → Sees scene rows.now now view.now occasion.busy occasion.taken
         → Decides occasion.tag occasion.moment result (rmview scene view.now force) }
-    ensures made { IfOk result (λ row. is_made row.deed ≡ true) }
     ensures room { OnOk result (occasion.taken < row_limit) }
 {
     needs_view(rows, view)?;

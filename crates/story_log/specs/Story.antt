@@ -1,5 +1,5 @@
 -- The story: how its steps are told, and what they name.
 pub mod Faults
 pub mod Handed
-pub mod Readable
+pub mod Formed
 pub mod Telling

@@ -2,7 +2,7 @@
 
 ghost use Rattle.story_log.specs.Bases.Damages.{BaseIsUndamaged, JournalIsDamagedOnce, JournalIsOfOneBase};
 ghost use Rattle.story_log.specs.Stopping.Founds.{FoundBaseIsSound, StopLeavesABase, StopOpensAgain};
-ghost use Rattle.story_log.specs.Story.Readable.{FaultLeavesAReadableRow, StoryKeepsItsBaseReadable};
+ghost use Rattle.story_log.specs.Story.Formed.{FaultLeavesAFormedRow, StoryKeepsItsBaseFormed};
 
 use legal_history::laws::stops;
 
@@ -16,7 +16,7 @@ pub fn a_stop_leaves_a_base()
     stops::a_stop_leaves_a_base_sound();
 }
 
-/// Promises `BaseIsUndamaged` and `JournalIsOfOneBase`: a journal that stands for a base of readable rows is not damaged, and
+/// Promises `BaseIsUndamaged` and `JournalIsOfOneBase`: a journal that stands for a base of formed rows is not damaged, and
 /// stands for no other such base.
 pub fn a_base_is_undamaged()
     ensures undamaged { BaseIsUndamaged }
@@ -28,14 +28,14 @@ pub fn a_journal_is_damaged_once()
     ensures { JournalIsDamagedOnce }
 {}
 
-/// Promises `StoryKeepsItsBaseReadable` and `FaultLeavesAReadableRow`: the base of a story that names only readable rows is one
-/// of readable rows, and what a fault left behind it is readable.
-pub fn a_story_keeps_its_base_readable()
-    ensures base { StoryKeepsItsBaseReadable }
-    ensures left { FaultLeavesAReadableRow }
+/// Promises `StoryKeepsItsBaseFormed` and `FaultLeavesAFormedRow`: the base of a story that names only formed rows is one
+/// of formed rows, and what a fault left behind it is formed.
+pub fn a_story_keeps_its_base_formed()
+    ensures base { StoryKeepsItsBaseFormed }
+    ensures left { FaultLeavesAFormedRow }
 {}
 
-/// Promises `StopOpensAgain`: whatever a stop may find of a legal story that names only readable rows opens again, without
+/// Promises `StopOpensAgain`: whatever a stop may find of a legal story that names only formed rows opens again, without
 /// damage and to one base: that of the commits so far, or that and a row which a command would have committed there. It is
 /// sound where the base was sound as it was opened.
 pub fn a_stop_opens_again()

@@ -12,8 +12,8 @@
 //! for want of memory changes nothing. `History` has the rows, phases and steps of a story; that a story is legal is said by
 //! who tells it.
 //!
-//! What it stands on: `carried_out` for what is made so far, `vob_journal`, `row_form` and `disk_model` for the disk,
-//! `legal_history` for the model, `view_lookup` for the rows, `session_text` for phases, and `cc_names` for plain data.
+//! What it stands on: `vob_journal`, `row_form` and `disk_model` for the disk, `legal_history` for the model,
+//! `view_lookup` for the rows, `session_text` for phases, and `cc_names` for plain data.
 #![tactic(auto)]
 
 mod history;

@@ -132,8 +132,7 @@ impl<D: Disk> Log<D> {
     ghost use Rattle.story_log.specs.Story.Faults.{is_fault};
     ghost use Rattle.story_log.specs.Logging.Logs.{opened_log, with_phase, with_step, with_sight};
     ghost use Rattle.story_log.specs.Story.Telling.{oldest_first, stands_alone};
-    ghost use Rattle.carried_out.specs.CarriedOut.{is_made};
-    ghost use Rattle.disk_model.specs.Told.{Both};
+        ghost use Rattle.disk_model.specs.Told.{Both};
     ghost use Rattle.legal_history.specs.Base.Fits.{fits};
     ghost use Rattle.vob_journal.specs.Added.{WritesOn};
 
@@ -198,7 +197,6 @@ impl<D: Disk> Log<D> {
         ending: Option<Step>,
     ) -> Result<Appended, NoMemory>
         requires fits { fits self.old.base row.deed ≡ true }
-        requires made { is_made row.deed ≡ true }
         requires ending { IfSome ending IsQuiet }
         ensures ok { IfOk result (λ done. Appends self.old self.new row ending done) }
         ensures err { OnErr result (self.new ≡ self.old) }

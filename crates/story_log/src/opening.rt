@@ -1,7 +1,6 @@
 //! How a base is opened: the rows of its journal are read one by one, and each has to fit those before it.
 
-ghost use Rattle.std.specs.Prelude.{◌≡◌, ◌&&◌, [], ◌∷◌, true, IfSome, IfNone, IfOk, IfErr, OnOk};
-ghost use Rattle.carried_out.specs.CarriedOut.{is_made};
+ghost use Rattle.std.specs.Prelude.{◌≡◌, [], ◌∷◌, true, IfSome, IfNone, IfOk, IfErr, OnOk};
 ghost use Rattle.legal_history.specs.Base.Fits.{fits};
 ghost use Rattle.disk_model.specs.Devices.{file_of, bytes_of};
 ghost use Rattle.disk_model.specs.Files.{stable};
@@ -10,7 +9,6 @@ ghost use Rattle.story_log.specs.Bases.Opening.{StopsBy, IsOpened, FailsToOpen};
 ghost use Rattle.story_log.specs.Bases.Reading.{OnlyReads, NextIs, IsMisfit, IsMissed, IsNextRow, IsNoRow, IsReadSoFar, ReadsOn, IsReadThrough};
 
 use crate::logs::Log;
-use carried_out::is_made;
 use cc_names::memory::{NoMemory, Or};
 use cc_names::rows::Row;
 use cc_names::texts::Text;
@@ -24,8 +22,7 @@ use vob_journal::Journal;
 /// Why a base cannot be opened.
 #[derive(Clone, Copy, Debug, PartialEq, Eq)]
 pub enum OpenCause {
-    /// The frame of this number, counted from 1, is the first that spells no row, or whose row does not fit those before
-    /// it or is of a deed that is not made so far.
+    /// The frame of this number, counted from 1, is the first that spells no row, or whose row does not fit those before it.
     Damaged(u64),
     DiskFault,
     NoMemory,
@@ -54,30 +51,19 @@ fn next_payload<D: Disk>(alloc: Global, journal: &mut Journal<D>) -> Result<Opti
     }
 }
 
-/// Whether what is carried out so far makes a row, and it fits the rows before. Fails only where memory runs out.
-fn may_follow(alloc: Global, rows: &FirstRows<'_>, row: &Row) -> Result<bool, NoMemory>
-    ensures { IfOk result (λ is. is ≡ (is_made row.now.deed && fits rows.now row.now.deed)) }
-{
-    if is_made(row.deed()) {
-        fits(alloc, rows, row)
-    } else {
-        Ok(false)
-    }
-}
-
-/// Why a row may not follow, or nothing where it may.
+/// Why a row does not fit those before it, or nothing where it does.
 fn misfit(alloc: Global, rows: &FirstRows<'_>, row: &Row) -> Option<OpenCause>
-    ensures fits { IfNone result ((is_made row.now.deed && fits rows.now row.now.deed) ≡ true) }
+    ensures fits { IfNone result (fits rows.now row.now.deed ≡ true) }
     ensures misses { IfSome result (IsMisfit rows.now row.now.deed) }
 {
-    match may_follow(alloc, rows, row) {
+    match fits(alloc, rows, row) {
         Ok(true) => None,
         Ok(false) => Some(OpenCause::Damaged(rows.size())),
         Err(NoMemory) => Some(OpenCause::NoMemory),
     }
 }
 
-/// The row that the payload of the next frame spells, where what is carried out so far makes it and it fits the rows before.
+/// The row that the payload of the next frame spells, where it fits the rows before.
 fn next_row(
     alloc: Global,
     hashing: RandomState,
@@ -129,7 +115,6 @@ fn read_row<D: Disk>(
 /// Adds a row that fits. Fails only where memory runs out.
 fn add_row(rows: &mut Rows, row: Row) -> Result<(), NoMemory>
     requires fits { fits rows.old.base row.deed ≡ true }
-    requires made { is_made row.deed ≡ true }
     ensures { OnOk result (rows.new.base ≡ row ∷ rows.old.base) }
 {
     rows.reserve(row.deed())?;

@@ -19,7 +19,6 @@ use Rattle.story_log.specs.Logging.Appending.{MayLeaveRow}
 use Rattle.base_core.specs.Keeping.Kept.{IsCoreKept}
 use Rattle.base_core.specs.Keeping.Lanes.{LaneKept, with_reply}
 use Rattle.story_log.specs.Logging.Logs.{Logged, with_step_on}
-use Rattle.story_log.specs.Story.Readable.{IsReadable}
 use Rattle.base_core.specs.Story.Replying.{in_lane, reply_to_fault, replies_of}
 use Rattle.base_core.proofs.Keeping.Idle.{decided_is_free}
 use Rattle.base_core.proofs.Keeping.KeptBuilds.{same_rows}
@@ -34,13 +33,13 @@ leaves_so s row (Some left) may (inr e) = inr e
 
 -- what is kept then
 kept_fault : (log : Logged) (lanes : List LaneKept) (now : ℕ) (row : Plain) (left : Option Plain) (before faults tick : ℕ) (sight : Sight) → rises before faults ≡ true → faults_of (state_of log.story).opened (state_of log.story).ends ≤ before → MayLeaveRow (state_of log.story) row left
-    → rises (ticks_of (state_of log.story).opened (state_of log.story).ends) tick ≡ true → IsCoreKept log lanes now → FinishesCommand row.deed → row.moment ≡ now → decided (state_of log.story) row.tag ≡ Some (Ok (Makes row.deed)) → 1 ≤ row.tag.lane → row.tag.lane ≤ length lanes → IsReadable row
+    → rises (ticks_of (state_of log.story).opened (state_of log.story).ends) tick ≡ true → IsCoreKept log lanes now → FinishesCommand row.deed → row.moment ≡ now → decided (state_of log.story) row.tag ≡ Some (Ok (Makes row.deed)) → 1 ≤ row.tag.lane → row.tag.lane ≤ length lanes → IsFormed row
     → IsCoreKept (with_step_on log (steps.Fault row.tag left before faults tick) sight) (with_reply lanes row.tag.lane replies.DiskFault) now
-kept_fault log lanes now row left before faults tick sight rose later leaves ticked h finishes in_time made low high readable =
+kept_fault log lanes now row left before faults tick sight rose later leaves ticked h finishes in_time made low high formed =
     kept_finished log lanes now x log.base sight row.tag replies.DiskFault h low high
     (record {
       lawful = record { wanted = record { row = row; of_tag = refl; may = may }; rose = rose; later = later; leaves = leaves_so s row left may leaves; ticked = ticked };
-      names = left_named IsReadable log.story row left leaves readable h.story.readable;
+      names = left_named IsFormed log.story row left leaves formed h.story.formed;
       leads = h.story.base;
     })
     (record {
@@ -75,7 +74,7 @@ kept_next_fault log lanes now story row lane left before faults tick sight rose 
     let here : IsRowToCommit (state_of log.story) row = subst (λ t. IsRowToCommit (state_of t) row) (sym same) next in
     subst (λ l. IsCoreKept (with_step_on log (steps.Fault row.tag left before faults tick) sight) (with_reply lanes l replies.DiskFault) now) (sym at_lane)
     (kept_fault log lanes now row left before faults tick sight rose later leaves ticked h here.finishes (here.at_moment ∙ h.phase.moment) here.made here.of_next.from
-    (omega (arith, here.of_next.upto, h.replies.count)) (record { formed = formed; made = here.carried_out }))
+    (omega (arith, here.of_next.upto, h.replies.count)) formed)
 
 -- how the story went on
 pub next_faults : (old new : List StoryStep) (row : Plain) (left : Option Plain) (before faults tick : ℕ) → new ≡ old ++ story_steps.Other (steps.Fault row.tag left before faults tick) ∷ [] → IsRowToCommit (state_of old) row → Acts old new row.tag.lane Faulted

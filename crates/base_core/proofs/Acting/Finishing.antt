@@ -17,7 +17,6 @@ use Rattle.base_core.specs.Calls.Acting.{FinishesCommand, IsRowToCommit, IsNextA
 use Rattle.base_core.specs.Keeping.Kept.{IsCoreKept}
 use Rattle.base_core.specs.Keeping.Lanes.{LaneKept, with_reply}
 use Rattle.story_log.specs.Logging.Logs.{Logged, with_row, with_step}
-use Rattle.story_log.specs.Story.Readable.{IsReadable}
 use Rattle.base_core.specs.Story.Replying.{in_lane, replies_of, reply_to_answer, reply_to_row}
 use Rattle.base_core.proofs.Keeping.Idle.{decided_is_free}
 use Rattle.base_core.proofs.Keeping.KeptBuilds.{same_rows, more_rows}
@@ -25,15 +24,15 @@ use Rattle.base_core.proofs.Keeping.KeptSteps.{kept_finished}
 
 -- what is kept after a commit
 kept_commit : (log : Logged) (lanes : List LaneKept) (now : ℕ) (row : Plain) (tick : ℕ) (sight : Sight) → rises (ticks_of (state_of log.story).opened (state_of log.story).ends) tick ≡ true → IsCoreKept log lanes now → FinishesCommand row.deed → row.moment ≡ now
-    → decided (state_of log.story) row.tag ≡ Some (Ok (Makes row.deed)) → 1 ≤ row.tag.lane → row.tag.lane ≤ length lanes → IsReadable row → (reply : Reply) → reply_to_row (row ∷ log.base) row.deed ≡ Some reply
+    → decided (state_of log.story) row.tag ≡ Some (Ok (Makes row.deed)) → 1 ≤ row.tag.lane → row.tag.lane ≤ length lanes → IsFormed row → (reply : Reply) → reply_to_row (row ∷ log.base) row.deed ≡ Some reply
     → IsCoreKept (with_row log row tick sight) (with_reply lanes row.tag.lane reply) now
-kept_commit log lanes now row tick sight ticked h finishes in_time made low high readable reply replied =
+kept_commit log lanes now row tick sight ticked h finishes in_time made low high formed reply replied =
     let s : State = state_of log.story in
     let x : StoryStep = story_steps.Commit row tick in
     kept_finished log lanes now x (row ∷ log.base) sight row.tag reply h low high
     (record {
       lawful = record { may = record { moment = in_time ∙ sym h.phase.moment; made = finishes.made s row made }; ticked = ticked };
-      names = readable;
+      names = formed;
       leads = ap (λ b. row ∷ b) h.story.base;
     })
     (record {
@@ -87,7 +86,7 @@ kept_next_row log lanes now story row lane tick sight ticked same at_lane h next
     let here : IsRowToCommit (state_of log.story) row = subst (λ t. IsRowToCommit (state_of t) row) (sym same) next in
     subst (λ l. IsCoreKept (with_row log row tick sight) (with_reply lanes l reply) now) (sym at_lane)
     (kept_commit log lanes now row tick sight ticked h here.finishes (here.at_moment ∙ h.phase.moment) here.made here.of_next.from
-    (omega (arith, here.of_next.upto, h.replies.count)) (record { formed = formed; made = here.carried_out }) reply replied)
+    (omega (arith, here.of_next.upto, h.replies.count)) formed reply replied)
 
 -- what is kept after the refusal of a lane's next command
 pub kept_next_refusal : (log : Logged) (lanes : List LaneKept) (now : ℕ) (story : List StoryStep) (tag : Tag) (refusal : Refusal) → log.story ≡ story → IsCoreKept log lanes now → IsNextRefusal (state_of story) tag refusal

@@ -24,7 +24,6 @@ use Rattle.clearmake.specs.Going.{SamePhase, Finishes}
 use Rattle.base_core.specs.Keeping.Kept.{IsStoryKept, IsPhaseKept, AreReplies, AreBuilds, IsCoreKept}
 use Rattle.base_core.specs.Keeping.Lanes.{LaneKept, lane_kept, commands_at, replies_at, builds_in, with_closed}
 use Rattle.story_log.specs.Logging.Logs.{Logged, with_step, with_step_on}
-use Rattle.story_log.specs.Story.Readable.{IsReadable}
 use Rattle.base_core.specs.Story.Replying.{in_lane, reply_to_fault, reply_to_end, replies_of}
 use Rattle.build_core.proofs.SlotLaws.{put_numbered, without_numbered}
 use Rattle.base_core.proofs.Building.Closing.{build_is_by, builds_closed}
@@ -60,9 +59,9 @@ broken_log log tag left before faults tick sight = with_step (with_step_on log (
 
 -- what is kept then
 kept_broken : (log : Logged) (lanes : List LaneKept) (now lane : ℕ) (build : Build) (row : Plain) (left : Option Plain) (before faults tick : ℕ) (sight : Sight) → rises before faults ≡ true → faults_of (state_of log.story).opened (state_of log.story).ends ≤ before → MayLeaveRow (state_of log.story) row left
-    → rises (ticks_of (state_of log.story).opened (state_of log.story).ends) tick ≡ true → IsCoreKept log lanes now → 1 ≤ lane → lane ≤ length lanes → build_of (state_of log.story).active lane ≡ Some build → row.tag ≡ next_tag (state_of log.story) lane → MayCommit (state_of log.story) row → IsReadable row
+    → rises (ticks_of (state_of log.story).opened (state_of log.story).ends) tick ≡ true → IsCoreKept log lanes now → 1 ≤ lane → lane ≤ length lanes → build_of (state_of log.story).active lane ≡ Some build → row.tag ≡ next_tag (state_of log.story) lane → MayCommit (state_of log.story) row → IsFormed row
     → IsCoreKept (broken_log log (next_tag (state_of log.story) lane) left before faults tick sight) (with_closed lanes lane replies.DiskFault) now
-kept_broken log lanes now lane build row left before faults tick sight rose later leaves ticked h low high is tagged may readable = record {
+kept_broken log lanes now lane build row left before faults tick sight rose later leaves ticked h low high is tagged may formed = record {
   story = story_more failed end log.base sight told_fault (record { lawful = subst (λ t. EndsBuild t tag) (sym state1) ends; names = tt; leads = told_fault.base });
   phase = subst (λ t. IsPhaseKept t log.phases now) (sym state2) (phase_stays s (after s1 end) log.phases now h.phase same);
   replies = replies_more story' end lanes tag replies.DiskFault (record (lane_kept lanes lane) { commands = drop 1 (commands_at lanes lane); replies = replies_at lanes lane ++ replies.DiskFault ∷ []; build = None }) so_far low high
@@ -105,7 +104,7 @@ kept_broken log lanes now lane build row left before faults tick sight rose late
     told_fault : IsStoryKept failed
     told_fault = story_more log fault log.base sight h.story (record {
       lawful = record { wanted = record { row = row; of_tag = tagged; may = may }; rose = rose; later = later; leaves = subst (λ t. LeavesRow s t left) tagged (leaves_so s row left may leaves); ticked = ticked };
-      names = left_named IsReadable log.story row left leaves readable h.story.readable;
+      names = left_named IsFormed log.story row left leaves formed h.story.formed;
       leads = h.story.base;
     })
 
@@ -171,7 +170,7 @@ kept_broken_object log lanes now lane n row object tag left before faults tick s
     let slot = lane_slot log lanes now lane g.build h g.active in
     subst (λ t. IsCoreKept (with_step (with_step_on log (steps.Fault row.tag left before faults tick) sight) (steps.End t)) (with_closed lanes lane replies.DiskFault) now) (sym tagged)
     (subst (λ t. IsCoreKept (with_step (with_step_on log (steps.Fault t left before faults tick) sight) (steps.End (next_tag s lane))) (with_closed lanes lane replies.DiskFault) now) (sym g.of_tag)
-    (kept_broken log lanes now lane g.build row left before faults tick sight rose later leaves ticked h slot.from slot.upto g.active g.of_tag g.may (record { formed = formed; made = g.made })))
+    (kept_broken log lanes now lane g.build row left before faults tick sight rose later leaves ticked h slot.from slot.upto g.active g.of_tag g.may formed))
 
 -- how the story went on
 pub broken_object_finishes : (log : Logged) (lanes : List LaneKept) (now : ℕ) (story : List StoryStep) (lane n : ℕ) (row : Plain) (object : ℕ) (tag : Tag) (left : Option Plain) (before faults tick : ℕ) (sight : Sight) → log.story ≡ story → IsCoreKept log lanes now → Gives (state_of log.story) lane n row object → tag ≡ next_tag (state_of log.story) lane

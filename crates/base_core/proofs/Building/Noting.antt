@@ -14,7 +14,7 @@ use Rattle.story_log.specs.Story.Faults.{is_fault}
 use Rattle.base_core.specs.Keeping.Kept.{IsCoreKept}
 use Rattle.base_core.specs.Keeping.Lanes.{LaneKept, put_build}
 use Rattle.story_log.specs.Logging.Logs.{Logged, with_step}
-use Rattle.story_log.specs.Story.Readable.{IsReadable}
+use Rattle.cc_names.specs.Formed.{IsFormed}
 use Rattle.base_core.specs.Story.Replying.{replies_after, replies_of}
 use Rattle.base_core.proofs.Keeping.KeptBuilds.{same_rows}
 use Rattle.base_core.proofs.Keeping.KeptSteps.{kept_put}
@@ -39,7 +39,7 @@ pub kept_note : (log : Logged) (lanes : List LaneKept) (now : ℕ) (step : Step)
     → IsCoreKept (with_step log step) (put_build lanes lane (Some (with_came build (Some n) came))) now
 kept_note log lanes now step lane n build came h low high is lawful leaves said sound =
     kept_put log lanes now x log.base log.sight lane (with_came build (Some n) came) h low high
-    (record { lawful = lawful; names = names_none IsReadable step sound; leads = ap (λ t. t.base) leaves ∙ h.story.base })
+    (record { lawful = lawful; names = names_none IsFormed step sound; leads = ap (λ t. t.base) leaves ∙ h.story.base })
     (record {
       same = record { phase = ap (λ t. t.phase) leaves; number = ap (λ t. t.number) leaves; moment = ap (λ t. t.moment) leaves };
       rows = same_rows s (after s x) (ap (λ t. t.base) leaves);

@@ -46,7 +46,7 @@ kept_object log lanes more now lane n row object tick sight ticked h g set_so fo
     let slot = lane_slot log lanes now lane g.build h g.active in
     subst (λ ls. IsCoreKept (with_row log row tick sight) ls now) (sym (set_so g.build slot.held))
     (kept_put log lanes now x (row ∷ log.base) sight lane (with_came g.build (Some n) (Given object)) h slot.from slot.upto
-    (record { lawful = record { may = g.may; ticked = ticked }; names = record { formed = formed; made = g.made }; leads = ap (λ t. t.base) leaves ∙ ap (λ b. row ∷ b) h.story.base })
+    (record { lawful = record { may = g.may; ticked = ticked }; names = formed; leads = ap (λ t. t.base) leaves ∙ ap (λ b. row ∷ b) h.story.base })
     (record {
       same = record { phase = ap (λ t. t.phase) leaves; number = ap (λ t. t.number) leaves; moment = ap (λ t. t.moment) leaves };
       rows = more_rows s (after s x) row (ap (λ t. t.base) leaves);

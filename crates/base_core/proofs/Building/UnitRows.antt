@@ -6,7 +6,6 @@ use Rattle.std.specs.List.{AllByRecursion}
 use Rattle.std.specs.Ordering.{nat_cmp}
 use Rattle.std.specs.FinMap.Entries.{put}
 use Rattle.std.specs.Prelude.{slice_get}
-use Rattle.carried_out.specs.CarriedOut.{is_made}
 use Rattle.cc_names.specs.Formed.{Plain}
 use Rattle.cc_names.specs.declared.refusals.ScriptFault.{ScriptFault}
 use Rattle.cc_names.specs.declared.rows.Deed.{Deed}
@@ -47,7 +46,6 @@ pub record Gives (s : State) (lane n : ℕ) (row : Plain) (object : ℕ) : Type 
   pub within : n < length build.units
   pub waits : is_outcome (came_to build n) ≡ false
   pub of_tag : row.tag ≡ next_tag s lane
-  pub made : is_made row.deed ≡ true
   pub may : MayCommit s row
   pub leaves : (tick : ℕ) → after s (story_steps.Commit row tick) ≡ given_state s lane n build row object tick
   pub silent : reply_to_row (row ∷ s.base) row.deed ≡ None
@@ -104,7 +102,6 @@ published_gives s lane n row h kept consistent = record {
   within = slice_get_within h.build.units n h.unit h.is_unit;
   waits = ap is_outcome h.started;
   of_tag = h.of_tag;
-  made = ap is_made d.is;
   may = record {
     moment = h.at_moment;
     made = subst (MakesRow s row) (sym d.is) (record {
@@ -144,7 +141,6 @@ taken_gives s lane n object row h base consistent = record {
   within = h.may.within;
   waits = waits.waits;
   of_tag = h.of_tag;
-  made = ap is_made h.winks;
   may = record {
     moment = h.at_moment;
     made = subst (MakesRow s row) (sym h.winks) (record {

@@ -67,7 +67,7 @@ kept_plan log lanes now moment phase h finished formed carried few in_time = rec
     legal = told_phase.legal;
     opened = told_phase.opened;
     base = told_phase.base;
-    readable = told_phase.readable;
+    formed = told_phase.formed;
   };
   phase = subst (λ t. IsPhaseKept t (log.phases ++ phase ∷ []) moment) (sym more) (record {
     phase = sym last;

@@ -12,7 +12,7 @@ use Rattle.base_core.specs.Keeping.Kept.{IsCoreKept}
 use Rattle.base_core.specs.Keeping.Lanes.{LaneKept}
 use Rattle.story_log.specs.Logging.Logs.{Logged, opened_log, with_sight}
 use Rattle.story_log.specs.Bases.Opening.{IsBaseOn, IsOpened, OpensCore}
-use Rattle.story_log.specs.Story.Readable.{AreReadable}
+use Rattle.story_log.specs.Story.Formed.{AreFormed}
 use Rattle.story_log.specs.Story.Handed.{Handed}
 use Rattle.story_log.specs.Story.Telling.{oldest_first}
 use Rattle.story_log.proofs.Bases.Damages.{undamaged_on}
@@ -23,18 +23,13 @@ no_lane_at : (lane : ℕ) (one : Lane) → lane_at (record { lanes = [] }) lane 
 no_lane_at zero one is = absurd (cc)
 no_lane_at (suc n) one is = absurd (cc)
 
--- rows that are readable keep their form
-are_formed : (b : Base) → AreReadable b → AllByRecursion IsFormed b
-are_formed [] are = tt
-are_formed (row ∷ older) are = (are.0.formed, are_formed older are.1)
-
 kept_base : (old : Sight) (base : Base) (handed : Handed) (sight : Sight) → IsBaseOn old base handed → IsCoreKept (opened_log base handed sight) [] 0
 kept_base old base handed sight h = record {
   story = record {
-    legal = (record { first = refl; formed = are_formed (reverse (oldest_first base)) (subst AreReadable (sym (oldest_back base)) h.readable); fits = ap is_base (oldest_back base) ∙ h.fits }, tt);
+    legal = (record { first = refl; formed = subst AreFormed (sym (oldest_back base)) h.formed; fits = ap is_base (oldest_back base) ∙ h.fits }, tt);
     opened = refl;
     base = oldest_back base;
-    readable = (subst AreReadable (sym (oldest_back base)) h.readable, tt);
+    formed = (subst AreFormed (sym (oldest_back base)) h.formed, tt);
   };
   phase = record { phase = refl; number = refl; moment = refl; formed = (omega arith, tt); carried_out = tt; few = omega arith; in_time = omega arith };
   replies = record { count = refl; replies = λ lane low high. absurd (omega (arith, low, high)); done = λ lane. refl; room = λ lane one is. absurd (no_lane_at lane one is); left = λ lane one is. absurd (no_lane_at lane one is) };
@@ -50,7 +45,7 @@ opens_so old log h = record { base = h.base; handed = h.handed; on = h.on; undam
 -- the disk changes nothing of what is kept beside it
 pub kept_sight : (log : Logged) (lanes : List LaneKept) (now : ℕ) (sight : Sight) → IsCoreKept log lanes now → IsCoreKept (with_sight log sight) lanes now
 kept_sight log lanes now sight h = record {
-  story = record { legal = h.story.legal; opened = h.story.opened; base = h.story.base; readable = h.story.readable };
+  story = record { legal = h.story.legal; opened = h.story.opened; base = h.story.base; formed = h.story.formed };
   phase = h.phase;
   replies = h.replies;
   builds = h.builds;

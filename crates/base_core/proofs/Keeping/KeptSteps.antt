@@ -22,7 +22,8 @@ use Rattle.clearmake.specs.Going.{SamePhase}
 use Rattle.base_core.specs.Keeping.Kept.{IsStoryKept, IsPhaseKept, AreBuilds, IsCoreKept}
 use Rattle.base_core.specs.Keeping.Lanes.{LaneKept, lane_kept, commands_at, replies_at, builds_in, with_reply, put_build}
 use Rattle.story_log.specs.Logging.Logs.{Logged}
-use Rattle.story_log.specs.Story.Readable.{IsReadable, NamesOnly}
+use Rattle.story_log.specs.Story.Formed.{NamesOnly}
+use Rattle.cc_names.specs.Formed.{IsFormed}
 use Rattle.base_core.specs.Story.Replying.{in_lane, replies_after, replies_of}
 use Rattle.build_core.proofs.SlotLaws.{put_numbered}
 use Rattle.story_log.proofs.Story.Growing.{state_from-more, legal_more}
@@ -40,10 +41,10 @@ use Rattle.base_core.proofs.Keeping.Reserving.{rows_for}
 abbrev pub log_more : Logged → StoryStep → Base → Sight → Logged
 log_more log x base sight = record { story = log.story ++ x ∷ []; base = base; phases = log.phases; sight = sight }
 
--- a lawful step that leads to this base, and names readable rows alone
+-- a lawful step that leads to this base, and names formed rows alone
 pub record MayTell (s : State) (x : StoryStep) (base : Base) : Type 0 where
   pub lawful : Lawful s x
-  pub names : NamesOnly IsReadable x
+  pub names : NamesOnly IsFormed x
   pub leads : (after s x).base ≡ base
 
 opened_more : (s : State) (x : StoryStep) → is_some s.opened ≡ true → is_some (after s x).opened ≡ true
@@ -59,7 +60,7 @@ story_more log x base sight h may =
       legal = legal_more start log.story x h.legal may.lawful;
       opened = ap (λ t. is_some t.opened) more ∙ opened_more (state_of log.story) x h.opened;
       base = ap (λ t. t.base) more ∙ may.leads;
-      readable = names_more IsReadable log.story x h.readable may.names;
+      formed = names_more IsFormed log.story x h.formed may.names;
     }
 
 -- the last phase

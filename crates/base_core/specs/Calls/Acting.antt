@@ -1,6 +1,5 @@
 -- What a lane's next command comes to.
 use Rattle.std.specs.Prelude.{◌≡◌, ℕ, ◌<◌, ◌≤◌, true, Option, Some, None, Result, Ok, Err, List, [], ◌∷◌, ◌++◌, length}
-use Rattle.carried_out.specs.CarriedOut.{is_made}
 use Rattle.cc_names.specs.Formed.{Plain}
 use Rattle.cc_names.specs.declared.desks.Done.{Done}
 use Rattle.cc_names.specs.declared.desks.Done.TheVariants.{Committed, Refused, Answered, Faulted}
@@ -58,7 +57,6 @@ pub record IsRowToCommit (s : State) (row : Plain) : Type 0 where
   pub made : decided s row.tag ≡ Some (Ok (Makes row.deed))
   pub at_moment : row.moment ≡ s.moment
   pub finishes : FinishesCommand row.deed
-  pub carried_out : is_made row.deed ≡ true
   pub fits : fits s.base row.deed ≡ true
   pub room : size s.base < 4000000
 

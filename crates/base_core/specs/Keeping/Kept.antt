@@ -15,7 +15,8 @@ use Rattle.legal_history.specs.Stories.Lawful.{Legal, last_moment}
 use Rattle.base_core.specs.Calls.Building.{IsBuildKept}
 use Rattle.base_core.specs.Keeping.Lanes.{LaneKept, builds_in, commands_at, replies_at, room_at}
 use Rattle.story_log.specs.Logging.Logs.{Logged}
-use Rattle.story_log.specs.Story.Readable.{IsReadable, TellsOnly}
+use Rattle.story_log.specs.Story.Formed.{TellsOnly}
+use Rattle.cc_names.specs.Formed.{IsFormed}
 use Rattle.base_core.specs.Story.Replying.{replies_of}
 
 -- the most bytes of a text, and members of a list, of a command
@@ -28,12 +29,12 @@ last_phase [] = record { lanes = [] }
 last_phase (phase ∷ []) = phase
 last_phase (one ∷ two ∷ phases) = last_phase (two ∷ phases)
 
--- the story of a log is legal, its base is that of the story, and it names readable rows alone
+-- the story of a log is legal, its base is that of the story, and it names formed rows alone
 pub record IsStoryKept (log : Logged) : Type 0 where
   pub legal : Legal log.story
   pub opened : is_some (state_of log.story).opened ≡ true
   pub base : (state_of log.story).base ≡ log.base
-  pub readable : TellsOnly IsReadable log.story
+  pub formed : TellsOnly IsFormed log.story
 
 -- what is kept of the phases, of which the last one began at this moment: it has its form, and its commands are carried out
 pub record IsPhaseKept (s : State) (phases : List Phase) (now : ℕ) : Type 0 where

@@ -97,7 +97,7 @@ pub record IsUntouched (disk : Change Sight) (story : List StoryStep) : Type 0 w
   pub disk_is : disk.after ≡ disk.before
   pub story_is : story ≡ []
 
--- the frame of this number is the first of the disk's journal that spells no readable row, or whose row does not fit those
+-- the frame of this number is the first of the disk's journal that spells no formed row, or whose row does not fit those
 -- before it
 abbrev pub DiskDamaged : Change Sight → ℕ → Type 0
 DiskDamaged disk row = IfTold disk.before.told (λ d. IsDamaged (frames (bytes_of 0 d)) row)

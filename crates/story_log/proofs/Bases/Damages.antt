@@ -1,6 +1,6 @@
--- The journal of a base of readable rows is damaged nowhere, and is that of no other base.
+-- The journal of a base of formed rows is damaged nowhere, and is that of no other base.
 use Rattle.std.proofs.Common.{◌≡◌, ℕ, ◌⊎◌, inl, inr, true, List, [], ◌∷◌, ◌++◌, length, length-append, refl, sym, ap, ap₂, subst, ◌∙◌, arith}
-use Rattle.cc_names.specs.Formed.{Plain}
+use Rattle.cc_names.specs.Formed.{IsFormed, Plain}
 use Rattle.disk_model.specs.Devices.{bytes_of}
 use Rattle.disk_model.specs.Told.{Sight, IfTold}
 use Rattle.legal_history.specs.Base.Rows.{Base, size}
@@ -10,14 +10,14 @@ use Rattle.row_form.proofs.ExactRow.{one_spelling}
 use Rattle.vob_journal.specs.Frames.{frames}
 use Rattle.vob_journal.proofs.Telling.{told_map}
 use Rattle.story_log.specs.Bases.Opening.{IsBaseOn, IsDamaged, IsUndamaged}
-use Rattle.story_log.specs.Story.Readable.{IsReadable, AreReadable}
+use Rattle.story_log.specs.Story.Formed.{AreFormed}
 use Rattle.story_log.specs.Stopping.Standing.{payloads}
 use Rattle.story_log.specs.Story.Handed.{Handed}
 use Rattle.story_log.proofs.Cases.{both}
 
--- a readable row is told by its spelling
-row_told : (one two : Plain) → IsReadable one → IsReadable two → spelled one ≡ spelled two → one ≡ two
-row_told one two h k is = one_spelling one two h.formed k.formed is
+-- a row that keeps its form is told by its spelling
+row_told : (one two : Plain) → IsFormed one → IsFormed two → spelled one ≡ spelled two → one ≡ two
+row_told one two h k is = one_spelling one two h k is
 
 -- where two lists that go on are the same, their fronts are, or one front is a part of the other
 abbrev Goes : List (List ℕ) → List ℕ → List (List ℕ) → Type 0
@@ -54,8 +54,8 @@ same_last xs ys x y e = by (which_front xs ys [] [] x y e)
     by (inr (inl goes)) = absurd (too_long xs goes.0 [] x y (e ∙ ap (λ l. l ++ y ∷ []) goes.1))
     by (inr (inr goes)) = absurd (too_long ys goes.0 [] y x (sym e ∙ ap (λ l. l ++ x ∷ []) goes.1))
 
--- a base of readable rows is told by its journal
-pub same_base : (b c : Base) → AreReadable b → AreReadable c → payloads b ≡ payloads c → b ≡ c
+-- a base of formed rows is told by its journal
+pub same_base : (b c : Base) → AreFormed b → AreFormed c → payloads b ≡ payloads c → b ≡ c
 same_base [] [] h k e = refl
 same_base [] (two ∷ c) h k e = absurd (none_left (payloads c) [] (spelled two) e)
 same_base (one ∷ b) [] h k e = absurd (none_left (payloads b) [] (spelled one) (sym e))
@@ -70,54 +70,54 @@ record GoesOn (front : List (List ℕ)) (payload : List ℕ) : Type 0 where
   found : payloads older ≡ front
   spells : payload ≡ spelled row
   fit : fits older row.deed ≡ true
-  readable : IsReadable row
-  earlier : AreReadable older
+  formed : IsFormed row
+  earlier : AreFormed older
 
-next_row : (row : Plain) (older : Base) (front rest : List (List ℕ)) (payload : List ℕ) → is_base (row ∷ older) ≡ true → AreReadable (row ∷ older) → payloads (row ∷ older) ≡ front ++ payload ∷ rest
+next_row : (row : Plain) (older : Base) (front rest : List (List ℕ)) (payload : List ℕ) → is_base (row ∷ older) ≡ true → AreFormed (row ∷ older) → payloads (row ∷ older) ≡ front ++ payload ∷ rest
     → ((more : List (List ℕ)) → payloads older ≡ front ++ payload ∷ more → GoesOn front payload) → GoesOn front payload
 next_row row older front rest payload good h e before = by (which_front (payloads older) front [] rest (spelled row) payload e)
   where
     by : ((payloads older ≡ front) × (spelled row ≡ payload)) ⊎ (Goes (payloads older) (spelled row) front ⊎ Goes front payload (payloads older)) → GoesOn front payload
-    by (inl same) = record { older = older; row = row; found = same.0; spells = sym same.1; fit = (both (fits older row.deed) (is_base older) good).0; readable = h.0; earlier = h.1 }
+    by (inl same) = record { older = older; row = row; found = same.0; spells = sym same.1; fit = (both (fits older row.deed) (is_base older) good).0; formed = h.0; earlier = h.1 }
     by (inr (inl goes)) = absurd (too_long (payloads older) goes.0 rest (spelled row) payload (e ∙ ap (λ l. l ++ payload ∷ rest) goes.1))
     by (inr (inr goes)) = before goes.0 goes.1
 
-goes_on : (b : Base) (front rest : List (List ℕ)) (payload : List ℕ) → is_base b ≡ true → AreReadable b → payloads b ≡ front ++ payload ∷ rest → GoesOn front payload
+goes_on : (b : Base) (front rest : List (List ℕ)) (payload : List ℕ) → is_base b ≡ true → AreFormed b → payloads b ≡ front ++ payload ∷ rest → GoesOn front payload
 goes_on [] front rest payload good h e = absurd (none_left front rest payload e)
 goes_on (row ∷ older) front rest payload good h e =
     next_row row older front rest payload good h e (λ more f. goes_on older front more payload (both (fits older row.deed) (is_base older) good).1 h.1 f)
 
 -- the journal of such a base is not damaged
-pub undamaged : (b : Base) → is_base b ≡ true → AreReadable b → IsUndamaged (payloads b)
+pub undamaged : (b : Base) → is_base b ≡ true → AreFormed b → IsUndamaged (payloads b)
 undamaged b good h n damaged =
     let at = goes_on b (payloads damaged.base) damaged.rest damaged.payload good h damaged.list_is in
-    let same : at.older ≡ damaged.base = same_base at.older damaged.base at.earlier damaged.readable at.found in
-    damaged.unfit at.row at.readable at.spells (subst (λ c. fits c at.row.deed ≡ true) same at.fit)
+    let same : at.older ≡ damaged.base = same_base at.older damaged.base at.earlier damaged.formed at.found in
+    damaged.unfit at.row at.formed at.spells (subst (λ c. fits c at.row.deed ≡ true) same at.fit)
 
 -- and a journal is damaged once
 pub damaged_once : (list : List (List ℕ)) (m n : ℕ) → IsDamaged list m → IsDamaged list n → m ≡ n
 damaged_once list m n one two = by (which_front (payloads one.base) (payloads two.base) one.rest two.rest one.payload two.payload (sym one.list_is ∙ two.list_is))
   where
     by : ((payloads one.base ≡ payloads two.base) × (one.payload ≡ two.payload)) ⊎ (Goes (payloads one.base) one.payload (payloads two.base) ⊎ Goes (payloads two.base) two.payload (payloads one.base)) → m ≡ n
-    by (inl same) = one.number ∙ ap size (same_base one.base two.base one.readable two.readable same.0) ∙ sym two.number
-    by (inr (inl goes)) = absurd (undamaged two.base two.good two.readable m (record {
+    by (inl same) = one.number ∙ ap size (same_base one.base two.base one.formed two.formed same.0) ∙ sym two.number
+    by (inr (inl goes)) = absurd (undamaged two.base two.good two.formed m (record {
       base = one.base;
       payload = one.payload;
       rest = goes.0;
       list_is = goes.1;
       number = one.number;
       good = one.good;
-      readable = one.readable;
+      formed = one.formed;
       unfit = one.unfit;
     }))
-    by (inr (inr goes)) = absurd (undamaged one.base one.good one.readable n (record {
+    by (inr (inr goes)) = absurd (undamaged one.base one.good one.formed n (record {
       base = two.base;
       payload = two.payload;
       rest = goes.0;
       list_is = goes.1;
       number = two.number;
       good = two.good;
-      readable = two.readable;
+      formed = two.formed;
       unfit = two.unfit;
     }))
 
@@ -125,4 +125,4 @@ damaged_once list m n one two = by (which_front (payloads one.base) (payloads tw
 pub undamaged_on : (old : Sight) (base : Base) (handed : Handed) → IsBaseOn old base handed → IfTold old.told (λ d. IsUndamaged (frames (bytes_of 0 d)))
 undamaged_on old base handed on =
     told_map (λ d. frames (bytes_of 0 d) ≡ payloads base) (λ d. IsUndamaged (frames (bytes_of 0 d))) old.told
-    (λ d is. subst IsUndamaged (sym is) (undamaged base on.fits on.readable)) on.found
+    (λ d is. subst IsUndamaged (sym is) (undamaged base on.fits on.formed)) on.found

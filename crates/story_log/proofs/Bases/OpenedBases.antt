@@ -190,7 +190,7 @@ module _ {D : Type 0} (sight : D → Sight) (first : Sight) (handed : Handed) (b
     found = told_both (λ _. opened.list ≡ payloads base) (λ d. opened.list ≡ frames (bytes_of 0 d)) (λ d. frames (bytes_of 0 d) ≡ payloads base) first.told (λ d is same. sym same ∙ is)
         (told_back (Moves opened.list [] opened.list []) (λ _. opened.list ≡ payloads base) (λ _. opened.list ≡ payloads base) first.told (sight read.disk).told (λ d e moves is. is) (since_first sight first opened read new reads) list_so) new.list;
     fits = through.so_far.good;
-    readable = through.so_far.readable;
+    formed = through.so_far.formed;
   }
 
   pub is_opened : (log : Logged) → log ≡ opened_log base handed (sight read.disk) → IsCounted (sight read.disk) → IsOpened first log

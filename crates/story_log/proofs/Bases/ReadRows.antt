@@ -54,7 +54,7 @@ one_more base row payload list rest rest' is next spells =
 pub read_more : {D : Type 0} (sight : D → Sight) (base : Base) (row : Plain) (payload : List ℕ) (old new : Shown D) → IsReadSoFar sight base old → OnlyReads sight old new → NextIs sight (Some payload) old new → IsNextRow base payload row → IsReadSoFar sight (row ∷ base) new
 read_more sight base row payload old new h reads next is = record {
   good = ap₂ ◌&&◌ is.fits h.good;
-  readable = (is.readable, h.readable);
+  formed = (is.formed, h.formed);
   loose = next.loose;
   now = read_now sight old new reads;
   list_is = told_from (Moves old.list [] old.list []) (λ _. (old.list ≡ payloads base ++ old.rest) × (old.rest ≡ payload ∷ new.rest)) (λ _. new.list ≡ payloads (row ∷ base) ++ new.rest) (sight old.disk).told (sight new.disk).told

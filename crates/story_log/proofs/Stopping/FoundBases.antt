@@ -6,7 +6,7 @@ use Rattle.std.proofs.lemmas.List.{append-nil}
 use Rattle.std.specs.List.{AllByRecursion}
 use Rattle.std.specs.Prelude.{IfSome, is_some, reverse}
 use Rattle.cc_names.specs.declared.rows.Tag.{Tag}
-use Rattle.cc_names.specs.Formed.{Plain}
+use Rattle.cc_names.specs.Formed.{IsFormed, Plain}
 use Rattle.cc_names.specs.declared.steps.Step.TheVariants as steps
 use Rattle.cc_names.specs.declared.steps.StoryStep.{StoryStep}
 use Rattle.cc_names.specs.declared.steps.StoryStep.TheVariants as story_steps
@@ -25,7 +25,7 @@ use Rattle.legal_history.specs.Stories.Lawful.{Legal, LegalFrom, Lawful}
 use Rattle.story_log.specs.Stopping.Founds.{OpensAgain, SpellsBase}
 use Rattle.story_log.specs.Story.Handed.{Handed}
 use Rattle.story_log.specs.Bases.Opening.{IsBaseOn, IsUndamaged}
-use Rattle.story_log.specs.Story.Readable.{IsReadable, NamesOnly, TellsOnly}
+use Rattle.story_log.specs.Story.Formed.{NamesOnly, TellsOnly}
 use Rattle.story_log.specs.Stopping.Standing.{payloads, base_by, left_after, left_within, StandsFor, MayBeFound}
 use Rattle.legal_history.proofs.Stories.Fronts.{first_opens}
 use Rattle.story_log.proofs.Bases.Damages.{same_base, undamaged}
@@ -180,17 +180,17 @@ found_base laws story opening k found legal opened may =
     let spells = found_only (λ (row : Plain). Unit {0}) laws story opening k found legal (tells_rows story) opened may in
     record { base = spells.base; good = spells.only.good; is = spells.is; sound = spells.only.sound }
 
--- and where the story names only readable rows it opens again
-pub opens_again : Laws → (story : List StoryStep) (opening : Opening) (k : ℕ) (found : List (List ℕ)) → Legal story → TellsOnly IsReadable story → (state_of story).opened ≡ Some opening → MayBeFound opening (state_of story).ends k found → OpensAgain opening.base found
+-- and where the story names only formed rows it opens again
+pub opens_again : Laws → (story : List StoryStep) (opening : Opening) (k : ℕ) (found : List (List ℕ)) → Legal story → TellsOnly IsFormed story → (state_of story).opened ≡ Some opening → MayBeFound opening (state_of story).ends k found → OpensAgain opening.base found
 opens_again laws story opening k found legal named opened may =
-    let spells = found_only IsReadable laws story opening k found legal named opened may in
+    let spells = found_only IsFormed laws story opening k found legal named opened may in
     record {
       base = spells.base;
       good = spells.only.good;
-      readable = spells.only.each;
+      formed = spells.only.each;
       is = spells.is;
       undamaged = subst IsUndamaged (sym spells.is) (undamaged spells.base spells.only.good spells.only.each);
-      one = λ other readable is. same_base other spells.base readable spells.only.each (sym is ∙ spells.is);
+      one = λ other formed is. same_base other spells.base formed spells.only.each (sym is ∙ spells.is);
       sound = spells.only.sound;
     }
 
@@ -201,4 +201,4 @@ told_is told device P is h = subst (λ t. IfTold t P) is h
 pub found_is_sound : (opened base : Base) (disk : Sight) (device : Device) (handed : Handed) → disk.told ≡ Some device → OpensAgain opened (frames (bytes_of 0 device)) → IsBaseOn disk base handed → IsSound opened → IsSound base
 found_is_sound opened base disk device handed is again on sound =
     let spelled = told_is disk.told device (λ d. frames (bytes_of 0 d) ≡ payloads base) is on.found in
-    subst IsSound (sym (again.one base on.readable spelled)) (again.sound sound)
+    subst IsSound (sym (again.one base on.formed spelled)) (again.sound sound)

@@ -11,7 +11,7 @@ use Rattle.legal_history.specs.Stories.States.{State, start, hanging}
 use Rattle.legal_history.specs.Stories.Steps.{after, state_from, state_of}
 use Rattle.story_log.specs.Logging.Appending.{MayLeaveRow}
 use Rattle.story_log.specs.Story.Faults.{is_fault}
-use Rattle.story_log.specs.Story.Readable.{NamesOnly, TellsOnly}
+use Rattle.story_log.specs.Story.Formed.{NamesOnly, TellsOnly}
 
 -- one more step
 pub names_more : (P : Plain → Type 0) (story : List StoryStep) (x : StoryStep) → TellsOnly P story → NamesOnly P x → TellsOnly P (story ++ x ∷ [])

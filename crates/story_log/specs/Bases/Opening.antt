@@ -1,6 +1,6 @@
 -- What opening a base answers.
 use Rattle.std.specs.Prelude.{◌≡◌, ◌<◌, ℕ, true, is_some, Option, List, [], ◌∷◌, ◌++◌}
-use Rattle.cc_names.specs.Formed.{Plain}
+use Rattle.cc_names.specs.Formed.{IsFormed, Plain}
 use Rattle.cc_names.specs.declared.steps.StoryStep.{StoryStep}
 use Rattle.cc_names.specs.declared.steps.StoryStep.TheVariants as story_steps
 use Rattle.disk_model.specs.Devices.{Device, MayLeave, bytes_of}
@@ -14,13 +14,13 @@ use Rattle.vob_journal.specs.Frames.{frames}
 use Rattle.vob_journal.specs.Reads.{SameFiles}
 use Rattle.story_log.specs.Story.Handed.{Handed}
 use Rattle.story_log.specs.Logging.Logs.{Logged, opened_log}
-use Rattle.story_log.specs.Story.Readable.{IsReadable, AreReadable}
+use Rattle.story_log.specs.Story.Formed.{AreFormed}
 use Rattle.story_log.specs.Stopping.Standing.{payloads}
 use Rattle.story_log.specs.Story.Telling.{oldest_first}
 use Rattle.story_log.specs.declared.opening.OpenCause.{OpenCause}
 use Rattle.story_log.specs.declared.opening.OpenCause.TheVariants as causes
 
--- A base that was opened on a disk: the disk's journal stands for it, each of its rows is readable, and each fits those
+-- A base that was opened on a disk: the disk's journal stands for it, each of its rows is formed, and each fits those
 -- before it.
 pub record IsBaseOn (old : Sight) (base : Base) (handed : Handed) : Type 0 where
   pub ticks : handed.counts.ticks ≡ old.ticks
@@ -28,7 +28,7 @@ pub record IsBaseOn (old : Sight) (base : Base) (handed : Handed) : Type 0 where
   pub tells : handed.tells ≡ is_some old.told
   pub found : IfTold old.told (λ d. frames (bytes_of 0 d) ≡ payloads base)
   pub fits : is_base base ≡ true
-  pub readable : AreReadable base
+  pub formed : AreFormed base
 
 -- a log of such a base, under which no disk failed: calls that read were made, and both files are as they were
 pub record IsOpened (old : Sight) (log : Logged) : Type 0 where
@@ -41,11 +41,11 @@ pub record IsOpened (old : Sight) (log : Logged) : Type 0 where
   pub adds : Both (Adds may_read) old.told log.sight.told
   pub files : Both SameFiles old.told log.sight.told
 
--- no readable row that fits the base has this spelling
+-- no formed row that fits the base has this spelling
 abbrev pub IsUnfit : Base → List ℕ → Type 0
-IsUnfit b payload = (row : Plain) → IsReadable row → payload ≡ spelled row → fits b row.deed ≡ true → ⊥
+IsUnfit b payload = (row : Plain) → IsFormed row → payload ≡ spelled row → fits b row.deed ≡ true → ⊥
 
--- frame n of a journal is the first that spells no readable row, or whose row does not fit those before it
+-- frame n of a journal is the first that spells no formed row, or whose row does not fit those before it
 pub record IsDamaged (list : List (List ℕ)) (n : ℕ) : Type 0 where
   pub base : Base
   pub payload : List ℕ
@@ -53,7 +53,7 @@ pub record IsDamaged (list : List (List ℕ)) (n : ℕ) : Type 0 where
   pub list_is : list ≡ payloads base ++ payload ∷ rest
   pub number : n ≡ size base
   pub good : is_base base ≡ true
-  pub readable : AreReadable base
+  pub formed : AreFormed base
   pub unfit : IsUnfit base payload
 
 -- no frame of a journal is damaged

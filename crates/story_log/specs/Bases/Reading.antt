@@ -1,7 +1,6 @@
 -- How the rows of a journal are read.
 use Rattle.std.specs.Prelude.{◌≡◌, ◌≤◌, ◌&&◌, ℕ, Bool, true, false, Option, Some, None, List, [], ◌∷◌, ◌++◌}
-use Rattle.carried_out.specs.CarriedOut.{is_made}
-use Rattle.cc_names.specs.Formed.{Plain}
+use Rattle.cc_names.specs.Formed.{IsFormed, Plain}
 use Rattle.cc_names.specs.declared.rows.Deed.{Deed}
 use Rattle.disk_model.specs.Devices.{LeavesNow}
 use Rattle.disk_model.specs.Told.{Sight, IfTold, Both}
@@ -16,7 +15,7 @@ use Rattle.vob_journal.specs.Moves.{Moves}
 use Rattle.vob_journal.specs.Reads.{SameFiles}
 use Rattle.vob_journal.specs.Shown.{Shown}
 use Rattle.story_log.specs.Bases.Opening.{IsUnfit}
-use Rattle.story_log.specs.Story.Readable.{IsReadable, AreReadable}
+use Rattle.story_log.specs.Story.Formed.{AreFormed}
 use Rattle.story_log.specs.Stopping.Standing.{payloads}
 use Rattle.story_log.specs.declared.opening.OpenCause.{OpenCause}
 use Rattle.story_log.specs.declared.opening.OpenCause.TheVariants as causes
@@ -50,14 +49,14 @@ IsMissed causes.NoMemory old new = new ≡ old
 
 -- why a row of this deed may not follow a base
 abbrev pub IsMisfit : Base → Deed → OpenCause → Type 0
-IsMisfit b deed (causes.Damaged n) = (n ≡ size b) × ((is_made deed && fits b deed) ≡ false)
+IsMisfit b deed (causes.Damaged n) = (n ≡ size b) × (fits b deed ≡ false)
 IsMisfit b deed causes.DiskFault = ⊥
 IsMisfit b deed causes.NoMemory = Unit {0}
 
--- a payload spells this row, which is readable and fits a base
+-- a payload spells this row, which is formed and fits a base
 pub record IsNextRow (b : Base) (payload : List ℕ) (row : Plain) : Type 0 where
   pub spells : payload ≡ spelled row
-  pub readable : IsReadable row
+  pub formed : IsFormed row
   pub fits : fits b row.deed ≡ true
 
 -- why a payload gave no row behind a base
@@ -66,10 +65,10 @@ IsNoRow b payload (causes.Damaged n) = (n ≡ size b) × IsUnfit b payload
 IsNoRow b payload causes.DiskFault = ⊥
 IsNoRow b payload causes.NoMemory = Unit {0}
 
--- What was read so far is a base of readable rows, and the journal's list is theirs and what is still to be read.
+-- What was read so far is a base of formed rows, and the journal's list is theirs and what is still to be read.
 pub record IsReadSoFar {D : Type 0} (sight : D → Sight) (base : Base) (journal : Shown D) : Type 0 where
   pub good : is_base base ≡ true
-  pub readable : AreReadable base
+  pub formed : AreFormed base
   pub loose : journal.loose ≡ []
   pub now : IfTold (sight journal.disk).told (λ d. (image : List ℕ) → LeavesNow 0 d image → frames image ≡ journal.list)
   pub list_is : IfTold (sight journal.disk).told (λ _. journal.list ≡ payloads base ++ journal.rest)

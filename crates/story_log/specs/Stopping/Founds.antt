@@ -12,7 +12,8 @@ use Rattle.legal_history.specs.Stories.Lawful.{Legal}
 use Rattle.vob_journal.specs.Frames.{frames}
 use Rattle.story_log.specs.Story.Handed.{Handed}
 use Rattle.story_log.specs.Bases.Opening.{IsBaseOn, IsUndamaged}
-use Rattle.story_log.specs.Story.Readable.{AreReadable, IsReadable, TellsOnly}
+use Rattle.story_log.specs.Story.Formed.{AreFormed, TellsOnly}
+use Rattle.cc_names.specs.Formed.{IsFormed}
 use Rattle.story_log.specs.Stopping.Standing.{MayBeFound, payloads}
 
 -- What was found spells the rows of a base, each of which fits those before it; it is sound where the base was sound that had
@@ -23,15 +24,15 @@ pub record SpellsBase (opened : Base) (found : List (List ℕ)) : Type 0 where
   pub is : found ≡ payloads base
   pub sound : IsSound opened → IsSound base
 
--- What was found opens again: it spells the readable rows of a base, each of which fits those before it, so none of its frames
--- is damaged; and it stands for no other base of readable rows. That base is sound where the one was that had been opened.
+-- What was found opens again: it spells the formed rows of a base, each of which fits those before it, so none of its frames
+-- is damaged; and it stands for no other base of formed rows. That base is sound where the one was that had been opened.
 pub record OpensAgain (opened : Base) (found : List (List ℕ)) : Type 0 where
   pub base : Base
   pub good : is_base base ≡ true
-  pub readable : AreReadable base
+  pub formed : AreFormed base
   pub is : found ≡ payloads base
   pub undamaged : IsUndamaged found
-  pub one : (other : Base) → AreReadable other → found ≡ payloads other → other ≡ base
+  pub one : (other : Base) → AreFormed other → found ≡ payloads other → other ≡ base
   pub sound : IsSound opened → IsSound base
 
 -- Whatever a stop may find of a legal story spells the rows of a base: that of the commits so far, or that and a row which a
@@ -41,10 +42,10 @@ StopLeavesABase = (story : List StoryStep) (opening : Opening) (k : ℕ) (found 
     → Legal story → (state_of story).opened ≡ Some opening
     → MayBeFound opening (state_of story).ends k found → SpellsBase opening.base found
 
--- Where the story names only readable rows, whatever a stop may find opens again.
+-- Where the story names only formed rows, whatever a stop may find opens again.
 abbrev pub StopOpensAgain : Type 0
 StopOpensAgain = (story : List StoryStep) (opening : Opening) (k : ℕ) (found : List (List ℕ))
-    → Legal story → TellsOnly IsReadable story → (state_of story).opened ≡ Some opening
+    → Legal story → TellsOnly IsFormed story → (state_of story).opened ≡ Some opening
     → MayBeFound opening (state_of story).ends k found → OpensAgain opening.base found
 
 -- So who opens what was found begins on a sound base: whatever base is opened on a disk that reads so is sound, where the one

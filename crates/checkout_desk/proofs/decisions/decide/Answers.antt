@@ -5,7 +5,6 @@ pub returns-in-Ok : goal.returns-in-Ok
 returns-in-Ok c = record {
   decided = λ scene sees. c.in-Ok.ensures.decided scene c.args.occasion.moment sees;
   nothing = tt;
-  made = c.in-Ok.ensures.made;
   room = c.in-Ok.ensures.room;
 }
 
@@ -13,6 +12,5 @@ pub returns-in-Err : goal.returns-in-Err
 returns-in-Err c = record {
   decided = λ scene sees. c.in-Err.ensures.decided scene c.args.occasion.moment sees;
   nothing = tt;
-  made = tt;
   room = tt;
 }

@@ -12,4 +12,4 @@ returns g c =
     c.settle.ensures.same c.into_parts-disk.ensures.history c.into_parts-disk.ensures.disk
     (c.status_of-status.ensures ∙ ap (run_status c.run_phases-core.result.1) (c.has_risen.ensures ∙ ap (rises c.args.before) c.counts.ensures.faults))
     c.run_phases-core.ensures.first c.into_parts-disk.ensures.legal c.run_phases-core.ensures.ok c.run_phases-core.ensures.err c.run_phases-core.ensures.fault c.into_parts-disk.ensures.stopped c.settle.ensures.mended
-    (λ opening k found is may. c.a_stop_opens_again.ensures core.story opening k found c.into_parts-disk.ensures.legal c.into_parts-disk.ensures.readable is may)
+    (λ opening k found is may. c.a_stop_opens_again.ensures core.story opening k found c.into_parts-disk.ensures.legal c.into_parts-disk.ensures.formed is may)

@@ -51,12 +51,6 @@ add_row-requires-clause-fits g c =
     let found : ReadsOn sight c.all.result (Some c.in-Ok-Some.row) c.read_row.new.journal = subst (λ f. ReadsOn sight c.all.result f c.read_row.new.journal) c.in-Ok-Some.field-0-is c.in-Ok-Some.ensures.ok in
     subst (λ b. fits b c.in-Ok-Some.row.deed ≡ _) c.all.ensures (row_fits c.all.result c.in-Ok-Some.row found.good)
 
-pub add_row-requires-clause-made : goal.add_row-requires-clause-made
-add_row-requires-clause-made g c =
-    let sight = g.D.Disk.sight in
-    let found : ReadsOn sight c.all.result (Some c.in-Ok-Some.row) c.read_row.new.journal = subst (λ f. ReadsOn sight c.all.result f c.read_row.new.journal) c.in-Ok-Some.field-0-is c.in-Ok-Some.ensures.ok in
-    found.readable.0.made
-
 pub returns-in-Ok-None-clause-reads : goal.returns-in-Ok-None-clause-reads
 returns-in-Ok-None-clause-reads g c = reads_then g.D.Disk.sight c.args.journal.now c.frames.journal c.read_row.new.journal c.frames.invariant.reads c.in-Ok-None.ensures.reads
 

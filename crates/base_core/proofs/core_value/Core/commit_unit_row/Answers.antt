@@ -29,11 +29,6 @@ append-requires-clause-fits g c =
     let gives = gives_here c.self.inside.log c.self.inside.lanes c.self.inside.moment c.args.self.now.story c.args.lane c.args.unit c.args.row c.args.object (ap (λ v. v.story) c.self.view_is) c.self.invariant c.requires c.a_build_is_consistent.ensures in
     object_fits c.self.inside.log c.self.inside.lanes c.self.inside.moment c.args.lane c.args.unit c.args.row c.args.object c.self.invariant gives
 
-pub append-requires-clause-made : goal.append-requires-clause-made
-append-requires-clause-made g c =
-    let gives = gives_here c.self.inside.log c.self.inside.lanes c.self.inside.moment c.args.self.now.story c.args.lane c.args.unit c.args.row c.args.object (ap (λ v. v.story) c.self.view_is) c.self.invariant c.requires c.a_build_is_consistent.ensures in
-    gives.made
-
 pub note-requires-clause-from : goal.note-requires-clause-from
 note-requires-clause-from g c =
     let gives = gives_here c.self.inside.log c.self.inside.lanes c.self.inside.moment c.args.self.now.story c.args.lane c.args.unit c.args.row c.args.object (ap (λ v. v.story) c.self.view_is) c.self.invariant c.requires c.a_build_is_consistent.ensures in

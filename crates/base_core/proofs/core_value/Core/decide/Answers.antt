@@ -31,4 +31,4 @@ returns g c =
     (subst Legal same c.self.invariant.story.legal) c.in_ok-command.ensures.carried_out (acts (state_of c.args.self.now.story) c.args.lane c.in_ok-command.command c.in_ok-command.ensures.next c.requires.act) (subst (λ found. IfSome found (λ command. is_query command ≡ false)) c.in_ok-command.ensures.next c.requires.no_query) free
     c.in_ok-command.ensures.next c.occasion-occasion.ensures.tag c.occasion-occasion.ensures.moment (c.rows.ensures ∙ sym c.self.invariant.story.base ∙ ap (λ t. (state_of t).base) same)
     (c.occasion-occasion.ensures.busy ∙ ap (building (state_of c.args.self.now.story).active) c.view_of.ensures) c.occasion-occasion.ensures.taken
-    (λ scene sees. c.decide.ensures.decided scene sees) c.decide.ensures.nothing c.decide.ensures.made c.decide.ensures.room
+    (λ scene sees. c.decide.ensures.decided scene sees) c.decide.ensures.nothing c.decide.ensures.room

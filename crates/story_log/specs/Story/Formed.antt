@@ -1,7 +1,6 @@
--- Readable rows, which a journal gives back, and stories that name no others. Each law is promised by a function of `laws`.
+-- Rows that keep their form, which a journal gives back, and stories that name no others. Each law is promised by a function of `laws`.
 use Rattle.std.specs.Prelude.{◌≡◌, true, IfSome, List, reverse}
 use Rattle.std.specs.List.{AllByRecursion}
-use Rattle.carried_out.specs.CarriedOut.{is_made}
 use Rattle.cc_names.specs.Formed.{Plain, IsFormed}
 use Rattle.cc_names.specs.declared.steps.Step.TheVariants as steps
 use Rattle.cc_names.specs.declared.steps.StoryStep.{StoryStep}
@@ -10,14 +9,9 @@ use Rattle.legal_history.specs.Base.Rows.{Base}
 use Rattle.legal_history.specs.Stories.States.{hanging}
 use Rattle.legal_history.specs.Stories.Steps.{state_of}
 
--- a readable row: it keeps its form, and what is carried out so far makes rows of its deed
-pub record IsReadable (row : Plain) : Type 0 where
-  pub formed : IsFormed row
-  pub made : is_made row.deed ≡ true
-
--- each row of a base is readable
-abbrev pub AreReadable : Base → Type 0
-AreReadable b = AllByRecursion IsReadable b
+-- each row of a base keeps its form
+abbrev pub AreFormed : Base → Type 0
+AreFormed b = AllByRecursion IsFormed b
 
 -- each row that a step names is so: those of the base that was opened, the row of a commit, and what a fault left
 abbrev pub NamesOnly : (Plain → Type 0) → StoryStep → Type 0
@@ -30,12 +24,12 @@ NamesOnly P step = Unit {0}
 abbrev pub TellsOnly : (Plain → Type 0) → List StoryStep → Type 0
 TellsOnly P story = AllByRecursion (NamesOnly P) story
 
--- The base of a story that names only readable rows is one of readable rows.
-abbrev pub StoryKeepsItsBaseReadable : Type 0
-StoryKeepsItsBaseReadable = (story : List StoryStep) → TellsOnly IsReadable story
-    → AreReadable (state_of story).base
+-- The base of a story that names only formed rows is one of formed rows.
+abbrev pub StoryKeepsItsBaseFormed : Type 0
+StoryKeepsItsBaseFormed = (story : List StoryStep) → TellsOnly IsFormed story
+    → AreFormed (state_of story).base
 
--- A row that a fault left behind that base, if there is one, is readable.
-abbrev pub FaultLeavesAReadableRow : Type 0
-FaultLeavesAReadableRow = (story : List StoryStep) → TellsOnly IsReadable story
-    → IfSome (hanging (state_of story).ends) IsReadable
+-- A row that a fault left behind that base, if there is one, is formed.
+abbrev pub FaultLeavesAFormedRow : Type 0
+FaultLeavesAFormedRow = (story : List StoryStep) → TellsOnly IsFormed story
+    → IfSome (hanging (state_of story).ends) IsFormed
