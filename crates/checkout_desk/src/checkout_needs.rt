@@ -5,6 +5,7 @@ ghost use Rattle.std.specs.Option.{option_copied};
 ghost use Rattle.legal_history.specs.Base.Texts.{text_of_row};
 ghost use Rattle.legal_history.specs.Base.Views.{making};
 ghost use Rattle.legal_history.specs.Commands.CheckoutTests.{is_same_text, needs_change, needs_checkout_rule, needs_latest, needs_latest_origin, needs_no_other, needs_not_out, needs_out, needs_unreserved};
+ghost use Rattle.legal_history.specs.Commands.LabelLines.{needs_version_picked};
 ghost use Rattle.view_lookup.specs.Effects.{plain_checkout};
 ghost use Rattle.checkout_desk.specs.Deciding.{Tests};
 
@@ -37,6 +38,13 @@ pub fn needs_not_out(taken: Option<Checkout>) -> Result<(), Or<Refusal>>
         Some(checkout) => Err(Or::Is(Refusal::AlreadyOut(checkout.row))),
         None => Ok(()),
     }
+}
+
+/// A version is selected and no checkout. The refusal names the row that made the checkout.
+pub fn needs_version_picked(out: bool, taken: Option<Checkout>) -> Result<(), Or<Refusal>>
+    ensures { Tests result (needs_version_picked out (option_map plain_checkout taken)) }
+{
+    if out { needs_not_out(taken) } else { Ok(()) }
 }
 
 /// Nobody reserves the branch of a version. The refusal names who does.

@@ -91,6 +91,23 @@ fn find_directory(
     }
 }
 
+/// The element that is selected at a path of a view that there is.
+pub fn find_selected_in(
+    alloc: Global,
+    rows: &FirstRows<'_>,
+    view: &Name,
+    path: &Path,
+) -> Result<Selected, Or<Refusal>>
+    ensures { (scene : Scene)
+        → scene.base ≡ rows.now
+        → Finds result
+        (λ more. past (needs_view scene.base view.now ∷ [])
+        (for_selected path.now (at scene.base view.now path.now) (apart more))) }
+{
+    needs_view(rows, view)?;
+    find_selected(alloc, rows, view, path)
+}
+
 /// The element that is selected at a path of a view that builds nothing.
 pub fn find_selected_idle(
     alloc: Global,

@@ -1,20 +1,19 @@
 //! Putting labels on versions, and taking them off.
 
-ghost use Rattle.std.specs.Prelude.{◌≡◌, ℕ, Option, List, ◌<◌, ◌≤◌, OnOk, ◌∷◌, [], option_map, true, IfOk};
+ghost use Rattle.std.specs.Prelude.{◌≡◌, ℕ, Option, List, ◌<◌, ◌≤◌, OnOk, ◌∷◌, [], true, IfOk};
 ghost use Rattle.legal_history.specs.Stories.Lawful.{last_moment};
 ghost use Rattle.cc_names.specs.Formed.{IsTypeName};
 ghost use Rattle.cc_names.specs.declared.rows.Tag.{Tag};
 ghost use Rattle.legal_history.specs.Base.Fits.{row_limit};
 ghost use Rattle.legal_history.specs.Base.Seen.{at};
 ghost use Rattle.legal_history.specs.Commands.Decisions.{Scene, past};
-ghost use Rattle.legal_history.specs.Commands.Found.{for_element, for_selected};
-ghost use Rattle.legal_history.specs.Commands.LabelLines.{mklabel, mklabel_of, needs_label, needs_label_free, needs_version_picked, rmlabel, rmlabel_of};
+ghost use Rattle.legal_history.specs.Commands.Found.{for_element};
+ghost use Rattle.legal_history.specs.Commands.LabelLines.{mklabel, mklabel_of, needs_label, needs_label_free, rmlabel, rmlabel_of};
 ghost use Rattle.legal_history.specs.Commands.Tests.{needs_view};
-ghost use Rattle.view_lookup.specs.Effects.{plain_checkout};
-ghost use Rattle.checkout_desk.specs.Deciding.{Sees, Decides, Finds, Tests, apart};
+ghost use Rattle.checkout_desk.specs.Deciding.{Sees, Decides, Finds, Tests};
 
-use crate::checkout_needs::needs_not_out;
-use crate::found::{Selected, find_selected, find_standing};
+use crate::checkout_needs::needs_version_picked;
+use crate::found::{Selected, find_selected_in, find_standing};
 use crate::needs::{needs_label_type, needs_view};
 use crate::room::needs_room;
 use cc_names::desks::Occasion;
@@ -24,14 +23,7 @@ use cc_names::paths::Path;
 use cc_names::refusals::Refusal;
 use cc_names::rows::{Deed, Row};
 use std::alloc::Global;
-use view_lookup::{Checkout, FirstRows, checked_out, has_label, holder};
-
-/// A version is selected and no checkout. The refusal names the row that made the checkout.
-fn needs_version_picked(out: bool, taken: Option<Checkout>) -> Result<(), Or<Refusal>>
-    ensures { Tests result (needs_version_picked out (option_map plain_checkout taken)) }
-{
-    if out { needs_not_out(taken) } else { Ok(()) }
-}
+use view_lookup::{FirstRows, checked_out, has_label, holder};
 
 /// The label stands on this version or on none of the element, unless `-replace` is given. The refusal names the version that
 /// holds it.
@@ -88,23 +80,6 @@ fn mklabel_of(
         version: selected.picked.row,
     };
     Ok(Row::of(occasion.tag, occasion.moment, deed))
-}
-
-/// The element that is selected at a path of a view that there is.
-fn find_selected_in(
-    alloc: Global,
-    rows: &FirstRows<'_>,
-    view: &Name,
-    path: &Path,
-) -> Result<Selected, Or<Refusal>>
-    ensures { (scene : Scene)
-        → scene.base ≡ rows.now
-        → Finds result
-        (λ more. past (needs_view scene.base view.now ∷ [])
-        (for_selected path.now (at scene.base view.now path.now) (apart more))) }
-{
-    needs_view(rows, view)?;
-    find_selected(alloc, rows, view, path)
 }
 
 /// The row of `mklabel V [-replace] L P`, or its first refusal. Takes the time of `at` and of `holder`.
