@@ -26,6 +26,7 @@ is_carried_out (commands.Mklbtype name) = true
 is_carried_out (commands.Mkbrtype name) = true
 is_carried_out (commands.Mklabel view replace label path) = true
 is_carried_out (commands.Rmlabel view label path) = true
+is_carried_out (commands.Mkarrow view path version) = true
 is_carried_out (commands.Rmdo view path) = true
 is_carried_out (commands.Scrub age) = true
 is_carried_out (commands.Clearmake view file own_only rebuild jobs macros goals) = true

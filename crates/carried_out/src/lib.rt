@@ -36,6 +36,7 @@ pub fn is_carried_out(command: &Command) -> bool
             | Command::Mkbrtype { .. }
             | Command::Mklabel { .. }
             | Command::Rmlabel { .. }
+            | Command::Mkarrow { .. }
             | Command::Rmdo { .. }
             | Command::Scrub { .. }
             | Command::Clearmake { .. }

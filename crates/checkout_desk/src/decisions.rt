@@ -11,6 +11,7 @@ ghost use Rattle.carried_out.specs.CarriedOut.{is_carried_out};
 ghost use Rattle.legal_history.specs.Queries.QueryLines.{is_query};
 ghost use Rattle.checkout_desk.specs.Deciding.{Decides, DecidesIfAny, IfNone, IfRow, Sees};
 
+use crate::arrows::mkarrow;
 use crate::branches::mkbranch;
 use crate::checkins::{checkin, uncheckout};
 use crate::checkouts::checkout;
@@ -93,6 +94,11 @@ fn decide_row(
         Command::Rmlabel { view, label, path } => {
             rmlabel(alloc, rows, view, label, path, occasion)
         }
+        Command::Mkarrow {
+            view,
+            path,
+            version,
+        } => mkarrow(alloc, rows, view, path, version, occasion),
         Command::Rmdo { view, path } => rmdo(alloc, rows, view, path, occasion),
         _ => unreachable!(),
     }

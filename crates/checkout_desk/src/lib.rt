@@ -9,6 +9,7 @@
 //! `cc_names` for plain data.
 #![tactic(auto)]
 
+mod arrows;
 mod branches;
 mod checkins;
 mod checkout_needs;

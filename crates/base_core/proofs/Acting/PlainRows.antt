@@ -5,6 +5,7 @@ use Rattle.carried_out.specs.CarriedOut.{is_carried_out}
 use Rattle.legal_history.specs.Queries.QueryLines.{is_query}
 use Rattle.cc_names.specs.declared.commands.Command.{Command}
 use Rattle.cc_names.specs.declared.commands.Command.TheVariants as commands
+use Rattle.cc_names.specs.declared.commands.VersionName.{VersionName}
 use Rattle.cc_names.specs.declared.refusals.Refusal.{Refusal}
 use Rattle.cc_names.specs.declared.rows.Deed.{Deed}
 use Rattle.cc_names.specs.declared.rows.Deed.TheVariants as deeds
@@ -23,12 +24,12 @@ use Rattle.legal_history.specs.Commands.Decisions.{Scene, Decision, Makes, past,
 use Rattle.legal_history.specs.Commands.DirectoryLines.{mkelem_in, mv_in, mv_tests, rmname_in, rmname_tests}
 use Rattle.legal_history.specs.Commands.FileLines.{last_name, save_deed}
 use Rattle.legal_history.specs.Commands.Found.{for_element, for_selected}
-use Rattle.legal_history.specs.Commands.LabelLines.{mklabel_of, mklabel_tests, rmlabel_of, rmlabel_tests}
+use Rattle.legal_history.specs.Commands.LabelLines.{mkarrow_from, mkarrow_of, mkarrow_tests, mklabel_of, mklabel_tests, rmlabel_of, rmlabel_tests, version_named}
 use Rattle.legal_history.specs.Commands.Lines.{decision}
 use Rattle.legal_history.specs.Commands.ObjectLines.{due, scrub_of}
 use Rattle.legal_history.specs.Commands.Tests.{needs_free_path, needs_idle, needs_view}
 use Rattle.legal_history.specs.Base.Views.{out}
-use Rattle.legal_history.proofs.Decisions.Handed.{IfDecided, change_is, element_is, past_is, row_is, selected_is}
+use Rattle.legal_history.proofs.Decisions.Handed.{IfDecided, change_is, element_is, past_is, row_is, selected_is, version_is}
 use Rattle.base_core.specs.Calls.Acting.{FinishesCommand}
 
 -- a decision that was not refused makes its deed
@@ -80,6 +81,9 @@ finishes_label label e version = record { reply = λ b. refl; done = λ done lan
 
 finishes_unlabel : (label : List ℕ) (e : ℕ) → FinishesCommand (deeds.Unlabel label e)
 finishes_unlabel label e = record { reply = λ b. refl; done = λ done lane. refl; active = λ b active lane. refl; made = λ s row made. made }
+
+finishes_arrow : (e tail head : ℕ) → FinishesCommand (deeds.Arrow e tail head)
+finishes_arrow e tail head = record { reply = λ b. refl; done = λ done lane. refl; active = λ b active lane. refl; made = λ s row made. made }
 
 finishes_drop : (v path : List ℕ) → FinishesCommand (deeds.Drop v path)
 finishes_drop v path = record { reply = λ b. refl; done = λ done lane. refl; active = λ b active lane. refl; made = λ s row made. made }
@@ -138,6 +142,12 @@ mklabel_finishes s v replace label e picked = row_is Finishes s (mklabel_tests s
 rmlabel_finishes : (s : Scene) (label path : List ℕ) (e : ℕ) → IfDecided Finishes (rmlabel_of s label path e)
 rmlabel_finishes s label path e = row_is Finishes s (rmlabel_tests s label path e) (deeds.Unlabel label e) (λ made. finishes_unlabel label e)
 
+-- an arrow from the version that has the name, where there is one
+mkarrow_finishes : (s : Scene) (v path : List ℕ) (name : VersionName) (e : ℕ) (picked : Picked) → IfDecided Finishes (mkarrow_of s v path name e picked)
+mkarrow_finishes s v path name e picked =
+    version_is Finishes path (version_named s.base e name) (mkarrow_from s v e picked)
+    (λ tail found. row_is Finishes s (mkarrow_tests s v e picked tail) (deeds.Arrow e tail picked.row) (λ made. finishes_arrow e tail picked.row))
+
 -- a scrub, where anything is due
 scrub_finishes : (s : Scene) (ids : List ℕ) (deed : Deed) → scrub_of s ids ≡ Ok (Makes deed) → FinishesCommand deed
 scrub_finishes s [] deed e = absurd (cc)
@@ -176,6 +186,8 @@ command_finishes s (commands.Mklabel v replace label path) deed carried idle e =
     for_selected_finishes (needs_view s.base v ∷ []) path (at s.base v path) (mklabel_of s v replace label) (mklabel_finishes s v replace label) (Makes deed) e
 command_finishes s (commands.Rmlabel v label path) deed carried idle e =
     for_element_finishes (needs_view s.base v ∷ []) path (at s.base v path) (rmlabel_of s label path) (rmlabel_finishes s label path) (Makes deed) e
+command_finishes s (commands.Mkarrow v path name) deed carried idle e =
+    for_selected_finishes (needs_view s.base v ∷ []) path (at s.base v path) (mkarrow_of s v path name) (mkarrow_finishes s v path name) (Makes deed) e
 command_finishes s (commands.Rmdo v path) deed carried idle e = subst FinishesCommand (same_deed _ (deeds.Drop v path) deed e) (finishes_drop v path)
 command_finishes s (commands.Scrub age) deed carried idle e = scrub_finishes s (due s.base s.moment age) deed e
 command_finishes s (commands.Clearmake v file own_only rebuild jobs macros goals) deed carried idle e = absurd (cc)

@@ -101,6 +101,12 @@ returns-in-Rmlabel-clause-decided c =
     subst (λ command. Decides c.args.occasion.tag c.args.occasion.moment c.rmlabel.result (decision scene command)) (sym c.in-Rmlabel.is)
     (c.rmlabel.ensures.decided scene now (subst (λ command. Sees scene c.args.rows.now now (view_of command) c.args.occasion.busy c.args.occasion.taken) c.in-Rmlabel.is sees))
 
+pub returns-in-Mkarrow-clause-decided : goal.returns-in-Mkarrow-clause-decided
+returns-in-Mkarrow-clause-decided c =
+    λ scene now sees.
+    subst (λ command. Decides c.args.occasion.tag c.args.occasion.moment c.mkarrow.result (decision scene command)) (sym c.in-Mkarrow.is)
+    (c.mkarrow.ensures.decided scene now (subst (λ command. Sees scene c.args.rows.now now (view_of command) c.args.occasion.busy c.args.occasion.taken) c.in-Mkarrow.is sees))
+
 pub returns-in-Rmdo-clause-decided : goal.returns-in-Rmdo-clause-decided
 returns-in-Rmdo-clause-decided c =
     λ scene now sees.

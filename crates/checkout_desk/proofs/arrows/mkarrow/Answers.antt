@@ -1,0 +1,13 @@
+-- What is decided of the selected element that was found is decided of the path.
+use Rattle.std.proofs.Common.{arith}
+use Rattle.std.proofs.lemmas.Grind.{common_steps}
+use Rattle.legal_history.specs.Commands.LabelLines.{mkarrow_of}
+use Rattle.checkout_desk.proofs.arrows.mkarrow.Goals as goal
+
+pub returns-in_err-selected-clause-decided : goal.returns-in_err-selected-clause-decided
+returns-in_err-selected-clause-decided c = λ scene now sees.
+    grind (arith, common_steps, c.in_err-selected.ensures scene sees.base (λ found. mkarrow_of scene c.args.view.now c.args.path.now c.args.name.now found.element found.picked))
+
+pub returns-clause-decided : goal.returns-clause-decided
+returns-clause-decided c = λ scene now sees.
+    grind (arith, common_steps, c.in_ok-selected.ensures scene sees.base (λ found. mkarrow_of scene c.args.view.now c.args.path.now c.args.name.now found.element found.picked), c.mkarrow_of.ensures.decided scene now sees)
