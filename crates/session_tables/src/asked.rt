@@ -1,6 +1,6 @@
 //! What is asked for a session: settings, which say what is outside of it, and its text.
 
-use anyhow::{Result, bail};
+use anyhow::{Context, Result, ensure};
 use std::alloc::Global;
 
 /// What the lines of settings begin with; `README.md` tells what each of them asks for.
@@ -11,9 +11,12 @@ const SETTINGS: [&str; 8] = [
     "the disk fails at ",
     "the text has ",
     "the journal is ",
-    "stopped at ",
+    STOPS,
     "told: ",
 ];
+
+/// What a setting that asks for stops begins with.
+pub(crate) const STOPS: &str = "stopped at ";
 
 /// A session: lines of settings, and the text.
 #[derive(Clone, Copy)]
@@ -22,8 +25,25 @@ pub(crate) struct Asked<'a> {
     pub(crate) text: &'a str,
 }
 
-fn is_setting(line: &str) -> bool {
-    SETTINGS.iter().any(|words| line.starts_with(*words))
+/// How many lines begin with these words.
+fn count_with(settings: &str, words: &str) -> usize {
+    settings
+        .lines()
+        .filter(|line| line.starts_with(words))
+        .count()
+}
+
+/// Whether a line is a setting, the only one of its kind; stops may be asked for by several.
+fn check_setting(settings: &str, line: &str) -> Result<()> {
+    let words = SETTINGS
+        .iter()
+        .find(|words| line.starts_with(**words))
+        .context(format_args!("{line} is no setting"))?;
+    ensure!(
+        *words == STOPS || count_with(settings, words) == 1,
+        "{line} is asked for twice"
+    );
+    Ok(())
 }
 
 impl<'a> Asked<'a> {
@@ -33,9 +53,7 @@ impl<'a> Asked<'a> {
             return Ok(Asked { settings: "", text });
         };
         for line in settings.lines() {
-            if !is_setting(line) {
-                bail!("{line} is no setting");
-            }
+            check_setting(settings, line)?;
         }
         Ok(Asked { settings, text })
     }

@@ -1,10 +1,10 @@
 //! A case: one session or several, each on the base that the one before leaves, and what they come to.
 
-use crate::asked::Asked;
+use crate::asked::{Asked, STOPS};
 use crate::journals::{journal_for, journals_stopped};
 use crate::runs::{Host, Outcome, disk_with, outcome_on};
 use crate::tables::{Front, NOTHING};
-use anyhow::{Context, Result};
+use anyhow::{Context, Result, ensure};
 use disk_model::MemoryDisk;
 use std::sync::Wait;
 use std::thread::Threads;
@@ -82,7 +82,7 @@ fn difference_in<R: Threads + Wait + Sync>(
     let mut left = disk_with(host.rt.alloc(), &[], &[])?;
     for part in case.split("++++\n") {
         let part = part_of(part)?;
-        let found = if part.asked.setting("stopped at ").is_some() {
+        let found = if part.asked.setting(STOPS).is_some() {
             run_stopped(host, part, left)?
         } else {
             run_next(host, before, part, &left)?
@@ -113,6 +113,7 @@ pub(crate) fn first_difference<R: Threads + Wait + Sync>(
     let Some((first, last, case)) = each_of(case) else {
         return difference_in(host, front, case);
     };
+    ensure!(first <= last, "no number is in each {first} to {last}");
     for number in first..=last {
         let number = format!(in host.rt.alloc(); "{number}")?;
         let case = case.replace(host.rt.alloc(), "EACH", number.as_str())?;
@@ -128,7 +129,7 @@ pub(crate) fn first_difference<R: Threads + Wait + Sync>(
 // only the end is compared.
 fn is_told(written: &str, before: &str, wanted: &str) -> bool {
     match (written.strip_prefix(before), wanted.strip_prefix("...\n")) {
-        (Some(written), Some(end)) => written.ends_with(end),
+        (Some(written), Some(end)) => !end.is_empty() && written.ends_with(end),
         (Some(written), None) if wanted.contains(" shared ") => is_as_wanted(written, wanted),
         (Some(written), None) => written == wanted,
         (None, _) => false,

@@ -1,6 +1,6 @@
 //! The journals that a session is run on: one that is written out, the one that was left, or those that stops may leave.
 
-use crate::asked::{Asked, numbers_of};
+use crate::asked::{Asked, STOPS, numbers_of};
 use anyhow::{Context, Result, bail, ensure};
 use disk_model::{Disk, MemoryDisk};
 use std::alloc::Global;
@@ -60,11 +60,16 @@ fn add_stopped(
     let (calls, kept) = stops
         .split_once(" keeping ")
         .context("a stop keeps none, all or other")?;
+    let before = journals.len();
     for call in numbers_of(alloc, calls)? {
         for word in kept.split_whitespace() {
             journals.push(journal_stopped(alloc, disk, call, pick_of(word)?)?)?;
         }
     }
+    ensure!(
+        before < journals.len(),
+        "a stop has its calls and what it keeps"
+    );
     Ok(())
 }
 
@@ -76,7 +81,7 @@ pub(crate) fn journals_stopped(
 ) -> Result<Vec<Vec<u8>>> {
     let mut journals = Vec::new(alloc);
     for line in asked.settings().lines() {
-        if let Some(stops) = line.strip_prefix("stopped at ") {
+        if let Some(stops) = line.strip_prefix(STOPS) {
             add_stopped(alloc, disk, stops, &mut journals)?;
         }
     }
