@@ -3,10 +3,9 @@ use Rattle.std.proofs.Common.{◌≡◌, ℕ, suc, ◌-◌, ◌<◌, ◌≤◌, 
 use Rattle.std.proofs.lemmas.Bool.Decides.{nat_tests}
 use Rattle.std.proofs.lemmas.List.{length-reverse, reverse-append, reverse-reverse, take_all, take-append-le, length-append, length-take, length-take-le, take-take}
 use Rattle.cc_names.specs.Formed.{Plain}
-use Rattle.carried_out.specs.CarriedOut.{is_made}
 use Rattle.legal_history.specs.Base.Rows.{Base, size, first_rows}
 use Rattle.legal_history.specs.Base.Fits.{deed_fits, fits, is_base, row_limit}
-use Rattle.view_lookup.specs.Known.{are_made, IsKnown, IsFront}
+use Rattle.view_lookup.specs.Front.{IsFront}
 
 -- both of two tests
 pub both : (a b : Bool) → (a && b) ≡ true → (a ≡ true) × (b ≡ true)
@@ -44,21 +43,18 @@ size_of_first b count within =
     ap size (first_of_newest b (suc count) ∙ ap (λ n. reverse (take n (reverse b))) less)
     ∙ ap suc (length-reverse (take count (reverse b)) ∙ length-take-le count (reverse b) fewer)
 
--- the first rows are as known as all
-pub known_first : (t : ℕ) (b : Base) → IsKnown b → IsKnown (first_rows t b)
-known_first t [] known = known
-known_first t (row ∷ older) known =
-    elim (nat_lt (size older) t) as (λ within. IsKnown (elim within as (λ _. Base) [ true ↦ row ∷ older | false ↦ first_rows t older ])) [
-      | true ↦ known
-      | false ↦ known_first t older (record {
-        fitting = (both (fits older row.deed) (is_base older) known.fitting).1;
-        made = (both (is_made row.deed) (are_made older) known.made).1;
-      })
+-- the first rows of a base are a base
+pub fitting_first : (t : ℕ) (b : Base) → is_base b ≡ true → is_base (first_rows t b) ≡ true
+fitting_first t [] fitting = fitting
+fitting_first t (row ∷ older) fitting =
+    elim (nat_lt (size older) t) as (λ within. is_base (elim within as (λ _. Base) [ true ↦ row ∷ older | false ↦ first_rows t older ]) ≡ true) [
+      | true ↦ fitting
+      | false ↦ fitting_first t older (both (fits older row.deed) (is_base older) fitting).1
     ]
 
 -- all rows are a front
-pub all_front : (b : Base) → IsKnown b → IsFront (length b) b
-all_front b known = record { within = omega arith; known = known_first (suc (length b)) b known }
+pub all_front : (b : Base) → is_base b ≡ true → IsFront (length b) b
+all_front b fitting = record { within = omega arith; fitting = fitting_first (suc (length b)) b fitting }
 
 take_of_take : (m n : ℕ) (rows : Base) → take m (take n rows) ≡ take (min m n) rows
 take_of_take m n rows =
@@ -85,8 +81,8 @@ first_of_front b t count =
     ∙ sym (first_of_newest (first_rows (suc count) b) t)
 
 -- fewer rows are a front too
-pub shorter_front : (b : Base) (count cut : ℕ) → IsKnown b → count ≤ length b → cut ≤ count → IsFront cut b
-shorter_front b count cut known within less = record { within = omega arith; known = known_first (suc cut) b known }
+pub shorter_front : (b : Base) (count cut : ℕ) → is_base b ≡ true → count ≤ length b → cut ≤ count → IsFront cut b
+shorter_front b count cut fitting within less = record { within = omega arith; fitting = fitting_first (suc cut) b fitting }
 
 -- a base has fewer rows than its limit
 pub base_short : (b : Base) → is_base b ≡ true → length b < row_limit

@@ -1,9 +1,9 @@
 -- A base as it is kept: how contracts see it, and what holds of its rows, of their marks, of the trees of versions, of labels, of
 -- config specs and of what the records of objects list.
-use Rattle.std.specs.Prelude.{◌≡◌, ◌-◌, nat_eq, min, reverse, vec_len, vec_capacity}
+use Rattle.std.specs.Prelude.{◌≡◌, ◌-◌, true, nat_eq, min, reverse, vec_len, vec_capacity}
 use Rattle.std.specs.HashMap.{get, spare}
 use Rattle.legal_history.specs.Base.Changes.{labels, tree}
-use Rattle.view_lookup.specs.Known.{IsKnown}
+use Rattle.legal_history.specs.Base.Fits.{is_base}
 use Rattle.view_lookup.specs.Labelling.{AreLabels}
 use Rattle.view_lookup.specs.Listings.{AreListings, versions_of}
 use Rattle.view_lookup.specs.Marked.{IsMarked}
@@ -28,11 +28,11 @@ shown_of inside = record {
   keys = inside.keys.items;
 }
 
--- The rows are a base that is carried out so far, the links with the newest row of each key are its marks, the changes of the
+-- The rows are a base, the links with the newest row of each key are its marks, the changes of the
 -- trees and of the labels are those of its rows, and so are the config specs and what the records of its objects list. The files
 -- that are kept of views are those that they see.
 pub record IsIndexed (inside : Inside) : Type 0 where
-  pub known : IsKnown (reverse inside.rows.items)
+  pub fitting : is_base (reverse inside.rows.items) ≡ true
   pub marks : IsMarked inside.hashing inside.links.items (get nat_eq inside.newest) (reverse inside.rows.items)
   pub trees : inside.tree.changes ≡ tree (reverse inside.rows.items)
   pub labelled : AreLabels inside.labels.changes (labels (reverse inside.rows.items))

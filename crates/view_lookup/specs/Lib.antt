@@ -8,7 +8,7 @@ pub mod NameBearings
 pub mod Grouped
 pub mod Growing
 pub mod Indexed
-pub mod Known
+pub mod Front
 pub mod Labelling
 pub mod Listings
 pub mod LookUps

@@ -3,7 +3,6 @@
 
 ghost use Rattle.std.specs.Prelude.{◌≡◌, ◌≤◌, ◌∷◌, [], ℕ, List, length, map, reverse, true, IfOk, IfSome, OnOk};
 ghost use Rattle.std.specs.Option.{option_and_then, option_copied};
-ghost use Rattle.carried_out.specs.CarriedOut.{is_made};
 ghost use Rattle.cc_names.specs.Labels.{holder, labels_of_first_rows};
 ghost use Rattle.cc_names.specs.Versions.{of_first_rows, version_id};
 ghost use Rattle.legal_history.specs.Base.Changes.{labels, tree};
@@ -45,8 +44,7 @@ use std::marker::Model;
 use version_tree::Tree;
 
 /// A base, what bears on what, the trees of versions, the labels, the config specs, and what the records of objects list.
-/// Contracts see the base as the model has it, its newest row first, and the room. That it is a base, whose rows were made by
-/// what is carried out so far, is part of the type.
+/// Contracts see the base as the model has it, its newest row first, and the room. That it is a base is part of the type.
 #[derive(Drop)]
 pub struct Rows {
     hashing: RandomState,
@@ -208,7 +206,6 @@ impl Rows {
     /// time to find the label there, and time logarithmic in the branches; no memory.
     pub fn push(&mut self, row: Row)
         requires fits { fits self.old.base row.deed ≡ true }
-        requires made { is_made row.deed ≡ true }
         requires room { HasRoom self.old row.deed }
         ensures { self.new.base ≡ row ∷ self.old.base }
     {
@@ -315,7 +312,7 @@ pub struct FirstRows<'a> {
 impl<'a> Model for FirstRows<'a> {
     ghost use Rattle.legal_history.specs.Base.Rows.{Base, first_rows};
     ghost use Rattle.std.specs.Prelude.{suc};
-    ghost use Rattle.view_lookup.specs.Known.{IsFront};
+    ghost use Rattle.view_lookup.specs.Front.{IsFront};
 
     ghost Value = { Base };
 

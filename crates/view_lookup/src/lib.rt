@@ -8,9 +8,8 @@
 //! the model's definition over the base, with no condition on it. `first_rows` gives the base as it was at an earlier moment,
 //! over which every look-up answers as of then.
 //!
-//! What it stands on: `cc_names` for rows, `carried_out` for the deeds that are made so far, `legal_history` for the
-//! definitions, `version_tree` and `label_book` for the trees and the labels, `spec_text` for the rules of config specs, and
-//! `config_spec` for how they select.
+//! What it stands on: `cc_names` for rows, `legal_history` for the definitions, `version_tree` and `label_book` for the trees and
+//! the labels, `spec_text` for the rules of config specs, and `config_spec` for how they select.
 #![tactic(auto)]
 
 mod bases;

@@ -3,12 +3,10 @@
 //! A line of a table is how many rows are asked, row 0 included, a row as a line of `spelled_rows`, ` => ` and whether it fits.
 
 ghost use Rattle.std.specs.Prelude.{◌≡◌, true, OnOk};
-ghost use Rattle.carried_out.specs.CarriedOut.{is_made};
 ghost use Rattle.legal_history.specs.Base.Fits.{fits};
 ghost use Rattle.view_lookup.specs.Shown.{HasRoom};
 
 use crate::spelled_rows::{number_of, row_of};
-use carried_out::is_made;
 use row_form::Row;
 use std::alloc::Global;
 use std::hash::RandomState;
@@ -18,10 +16,9 @@ use std::test::Fail;
 use view_lookup::{FirstRows, Rows, first_rows, fits};
 
 fn require_fit(alloc: Global, base: &Rows, row: &Row) -> Result<(), Fail>
-    ensures made { OnOk result (is_made row.now.deed ≡ true) }
     ensures fits { OnOk result (fits base.now.base row.now.deed ≡ true) }
 {
-    if is_made(row.deed()) && fits(alloc, &base.all(), row)? {
+    if fits(alloc, &base.all(), row)? {
         Ok(())
     } else {
         Err(Fail::new("a row that does not fit"))
@@ -30,7 +27,6 @@ fn require_fit(alloc: Global, base: &Rows, row: &Row) -> Result<(), Fail>
 
 /// Makes room for a row, where it fits.
 fn make_room(alloc: Global, base: &mut Rows, row: &Row) -> Result<(), Fail>
-    ensures made { OnOk result (is_made row.now.deed ≡ true) }
     ensures fits { OnOk result (fits base.new.base row.now.deed ≡ true) }
     ensures room { OnOk result (HasRoom base.new row.now.deed) }
 {

@@ -5,8 +5,7 @@
 //!
 //! What it promises: nothing; it is only run.
 //!
-//! What it stands on: `view_lookup`, `carried_out`, `legal_history` for what a base is, and `row_form` for rows from their
-//! spelling.
+//! What it stands on: `view_lookup`, `legal_history` for what a base is, and `row_form` for rows from their spelling.
 #![tactic(auto)]
 
 #[cfg(test)]

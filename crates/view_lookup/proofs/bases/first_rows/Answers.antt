@@ -1,8 +1,8 @@
 -- The first rows of a front are a front.
-use Rattle.std.proofs.Common.{◌≡◌, ◌-◌, suc, min, ap, subst, sym, ◌∙◌, arith}
+use Rattle.std.proofs.Common.{◌≡◌, ◌-◌, suc, true, min, ap, subst, sym, ◌∙◌, arith}
+use Rattle.legal_history.specs.Base.Fits.{is_base}
 use Rattle.legal_history.specs.Base.Rows.{Base, first_rows}
-use Rattle.view_lookup.specs.Known.{IsKnown}
-use Rattle.view_lookup.proofs.Fronts.{first_of_front, known_first}
+use Rattle.view_lookup.proofs.Fronts.{first_of_front, fitting_first}
 use Rattle.view_lookup.proofs.bases.first_rows.Goals as goal
 
 pub invariant_of-result : goal.invariant_of-result
@@ -11,8 +11,8 @@ invariant_of-result c =
     let cut : c.min-behind_root.result ≡ min (c.args.count - 1) c.rows.inside.count = c.min-behind_root.ensures ∙ ap (λ n. min n c.rows.inside.count) c.saturating_sub.ensures in
     record {
       within = omega (arith, c.min-behind_root.ensures, c.rows.invariant.within);
-      known = subst IsKnown (sym (ap (λ n. first_rows (suc n) all) cut ∙ first_of_front all c.args.count c.rows.inside.count))
-          (known_first c.args.count (first_rows (suc c.rows.inside.count) all) c.rows.invariant.known);
+      fitting = ap is_base (ap (λ n. first_rows (suc n) all) cut ∙ first_of_front all c.args.count c.rows.inside.count)
+          ∙ fitting_first c.args.count (first_rows (suc c.rows.inside.count) all) c.rows.invariant.fitting;
     }
 
 pub returns : goal.returns

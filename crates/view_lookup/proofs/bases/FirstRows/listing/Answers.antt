@@ -26,4 +26,4 @@ returns c = λ e.
     let within : object < suc count = omega (arith, c.size.ensures.size) in
     ap (λ map. version_in e (versions_of map)) c.get.ensures.value
     ∙ c.base.invariant.listed object e
-    ∙ ap (find nat_cmp e) (sym (listing_of_first all (suc count) object c.base.invariant.known.fitting within) ∙ ap (λ (b : Base). listing b object) first)
+    ∙ ap (find nat_cmp e) (sym (listing_of_first all (suc count) object c.base.invariant.fitting within) ∙ ap (λ (b : Base). listing b object) first)

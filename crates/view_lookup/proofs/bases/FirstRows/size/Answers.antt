@@ -9,7 +9,7 @@ pub overflow_add-result : goal.overflow_add-result
 overflow_add-result c =
     let all = c.self.inside.base.now.base in
     let count = c.self.inside.count in
-    let short : length (first_rows (suc count) all) < row_limit = base_short (first_rows (suc count) all) c.self.invariant.known.fitting in
+    let short : length (first_rows (suc count) all) < row_limit = base_short (first_rows (suc count) all) c.self.invariant.fitting in
     let size_is : size (first_rows (suc count) all) ≡ suc count = size_of_first all count c.self.invariant.within in
     omega arith
 
@@ -22,6 +22,6 @@ pub returns-clause-limit : goal.returns-clause-limit
 returns-clause-limit c =
     let all = c.self.inside.base.now.base in
     let count = c.self.inside.count in
-    let short : length (first_rows (suc count) all) < row_limit = base_short (first_rows (suc count) all) c.self.invariant.known.fitting in
+    let short : length (first_rows (suc count) all) < row_limit = base_short (first_rows (suc count) all) c.self.invariant.fitting in
     let size_is : size (first_rows (suc count) all) ≡ suc count = size_of_first all count c.self.invariant.within in
     omega arith

@@ -11,7 +11,7 @@ use Rattle.view_lookup.proofs.bases.Rows.new.Goals as goal
 
 pub invariant_of-result : goal.invariant_of-result
 invariant_of-result c = record {
-  known = search rules;
+  fitting = search rules;
   marks = search rules;
   trees = search rules;
   labelled = search rules;

@@ -12,10 +12,9 @@ use Rattle.cc_names.specs.declared.changes.TreeChange.{TreeChange}
 use Rattle.cc_names.specs.declared.rows.Deed.{Deed}
 use Rattle.label_book.specs.Marks.{rows_of_pair}
 use Rattle.legal_history.specs.Base.Changes.{labels, labels_after, tree}
-use Rattle.legal_history.specs.Base.Fits.{deed_fits, fits, row_limit}
+use Rattle.legal_history.specs.Base.Fits.{deed_fits, fits, is_base, row_limit}
 use Rattle.legal_history.specs.Base.Rows.{Base, size}
 use Rattle.view_lookup.specs.Growing.{HasPlace, change_of, tree_change, with_change}
-use Rattle.view_lookup.specs.Known.{IsKnown}
 use Rattle.view_lookup.specs.Labelling.{AreLabels, HasLabelRoom}
 use Rattle.view_lookup.specs.Listings.{AreListings, HasListing, Versions, listing_made, version_in, versions_of, with_listing}
 use Rattle.view_lookup.specs.Marked.{IsMarked, marked, rows_by, with_marks}
@@ -122,10 +121,7 @@ invariant_of-self c =
     let number : c.len.result + 1 ≡ size older = omega arith in
     let back : reverse c.push_reserved.new.self.items ≡ row ∷ older = ap reverse c.push_reserved.ensures.items ∙ reverse-append c.self.inside.rows.items (row ∷ []) in
     let fitting : fits older row.deed ≡ true = subst (λ (b : Base). fits b row.deed ≡ true) (sym base_is) c.requires.fits in
-    let known : IsKnown (row ∷ older) = record {
-      fitting = ap₂ (λ one two. one && two) fitting c.self.invariant.known.fitting;
-      made = ap₂ (λ one two. one && two) c.requires.made c.self.invariant.known.made;
-    } in
+    let based : is_base (row ∷ older) ≡ true = ap₂ (λ one two. one && two) fitting c.self.invariant.fitting in
     let named : c.named_targets-targets.result.now ≡ named_targets older row.deed =
     c.named_targets-targets.ensures
     ∙ ap (λ (rows : Base). named_targets (reverse rows) c.deed-3.result.now) c.as_slice.ensures.value
@@ -165,7 +161,7 @@ invariant_of-self c =
     subst (λ map. HasListing (versions_of map) (listing_made older row.deed)) (sym c.take-3.ensures.value)
     (subst (λ (shown : Shown). HasListing shown.listing (listing_made shown.base row.deed)) (sym c.self.view_is) c.requires.room.listing) in
     record {
-      known = subst IsKnown (sym back) known;
+      fitting = ap is_base back ∙ based;
       marks = subst (λ (b : Base). IsMarked hashing c.mark_all.new.links.items (get nat_eq c.mark_all.new.newest) b) (sym back) marks;
       trees = c.grow.ensures
           ∙ ap (λ added. with_change added c.self.inside.tree.changes) change
@@ -179,6 +175,6 @@ invariant_of-self c =
           ∙ ap specs_set (sym back);
       listed = subst (AreListings (λ id. versions_of (get nat_eq c.keep_listing.new.listings id))) (sym back)
           (λ id e. ap (version_in e) (c.keep_listing.ensures id ∙ ap (λ n. with_listing n made listings id) number)
-          ∙ listings_more listings made row older c.self.invariant.known.fitting (and_second (nat_lt (size older) row_limit) (deed_fits older row.deed) fitting) c.self.invariant.listed own id e);
+          ∙ listings_more listings made row older c.self.invariant.fitting (and_second (nat_lt (size older) row_limit) (deed_fits older row.deed) fitting) c.self.invariant.listed own id e);
       seen = subst (λ (b : Base). AreSeenByViews b c.self.inside.seen) (sym back) (seen_more row older c.self.inside.seen c.self.invariant.seen);
     }

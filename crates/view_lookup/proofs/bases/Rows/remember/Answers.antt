@@ -8,7 +8,7 @@ use Rattle.view_lookup.proofs.bases.Rows.remember.Goals as goal
 
 pub invariant_of-self : goal.invariant_of-self
 invariant_of-self c = record {
-  known = c.self.invariant.known;
+  fitting = c.self.invariant.fitting;
   marks = c.self.invariant.marks;
   trees = c.self.invariant.trees;
   labelled = c.self.invariant.labelled;
@@ -19,7 +19,7 @@ invariant_of-self c = record {
 
 pub invariant_of-self-2 : goal.invariant_of-self-2
 invariant_of-self-2 c = record {
-  known = c.self.invariant.known;
+  fitting = c.self.invariant.fitting;
   marks = c.self.invariant.marks;
   trees = c.self.invariant.trees;
   labelled = c.self.invariant.labelled;
@@ -42,7 +42,7 @@ invariant_of-self-3 c =
     let first : c.first_rows.result ≡ first_rows c.args.count base = c.first_rows.ensures ∙ ap (λ (b : Base). first_rows c.args.count b) c.all-2.ensures in
     let made = c.see_ahead-seen in
     record {
-      known = c.self.invariant.known;
+      fitting = c.self.invariant.fitting;
       marks = c.self.invariant.marks;
       trees = c.self.invariant.trees;
       labelled = c.self.invariant.labelled;

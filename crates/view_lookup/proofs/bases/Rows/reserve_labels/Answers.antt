@@ -4,7 +4,7 @@ use Rattle.view_lookup.proofs.bases.Rows.reserve_labels.Goals as goal
 
 pub invariant_of-self : goal.invariant_of-self
 invariant_of-self c = record {
-  known = c.self.invariant.known;
+  fitting = c.self.invariant.fitting;
   marks = c.self.invariant.marks;
   trees = c.self.invariant.trees;
   labelled = same_twice _ _ _ (record { pairs = c.reserve_labels.ensures.kept.pairs }) c.self.invariant.labelled;
