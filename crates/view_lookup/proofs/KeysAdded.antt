@@ -1,7 +1,11 @@
--- The keys of names on a branch, some after others.
+-- The keys of subjects, and of names on a branch, some after others.
 use Rattle.std.proofs.Common.{◌≡◌, ℕ, List, [], ◌∷◌, ◌++◌, map, refl, ap}
 use Rattle.std.specs.declared.random_state.RandomState.{RandomState}
-use Rattle.view_lookup.specs.Subjects.{Altered, key}
+use Rattle.view_lookup.specs.Subjects.{Subject, Altered, key}
+
+pub keys_parted : (hashing : RandomState) (one two : List Subject) → map (key hashing) (one ++ two) ≡ map (key hashing) one ++ map (key hashing) two
+keys_parted hashing [] two = refl
+keys_parted hashing (subject ∷ one) two = ap (λ rest. key hashing subject ∷ rest) (keys_parted hashing one two)
 
 abbrev pub keys_of_names : RandomState → ℕ → List (List ℕ) → List ℕ
 keys_of_names hashing branch names = map (key hashing) (map (Altered branch) names)

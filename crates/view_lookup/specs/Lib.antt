@@ -16,6 +16,7 @@ pub mod Made
 pub mod MarkSteps
 pub mod Marked
 pub mod NumberKeys
+pub mod Order
 pub mod Picking
 pub mod Reservations
 pub mod SeenFiles

@@ -1,5 +1,5 @@
 -- What contracts see of a base that is kept: the base, its newest row first, and the room for one more row.
-use Rattle.std.specs.Prelude.{◌≡◌, ℕ, ◌≤◌, Option, List, length, map}
+use Rattle.std.specs.Prelude.{◌≡◌, ℕ, ◌≤◌, Option, List, length}
 use Rattle.std.specs.declared.random_state.RandomState.{RandomState}
 use Rattle.cc_names.specs.declared.rows.Deed.{Deed}
 use Rattle.cc_names.specs.declared.selection.Rule.{Rule}
@@ -10,12 +10,11 @@ use Rattle.view_lookup.specs.Growing.{HasPlace, tree_change}
 use Rattle.view_lookup.specs.Labelling.{HasLabelRoom}
 use Rattle.view_lookup.specs.Listings.{HasListing, Versions, listing_made}
 use Rattle.view_lookup.specs.SetSpecs.{rules_set_if_short}
-use Rattle.view_lookup.specs.Subjects.{borne, catalog_subjects, key}
+use Rattle.view_lookup.specs.Subjects.{borne, keys_of}
 
 -- A base, and for how many more marks there is room; the trees of its versions and its labels with their room; a name that is
 -- kept for a branch, and rules for a config spec; for how many more config specs there is room; versions that are kept for an
--- object, and for how many more objects there is room; by which hashing
--- things have keys, and the keys that are kept of what a row changes of catalogs.
+-- object, and for how many more objects there is room; by which hashing things have keys, and the keys that are kept for a row.
 pub record Shown : Type 0 where
   pub base : Base
   pub room : ℕ
@@ -43,4 +42,4 @@ pub record HasRoom (shown : Shown) (deed : Deed) : Type 0 where
   pub spec_room : 1 ≤ shown.spec_room
   pub listing : HasListing shown.listing (listing_made shown.base deed)
   pub listing_room : 1 ≤ shown.listing_room
-  pub keys : shown.keys ≡ map (key shown.hashing) (catalog_subjects shown.base deed)
+  pub keys : shown.keys ≡ keys_of shown.hashing shown.base deed

@@ -1,7 +1,7 @@
 //! The rows of a base, with the marks by which those that bear on a subject are found, with the trees of versions, with the
 //! labels, with the config specs and with what the records of objects list.
 
-ghost use Rattle.std.specs.Prelude.{◌≡◌, ◌≤◌, ◌∷◌, [], ℕ, List, length, map, reverse, true, IfOk, IfSome, OnOk};
+ghost use Rattle.std.specs.Prelude.{◌≡◌, ◌≤◌, ◌∷◌, [], ℕ, List, length, true, IfOk, IfSome, OnOk};
 ghost use Rattle.std.specs.Option.{option_and_then, option_copied};
 ghost use Rattle.cc_names.specs.Labels.{holder, labels_of_first_rows};
 ghost use Rattle.cc_names.specs.Versions.{of_first_rows, version_id};
@@ -13,21 +13,20 @@ ghost use Rattle.legal_history.specs.Base.Fits.{fits, is_base, row_limit};
 ghost use Rattle.view_lookup.specs.Labelling.{HasLabelRoom};
 ghost use Rattle.view_lookup.specs.Listings.{HasListing, listing_made, versions_of};
 ghost use Rattle.view_lookup.specs.LookUps.{last_of, newest, oldest};
+ghost use Rattle.view_lookup.specs.Order.{oldest_first};
 ghost use Rattle.view_lookup.specs.SetSpecs.{rules_set, rules_set_if_short};
 ghost use Rattle.view_lookup.specs.Shown.{HasRoom, HasTreeRoom};
-ghost use Rattle.view_lookup.specs.Subjects.{borne, catalog_subjects, key};
+ghost use Rattle.view_lookup.specs.Subjects.{borne, keys_of};
 ghost use Rattle.view_lookup.specs.Walks.{all_told};
 
-use crate::catalog_keys::catalog_keys;
 use crate::growth::{grow, growth_of, reserve_growth};
 use crate::labels::{relabel, reserve_labels};
 use crate::listings::{Versions, keep_listing, listing_made};
 use crate::look_ups::{LookUp, left_by, set_at, told_at};
-use crate::marks::{Link, mark_all, mark_keys, sum_of};
-use crate::numbered::row_of;
+use crate::marks::{Link, mark_keys};
+use crate::row_keys::keys_of;
 use crate::seen_files::{Views, put_seen, see_ahead, take_seen};
 use crate::skips::first_below;
-use crate::subjects::{count_subjects, named_targets, reserved_branch};
 use crate::view_specs::{Parsed, keep_spec, read_given, spec_of};
 use crate::walks::add_told;
 use cc_names::changes::VersionId;
@@ -62,7 +61,7 @@ pub struct Rows {
     listings: HashMap<u64, Versions>,
     // What the record of an object lists, before its row is added.
     listing: Option<Versions>,
-    // The keys of what a row changes of catalogs, before it is added.
+    // The keys for which a row is marked, before it is added.
     keys: Vec<u64>,
     // Files that views were seen to have in some first rows.
     seen: Views,
@@ -186,15 +185,10 @@ impl Rows {
         ensures row { OnOk result (1 ≤ self.new.room) }
         ensures marks { OnOk result (length (borne self.new.base deed.now) ≤ self.new.room) }
         ensures keys { OnOk result
-            (self.new.keys
-            ≡ map (key self.new.hashing) (catalog_subjects self.new.base deed.now)) }
+            (self.new.keys ≡ keys_of self.new.hashing self.new.base deed.now) }
     {
-        let keys = catalog_keys(self.alloc, self.hashing, &self.all(), deed)?;
-        let number = self.rows.len() as u64 + 1;
-        let branch = reserved_branch(&self.all(), deed);
-        let targets = named_targets(self.rows.as_slice(), deed);
-        let plain = count_subjects(number, targets, branch, deed);
-        let count = sum_of(keys.len(), plain)?.max(1);
+        let keys = keys_of(self.alloc, self.hashing, &self.all(), deed)?;
+        let count = keys.len().max(1);
         self.rows.reserve(count)?;
         self.links.reserve(count)?;
         self.newest.reserve(count)?;
@@ -210,7 +204,6 @@ impl Rows {
         ensures { self.new.base ≡ row ∷ self.old.base }
     {
         let growth = growth_of(&self.all(), row.deed());
-        let branch = reserved_branch(&self.all(), row.deed());
         let number = self.rows.len() as u64 + 1;
         grow(
             &mut self.tree,
@@ -219,21 +212,11 @@ impl Rows {
             growth,
             self.name.take(),
         );
-        let targets = named_targets(self.rows.as_slice(), row.deed());
         mark_keys(
             &mut self.links,
             &mut self.newest,
             number,
             self.keys.as_slice(),
-        );
-        mark_all(
-            self.hashing,
-            &mut self.links,
-            &mut self.newest,
-            number,
-            targets,
-            branch,
-            row.deed(),
         );
         relabel(&mut self.labels, number, row.deed());
         keep_spec(&mut self.specs, number, self.spec.take());
@@ -280,7 +263,7 @@ impl Rows {
 
     /// The rows alone, from row 1 on.
     pub fn into_vec(self) -> Vec<Row>
-        ensures { result.items ≡ reverse self.base }
+        ensures { result.items ≡ oldest_first self.base }
     {
         let Rows {
             hashing: _,
@@ -325,7 +308,8 @@ impl<'a> Model for FirstRows<'a> {
 pub fn row_at<'a>(rows: &FirstRows<'a>, number: u64) -> Option<&'a Row>
     ensures { option_copied result ≡ row_at rows.now number }
 {
-    row_of(rows.as_slice(), number)
+    let index = number.checked_sub(1)?;
+    rows.as_slice().get(index as usize)
 }
 
 /// The first rows of a base, `count` of them with row 0. Takes constant time.
@@ -425,7 +409,7 @@ impl<'a> FirstRows<'a> {
 
     /// The rows from row 1 on.
     pub fn as_slice(&self) -> &'a [Row]
-        ensures { reverse result.now ≡ self.now }
+        ensures { result.now ≡ oldest_first self.now }
     {
         let base = self.base;
         &base.rows.as_slice()[..self.count]

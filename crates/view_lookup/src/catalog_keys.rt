@@ -1,18 +1,17 @@
 //! The keys of what the next row changes of catalogs.
 
-ghost use Rattle.std.specs.Prelude.{◌≡◌, ◌++◌, Some, map, option_to_list, reverse, IfOk, OnOk};
+ghost use Rattle.std.specs.Prelude.{◌≡◌, ◌++◌, Some, map, option_to_list, IfOk, OnOk};
 ghost use Rattle.std.specs.Option.{option_copied};
 ghost use Rattle.legal_history.specs.Base.Rows.{deed_at};
 ghost use Rattle.view_lookup.specs.Changed as changed;
 ghost use Rattle.view_lookup.specs.Subjects as model;
 
-use crate::bases::FirstRows;
+use crate::bases::{FirstRows, row_at};
 use crate::changed::{changing, checked_in_on, checked_in_rows};
-use crate::numbered::row_of;
 use crate::subjects::Subject;
 use cc_names::memory::NoMemory;
 use cc_names::names::Name;
-use cc_names::rows::{Deed, Row};
+use cc_names::rows::Deed;
 use std::alloc::Global;
 use std::hash::RandomState;
 
@@ -33,12 +32,12 @@ fn names_of(deed: &Deed) -> (Option<&Name>, Option<&Name>)
     }
 }
 
-/// The names that a row changes, among the rows from row 1 on.
-fn names_at(rows: &[Row], number: u64) -> (Option<&Name>, Option<&Name>)
-    ensures { changed.names_of_deed (deed_at (reverse rows.now) number)
+/// The names that the row of a number changes.
+fn names_at<'a>(rows: &FirstRows<'a>, number: u64) -> (Option<&'a Name>, Option<&'a Name>)
+    ensures { changed.names_of_deed (deed_at rows.now number)
         ≡ option_to_list (option_copied result.0) ++ option_to_list (option_copied result.1) }
 {
-    match row_of(rows, number) {
+    match row_at(rows, number) {
         None => (None, None),
         Some(row) => names_of(row.deed()),
     }
@@ -69,14 +68,14 @@ fn push_names(
     hashing: RandomState,
     keys: &mut Vec<u64>,
     branch: u64,
-    rows: &[Row],
+    rows: &FirstRows<'_>,
     number: u64,
 ) -> Result<(), NoMemory>
     ensures { OnOk result
         (keys.new.items
         ≡ keys.old.items
         ++ map (model.key hashing)
-        (map (model.Altered branch) (changed.names_of_deed (deed_at (reverse rows.now) number)))) }
+        (map (model.Altered branch) (changed.names_of_deed (deed_at rows.now number)))) }
 {
     let (first, second) = names_at(rows, number);
     push_name(hashing, keys, branch, first)?;
@@ -88,14 +87,14 @@ fn push_altered(
     hashing: RandomState,
     keys: &mut Vec<u64>,
     branch: u64,
-    rows: &[Row],
+    rows: &FirstRows<'_>,
     numbers: &[u64],
 ) -> Result<(), NoMemory>
     ensures { OnOk result
         (keys.new.items
         ≡ keys.old.items
         ++ map (model.key hashing)
-        (map (model.Altered branch) (changed.names_by (reverse rows.now) numbers.now))) }
+        (map (model.Altered branch) (changed.names_by rows.now numbers.now))) }
 {
     for number in numbers {
         push_names(hashing, keys, branch, rows, *number)?;
@@ -143,7 +142,7 @@ fn push_version(
         None => Ok(()),
         Some(branch) => {
             let numbers = checked_in_rows(alloc, rows, deed)?;
-            push_altered(hashing, keys, branch, rows.as_slice(), numbers.as_slice())
+            push_altered(hashing, keys, branch, rows, numbers.as_slice())
         }
     }
 }

@@ -12,7 +12,7 @@ ghost use Rattle.legal_history.specs.Base.Rows.{only_where};
 ghost use Rattle.view_lookup.specs.Listings.{HasListing, greater, listing_made, versions_of, with_listing};
 
 use crate::bases::{FirstRows, row_at};
-use crate::numbered::targets_of;
+use crate::objects::targets_of;
 use cc_names::memory::NoMemory;
 use cc_names::paths::Path;
 use cc_names::rows::{Deed, ReadOf};
@@ -157,7 +157,7 @@ pub(crate) fn keep_listing(
 fn has_target(rows: &FirstRows<'_>, object: u64, target: &Path) -> bool
     ensures { result ≡ is_among target.now (targets_of rows.now object) }
 {
-    targets_of(rows.as_slice(), object)
+    targets_of(rows, object)
         .iter()
         .any(|path| target.as_bytes() == path.as_bytes())
 }

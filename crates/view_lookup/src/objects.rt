@@ -1,18 +1,18 @@
 //! The objects that a view holds, and which objects there are.
 
 ghost use Rattle.std.specs.Prelude.{◌≡◌, ◌==◌, option_map};
-ghost use Rattle.std.specs.List.{list_any};
+ghost use Rattle.std.specs.List.{AllByRecursion, list_any};
+ghost use Rattle.cc_names.specs.Formed.{IsBelowRoot};
 ghost use Rattle.cc_names.specs.References.{held_at};
-ghost use Rattle.legal_history.specs.Base.Changes.{held, live};
+ghost use Rattle.legal_history.specs.Base.Changes.{held, live, targets_of};
 ghost use Rattle.legal_history.specs.Builds.Reuse.{held_at_all, held_at_each};
 ghost use Rattle.view_lookup.specs.Effects.{gone_effect};
 ghost use Rattle.view_lookup.specs.Lifetimes.{number_of};
 ghost use Rattle.view_lookup.specs.LookUps.{newest};
 ghost use Rattle.view_lookup.specs.Made.{is_target};
 
-use crate::bases::FirstRows;
+use crate::bases::{FirstRows, row_at};
 use crate::look_ups::{Does, LookUp, only_if, within};
-use crate::numbered::targets_of;
 use crate::subjects::Subject;
 use crate::views::{same_name, same_view_path};
 use cc_names::names::Name;
@@ -25,6 +25,20 @@ pub(crate) fn is_target(path: &Path, targets: &[Path]) -> bool
     targets
         .iter()
         .any(|target| target.as_bytes() == path.as_bytes())
+}
+
+/// The targets of the object of this number. Takes constant time.
+pub fn targets_of<'a>(rows: &FirstRows<'a>, object: u64) -> &'a [Path]
+    ensures targets { result.now ≡ targets_of rows.now object }
+    ensures below { AllByRecursion IsBelowRoot result.now }
+{
+    match row_at(rows, object) {
+        Some(row) => match row.deed() {
+            Deed::Publish { targets, .. } => targets.as_slice(),
+            _ => &[],
+        },
+        None => &[],
+    }
 }
 
 /// Where what a view holds ends.
@@ -83,8 +97,7 @@ impl LookUp for ObjectOf<'_> {
                 Does::Sets(older.size()),
             ),
             Deed::Wink { view, object } => only_if(
-                same_name(self.view, view)
-                    && is_target(self.path, targets_of(older.as_slice(), *object)),
+                same_name(self.view, view) && is_target(self.path, targets_of(older, *object)),
                 Does::Sets(*object),
             ),
             Deed::Drop { view, path } => {

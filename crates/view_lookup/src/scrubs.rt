@@ -10,8 +10,7 @@ ghost use Rattle.view_lookup.specs.Walks.{all_told};
 
 use crate::bases::{FirstRows, row_at};
 use crate::look_ups::{Does, LookUp, only_if};
-use crate::numbered::targets_of;
-use crate::objects::{held, live};
+use crate::objects::{held, live, targets_of};
 use crate::subjects::Subject;
 use crate::trees::is_number;
 use cc_names::memory::NoMemory;
@@ -50,7 +49,7 @@ impl LookUp for WinkedOf<'_> {
     fn effect(&self, older: &FirstRows<'_>, deed: &Deed) -> Does<u64> {
         match deed {
             Deed::Wink { view, object } => {
-                let targets = targets_of(older.as_slice(), *object);
+                let targets = targets_of(older, *object);
                 only_if(
                     *object == self.object && holds_one(self.rows, view, self.object, targets),
                     Does::Sets(*object),

@@ -1,17 +1,17 @@
 //! What rows bear on, and the keys by which the rows are found.
 
-ghost use Rattle.std.specs.Prelude.{◌≡◌, ◌+◌, ◌<◌, ◌≤◌, ◌^◌, ◌∷◌, [], IfSome, length, map, option_map, reverse};
+ghost use Rattle.std.specs.Prelude.{◌≡◌, ◌+◌, ◌<◌, ◌≤◌, ◌^◌, ◌∷◌, [], IfSome, map, option_map};
 ghost use Rattle.std.specs.List.{slice_get};
 ghost use Rattle.view_lookup.specs.Subjects as model;
 
 use crate::bases::FirstRows;
 use crate::number_keys::{key_by_one, key_by_paths, key_by_three, key_with, key_within};
-use crate::numbered::targets_of;
+use crate::objects::targets_of;
 use crate::trees::branch_of_version;
 use cc_names::keys::{key_at, key_of};
 use cc_names::names::Name;
 use cc_names::paths::Path;
-use cc_names::rows::{Deed, Out, Placed, Row};
+use cc_names::rows::{Deed, Out, Placed};
 use std::hash::RandomState;
 
 /// Something on which rows bear: they say what has become of it.
@@ -253,9 +253,9 @@ fn living_at<'a>(objects: &[u64], index: usize) -> Option<Subject<'a>>
     Some(Subject::Living(*object))
 }
 
-/// The targets of the object that a deed names, among the rows from row 1 on. Takes constant time.
-pub(crate) fn named_targets<'a>(rows: &'a [Row], deed: &Deed) -> &'a [Path]
-    ensures { result.now ≡ model.named_targets (reverse rows.now) deed.now }
+/// The targets of the object that the next row names, where it is of this deed. Takes constant time.
+pub(crate) fn named_targets<'a>(rows: &FirstRows<'a>, deed: &Deed) -> &'a [Path]
+    ensures { result.now ≡ model.named_targets rows.now deed.now }
 {
     match deed {
         Deed::Wink { object, .. } => targets_of(rows, *object),
@@ -396,23 +396,6 @@ pub(crate) fn subject_at<'a>(
         Deed::Labels { placed, .. } => placed_at(placed.as_slice(), index),
         _ => object_subject_at(number, targets, branch, deed, index),
     }
-}
-
-/// How many subjects a deed bears on, where the object that it names has these targets and its checkout reserves this branch.
-/// Takes time linear in them.
-pub(crate) fn count_subjects(
-    number: u64,
-    targets: &[Path],
-    branch: Option<u64>,
-    deed: &Deed,
-) -> usize
-    ensures { result ≡ length (model.subjects number targets.now branch deed.now) }
-{
-    let mut count = 0;
-    while let Some(_subject) = subject_at(number, targets, branch, deed, count) {
-        count += 1;
-    }
-    count
 }
 
 impl Subject<'_> {

@@ -1,6 +1,6 @@
 //! The config specs of views.
 
-ghost use Rattle.std.specs.Prelude.{◌≡◌, ◌<◌, IfOk, map, reverse, vec_len, vec_capacity};
+ghost use Rattle.std.specs.Prelude.{◌≡◌, ◌<◌, IfOk, map, vec_len, vec_capacity};
 ghost use Rattle.std.specs.Option.{option_copied};
 ghost use Rattle.cc_names.specs.Falling.{Falls};
 ghost use Rattle.legal_history.specs.Base.Seen.{rules};
@@ -8,6 +8,7 @@ ghost use Rattle.legal_history.specs.Base.Views.{spec_text};
 ghost use Rattle.view_lookup.specs.Effects.{spec_row_effect};
 ghost use Rattle.view_lookup.specs.LookUps.{last_of};
 ghost use Rattle.view_lookup.specs.Made.{spec_made};
+ghost use Rattle.view_lookup.specs.Order.{newest_first};
 ghost use Rattle.view_lookup.specs.SetSpecs.{or_no_rules, parsed_if_short, row_of_parsed, rules_at, rules_set_if_short, with_spec};
 
 use crate::bases::{FirstRows, row_at};
@@ -127,7 +128,7 @@ pub(crate) fn read_given(alloc: Global, deed: &Deed) -> Result<Option<Spec>, NoM
 /// Keeps the rules that a row gives to its view, where it gives any.
 pub(crate) fn keep_spec(specs: &mut Vec<Parsed>, row: u64, spec: Option<Spec>)
     requires room { vec_len specs.old < vec_capacity specs.old }
-    ensures { reverse specs.new.items ≡ with_spec row spec (reverse specs.old.items) }
+    ensures { newest_first specs.new.items ≡ with_spec row spec (newest_first specs.old.items) }
 {
     match spec {
         None => {}
@@ -137,8 +138,8 @@ pub(crate) fn keep_spec(specs: &mut Vec<Parsed>, row: u64, spec: Option<Spec>)
 
 /// The rules that the row of this number gave, among config specs. Takes time logarithmic in them.
 pub(crate) fn spec_of(specs: &[Parsed], row: u64) -> Option<&Spec>
-    requires falling { Falls (map row_of_parsed (reverse specs.now)) }
-    ensures { option_copied result ≡ rules_at row (reverse specs.now) }
+    requires falling { Falls (map row_of_parsed (newest_first specs.now)) }
+    ensures { option_copied result ≡ rules_at row (newest_first specs.now) }
 {
     let parsed = item_of(specs, row)?;
     Some(&parsed.spec)

@@ -26,7 +26,7 @@ fn paths_by<'a>(rows: &FirstRows<'a>, number: u64) -> &'a [Path]
         Some(row) => match row.deed() {
             Deed::Put { path, .. } => slice::from_ref(path),
             Deed::Publish { targets, .. } => targets.as_slice(),
-            Deed::Wink { object, .. } => targets_of(rows.as_slice(), *object),
+            Deed::Wink { object, .. } => targets_of(rows, *object),
             _ => &[],
         },
     }

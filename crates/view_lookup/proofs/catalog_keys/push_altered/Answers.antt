@@ -1,7 +1,7 @@
 -- The keys of one row after the other are added.
-use Rattle.std.proofs.Common.{ℕ, ◌+◌, List, ◌++◌, drop, get_or, append-nil, append_assoc, reverse, ap, sym, ◌∙◌}
+use Rattle.std.proofs.Common.{ℕ, ◌+◌, List, ◌++◌, drop, get_or, append-nil, append_assoc, ap, sym, ◌∙◌}
 use Rattle.std.proofs.lemmas.List.{at_drop_all, at_drop_more}
-use Rattle.legal_history.specs.Base.Rows.{Base, deed_at}
+use Rattle.legal_history.specs.Base.Rows.{deed_at}
 use Rattle.view_lookup.specs.Changed.{names_by, names_of_deed}
 use Rattle.view_lookup.proofs.KeysAdded.{keys_of_names, names_parted}
 use Rattle.view_lookup.proofs.catalog_keys.push_altered.Goals as goal
@@ -11,7 +11,7 @@ loop-number-preserved c =
     let numbers = c.args.numbers.now in
     let i = c.loop-number.number-index in
     let keys = c.loop-number.keys.items in
-    let b : Base = reverse c.args.rows.now in
+    let b = c.args.rows.now in
     let n = get_or numbers i 0 in
     let rest = keys_of_names c.args.hashing c.args.branch (names_by b (drop (i + 1) numbers)) in
     ap (λ (added : List ℕ). added ++ rest) c.in_ok-push_names.ensures
@@ -22,7 +22,7 @@ loop-number-preserved c =
 
 pub returns : goal.returns
 returns c =
-    let b : Base = reverse c.args.rows.now in
+    let b = c.args.rows.now in
     let keys = c.loop-number.keys.items in
     sym (append-nil keys)
     ∙ sym (at_drop_all (λ (left : List ℕ). keys ++ keys_of_names c.args.hashing c.args.branch (names_by b left)) c.args.numbers.now c.loop-number.number-index c.loop-number-test.false)

@@ -1,4 +1,4 @@
-use Rattle.std.proofs.Common.{◌≡◌, ◌++◌, map, drop, reverse}
+use Rattle.std.proofs.Common.{◌≡◌, ◌++◌, map, drop}
 use Rattle.view_lookup.specs.Changed.{names_by}
 use Rattle.view_lookup.specs.Subjects.{Altered, key}
 use Rattle.view_lookup.proofs.catalog_keys.push_altered.Given as goal
@@ -6,5 +6,5 @@ use Rattle.view_lookup.proofs.catalog_keys.push_altered.Given as goal
 -- the keys so far, and then those of the names that are left
 abbrev pub invariant-loop-number : goal.invariant-loop-number
 invariant-loop-number l =
-    l.keys.items ++ map (key l.hashing) (map (Altered l.branch) (names_by (reverse l.rows) (drop l.number-index l.numbers)))
-    ≡ l.initial.keys.items ++ map (key l.hashing) (map (Altered l.branch) (names_by (reverse l.rows) l.numbers))
+    l.keys.items ++ map (key l.hashing) (map (Altered l.branch) (names_by l.rows (drop l.number-index l.numbers)))
+    ≡ l.initial.keys.items ++ map (key l.hashing) (map (Altered l.branch) (names_by l.rows l.numbers))

@@ -1,5 +1,6 @@
 -- The first rows stand first in the list of all.
-use Rattle.std.proofs.Common.{suc, reverse, take, ap, ◌∙◌}
+use Rattle.std.proofs.Common.{suc, reverse, take, ap, sym, ◌∙◌}
+use Rattle.std.proofs.lemmas.List.{reverse-reverse}
 use Rattle.legal_history.specs.Base.Rows.{Base, first_rows}
 use Rattle.view_lookup.specs.Shown.{Shown}
 use Rattle.view_lookup.proofs.Fronts.{first_of_slice}
@@ -8,7 +9,9 @@ use Rattle.view_lookup.proofs.bases.FirstRows.as_slice.Goals as goal
 pub returns : goal.returns
 returns c =
     let count = c.self.inside.count in
-    ap (λ (rows : Base). reverse (take count rows)) c.as_slice.ensures.value
-    ∙ first_of_slice c.base.inside.rows.items count
+    let first : Base = take count c.base.inside.rows.items in
+    ap (λ (rows : Base). take count rows) c.as_slice.ensures.value
+    ∙ sym (reverse-reverse first)
+    ∙ ap (λ (rows : Base). reverse rows) (first_of_slice c.base.inside.rows.items count
     ∙ ap (λ (shown : Shown). first_rows (suc count) shown.base) c.base.view_is
-    ∙ c.self.view_is
+    ∙ c.self.view_is)

@@ -3,10 +3,9 @@ use Rattle.std.proofs.Common.{◌≡◌, ℕ, ◌+◌, ◌≤◌, ◌==◌, ◌&
 use Rattle.std.proofs.lemmas.Grind.{common_steps}
 use Rattle.std.proofs.lemmas.List.{length-reverse, reverse-append}
 use Rattle.std.specs.HashMap.{get}
-use Rattle.std.specs.declared.random_state.RandomState.{RandomState}
 use Rattle.cc_names.specs.Falling.{IsAbove}
 use Rattle.cc_names.specs.Formed.{IsDeedFormed, Plain}
-use Rattle.cc_names.specs.Versions.{put_if, row_of_change}
+use Rattle.cc_names.specs.Versions.{row_of_change}
 use Rattle.cc_names.specs.declared.changes.LabelChange.{LabelChange}
 use Rattle.cc_names.specs.declared.changes.TreeChange.{TreeChange}
 use Rattle.cc_names.specs.declared.rows.Deed.{Deed}
@@ -17,11 +16,11 @@ use Rattle.legal_history.specs.Base.Rows.{Base, size}
 use Rattle.view_lookup.specs.Growing.{HasPlace, change_of, tree_change, with_change}
 use Rattle.view_lookup.specs.Labelling.{AreLabels, HasLabelRoom}
 use Rattle.view_lookup.specs.Listings.{AreListings, HasListing, Versions, listing_made, version_in, versions_of, with_listing}
-use Rattle.view_lookup.specs.Marked.{IsMarked, marked, rows_by, with_marks}
+use Rattle.view_lookup.specs.Marked.{IsMarked, rows_by, with_marks}
 use Rattle.view_lookup.specs.SeenFiles.{AreSeenByViews}
 use Rattle.view_lookup.specs.SetSpecs.{rules_set, specs_set, with_spec}
 use Rattle.view_lookup.specs.Shown.{Shown}
-use Rattle.view_lookup.specs.Subjects.{Subject, catalog_subjects, key, named_targets, plain_subjects, reserved_branch, subjects}
+use Rattle.view_lookup.specs.Subjects.{keys_of}
 use Rattle.legal_history.proofs.Bases.Owned.{and_second}
 use Rattle.view_lookup.proofs.FilesSeen.{seen_more}
 use Rattle.view_lookup.proofs.Growths.{above_tree, tree_by_change}
@@ -29,35 +28,6 @@ use Rattle.view_lookup.proofs.Labellings.{above_labels, after_same, same_twice}
 use Rattle.view_lookup.proofs.ListingsStay.{listings_more}
 use Rattle.view_lookup.proofs.SpecsSet.{set_short}
 use Rattle.view_lookup.proofs.bases.Rows.push.Goals as goal
-
--- marks for some keys and then for others are marks for all
-marks_then : (n q : ℕ) (keys others rows : List ℕ) → with_marks n q (keys ++ others) rows ≡ with_marks n q others (with_marks n q keys rows)
-marks_then n q [] others rows = refl
-marks_then n q (k ∷ keys) others rows = marks_then n q keys others (put_if (k == q) n rows)
-
-map_both : (hashing : RandomState) (one two : List Subject) → map (key hashing) (one ++ two) ≡ map (key hashing) one ++ map (key hashing) two
-map_both hashing [] two = refl
-map_both hashing (subject ∷ one) two = ap (λ rest. key hashing subject ∷ rest) (map_both hashing one two)
-
--- what a row bears on beside catalogs, as code tells it
-same_subjects : (n : ℕ) (targets : List (List ℕ)) (branch : Option ℕ) (deed : Deed) (row : Plain) (older : Base) → n ≡ size older → targets ≡ named_targets older row.deed → branch ≡ reserved_branch older row.deed → deed ≡ row.deed
-    → subjects n targets branch deed ≡ plain_subjects older row.deed
-same_subjects n targets branch deed row older number named reserved same =
-    ap (λ m. subjects m targets branch deed) number
-    ∙ ap (λ ts. subjects (size older) ts branch deed) named
-    ∙ ap (λ own. subjects (size older) (named_targets older row.deed) own deed) reserved
-    ∙ ap (λ d. subjects (size older) (named_targets older row.deed) (reserved_branch older row.deed) d) same
-
--- the marks of one row more
-marked_more : (hashing : RandomState) (n : ℕ) (plain : List Subject) (row : Plain) (older : Base) (q : ℕ) (rows : List ℕ) → n ≡ size older → plain ≡ plain_subjects older row.deed
-    → rows ≡ with_marks (size older) q (map (key hashing) (catalog_subjects older row.deed)) (marked hashing q older)
-    → with_marks n q (map (key hashing) plain) rows ≡ marked hashing q (row ∷ older)
-marked_more hashing n plain row older q rows number same before =
-    ap (λ m. with_marks m q (map (key hashing) plain) rows) number
-    ∙ ap (λ all. with_marks (size older) q (map (key hashing) all) rows) same
-    ∙ ap (with_marks (size older) q (map (key hashing) (plain_subjects older row.deed))) before
-    ∙ sym (ap (λ keys. with_marks (size older) q keys (marked hashing q older)) (map_both hashing (catalog_subjects older row.deed) (plain_subjects older row.deed))
-    ∙ marks_then (size older) q (map (key hashing) (catalog_subjects older row.deed)) (map (key hashing) (plain_subjects older row.deed)) (marked hashing q older))
 
 pub grow-requires-clause-above : goal.grow-requires-clause-above
 grow-requires-clause-above c =
@@ -94,10 +64,10 @@ relabel-requires-clause-above c = λ l e.
 pub relabel-requires-clause-room : goal.relabel-requires-clause-room
 relabel-requires-clause-room c =
     let kept = subst (λ (shown : Shown). HasLabelRoom shown.labels c.args.row.deed) (sym c.self.view_is) c.requires.room.labels in
-    subst (λ (deed : Deed). HasLabelRoom c.self.inside.labels deed) (sym c.deed-5.ensures.deed) kept
+    subst (λ (deed : Deed). HasLabelRoom c.self.inside.labels deed) (sym c.deed-2.ensures.deed) kept
 
 pub relabel-requires-clause-formed : goal.relabel-requires-clause-formed
-relabel-requires-clause-formed c = subst IsDeedFormed (sym c.deed-5.ensures.deed) c.deed-5.ensures.formed.deed
+relabel-requires-clause-formed c = subst IsDeedFormed (sym c.deed-2.ensures.deed) c.deed-2.ensures.formed.deed
 
 pub keep_spec-requires : goal.keep_spec-requires
 keep_spec-requires c =
@@ -122,39 +92,28 @@ invariant_of-self c =
     let back : reverse c.push_reserved.new.self.items ≡ row ∷ older = ap reverse c.push_reserved.ensures.items ∙ reverse-append c.self.inside.rows.items (row ∷ []) in
     let fitting : fits older row.deed ≡ true = subst (λ (b : Base). fits b row.deed ≡ true) (sym base_is) c.requires.fits in
     let based : is_base (row ∷ older) ≡ true = ap₂ (λ one two. one && two) fitting c.self.invariant.fitting in
-    let named : c.named_targets-targets.result.now ≡ named_targets older row.deed =
-    c.named_targets-targets.ensures
-    ∙ ap (λ (rows : Base). named_targets (reverse rows) c.deed-3.result.now) c.as_slice.ensures.value
-    ∙ ap (named_targets older) c.deed-3.ensures.deed in
-    let reserved : c.reserved_branch-branch.result ≡ reserved_branch older row.deed =
-    c.reserved_branch-branch.ensures ∙ ap₂ (λ (b : Base) deed. reserved_branch b deed) (c.all-2.ensures ∙ sym base_is) c.deed-2.ensures.deed in
     let change : change_of (c.len.result + 1) moment growth ≡ tree_change older row.moment row.deed =
     ap (λ n. change_of n moment growth) (number ∙ ap (λ (b : Base). size b) (base_is ∙ sym c.all.ensures))
     ∙ c.growth_of-growth.ensures.change moment
     ∙ ap₂ (λ (b : Base) deed. tree_change b moment deed) (c.all.ensures ∙ sym base_is) c.deed.ensures.deed
     ∙ ap (λ at. tree_change older at row.deed) c.moment.ensures in
-    let chained = c.mark_keys.ensures.marks.chained c.self.invariant.marks.chained in
-    let keys : c.as_slice-2.result.now ≡ map (key hashing) (catalog_subjects older row.deed) =
-    c.as_slice-2.ensures.value ∙ subst (λ (shown : Shown). shown.keys ≡ map (key shown.hashing) (catalog_subjects shown.base row.deed)) (sym c.self.view_is) c.requires.room.keys in
-    let before : (q : ℕ) → rows_by c.mark_keys.new.links.items (get nat_eq c.mark_keys.new.newest) q ≡ with_marks (size older) q (map (key hashing) (catalog_subjects older row.deed)) (marked hashing q older) = λ q.
-    c.mark_keys.ensures.marks.rows c.self.invariant.marks.chained q
-    ∙ ap₂ (λ n ks. with_marks n q ks (rows_by c.self.inside.links.items (get nat_eq c.self.inside.newest) q)) number keys
-    ∙ ap (with_marks (size older) q (map (key hashing) (catalog_subjects older row.deed))) (c.self.invariant.marks.rows q) in
-    let marks : IsMarked hashing c.mark_all.new.links.items (get nat_eq c.mark_all.new.newest) (row ∷ older) = record {
-      chained = c.mark_all.ensures.chained chained;
+    let keys : c.as_slice.result.now ≡ keys_of hashing older row.deed =
+    c.as_slice.ensures.value ∙ subst (λ (shown : Shown). shown.keys ≡ keys_of shown.hashing shown.base row.deed) (sym c.self.view_is) c.requires.room.keys in
+    let marks : IsMarked hashing c.mark_keys.new.links.items (get nat_eq c.mark_keys.new.newest) (row ∷ older) = record {
+      chained = c.mark_keys.ensures.marks.chained c.self.invariant.marks.chained;
       rows = λ q.
-          c.mark_all.ensures.rows chained q
-          ∙ marked_more hashing (c.len.result + 1) (subjects (c.len.result + 1) c.named_targets-targets.result.now c.reserved_branch-branch.result c.deed-4.result.now) row older q _ number
-          (same_subjects (c.len.result + 1) c.named_targets-targets.result.now c.reserved_branch-branch.result c.deed-4.result.now row older number named reserved c.deed-4.ensures.deed) (before q);
+          c.mark_keys.ensures.marks.rows c.self.invariant.marks.chained q
+          ∙ ap₂ (λ n ks. with_marks n q ks (rows_by c.self.inside.links.items (get nat_eq c.self.inside.newest) q)) number keys
+          ∙ ap (with_marks (size older) q (keys_of hashing older row.deed)) (c.self.invariant.marks.rows q);
     } in
     let kept = c.self.inside.labels.changes in
-    let at_number : labels_after (c.len.result + 1) c.deed-5.result.now (labels older) ≡ labels (row ∷ older) =
-    ap₂ (λ n deed. labels_after n deed (labels older)) number c.deed-5.ensures.deed in
-    let labelled : AreLabels c.relabel.new.book.changes (labels_after (c.len.result + 1) c.deed-5.result.now (labels older)) =
-    same_twice c.relabel.new.book.changes (labels_after (c.len.result + 1) c.deed-5.result.now kept) (labels_after (c.len.result + 1) c.deed-5.result.now (labels older))
-    c.relabel.ensures (after_same (c.len.result + 1) c.deed-5.result.now kept (labels older) c.self.invariant.labelled) in
+    let at_number : labels_after (c.len.result + 1) c.deed-2.result.now (labels older) ≡ labels (row ∷ older) =
+    ap₂ (λ n deed. labels_after n deed (labels older)) number c.deed-2.ensures.deed in
+    let labelled : AreLabels c.relabel.new.book.changes (labels_after (c.len.result + 1) c.deed-2.result.now (labels older)) =
+    same_twice c.relabel.new.book.changes (labels_after (c.len.result + 1) c.deed-2.result.now kept) (labels_after (c.len.result + 1) c.deed-2.result.now (labels older))
+    c.relabel.ensures (after_same (c.len.result + 1) c.deed-2.result.now kept (labels older) c.self.invariant.labelled) in
     let given : c.take-2.result ≡ rules_set row.deed =
-    c.take-2.ensures.value ∙ ap (λ (shown : Shown). shown.spec) c.self.view_is ∙ c.requires.room.spec ∙ set_short row.deed c.deed-5.ensures.formed.deed in
+    c.take-2.ensures.value ∙ ap (λ (shown : Shown). shown.spec) c.self.view_is ∙ c.requires.room.spec ∙ set_short row.deed c.deed-2.ensures.formed.deed in
     let made = versions_of c.take-3.result in
     let listings : ℕ → Option Versions = λ id. versions_of (get nat_eq c.self.inside.listings id) in
     let own : HasListing made (listing_made older row.deed) =
@@ -162,7 +121,7 @@ invariant_of-self c =
     (subst (λ (shown : Shown). HasListing shown.listing (listing_made shown.base row.deed)) (sym c.self.view_is) c.requires.room.listing) in
     record {
       fitting = ap is_base back ∙ based;
-      marks = subst (λ (b : Base). IsMarked hashing c.mark_all.new.links.items (get nat_eq c.mark_all.new.newest) b) (sym back) marks;
+      marks = subst (λ (b : Base). IsMarked hashing c.mark_keys.new.links.items (get nat_eq c.mark_keys.new.newest) b) (sym back) marks;
       trees = c.grow.ensures
           ∙ ap (λ added. with_change added c.self.inside.tree.changes) change
           ∙ ap (with_change (tree_change older row.moment row.deed)) c.self.invariant.trees
