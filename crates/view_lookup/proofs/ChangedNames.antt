@@ -32,7 +32,7 @@ use Rattle.view_lookup.specs.Changed.{alters, begins, begun, changed, changes, c
 use Rattle.view_lookup.specs.Lifetimes.{later}
 use Rattle.view_lookup.specs.Entries.{begun_effect, changed_effect, entry_effect}
 use Rattle.view_lookup.specs.Growing.{tree_change, with_change}
-use Rattle.view_lookup.specs.LookUps.{Deeds, Told, last_of, left_by, newest, told}
+use Rattle.view_lookup.specs.LookUps.{Deeds, Update, last_of, left_by, newest, told}
 use Rattle.view_lookup.specs.ToldOn.{altered_by}
 use Rattle.view_lookup.proofs.Endings.{newest_of_two}
 use Rattle.view_lookup.proofs.EntryRows.{below_newest, edit_at, edit_by, entry_by, entry_by_row}
@@ -97,7 +97,7 @@ own_rows effect test is (row ∷ older) =
     subst (λ does. IfSome (option_or (told (size older) does) (newest effect older)) (λ r. r.1 ≡ Some r.0)) (sym (is older row.deed))
     (by (test older row.deed) (newest effect older) (own_rows effect test is older))
   where
-    by : (here : Bool) (rest : Option (Told ℕ)) → IfSome rest (λ r. r.1 ≡ Some r.0) → IfSome (option_or (told (size older) (only_if here (Sets (size older)))) rest) (λ r. r.1 ≡ Some r.0)
+    by : (here : Bool) (rest : Option (Update ℕ)) → IfSome rest (λ r. r.1 ≡ Some r.0) → IfSome (option_or (told (size older) (only_if here (Sets (size older)))) rest) (λ r. r.1 ≡ Some r.0)
     by true rest h = refl
     by false rest h = h
 
@@ -110,7 +110,7 @@ begun_tells v d name b c began since =
     (own_rows (changed_effect v d name) (λ older deed. changes name (edit_of v d (size older) deed)) (λ older deed. refl) b)
     (sym (last_by_newest (begun_effect v d) b) ∙ began) (ap (is_since (Some c)) (sym (last_by_newest (changed_effect v d name) b)) ∙ since)
   where
-    by : (one two : Option (Told ℕ)) → IfSome one (λ r. r.1 ≡ Some r.0) → IfSome two (λ r. r.1 ≡ Some r.0) → left_by one ≡ Some c → is_since (Some c) (left_by two) ≡ false → left_by (later one two) ≡ Some c
+    by : (one two : Option (Update ℕ)) → IfSome one (λ r. r.1 ≡ Some r.0) → IfSome two (λ r. r.1 ≡ Some r.0) → left_by one ≡ Some c → is_since (Some c) (left_by two) ≡ false → left_by (later one two) ≡ Some c
     by None two own other is since = absurd (cc)
     by (Some one) None own other is since = is
     by (Some one) (Some two) own other is since =

@@ -6,9 +6,9 @@ use Rattle.std.proofs.lemmas.Bool.Decides.{nat_tests}
 use Rattle.cc_names.specs.Last.{Effect, Keeps, Ends, Sets, left}
 use Rattle.cc_names.specs.declared.rows.Deed.{Deed}
 use Rattle.legal_history.specs.Base.Rows.{Base, size, only_where}
-use Rattle.view_lookup.specs.Effects.{map_effect, map_told}
+use Rattle.view_lookup.specs.Effects.{map_effect, map_update}
 use Rattle.view_lookup.specs.Lifetimes.{number_of, ended_or, is_behind, within, later, or_else}
-use Rattle.view_lookup.specs.LookUps.{Deeds, Told, told, newest, last_of}
+use Rattle.view_lookup.specs.LookUps.{Deeds, Update, told, newest, last_of}
 use Rattle.view_lookup.proofs.Newest.{newest_below}
 
 behind_bound : (ended : Option ℕ) (n : ℕ) → IfSome ended (λ m. m < n) → is_behind ended n ≡ true
@@ -24,28 +24,28 @@ none_where true a h = h
 none_where false a h = refl
 
 -- nothing is left behind the end of the life
-gone : {A : Type 0} (n : ℕ) (row : Option (Told A)) → IfSome row (λ r. r.0 ≤ n) → None ≡ within (Some n) row
+gone : {A : Type 0} (n : ℕ) (row : Option (Update A)) → IfSome row (λ r. r.0 ≤ n) → None ≡ within (Some n) row
 gone n None below = refl
 gone n (Some row) below = sym (ap (λ is. only_where is row.1) (not_behind n row.0 below))
 
-at_most : {A : Type 0} (row : Option (Told A)) (n : ℕ) → IfSome row (λ r. r.0 < n) → IfSome row (λ r. r.0 ≤ n)
+at_most : {A : Type 0} (row : Option (Update A)) (n : ℕ) → IfSome row (λ r. r.0 < n) → IfSome row (λ r. r.0 ≤ n)
 at_most None n h = tt
 at_most (Some row) n h = omega arith
 
-told_here : {A : Type 0} (n : ℕ) (is : Effect A) (rows : Option (Told A)) → IfSome rows (λ r. r.0 < n) → IfSome (option_or (told n is) rows) (λ r. r.0 ≤ n)
+told_here : {A : Type 0} (n : ℕ) (is : Effect A) (rows : Option (Update A)) → IfSome rows (λ r. r.0 < n) → IfSome (option_or (told n is) rows) (λ r. r.0 ≤ n)
 told_here n Keeps rows h = at_most rows n h
 told_here n Ends rows h = omega arith
 told_here n (Sets a) rows h = omega arith
 
 -- the last end of a life
-abbrev pub ended_by : Option (Told ℕ) → Option ℕ
+abbrev pub ended_by : Option (Update ℕ) → Option ℕ
 ended_by row = option_map number_of row
 
-ended_below : (row : Option (Told ℕ)) (n : ℕ) → IfSome row (λ r. r.0 < n) → IfSome (ended_by row) (λ m. m < n)
+ended_below : (row : Option (Update ℕ)) (n : ℕ) → IfSome row (λ r. r.0 < n) → IfSome (ended_by row) (λ m. m < n)
 ended_below None n h = tt
 ended_below (Some row) n h = h
 
-step : {A : Type 0} (n : ℕ) (one : Effect ℕ) (two : Effect A) (before : Option A) (ends : Option (Told ℕ)) (rows : Option (Told A)) → IfSome ends (λ r. r.0 < n) → IfSome rows (λ r. r.0 < n)
+step : {A : Type 0} (n : ℕ) (one : Effect ℕ) (two : Effect A) (before : Option A) (ends : Option (Update ℕ)) (rows : Option (Update A)) → IfSome ends (λ r. r.0 < n) → IfSome rows (λ r. r.0 < n)
     → before ≡ within (ended_by ends) rows → left (ended_or one two) before ≡ within (ended_by (option_or (told n one) ends)) (option_or (told n two) rows)
 step n Ends two before ends rows h j same = gone n (option_or (told n two) rows) (told_here n two rows j)
 step n (Sets m) two before ends rows h j same = gone n (option_or (told n two) rows) (told_here n two rows j)
@@ -62,17 +62,17 @@ last_within all one two parts (row ∷ older) =
     ap (λ is. left is (last_of all older)) (parts older row.deed)
     ∙ step (size older) (one older row.deed) (two older row.deed) (last_of all older) (newest one older) (newest two older) (newest_below one older) (newest_below two older) (last_within all one two parts older)
 
-later_two : {A : Type 0} (ones : Option (Told A)) (row : Told A) → IfSome ones (λ r. r.0 < row.0) → Some row ≡ later ones (Some row)
+later_two : {A : Type 0} (ones : Option (Update A)) (row : Update A) → IfSome ones (λ r. r.0 < row.0) → Some row ≡ later ones (Some row)
 later_two None row h = refl
 later_two (Some one) row h =
     let behind : nat_lt one.0 row.0 ≡ true = grind (arith, nat_tests) in
     sym (ap (λ is. cond is (Some row) (Some one)) behind)
 
-later_one : {A : Type 0} (row : Told A) (twos : Option (Told A)) → IfSome twos (λ r. r.0 ≤ row.0) → Some row ≡ later (Some row) twos
+later_one : {A : Type 0} (row : Update A) (twos : Option (Update A)) → IfSome twos (λ r. r.0 ≤ row.0) → Some row ≡ later (Some row) twos
 later_one row None h = refl
 later_one row (Some two) h = sym (ap (λ is. cond is (Some two) (Some row)) (not_behind row.0 two.0 h))
 
-later_step : {A : Type 0} (n : ℕ) (one two : Effect A) (ones twos : Option (Told A)) → IfSome ones (λ r. r.0 < n) → IfSome twos (λ r. r.0 < n)
+later_step : {A : Type 0} (n : ℕ) (one two : Effect A) (ones twos : Option (Update A)) → IfSome ones (λ r. r.0 < n) → IfSome twos (λ r. r.0 < n)
     → option_or (told n (or_else one two)) (later ones twos) ≡ later (option_or (told n one) ones) (option_or (told n two) twos)
 later_step n Keeps Keeps ones twos h j = refl
 later_step n Keeps Ends ones twos h j = later_two ones (n, None) h
@@ -89,13 +89,13 @@ newest_of_two all one two parts (row ∷ older) =
     ∙ ap (option_or (told (size older) (or_else (one older row.deed) (two older row.deed)))) (newest_of_two all one two parts older)
     ∙ later_step (size older) (one older row.deed) (two older row.deed) (newest one older) (newest two older) (newest_below one older) (newest_below two older)
 
-map_step : {A B : Type 0} (f : A → B) (n : ℕ) (effect : Effect A) (rows : Option (Told A)) (mapped : Option (Told B)) → mapped ≡ option_map (map_told f) rows → option_or (told n (map_effect f effect)) mapped ≡ option_map (map_told f) (option_or (told n effect) rows)
+map_step : {A B : Type 0} (f : A → B) (n : ℕ) (effect : Effect A) (rows : Option (Update A)) (mapped : Option (Update B)) → mapped ≡ option_map (map_update f) rows → option_or (told n (map_effect f effect)) mapped ≡ option_map (map_update f) (option_or (told n effect) rows)
 map_step f n Keeps rows mapped h = h
 map_step f n Ends rows mapped h = refl
 map_step f n (Sets a) rows mapped h = refl
 
 -- the same row tells of another kind of thing
-pub newest_mapped : {A B : Type 0} (f : A → B) (effect : Deeds A) (b : Base) → newest (λ older deed. map_effect f (effect older deed)) b ≡ option_map (map_told f) (newest effect b)
+pub newest_mapped : {A B : Type 0} (f : A → B) (effect : Deeds A) (b : Base) → newest (λ older deed. map_effect f (effect older deed)) b ≡ option_map (map_update f) (newest effect b)
 newest_mapped f effect [] = refl
 newest_mapped f effect (row ∷ older) = map_step f (size older) (effect older row.deed) (newest effect older) (newest (λ b deed. map_effect f (effect b deed)) older) (newest_mapped f effect older)
 
@@ -103,6 +103,6 @@ mapped_where : {A B : Type 0} (f : A → B) (is : Bool) (item : Option A) → on
 mapped_where f true item = refl
 mapped_where f false item = refl
 
-pub within_mapped : {A B : Type 0} (f : A → B) (ended : Option ℕ) (row : Option (Told A)) → within ended (option_map (map_told f) row) ≡ option_map f (within ended row)
+pub within_mapped : {A B : Type 0} (f : A → B) (ended : Option ℕ) (row : Option (Update A)) → within ended (option_map (map_update f) row) ≡ option_map f (within ended row)
 within_mapped f ended None = refl
 within_mapped f ended (Some row) = mapped_where f (is_behind ended row.0) row.1

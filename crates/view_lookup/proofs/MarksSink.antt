@@ -5,7 +5,7 @@ use Rattle.std.specs.declared.random_state.RandomState.{RandomState}
 use Rattle.std.proofs.lemmas.Bool.Decides.{nat_tests}
 use Rattle.cc_names.specs.Versions.{put_if}
 use Rattle.legal_history.specs.Base.Rows.{Base, size, first_rows, deed_of}
-use Rattle.view_lookup.specs.LookUps.{Deeds, Told, told_by, told_at, first_told}
+use Rattle.view_lookup.specs.LookUps.{Deeds, Update, told_by, told_at, first_told}
 use Rattle.view_lookup.specs.Marked.{AreAtMost, Sink, marked, rows_below, with_marks}
 use Rattle.view_lookup.specs.Subjects.{keys_of}
 use Rattle.view_lookup.proofs.Newest.{no_later}
@@ -36,7 +36,7 @@ pub marked_sinks : (hashing : RandomState) (key : ℕ) (b : Base) → Sink (mark
 marked_sinks hashing key b = (marked_both hashing key b).1
 
 -- rows that do not lie below a bound tell nothing
-module _ {A : Type 0} (at : ℕ → Option (Told A)) (bound : ℕ) (none : (n : ℕ) → bound ≤ n → at n ≡ None) where
+module _ {A : Type 0} (at : ℕ → Option (Update A)) (bound : ℕ) (none : (n : ℕ) → bound ≤ n → at n ≡ None) where
   behind : (n : ℕ) → nat_lt n bound ≡ false → bound ≤ n
   behind n e = grind (arith, nat_tests)
 

@@ -11,7 +11,7 @@ use Rattle.cc_names.specs.declared.rows.Deed.{Deed}
 use Rattle.legal_history.specs.Base.Rows.{Base, size, first_rows, row_at, deed_of, deed_at}
 use Rattle.legal_history.specs.Builds.Reuse.{are_same_paths}
 use Rattle.legal_history.proofs.Bases.Stay.{all_rows}
-use Rattle.view_lookup.specs.LookUps.{Deeds, Told, told, newest, told_by, told_at, first_told, left_by, last_of, BearsOnAll}
+use Rattle.view_lookup.specs.LookUps.{Deeds, Update, told, newest, told_by, told_at, first_told, left_by, last_of, BearsOnAll}
 use Rattle.view_lookup.specs.Subjects.{Subject, Life, Spec, Desk, File, Object, Out, Saved, NameIn, Reserved, Named, Living, Winked, Merge, History, Changing, Altered, Leaving, Owned, Given, is_same, key, bears, catalog_subjects, keys_of, plain_subjects, Pool}
 use Rattle.view_lookup.specs.Marked.{with_marks, marked}
 use Rattle.std.specs.declared.random_state.RandomState.{RandomState}
@@ -22,7 +22,7 @@ or_twice None y = refl
 or_twice (Some a) y = refl
 
 -- a row that does nothing is passed, however often it is marked
-module _ {A : Type 0} (at : ℕ → Option (Told A)) (n key : ℕ) where
+module _ {A : Type 0} (at : ℕ → Option (Update A)) (n key : ℕ) where
   pub passed : (keys rest : List ℕ) → at n ≡ None → first_told at (with_marks n key keys rest) ≡ first_told at rest
   passed [] rest none = refl
   passed (k ∷ keys) rest none = passed keys (put_if (k == key) n rest) none ∙ by_key (k == key)
@@ -173,20 +173,20 @@ older_at effect row older n within =
     ap₂ (λ first is. told_by effect (elim first as (λ _. Base) [ true ↦ row ∷ older | false ↦ first_rows n older ]) n (deed_of (elim is [ true ↦ Some row | false ↦ row_at older n ]))) past apart
 
 -- among rows of which each number tells what it does
-marks_tell : {A : Type 0} (hashing : RandomState) (subject : Subject) (effect : Deeds A) (covered : BearsOnAll subject effect) (at : ℕ → Option (Told A)) (b : Base)
+marks_tell : {A : Type 0} (hashing : RandomState) (subject : Subject) (effect : Deeds A) (bearing : BearsOnAll subject effect) (at : ℕ → Option (Update A)) (b : Base)
     → ((n : ℕ) → n ≤ length b → at n ≡ told_at effect b n) → first_told at (marked hashing (key hashing subject) b) ≡ newest effect b
-marks_tell hashing subject effect covered at [] agree = refl
-marks_tell hashing subject effect covered at (row ∷ older) agree =
+marks_tell hashing subject effect bearing at [] agree = refl
+marks_tell hashing subject effect bearing at (row ∷ older) agree =
     let n = size older in
     let keys = keys_of hashing older row.deed in
     let rest = marked hashing (key hashing subject) older in
     let here : at n ≡ told n (effect older row.deed) = agree n (omega arith) ∙ newest_at effect row older in
     let before : first_told at rest ≡ newest effect older =
-    marks_tell hashing subject effect covered at older (λ m within. agree m (omega arith) ∙ older_at effect row older m within) in
+    marks_tell hashing subject effect bearing at older (λ m within. agree m (omega arith) ∙ older_at effect row older m within) in
     elim (bears subject older row.deed) as (λ is. bears subject older row.deed ≡ is → first_told at (with_marks n (key hashing subject) keys rest) ≡ option_or (told n (effect older row.deed)) (newest effect older)) [
       | true ↦ λ e. counted at n (key hashing subject) keys rest (borne_key hashing subject older row.deed e) ∙ ap₂ option_or here before
       | false ↦ λ e.
-          let nothing : told n (effect older row.deed) ≡ None = ap (told n) (covered older row.deed e) in
+          let nothing : told n (effect older row.deed) ≡ None = ap (told n) (bearing older row.deed e) in
           passed at n (key hashing subject) keys rest (here ∙ nothing) ∙ before ∙ sym (ap (λ first. option_or first (newest effect older)) nothing)
     ] refl
 
@@ -209,31 +209,31 @@ first_shorter t (row ∷ older) = elim (nat_lt (size older) t) as (λ within. le
 ]
 
 -- the rows behind the first ones are passed
-only_first : {A : Type 0} (hashing : RandomState) (subject : Subject) (effect : Deeds A) (covered : BearsOnAll subject effect) (t : ℕ) (b : Base) (at : ℕ → Option (Told A))
+only_first : {A : Type 0} (hashing : RandomState) (subject : Subject) (effect : Deeds A) (bearing : BearsOnAll subject effect) (t : ℕ) (b : Base) (at : ℕ → Option (Update A))
     → ((n : ℕ) → at n ≡ told_at effect (first_rows t b) n) → first_told at (marked hashing (key hashing subject) b) ≡ newest effect (first_rows t b)
-only_first hashing subject effect covered t [] at agree = refl
-only_first hashing subject effect covered t (row ∷ older) at agree =
+only_first hashing subject effect bearing t [] at agree = refl
+only_first hashing subject effect bearing t (row ∷ older) at agree =
     elim (nat_lt (size older) t) as (λ within. ((n : ℕ) → at n ≡ told_at effect (elim within as (λ _. Base) [ true ↦ row ∷ older | false ↦ first_rows t older ]) n)
     → first_told at (marked hashing (key hashing subject) (row ∷ older)) ≡ newest effect (elim within as (λ _. Base) [ true ↦ row ∷ older | false ↦ first_rows t older ])) [
-      | true ↦ λ all. marks_tell hashing subject effect covered at (row ∷ older) (λ n within. all n)
+      | true ↦ λ all. marks_tell hashing subject effect bearing at (row ∷ older) (λ n within. all n)
       | false ↦ λ all.
           let n = size older in
           let none : at n ≡ None =
           all n ∙ ap (λ found. told_by effect (first_rows n (first_rows t older)) n (deed_of found)) (no_later (first_rows t older) n (omega (arith, first_shorter t older))) in
-          passed at n (key hashing subject) (keys_of hashing older row.deed) (marked hashing (key hashing subject) older) none ∙ only_first hashing subject effect covered t older at all
+          passed at n (key hashing subject) (keys_of hashing older row.deed) (marked hashing (key hashing subject) older) none ∙ only_first hashing subject effect bearing t older at all
     ] agree
 
 -- The first of a subject's marks whose row is among the first rows and does something is the newest of the first rows that does.
 pub marks_of_first : {A : Type 0} (hashing : RandomState) (subject : Subject) (effect : Deeds A) → BearsOnAll subject effect → (t : ℕ) (b : Base)
     → first_told (told_at effect (first_rows t b)) (marked hashing (key hashing subject) b) ≡ newest effect (first_rows t b)
-marks_of_first hashing subject effect covered t b = only_first hashing subject effect covered t b (told_at effect (first_rows t b)) (λ n. refl)
+marks_of_first hashing subject effect bearing t b = only_first hashing subject effect bearing t b (told_at effect (first_rows t b)) (λ n. refl)
 
 -- what the last row leaves is what the newest that does something leaves
 pub last_by_newest : {A : Type 0} (effect : Deeds A) (b : Base) → last_of effect b ≡ left_by (newest effect b)
 last_by_newest effect [] = refl
 last_by_newest effect (row ∷ older) = by_effect (size older) (effect older row.deed) (last_of effect older) (newest effect older) (last_by_newest effect older)
   where
-    by_effect : {B : Type 0} (n : ℕ) (is : Effect B) (before : Option B) (rows : Option (Told B)) → before ≡ left_by rows → left is before ≡ left_by (option_or (told n is) rows)
+    by_effect : {B : Type 0} (n : ℕ) (is : Effect B) (before : Option B) (rows : Option (Update B)) → before ≡ left_by rows → left is before ≡ left_by (option_or (told n is) rows)
     by_effect n Keeps before rows h = h
     by_effect n Ends before rows h = refl
     by_effect n (Sets a) before rows h = refl
@@ -243,7 +243,7 @@ pub newest_below : {A : Type 0} (effect : Deeds A) (b : Base) → IfSome (newest
 newest_below effect [] = tt
 newest_below effect (row ∷ older) = by_effect (size older) (effect older row.deed) (newest effect older) (newest_below effect older)
   where
-    by_effect : {B : Type 0} (n : ℕ) (is : Effect B) (rows : Option (Told B)) → IfSome rows (λ row. row.0 < n) → IfSome (option_or (told n is) rows) (λ row. row.0 < suc n)
+    by_effect : {B : Type 0} (n : ℕ) (is : Effect B) (rows : Option (Update B)) → IfSome rows (λ row. row.0 < n) → IfSome (option_or (told n is) rows) (λ row. row.0 < suc n)
     by_effect n Keeps None h = tt
     by_effect n Keeps (Some row) h = omega arith
     by_effect n Ends rows h = omega arith

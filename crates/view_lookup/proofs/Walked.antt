@@ -8,7 +8,7 @@ use Rattle.std.specs.declared.random_state.RandomState.{RandomState}
 use Rattle.cc_names.specs.Versions.{put_if}
 use Rattle.cc_names.specs.declared.rows.Deed.{Deed}
 use Rattle.legal_history.specs.Base.Rows.{Base, size, first_rows}
-use Rattle.view_lookup.specs.LookUps.{Deeds, Told, told, told_at, BearsOnAll}
+use Rattle.view_lookup.specs.LookUps.{Deeds, Update, told, told_at, BearsOnAll}
 use Rattle.view_lookup.specs.Marked.{with_marks, marked}
 use Rattle.view_lookup.specs.Subjects.{Subject, key, bears, keys_of}
 use Rattle.view_lookup.specs.Walks.{all_told, told_below}
@@ -17,7 +17,7 @@ use Rattle.view_lookup.proofs.Newest.{borne_key, first_shorter, newest_at, older
 at_most_itself : (n : ℕ) → n ≤ n
 at_most_itself n = omega arith
 
-module _ {A : Type 0} (at : ℕ → Option (Told A)) (n key : ℕ) where
+module _ {A : Type 0} (at : ℕ → Option (Update A)) (n key : ℕ) where
   -- a number that does not lie below the bound is passed
   passed_one : (bound : ℕ) (rest : List ℕ) → bound ≤ n → told_below at bound (n ∷ rest) ≡ told_below at bound rest
   passed_one bound rest behind =
@@ -75,10 +75,10 @@ not_borne hashing subject older deed none = by (bears subject older deed) refl
         absurd (cc)
     by false e = refl
 
-marks_walk : {A : Type 0} (hashing : RandomState) (subject : Subject) (effect : Deeds A) (covered : BearsOnAll subject effect) (at : ℕ → Option (Told A)) (b : Base) (bound : ℕ) → size b ≤ bound
+marks_walk : {A : Type 0} (hashing : RandomState) (subject : Subject) (effect : Deeds A) (bearing : BearsOnAll subject effect) (at : ℕ → Option (Update A)) (b : Base) (bound : ℕ) → size b ≤ bound
     → ((n : ℕ) → n ≤ length b → at n ≡ told_at effect b n) → told_below at bound (marked hashing (key hashing subject) b) ≡ all_told effect b
-marks_walk hashing subject effect covered at [] bound within agree = refl
-marks_walk hashing subject effect covered at (row ∷ older) bound within agree =
+marks_walk hashing subject effect bearing at [] bound within agree = refl
+marks_walk hashing subject effect bearing at (row ∷ older) bound within agree =
     let n = size older in
     let k = key hashing subject in
     let keys = keys_of hashing older row.deed in
@@ -88,28 +88,28 @@ marks_walk hashing subject effect covered at (row ∷ older) bound within agree 
     elim (list_any (λ j. j == k) keys) as (λ is. list_any (λ j. j == k) keys ≡ is → told_below at bound (with_marks n k keys rest) ≡ put_if (is_some (told n (effect older row.deed))) n (all_told effect older)) [
       | true ↦ λ e.
           counted at n k keys bound rest (omega (arith, within)) e
-          ∙ ap₂ (λ one more. put_if (is_some one) n more) here (marks_walk hashing subject effect covered at older n (at_most_itself n) below)
+          ∙ ap₂ (λ one more. put_if (is_some one) n more) here (marks_walk hashing subject effect bearing at older n (at_most_itself n) below)
       | false ↦ λ e.
-          let nothing : effect older row.deed ≡ Keeps = covered older row.deed (not_borne hashing subject older row.deed e) in
+          let nothing : effect older row.deed ≡ Keeps = bearing older row.deed (not_borne hashing subject older row.deed e) in
           ap (told_below at bound) (unmarked n k keys rest e)
-          ∙ marks_walk hashing subject effect covered at older bound (omega (arith, within)) below
+          ∙ marks_walk hashing subject effect bearing at older bound (omega (arith, within)) below
           ∙ sym (ap (λ does. put_if (is_some (told n does)) n (all_told effect older)) nothing)
     ] refl
 
-only_first : {A : Type 0} (hashing : RandomState) (subject : Subject) (effect : Deeds A) (covered : BearsOnAll subject effect) (t : ℕ) (b : Base) (at : ℕ → Option (Told A)) (bound : ℕ)
+only_first : {A : Type 0} (hashing : RandomState) (subject : Subject) (effect : Deeds A) (bearing : BearsOnAll subject effect) (t : ℕ) (b : Base) (at : ℕ → Option (Update A)) (bound : ℕ)
     → ((n : ℕ) → at n ≡ told_at effect (first_rows t b) n) → bound ≡ size (first_rows t b) → told_below at bound (marked hashing (key hashing subject) b) ≡ all_told effect (first_rows t b)
-only_first hashing subject effect covered t [] at bound agree size_is = refl
-only_first hashing subject effect covered t (row ∷ older) at bound agree size_is =
+only_first hashing subject effect bearing t [] at bound agree size_is = refl
+only_first hashing subject effect bearing t (row ∷ older) at bound agree size_is =
     elim (nat_lt (size older) t) as (λ within. ((n : ℕ) → at n ≡ told_at effect (elim within as (λ _. Base) [ true ↦ row ∷ older | false ↦ first_rows t older ]) n)
     → bound ≡ size (elim within as (λ _. Base) [ true ↦ row ∷ older | false ↦ first_rows t older ])
     → told_below at bound (marked hashing (key hashing subject) (row ∷ older)) ≡ all_told effect (elim within as (λ _. Base) [ true ↦ row ∷ older | false ↦ first_rows t older ])) [
-      | true ↦ λ all is. marks_walk hashing subject effect covered at (row ∷ older) bound (omega (arith, is)) (λ n within. all n)
+      | true ↦ λ all is. marks_walk hashing subject effect bearing at (row ∷ older) bound (omega (arith, is)) (λ n within. all n)
       | false ↦ λ all is.
           passed at (size older) (key hashing subject) (keys_of hashing older row.deed) bound (marked hashing (key hashing subject) older) (omega (arith, is, first_shorter t older))
-          ∙ only_first hashing subject effect covered t older at bound all is
+          ∙ only_first hashing subject effect bearing t older at bound all is
     ] agree size_is
 
 -- The marks of a subject tell all of the first rows that do something.
 pub walk_of_first : {A : Type 0} (hashing : RandomState) (subject : Subject) (effect : Deeds A) → BearsOnAll subject effect → (t : ℕ) (b : Base)
     → told_below (told_at effect (first_rows t b)) (size (first_rows t b)) (marked hashing (key hashing subject) b) ≡ all_told effect (first_rows t b)
-walk_of_first hashing subject effect covered t b = only_first hashing subject effect covered t b (told_at effect (first_rows t b)) (size (first_rows t b)) (λ n. refl) refl
+walk_of_first hashing subject effect bearing t b = only_first hashing subject effect bearing t b (told_at effect (first_rows t b)) (size (first_rows t b)) (λ n. refl) refl

@@ -53,8 +53,8 @@ changing_borne : (began : ℕ) (found : Option ℕ) → is_number began found �
 changing_borne began None h = absurd (cc)
 changing_borne began (Some other) h = ap (λ is. is || false) h
 
-pub changing_covered : (began : ℕ) → BearsOnAll (Changing began) (changing_effect began)
-changing_covered began older deed h =
+pub changing_bears : (began : ℕ) → BearsOnAll (Changing began) (changing_effect began)
+changing_bears began older deed h =
     let on = checked_in_on older deed in
     let rest = altered_subjects on (names_by older (checked_in_rows older deed)) in
     unless_borne (is_number began (changing older deed)) (list_any (is_same (Changing began)) (changing_subjects (changing older deed) ++ rest)) (size older)
@@ -203,8 +203,8 @@ alters_on branch name older (deeds.Checkin v d) is =
     by (Some c) began since = name_among v d name older c began since
 alters_on branch name older deed is = absurd (cc)
 
-pub altered_covered : (branch : ℕ) (name : List ℕ) → BearsOnAll (Altered branch name) (altered_effect branch name)
-altered_covered branch name older deed h =
+pub altered_bears : (branch : ℕ) (name : List ℕ) → BearsOnAll (Altered branch name) (altered_effect branch name)
+altered_bears branch name older deed h =
     let on = checked_in_on older deed in
     let names = names_by older (checked_in_rows older deed) in
     let rest = altered_subjects on names in

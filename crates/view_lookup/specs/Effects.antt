@@ -13,7 +13,7 @@ use Rattle.legal_history.specs.Base.Conditions.{is_arrow}
 use Rattle.legal_history.specs.Base.Rows.{Base, size}
 use Rattle.legal_history.specs.Base.Views as model
 use Rattle.view_lookup.specs.Lifetimes.{or_else}
-use Rattle.view_lookup.specs.LookUps.{Deeds, Told}
+use Rattle.view_lookup.specs.LookUps.{Deeds, Update}
 use Rattle.view_lookup.specs.Made.{is_target}
 use Rattle.view_lookup.specs.Subjects.{reserved_branch}
 use Rattle.view_lookup.specs.Pool.{Test, publishes}
@@ -90,9 +90,9 @@ map_effect f Keeps = Keeps
 map_effect f Ends = Ends
 map_effect f (Sets a) = Sets (f a)
 
--- a row that is told of, of another kind of thing
-abbrev pub map_told : {A B : Type 0} → (A → B) → Told A → Told B
-map_told f row = (row.0, option_map f row.1)
+-- an update of another kind of thing
+abbrev pub map_update : {A B : Type 0} → (A → B) → Update A → Update B
+map_update f row = (row.0, option_map f row.1)
 
 -- a checkout as code has it, and as the model has it
 abbrev pub kept_checkout : model.Checkout → Checkout

@@ -2,10 +2,10 @@
 use Rattle.std.specs.Prelude.{ℕ, Bool, true, cond, nat_lt, Option, Some, None}
 use Rattle.cc_names.specs.Last.{Effect, Keeps, Ends, Sets}
 use Rattle.legal_history.specs.Base.Rows.{only_where}
-use Rattle.view_lookup.specs.LookUps.{Told}
+use Rattle.view_lookup.specs.LookUps.{Update}
 
--- the number of a row that is told of
-abbrev pub number_of : {A : Type 0} → Told A → ℕ
+-- the number of the row of an update
+abbrev pub number_of : {A : Type 0} → Update A → ℕ
 number_of row = row.0
 
 -- what a row does that may end a view's life, and may do something else
@@ -20,16 +20,16 @@ is_behind None n = true
 is_behind (Some m) n = nat_lt m n
 
 -- what a row leaves that lies behind the end of a life
-abbrev pub left_behind : {A : Type 0} → Option ℕ → Told A → Option A
+abbrev pub left_behind : {A : Type 0} → Option ℕ → Update A → Option A
 left_behind ended row = only_where (is_behind ended row.0) row.1
 
 -- what is left of a thing, by the last end of a life and by the newest row that does something to the thing
-abbrev pub within : {A : Type 0} → Option ℕ → Option (Told A) → Option A
+abbrev pub within : {A : Type 0} → Option ℕ → Option (Update A) → Option A
 within ended None = None
 within ended (Some row) = left_behind ended row
 
--- the later of two rows that are told of, the first where both are one
-abbrev pub later : {A : Type 0} → Option (Told A) → Option (Told A) → Option (Told A)
+-- the later of two updates, the first where both are of one row
+abbrev pub later : {A : Type 0} → Option (Update A) → Option (Update A) → Option (Update A)
 later None two = two
 later (Some one) None = Some one
 later (Some one) (Some two) = cond (nat_lt one.0 two.0) (Some two) (Some one)

@@ -12,36 +12,36 @@ use Rattle.view_lookup.specs.declared.look_ups.Does.TheVariants as does
 abbrev pub Deeds : Type 0 → Type 0
 Deeds A = Base → Deed → Effect A
 
--- a row that does something, by its number, and what it leaves of the thing
-abbrev pub Told : Type 0 → Type 0
-Told A = ℕ × Option A
+-- an update of a thing: a row that does something to it, by its number, and what it leaves of it
+abbrev pub Update : Type 0 → Type 0
+Update A = ℕ × Option A
 
--- a row, where it does something
-abbrev pub told : {A : Type 0} → ℕ → Effect A → Option (Told A)
+-- the update by a row, where it does something
+abbrev pub told : {A : Type 0} → ℕ → Effect A → Option (Update A)
 told n Keeps = None
 told n Ends = Some (n, None)
 told n (Sets a) = Some (n, Some a)
 
 -- the newest row of a base that does something
-abbrev pub newest : {A : Type 0} → Deeds A → Base → Option (Told A)
+abbrev pub newest : {A : Type 0} → Deeds A → Base → Option (Update A)
 newest effect [] = None
 newest effect (row ∷ older) = option_or (told (size older) (effect older row.deed)) (newest effect older)
 
 -- the row of a number, where there is one and it does something
-abbrev pub told_by : {A : Type 0} → Deeds A → Base → ℕ → Option Deed → Option (Told A)
+abbrev pub told_by : {A : Type 0} → Deeds A → Base → ℕ → Option Deed → Option (Update A)
 told_by effect older n None = None
 told_by effect older n (Some deed) = told n (effect older deed)
 
-abbrev pub told_at : {A : Type 0} → Deeds A → Base → ℕ → Option (Told A)
+abbrev pub told_at : {A : Type 0} → Deeds A → Base → ℕ → Option (Update A)
 told_at effect b n = told_by effect (first_rows n b) n (deed_at b n)
 
 -- the first of these numbers whose row does something
-abbrev pub first_told : {A : Type 0} → (ℕ → Option (Told A)) → List ℕ → Option (Told A)
+abbrev pub first_told : {A : Type 0} → (ℕ → Option (Update A)) → List ℕ → Option (Update A)
 first_told at [] = None
 first_told at (n ∷ ns) = option_or (at n) (first_told at ns)
 
 -- what a row leaves, where there is one
-abbrev pub left_by : {A : Type 0} → Option (Told A) → Option A
+abbrev pub left_by : {A : Type 0} → Option (Update A) → Option A
 left_by None = None
 left_by (Some row) = row.1
 

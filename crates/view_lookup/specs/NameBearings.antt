@@ -32,16 +32,16 @@ not_begun_by : (n : ℕ) (inside : Bool) (from_name to_name : List ℕ) → only
 not_begun_by n true from_name to_name = refl
 not_begun_by n false from_name to_name = refl
 
-pub begun_covered : (v : List ℕ) (d : ℕ) → BearsOnAll (Outs v d) (begun_effect v d)
-begun_covered v d older (deeds.Mkelem w f name kind out) h = begun_by_element name (size older) (bytes_eq w v && (size older == d)) out (bytes_eq w v && (f == d))
+pub begun_bears : (v : List ℕ) (d : ℕ) → BearsOnAll (Outs v d) (begun_effect v d)
+begun_bears v d older (deeds.Mkelem w f name kind out) h = begun_by_element name (size older) (bytes_eq w v && (size older == d)) out (bytes_eq w v && (f == d))
     (list_any (is_same (Outs v d)) (reserved_subjects (reserved_branch older (deeds.Mkelem w f name kind out)))) h
-begun_covered v d older (deeds.Checkout w e origin reserved) h = begun_as origin (size older) (bytes_eq w v && (e == d))
+begun_bears v d older (deeds.Checkout w e origin reserved) h = begun_as origin (size older) (bytes_eq w v && (e == d))
     (list_any (is_same (Outs v d)) (reserved_subjects (reserved_branch older (deeds.Checkout w e origin reserved)))) h
-begun_covered v d older (deeds.Branch w e origin name out) h = begun_out origin (size older) (bytes_eq w v && (e == d)) (is_out out)
+begun_bears v d older (deeds.Branch w e origin name out) h = begun_out origin (size older) (bytes_eq w v && (e == d)) (is_out out)
     (list_any (is_same (Outs v d)) (reserved_subjects (reserved_branch older (deeds.Branch w e origin name out)))) h
-begun_covered v d older (deeds.Rmname w f name) h = not_begun (size older) (bytes_eq w v && (f == d)) name
-begun_covered v d older (deeds.Mv w f from_name to_name) h = not_begun_by (size older) (bytes_eq w v && (f == d)) from_name to_name
-begun_covered v d older deed h = refl
+begun_bears v d older (deeds.Rmname w f name) h = not_begun (size older) (bytes_eq w v && (f == d)) name
+begun_bears v d older (deeds.Mv w f from_name to_name) h = not_begun_by (size older) (bytes_eq w v && (f == d)) from_name to_name
+begun_bears v d older deed h = refl
 
 changed_by_element : (name other : List ℕ) (n : ℕ) (began own at is more : Bool) → bytes_eq other name ≡ is → ((at && is) || more) ≡ false
     → only_if (changes name (first_edit began BeginsEmpty (edit_where (own && at) (Adds other n)))) (Sets n) ≡ Keeps
@@ -71,13 +71,13 @@ changed_by_move name from_name to_name n true true true into one two h = absurd 
 changed_by_move name from_name to_name n true true false true one two h = absurd (cc)
 changed_by_move name from_name to_name n true true false false one two h = ap₂ (λ is into. only_if (is || into) (Sets n)) one two
 
-pub changed_covered : (v : List ℕ) (d : ℕ) (name : List ℕ) → BearsOnAll (NameIn d name) (changed_effect v d name)
-changed_covered v d name older (deeds.Mkelem w f other kind out) h =
+pub changed_bears : (v : List ℕ) (d : ℕ) (name : List ℕ) → BearsOnAll (NameIn d name) (changed_effect v d name)
+changed_bears v d name older (deeds.Mkelem w f other kind out) h =
     changed_by_element name other (size older) (bytes_eq w v && (size older == d) && out) (bytes_eq w v) (f == d) (bytes_eq other name)
     (list_any (is_same (NameIn d name)) (reserved_subjects (reserved_branch older (deeds.Mkelem w f other kind out)))) refl h
-changed_covered v d name older (deeds.Checkout w e origin reserved) h = changed_as name origin (size older) (bytes_eq w v && (e == d))
-changed_covered v d name older (deeds.Branch w e origin other out) h = changed_as name origin (size older) (bytes_eq w v && (e == d) && is_out out)
-changed_covered v d name older (deeds.Rmname w f other) h = changed_by_removal name other (size older) (bytes_eq w v) (f == d) (bytes_eq other name) refl h
-changed_covered v d name older (deeds.Mv w f from_name to_name) h =
+changed_bears v d name older (deeds.Checkout w e origin reserved) h = changed_as name origin (size older) (bytes_eq w v && (e == d))
+changed_bears v d name older (deeds.Branch w e origin other out) h = changed_as name origin (size older) (bytes_eq w v && (e == d) && is_out out)
+changed_bears v d name older (deeds.Rmname w f other) h = changed_by_removal name other (size older) (bytes_eq w v) (f == d) (bytes_eq other name) refl h
+changed_bears v d name older (deeds.Mv w f from_name to_name) h =
     changed_by_move name from_name to_name (size older) (bytes_eq w v) (f == d) (bytes_eq from_name name) (bytes_eq to_name name) refl refl h
-changed_covered v d name older deed h = refl
+changed_bears v d name older deed h = refl

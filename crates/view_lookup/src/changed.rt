@@ -114,7 +114,7 @@ struct ChangingIn {
 impl LookUp for ChangingIn {
     type Item = u64;
 
-    ghost use Rattle.view_lookup.specs.ChangeBearings.{changing_covered, changing_effect};
+    ghost use Rattle.view_lookup.specs.ChangeBearings.{changing_bears, changing_effect};
     ghost use Rattle.view_lookup.specs.Subjects as subjects;
 
     ghost effect = { λ it. changing_effect it.began };
@@ -132,7 +132,7 @@ impl LookUp for ChangingIn {
         Subject::Changing(self.began)
     }
 
-    ghost covered = { λ it. changing_covered it.began };
+    ghost bears = { λ it. changing_bears it.began };
 }
 
 /// A version of the branch from a checkout in which the name was changed.
@@ -145,7 +145,7 @@ pub(crate) struct AlteredOn<'a> {
 impl LookUp for AlteredOn<'_> {
     type Item = u64;
 
-    ghost use Rattle.view_lookup.specs.ChangeBearings.{altered_covered, altered_effect};
+    ghost use Rattle.view_lookup.specs.ChangeBearings.{altered_bears, altered_effect};
     ghost use Rattle.view_lookup.specs.Subjects as subjects;
 
     ghost effect = { λ it. altered_effect it.branch it.name.now };
@@ -163,7 +163,7 @@ impl LookUp for AlteredOn<'_> {
         Subject::Altered(self.branch, self.name)
     }
 
-    ghost covered = { λ it. altered_covered it.branch it.name.now };
+    ghost bears = { λ it. altered_bears it.branch it.name.now };
 }
 
 /// The rows that change names in the checkout that a deed checks in, the newest first. Takes time linear in them, times the time

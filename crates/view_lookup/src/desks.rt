@@ -4,7 +4,7 @@ ghost use Rattle.std.specs.Prelude.{◌≡◌, ◌==◌, ◌&&◌, bytes_eq, opt
 ghost use Rattle.legal_history.specs.Base.Conditions.{has_out};
 ghost use Rattle.legal_history.specs.Base.Views as model;
 ghost use Rattle.legal_history.specs.Base.Views.{making, out};
-ghost use Rattle.view_lookup.specs.Effects.{kept_checkout, map_effect, map_told, plain_checkout, plain_taken, row_of_kept};
+ghost use Rattle.view_lookup.specs.Effects.{kept_checkout, map_effect, map_update, plain_checkout, plain_taken, row_of_kept};
 ghost use Rattle.view_lookup.specs.LookUps.{effect_of};
 
 use crate::bases::FirstRows;
@@ -145,7 +145,7 @@ struct TakenOf<'a> {
 impl LookUp for TakenOf<'_> {
     type Item = Checkout;
 
-    ghost use Rattle.view_lookup.specs.Bearings.{desk_covered};
+    ghost use Rattle.view_lookup.specs.Bearings.{desk_bears};
     ghost use Rattle.view_lookup.specs.Effects.{desk_effect};
     ghost use Rattle.view_lookup.specs.Subjects as subjects;
 
@@ -171,7 +171,7 @@ impl LookUp for TakenOf<'_> {
         Subject::Out(self.view, self.element)
     }
 
-    ghost covered = { λ it. desk_covered it.view.now it.element };
+    ghost bears = { λ it. desk_bears it.view.now it.element };
 }
 
 /// The text that a view saved last in its checkout of an element, whatever becomes of either.
@@ -184,7 +184,7 @@ struct SavedOf<'a> {
 impl LookUp for SavedOf<'_> {
     type Item = u64;
 
-    ghost use Rattle.view_lookup.specs.Bearings.{saved_covered};
+    ghost use Rattle.view_lookup.specs.Bearings.{saved_bears};
     ghost use Rattle.view_lookup.specs.Effects.{saved_effect};
     ghost use Rattle.view_lookup.specs.Subjects as subjects;
 
@@ -206,7 +206,7 @@ impl LookUp for SavedOf<'_> {
         Subject::Saved(self.view, self.element)
     }
 
-    ghost covered = { λ it. saved_covered it.view.now it.element };
+    ghost bears = { λ it. saved_bears it.view.now it.element };
 }
 
 /// The view's checkout of the element. Takes the time of `newest`, twice.
@@ -225,7 +225,7 @@ pub fn has_out(rows: &FirstRows<'_>, view: &Name, element: u64) -> bool
 
 /// The row of a checkout in place of it.
 fn with_row(told: Option<(u64, Option<Checkout>)>) -> Option<(u64, Option<u64>)>
-    ensures { result ≡ option_map (map_told row_of_kept) told }
+    ensures { result ≡ option_map (map_update row_of_kept) told }
 {
     match told {
         None => None,

@@ -158,7 +158,7 @@ pub(crate) struct BegunOf<'a> {
 impl LookUp for BegunOf<'_> {
     type Item = u64;
 
-    ghost use Rattle.view_lookup.specs.NameBearings.{begun_covered};
+    ghost use Rattle.view_lookup.specs.NameBearings.{begun_bears};
     ghost use Rattle.view_lookup.specs.Entries.{begun_effect};
     ghost use Rattle.view_lookup.specs.Subjects as subjects;
 
@@ -178,7 +178,7 @@ impl LookUp for BegunOf<'_> {
         Subject::Out(self.view, self.directory)
     }
 
-    ghost covered = { λ it. begun_covered it.view.now it.directory };
+    ghost bears = { λ it. begun_bears it.view.now it.directory };
 }
 
 /// The row that changed a name in a view's checkout of a directory, whatever becomes of either.
@@ -192,7 +192,7 @@ pub(crate) struct ChangedOf<'a> {
 impl LookUp for ChangedOf<'_> {
     type Item = u64;
 
-    ghost use Rattle.view_lookup.specs.NameBearings.{changed_covered};
+    ghost use Rattle.view_lookup.specs.NameBearings.{changed_bears};
     ghost use Rattle.view_lookup.specs.Entries.{changed_effect};
     ghost use Rattle.view_lookup.specs.Subjects as subjects;
 
@@ -212,5 +212,5 @@ impl LookUp for ChangedOf<'_> {
         Subject::NameIn(self.directory, self.name)
     }
 
-    ghost covered = { λ it. changed_covered it.view.now it.directory it.name.now };
+    ghost bears = { λ it. changed_bears it.view.now it.directory it.name.now };
 }

@@ -20,7 +20,7 @@ struct NamingIn {
 impl LookUp for NamingIn {
     type Item = u64;
 
-    ghost use Rattle.view_lookup.specs.Bearings.{naming_covered};
+    ghost use Rattle.view_lookup.specs.Bearings.{naming_bears};
     ghost use Rattle.view_lookup.specs.Giving.{naming_effect};
     ghost use Rattle.view_lookup.specs.Subjects as model;
 
@@ -36,7 +36,7 @@ impl LookUp for NamingIn {
         Subject::Given(self.directory)
     }
 
-    ghost covered = { λ it. naming_covered it.directory };
+    ghost bears = { λ it. naming_bears it.directory };
 }
 
 /// Whether a deed gives a name in the directory.

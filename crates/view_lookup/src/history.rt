@@ -20,7 +20,7 @@ struct HistoryOf {
 impl LookUp for HistoryOf {
     type Item = u64;
 
-    ghost use Rattle.view_lookup.specs.Bearings.{history_covered};
+    ghost use Rattle.view_lookup.specs.Bearings.{history_bears};
     ghost use Rattle.view_lookup.specs.Histories.{history_effect};
     ghost use Rattle.view_lookup.specs.Subjects as model;
 
@@ -46,7 +46,7 @@ impl LookUp for HistoryOf {
         Subject::History(self.element)
     }
 
-    ghost covered = { λ it. history_covered it.element };
+    ghost bears = { λ it. history_bears it.element };
 }
 
 /// Whether a label is put on a version of the element.

@@ -20,7 +20,7 @@ struct LeavingOf {
 impl LookUp for LeavingOf {
     type Item = u64;
 
-    ghost use Rattle.view_lookup.specs.Bearings.{leaving_covered};
+    ghost use Rattle.view_lookup.specs.Bearings.{leaving_bears};
     ghost use Rattle.view_lookup.specs.Effects.{leaving_effect};
     ghost use Rattle.view_lookup.specs.Subjects as model;
 
@@ -41,7 +41,7 @@ impl LookUp for LeavingOf {
         Subject::Leaving(self.version)
     }
 
-    ghost covered = { λ it. leaving_covered it.version };
+    ghost bears = { λ it. leaving_bears it.version };
 }
 
 /// The branches that leave a version, the newest first. Takes time linear in the rows with its key, those behind these rows too.

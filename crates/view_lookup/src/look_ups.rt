@@ -54,7 +54,7 @@ fn is_behind(ended: Option<u64>, number: u64) -> bool
     }
 }
 
-/// The later of two rows that are told of, the first where both are one.
+/// The later of two updates, the first where both are of one row.
 pub(crate) fn later<T: Copy>(
     one: Option<(u64, Option<T>)>,
     two: Option<(u64, Option<T>)>,
@@ -88,7 +88,7 @@ pub(crate) trait LookUp {
     fn subject(&self) -> Subject<'_>
         ensures { model.plain result ≡ about self.now };
 
-    ghost covered: { (it : Self) → BearsOnAll (about it) (effect it) };
+    ghost bears: { (it : Self) → BearsOnAll (about it) (effect it) };
 }
 
 /// The row of this number, where it does something to the thing, and what it leaves.

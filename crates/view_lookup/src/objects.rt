@@ -50,7 +50,7 @@ struct GoneOf<'a> {
 impl LookUp for GoneOf<'_> {
     type Item = u64;
 
-    ghost use Rattle.view_lookup.specs.Bearings.{gone_covered};
+    ghost use Rattle.view_lookup.specs.Bearings.{gone_bears};
     ghost use Rattle.view_lookup.specs.Effects.{gone_effect};
     ghost use Rattle.view_lookup.specs.Subjects as model;
 
@@ -69,7 +69,7 @@ impl LookUp for GoneOf<'_> {
         Subject::Life(self.view)
     }
 
-    ghost covered = { λ it. gone_covered it.view.now };
+    ghost bears = { λ it. gone_bears it.view.now };
 }
 
 /// The object that a view holds at a path, unless the view is gone.
@@ -82,7 +82,7 @@ struct ObjectOf<'a> {
 impl LookUp for ObjectOf<'_> {
     type Item = u64;
 
-    ghost use Rattle.view_lookup.specs.Bearings.{object_covered};
+    ghost use Rattle.view_lookup.specs.Bearings.{object_bears};
     ghost use Rattle.view_lookup.specs.Effects.{object_effect};
     ghost use Rattle.view_lookup.specs.Subjects as model;
 
@@ -111,7 +111,7 @@ impl LookUp for ObjectOf<'_> {
         Subject::Object(self.view, self.path)
     }
 
-    ghost covered = { λ it. object_covered it.view.now it.path.now };
+    ghost bears = { λ it. object_bears it.view.now it.path.now };
 }
 
 /// An object, from its publish until a scrub takes it.
@@ -123,7 +123,7 @@ struct LivingOf {
 impl LookUp for LivingOf {
     type Item = u64;
 
-    ghost use Rattle.view_lookup.specs.Bearings.{living_covered};
+    ghost use Rattle.view_lookup.specs.Bearings.{living_bears};
     ghost use Rattle.view_lookup.specs.Effects.{living_effect};
     ghost use Rattle.view_lookup.specs.Subjects as model;
 
@@ -148,7 +148,7 @@ impl LookUp for LivingOf {
         Subject::Living(self.object)
     }
 
-    ghost covered = { λ it. living_covered it.object };
+    ghost bears = { λ it. living_bears it.object };
 }
 
 fn is_among(object: u64, objects: &[u64]) -> bool

@@ -22,7 +22,7 @@ struct OwnOf<'a> {
 impl LookUp for OwnOf<'_> {
     type Item = u64;
 
-    ghost use Rattle.view_lookup.specs.Bearings.{own_covered};
+    ghost use Rattle.view_lookup.specs.Bearings.{own_bears};
     ghost use Rattle.view_lookup.specs.Giving.{own_effect};
     ghost use Rattle.view_lookup.specs.Subjects as model;
 
@@ -38,7 +38,7 @@ impl LookUp for OwnOf<'_> {
         Subject::Owned(self.view)
     }
 
-    ghost covered = { λ it. own_covered it.view.now };
+    ghost bears = { λ it. own_bears it.view.now };
 }
 
 /// Whether a deed gives the view something.

@@ -60,7 +60,7 @@ struct PoolOf<'a, T> {
 impl<T: RecordTest> LookUp for PoolOf<'_, T> {
     type Item = u64;
 
-    ghost use Rattle.view_lookup.specs.Bearings.{pool_covered};
+    ghost use Rattle.view_lookup.specs.Bearings.{pool_bears};
     ghost use Rattle.view_lookup.specs.Effects.{pool_effect};
     ghost use Rattle.view_lookup.specs.Subjects as model;
 
@@ -80,7 +80,7 @@ impl<T: RecordTest> LookUp for PoolOf<'_, T> {
         Subject::Pool(self.targets)
     }
 
-    ghost covered = { λ it. pool_covered it.rows.now it.targets.now (T.passes it.test.now) };
+    ghost bears = { λ it. pool_bears it.rows.now it.targets.now (T.passes it.test.now) };
 }
 
 /// The newest live object with these targets whose record passes. Takes time linear in the targets, and for each object with

@@ -24,7 +24,7 @@ struct ReservingOf {
 impl LookUp for ReservingOf {
     type Item = u64;
 
-    ghost use Rattle.view_lookup.specs.Bearings.{reserving_covered};
+    ghost use Rattle.view_lookup.specs.Bearings.{reserving_bears};
     ghost use Rattle.view_lookup.specs.Effects.{reserving_effect};
     ghost use Rattle.view_lookup.specs.Subjects as subjects;
 
@@ -43,7 +43,7 @@ impl LookUp for ReservingOf {
         Subject::Reserved(self.branch)
     }
 
-    ghost covered = { λ it. reserving_covered it.branch };
+    ghost bears = { λ it. reserving_bears it.branch };
 }
 
 /// The newest reserved checkout that was made on a branch, whatever became of it.

@@ -38,7 +38,7 @@ struct WinkedOf<'a> {
 impl LookUp for WinkedOf<'_> {
     type Item = u64;
 
-    ghost use Rattle.view_lookup.specs.Bearings.{winked_covered};
+    ghost use Rattle.view_lookup.specs.Bearings.{winked_bears};
     ghost use Rattle.view_lookup.specs.Effects.{winked_effect};
     ghost use Rattle.view_lookup.specs.Subjects as subjects;
 
@@ -63,7 +63,7 @@ impl LookUp for WinkedOf<'_> {
         Subject::Winked(self.object)
     }
 
-    ghost covered = { λ it. winked_covered it.rows.now it.object };
+    ghost bears = { λ it. winked_bears it.rows.now it.object };
 }
 
 /// The numbers of the rows by which views that hold an object still winked it in, the newest first. Takes for each wink of it the

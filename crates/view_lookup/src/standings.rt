@@ -32,7 +32,7 @@ struct StandingOf<'a> {
 impl LookUp for StandingOf<'_> {
     type Item = u64;
 
-    ghost use Rattle.view_lookup.specs.Bearings.{standing_covered};
+    ghost use Rattle.view_lookup.specs.Bearings.{standing_bears};
     ghost use Rattle.view_lookup.specs.Effects.{standing_effect};
     ghost use Rattle.view_lookup.specs.Subjects as subjects;
 
@@ -54,7 +54,7 @@ impl LookUp for StandingOf<'_> {
         Subject::Desk(self.view)
     }
 
-    ghost covered = { λ it. standing_covered it.rows.now it.view.now };
+    ghost bears = { λ it. standing_bears it.rows.now it.view.now };
 }
 
 /// The row that made the view's oldest checkout. Takes time linear in what the view took out in its life and in lives before, and

@@ -20,7 +20,7 @@ struct NamedOf<'a> {
 impl LookUp for NamedOf<'_> {
     type Item = TypeKind;
 
-    ghost use Rattle.view_lookup.specs.Bearings.{named_covered};
+    ghost use Rattle.view_lookup.specs.Bearings.{named_bears};
     ghost use Rattle.view_lookup.specs.Effects.{named_effect};
     ghost use Rattle.view_lookup.specs.Subjects as model;
 
@@ -39,7 +39,7 @@ impl LookUp for NamedOf<'_> {
         Subject::Named(self.name)
     }
 
-    ghost covered = { λ it. named_covered it.name.now };
+    ghost bears = { λ it. named_bears it.name.now };
 }
 
 /// What the type of this name is a type of, where there is one. Takes the time of `newest`.

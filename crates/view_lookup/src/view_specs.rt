@@ -34,7 +34,7 @@ struct SetOf<'a> {
 impl LookUp for SetOf<'_> {
     type Item = u64;
 
-    ghost use Rattle.view_lookup.specs.Bearings.{set_covered};
+    ghost use Rattle.view_lookup.specs.Bearings.{set_bears};
     ghost use Rattle.view_lookup.specs.Effects.{set_effect};
     ghost use Rattle.view_lookup.specs.Subjects as model;
 
@@ -55,7 +55,7 @@ impl LookUp for SetOf<'_> {
         Subject::Spec(self.view)
     }
 
-    ghost covered = { λ it. set_covered it.view.now };
+    ghost bears = { λ it. set_bears it.view.now };
 }
 
 /// The row by which the view has its config spec: the last one that set it in the view's life, else the mkview row.

@@ -40,7 +40,7 @@ pub(crate) struct LifeOf<'a> {
 impl LookUp for LifeOf<'_> {
     type Item = u64;
 
-    ghost use Rattle.view_lookup.specs.Bearings.{life_covered};
+    ghost use Rattle.view_lookup.specs.Bearings.{life_bears};
     ghost use Rattle.view_lookup.specs.Effects.{life_effect};
     ghost use Rattle.view_lookup.specs.Subjects as model;
 
@@ -60,7 +60,7 @@ impl LookUp for LifeOf<'_> {
         Subject::Life(self.view)
     }
 
-    ghost covered = { λ it. life_covered it.view.now };
+    ghost bears = { λ it. life_bears it.view.now };
 }
 
 /// Where what a view has of its own ends.
@@ -72,7 +72,7 @@ struct EndOf<'a> {
 impl LookUp for EndOf<'_> {
     type Item = u64;
 
-    ghost use Rattle.view_lookup.specs.Bearings.{end_covered};
+    ghost use Rattle.view_lookup.specs.Bearings.{end_bears};
     ghost use Rattle.view_lookup.specs.Effects.{end_effect};
     ghost use Rattle.view_lookup.specs.Subjects as model;
 
@@ -92,7 +92,7 @@ impl LookUp for EndOf<'_> {
         Subject::Life(self.view)
     }
 
-    ghost covered = { λ it. end_covered it.view.now };
+    ghost bears = { λ it. end_bears it.view.now };
 }
 
 /// A view's private file at a path.
@@ -105,7 +105,7 @@ struct FileOf<'a> {
 impl LookUp for FileOf<'_> {
     type Item = u64;
 
-    ghost use Rattle.view_lookup.specs.Bearings.{file_covered};
+    ghost use Rattle.view_lookup.specs.Bearings.{file_bears};
     ghost use Rattle.view_lookup.specs.Effects.{file_effect};
     ghost use Rattle.view_lookup.specs.Subjects as model;
 
@@ -130,7 +130,7 @@ impl LookUp for FileOf<'_> {
         Subject::File(self.view, self.path)
     }
 
-    ghost covered = { λ it. file_covered it.view.now it.path.now };
+    ghost bears = { λ it. file_bears it.view.now it.path.now };
 }
 
 /// The mkview row with which the view's life began, where the view exists. Takes the time of `newest`.

@@ -3,7 +3,7 @@ use Rattle.std.proofs.Common.{◌≡◌, refl, sym, ap, ap₂, ◌∙◌}
 use Rattle.std.specs.Prelude.{option_map}
 use Rattle.legal_history.specs.Base.Rows.{size}
 use Rattle.legal_history.specs.Base.Views.{making_effect}
-use Rattle.view_lookup.specs.Effects.{end_effect, desk_effect, saved_effect, map_effect, map_told, row_of_kept}
+use Rattle.view_lookup.specs.Effects.{end_effect, desk_effect, saved_effect, map_effect, map_update, row_of_kept}
 use Rattle.view_lookup.specs.Lifetimes.{within, later}
 use Rattle.view_lookup.specs.LookUps.{newest}
 use Rattle.view_lookup.proofs.Endings.{ended_by, last_within, newest_mapped, newest_of_two}
@@ -16,7 +16,7 @@ returns c =
     let e = c.args.element in
     let b = c.args.rows.now in
     let rows : c.with_row-taken.result ≡ newest (λ older deed. map_effect row_of_kept (desk_effect v e older deed)) b =
-    c.with_row-taken.ensures ∙ ap (option_map (map_told row_of_kept)) c.newest.ensures ∙ sym (newest_mapped row_of_kept (desk_effect v e) b) in
+    c.with_row-taken.ensures ∙ ap (option_map (map_update row_of_kept)) c.newest.ensures ∙ sym (newest_mapped row_of_kept (desk_effect v e) b) in
     c.in_life.ensures
     ∙ ap (λ told. within (ended_by (newest (end_effect v) b)) told) (c.later.ensures ∙ ap₂ later rows c.newest-saved.ensures
     ∙ sym (newest_of_two (text_effect v e) (λ older deed. map_effect row_of_kept (desk_effect v e older deed)) (saved_effect v e) (λ older deed. refl) b))

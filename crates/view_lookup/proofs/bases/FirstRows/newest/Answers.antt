@@ -58,7 +58,7 @@ loop-next-init g c =
     let first : first_rows (suc count) all ≡ b = ap (λ (shown : Shown). first_rows (suc count) shown.base) c.base.view_is ∙ c.self.view_is in
     let told : first_told (told_at effect b) (marked c.base.inside.hashing (key c.base.inside.hashing subject) all) ≡ newest effect b =
     subst (λ (rows : Base). first_told (told_at effect rows) (marked c.base.inside.hashing (key c.base.inside.hashing subject) all) ≡ newest effect rows) first
-    (marks_of_first c.base.inside.hashing subject effect (g.met.L.LookUp.covered c.args.look.now) (suc count) all) in
+    (marks_of_first c.base.inside.hashing subject effect (g.met.L.LookUp.bears c.args.look.now) (suc count) all) in
     let none : (n : ℕ) → c.size.result ≤ n → told_at effect b n ≡ None = λ n behind. no_told effect b n (subst (λ bound. bound ≤ n) c.size.ensures.size behind) in
     record {
       within = c.first_below-next.ensures.there;

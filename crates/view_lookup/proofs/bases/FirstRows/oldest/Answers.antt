@@ -29,7 +29,7 @@ loop-next-init g c =
     let first : first_rows (suc count) all ≡ c.args.self.now = ap (λ (shown : Shown). first_rows (suc count) shown.base) c.base.view_is ∙ c.self.view_is in
     let told : last_set (set_at effect c.args.self.now) (marked c.base.inside.hashing (key c.base.inside.hashing subject) all) ≡ oldest effect c.args.self.now =
     subst (λ (b : Base). last_set (set_at effect b) (marked c.base.inside.hashing (key c.base.inside.hashing subject) all) ≡ oldest effect b) first
-    (oldest_of_first c.base.inside.hashing subject effect (g.met.L.LookUp.covered c.args.look.now) (suc count) all) in
+    (oldest_of_first c.base.inside.hashing subject effect (g.met.L.LookUp.bears c.args.look.now) (suc count) all) in
     let from : rows_from (reverse c.as_slice-links.result.now) c.copied-next.result ≡ marked c.base.inside.hashing (key c.base.inside.hashing subject) all =
     ap (λ (ls : List Link). rows_from (reverse ls) c.copied-next.result) same ∙ ap (rows_from (reverse links)) next ∙ c.base.invariant.marks.rows (key c.base.inside.hashing subject) in
     record {
