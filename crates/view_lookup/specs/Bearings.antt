@@ -9,13 +9,13 @@ use Rattle.cc_names.specs.declared.rows.Placed.{Placed}
 use Rattle.cc_names.specs.Versions.{is_number}
 use Rattle.legal_history.specs.Base.Changes.{targets_of, live}
 use Rattle.legal_history.specs.Base.Rows.{Base, size}
-use Rattle.view_lookup.specs.Effects.{life_effect, end_effect, gone_effect, file_effect, object_effect, living_effect, named_effect, merge_effect, set_effect, map_effect, kept_checkout, desk_effect, saved_effect, reserving_effect, stands, standing_effect, holds_one, winked_effect, pool_effect, leaving_effect}
+use Rattle.view_lookup.specs.Effects.{life_effect, end_effect, gone_effect, file_effect, object_effect, living_effect, named_effect, merge_effect, merged_effect, set_effect, map_effect, kept_checkout, desk_effect, saved_effect, reserving_effect, stands, standing_effect, holds_one, winked_effect, pool_effect, leaving_effect}
 use Rattle.legal_history.specs.Builds.Reuse.{are_same_paths}
 use Rattle.view_lookup.specs.Giving.{naming_effect, own_effect}
 use Rattle.view_lookup.specs.Histories.{history_effect, is_placed_on}
 use Rattle.view_lookup.specs.LookUps.{BearsOnAll}
 use Rattle.view_lookup.specs.Made.{is_target}
-use Rattle.view_lookup.specs.Subjects.{Life, Spec, Desk, File, Object, Out, Saved, Reserved, Named, Living, Winked, Merge, History, Leaving, Owned, Given, history_at, is_same, reserved_branch, reserved_subjects, Pool}
+use Rattle.view_lookup.specs.Subjects.{Life, Spec, Desk, File, Object, Out, Saved, Reserved, Named, Living, Winked, Merge, Merged, History, Leaving, Owned, Given, history_at, is_same, reserved_branch, reserved_subjects, Pool}
 use Rattle.view_lookup.specs.Pool.{Test}
 
 -- an effect where a test holds is none where neither it nor another holds
@@ -113,6 +113,10 @@ named_bears name older deed h = refl
 pub merge_bears : (e tail head : ℕ) → BearsOnAll (Merge e tail head) (merge_effect e tail head)
 merge_bears e tail head older (deeds.Arrow f one two) h = unless ((f == e) && (one == tail) && (two == head)) false (Sets (size older)) h
 merge_bears e tail head older deed h = refl
+
+pub merged_bears : (head : ℕ) → BearsOnAll (Merged head) (merged_effect head)
+merged_bears head older (deeds.Arrow e tail into) h = unless (into == head) false (Sets (size older)) h
+merged_bears head older deed h = refl
 
 pub set_bears : (v : List ℕ) → BearsOnAll (Spec v) (set_effect v)
 set_bears v older (deeds.Setcs w text) h = unless (bytes_eq w v) false (Sets (size older)) h

@@ -79,6 +79,11 @@ named_effect name older deed = type_effect name deed
 abbrev pub merge_effect : ℕ → ℕ → ℕ → Deeds ℕ
 merge_effect e tail head older deed = only_if (is_arrow e tail head deed) (Sets (size older))
 
+-- a version is merged into this one
+abbrev pub merged_effect : ℕ → Deeds ℕ
+merged_effect head older (deeds.Arrow e tail into) = only_if (into == head) (Sets (size older))
+merged_effect head older deed = Keeps
+
 -- a config spec is set
 abbrev pub set_effect : List ℕ → Deeds ℕ
 set_effect v older (deeds.Setcs w text) = only_if (bytes_eq w v) (Sets (size older))

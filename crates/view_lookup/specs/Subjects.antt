@@ -19,10 +19,10 @@ use Rattle.view_lookup.specs.declared.subjects.Subject.TheVariants as codes
 
 -- A view's life, its config spec, and all that it takes out; a view's private file at a path, and the object that it holds
 -- there; a view's checkout of an element, and the texts that it saves there; a name in a directory; the reserved checkouts on a
--- branch; the type of a name; an object, its winks, and the objects of a list of targets; a merge of two versions of an element;
--- what is done to an element and to its labels; the branches that leave a version; what a view puts or comes to hold, at whatever
--- paths; the names that are given in a directory; the names that are changed in the checkout that a row began; and the versions
--- of a branch that are made from a checkout in which a name was changed.
+-- branch; the type of a name; an object, its winks, and the objects of a list of targets; a merge of two versions of an element,
+-- and the merges into a version; what is done to an element and to its labels; the branches that leave a version; what a view puts
+-- or comes to hold, at whatever paths; the names that are given in a directory; the names that are changed in the checkout that a
+-- row began; and the versions of a branch that are made from a checkout in which a name was changed.
 pub data Subject : Type 0 where
   Life : List ℕ → Subject
   Spec : List ℕ → Subject
@@ -38,6 +38,7 @@ pub data Subject : Type 0 where
   Winked : ℕ → Subject
   Pool : List (List ℕ) → Subject
   Merge : ℕ → ℕ → ℕ → Subject
+  Merged : ℕ → Subject
   History : ℕ → Subject
   Leaving : ℕ → Subject
   Owned : List ℕ → Subject
@@ -85,7 +86,7 @@ subjects n targets branch (deeds.Setcs v text) = Spec v ∷ []
 subjects n targets branch (deeds.Put v path text) = File v path ∷ Owned v ∷ []
 subjects n targets branch (deeds.Rm v path) = File v path ∷ []
 subjects n targets branch (deeds.Mktype kind name) = Named name ∷ []
-subjects n targets branch (deeds.Arrow e tail head) = Merge e tail head ∷ []
+subjects n targets branch (deeds.Arrow e tail head) = Merge e tail head ∷ Merged head ∷ []
 subjects n targets branch (deeds.Label label e version) = History e ∷ []
 subjects n targets branch (deeds.Unlabel label e) = History e ∷ []
 subjects n targets branch (deeds.Labels label placed) = map history_at placed
@@ -142,6 +143,7 @@ is_same (Living id) (Living other) = other == id
 is_same (Winked id) (Winked other) = other == id
 is_same (Pool targets) (Pool others) = are_same_paths others targets
 is_same (Merge e tail head) (Merge f one two) = (f == e) && (one == tail) && (two == head)
+is_same (Merged head) (Merged other) = other == head
 is_same (History e) (History f) = f == e
 is_same (Leaving version) (Leaving other) = other == version
 is_same (Owned v) (Owned w) = bytes_eq w v
@@ -162,6 +164,7 @@ key hashing (Saved v e) = key_with hashing 6 e v
 key hashing (Named name) = key_of hashing 7 name
 key hashing (Living id) = key_by hashing 8 (id ∷ [])
 key hashing (Merge e tail head) = key_by hashing 9 (e ∷ tail ∷ head ∷ [])
+key hashing (Merged head) = key_by hashing 15 (head ∷ [])
 key hashing (NameIn directory name) = key_with hashing 10 directory name
 key hashing (Reserved branch) = key_by hashing 11 (branch ∷ [])
 key hashing (Pool targets) = key_by_paths hashing 12 targets
@@ -199,6 +202,7 @@ plain (codes.Living id) = Living id
 plain (codes.Winked id) = Winked id
 plain (codes.Pool targets) = Pool targets.now
 plain (codes.Merge e tail head) = Merge e tail head
+plain (codes.Merged head) = Merged head
 plain (codes.History e) = History e
 plain (codes.Leaving version) = Leaving version
 plain (codes.Owned v) = Owned v.now

@@ -45,6 +45,8 @@ pub(crate) enum Subject<'a> {
     Pool(&'a [Path]),
     /// A merge into a version of an element from another one: the element, that one, and the version.
     Merge(u64, u64, u64),
+    /// The merges into a version.
+    Merged(u64),
     /// What is done to an element and to its labels.
     History(u64),
     /// The branches that leave a version.
@@ -390,7 +392,11 @@ pub(crate) fn subject_at<'a>(
             element,
             tail,
             head,
-        } => one(Subject::Merge(*element, *tail, *head), index),
+        } => two(
+            Subject::Merge(*element, *tail, *head),
+            Subject::Merged(*head),
+            index,
+        ),
         Deed::Label { element, .. } => one(Subject::History(*element), index),
         Deed::Unlabel { element, .. } => one(Subject::History(*element), index),
         Deed::Labels { placed, .. } => placed_at(placed.as_slice(), index),
@@ -418,6 +424,7 @@ impl Subject<'_> {
             Subject::Living(object) => key_by_one(hashing, 8, object),
             Subject::Winked(object) => key_by_one(hashing, 13, object),
             Subject::Merge(element, tail, head) => key_by_three(hashing, 9, element, tail, head),
+            Subject::Merged(head) => key_by_one(hashing, 15, head),
             Subject::History(element) => key_by_one(hashing, 14, element),
             Subject::Leaving(version) => key_by_one(hashing, 16, version),
             Subject::Owned(view) => key_of(hashing, 17, view),
