@@ -17,7 +17,7 @@ fit ticks faults small few = record { ticks = small; faults = few; told = tt; fa
 
 -- a commit of four calls at the seventh tick ends at the eleventh, and not at the tenth
 commit_row : (row : Plain) → CountsStep (story_steps.Commit row 11) (counted 7 2) (counted 11 2)
-commit_row row = (refl, omega arith, refl, fit 11 2 (omega arith) (omega arith), tt)
+commit_row row = (refl, omega arith, refl, fit 11 2 (omega arith) (omega arith), tt, tt)
 
 commit_early : (row : Plain) → CountsStep (story_steps.Commit row 10) (counted 7 2) (counted 11 2) → ⊥
 commit_early row h = absurd (omega (arith, h.0))
@@ -36,7 +36,7 @@ fault_last tag = (refl, refl, refl, refl, refl, fit 10 18446744073709551615 (ome
 
 -- a refusal, a commit and a fault, one after the other
 three_rows : (tag : Tag) (refusal : Refusal) (row : Plain) → CountsSteps (story_steps.Other (steps.Refused tag refusal) ∷ story_steps.Commit row 11 ∷ story_steps.Other (steps.Fault tag None 2 3 12) ∷ []) (counted 7 2) (counted 12 3)
-three_rows tag refusal row = (counted 7 2, refl, (counted 11 2, (refl, omega arith, refl, fit 11 2 (omega arith) (omega arith), tt), (counted 12 3, (refl, refl, refl, refl, refl, fit 12 3 (omega arith) (omega arith), tt), refl)))
+three_rows tag refusal row = (counted 7 2, refl, (counted 11 2, (refl, omega arith, refl, fit 11 2 (omega arith) (omega arith), tt, tt), (counted 12 3, (refl, refl, refl, refl, refl, fit 12 3 (omega arith) (omega arith), tt), refl)))
 
 -- no call is made under a refusal
 refusal_idle : (tag : Tag) (refusal : Refusal) → CountsStep (story_steps.Other (steps.Refused tag refusal)) (counted 7 2) (counted 8 2) → ⊥

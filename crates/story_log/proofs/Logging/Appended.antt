@@ -19,9 +19,10 @@ use Rattle.vob_journal.specs.Lefts.{loose_after, settled_after}
 use Rattle.vob_journal.specs.Phases.{Spends, calls_of}
 use Rattle.vob_journal.specs.Moves.{Moves}
 use Rattle.vob_journal.specs.Added.{WritesOn, may_write}
+use Rattle.vob_journal.specs.Calls.{committed}
 use Rattle.vob_journal.specs.declared.left.Left.{Left}
 use Rattle.vob_journal.specs.declared.left.Left.TheVariants as lefts
-use Rattle.story_log.specs.Logging.Appending.{IsQuiet, MayLeaveRow, IsCommitted, IsFaulted, with_ending}
+use Rattle.story_log.specs.Logging.Appending.{CommitsRow, IsQuiet, MayLeaveRow, IsCommitted, IsFaulted, with_ending}
 use Rattle.story_log.specs.Logging.Leaving.{left_in, LeftSo}
 use Rattle.story_log.specs.Logging.Logs.{IsLogged, with_step_on}
 use Rattle.story_log.specs.Story.Telling.{oldest_first, story_of, AreTold}
@@ -69,9 +70,16 @@ pub some_calls : (settled : Bool) → 1 ≤ calls_of settled
 some_calls true = omega arith
 some_calls false = omega arith
 
+-- the calls that commit the row's spelling commit the row
+pub commits_row : (row : Plain) (frame : List ℕ) (settled : Bool) (tail : ℕ) (old new : Option Device) → frame ≡ spelled row → Both (λ d e. e ≡ committed settled tail frame d) old new → Both (CommitsRow row) old new
+commits_row row frame settled tail None None is h = tt
+commits_row row frame settled tail None (Some e) is h = absurd h
+commits_row row frame settled tail (Some d) None is h = absurd h
+commits_row row frame settled tail (Some d) (Some e) is h = (settled, tail, h ∙ ap (λ payload. committed settled tail payload d) is)
+
 -- the row was committed
-pub is_committed : (on : Handed) (kept more : List Step) (base grown : Base) (phases : List Phase) (tag : Tag) (number tick calls : ℕ) (row : Plain) (old new : Sight) (list loose : List (List ℕ)) (ended : Bool) (left : Left) (settled : Bool) → IsLogged on kept base phases old list loose ended left settled → more ≡ kept ++ steps.Commit tag number tick ∷ [] → grown ≡ row ∷ base → tick ≡ new.ticks → new.ticks ≡ old.ticks + calls → 1 ≤ calls → new.faults ≡ old.faults → IsFormed row → IsCounted new → Both WritesOn old.told new.told → IsCommitted (shown on kept base phases old) (shown on more grown phases new) row
-is_committed on kept more base grown phases tag number tick calls row old new list loose ended left settled h e g at spent some same formed fit writes = record {
+pub is_committed : (on : Handed) (kept more : List Step) (base grown : Base) (phases : List Phase) (tag : Tag) (number tick calls : ℕ) (row : Plain) (old new : Sight) (list loose : List (List ℕ)) (ended : Bool) (left : Left) (settled : Bool) → IsLogged on kept base phases old list loose ended left settled → more ≡ kept ++ steps.Commit tag number tick ∷ [] → grown ≡ row ∷ base → tick ≡ new.ticks → new.ticks ≡ old.ticks + calls → 1 ≤ calls → new.faults ≡ old.faults → IsFormed row → IsCounted new → Both WritesOn old.told new.told → Both (CommitsRow row) old.told new.told → IsCommitted (shown on kept base phases old) (shown on more grown phases new) row
+is_committed on kept more base grown phases tag number tick calls row old new list loose ended left settled h e g at spent some same formed fit writes calls' = record {
   tick = tick;
   sight = new;
   formed = formed;
@@ -82,6 +90,7 @@ is_committed on kept more base grown phases tag number tick calls row old new li
   faults = same;
   fit = fit;
   writes = writes;
+  calls = calls';
 }
 
 -- the disk failed

@@ -1,15 +1,18 @@
 -- What became of a row that was to be committed.
-use Rattle.std.specs.Prelude.{◌≡◌, ℕ, ◌<◌, ◌≤◌, ◌⊎◌, true, false, Option, Some, None, List}
+use Rattle.std.specs.Prelude.{◌≡◌, ℕ, ◌<◌, ◌≤◌, ◌⊎◌, Bool, true, false, Option, Some, None, List}
 use Rattle.cc_names.specs.Formed.{Plain, IsFormed}
 use Rattle.cc_names.specs.declared.steps.Step.{Step}
 use Rattle.cc_names.specs.declared.steps.Step.TheVariants as steps
 use Rattle.cc_names.specs.declared.steps.StoryStep.TheVariants as story_steps
 use Rattle.disk_model.specs.Counting.{next_count}
+use Rattle.disk_model.specs.Devices.{Device}
 use Rattle.disk_model.specs.Told.{Sight, Both, IsCounted}
 use Rattle.legal_history.specs.Stories.States.{State, ticks_of, faults_of, hanging}
 use Rattle.legal_history.specs.Stories.Steps.{state_of}
 use Rattle.cc_names.specs.Counts.{rises}
+use Rattle.row_form.specs.Spelled.{spelled}
 use Rattle.vob_journal.specs.Added.{WritesOn}
+use Rattle.vob_journal.specs.Calls.{committed}
 use Rattle.story_log.specs.Story.Faults.{is_fault}
 use Rattle.story_log.specs.Logging.Logs.{Logged, with_row, with_step, with_step_on}
 use Rattle.story_log.specs.Story.Telling.{stands_alone}
@@ -20,6 +23,10 @@ use Rattle.story_log.specs.declared.logs.Appended.TheVariants as appends
 abbrev pub MayLeaveRow : State → Plain → Option Plain → Type 0
 MayLeaveRow s row None = Unit {0}
 MayLeaveRow s row (Some left) = (left ≡ row) ⊎ (hanging s.ends ≡ Some left)
+
+-- the calls that commit a row behind a tail, and no others
+abbrev pub CommitsRow : Plain → Device → Device → Type 0
+CommitsRow row d e = (settled : Bool) × (tail : ℕ) × (e ≡ committed settled tail (spelled row) d)
 
 -- the row was committed at a later tick than any end before
 pub record IsCommitted (old new : Logged) (row : Plain) : Type 0 where
@@ -33,6 +40,7 @@ pub record IsCommitted (old new : Logged) (row : Plain) : Type 0 where
   pub faults : sight.faults ≡ old.sight.faults
   pub fit : IsCounted sight
   pub writes : Both WritesOn old.sight.told sight.told
+  pub calls : Both (CommitsRow row) old.sight.told sight.told
 
 -- a step that names no row and no phase, and is no fault of the disk
 abbrev pub IsQuiet : Step → Type 0

@@ -61,7 +61,7 @@ counts_so log new old row appends.Committed view became =
     (record {
       steps = story_steps.Commit row done.tick ∷ [];
       grows = ap (λ (l : Logged). l.story) done.grows;
-      counts = (done.sight, (done.at, done.spent, done.faults, done.fit, done.writes), ap (λ (l : Logged). l.sight) done.grows);
+      counts = (done.sight, (done.at, done.spent, done.faults, done.fit, done.writes, done.calls), ap (λ (l : Logged). l.sight) done.grows);
     })
 counts_so log new old row appends.Faulted view became =
     let done : IsFaulted log new row None = became in
