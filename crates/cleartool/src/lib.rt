@@ -21,7 +21,6 @@ mod histories;
 mod lines;
 mod listed_names;
 mod listings;
-mod named_versions;
 mod queries;
 mod record_differences;
 mod record_texts;

@@ -7,7 +7,6 @@ ghost use Rattle.legal_history.specs.Queries.QueryLines.{cat, version_seen};
 ghost use Rattle.cleartool.specs.Answering.{AnswersAs};
 
 use crate::file_texts::text_at;
-use crate::named_versions::version_named;
 use cc_names::commands::VersionName;
 use cc_names::memory::{NoMemory, Or};
 use cc_names::names::Name;
@@ -16,7 +15,7 @@ use cc_names::refusals::Refusal;
 use cc_names::selection::Seen;
 use cc_names::texts::Text;
 use std::alloc::Global;
-use view_lookup::{FirstRows, at, is_directory_element, view_row};
+use view_lookup::{FirstRows, at, is_directory_element, version_named, view_row};
 
 /// The version of this name of the element that stands at a path, selected or not.
 fn version_seen(rows: &FirstRows<'_>, seen: Seen, name: &VersionName) -> Option<u64>

@@ -32,6 +32,7 @@ mod look_ups;
 mod marks;
 mod merged;
 mod merges;
+mod named_versions;
 mod number_keys;
 mod objects;
 mod owned;
@@ -67,6 +68,7 @@ pub use leaving::branches_leaving;
 pub use listings::is_publish;
 pub use merged::arrows_into;
 pub use merges::arrow_row;
+pub use named_versions::version_named;
 pub use objects::{held, held_at_all, live, targets_of};
 pub use owned::rows_owning;
 pub use picks::pick;
@@ -77,8 +79,8 @@ pub use seen::{at, file_at, is_directory, kind_of};
 pub use standings::oldest_out;
 pub use texts::{text_at, text_of};
 pub use trees::{
-    branch_named, branch_of_version, has_branch, is_latest, is_number, is_version_of,
-    latest_beside, latest_version, name_of_branch, origin_of, version_id_of, version_numbered,
+    branch_named, branch_of_version, has_branch, is_latest, is_version_of, latest_beside,
+    latest_version, name_of_branch, origin_of, version_id_of, version_numbered,
 };
 pub use types::{is_branch_type, is_label_type, is_type_taken, kind_of_type};
 pub use view_specs::{rules, spec_text};

@@ -14,7 +14,7 @@ use cc_names::changes::VersionId;
 use cc_names::names::Name;
 
 /// Whether there is a number, and it is this one.
-pub fn is_number(number: u64, found: Option<u64>) -> bool
+pub(crate) fn is_number(number: u64, found: Option<u64>) -> bool
     ensures { result ≡ is_number number found }
 {
     match found {

@@ -1,7 +1,7 @@
 use Rattle.std.proofs.Common.{◌≡◌, drop}
 use Rattle.cc_names.specs.Branches.{branch_behind, branch_from}
 use Rattle.legal_history.specs.Base.Changes.{tree}
-use Rattle.cleartool.proofs.named_versions.branch_behind.Given as goal
+use Rattle.view_lookup.proofs.named_versions.branch_behind.Given as goal
 
 -- the names that are left lead on from the branch that was found
 abbrev pub invariant-loop-name : goal.invariant-loop-name

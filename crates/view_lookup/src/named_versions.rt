@@ -5,11 +5,10 @@ ghost use Rattle.cc_names.specs.Branches.{branch_above, branch_behind, branch_na
 ghost use Rattle.legal_history.specs.Base.Changes.{tree};
 ghost use Rattle.legal_history.specs.Commands.LabelLines.{version_named};
 
+use crate::bases::FirstRows;
+use crate::trees::{branch_named, branch_of_version, is_number, origin_of, version_numbered};
 use cc_names::commands::VersionName;
 use cc_names::names::Name;
-use view_lookup::{
-    FirstRows, branch_named, branch_of_version, is_number, origin_of, version_numbered,
-};
 
 /// The branch that a branch leaves; `main` leaves none.
 fn branch_above(rows: &FirstRows<'_>, branch: u64) -> Option<u64>
@@ -45,7 +44,7 @@ fn branch_behind(rows: &FirstRows<'_>, element: u64, names: &[Name]) -> Option<u
 
 /// The element's version of this name. Takes for each branch in the name the time of `branch_named`, and time logarithmic in the
 /// changes.
-pub(crate) fn version_named(rows: &FirstRows<'_>, element: u64, name: &VersionName) -> Option<u64>
+pub fn version_named(rows: &FirstRows<'_>, element: u64, name: &VersionName) -> Option<u64>
     ensures { result ≡ version_named rows.now element name.now }
 {
     let branch = branch_behind(rows, element, name.branches.as_slice())?;
