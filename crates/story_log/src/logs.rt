@@ -44,7 +44,8 @@ pub struct Log<D: Disk> {
 impl<D: Disk> Model for Log<D> {
     ghost use Rattle.story_log.specs.Story.Handed.{handed_in};
     ghost use Rattle.story_log.specs.Logging.Logs.{Logged, IsLogged};
-    ghost use Rattle.story_log.specs.Story.Telling.{oldest_first, story_of};
+    ghost use Rattle.story_log.specs.Story.Telling.{story_of};
+    ghost use Rattle.view_lookup.specs.Order.{oldest_first};
 
     ghost Value = { Logged };
 
@@ -131,7 +132,8 @@ impl<D: Disk> Log<D> {
     ghost use Rattle.story_log.specs.Story.Handed.{handed_in};
     ghost use Rattle.story_log.specs.Story.Faults.{is_fault};
     ghost use Rattle.story_log.specs.Logging.Logs.{opened_log, with_phase, with_step, with_sight};
-    ghost use Rattle.story_log.specs.Story.Telling.{oldest_first, stands_alone};
+    ghost use Rattle.story_log.specs.Story.Telling.{stands_alone};
+    ghost use Rattle.view_lookup.specs.Order.{oldest_first};
         ghost use Rattle.disk_model.specs.Told.{Both};
     ghost use Rattle.legal_history.specs.Base.Fits.{fits};
     ghost use Rattle.vob_journal.specs.Added.{WritesOn};

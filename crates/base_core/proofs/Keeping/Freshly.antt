@@ -14,7 +14,7 @@ use Rattle.story_log.specs.Logging.Logs.{Logged, opened_log, with_sight}
 use Rattle.story_log.specs.Bases.Opening.{IsBaseOn, IsOpened, OpensCore}
 use Rattle.story_log.specs.Story.Formed.{AreFormed}
 use Rattle.story_log.specs.Story.Handed.{Handed}
-use Rattle.story_log.specs.Story.Telling.{oldest_first}
+use Rattle.view_lookup.specs.Order.{oldest_first}
 use Rattle.story_log.proofs.Bases.Damages.{undamaged_on}
 use Rattle.story_log.proofs.Logging.LogSteps.{oldest_back}
 

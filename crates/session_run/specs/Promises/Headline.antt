@@ -26,7 +26,7 @@ use Rattle.cc_outside.specs.Sights.{ClockSight}
 use Rattle.disk_model.specs.Told.{Sight}
 use Rattle.story_log.specs.Bases.Opening.{IsBaseOn}
 use Rattle.story_log.specs.Story.Handed.{Handed}
-use Rattle.story_log.specs.Story.Telling.{oldest_first}
+use Rattle.view_lookup.specs.Order.{oldest_first}
 use Rattle.legal_history.specs.Base.Rows.{Base}
 use Rattle.session_text.specs.Sessions.{session_of}
 use Rattle.legal_history.specs.Stories.Commanded.{IsOfCommand}

@@ -13,7 +13,8 @@ use Rattle.legal_history.specs.Stories.Steps.{state_of}
 use Rattle.vob_journal.specs.declared.left.Left.{Left}
 use Rattle.story_log.specs.Stopping.Backed.{IsBacked}
 use Rattle.story_log.specs.Logging.Logs.{IsLogged, Logged, opened_log}
-use Rattle.story_log.specs.Story.Telling.{oldest_first, story_of, AreTold}
+use Rattle.story_log.specs.Story.Telling.{story_of, AreTold}
+use Rattle.view_lookup.specs.Order.{oldest_first}
 use Rattle.story_log.specs.Story.Handed.{Handed}
 
 -- the story of the opening alone

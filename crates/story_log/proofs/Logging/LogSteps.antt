@@ -9,7 +9,8 @@ use Rattle.cc_names.specs.declared.steps.Step.TheVariants as steps
 use Rattle.disk_model.specs.Told.{Sight}
 use Rattle.legal_history.specs.Base.Rows.{Base}
 use Rattle.story_log.specs.Logging.Logs.{Logged, with_phase, with_row, with_step, with_step_on}
-use Rattle.story_log.specs.Story.Telling.{oldest_first, story_of, AreTold, stands_alone}
+use Rattle.story_log.specs.Story.Telling.{story_of, AreTold, stands_alone}
+use Rattle.view_lookup.specs.Order.{oldest_first}
 use Rattle.story_log.specs.Story.Handed.{Handed}
 use Rattle.story_log.proofs.Story.Stories.{story_of-phase, told_beginning, story_of-commit, told_commit, story_of-step, told_step}
 

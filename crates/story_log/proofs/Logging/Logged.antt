@@ -19,7 +19,8 @@ use Rattle.story_log.specs.Stopping.Backed.{IsBacked}
 use Rattle.story_log.specs.Story.Faults.{is_fault}
 use Rattle.story_log.specs.Logging.Leaving.{left_in, LeftSo}
 use Rattle.story_log.specs.Logging.Logs.{IsLogged}
-use Rattle.story_log.specs.Story.Telling.{oldest_first, story_of, AreTold, stands_alone}
+use Rattle.story_log.specs.Story.Telling.{story_of, AreTold, stands_alone}
+use Rattle.view_lookup.specs.Order.{oldest_first}
 use Rattle.story_log.specs.Story.Handed.{Handed}
 use Rattle.story_log.proofs.Story.Growing.{state_from-more}
 use Rattle.story_log.proofs.Logging.Leavings.{hanging_is}

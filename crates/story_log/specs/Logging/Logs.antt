@@ -11,7 +11,8 @@ use Rattle.legal_history.specs.Stories.Steps.{state_of}
 use Rattle.vob_journal.specs.declared.left.Left.{Left}
 use Rattle.story_log.specs.Stopping.Backed.{IsBacked}
 use Rattle.story_log.specs.Story.Handed.{Handed}
-use Rattle.story_log.specs.Story.Telling.{oldest_first, story_of, AreTold}
+use Rattle.story_log.specs.Story.Telling.{story_of, AreTold}
+use Rattle.view_lookup.specs.Order.{oldest_first}
 
 -- a story, oldest step first, with the base to which it has led and all phases, in their order, and what contracts see of the
 -- disk

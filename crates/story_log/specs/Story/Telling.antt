@@ -1,18 +1,13 @@
 -- How steps that name rows and phases by their numbers are told: a commit with its row, the beginning of a phase with that phase.
 use Rattle.std.specs.Bool.{⊤}
-use Rattle.std.specs.Prelude.{◌≡◌, ℕ, ◌+◌, ◌-◌, ◌≤◌, Bool, true, false, List, [], ◌∷◌, ◌++◌, length, reverse, take, drop}
+use Rattle.std.specs.Prelude.{◌≡◌, ℕ, ◌+◌, ◌-◌, ◌≤◌, Bool, true, false, List, [], ◌∷◌, ◌++◌, length, take, drop}
 use Rattle.cc_names.specs.Formed.{Plain}
 use Rattle.cc_names.specs.declared.commands.Phase.{Phase}
 use Rattle.cc_names.specs.declared.steps.Step.{Step}
 use Rattle.cc_names.specs.declared.steps.Step.TheVariants as steps
 use Rattle.cc_names.specs.declared.steps.StoryStep.{StoryStep}
 use Rattle.cc_names.specs.declared.steps.StoryStep.TheVariants as story_steps
-use Rattle.legal_history.specs.Base.Rows.{Base}
 use Rattle.story_log.specs.Story.Handed.{Handed}
-
--- the rows of a base, oldest first, as a story tells them
-abbrev pub oldest_first : Base → List Plain
-oldest_first base = reverse base
 
 -- The steps as they are told: the opened rows first, with how the disk was handed in, then each commit with the next row and
 -- each beginning of a phase with the next one.
