@@ -21,6 +21,7 @@ use Rattle.legal_history.specs.Base.Rows.{Base, size, row_at}
 use Rattle.legal_history.specs.Commands.ObjectLines.{due, due_among, is_due}
 use Rattle.legal_history.proofs.Reuse.SoundRows.{live_below}
 use Rattle.legal_history.proofs.Stories.Goes.{same_number}
+use Rattle.view_lookup.specs.Order.{oldest_first}
 use Rattle.view_lookup.proofs.RowTexts.{row_numbered}
 use Rattle.checkout_desk.specs.Dues.{due_from}
 
@@ -143,14 +144,14 @@ due_tested b moment age id row at = by (is_publish_deed (Some row.deed)) refl
     by false is = sym (ap (λ (found : Option ℕ). is_some found && not (is_held (held b) id) && nat_le (row.moment + age) moment) (unpublished b id row at is))
 
 -- the row at a place of the list from the oldest on
-pub numbered_row : (b : Base) (all : List Plain) (i : ℕ) (row : Plain) → reverse all ≡ b → i < length all → row ≡ get_or all i row → row_at b (suc i) ≡ Some row
-numbered_row b all i row is within at = ap (λ (rows : Base). row_at rows (suc i)) (sym is) ∙ row_numbered all i ∙ slice_get_read all (length all) i row refl within at
+pub numbered_row : (b : Base) (all : List Plain) (i : ℕ) (row : Plain) → all ≡ oldest_first b → i < length all → row ≡ get_or all i row → row_at b (suc i) ≡ Some row
+numbered_row b all i row is within at = ap (λ (rows : Base). row_at rows (suc i)) (sym (ap reverse is ∙ reverse-reverse b)) ∙ row_numbered all i ∙ slice_get_read all (length all) i row refl within at
 
 -- what was found when all rows are read is what is due
-pub all_read : (b : Base) (moment age number i : ℕ) (all : List Plain) (found : List ℕ) → reverse all ≡ b → length all ≤ i → found ++ due_from b moment age (suc number) (drop i all) ≡ due_from b moment age 1 all → found ≡ due b moment age
+pub all_read : (b : Base) (moment age number i : ℕ) (all : List Plain) (found : List ℕ) → all ≡ oldest_first b → length all ≤ i → found ++ due_from b moment age (suc number) (drop i all) ≡ due_from b moment age 1 all → found ≡ due b moment age
 all_read b moment age number i all found is past so =
     sym (append-nil found)
     ∙ sym (at_drop_all (λ (left : List Plain). found ++ due_from b moment age (suc number) left) all i past)
     ∙ so
-    ∙ ap (due_from b moment age 1) (sym (reverse-reverse all) ∙ ap reverse is)
+    ∙ ap (due_from b moment age 1) is
     ∙ due_read b moment age b
