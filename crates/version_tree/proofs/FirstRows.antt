@@ -1,5 +1,5 @@
 -- The versions that the first rows of a base made, and the order of versions.
-use Rattle.std.proofs.Common.{◌≡◌, ℕ, ◌+◌, ◌<◌, ◌≤◌, Bool, true, false, cond, eqb, ltb, List, [], ◌∷◌, length, map, Option, Some, None, refl, inl, inr, ap, ◌∙◌, arith}
+use Rattle.std.proofs.Common.{◌≡◌, ℕ, ◌+◌, ◌<◌, ◌≤◌, Bool, true, false, cond, eqb, ltb, List, [], ◌∷◌, length, map, Option, Some, None, ◌⊎◌, refl, inl, inr, ap, ◌∙◌, arith}
 use Rattle.std.specs.Prelude.{filter, find}
 use Rattle.std.proofs.lemmas.Bool.Decides.{nat_tests, Decides-eqb}
 use Rattle.cc_names.specs.Versions.{Version, row_of_change, branch_of_change, row_of_version, version_made, of_first_rows, versions_on, put_if}
@@ -7,7 +7,10 @@ use Rattle.cc_names.specs.declared.changes.TreeChange.{TreeChange}
 use Rattle.cc_names.specs.Falling.{IsAbove, Falls}
 use Rattle.version_tree.specs.Branches.{row_of_later, versions_from}
 use Rattle.version_tree.specs.declared.branches.Later.{Later}
-use Rattle.version_tree.proofs.Links.{bool_cases}
+
+pub bool_cases : (b : Bool) → (b ≡ true) ⊎ (b ≡ false)
+bool_cases true = inl refl
+bool_cases false = inr refl
 
 -- a greater row is above as well
 pub above_le : (row higher : ℕ) (rows : List ℕ) → row ≤ higher → IsAbove row rows → IsAbove higher rows

@@ -4,21 +4,19 @@ use Rattle.std.specs.Prelude.{filter, find, option_map, option_copied}
 use denote.Ref.{Bor}
 use Rattle.cc_names.specs.Versions.{row_of_change, change_at, of_first_rows, versions_on}
 use Rattle.cc_names.specs.Falling.{Falls}
-use Rattle.version_tree.specs.Namesakes.{change_of, changes_of}
 use Rattle.version_tree.specs.Branches.{row_of_later, versions_by}
-use Rattle.version_tree.specs.TreeFields.{row_of_made, branch_at, InStep}
-use Rattle.version_tree.specs.declared.namesakes.Made.{Made}
+use Rattle.version_tree.specs.TreeFields.{change_of, changes_of, row_of_made, branch_at, InStep}
+use Rattle.version_tree.specs.declared.changes.Made.{Made}
 use Rattle.version_tree.specs.declared.branches.Branch.{Branch}
 use Rattle.version_tree.proofs.FirstRows.{versions_of_first_rows, versions_fall, later_falls}
 use Rattle.version_tree.proofs.Steps.{rows_of_made}
-use Rattle.std.specs.declared.random_state.RandomState.{RandomState}
 
 -- what holds of a copy holds of what a reference points to
 pub if_copied : {X : Type 0} (P : X → Type 0) (o : Option (Bor X)) → IfSome (option_copied o) P → IfSome o (λ x. P x.now)
 if_copied P None holds = tt
 if_copied P (Some x) holds = holds
 
-module _ {h : RandomState} (made : List Made) (branches : List Branch) (heads : ℕ → Option ℕ) (step : InStep h made branches heads) where
+module _ (made : List Made) (branches : List Branch) (step : InStep made branches) where
   -- the rows of the changes fall
   pub changes_fall : Falls (map row_of_change (changes_of made))
   changes_fall = rw (rows_of_made made) step.falls
@@ -38,7 +36,7 @@ module _ {h : RandomState} (made : List Made) (branches : List Branch) (heads : 
   found_falls b (Some branch) is =
       later_falls branch.row branch.moment (reverse branch.later.items) (rw (versions_found b (Some branch) is) (versions_fall (changes_of made) b changes_fall))
 
--- a change is found by its row, with its link or without
+-- a change is found by its row
 pub change_found : (made : List Made) (row : ℕ) → change_at (changes_of made) row ≡ option_map change_of (find (λ m. eqb (row_of_made m) row) made)
 change_found [] row = refl
 change_found (m ∷ made) row = at (eqb (row_of_made m) row) (change_found made row)
@@ -49,11 +47,9 @@ change_found (m ∷ made) row = at (eqb (row_of_made m) row) (change_found made 
     at false rest = rest
 
 -- nothing is there
-pub nothing_in_step : (h : RandomState) (heads : ℕ → Option ℕ) → ((key : ℕ) → heads key ≡ None) → InStep h [] [] heads
-nothing_in_step h heads none = record {
+pub nothing_in_step : InStep [] []
+nothing_in_step = record {
   falls = tt;
-  linked = tt;
-  newest = none;
   branches_fall = tt;
   branches_made = λ row above. tt;
   kept = λ b. refl;

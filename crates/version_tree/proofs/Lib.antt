@@ -1,6 +1,5 @@
 pub mod FirstRows
 mod Found
-mod Links
 mod VersionIds
 mod Readiness
 mod Steps

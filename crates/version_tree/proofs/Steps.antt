@@ -1,5 +1,5 @@
 -- The fields of a tree stay in step as changes are added.
-use Rattle.std.proofs.Common.{◌≡◌, ◌≢◌, ℕ, zero, suc, ◌<◌, Bool, true, false, cond, ◌||◌, eqb, ltb, List, [], ◌∷◌, ◌++◌, length, get_or, set, map, reverse, Option, Some, None, slice_get, vec_len, vec_capacity, refl, inl, inr, sym, ap, ◌∙◌, arith}
+use Rattle.std.proofs.Common.{◌≡◌, ◌≢◌, ℕ, zero, suc, ◌<◌, Bool, true, false, cond, ◌||◌, eqb, ltb, List, [], ◌∷◌, ◌++◌, length, get_or, set, map, reverse, Some, None, slice_get, vec_len, vec_capacity, refl, inl, inr, sym, ap, ◌∙◌, arith}
 use Rattle.std.specs.Prelude.{find}
 use Rattle.std.specs.List.{list_any}
 use Rattle.std.proofs.lemmas.List.{reverse-append, length-set, get_or-set_same, get_or-set_other}
@@ -9,15 +9,13 @@ use Rattle.std.proofs.lemmas.Option.{slice_get-get_or}
 use Rattle.cc_names.specs.Versions.{Version, row_of_change, branch_of_change, moment_of_change, versions_on, latest, put_if}
 use Rattle.cc_names.specs.declared.changes.TreeChange.TheVariants.{VersionMade}
 use Rattle.cc_names.specs.Falling.{IsAbove, Falls}
-use Rattle.version_tree.specs.Namesakes.{changes_of, has_key, newest_with}
 use Rattle.version_tree.specs.Branches.{versions_from, versions_kept, versions_by}
-use Rattle.version_tree.specs.TreeFields.{row_of_made, row_of_branch, ready_branches, branch_at, InStep}
-use Rattle.version_tree.specs.declared.namesakes.Made.{Made}
+use Rattle.version_tree.specs.TreeFields.{changes_of, row_of_made, row_of_branch, ready_branches, branch_at, InStep}
+use Rattle.version_tree.specs.declared.changes.Made.{Made}
 use Rattle.version_tree.specs.declared.branches.Branch.{Branch}
 use Rattle.version_tree.specs.declared.branches.Later.{Later}
-use Rattle.version_tree.proofs.Links.{bool_cases}
+use Rattle.version_tree.proofs.FirstRows.{bool_cases}
 use Rattle.cc_names.proofs.ByRows.{find_first, find-reverse, rises_below}
-use Rattle.std.specs.declared.random_state.RandomState.{RandomState}
 
 -- the rows of changes
 pub rows_of_made : (made : List Made) → map row_of_change (changes_of made) ≡ map row_of_made made
@@ -34,17 +32,13 @@ abbrev version_of : ℕ → ℕ → ℕ → Version
 version_of row moment branch = record { row = row; moment = moment; branch = branch; number = 0 }
 
 -- a change that begins a branch, and the branch with version 0 alone
-pub branch_added : {h : RandomState} (m : Made) (b : Branch) (made : List Made) (branches : List Branch) (heads heads' : ℕ → Option ℕ)
-    → InStep h made branches heads
+pub branch_added : (m : Made) (b : Branch) (made : List Made) (branches : List Branch)
+    → InStep made branches
     → row_of_change m.change ≡ b.row → branch_of_change m.change ≡ b.row → moment_of_change m.change ≡ b.moment → b.later.items ≡ []
     → IsAbove b.row (map row_of_made made)
-    → ((key : ℕ) → has_key h key m.change ≡ true → m.namesake ≡ newest_with h key made)
-    → ((key : ℕ) → heads' key ≡ newest_with h key (m ∷ made))
-    → InStep h (m ∷ made) (b ∷ branches) heads'
-branch_added m b made branches heads heads' step rows on moments empty above link newest = record {
+    → InStep (m ∷ made) (b ∷ branches)
+branch_added m b made branches step rows on moments empty above = record {
   falls = (rw rows above, step.falls);
-  linked = (link, step.linked);
-  newest = newest;
   branches_fall = (step.branches_made b.row above, step.branches_fall);
   branches_made = λ row higher. (rw (← rows) higher.0, step.branches_made row higher.1);
   kept = λ q. elim (bool_cases (eqb b.row q)) [
@@ -164,28 +158,25 @@ kept_more b b' l branch row row' moments more =
     ap (λ vs. version_behind branch l vs ∷ vs) older ∙ sym (by_row ∙ by_moment ∙ by_items)
 
 -- the next version on a branch that is there
-pub version_added : {h : RandomState} (m : Made) (made : List Made) (items : List Branch) (p : ℕ) (b' : Branch) (row moment branch : ℕ) (heads : ℕ → Option ℕ)
-    → InStep h made (reverse items) heads
+pub version_added : (m : Made) (made : List Made) (items : List Branch) (p : ℕ) (b' : Branch) (row moment branch : ℕ)
+    → InStep made (reverse items)
     → m.change ≡ VersionMade row moment branch
     → IsAbove row (map row_of_made made)
     → p < length items → slice_get items p ≡ find (λ b. eqb b.row branch) items
     → b'.row ≡ branch → ((d : Branch) → b'.moment ≡ (get_or items p d).moment) → ((d : Branch) → b'.later.items ≡ (get_or items p d).later.items ++ record { row = row; moment = moment } ∷ [])
-    → InStep h (m ∷ made) (reverse (set items p b')) heads
-version_added {h = h} m made items p b' row moment branch heads step is above within found same_row same_moment more =
+    → InStep (m ∷ made) (reverse (set items p b'))
+version_added m made items p b' row moment branch step is above within found same_row same_moment more =
     let there = row_there items branch p step.branches_fall within found in
     let old = get_or items p b' in
     let rows : map row_of_branch (reverse (set items p b')) ≡ map row_of_branch (reverse items) =
     map-reverse row_of_branch (set items p b') ∙ ap reverse (rows_set items p b' within (λ d. there d ∙ sym same_row)) ∙ sym (map-reverse row_of_branch items) in
     let fall_after : Falls (map row_of_branch (reverse (set items p b'))) = rw rows step.branches_fall in
-    let no_key : (key : ℕ) → has_key h key m.change ≡ false = λ key. rw is refl in
     let old_found : branch_at (reverse items) branch ≡ Some old =
     find-reverse row_of_branch branch items step.branches_fall ∙ sym found ∙ slice_get-get_or items p b' within in
     let new_found : branch_at (reverse (set items p b')) branch ≡ Some b' =
     find-reverse row_of_branch branch (set items p b') fall_after ∙ find_set_here items branch p step.branches_fall within found b' same_row in
     record {
       falls = (rw is above, step.falls);
-      linked = ((λ key has. cc (no_key key)), step.linked);
-      newest = λ key. step.newest key ∙ rw (no_key key) refl;
       branches_fall = fall_after;
       branches_made = λ r higher. rw rows (step.branches_made r higher.1);
       kept = λ q. elim (bool_cases (eqb branch q)) [
@@ -213,24 +204,12 @@ not_ready branch (x ∷ items) none = elim (bool_cases (eqb x.row branch)) [
     over_put true fails rest = rw fails rest
     over_put false fails rest = rest
 
--- the map in another order
-pub map_reordered : {h : RandomState} (made : List Made) (branches : List Branch) (heads heads' : ℕ → Option ℕ)
-    → InStep h made branches heads → ((key : ℕ) → heads' key ≡ heads key) → InStep h made branches heads'
-map_reordered made branches heads heads' step same_heads = record {
-  falls = step.falls;
-  linked = step.linked;
-  newest = λ key. same_heads key ∙ step.newest key;
-  branches_fall = step.branches_fall;
-  branches_made = step.branches_made;
-  kept = step.kept;
-}
-
 -- a branch with more room
-pub room_made : {h : RandomState} (made : List Made) (items : List Branch) (p : ℕ) (b' : Branch) (branch : ℕ) (heads : ℕ → Option ℕ)
-    → InStep h made (reverse items) heads → p < length items → slice_get items p ≡ find (λ b. eqb b.row branch) items
+pub room_made : (made : List Made) (items : List Branch) (p : ℕ) (b' : Branch) (branch : ℕ)
+    → InStep made (reverse items) → p < length items → slice_get items p ≡ find (λ b. eqb b.row branch) items
     → b'.row ≡ branch → ((d : Branch) → b'.moment ≡ (get_or items p d).moment) → ((d : Branch) → b'.later.items ≡ (get_or items p d).later.items)
-    → InStep h made (reverse (set items p b')) heads
-room_made made items p b' branch heads step within found same_row same_moment same_later =
+    → InStep made (reverse (set items p b'))
+room_made made items p b' branch step within found same_row same_moment same_later =
     let there = row_there items branch p step.branches_fall within found in
     let old = get_or items p b' in
     let rows : map row_of_branch (reverse (set items p b')) ≡ map row_of_branch (reverse items) =
@@ -246,8 +225,6 @@ room_made made items p b' branch heads step within found same_row same_moment sa
     ∙ ap (λ ls. versions_from b'.row b'.moment (reverse ls)) (sym (same_later b')) in
     record {
       falls = step.falls;
-      linked = step.linked;
-      newest = step.newest;
       branches_fall = fall_after;
       branches_made = λ r higher. rw rows (step.branches_made r higher);
       kept = λ q. elim (bool_cases (eqb branch q)) [
@@ -281,9 +258,9 @@ set_ready (x ∷ items) (suc p) b' branch within same room = put_any (ltb (vec_l
     put_any false any = any
 
 -- a branch that is not there has no version
-pub latest_nowhere : {h : RandomState} (made : List Made) (items : List Branch) (branch : ℕ) (heads : ℕ → Option ℕ)
-    → InStep h made (reverse items) heads → find (λ b. eqb b.row branch) items ≡ None → latest (changes_of made) branch None ≡ None
-latest_nowhere made items branch heads step none =
+pub latest_nowhere : (made : List Made) (items : List Branch) (branch : ℕ)
+    → InStep made (reverse items) → find (λ b. eqb b.row branch) items ≡ None → latest (changes_of made) branch None ≡ None
+latest_nowhere made items branch step none =
     let absent : branch_at (reverse items) branch ≡ None = find-reverse row_of_branch branch items step.branches_fall ∙ none in
     let versions : versions_on (changes_of made) branch ≡ [] = step.kept branch ∙ ap versions_by absent in
     rw versions refl

@@ -6,8 +6,7 @@ use Rattle.cc_names.specs.declared.changes.TreeChange.{TreeChange}
 use Rattle.cc_names.specs.declared.changes.VersionId.{VersionId}
 use Rattle.cc_names.specs.Falling.{IsAbove}
 use Rattle.cc_names.specs.Versions.{Version, row_of_change, branch_of_change, change_at, version_at, version_made, versions_on, element_by, element_of_branch, number_of_version, version_id, version_id_of, put_if}
-use Rattle.version_tree.proofs.FirstRows.{found_on}
-use Rattle.version_tree.proofs.Links.{bool_cases}
+use Rattle.version_tree.proofs.FirstRows.{bool_cases, found_on}
 
 module _ (changes : List TreeChange) (row : ℕ) (change : TreeChange) (made : change_at changes row ≡ Some change) where
   -- the version is looked for on the branch of the change

@@ -1,5 +1,4 @@
 pub mod Branches
 pub mod Forest
 pub mod Laws
-pub mod Namesakes
 pub mod TreeFields

@@ -1,15 +1,21 @@
 -- The fields of a `Tree`: what contracts see of them, and how they are in step.
-use Rattle.std.specs.Prelude.{◌≡◌, ℕ, ◌-◌, ◌==◌, min, nat_eq, nat_lt, Option, List, [], ◌∷◌, map, reverse, find, vec_len, vec_capacity}
-use Rattle.std.specs.HashMap.{get, spare}
-use Rattle.std.specs.declared.random_state.RandomState.{RandomState}
+use Rattle.std.specs.Prelude.{◌≡◌, ℕ, ◌-◌, ◌==◌, min, nat_lt, Option, List, [], ◌∷◌, map, reverse, find, vec_len, vec_capacity}
 use Rattle.cc_names.specs.Versions.{row_of_change, versions_on, put_if}
 use Rattle.cc_names.specs.Falling.{IsAbove, Falls}
 use Rattle.version_tree.specs.Forest.{Forest}
 use Rattle.version_tree.specs.Branches.{versions_by}
-use Rattle.version_tree.specs.Namesakes.{changes_of, newest_with, AreLinked}
-use Rattle.version_tree.specs.declared.namesakes.Made.{Made}
+use Rattle.cc_names.specs.declared.changes.TreeChange.{TreeChange}
+use Rattle.version_tree.specs.declared.changes.Made.{Made}
 use Rattle.version_tree.specs.declared.branches.Branch.{Branch}
 use Rattle.version_tree.specs.declared.Tree.TheInside.{Inside}
+
+-- the change alone
+abbrev pub change_of : Made → TreeChange
+change_of made = made.change
+
+-- the changes alone
+abbrev pub changes_of : List Made → List TreeChange
+changes_of made = map change_of made
 
 -- the row of a change
 abbrev pub row_of_made : Made → ℕ
@@ -29,7 +35,7 @@ ready_branches (branch ∷ branches) =
 abbrev pub forest_of : Inside → Forest
 forest_of inside = record {
   changes = changes_of (reverse inside.made.items);
-  room = min (vec_capacity inside.made - vec_len inside.made) (min (vec_capacity inside.branches - vec_len inside.branches) (spare inside.newest));
+  room = min (vec_capacity inside.made - vec_len inside.made) (vec_capacity inside.branches - vec_len inside.branches);
   ready = ready_branches inside.branches.items;
 }
 
@@ -37,16 +43,13 @@ forest_of inside = record {
 abbrev pub branch_at : List Branch → ℕ → Option Branch
 branch_at branches b = find (λ branch. branch.row == b) branches
 
--- The fields are in step: the changes and the branches, each newest first, and the map as a function.
-pub record InStep (hashing : RandomState) (made : List Made) (branches : List Branch) (heads : ℕ → Option ℕ) : Type 0 where
+-- The fields are in step: the changes and the branches, each newest first.
+pub record InStep (made : List Made) (branches : List Branch) : Type 0 where
   pub falls : Falls (map row_of_made made)
-  pub linked : AreLinked hashing made
-  pub newest : (key : ℕ) → heads key ≡ newest_with hashing key made
   pub branches_fall : Falls (map row_of_branch branches)
   pub branches_made : (row : ℕ) → IsAbove row (map row_of_made made) → IsAbove row (map row_of_branch branches)
   pub kept : (b : ℕ) → versions_on (changes_of made) b ≡ versions_by (branch_at branches b)
 
 -- the fields of a tree are in step
 abbrev pub IsInStep : Inside → Type 0
-IsInStep inside =
-    InStep inside.hashing (reverse inside.made.items) (reverse inside.branches.items) (get nat_eq inside.newest)
+IsInStep inside = InStep (reverse inside.made.items) (reverse inside.branches.items)

@@ -7,43 +7,37 @@
 //! What it promises: each answer is that of the definitions over the list of changes (`cc_names`, `Versions` and
 //! `Branches`), None exactly where they find nothing. Adding a change takes no memory, where room for it was reserved before.
 //!
-//! What it stands on: `cc_names`. A version takes about 100 bytes.
+//! What it stands on: `cc_names`. A version takes about 80 bytes.
 #![tactic(auto)]
 
-ghost use Rattle.std.specs.Prelude.{◌≡◌, ℕ, ◌==◌, ◌<◌, ◌≤◌, ◌+◌, ◌∷◌, [], IsTrue, IsSome, IfOk, IfSome, OnOk, map, reverse, filter, nat_eq, nat_lt, option_copied, if◌then◌else◌};
-ghost use Rattle.std.specs.HashMap.{get, spare};
+ghost use Rattle.std.specs.Prelude.{◌≡◌, ℕ, ◌<◌, ◌≤◌, ◌+◌, ◌∷◌, [], IsTrue, IsSome, IfOk, IfSome, OnOk, map, reverse, filter, nat_lt, option_copied};
 ghost use Rattle.cc_names.specs.Versions.{row_of_change, branch_of_change, of_first_rows, change_at, element_of_branch, versions_on, latest, numbered, version_id, kind_of};
-ghost use Rattle.cc_names.specs.Branches.{branch_named, branch_of_version, origin_of, name_of_branch};
+ghost use Rattle.cc_names.specs.Branches.{branch_of_version, origin_of, name_of_branch};
 ghost use Rattle.cc_names.specs.declared.changes.TreeChange.TheVariants as changes;
 ghost use Rattle.cc_names.specs.Falling.{IsAbove, Falls};
 ghost use Rattle.version_tree.specs.Forest.{AddsChange, KeepsAll, has_room};
 
 mod branches;
+mod changes;
 pub mod laws;
-mod namesakes;
 
 use branches::{Branch, Later};
 use cc_names::by_row::{item_of, place_of};
 use cc_names::changes::TreeChange;
 pub use cc_names::changes::VersionId;
-use cc_names::keys::key_of;
 use cc_names::memory::NoMemory;
 use cc_names::names::Name;
 use cc_names::rows::Kind;
-use namesakes::{Made, find_branch};
+use changes::Made;
 use std::alloc::Global;
-use std::collections::HashMap;
-use std::hash::RandomState;
 use std::marker::Model;
 
 /// The trees of versions of all elements of a base. Contracts see the list of changes.
 #[derive(Drop)]
 pub struct Tree {
     alloc: Global,
-    hashing: RandomState,
     made: Vec<Made>,
     branches: Vec<Branch>,
-    newest: HashMap<u64, usize>,
 }
 
 impl Model for Tree {
@@ -56,19 +50,6 @@ impl Model for Tree {
     ghost view = { forest_of };
 
     ghost invariant = { IsInStep };
-}
-
-/// Sets the place of the newest change with a key, where the map has room for one key more.
-fn put_newest(newest: &mut HashMap<u64, usize>, key: u64, place: usize)
-    requires { 0 < spare newest.old }
-    ensures gets { (q : ℕ)
-        → get nat_eq newest.new q ≡ (if key == q then Some place else get nat_eq newest.old q) }
-    ensures room { spare newest.old ≤ spare newest.new + 1 }
-{
-    match newest.insert(key, place) {
-        Ok(_) => {}
-        Err(_) => unreachable!(),
-    }
 }
 
 /// The branch on which a change made a version.
@@ -85,9 +66,8 @@ fn branch_of(change: &TreeChange) -> u64
 impl Tree {
     ghost use Rattle.version_tree.specs.Branches.{row_of_later, versions_by};
 
-    /// The trees of a base with the root alone, a directory that row 0 made, in which names are found by hashing them so.
-    /// Takes constant time.
-    pub fn new(alloc: Global, hashing: RandomState) -> Result<Tree, NoMemory>
+    /// The trees of a base with the root alone, a directory that row 0 made. Takes constant time.
+    pub fn new(alloc: Global) -> Result<Tree, NoMemory>
         ensures root { IfOk result
             (λ tree. tree.changes ≡ changes.ElementMade 0 0 Kind.Directory ∷ []) }
     {
@@ -98,7 +78,6 @@ impl Tree {
                 moment: 0,
                 kind: Kind::Directory,
             },
-            namesake: None,
         })?;
         let mut branches = Vec::new(alloc);
         branches.push(Branch {
@@ -108,10 +87,8 @@ impl Tree {
         })?;
         Ok(Tree {
             alloc,
-            hashing,
             made,
             branches,
-            newest: HashMap::new(alloc),
         })
     }
 
@@ -140,7 +117,6 @@ impl Tree {
     {
         self.made.reserve(1)?;
         self.branches.reserve(1)?;
-        self.newest.reserve(1)?;
         Ok(())
     }
 
@@ -165,24 +141,18 @@ impl Tree {
         ensures { AddsChange self.old self.new (changes.ElementMade row moment kind) }
     {
         let change = TreeChange::ElementMade { row, moment, kind };
-        self.made.push_reserved(Made {
-            change,
-            namesake: None,
-        });
+        self.made.push_reserved(Made { change });
         let later = Vec::new(self.alloc);
         self.branches.push_reserved(Branch { row, moment, later });
     }
 
     /// Adds a branch of an element that begins at the version `origin`, and version 0 on it. The row is above all rows so
-    /// far. Takes time linear in the name.
+    /// far. Takes constant time.
     pub fn add_branch(&mut self, row: u64, moment: u64, element: u64, origin: u64, name: Name)
         requires above { IsAbove row (map row_of_change self.old.changes) }
         requires room { 0 < self.old.room }
         ensures { AddsChange self.old self.new (changes.BranchMade row moment element origin name) }
     {
-        let key = key_of(self.hashing, element, &name);
-        let namesake = self.newest.get(&key).copied();
-        put_newest(&mut self.newest, key, self.made.len());
         let change = TreeChange::BranchMade {
             row,
             moment,
@@ -190,7 +160,7 @@ impl Tree {
             origin,
             name,
         };
-        self.made.push_reserved(Made { change, namesake });
+        self.made.push_reserved(Made { change });
         let later = Vec::new(self.alloc);
         self.branches.push_reserved(Branch { row, moment, later });
     }
@@ -207,10 +177,7 @@ impl Tree {
             moment,
             branch,
         };
-        self.made.push_reserved(Made {
-            change,
-            namesake: None,
-        });
+        self.made.push_reserved(Made { change });
         match place_of(&self.branches, branch) {
             Some(place) => {
                 let on = &mut self.branches[place];
@@ -253,14 +220,6 @@ impl Tree {
         ensures { result ≡ numbered (of_first_rows rows self.now.changes) branch number }
     {
         self.branch_at(branch)?.numbered(number, rows)
-    }
-
-    /// The element's branch of a name, in the first `rows` rows; `main` is no such branch. Takes time linear in the name: once
-    /// for its key, and at most once for each change that made a branch with that key, which mostly is this branch alone.
-    pub fn branch_named(&self, element: u64, name: &Name, rows: u64) -> Option<u64>
-        ensures { result ≡ branch_named (of_first_rows rows self.now.changes) element name.now }
-    {
-        find_branch(self.hashing, &self.made, &self.newest, element, name, rows)
     }
 
     /// What kind an element is of. Takes time logarithmic in the changes.

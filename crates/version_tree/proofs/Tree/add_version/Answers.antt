@@ -6,7 +6,7 @@ use Rattle.std.proofs.lemmas.Bool.Decides.{nat_tests}
 use Rattle.cc_names.specs.declared.changes.TreeChange.TheVariants.{VersionMade}
 use Rattle.cc_names.specs.Falling.{IsAbove}
 use Rattle.version_tree.specs.TreeFields.{row_of_made, ready_branches}
-use Rattle.version_tree.specs.declared.namesakes.Made.{Made}
+use Rattle.version_tree.specs.declared.changes.Made.{Made}
 use Rattle.version_tree.specs.declared.branches.Branch.{Branch}
 use Rattle.version_tree.proofs.Steps.{rows_of_made, version_added, row_there, has_room, not_ready}
 use Rattle.version_tree.proofs.Readiness.{others_keep}
@@ -33,7 +33,7 @@ invariant_of-self c =
     let items = c.self.inside.branches.items in
     let place = c.in-Some.place in
     let on = c.index_mut-on.result.now in
-    let m : Made = record { change = VersionMade c.args.row c.args.moment c.args.branch; namesake = None } in
+    let m : Made = record { change = VersionMade c.args.row c.args.moment c.args.branch } in
     let b : Branch = record { row = on.row; moment = on.moment; later = c.push_reserved-in-Some.new.self } in
     let found : slice_get items place ≡ find (λ x. eqb x.row c.args.branch) items = search rules in
     let within : place < length items = search rules in
@@ -42,7 +42,7 @@ invariant_of-self c =
     let above : IsAbove c.args.row (map row_of_made (reverse made)) = rw (rows_of_made (reverse made)) at (rw (← c.self.view_is) at c.requires.above) in
     let same_row : on.row ≡ c.args.branch = rw (at on) at (row_there items c.args.branch place c.self.invariant.branches_fall within found on) in
     rw (c.push_reserved.ensures.items, reverse-append made (m ∷ []))
-    (version_added m (reverse made) items place b c.args.row c.args.moment c.args.branch _ c.self.invariant refl above within found same_row
+    (version_added m (reverse made) items place b c.args.row c.args.moment c.args.branch c.self.invariant refl above within found same_row
     (λ d. ap (λ (x : Branch). x.moment) (sym (at d)))
     (λ d. rw (at d) c.push_reserved-in-Some.ensures.items))
 
@@ -59,7 +59,7 @@ unreachable-requires c =
 pub returns : goal.returns
 returns c =
     let made = c.self.inside.made.items in
-    let m : Made = record { change = VersionMade c.args.row c.args.moment c.args.branch; namesake = None } in
+    let m : Made = record { change = VersionMade c.args.row c.args.moment c.args.branch } in
     let items = c.self.inside.branches.items in
     let place = c.in-Some.place in
     let on = c.index_mut-on.result.now in

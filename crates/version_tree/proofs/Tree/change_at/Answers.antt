@@ -1,7 +1,6 @@
 use Rattle.std.proofs.Common.{◌≡◌, eqb, reverse, sym, ap, ◌∙◌, rules}
 use Rattle.std.specs.Prelude.{find, option_map, option_copied}
-use Rattle.version_tree.specs.Namesakes.{change_of}
-use Rattle.version_tree.specs.TreeFields.{row_of_made}
+use Rattle.version_tree.specs.TreeFields.{change_of, row_of_made}
 use Rattle.version_tree.proofs.Found.{change_found}
 use Rattle.version_tree.proofs.Tree.change_at.Goals as goal
 

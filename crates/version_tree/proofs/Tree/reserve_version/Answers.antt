@@ -22,7 +22,7 @@ invariant_of-self c =
     let there : get_or items place on ≡ on = search rules in
     let at : (d : Branch) → get_or items place d ≡ on = λ d. get_or_default items place d on within ∙ there in
     let same_row : on.row ≡ c.args.branch = rw (at on) at (row_there items c.args.branch place c.self.invariant.branches_fall within found on) in
-    room_made (reverse c.self.inside.made.items) items place b c.args.branch _ c.self.invariant within found same_row
+    room_made (reverse c.self.inside.made.items) items place b c.args.branch c.self.invariant within found same_row
     (λ d. ap (λ (x : Branch). x.moment) (sym (at d))) (λ d. rw (at d) c.reserve.ensures.items)
 
 pub invariant_of-self-in_err-reserve : goal.invariant_of-self-in_err-reserve
@@ -36,7 +36,7 @@ invariant_of-self-in_err-reserve c =
     let there : get_or items place on ≡ on = search rules in
     let at : (d : Branch) → get_or items place d ≡ on = λ d. get_or_default items place d on within ∙ there in
     let same_row : on.row ≡ c.args.branch = rw (at on) at (row_there items c.args.branch place c.self.invariant.branches_fall within found on) in
-    room_made (reverse c.self.inside.made.items) items place b c.args.branch _ c.self.invariant within found same_row
+    room_made (reverse c.self.inside.made.items) items place b c.args.branch c.self.invariant within found same_row
     (λ d. ap (λ (x : Branch). x.moment) (sym (at d))) (λ d. rw (at d) c.reserve.ensures.items)
 
 -- no branch has less room
@@ -88,5 +88,5 @@ pub returns-in_default-clause-ready : goal.returns-in_default-clause-ready
 returns-in_default-clause-ready c =
     let items = c.self.inside.branches.items in
     let missed : find (λ b. eqb b.row c.args.branch) items ≡ None = search rules in
-    let nowhere : latest c.args.self.now.changes c.args.branch None ≡ None = rw (← c.self.view_is) (latest_nowhere (reverse c.self.inside.made.items) items c.args.branch _ c.self.invariant missed) in
+    let nowhere : latest c.args.self.now.changes c.args.branch None ≡ None = rw (← c.self.view_is) (latest_nowhere (reverse c.self.inside.made.items) items c.args.branch c.self.invariant missed) in
     λ there_is. absurd (false≢true (rw nowhere at there_is))
