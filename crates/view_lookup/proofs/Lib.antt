@@ -1,5 +1,6 @@
 pub mod Arrows
 pub mod AtIndex
+pub mod BranchesNamed
 pub mod ChangedNames
 pub mod ChangingRows
 pub mod Chains

@@ -12,7 +12,7 @@ use Rattle.legal_history.specs.Base.Rows.{Base, size, first_rows, row_at, deed_o
 use Rattle.legal_history.specs.Builds.Reuse.{are_same_paths}
 use Rattle.legal_history.proofs.Bases.Stay.{all_rows}
 use Rattle.view_lookup.specs.LookUps.{Deeds, Update, told, newest, told_by, told_at, first_told, left_by, last_of, BearsOnAll}
-use Rattle.view_lookup.specs.Subjects.{Subject, Life, Spec, Desk, File, Object, Out, Saved, NameIn, Reserved, Named, Living, Winked, Merge, Merged, History, Changing, Altered, Leaving, Owned, Given, is_same, key, bears, catalog_subjects, keys_of, plain_subjects, Pool}
+use Rattle.view_lookup.specs.Subjects.{Subject, Life, Spec, Desk, File, Object, Out, Saved, NameIn, Reserved, Named, Living, Winked, Merge, Merged, History, Changing, Altered, Leaving, BranchNamed, Owned, Given, is_same, key, bears, catalog_subjects, keys_of, plain_subjects, Pool}
 use Rattle.view_lookup.specs.Marked.{with_marks, marked}
 use Rattle.std.specs.declared.random_state.RandomState.{RandomState}
 
@@ -110,6 +110,9 @@ same_key hashing (Merge e tail head) (Merge f one two) is =
 same_key hashing (Merged head) (Merged other) is = ap (λ into. key hashing (Merged into)) (same_number other head is)
 same_key hashing (History e) (History f) is = ap (λ element. key hashing (History element)) (same_number f e is)
 same_key hashing (Leaving version) (Leaving other) is = ap (λ origin. key hashing (Leaving origin)) (same_number other version is)
+same_key hashing (BranchNamed e name) (BranchNamed f own) is =
+    let parts = both (e == f) (bytes_eq name own) is in
+    ap₂ (λ element text. key hashing (BranchNamed element text)) (sym (same_number e f parts.0)) (sym (same_text name own parts.1))
 same_key hashing (Owned v) (Owned w) is = ap (λ name. key hashing (Owned name)) (same_text w v is)
 same_key hashing (Given d) (Given f) is = ap (λ directory. key hashing (Given directory)) (same_number f d is)
 same_key hashing (Changing began) (Changing other) is = ap (λ it. key hashing (Changing it)) (sym (same_number began other is))

@@ -9,13 +9,13 @@ use Rattle.cc_names.specs.declared.rows.Placed.{Placed}
 use Rattle.cc_names.specs.Versions.{is_number}
 use Rattle.legal_history.specs.Base.Changes.{targets_of, live}
 use Rattle.legal_history.specs.Base.Rows.{Base, size}
-use Rattle.view_lookup.specs.Effects.{life_effect, end_effect, gone_effect, file_effect, object_effect, living_effect, named_effect, merge_effect, merged_effect, set_effect, map_effect, kept_checkout, desk_effect, saved_effect, reserving_effect, stands, standing_effect, holds_one, winked_effect, pool_effect, leaving_effect}
+use Rattle.view_lookup.specs.Effects.{life_effect, end_effect, gone_effect, file_effect, object_effect, living_effect, named_effect, merge_effect, merged_effect, set_effect, map_effect, kept_checkout, desk_effect, saved_effect, reserving_effect, stands, standing_effect, holds_one, winked_effect, pool_effect, leaving_effect, branch_named_effect}
 use Rattle.legal_history.specs.Builds.Reuse.{are_same_paths}
 use Rattle.view_lookup.specs.Giving.{naming_effect, own_effect}
 use Rattle.view_lookup.specs.Histories.{history_effect, is_placed_on}
 use Rattle.view_lookup.specs.LookUps.{BearsOnAll}
 use Rattle.view_lookup.specs.Made.{is_target}
-use Rattle.view_lookup.specs.Subjects.{Life, Spec, Desk, File, Object, Out, Saved, Reserved, Named, Living, Winked, Merge, Merged, History, Leaving, Owned, Given, history_at, is_same, reserved_branch, reserved_subjects, Pool}
+use Rattle.view_lookup.specs.Subjects.{Life, Spec, Desk, File, Object, Out, Saved, Reserved, Named, Living, Winked, Merge, Merged, History, Leaving, BranchNamed, Owned, Given, history_at, is_same, reserved_branch, reserved_subjects, Pool}
 use Rattle.view_lookup.specs.Pool.{Test}
 
 -- an effect where a test holds is none where neither it nor another holds
@@ -195,6 +195,11 @@ pub leaving_bears : (version : ℕ) → BearsOnAll (Leaving version) (leaving_ef
 leaving_bears version older (deeds.Branch v e origin name out) h =
     unless (origin == version) (list_any (is_same (Leaving version)) (reserved_subjects (reserved_branch older (deeds.Branch v e origin name out)))) (Sets (size older)) h
 leaving_bears version older deed h = refl
+
+pub branch_named_bears : (e : ℕ) (name : List ℕ) → BearsOnAll (BranchNamed e name) (branch_named_effect e name)
+branch_named_bears e name older (deeds.Branch v f origin own out) h =
+    unless ((e == f) && bytes_eq name own) (list_any (is_same (BranchNamed e name)) (reserved_subjects (reserved_branch older (deeds.Branch v f origin own out)))) (Sets (size older)) h
+branch_named_bears e name older deed h = refl
 
 pub own_bears : (v : List ℕ) → BearsOnAll (Owned v) (own_effect v)
 own_bears v older (deeds.Put w path text) h = unless (bytes_eq w v) false (Sets (size older)) h

@@ -152,3 +152,8 @@ reserving_effect branch older deed = only_if (is_number branch (reserved_branch 
 abbrev pub leaving_effect : ℕ → Deeds ℕ
 leaving_effect version older (deeds.Branch v e origin name out) = only_if (origin == version) (Sets (size older))
 leaving_effect version older deed = Keeps
+
+-- the element's branch of a name is made
+abbrev pub branch_named_effect : ℕ → List ℕ → Deeds ℕ
+branch_named_effect e name older (deeds.Branch v f origin own out) = only_if ((e == f) && bytes_eq name own) (Sets (size older))
+branch_named_effect e name older deed = Keeps

@@ -20,9 +20,10 @@ use Rattle.view_lookup.specs.declared.subjects.Subject.TheVariants as codes
 -- A view's life, its config spec, and all that it takes out; a view's private file at a path, and the object that it holds
 -- there; a view's checkout of an element, and the texts that it saves there; a name in a directory; the reserved checkouts on a
 -- branch; the type of a name; an object, its winks, and the objects of a list of targets; a merge of two versions of an element,
--- and the merges into a version; what is done to an element and to its labels; the branches that leave a version; what a view puts
--- or comes to hold, at whatever paths; the names that are given in a directory; the names that are changed in the checkout that a
--- row began; and the versions of a branch that are made from a checkout in which a name was changed.
+-- and the merges into a version; what is done to an element and to its labels; the branches that leave a version, and the branches
+-- of an element that have a name; what a view puts or comes to hold, at whatever paths; the names that are given in a directory;
+-- the names that are changed in the checkout that a row began; and the versions of a branch that are made from a checkout in which
+-- a name was changed.
 pub data Subject : Type 0 where
   Life : List ℕ → Subject
   Spec : List ℕ → Subject
@@ -41,6 +42,7 @@ pub data Subject : Type 0 where
   Merged : ℕ → Subject
   History : ℕ → Subject
   Leaving : ℕ → Subject
+  BranchNamed : ℕ → List ℕ → Subject
   Owned : List ℕ → Subject
   Given : ℕ → Subject
   Changing : ℕ → Subject
@@ -56,7 +58,8 @@ abbrev pub desk_subjects : ℕ → Option ℕ → Deed → List Subject
 desk_subjects n branch (deeds.Mkelem v directory name kind out) =
     Out v n ∷ Desk v ∷ NameIn directory name ∷ History n ∷ Given directory ∷ reserved_subjects branch
 desk_subjects n branch (deeds.Checkout v e origin reserved) = Out v e ∷ Desk v ∷ reserved_subjects branch
-desk_subjects n branch (deeds.Branch v e origin name out) = Out v e ∷ Desk v ∷ History e ∷ Leaving origin ∷ reserved_subjects branch
+desk_subjects n branch (deeds.Branch v e origin name out) =
+    Out v e ∷ Desk v ∷ History e ∷ Leaving origin ∷ BranchNamed e name ∷ reserved_subjects branch
 desk_subjects n branch (deeds.Save v e text) = Saved v e ∷ []
 desk_subjects n branch (deeds.Checkin v e) = Out v e ∷ History e ∷ []
 desk_subjects n branch (deeds.Uncheckout v e) = Out v e ∷ []
@@ -146,6 +149,7 @@ is_same (Merge e tail head) (Merge f one two) = (f == e) && (one == tail) && (tw
 is_same (Merged head) (Merged other) = other == head
 is_same (History e) (History f) = f == e
 is_same (Leaving version) (Leaving other) = other == version
+is_same (BranchNamed e name) (BranchNamed f own) = (e == f) && bytes_eq name own
 is_same (Owned v) (Owned w) = bytes_eq w v
 is_same (Given directory) (Given other) = other == directory
 is_same (Changing began) (Changing other) = began == other
@@ -172,6 +176,7 @@ key hashing (Winked id) = key_by hashing 13 (id ∷ [])
 key hashing (History e) = key_by hashing 14 (e ∷ [])
 key hashing (Leaving version) = key_by hashing 16 (version ∷ [])
 key hashing (Owned v) = key_of hashing 17 v
+key hashing (BranchNamed e name) = key_with hashing 19 e name
 key hashing (Given directory) = key_by hashing 18 (directory ∷ [])
 key hashing (Changing began) = key_by hashing 20 (began ∷ [])
 key hashing (Altered branch name) = key_with hashing 21 branch name
@@ -205,6 +210,7 @@ plain (codes.Merge e tail head) = Merge e tail head
 plain (codes.Merged head) = Merged head
 plain (codes.History e) = History e
 plain (codes.Leaving version) = Leaving version
+plain (codes.BranchNamed e name) = BranchNamed e name.now
 plain (codes.Owned v) = Owned v.now
 plain (codes.Given directory) = Given directory
 plain (codes.Changing began) = Changing began

@@ -84,7 +84,7 @@ impl Rows {
     pub fn new(alloc: Global, hashing: RandomState) -> Result<Rows, NoMemory>
         ensures { IfOk result (λ rows. rows.base ≡ []) }
     {
-        let tree = Tree::new(alloc, hashing)?;
+        let tree = Tree::new(alloc)?;
         let labels = Book::new(alloc, hashing)?;
         Ok(Rows {
             hashing,

@@ -104,8 +104,7 @@ pub(crate) fn reserve_growth(
     }
 }
 
-/// Adds to the trees what a row adds, whose number is above all so far. Takes time logarithmic in the branches, for a branch
-/// linear in its name; no memory.
+/// Adds to the trees what a row adds, whose number is above all so far. Takes time logarithmic in the branches; no memory.
 pub(crate) fn grow(tree: &mut Tree, row: u64, moment: u64, growth: Growth<'_>, name: Option<Name>)
     requires above { IsAbove row (map row_of_change tree.old.changes) }
     requires place { HasPlace tree.old name (change_of row moment growth) }

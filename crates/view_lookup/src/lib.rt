@@ -13,6 +13,7 @@
 #![tactic(auto)]
 
 mod bases;
+mod branch_names;
 mod catalog_keys;
 mod catalogs;
 mod changed;
@@ -54,6 +55,7 @@ mod views;
 mod walks;
 
 pub use bases::{FirstRows, Rows, first_rows, row_at};
+pub use branch_names::{branch_named, has_branch};
 pub use catalogs::{named_by_checkout, named_by_version};
 pub use checkins::{
     branch_of, is_unreserved, may_check_in, may_reserve, other_reserver_beside, reserver_beside,
@@ -79,8 +81,8 @@ pub use seen::{at, file_at, is_directory, kind_of};
 pub use standings::oldest_out;
 pub use texts::{text_at, text_of};
 pub use trees::{
-    branch_named, branch_of_version, has_branch, is_latest, is_version_of, latest_beside,
-    latest_version, name_of_branch, origin_of, version_id_of, version_numbered,
+    branch_of_version, is_latest, is_version_of, latest_beside, latest_version, name_of_branch,
+    origin_of, version_id_of, version_numbered,
 };
 pub use types::{is_branch_type, is_label_type, is_type_taken, kind_of_type};
 pub use view_specs::{rules, spec_text};

@@ -5,10 +5,11 @@ ghost use Rattle.cc_names.specs.Paths.{names_of};
 ghost use Rattle.legal_history.specs.Base.Seen.{selected};
 
 use crate::bases::FirstRows;
+use crate::branch_names::branch_named;
 use crate::desks::making;
 use crate::labels::holder;
 use crate::listings::listed;
-use crate::trees::{branch_named, branch_of_version, latest_version, origin_of, version_numbered};
+use crate::trees::{branch_of_version, latest_version, origin_of, version_numbered};
 use crate::view_specs::rules;
 use cc_names::names::Name;
 use cc_names::paths::Path;

@@ -51,6 +51,8 @@ pub(crate) enum Subject<'a> {
     History(u64),
     /// The branches that leave a version.
     Leaving(u64),
+    /// The branches of an element that have a name.
+    BranchNamed(u64, &'a Name),
     /// What a view puts or comes to hold, at whatever paths.
     Owned(&'a Name),
     /// The names that are given in a directory.
@@ -159,18 +161,20 @@ fn element_at<'a>(
     }
 }
 
-/// What the making of a branch of an element by a view bears on, where it leaves a version.
+/// What the making of a branch of an element by a view bears on, where it leaves a version and has a name.
 fn branch_at<'a>(
     view: &'a Name,
     element: u64,
     origin: u64,
+    name: &'a Name,
     branch: Option<u64>,
     index: usize,
 ) -> Option<Subject<'a>>
     ensures subject { option_map model.plain result
         ≡ slice_get
         (model.Out view.now element ∷ model.Desk view.now ∷ model.History element
-        ∷ model.Leaving origin ∷ model.reserved_subjects branch)
+        ∷ model.Leaving origin ∷ model.BranchNamed element name.now
+        ∷ model.reserved_subjects branch)
         index }
     ensures within { IfSome result (λ _. index ≤ 2 ^ 33) }
 {
@@ -179,7 +183,8 @@ fn branch_at<'a>(
         1 => Some(Subject::Desk(view)),
         2 => Some(Subject::History(element)),
         3 => Some(Subject::Leaving(origin)),
-        _ => reserved_at(branch, index - 4),
+        4 => Some(Subject::BranchNamed(element, name)),
+        _ => reserved_at(branch, index - 5),
     }
 }
 
@@ -309,8 +314,9 @@ fn desk_subject_at<'a>(
             view,
             element,
             origin,
+            name,
             ..
-        } => branch_at(view, *element, *origin, branch, index),
+        } => branch_at(view, *element, *origin, name, branch, index),
         Deed::Save { view, element, .. } => one(Subject::Saved(view, *element), index),
         Deed::Checkin { view, element } => two(
             Subject::Out(view, *element),
@@ -428,6 +434,9 @@ impl Subject<'_> {
             Subject::History(element) => key_by_one(hashing, 14, element),
             Subject::Leaving(version) => key_by_one(hashing, 16, version),
             Subject::Owned(view) => key_of(hashing, 17, view),
+            Subject::BranchNamed(element, name) => {
+                key_with(hashing, 19, element, name.as_bytes())
+            }
             Subject::Given(directory) => key_by_one(hashing, 18, directory),
             Subject::Changing(began) => key_by_one(hashing, 20, began),
             Subject::Altered(branch, name) => key_with(hashing, 21, branch, name),

@@ -2,12 +2,11 @@
 
 ghost use Rattle.std.specs.Prelude.{◌≡◌};
 ghost use Rattle.std.specs.Option.{option_copied};
-ghost use Rattle.cc_names.specs.Branches.{branch_named, branch_of_version, name_of_branch, origin_of};
+ghost use Rattle.cc_names.specs.Branches.{branch_of_version, name_of_branch, origin_of};
 ghost use Rattle.cc_names.specs.Versions.{is_number, latest, numbered, version_id};
 ghost use Rattle.legal_history.specs.Base.Changes.{tree};
 ghost use Rattle.legal_history.specs.Base.Checkouts.{is_latest, latest_beside};
 ghost use Rattle.legal_history.specs.Base.Closures.{is_version_of};
-ghost use Rattle.legal_history.specs.Base.Conditions.{has_branch};
 
 use crate::bases::FirstRows;
 use cc_names::changes::VersionId;
@@ -60,20 +59,6 @@ pub fn version_numbered(rows: &FirstRows<'_>, branch: u64, number: u64) -> Optio
     ensures { result ≡ numbered (tree rows.now) branch number }
 {
     rows.tree().numbered(branch, number, rows.size())
-}
-
-/// The element's branch of a name; `main` is no such branch. Takes time linear in the name: once for its key, and at most once
-/// for each change that made a branch with that key, which mostly is this branch alone.
-pub fn branch_named(rows: &FirstRows<'_>, element: u64, name: &Name) -> Option<u64>
-    ensures { result ≡ branch_named (tree rows.now) element name.now }
-{
-    rows.tree().branch_named(element, name, rows.size())
-}
-/// Whether the element has a branch of the type. Takes the time of `branch_named`.
-pub fn has_branch(rows: &FirstRows<'_>, element: u64, name: &Name) -> bool
-    ensures { result ≡ has_branch rows.now element name.now }
-{
-    branch_named(rows, element, name).is_some()
 }
 
 /// The id of the version that a row made: its element, its branch and its number there. Takes time logarithmic in the changes.
