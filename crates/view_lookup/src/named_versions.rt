@@ -6,7 +6,8 @@ ghost use Rattle.legal_history.specs.Base.Changes.{tree};
 ghost use Rattle.legal_history.specs.Commands.LabelLines.{version_named};
 
 use crate::bases::FirstRows;
-use crate::trees::{branch_named, branch_of_version, is_number, origin_of, version_numbered};
+use crate::branch_names::branch_named;
+use crate::trees::{branch_of_version, is_number, origin_of, version_numbered};
 use cc_names::commands::VersionName;
 use cc_names::names::Name;
 
