@@ -9,9 +9,8 @@ pub mod ByKeys
 pub mod HeldListed
 pub mod NamesGiven
 pub mod ListedNames
+pub mod Uncovered
 pub mod Behind
-pub mod LesserPaths
-pub mod LeastInputs
 pub mod DifferingPaths
 pub mod PathSets
 pub mod GivenRows

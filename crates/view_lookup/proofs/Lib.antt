@@ -23,6 +23,7 @@ pub mod EntryTold
 pub mod ElementKinds
 pub mod Parts
 pub mod PathFronts
+pub mod PlacedForms
 pub mod PooledObjects
 pub mod RowTexts
 pub mod RowsFit
@@ -31,7 +32,10 @@ pub mod SpecsSet
 pub mod TextRows
 pub mod Oldest
 pub mod OldestOut
+pub mod LeastInputs
+pub mod LesserPaths
 pub mod JoinedListings
+pub mod KeptListings
 pub mod ListingsStay
 pub mod ReservedOnce
 mod WorkedPools

@@ -11,6 +11,8 @@ pub mod Indexed
 pub mod Front
 pub mod Labelling
 pub mod Listings
+pub mod FirstInputs
+pub mod LeastInputs
 pub mod LookUps
 pub mod Made
 pub mod MarkSteps

@@ -18,6 +18,7 @@ mod catalog_keys;
 mod catalogs;
 mod changed;
 mod checkins;
+mod closures;
 mod desks;
 mod directories;
 mod edits;
@@ -60,6 +61,7 @@ pub use catalogs::{named_by_checkout, named_by_version};
 pub use checkins::{
     branch_of, is_unreserved, may_check_in, may_reserve, other_reserver_beside, reserver_beside,
 };
+pub use closures::{InputTest, first_input};
 pub use desks::{Checkout, checked_out, has_out, making};
 pub use directories::{has_name, has_out_by_name, is_directory_element, is_file_element};
 pub use fitting::{ROW_LIMIT, fits};
@@ -67,7 +69,7 @@ pub use given_names::rows_naming;
 pub use history::history_of;
 pub use labels::{has_label, holder};
 pub use leaving::branches_leaving;
-pub use listings::is_publish;
+pub use listings::{is_publish, placed_by};
 pub use merged::arrows_into;
 pub use merges::arrow_row;
 pub use named_versions::version_named;

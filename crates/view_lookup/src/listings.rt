@@ -1,21 +1,24 @@
 //! What the records of objects list: of each element the greatest version that an object was made from.
 
-ghost use Rattle.std.specs.Prelude.{◌≡◌, ℕ, ◌==◌, ◌<◌, List, [], ◌∷◌, IfOk, OnOk, nat_eq};
-ghost use Rattle.std.specs.BTreeMap.{get};
+ghost use Rattle.std.specs.Prelude.{◌≡◌, ℕ, ◌==◌, ◌<◌, List, [], ◌∷◌, IfOk, OnOk, map, nat_eq};
+ghost use Rattle.std.specs.BTreeMap.{IsOrdered, get};
 ghost use Rattle.std.specs.FinMap.Entries.{find};
 ghost use Rattle.std.specs.HashMap as hashed;
 ghost use Rattle.std.specs.HashMap.{spare};
+ghost use Rattle.std.specs.List.Sorted.{IsStrictlySortedBy};
 ghost use Rattle.std.specs.Ordering.{nat_cmp};
+ghost use Rattle.cc_names.specs.Formed.{IsListOf, IsPlaced, element_of};
 ghost use Rattle.legal_history.specs.Base.Changes.{targets_of};
 ghost use Rattle.legal_history.specs.Base.Closures.{closure, greater_of, is_among, is_publish, listed, listing_of, inputs_of, inputs_of_entry};
 ghost use Rattle.legal_history.specs.Base.Rows.{only_where};
+ghost use Rattle.legal_history.specs.Commands.LabelLines.{as_placed, placed_by};
 ghost use Rattle.view_lookup.specs.Listings.{HasListing, greater, listing_made, versions_of, with_listing};
 
 use crate::bases::{FirstRows, row_at};
 use crate::objects::targets_of;
 use cc_names::memory::NoMemory;
 use cc_names::paths::Path;
-use cc_names::rows::{Deed, ReadOf};
+use cc_names::rows::{Deed, Placed, ReadOf};
 use std::alloc::Global;
 use std::collections::{BTreeMap, HashMap};
 
@@ -171,4 +174,35 @@ pub(crate) fn listed(rows: &FirstRows<'_>, object: u64, target: &Path, element: 
         return None;
     }
     rows.listing(object)?.get(&element).copied()
+}
+
+/// Versions as places of a label, in the order of their elements.
+fn places_of(alloc: Global, versions: &Versions) -> Result<Vec<Placed>, NoMemory>
+    ensures placed { IfOk result
+        (λ placed. placed.items ≡ map as_placed versions.now.entries) }
+    ensures ordered { IsOrdered nat_cmp versions.now }
+{
+    let mut placed = Vec::new(alloc);
+    for (element, version) in versions {
+        placed.push(Placed {
+            element: *element,
+            version: *version,
+        })?;
+    }
+    Ok(placed)
+}
+
+/// What the record of an object lists, as places of a label, in the order of the elements: as a row has them. Takes time linear
+/// in that.
+pub fn placed_by(alloc: Global, rows: &FirstRows<'_>, object: u64) -> Result<Vec<Placed>, NoMemory>
+    ensures placed { IfOk result (λ placed. placed.items ≡ placed_by rows.now object) }
+    ensures formed { IfOk result
+        (λ placed. IsListOf IsPlaced placed.items
+        × IsStrictlySortedBy nat_cmp (map element_of placed.items)) }
+{
+    rows.size();
+    match rows.listing(object) {
+        None => Ok(Vec::new(alloc)),
+        Some(versions) => places_of(alloc, versions),
+    }
 }

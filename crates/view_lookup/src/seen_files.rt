@@ -6,13 +6,14 @@ ghost use Rattle.std.specs.Str.{bytes_eq};
 ghost use Rattle.legal_history.specs.Base.Rows.{Base, size};
 ghost use Rattle.view_lookup.specs.SeenFiles.{AreFiles, AreSeen, AreSeenByViews, IsSeenAs, IsSeenIn, IsSeenOnce};
 
-use crate::bases::{FirstRows, row_at};
+use crate::bases::FirstRows;
+use crate::closures::record_of;
 use crate::pool::{RecordTest, newest_object};
 use crate::seen::find_file;
 use cc_names::memory::NoMemory;
 use cc_names::names::Name;
 use cc_names::paths::Path;
-use cc_names::rows::{Deed, ReadOf};
+use cc_names::rows::ReadOf;
 use std::alloc::Global;
 use std::collections::HashMap;
 use std::hash::RandomState;
@@ -91,23 +92,12 @@ impl RecordTest for AnyRecord {
     }
 }
 
-/// The entries of the record that a row of this deed has.
-fn entries_of(deed: &Deed) -> &[ReadOf] {
-    match deed {
-        Deed::Publish { entries, .. } => entries.as_slice(),
-        _ => &[],
-    }
-}
-
 /// The entries that a build is likely to ask for next as it tries a unit of these targets: those of the newest live object with
 /// the targets, else those of the newest row.
 fn entries_ahead<'a>(rows: &FirstRows<'a>, targets: &[Path]) -> &'a [ReadOf] {
     let newest = rows.size().saturating_sub(1);
     let number = newest_object(rows, targets, &AnyRecord).unwrap_or(newest);
-    match row_at(rows, number) {
-        Some(row) => entries_of(row.deed()),
-        None => &[],
-    }
+    record_of(rows, number)
 }
 
 /// Keeps the file that a view sees at a path, where that is not kept yet.

@@ -1,5 +1,5 @@
--- The least path of an object's closure at which a view sees another row, by the entries of its record.
-use Rattle.std.proofs.Common.{◌≡◌, refl, ap, sym, subst, ◌∙◌, ℕ, suc, ◌<◌, ◌≤◌, Bool, true, false, not, cond, ◌&&◌, ◌==◌, max, Option, Some, None, List, [], ◌∷◌, ◌++◌, length, drop, get_or, ◌+◌, arith}
+-- The least path of an object's closure of which a test holds, by the entries of its record.
+use Rattle.std.proofs.Common.{◌≡◌, refl, ap, sym, subst, ◌∙◌, ℕ, suc, ◌<◌, ◌≤◌, Bool, true, false, cond, ◌&&◌, ◌==◌, max, Option, Some, None, List, [], ◌∷◌, ◌++◌, length, drop, get_or, ◌+◌, arith}
 use Rattle.std.proofs.lemmas.Bool.Decides.{nat_tests}
 use Rattle.std.proofs.lemmas.Cmp.{nat_list_cmp_total, then_total, on_total, nat_cmp_total, ranked}
 use Rattle.std.proofs.lemmas.List.Elements.{recursion_from_All}
@@ -21,52 +21,51 @@ use Rattle.legal_history.specs.Base.Closures.{Input, Inputs, closure, entries_of
 use Rattle.legal_history.specs.Base.Conditions.{is_entry}
 use Rattle.legal_history.specs.Base.Fits.{is_base}
 use Rattle.legal_history.specs.Base.Rows.{Base, only_where, size}
-use Rattle.legal_history.specs.Base.Seen.{file_at}
-use Rattle.legal_history.specs.Builds.Reuse.{agrees}
-use Rattle.legal_history.specs.Queries.RecordTexts.{record_of, uncovered, uncovered_among}
+use Rattle.legal_history.specs.Queries.RecordTexts.{record_of}
 use Rattle.legal_history.proofs.Bases.Owned.{and_first, and_second, row_fits, rows_below}
 use Rattle.legal_history.proofs.Reuse.Covered.{Keyed, closure_keyed, entries_keyed, entry_keyed, one_input, put_keyed}
 use Rattle.legal_history.proofs.Reuse.EntriesBelow.{entry_below, entries_fit}
 use Rattle.legal_history.proofs.Stories.Goes.{same_number}
-use Rattle.cleartool.specs.Covering.{above, above_entries, least_in, least_of, least_of_all, least_of_entries, least_of_entry, lesser, lower, missed}
-use Rattle.cleartool.proofs.LesserPaths.{lesser_join, lesser_swap, lesser_twice}
+use Rattle.view_lookup.specs.FirstInputs.{Test, first_among, first_input}
+use Rattle.view_lookup.specs.LeastInputs.{above, above_entries, least_in, least_of, least_of_all, least_of_entries, least_of_entry, lesser, lower, passed}
+use Rattle.view_lookup.proofs.LesserPaths.{lesser_join, lesser_swap, lesser_twice}
 
 -- one input put in its place, each under its own row
-one_put : (b : Base) (v : List ℕ) (s : Input) (row : ℕ) (inputs : Inputs) → row ≡ s.1 → Keyed inputs → least_in b v (put input_cmp s row inputs) ≡ lesser (missed b v s.0 row) (least_in b v inputs)
-one_put b v s row [] own keyed = refl
-one_put b v s row (input ∷ inputs) own keyed = by (input_cmp s input.0) refl (one_put b v s row inputs own keyed.1)
+one_put : (passes : Test) (s : Input) (row : ℕ) (inputs : Inputs) → row ≡ s.1 → Keyed inputs → least_in passes (put input_cmp s row inputs) ≡ lesser (passed passes s.0 row) (least_in passes inputs)
+one_put passes s row [] own keyed = refl
+one_put passes s row (input ∷ inputs) own keyed = by (input_cmp s input.0) refl (one_put passes s row inputs own keyed.1)
   where
-    by : (o : Ordering) → input_cmp s input.0 ≡ o → least_in b v (put input_cmp s row inputs) ≡ lesser (missed b v s.0 row) (least_in b v inputs) →
-        least_in b v (by_order o ((s, row) ∷ input ∷ inputs) ((input.0, row) ∷ inputs) (input ∷ put input_cmp s row inputs)) ≡ lesser (missed b v s.0 row) (least_in b v (input ∷ inputs))
+    by : (o : Ordering) → input_cmp s input.0 ≡ o → least_in passes (put input_cmp s row inputs) ≡ lesser (passed passes s.0 row) (least_in passes inputs) →
+        least_in passes (by_order o ((s, row) ∷ input ∷ inputs) ((input.0, row) ∷ inputs) (input ∷ put input_cmp s row inputs)) ≡ lesser (passed passes s.0 row) (least_in passes (input ∷ inputs))
     by Less place before = refl
     by Equal place before =
         let one = one_input s input.0 (ap is_eq place) in
         let same : input.1 ≡ row = keyed.0 ∙ sym one.row ∙ sym own in
-        let rest = least_in b v inputs in
-        ap (λ path. lesser (missed b v path row) rest) (sym one.path)
-        ∙ sym (lesser_twice (missed b v s.0 row) rest)
-        ∙ ap (λ path. lesser (missed b v s.0 row) (lesser (missed b v path row) rest)) one.path
-        ∙ ap (λ r. lesser (missed b v s.0 row) (lesser (missed b v input.0.0 r) rest)) (sym same)
+        let rest = least_in passes inputs in
+        ap (λ path. lesser (passed passes path row) rest) (sym one.path)
+        ∙ sym (lesser_twice (passed passes s.0 row) rest)
+        ∙ ap (λ path. lesser (passed passes s.0 row) (lesser (passed passes path row) rest)) one.path
+        ∙ ap (λ r. lesser (passed passes s.0 row) (lesser (passed passes input.0.0 r) rest)) (sym same)
     by Greater place before =
-        ap (lesser (missed b v input.0.0 input.1)) before
-        ∙ lesser_swap (missed b v input.0.0 input.1) (missed b v s.0 row) (least_in b v inputs)
+        ap (lesser (passed passes input.0.0 input.1)) before
+        ∙ lesser_swap (passed passes input.0.0 input.1) (passed passes s.0 row) (least_in passes inputs)
 
 -- inputs that are joined to others have the lesser of both
-both_least : (b : Base) (v : List ℕ) (one others : Inputs) → Keyed one → Keyed others → least_in b v (joined_inputs one others) ≡ lesser (least_in b v one) (least_in b v others)
-both_least b v [] others own keyed = refl
-both_least b v (input ∷ one) others own keyed =
-    both_least b v one (put input_cmp input.0 input.1 others) own.1 (put_keyed input.0 input.1 others own.0 keyed)
-    ∙ ap (lesser (least_in b v one)) (one_put b v input.0 input.1 others own.0 keyed)
-    ∙ lesser_swap (least_in b v one) (missed b v input.0.0 input.1) (least_in b v others)
-    ∙ sym (lesser_join (missed b v input.0.0 input.1) (least_in b v one) (least_in b v others))
+both_least : (passes : Test) (one others : Inputs) → Keyed one → Keyed others → least_in passes (joined_inputs one others) ≡ lesser (least_in passes one) (least_in passes others)
+both_least passes [] others own keyed = refl
+both_least passes (input ∷ one) others own keyed =
+    both_least passes one (put input_cmp input.0 input.1 others) own.1 (put_keyed input.0 input.1 others own.0 keyed)
+    ∙ ap (lesser (least_in passes one)) (one_put passes input.0 input.1 others own.0 keyed)
+    ∙ lesser_swap (least_in passes one) (passed passes input.0.0 input.1) (least_in passes others)
+    ∙ sym (lesser_join (passed passes input.0.0 input.1) (least_in passes one) (least_in passes others))
 
 -- the inputs of entries have the least of them all
-entries_least : (b : Base) (v : List ℕ) (entries : List ReadOf) → least_in b v (inputs_of b (closure b) entries) ≡ least_of_entries b v entries
-entries_least b v [] = refl
-entries_least b v (entry ∷ entries) =
-    both_least b v (inputs_of_entry (is_publish b entry.row) (closure b) entry) (inputs_of b (closure b) entries)
+entries_least : (b : Base) (passes : Test) (entries : List ReadOf) → least_in passes (inputs_of b (closure b) entries) ≡ least_of_entries b passes entries
+entries_least b passes [] = refl
+entries_least b passes (entry ∷ entries) =
+    both_least passes (inputs_of_entry (is_publish b entry.row) (closure b) entry) (inputs_of b (closure b) entries)
     (entry_keyed (is_publish b entry.row) (closure b) entry (closure_keyed b)) (entries_keyed b (closure b) entries (closure_keyed b))
-    ∙ ap (lesser (least_of_entry b v entry)) (entries_least b v entries)
+    ∙ ap (lesser (least_of_entry b passes entry)) (entries_least b passes entries)
 
 -- entries that name rows below a number
 abbrev AreBelow : ℕ → List ReadOf → Type 0
@@ -152,8 +151,8 @@ closure_made (row ∷ older) id base = by (size older == id) refl (closure_made 
         ∙ ap (inputs_of (row ∷ older) (closure (row ∷ older))) (sym recorded)
 
 -- what an object rests on has the least path of its entries
-pub object_least : (b : Base) (v : List ℕ) (id : ℕ) → is_base b ≡ true → least_of b v id ≡ least_of_entries b v (record_of b id)
-object_least b v id base = ap (least_in b v) (closure_made b id base) ∙ entries_least b v (record_of b id)
+pub object_least : (b : Base) (passes : Test) (id : ℕ) → is_base b ≡ true → least_of b passes id ≡ least_of_entries b passes (record_of b id)
+object_least b passes id base = ap (least_in passes) (closure_made b id base) ∙ entries_least b passes (record_of b id)
 
 above_below : (n : ℕ) (entries : List ReadOf) → AreBelow n entries → above_entries entries ≤ n
 above_below n [] h = omega arith
@@ -175,14 +174,14 @@ lower_not_below path one two h g = by (is_lt (slice_cmp nat_cmp two one))
     by true = g
     by false = h
 
-least_not_below : (b : Base) (v path : List ℕ) (inputs : Inputs) → NotBelow path inputs → IfSome (least_in b v inputs) (λ q. is_lt (slice_cmp nat_cmp q path) ≡ false)
-least_not_below b v path [] h = tt
-least_not_below b v path (input ∷ inputs) h = by (agrees input.1 (file_at b v input.0.0)) (least_in b v inputs) (least_not_below b v path inputs h.1)
+least_not_below : (passes : Test) (path : List ℕ) (inputs : Inputs) → NotBelow path inputs → IfSome (least_in passes inputs) (λ q. is_lt (slice_cmp nat_cmp q path) ≡ false)
+least_not_below passes path [] h = tt
+least_not_below passes path (input ∷ inputs) h = by (passes input.0.0 input.1) (least_in passes inputs) (least_not_below passes path inputs h.1)
   where
-    by : (t : Bool) (rest : Option (List ℕ)) → IfSome rest (λ q. is_lt (slice_cmp nat_cmp q path) ≡ false) → IfSome (lesser (only_where (not t) (Some input.0.0)) rest) (λ q. is_lt (slice_cmp nat_cmp q path) ≡ false)
-    by true rest g = g
-    by false None g = h.0
-    by false (Some q) g = lower_not_below path input.0.0 q h.0 g
+    by : (t : Bool) (rest : Option (List ℕ)) → IfSome rest (λ q. is_lt (slice_cmp nat_cmp q path) ≡ false) → IfSome (lesser (only_where t (Some input.0.0)) rest) (λ q. is_lt (slice_cmp nat_cmp q path) ≡ false)
+    by false rest g = g
+    by true None g = h.0
+    by true (Some q) g = lower_not_below path input.0.0 q h.0 g
 
 inputs_total : IsTotalOrder input_cmp
 inputs_total = then_total (on_total (λ (input : Input). input.0) nat_list_cmp_total) (on_total (λ (input : Input). input.1) nat_cmp_total)
@@ -211,17 +210,17 @@ not_below_all : (s : Input) (inputs : Inputs) → T (below_all input_cmp s input
 not_below_all s [] h = tt
 not_below_all s (input ∷ inputs) h = (path_not_below s input.0 (t_first _ _ h), not_below_all s inputs (t_second _ _ h))
 
--- in order, the first uncovered path is the least
-first_is_least : (b : Base) (v : List ℕ) (inputs : Inputs) → T (is_sorted input_cmp inputs) → uncovered_among b v inputs ≡ least_in b v inputs
-first_is_least b v [] sorted = refl
-first_is_least b v (input ∷ inputs) sorted =
-    ap (option_or (missed b v input.0.0 input.1)) (first_is_least b v inputs (t_second _ _ sorted))
-    ∙ by (agrees input.1 (file_at b v input.0.0)) (least_in b v inputs) (least_not_below b v input.0.0 inputs (not_below_all input.0 inputs (t_first _ _ sorted)))
+-- in order, the first path of which the test holds is the least
+first_is_least : (passes : Test) (inputs : Inputs) → T (is_sorted input_cmp inputs) → first_among passes inputs ≡ least_in passes inputs
+first_is_least passes [] sorted = refl
+first_is_least passes (input ∷ inputs) sorted =
+    ap (option_or (passed passes input.0.0 input.1)) (first_is_least passes inputs (t_second _ _ sorted))
+    ∙ by (passes input.0.0 input.1) (least_in passes inputs) (least_not_below passes input.0.0 inputs (not_below_all input.0 inputs (t_first _ _ sorted)))
   where
-    by : (t : Bool) (rest : Option (List ℕ)) → IfSome rest (λ q. is_lt (slice_cmp nat_cmp q input.0.0) ≡ false) → option_or (only_where (not t) (Some input.0.0)) rest ≡ lesser (only_where (not t) (Some input.0.0)) rest
-    by true rest g = refl
-    by false None g = refl
-    by false (Some q) g = sym (ap (λ t. Some (cond t q input.0.0)) g)
+    by : (t : Bool) (rest : Option (List ℕ)) → IfSome rest (λ q. is_lt (slice_cmp nat_cmp q input.0.0) ≡ false) → option_or (only_where t (Some input.0.0)) rest ≡ lesser (only_where t (Some input.0.0)) rest
+    by false rest g = refl
+    by true None g = refl
+    by true (Some q) g = sym (ap (λ t. Some (cond t q input.0.0)) g)
 
 joined_sorted : (one others : Inputs) → T (is_sorted input_cmp others) → T (is_sorted input_cmp (joined_inputs one others))
 joined_sorted [] others h = h
@@ -231,26 +230,26 @@ inputs_sorted : (b : Base) (of_object : ℕ → Inputs) (entries : List ReadOf) 
 inputs_sorted b of_object [] = tt
 inputs_sorted b of_object (entry ∷ entries) = joined_sorted (inputs_of_entry (is_publish b entry.row) of_object entry) (inputs_of b of_object entries) (inputs_sorted b of_object entries)
 
--- the least path is the model's
-pub uncovered_least : (b : Base) (v : List ℕ) (id : ℕ) → is_base b ≡ true → uncovered b v id ≡ least_of b v id
-uncovered_least b v id base =
-    first_is_least b v (closure b id) (subst (λ (inputs : Inputs). T (is_sorted input_cmp inputs)) (sym (closure_made b id base)) (inputs_sorted b (closure b) (record_of b id)))
+-- the first path is the least
+pub first_least : (b : Base) (passes : Test) (id : ℕ) → is_base b ≡ true → first_input b passes id ≡ least_of b passes id
+first_least b passes id base =
+    first_is_least passes (closure b id) (subst (λ (inputs : Inputs). T (is_sorted input_cmp inputs)) (sym (closure_made b id base)) (inputs_sorted b (closure b) (record_of b id)))
 
 -- one object more is left
-pub one_left : (b : Base) (v : List ℕ) (ids : List ℕ) (id : ℕ) → least_of_all b v (insert_key nat_cmp ids id) ≡ lesser (least_of b v id) (least_of_all b v ids)
-one_left b v [] id = refl
-one_left b v (first ∷ ids) id = by (nat_cmp id first) refl (one_left b v ids id)
+pub one_left : (b : Base) (passes : Test) (ids : List ℕ) (id : ℕ) → least_of_all b passes (insert_key nat_cmp ids id) ≡ lesser (least_of b passes id) (least_of_all b passes ids)
+one_left b passes [] id = refl
+one_left b passes (first ∷ ids) id = by (nat_cmp id first) refl (one_left b passes ids id)
   where
-    by : (o : Ordering) → nat_cmp id first ≡ o → least_of_all b v (insert_key nat_cmp ids id) ≡ lesser (least_of b v id) (least_of_all b v ids) →
-        least_of_all b v (match_ordering o (id ∷ first ∷ ids) (first ∷ ids) (first ∷ insert_key nat_cmp ids id)) ≡ lesser (least_of b v id) (least_of_all b v (first ∷ ids))
+    by : (o : Ordering) → nat_cmp id first ≡ o → least_of_all b passes (insert_key nat_cmp ids id) ≡ lesser (least_of b passes id) (least_of_all b passes ids) →
+        least_of_all b passes (match_ordering o (id ∷ first ∷ ids) (first ∷ ids) (first ∷ insert_key nat_cmp ids id)) ≡ lesser (least_of b passes id) (least_of_all b passes (first ∷ ids))
     by Less e rest = refl
     by Equal e rest =
-        sym (lesser_twice (least_of b v first) (least_of_all b v ids))
-        ∙ ap (λ n. lesser (least_of b v n) (least_of_all b v (first ∷ ids))) (sym (same_number id first (tied e)))
+        sym (lesser_twice (least_of b passes first) (least_of_all b passes ids))
+        ∙ ap (λ n. lesser (least_of b passes n) (least_of_all b passes (first ∷ ids))) (sym (same_number id first (tied e)))
       where
         tied : nat_cmp id first ≡ Equal → (id == first) ≡ true
         tied e = sym (unsigned_tied id first) ∙ ap is_eq e
-    by Greater e rest = ap (lesser (least_of b v first)) rest ∙ lesser_swap (least_of b v first) (least_of b v id) (least_of_all b v ids)
+    by Greater e rest = ap (lesser (least_of b passes first)) rest ∙ lesser_swap (least_of b passes first) (least_of b passes id) (least_of_all b passes ids)
 
 pub one_above : (ids : List ℕ) (id : ℕ) → above (insert_key nat_cmp ids id) ≤ max (suc id) (above ids)
 one_above [] id = omega arith
@@ -262,9 +261,9 @@ one_above (first ∷ ids) id = by (nat_cmp id first) (one_above ids id)
     by Greater rest = omega arith
 
 -- the last object that was left
-pub last_left : (b : Base) (v : List ℕ) (ids : List ℕ) (id : ℕ) → least_of_all b v (ids ++ id ∷ []) ≡ lesser (least_of b v id) (least_of_all b v ids)
-last_left b v [] id = refl
-last_left b v (first ∷ ids) id = ap (lesser (least_of b v first)) (last_left b v ids id) ∙ lesser_swap (least_of b v first) (least_of b v id) (least_of_all b v ids)
+pub last_left : (b : Base) (passes : Test) (ids : List ℕ) (id : ℕ) → least_of_all b passes (ids ++ id ∷ []) ≡ lesser (least_of b passes id) (least_of_all b passes ids)
+last_left b passes [] id = refl
+last_left b passes (first ∷ ids) id = ap (lesser (least_of b passes first)) (last_left b passes ids id) ∙ lesser_swap (least_of b passes first) (least_of b passes id) (least_of_all b passes ids)
 
 pub last_above : (ids : List ℕ) (id : ℕ) → id < above (ids ++ id ∷ [])
 last_above [] id = omega arith
@@ -278,41 +277,43 @@ pub all_above : (ids : List ℕ) (id : ℕ) → All (λ n. nat_cmp n id ≡ Less
 all_above ids id h = rising_above ids id (recursion_from_All (λ n. nat_cmp n id ≡ Less) ids h)
 
 -- an entry that names an object, which is left then
-pub entry_object : (b : Base) (v : List ℕ) (least : Option (List ℕ)) (entry : ReadOf) (old new : List ℕ) → is_publish b entry.row ≡ true → new ≡ insert_key nat_cmp old entry.row →
-    lesser least (least_of_all b v new) ≡ lesser (least_of_entry b v entry) (lesser least (least_of_all b v old))
-entry_object b v least entry old new object more =
-    ap (λ (ids : List ℕ). lesser least (least_of_all b v ids)) more
-    ∙ ap (lesser least) (one_left b v old entry.row)
-    ∙ lesser_swap least (least_of b v entry.row) (least_of_all b v old)
-    ∙ sym (ap (λ t. lesser (least_in b v (inputs_of_entry t (closure b) entry)) (lesser least (least_of_all b v old))) object)
+pub entry_object : (b : Base) (passes : Test) (least : Option (List ℕ)) (entry : ReadOf) (old new : List ℕ) → is_publish b entry.row ≡ true → new ≡ insert_key nat_cmp old entry.row →
+    lesser least (least_of_all b passes new) ≡ lesser (least_of_entry b passes entry) (lesser least (least_of_all b passes old))
+entry_object b passes least entry old new object more =
+    ap (λ (ids : List ℕ). lesser least (least_of_all b passes ids)) more
+    ∙ ap (lesser least) (one_left b passes old entry.row)
+    ∙ lesser_swap least (least_of b passes entry.row) (least_of_all b passes old)
+    ∙ sym (ap (λ t. lesser (least_in passes (inputs_of_entry t (closure b) entry)) (lesser least (least_of_all b passes old))) object)
 
--- an entry at whose path the view sees another row
-pub entry_missed : (b : Base) (v : List ℕ) (entry : ReadOf) (least found rest : Option (List ℕ)) → is_publish b entry.row ≡ false → agrees entry.row (file_at b v entry.path) ≡ false → found ≡ lesser (Some entry.path) least →
-    lesser found rest ≡ lesser (least_of_entry b v entry) (lesser least rest)
-entry_missed b v entry least found rest other unseen is =
+-- an entry of which the test holds
+pub entry_passed : (b : Base) (passes : Test) (entry : ReadOf) (least found rest : Option (List ℕ)) → is_publish b entry.row ≡ false → passes entry.path entry.row ≡ true → found ≡ lesser (Some entry.path) least →
+    lesser found rest ≡ lesser (least_of_entry b passes entry) (lesser least rest)
+entry_passed b passes entry least found rest other holds is =
     ap (λ (p : Option (List ℕ)). lesser p rest) is
     ∙ lesser_join (Some entry.path) least rest
-    ∙ sym (ap (λ t. lesser (least_in b v (inputs_of_entry t (closure b) entry)) (lesser least rest)) other
-    ∙ ap (λ t. lesser (lesser (only_where (not t) (Some entry.path)) None) (lesser least rest)) unseen)
+    ∙ sym (ap (λ t. lesser (least_in passes (inputs_of_entry t (closure b) entry)) (lesser least rest)) other
+    ∙ ap (λ t. lesser (lesser (only_where t (Some entry.path)) None) (lesser least rest)) holds)
 
 -- one entry after the other is taken in
-pub entry_taken : (b : Base) (v : List ℕ) (entry : ReadOf) (entries : List ReadOf) (old new all : Option (List ℕ)) → new ≡ lesser (least_of_entry b v entry) old → lesser (least_of_entries b v (entry ∷ entries)) old ≡ all →
-    lesser (least_of_entries b v entries) new ≡ all
-entry_taken b v entry entries old new all taken before =
-    ap (lesser (least_of_entries b v entries)) taken
-    ∙ lesser_swap (least_of_entries b v entries) (least_of_entry b v entry) old
-    ∙ sym (lesser_join (least_of_entry b v entry) (least_of_entries b v entries) old)
+pub entry_taken : (b : Base) (passes : Test) (entry : ReadOf) (entries : List ReadOf) (old new all : Option (List ℕ)) → new ≡ lesser (least_of_entry b passes entry) old → lesser (least_of_entries b passes (entry ∷ entries)) old ≡ all →
+    lesser (least_of_entries b passes entries) new ≡ all
+entry_taken b passes entry entries old new all taken before =
+    ap (lesser (least_of_entries b passes entries)) taken
+    ∙ lesser_swap (least_of_entries b passes entries) (least_of_entry b passes entry) old
+    ∙ sym (lesser_join (least_of_entry b passes entry) (least_of_entries b passes entries) old)
     ∙ before
 
 -- the object that was taken from those that are left, and its entries in its place
-pub object_taken : (b : Base) (v : List ℕ) (id : ℕ) (old new more : List ℕ) (least found : Option (List ℕ)) → is_base b ≡ true → old ≡ new ++ id ∷ [] →
-    lesser found (least_of_all b v more) ≡ lesser (least_of_entries b v (record_of b id)) (lesser least (least_of_all b v new)) → lesser found (least_of_all b v more) ≡ lesser least (least_of_all b v old)
-object_taken b v id old new more least found base left taken =
+pub object_taken : (b : Base) (passes : Test) (id : ℕ) (old new more : List ℕ) (entries : List ReadOf) (least found all : Option (List ℕ)) → is_base b ≡ true → old ≡ new ++ id ∷ [] → entries ≡ record_of b id →
+    lesser found (least_of_all b passes more) ≡ lesser (least_of_entries b passes entries) (lesser least (least_of_all b passes new)) → lesser least (least_of_all b passes old) ≡ all → lesser found (least_of_all b passes more) ≡ all
+object_taken b passes id old new more entries least found all base left recorded taken before =
     taken
-    ∙ ap (λ (p : Option (List ℕ)). lesser p (lesser least (least_of_all b v new))) (sym (object_least b v id base))
-    ∙ lesser_swap (least_of b v id) least (least_of_all b v new)
-    ∙ ap (lesser least) (sym (last_left b v new id))
-    ∙ ap (λ (ids : List ℕ). lesser least (least_of_all b v ids)) (sym left)
+    ∙ ap (λ (es : List ReadOf). lesser (least_of_entries b passes es) (lesser least (least_of_all b passes new))) recorded
+    ∙ ap (λ (p : Option (List ℕ)). lesser p (lesser least (least_of_all b passes new))) (sym (object_least b passes id base))
+    ∙ lesser_swap (least_of b passes id) least (least_of_all b passes new)
+    ∙ ap (lesser least) (sym (last_left b passes new id))
+    ∙ ap (λ (ids : List ℕ). lesser least (least_of_all b passes ids)) (sym left)
+    ∙ before
 
 -- what is left lies lower with each object that is taken
 pub walk_falls : (b : Base) (id : ℕ) (old new more : List ℕ) (entries : List ReadOf) → is_base b ≡ true → old ≡ new ++ id ∷ [] → All (λ n. nat_cmp n id ≡ Less) new → entries ≡ record_of b id →
@@ -332,9 +333,9 @@ entries_above entries i entry old new all within at low before =
     omega arith
 
 -- the entries that are left begin with this one
-pub entries_left : (b : Base) (v : List ℕ) (entries : List ReadOf) (i : ℕ) (entry : ReadOf) (old all : Option (List ℕ)) → i < length entries → entry ≡ get_or entries i entry → lesser (least_of_entries b v (drop i entries)) old ≡ all →
-    lesser (least_of_entries b v (entry ∷ drop (i + 1) entries)) old ≡ all
-entries_left b v entries i entry old all within at before =
-    ap (λ (e : ReadOf). lesser (least_of_entries b v (e ∷ drop (i + 1) entries)) old) at
-    ∙ sym (at_drop_more (λ (left : List ReadOf). lesser (least_of_entries b v left) old) entries i entry within)
+pub entries_left : (b : Base) (passes : Test) (entries : List ReadOf) (i : ℕ) (entry : ReadOf) (old all : Option (List ℕ)) → i < length entries → entry ≡ get_or entries i entry → lesser (least_of_entries b passes (drop i entries)) old ≡ all →
+    lesser (least_of_entries b passes (entry ∷ drop (i + 1) entries)) old ≡ all
+entries_left b passes entries i entry old all within at before =
+    ap (λ (e : ReadOf). lesser (least_of_entries b passes (e ∷ drop (i + 1) entries)) old) at
+    ∙ sym (at_drop_more (λ (left : List ReadOf). lesser (least_of_entries b passes left) old) entries i entry within)
     ∙ before

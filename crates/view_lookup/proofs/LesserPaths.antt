@@ -7,7 +7,7 @@ use Rattle.std.specs.Cmp.Lexicographic.{slice_cmp}
 use Rattle.std.specs.Ordering.{is_eq, is_lt, nat_cmp, ordering_reverse}
 use Rattle.std.specs.declared.cmp.Ordering.{Ordering}
 use Rattle.std.specs.declared.cmp.Ordering.TheVariants.{Less, Equal, Greater}
-use Rattle.cleartool.specs.Covering.{lower, lesser}
+use Rattle.view_lookup.specs.LeastInputs.{lower, lesser}
 
 same_path : (one two : List ℕ) → slice_cmp nat_cmp one two ≡ Equal → one ≡ two
 same_path one two ties = (bytes_eq-Decides one two).0 (sym (is_eq-slice_cmp one two) ∙ ap is_eq ties)

@@ -1,0 +1,6 @@
+use Rattle.std.proofs.Common.{◌≡◌, ◌++◌, map}
+use Rattle.legal_history.specs.Commands.LabelLines.{as_placed}
+use Rattle.view_lookup.proofs.listings.places_of.Given as goal
+
+abbrev pub invariant-loop-element : goal.invariant-loop-element
+invariant-loop-element l = l.placed.items ++ map as_placed l.element-iterator ≡ map as_placed l.versions.entries

@@ -1,0 +1,55 @@
+-- The least path of what an object rests on, of which a test holds, object by object.
+use Rattle.std.specs.Prelude.{ℕ, suc, max, cond, Option, Some, None, List, [], ◌∷◌}
+use Rattle.std.specs.Cmp.Lexicographic.{slice_cmp}
+use Rattle.std.specs.Ordering.{is_lt, nat_cmp}
+use Rattle.cc_names.specs.declared.rows.ReadOf.{ReadOf}
+use Rattle.legal_history.specs.Base.Closures.{Inputs, closure, is_publish, inputs_of_entry}
+use Rattle.legal_history.specs.Base.Rows.{Base, only_where}
+use Rattle.view_lookup.specs.FirstInputs.{Test}
+
+-- the lesser of two paths
+abbrev pub lower : List ℕ → List ℕ → List ℕ
+lower one two = cond (is_lt (slice_cmp nat_cmp two one)) two one
+
+-- the lesser of a path and another, where there are two
+abbrev pub lesser : Option (List ℕ) → Option (List ℕ) → Option (List ℕ)
+lesser None other = other
+lesser (Some one) None = Some one
+lesser (Some one) (Some two) = Some (lower one two)
+
+-- a path, where the test holds of it and the row there
+abbrev pub passed : Test → List ℕ → ℕ → Option (List ℕ)
+passed passes path row = only_where (passes path row) (Some path)
+
+-- the least path among inputs of which the test holds
+abbrev pub least_in : Test → Inputs → Option (List ℕ)
+least_in passes [] = None
+least_in passes (input ∷ inputs) = lesser (passed passes input.0.0 input.1) (least_in passes inputs)
+
+-- the same of what an object rests on
+abbrev pub least_of : Base → Test → ℕ → Option (List ℕ)
+least_of b passes id = least_in passes (closure b id)
+
+-- of some objects
+abbrev pub least_of_all : Base → Test → List ℕ → Option (List ℕ)
+least_of_all b passes [] = None
+least_of_all b passes (id ∷ ids) = lesser (least_of b passes id) (least_of_all b passes ids)
+
+-- of an entry of a record
+abbrev pub least_of_entry : Base → Test → ReadOf → Option (List ℕ)
+least_of_entry b passes entry = least_in passes (inputs_of_entry (is_publish b entry.row) (closure b) entry)
+
+-- of some entries
+abbrev pub least_of_entries : Base → Test → List ReadOf → Option (List ℕ)
+least_of_entries b passes [] = None
+least_of_entries b passes (entry ∷ entries) = lesser (least_of_entry b passes entry) (least_of_entries b passes entries)
+
+-- a number above all of some numbers, the least one
+abbrev pub above : List ℕ → ℕ
+above [] = 0
+above (n ∷ ns) = max (suc n) (above ns)
+
+-- a number above all rows of some entries, the least one
+abbrev pub above_entries : List ReadOf → ℕ
+above_entries [] = 0
+above_entries (entry ∷ entries) = max (suc entry.row) (above_entries entries)
