@@ -134,7 +134,7 @@ impl<D: Disk> Log<D> {
     ghost use Rattle.story_log.specs.Logging.Logs.{opened_log, with_phase, with_step, with_sight};
     ghost use Rattle.story_log.specs.Story.Telling.{stands_alone};
     ghost use Rattle.view_lookup.specs.Order.{oldest_first};
-        ghost use Rattle.disk_model.specs.Told.{Both};
+    ghost use Rattle.disk_model.specs.Told.{Both};
     ghost use Rattle.legal_history.specs.Base.Fits.{fits};
     ghost use Rattle.vob_journal.specs.Added.{WritesOn};
 
