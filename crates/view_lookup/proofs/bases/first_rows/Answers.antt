@@ -1,5 +1,5 @@
 -- The first rows of a front are a front.
-use Rattle.std.proofs.Common.{◌≡◌, ◌-◌, suc, true, min, ap, subst, sym, ◌∙◌, arith}
+use Rattle.std.proofs.Common.{◌≡◌, ◌-◌, suc, min, ap, ◌∙◌, arith}
 use Rattle.legal_history.specs.Base.Fits.{is_base}
 use Rattle.legal_history.specs.Base.Rows.{Base, first_rows}
 use Rattle.view_lookup.proofs.Fronts.{first_of_front, fitting_first}
