@@ -25,6 +25,7 @@ is_carried_out (commands.Mv view path name) = true
 is_carried_out (commands.Mklbtype name) = true
 is_carried_out (commands.Mkbrtype name) = true
 is_carried_out (commands.Mklabel view replace label path) = true
+is_carried_out (commands.MklabelConfig view replace path label) = true
 is_carried_out (commands.Rmlabel view label path) = true
 is_carried_out (commands.Mkarrow view path version) = true
 is_carried_out (commands.Rmdo view path) = true
@@ -40,6 +41,7 @@ is_carried_out (commands.Lshistory view path) = true
 is_carried_out (commands.Catcr view path) = true
 is_carried_out (commands.Diffcr view path other second) = true
 is_carried_out (commands.Covers seer view path) = true
+is_carried_out (commands.Findmerge view path branch) = true
 is_carried_out command = false
 
 -- All commands of a lane are carried out.

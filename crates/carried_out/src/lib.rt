@@ -35,6 +35,7 @@ pub fn is_carried_out(command: &Command) -> bool
             | Command::Mklbtype { .. }
             | Command::Mkbrtype { .. }
             | Command::Mklabel { .. }
+            | Command::MklabelConfig { .. }
             | Command::Rmlabel { .. }
             | Command::Mkarrow { .. }
             | Command::Rmdo { .. }
@@ -50,5 +51,6 @@ pub fn is_carried_out(command: &Command) -> bool
             | Command::Catcr { .. }
             | Command::Diffcr { .. }
             | Command::Covers { .. }
+            | Command::Findmerge { .. }
     )
 }

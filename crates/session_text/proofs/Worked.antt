@@ -222,27 +222,6 @@ two_lanes : session_of (codes "phase\nlane a\nlane a b\n") ≡ wrong 3 causes.Tw
 unfolding wrong
 two_lanes = refl
 
-not_built : session_of (codes "phase\nlane a\nfindmerge v a -fversion .../fix/LATEST\n") ≡ wrong 3 causes.NotBuilt
-unfolding wrong
-not_built = refl
-
-bad_before_built : session_of (codes "phase\nlane a\nfindmerge v w\n") ≡ wrong 3 causes.BadWord
-unfolding wrong
-bad_before_built = refl
-
--- a line that stands wrong is told before any that is not carried out
-wrong_behind_not_built : session_of (codes "phase\nlane a\nmkview v\nfindmerge v a -fversion .../fix/LATEST\nfrob\n") ≡ wrong 5 causes.UnknownCommand
-unfolding wrong
-wrong_behind_not_built = refl
-
-body_behind_not_built : session_of (codes "phase\nlane a\nfindmerge v a -fversion .../fix/LATEST\n|x\n") ≡ wrong 4 causes.NoBody
-unfolding wrong
-body_behind_not_built = refl
-
-lane_behind_not_built : session_of (codes "phase\nlane a\nfindmerge v a -fversion .../fix/LATEST\nlane a\n") ≡ wrong 4 causes.TwoLanes
-unfolding wrong
-lane_behind_not_built = refl
-
 blanks_alone : session_of (codes "phase\nlane a\n \t\n") ≡ wrong 3 causes.UnknownCommand
 unfolding wrong
 blanks_alone = refl
