@@ -1,7 +1,8 @@
 -- What becomes of a unit that is driven to its outcome.
-use Rattle.std.proofs.Common.{◌≡◌, sym, subst, ◌∙◌, ℕ, ◌+◌, Result, Ok, Err, List}
+use Rattle.std.proofs.Common.{◌≡◌, sym, subst, ◌∙◌, ℕ, ◌+◌, Bool, true, false, not, Result, Ok, Err, List}
 use Rattle.std.specs.Bool.{OnTrue}
 use Rattle.std.specs.Prelude.{IfOk, OnErr, OnOk, is_ok}
+use Rattle.std.specs.Result.{result_eq}
 use mathlib.Core.List.{IsPrefix}
 use Rattle.cc_names.specs.declared.desks.Begun.{Begun}
 use Rattle.cc_names.specs.declared.desks.Begun.TheVariants as begins
@@ -12,14 +13,15 @@ use Rattle.cc_names.specs.declared.steps.StoryStep.{StoryStep}
 use Rattle.script_grammar.specs.Run.{Ran}
 use Rattle.legal_history.specs.Stories.Lawful.{Legal}
 use Rattle.legal_history.specs.Stories.Steps.{state_of}
-use Rattle.clearmake.specs.Building.{IsOpened, opened_of}
+use Rattle.clearmake.specs.Building.{IsOpened, IsSwept, opened_of}
 use Rattle.clearmake.specs.Calls.{Begins, IsCarried, IsOver, IsRunOfUnit, Tries, WaitsFor}
-use Rattle.clearmake.specs.Driving.{IsDriven, IsTried, driven_of, tried_of}
+use Rattle.clearmake.specs.Driving.{IsDriven, IsTried}
 use Rattle.clearmake.specs.Going.{Finishes, HasOutcome}
 use Rattle.clearmake.specs.Nexts.{next_of}
 use Rattle.clearmake.specs.Passes.{AreDone, Builds, IsPast}
-use Rattle.clearmake.specs.declared.turns.Carried.{Carried}
-use Rattle.clearmake.specs.declared.turns.Carried.TheVariants as carried
+use Rattle.clearmake.specs.contracts.turns.TurnEndPartialEq.TheImpl.{eq-value}
+use Rattle.clearmake.specs.declared.turns.TurnEnd.{TurnEnd}
+use Rattle.clearmake.specs.declared.turns.TurnEnd.TheVariants as turn_ends
 use Rattle.clearmake.specs.declared.turns.UnitTurn.{UnitTurn}
 use Rattle.clearmake.specs.declared.turns.UnitTurn.TheVariants as turns
 use Rattle.clearmake.proofs.Later.{run_stays}
@@ -27,21 +29,22 @@ use Rattle.clearmake.proofs.Steps.{builds_on, done_later, done_more, finished_pa
 
 -- a desk's answer to a try
 pub tries_so : (old new : List StoryStep) (tag : Tag) (count n : ℕ) (result : Result UnitTurn NoMemory) → Builds old tag count → IfOk result (λ turn. Tries old new tag.lane n turn) → OnErr result (new ≡ old) → Legal new →
-    IsPrefix old new × IsTried (tried_of result) new tag count n
-tries_so old new tag count n (Ok turns.Concluded) h ok err legal = (goes_begins old new tag.lane ok.0, (legal, builds_on old new tag count h ok.0, ok.1))
-tries_so old new tag count n (Ok (turns.NotReady m)) h ok err legal = (
+    IsPrefix old new × IfOk result (λ turn. IsTried turn new tag count n)
+tries_so old new tag count n (Ok (turns.End turn_ends.Concluded)) h ok err legal = (goes_begins old new tag.lane ok.0, (legal, builds_on old new tag count h ok.0, ok.1))
+tries_so old new tag count n (Ok (turns.End (turn_ends.NotReady m))) h ok err legal = (
   same_begins old new ok.0,
   (legal, subst (λ t. Builds t tag count) (sym ok.0) h, subst (λ (t : List StoryStep). WaitsFor (state_of t) tag.lane n m) (sym ok.0) ok.1),
 )
+tries_so old new tag count n (Ok (turns.End turn_ends.Over)) h ok err legal = (finishes_begins old new tag.lane ok, finished_past old new tag h.next ok)
 tries_so old new tag count n (Ok (turns.Run script targets)) h ok err legal = (goes_begins old new tag.lane ok.0, (builds_on old new tag count h ok.0, ok.1))
-tries_so old new tag count n (Ok turns.Faulted) h ok err legal = (finishes_begins old new tag.lane ok, finished_past old new tag h.next ok)
 tries_so old new tag count n (Err error) h ok err legal = (same_begins old new err, tt)
 
 -- a desk's answer to a finish
-pub finishes_so : (old new : List StoryStep) (tag : Tag) (count n : ℕ) (result : Result Carried NoMemory) → Builds old tag count → IfOk result (λ done. IsCarried old new tag.lane n done) → OnErr result (new ≡ old) → Legal new →
-    IsPrefix old new × IsDriven (driven_of result) new tag count n
-finishes_so old new tag count n (Ok carried.Concluded) h ok err legal = (goes_begins old new tag.lane ok.0, (legal, builds_on old new tag count h ok.0, ok.1))
-finishes_so old new tag count n (Ok carried.Faulted) h ok err legal = (finishes_begins old new tag.lane ok, finished_past old new tag h.next ok)
+pub finishes_so : (old new : List StoryStep) (tag : Tag) (count n : ℕ) (result : Result TurnEnd NoMemory) → Builds old tag count → IfOk result (λ end. IsCarried old new tag.lane n end) → OnErr result (new ≡ old) → Legal new →
+    IsPrefix old new × IfOk result (λ end. IsDriven end new tag count n)
+finishes_so old new tag count n (Ok turn_ends.Concluded) h ok err legal = (goes_begins old new tag.lane ok.0, (legal, builds_on old new tag count h ok.0, ok.1))
+finishes_so old new tag count n (Ok (turn_ends.NotReady m)) h ok err legal = absurd ok
+finishes_so old new tag count n (Ok turn_ends.Over) h ok err legal = (finishes_begins old new tag.lane ok, finished_past old new tag h.next ok)
 finishes_so old new tag count n (Err error) h ok err legal = (same_begins old new err, tt)
 
 -- the run of a unit as it began is its run now
@@ -56,6 +59,25 @@ one_more was now tag count n h p settled = done_more now tag count n (done_later
 pub none_waits : (was now : List StoryStep) (tag : Tag) (count n m : ℕ) → AreDone was tag count n → IsPrefix was now → Legal now × Builds now tag count × WaitsFor (state_of now) tag.lane n m → ⊥
 none_waits was now tag count n m h p waits =
     waits_for_none (state_of now) tag.lane n m waits.2 (done_later was now tag count n h p waits.0 waits.1.next m waits.2.earlier).1
+
+-- whether a unit that was driven has no outcome, as a sweep tests it
+abbrev pub is_left : (NoMemory → NoMemory → Bool) → Result TurnEnd NoMemory → Bool
+is_left same driven = not (result_eq (eq-value).it same driven (Ok turn_ends.Concluded))
+
+-- what holds of a unit that was driven and has its outcome
+pub concluded_so : (same : NoMemory → NoMemory → Bool) (left : Bool) (driven : Result TurnEnd NoMemory) (P : TurnEnd → Type 0) → left ≡ is_left same driven → left ≡ false → IfOk driven P → P turn_ends.Concluded
+concluded_so same left (Ok turn_ends.Concluded) P is settled h = h
+concluded_so same left (Ok (turn_ends.NotReady m)) P is settled h = absurd (cc)
+concluded_so same left (Ok turn_ends.Over) P is settled h = absurd (cc)
+concluded_so same left (Err error) P is settled h = absurd (cc)
+
+-- where a unit that was driven behind all earlier ones has no outcome, the build is over
+pub left_so : (was now : List StoryStep) (tag : Tag) (count n : ℕ) (same : NoMemory → NoMemory → Bool) (left : Bool) (driven : Result TurnEnd NoMemory) → AreDone was tag count n → IsPrefix was now →
+    left ≡ is_left same driven → left ≡ true → IfOk driven (λ end. IsDriven end now tag count n) → IfOk driven (λ end. IsSwept end now tag count)
+left_so was now tag count n same left (Ok turn_ends.Concluded) done p is waits h = absurd (cc)
+left_so was now tag count n same left (Ok (turn_ends.NotReady m)) done p is waits h = none_waits was now tag count n m done p h
+left_so was now tag count n same left (Ok turn_ends.Over) done p is waits h = h
+left_so was now tag count n same left (Err error) done p is waits h = tt
 
 -- a desk's answer to the begin of a build
 pub begins_so : (old new : List StoryStep) (tag : Tag) (result : Result Begun NoMemory) → next_of (state_of old) tag.lane ≡ nexts.Build tag → IfOk result (λ begun. Begins old new tag.lane begun) → OnErr result (new ≡ old) →

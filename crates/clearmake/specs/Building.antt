@@ -9,14 +9,14 @@ use Rattle.legal_history.specs.Stories.Steps.{state_of}
 use Rattle.clearmake.specs.Passes.{AreDone, Builds, IsPast}
 use Rattle.clearmake.specs.declared.builds.Opened.{Opened}
 use Rattle.clearmake.specs.declared.builds.Opened.TheVariants as opened
-use Rattle.clearmake.specs.declared.sweeps.Swept.{Swept}
-use Rattle.clearmake.specs.declared.sweeps.Swept.TheVariants as swept
+use Rattle.clearmake.specs.declared.turns.TurnEnd.{TurnEnd}
+use Rattle.clearmake.specs.declared.turns.TurnEnd.TheVariants as turn_ends
 
--- the units of a build were driven: in this story the command is past, or they all have their outcomes, or memory ran out
-abbrev pub IsSwept : Swept → List StoryStep → Tag → ℕ → Type 0
-IsSwept swept.Over story tag count = IsPast (state_of story) tag
-IsSwept swept.Complete story tag count = AreDone story tag count count
-IsSwept swept.OutOfMemory story tag count = Unit {0}
+-- the units of a build were driven: in this story the command is past, or they all have their outcomes; none waits
+abbrev pub IsSwept : TurnEnd → List StoryStep → Tag → ℕ → Type 0
+IsSwept turn_ends.Over story tag count = IsPast (state_of story) tag
+IsSwept turn_ends.Concluded story tag count = AreDone story tag count count
+IsSwept (turn_ends.NotReady m) story tag count = ⊥
 
 -- what a desk's answer says of a build that was to begin
 abbrev pub opened_of : Result Begun NoMemory → Opened

@@ -15,8 +15,8 @@ use Rattle.legal_history.specs.Builds.Turns.{is_complete, is_ready}
 use Rattle.legal_history.specs.Stories.States.{State}
 use Rattle.legal_history.specs.Stories.Steps.{state_of}
 use Rattle.clearmake.specs.Going.{GoesOn, HasOutcome, Finishes}
-use Rattle.clearmake.specs.declared.turns.Carried.{Carried}
-use Rattle.clearmake.specs.declared.turns.Carried.TheVariants as carried
+use Rattle.clearmake.specs.declared.turns.TurnEnd.{TurnEnd}
+use Rattle.clearmake.specs.declared.turns.TurnEnd.TheVariants as turn_ends
 use Rattle.clearmake.specs.declared.turns.UnitTurn.{UnitTurn}
 use Rattle.clearmake.specs.declared.turns.UnitTurn.TheVariants as turns
 
@@ -90,15 +90,17 @@ Concludes old new lane n = GoesOn old new lane × HasOutcome (state_of new) lane
 -- what became of a unit that was tried: it has its outcome, it waits for another and nothing changed, or its script was started;
 -- or the disk failed and its lane's command is finished
 abbrev pub Tries : List StoryStep → List StoryStep → ℕ → ℕ → UnitTurn → Type 0
-Tries old new lane n turns.Concluded = Concludes old new lane n
-Tries old new lane n (turns.NotReady m) = (new ≡ old) × WaitsFor (state_of old) lane n m
+Tries old new lane n (turns.End turn_ends.Concluded) = Concludes old new lane n
+Tries old new lane n (turns.End (turn_ends.NotReady m)) = (new ≡ old) × WaitsFor (state_of old) lane n m
+Tries old new lane n (turns.End turn_ends.Over) = Finishes old new lane
 Tries old new lane n (turns.Run script targets) = GoesOn old new lane × IsStarted (state_of new) lane n script targets
-Tries old new lane n turns.Faulted = Finishes old new lane
 
--- what became of a unit that was given its outcome: it has it, or the disk failed and its lane's command is finished
-abbrev pub IsCarried : List StoryStep → List StoryStep → ℕ → ℕ → Carried → Type 0
-IsCarried old new lane n carried.Concluded = Concludes old new lane n
-IsCarried old new lane n carried.Faulted = Finishes old new lane
+-- what became of a unit that was given its outcome: it has it, or the disk failed and its lane's command is finished; it never
+-- waits
+abbrev pub IsCarried : List StoryStep → List StoryStep → ℕ → ℕ → TurnEnd → Type 0
+IsCarried old new lane n turn_ends.Concluded = Concludes old new lane n
+IsCarried old new lane n (turn_ends.NotReady m) = ⊥
+IsCarried old new lane n turn_ends.Over = Finishes old new lane
 
 -- whether a unit waits for unit n no more, and for no other: it has no outcome, and each unit that it needs has one
 abbrev pub is_released : Build → ℕ → ℕ → Bool

@@ -12,7 +12,8 @@ ghost use Rattle.clearmake.specs.Passes.{AreDone, IsLater, IsPast, Knows};
 use crate::builders::build_units;
 use crate::contexts::{BuildContext, PhaseContext, is_next};
 use crate::desks::BuildDesk;
-use crate::sweeps::{Swept, sweep};
+use crate::sweeps::sweep;
+use crate::turns::TurnEnd;
 use cc_names::desks::Begun;
 use cc_names::memory::NoMemory;
 use cc_names::rows::Tag;
@@ -137,12 +138,14 @@ fn build_begun<R: Threads + Wait + Sync, T: BuildDesk + Send, G: Gate + Sync>(
     let pass = build_units(context, pass, jobs);
     let (pass, swept) = sweep(context, pass);
     match swept {
-        Swept::Over => Built { pass, done: true },
-        Swept::OutOfMemory => Built { pass, done: false },
-        Swept::Complete => {
+        Ok(TurnEnd::Concluded) => {
             let (pass, ended) = end_once(context, pass);
             Built { pass, done: ended }
         }
+        left => Built {
+            pass,
+            done: left.is_ok(),
+        },
     }
 }
 

@@ -12,7 +12,7 @@ ghost use Rattle.clearmake.specs.Going.{Finishes};
 ghost use Rattle.clearmake.specs.Nexts.{jobs_of, next_of};
 ghost use Rattle.clearmake.specs.Sights.{IsFetched, sees};
 
-use crate::turns::{Carried, UnitTurn};
+use crate::turns::{TurnEnd, UnitTurn};
 use build_script::files::Got;
 use build_script::outcomes::Ended;
 use cc_names::desks::{Begun, Next};
@@ -71,17 +71,18 @@ pub trait BuildDesk: Storied<Step = StoryStep> {
         ensures { IsFetched result (sees (state_of (Self.story self.now)) lane unit path.now) };
 
     /// Finishes a unit whose script was run on what the unit sees, which is the same at every moment since its start.
-    /// Where it has its outcome already nothing changes. Where the disk fails the build ends. An `Err` changes nothing.
+    /// Where it has its outcome already nothing changes. Where the disk fails the build ends. It never waits. An `Err` changes
+    /// nothing.
     fn finish_unit(
         &mut self,
         alloc: Global,
         lane: u32,
         unit: u32,
         ended: Ended,
-    ) -> Result<Carried, NoMemory>
+    ) -> Result<TurnEnd, NoMemory>
         requires { IsRunOfUnit (state_of (Self.story self.old)) lane unit (ran_of ended) }
         ensures ok { IfOk result
-            (λ carried. IsCarried (Self.story self.old) (Self.story self.new) lane unit carried) }
+            (λ end. IsCarried (Self.story self.old) (Self.story self.new) lane unit end) }
         ensures err { OnErr result (Self.story self.new ≡ Self.story self.old) };
 
     /// The units that a unit which has its outcome has released, in their order: those without an outcome that need it,

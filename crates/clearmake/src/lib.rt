@@ -31,4 +31,4 @@ mod turns;
 
 pub use desks::{BuildDesk, PhaseDesk};
 pub use phases::run_phase;
-pub use turns::{Carried, UnitTurn};
+pub use turns::{TurnEnd, UnitTurn};

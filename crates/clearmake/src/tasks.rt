@@ -1,14 +1,16 @@
 //! The tasks of a builder: a unit is driven, and those that it releases become tasks.
 
-ghost use Rattle.std.specs.Prelude.{◌≡◌, ◌<◌, IfSome};
+ghost use Rattle.std.specs.Prelude.{◌≡◌, ◌<◌, IfOk, IfSome};
 ghost use mathlib.Core.List.{IsPrefix};
 ghost use Rattle.clearmake.specs.Driving.{IsTried};
 ghost use Rattle.clearmake.specs.Passes.{IsLater, Knows};
 
 use crate::contexts::BuildContext;
 use crate::desks::BuildDesk;
-use crate::drives::{Driven, Tried, run_started, try_at};
+use crate::drives::{run_started, try_at};
 use crate::task_queues::{Builder, TaskQueues};
+use crate::turns::{TurnEnd, UnitTurn};
+use cc_names::memory::NoMemory;
 use cc_outside::Gate;
 use std::sync::Wait;
 use turn_lock::Pass;
@@ -81,22 +83,26 @@ fn try_unclaimed_at<R, T: BuildDesk, G>(
     queues: &TaskQueues,
     desk: &mut T,
     unit: u32,
-) -> Option<Tried>
+) -> Result<Option<UnitTurn>, NoMemory>
     requires knows { Knows context.now.begun.now.value.seen (T.story desk.old) context.now.tag
         context.now.count }
     requires unit { unit < context.now.count }
     ensures begins { IsPrefix (T.story desk.old) (T.story desk.new) }
-    ensures tried { IfSome result
-        (λ tried. IsTried tried (T.story desk.new) context.now.tag context.now.count unit) }
+    ensures tried { IfOk result
+        (λ found. IfSome found
+        (λ turn. IsTried turn (T.story desk.new) context.now.tag context.now.count unit)) }
 {
     if queues.is_claimed(unit) {
-        return None;
+        return Ok(None);
     }
-    let tried = try_at(context, desk, unit);
-    if matches!(tried, Tried::Concluded | Tried::Run(_, _)) {
+    let turn = try_at(context, desk, unit)?;
+    if matches!(
+        turn,
+        UnitTurn::End(TurnEnd::Concluded) | UnitTurn::Run(_, _)
+    ) {
         queues.claim(unit);
     }
-    Some(tried)
+    Ok(Some(turn))
 }
 
 /// Takes a turn to try a unit that nobody has claimed.
@@ -106,14 +112,15 @@ fn try_unclaimed<R: Wait, T: BuildDesk, G: Gate>(
     queues: &TaskQueues,
     pass: Pass<T>,
     unit: u32,
-) -> (Pass<T>, Option<Tried>)
+) -> (Pass<T>, Result<Option<UnitTurn>, NoMemory>)
     requires own { pass.lock ≡ context.now.lock.now.id }
     requires knows { Knows context.now.begun.now.value.seen pass.seen context.now.tag
         context.now.count }
     requires unit { unit < context.now.count }
     ensures pass { IsLater pass result.0 }
-    ensures tried { IfSome result.1
-        (λ tried. IsTried tried result.0.seen context.now.tag context.now.count unit) }
+    ensures tried { IfOk result.1
+        (λ found. IfSome found
+        (λ turn. IsTried turn result.0.seen context.now.tag context.now.count unit)) }
 {
     let (held, mut desk) = context.lock.take(context.rt, pass);
     let tried = try_unclaimed_at(context, queues, &mut desk, unit);
@@ -136,23 +143,13 @@ fn take_up<R: Wait, T: BuildDesk, G: Gate>(
 {
     let (pass, tried) = try_unclaimed(context, queues, pass, unit);
     match tried {
-        Some(Tried::Concluded) => (pass, true),
-        Some(Tried::Run(script, targets)) => {
+        Ok(Some(UnitTurn::Run(script, targets))) => {
             let runs = queues.runs_of(builder);
-            let (pass, driven) = run_started(
-                context,
-                pass,
-                unit,
-                &script,
-                targets.as_slice(),
-                runs,
-            );
-            match driven {
-                Driven::Concluded => (pass, true),
-                Driven::Over | Driven::NotReady(_) | Driven::OutOfMemory => (pass, false),
-            }
+            let (pass, end) = run_started(context, pass, unit, &script, targets.as_slice(), runs);
+            (pass, end == Ok(TurnEnd::Concluded))
         }
-        Some(Tried::Over | Tried::NotReady(_) | Tried::OutOfMemory) | None => (pass, false),
+        Ok(Some(UnitTurn::End(end))) => (pass, end == TurnEnd::Concluded),
+        Ok(None) | Err(NoMemory) => (pass, false),
     }
 }
 

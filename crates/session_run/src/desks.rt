@@ -7,7 +7,7 @@ use cc_names::desks::{Begun, Next};
 use cc_names::memory::NoMemory;
 use cc_names::paths::Path;
 use cc_names::steps::StoryStep;
-use clearmake::{BuildDesk, Carried, PhaseDesk, UnitTurn};
+use clearmake::{BuildDesk, PhaseDesk, TurnEnd, UnitTurn};
 use disk_model::Disk;
 use std::alloc::Global;
 use std::marker::{Brand, Model, PhantomData};
@@ -87,7 +87,7 @@ impl<D: Disk, P: Beginning> BuildDesk for PhaseCore<D, P> {
         lane: u32,
         unit: u32,
         ended: Ended,
-    ) -> Result<Carried, NoMemory> {
+    ) -> Result<TurnEnd, NoMemory> {
         self.core.finish_unit(alloc, lane, unit, ended)
     }
 

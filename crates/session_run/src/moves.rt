@@ -9,7 +9,7 @@ ghost use Rattle.clearmake.specs.Nexts.{next_of};
 ghost use Rattle.base_core.specs.Story.Counted.{KeepsCount};
 ghost use Rattle.legal_history.specs.Stories.States.{next_tag};
 ghost use Rattle.legal_history.specs.Stories.Steps.{state_of};
-ghost use Rattle.session_run.specs.Running.Turns.{HasBuilt, HasUnitLeft, MovesOn, MovesTo, StandsAt};
+ghost use Rattle.session_run.specs.Running.Turns.{HasBuilt, HasUnitLeft, MovesOn, MovesTo, StandsAt, behind_turn};
 ghost use Rattle.session_run.specs.declared.turns.LaneProgress.TheVariants as lane_progress;
 
 use crate::turns::LaneProgress;
@@ -19,7 +19,7 @@ use build_script::scripts::Script;
 use cc_names::desks::{Begun, Next};
 use cc_names::memory::NoMemory;
 use cc_names::paths::Path;
-use clearmake::{Carried, UnitTurn};
+use clearmake::{TurnEnd, UnitTurn};
 use disk_model::Disk;
 use std::alloc::Global;
 
@@ -60,6 +60,21 @@ fn take_up<D: Disk>(
     }
 }
 
+/// Where a lane stands in a build of so many units once the turn of one ended so, behind which this unit is the next: a unit
+/// that it waits for comes first.
+fn behind_turn(end: TurnEnd, next: u32, count: u32) -> LaneProgress
+    ensures { result ≡ behind_turn end next count }
+{
+    match end {
+        TurnEnd::Concluded => LaneProgress::Unit { unit: next, count },
+        TurnEnd::NotReady(earlier) => LaneProgress::Unit {
+            unit: earlier,
+            count,
+        },
+        TurnEnd::Over => LaneProgress::Command,
+    }
+}
+
 /// Tries the next unit of a lane's build, where those before it have their outcomes.
 fn try_unit<D: Disk>(
     alloc: Global,
@@ -75,18 +90,13 @@ fn try_unit<D: Disk>(
     ensures counted { KeepsCount core.old core.new }
 {
     match core.try_unit(alloc, lane, unit)? {
-        UnitTurn::Concluded => Ok(LaneProgress::Unit {
-            unit: unit + 1,
-            count,
-        }),
         UnitTurn::Run(script, targets) => Ok(LaneProgress::Started {
             unit,
             count,
             script,
             targets,
         }),
-        UnitTurn::Faulted => Ok(LaneProgress::Command),
-        UnitTurn::NotReady(_) => unreachable!(),
+        UnitTurn::End(end) => Ok(behind_turn(end, unit + 1, count)),
     }
 }
 
@@ -128,13 +138,8 @@ fn finish<D: Disk>(
     ensures err { OnErr result (core.new ≡ core.old) }
     ensures counted { KeepsCount core.old core.new }
 {
-    match core.finish_unit(alloc, lane, unit, ended)? {
-        Carried::Concluded => Ok(LaneProgress::Unit {
-            unit: unit + 1,
-            count,
-        }),
-        Carried::Faulted => Ok(LaneProgress::Command),
-    }
+    let end = core.finish_unit(alloc, lane, unit, ended)?;
+    Ok(behind_turn(end, unit + 1, count))
 }
 
 /// Goes on in a lane's build at a unit that was not started, or ends it behind the last one.

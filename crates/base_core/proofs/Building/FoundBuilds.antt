@@ -16,10 +16,11 @@ use Rattle.legal_history.specs.Stories.Lawful.{Legal}
 use Rattle.legal_history.specs.Stories.States.{State, next_tag}
 use Rattle.legal_history.specs.Stories.Steps.{state_of}
 use Rattle.clearmake.specs.Calls.{HasScript, IsCarried, IsRunOfUnit, IsStarted, Tries}
-use Rattle.base_core.specs.Calls.BuildCalls.{MayConclude, MayWink, HasRun, Noted, turn_of}
+use Rattle.base_core.specs.Calls.BuildCalls.{MayConclude, MayWink, HasRun, Noted}
 use Rattle.base_core.specs.Calls.Building.{IsBuildKept}
-use Rattle.clearmake.specs.declared.turns.Carried.{Carried}
-use Rattle.clearmake.specs.declared.turns.Carried.TheVariants as carried
+use Rattle.clearmake.specs.declared.turns.TurnEnd.{TurnEnd}
+use Rattle.clearmake.specs.declared.turns.TurnEnd.TheVariants as turn_ends
+use Rattle.clearmake.specs.declared.turns.UnitTurn.TheVariants as turns
 use Rattle.clearmake.specs.Going.{BuildsOn, GoesOn}
 use Rattle.base_core.specs.Keeping.Kept.{IsCoreKept}
 use Rattle.base_core.specs.Keeping.Lanes.{LaneKept}
@@ -87,9 +88,10 @@ pub found_is : {A E : Type 0} (r : Result A E) (a : A) (P : A → Type 0) → r 
 found_is r a P is h = subst (λ r. IfOk r P) is h
 
 -- what became of a unit that was tried, and whose outcome was at hand
-pub carried_tries : (old new : List StoryStep) (lane n : ℕ) (one : Carried) → IsCarried old new lane n one → Tries old new lane n (turn_of one)
-carried_tries old new lane n carried.Concluded h = h
-carried_tries old new lane n carried.Faulted h = h
+pub carried_tries : (old new : List StoryStep) (lane n : ℕ) (end : TurnEnd) → IsCarried old new lane n end → Tries old new lane n (turns.End end)
+carried_tries old new lane n turn_ends.Concluded h = h
+carried_tries old new lane n (turn_ends.NotReady m) h = absurd h
+carried_tries old new lane n turn_ends.Over h = h
 
 -- a unit that was started and has no outcome is running
 started_still : (came : Option Came) → is_some came ≡ true → is_outcome came ≡ false → came ≡ Some Started

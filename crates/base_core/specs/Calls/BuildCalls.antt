@@ -27,10 +27,6 @@ use Rattle.legal_history.specs.Builds.UnitTurns.{IsOpen, ComesTo}
 use Rattle.legal_history.specs.Builds.Turns.{unreadable}
 use Rattle.clearmake.specs.Calls.{HasScript, WaitsFor}
 use Rattle.clearmake.specs.Going.{GoesOn, HasOutcome}
-use Rattle.clearmake.specs.declared.turns.Carried.{Carried}
-use Rattle.clearmake.specs.declared.turns.Carried.TheVariants as carried
-use Rattle.clearmake.specs.declared.turns.UnitTurn.{UnitTurn}
-use Rattle.clearmake.specs.declared.turns.UnitTurn.TheVariants as turns
 use Rattle.base_core.specs.Calls.Building.{IsBuildKept}
 use Rattle.story_log.specs.Story.Faults.{is_fault}
 use Rattle.base_core.specs.Story.Replying.{replies_by}
@@ -134,8 +130,3 @@ pub record HasRun (s : State) (lane n : ℕ) (ran : Ran) : Type 0 where
 pub record MayPublish (s : State) (lane n : ℕ) (outputs reads : List (List ℕ)) : Type 0 where
   pub run : HasRun s lane n (record { result = Ok outputs; reads = reads })
   pub nothing : reusable s.base run.build n run.unit ≡ None
-
--- the turn of a unit whose outcome was at hand
-abbrev pub turn_of : Carried → UnitTurn
-turn_of carried.Concluded = turns.Concluded
-turn_of carried.Faulted = turns.Faulted

@@ -10,7 +10,7 @@ use cc_names::replies::Reply;
 use cc_names::rows::Row;
 use cc_names::steps::Step;
 use cc_names::texts::Text;
-use clearmake::Carried;
+use clearmake::TurnEnd;
 use disk_model::Disk;
 use legal_history::laws::builds::a_build_is_consistent;
 use legal_history::laws::taken::what_is_found_after_the_start_is_not_held;
@@ -66,10 +66,10 @@ impl<D: Disk> Core<D> {
         unit: u32,
         row: Row,
         object: u64,
-    ) -> Result<Carried, NoMemory>
+    ) -> Result<TurnEnd, NoMemory>
         requires { GivesObject (state_of self.old.story) lane unit row object }
         ensures ok { IfOk result
-            (λ carried. IsCarried self.old.story self.new.story lane unit carried) }
+            (λ end. IsCarried self.old.story self.new.story lane unit end) }
         ensures err { OnErr result (self.new ≡ self.old) }
         ensures counted { KeepsCount self.old self.new }
     {
@@ -78,11 +78,11 @@ impl<D: Disk> Core<D> {
         match self.log.append(alloc, row, Some(Step::End { tag }))? {
             Appended::Committed => {
                 self.lanes.note(lane, unit, Came::Given(object));
-                Ok(Carried::Concluded)
+                Ok(TurnEnd::Concluded)
             }
             Appended::Faulted => {
                 self.lanes.close(lane, Reply::DiskFault);
-                Ok(Carried::Faulted)
+                Ok(TurnEnd::Over)
             }
         }
     }
@@ -95,10 +95,10 @@ impl<D: Disk> Core<D> {
         lane: u32,
         unit: u32,
         object: u64,
-    ) -> Result<Carried, NoMemory>
+    ) -> Result<TurnEnd, NoMemory>
         requires { MayWink (state_of self.old.story) lane unit object }
         ensures ok { IfOk result
-            (λ carried. IsCarried self.old.story self.new.story lane unit carried) }
+            (λ end. IsCarried self.old.story self.new.story lane unit end) }
         ensures err { OnErr result (self.new ≡ self.old) }
         ensures counted { KeepsCount self.old self.new }
     {
@@ -115,10 +115,10 @@ impl<D: Disk> Core<D> {
         unit: u32,
         outputs: List<Text>,
         reads: &[Path],
-    ) -> Result<Carried, NoMemory>
+    ) -> Result<TurnEnd, NoMemory>
         requires { MayPublish (state_of self.old.story) lane unit outputs reads.now }
         ensures ok { IfOk result
-            (λ carried. IsCarried self.old.story self.new.story lane unit carried) }
+            (λ end. IsCarried self.old.story self.new.story lane unit end) }
         ensures err { OnErr result (self.new ≡ self.old) }
         ensures counted { KeepsCount self.old self.new }
     {
@@ -137,11 +137,11 @@ impl<D: Disk> Core<D> {
         unit: u32,
         outputs: List<Text>,
         reads: &[Path],
-    ) -> Result<Carried, NoMemory>
+    ) -> Result<TurnEnd, NoMemory>
         requires { HasRun (state_of self.old.story) lane unit
             (record { result = Ok outputs; reads = reads.now }) }
         ensures ok { IfOk result
-            (λ carried. IsCarried self.old.story self.new.story lane unit carried) }
+            (λ end. IsCarried self.old.story self.new.story lane unit end) }
         ensures err { OnErr result (self.new ≡ self.old) }
         ensures counted { KeepsCount self.old self.new }
     {

@@ -3,7 +3,6 @@
 ghost use Rattle.std.specs.Prelude.{◌≡◌};
 ghost use Rattle.build_core.specs.Comes.{came_of};
 ghost use Rattle.legal_history.specs.Builds.Turns.{came_by_start};
-ghost use Rattle.base_core.specs.Calls.BuildCalls.{turn_of};
 
 use super::Core;
 use build_core::{Came, UnitStep, run_unit, step};
@@ -14,20 +13,10 @@ use cc_names::memory::NoMemory;
 use cc_names::paths::Path;
 use cc_names::refusals::{ScriptFault, UnitFault};
 use cc_names::steps::{Step, UnitEnd};
-use clearmake::{Carried, UnitTurn};
+use clearmake::{TurnEnd, UnitTurn};
 use disk_model::Disk;
 use legal_history::laws::builds::a_build_is_consistent;
 use std::alloc::Global;
-
-/// What became of a unit's turn in which its outcome was at hand.
-fn turn_of(carried: Carried) -> UnitTurn
-    ensures { result ≡ turn_of carried }
-{
-    match carried {
-        Carried::Concluded => UnitTurn::Concluded,
-        Carried::Faulted => UnitTurn::Faulted,
-    }
-}
 
 /// What a unit comes to by its start: where its script cannot be read, with this fault, that is its outcome.
 fn came_by_start(fault: Option<ScriptFault>) -> Came
@@ -130,24 +119,24 @@ impl<D: Disk> Core<D> {
         ensures counted { KeepsCount self.old self.new }
     {
         match self.step(alloc, lane, unit)? {
-            UnitStep::Concluded => Ok(UnitTurn::Concluded),
-            UnitStep::NotReady(earlier) => Ok(UnitTurn::NotReady(earlier)),
+            UnitStep::Concluded => Ok(UnitTurn::End(TurnEnd::Concluded)),
+            UnitStep::NotReady(earlier) => Ok(UnitTurn::End(TurnEnd::NotReady(earlier))),
             UnitStep::EndEarly(end) => {
                 self.conclude(alloc, lane, unit, end)?;
-                Ok(UnitTurn::Concluded)
+                Ok(UnitTurn::End(TurnEnd::Concluded))
             }
             UnitStep::Keep(object) => {
                 self.conclude(alloc, lane, unit, UnitEnd::Kept(object))?;
-                Ok(UnitTurn::Concluded)
+                Ok(UnitTurn::End(TurnEnd::Concluded))
             }
-            UnitStep::Wink(object) => Ok(turn_of(self.wink(alloc, lane, unit, object)?)),
+            UnitStep::Wink(object) => Ok(UnitTurn::End(self.wink(alloc, lane, unit, object)?)),
             UnitStep::Start(script, targets) => {
                 self.start(lane, unit, None)?;
                 Ok(UnitTurn::Run(script, targets))
             }
             UnitStep::Unreadable(fault) => {
                 self.start(lane, unit, Some(fault))?;
-                Ok(UnitTurn::Concluded)
+                Ok(UnitTurn::End(TurnEnd::Concluded))
             }
         }
     }
@@ -202,10 +191,10 @@ impl<D: Disk> Core<D> {
         lane: u32,
         unit: u32,
         ended: Ended,
-    ) -> Result<Carried, NoMemory>
+    ) -> Result<TurnEnd, NoMemory>
         requires { HasRun (state_of self.old.story) lane unit (ran_of ended) }
         ensures ok { IfOk result
-            (λ carried. IsCarried self.old.story self.new.story lane unit carried) }
+            (λ end. IsCarried self.old.story self.new.story lane unit end) }
         ensures err { OnErr result (self.new ≡ self.old) }
         ensures counted { KeepsCount self.old self.new }
     {
@@ -217,7 +206,7 @@ impl<D: Disk> Core<D> {
             }
             Err(fault) => {
                 self.conclude(alloc, lane, unit, UnitEnd::Failed(UnitFault::Script(fault)))?;
-                Ok(Carried::Concluded)
+                Ok(TurnEnd::Concluded)
             }
         }
     }
@@ -234,16 +223,16 @@ impl<D: Disk> Core<D> {
         lane: u32,
         unit: u32,
         ended: Ended,
-    ) -> Result<Carried, NoMemory>
+    ) -> Result<TurnEnd, NoMemory>
         requires { IsRunOfUnit (state_of self.old.story) lane unit (ran_of ended) }
         ensures ok { IfOk result
-            (λ carried. IsCarried self.old.story self.new.story lane unit carried) }
+            (λ end. IsCarried self.old.story self.new.story lane unit end) }
         ensures err { OnErr result (self.new ≡ self.old) }
         ensures concluded { HasOutcome (state_of self.old.story) lane unit → self.new ≡ self.old }
         ensures counted { KeepsCount self.old self.new }
     {
         if self.build_at(lane).has_outcome(unit) {
-            return Ok(Carried::Concluded);
+            return Ok(TurnEnd::Concluded);
         }
         self.finish_run(alloc, lane, unit, ended)
     }

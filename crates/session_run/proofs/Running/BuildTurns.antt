@@ -5,15 +5,18 @@ use Rattle.cc_names.specs.declared.units.Unit.{Unit}
 use Rattle.build_script.specs.Ended.{ran_of}
 use Rattle.script_grammar.specs.declared.lines.Line.{Line}
 use Rattle.build_script.specs.declared.outcomes.Ended.{Ended}
-use Rattle.clearmake.specs.Calls.{IsBuilding, IsOver, IsRunOfUnit, IsStarted, Concludes, WaitsFor}
+use Rattle.clearmake.specs.Calls.{IsBuilding, IsCarried, IsOver, IsRunOfUnit, IsStarted, Tries, WaitsFor}
 use Rattle.clearmake.specs.Going.{GoesOn, HasOutcome}
+use Rattle.clearmake.specs.declared.turns.TurnEnd.{TurnEnd}
+use Rattle.clearmake.specs.declared.turns.TurnEnd.TheVariants as turn_ends
+use Rattle.clearmake.specs.declared.turns.UnitTurn.TheVariants as turns
 use Rattle.base_core.proofs.Building.Goings.{goes_nowhere as stays}
 use Rattle.story_log.proofs.Cases.{some_same}
 use Rattle.legal_history.specs.Builds.Active.{Build, build_of, came_to, is_outcome}
 use Rattle.legal_history.specs.Builds.Turns.{all_over}
 use Rattle.legal_history.specs.Stories.States.{State}
 use Rattle.legal_history.specs.Stories.Steps.{state_of}
-use Rattle.session_run.specs.Running.Turns.{Further, HasBuilt, HasUnitLeft, MovesOn}
+use Rattle.session_run.specs.Running.Turns.{Further, HasBuilt, HasUnitLeft, MovesOn, Past, behind_turn}
 use Rattle.session_run.specs.declared.turns.LaneProgress.TheVariants as lane_progress
 use Rattle.session_run.proofs.Running.Within.{one_or_two}
 
@@ -73,9 +76,11 @@ begun_moves old new lane count goes h =
     Further goes (record { build = h.build; active = h.active; of_units = h.of_units; few = h.few; upto = omega arith; earlier = λ m less. absurd (omega (arith, less)) })
     (omega (arith, h.few))
 
--- once a unit that was tried has its outcome, once its script was started, and once that was run
-pub tried_moves : (old new : List StoryStep) (lane n count : ℕ) → HasUnitLeft (state_of old) lane n count → Concludes old new lane n → MovesOn old new lane (lane_progress.Unit n count) (lane_progress.Unit (n + 1) count)
-tried_moves old new lane n count h settled = Further settled.0 (built_more old new lane n count h settled.0 settled.1) (omega (arith, h.within))
+-- once the turn of a unit that was tried has ended, once its script was started, and once that was run
+pub tried_moves : (old new : List StoryStep) (lane n count : ℕ) (end : TurnEnd) → HasUnitLeft (state_of old) lane n count → Tries old new lane n (turns.End end) → MovesOn old new lane (lane_progress.Unit n count) (behind_turn end (n + 1) count)
+tried_moves old new lane n count turn_ends.Concluded h settled = Further settled.0 (built_more old new lane n count h settled.0 settled.1) (omega (arith, h.within))
+tried_moves old new lane n count (turn_ends.NotReady m) h waits = let e = waits_for_none (state_of old) lane n count m h waits.1 in absurd (cc)
+tried_moves old new lane n count turn_ends.Over h over = Past over refl
 
 pub started_moves : (old new : List StoryStep) (lane n count : ℕ) (script : List Line) (targets : List (List ℕ)) → HasUnitLeft (state_of old) lane n count → GoesOn old new lane → IsStarted (state_of new) lane n script targets → MovesOn old new lane (lane_progress.Unit n count) (lane_progress.Started n count script targets)
 started_moves old new lane n count script targets h goes started = Further goes (built_on old new lane n count h goes, started) (omega arith)
@@ -83,6 +88,8 @@ started_moves old new lane n count script targets h goes started = Further goes 
 pub ran_moves : (story : List StoryStep) (lane n count : ℕ) (script : List Line) (targets : List (List ℕ)) (ended : Ended) → HasUnitLeft (state_of story) lane n count → IsRunOfUnit (state_of story) lane n (ran_of ended) → MovesOn story story lane (lane_progress.Started n count script targets) (lane_progress.Ran n count ended)
 ran_moves story lane n count script targets ended h ran = Further (stays story lane) (h, ran) (omega (arith, h.within))
 
--- once a unit that was run has its outcome
-pub finished_moves : (old new : List StoryStep) (lane n count : ℕ) (ended : Ended) → HasUnitLeft (state_of old) lane n count → Concludes old new lane n → MovesOn old new lane (lane_progress.Ran n count ended) (lane_progress.Unit (n + 1) count)
-finished_moves old new lane n count ended h settled = Further settled.0 (built_more old new lane n count h settled.0 settled.1) (omega (arith, h.within))
+-- once the turn of a unit that was run has ended
+pub finished_moves : (old new : List StoryStep) (lane n count : ℕ) (ended : Ended) (end : TurnEnd) → HasUnitLeft (state_of old) lane n count → IsCarried old new lane n end → MovesOn old new lane (lane_progress.Ran n count ended) (behind_turn end (n + 1) count)
+finished_moves old new lane n count ended turn_ends.Concluded h settled = Further settled.0 (built_more old new lane n count h settled.0 settled.1) (omega (arith, h.within))
+finished_moves old new lane n count ended (turn_ends.NotReady m) h waits = absurd waits
+finished_moves old new lane n count ended turn_ends.Over h over = Past over refl

@@ -11,8 +11,8 @@ use Rattle.legal_history.specs.Stories.Steps.{state_of}
 use Rattle.clearmake.specs.Calls.{Begins, IsCarried, Tries}
 use Rattle.clearmake.specs.Going.{Finishes, SamePhase}
 use Rattle.clearmake.specs.Nexts.{next_of}
-use Rattle.clearmake.specs.declared.turns.Carried.{Carried}
-use Rattle.clearmake.specs.declared.turns.Carried.TheVariants as carried
+use Rattle.clearmake.specs.declared.turns.TurnEnd.{TurnEnd}
+use Rattle.clearmake.specs.declared.turns.TurnEnd.TheVariants as turn_ends
 use Rattle.clearmake.specs.declared.turns.UnitTurn.{UnitTurn}
 use Rattle.clearmake.specs.declared.turns.UnitTurn.TheVariants as turns
 use Rattle.base_core.specs.Calls.Acting.{Acts}
@@ -58,21 +58,22 @@ module _ (at old new : Shown) (h : IsSince at old) (counted : KeepsCount old new
   since_begins (Err error) lane ok err = since_same err
 
   since_tried : (lane unit : ℕ) (turn : UnitTurn) → Tries old.story new.story lane unit turn → IsSince at new
-  since_tried lane unit turns.Concluded is = since_on at old new h counted is.0.phase
-  since_tried lane unit (turns.NotReady earlier) is = since_on at old new h counted (subst (λ s. SamePhase (state_of old.story) (state_of s)) (sym is.0) (record { phase = refl; number = refl; moment = refl }))
+  since_tried lane unit (turns.End turn_ends.Concluded) is = since_on at old new h counted is.0.phase
+  since_tried lane unit (turns.End (turn_ends.NotReady earlier)) is = since_on at old new h counted (subst (λ s. SamePhase (state_of old.story) (state_of s)) (sym is.0) (record { phase = refl; number = refl; moment = refl }))
+  since_tried lane unit (turns.End turn_ends.Over) is = since_on at old new h counted is.phase
   since_tried lane unit (turns.Run script targets) is = since_on at old new h counted is.0.phase
-  since_tried lane unit turns.Faulted is = since_on at old new h counted is.phase
 
   pub since_tries : (result : Result UnitTurn NoMemory) (lane unit : ℕ) → IfOk result (λ turn. Tries old.story new.story lane unit turn) → OnErr result (new ≡ old) → IsSince at new
   since_tries (Ok turn) lane unit ok err = since_tried lane unit turn ok
   since_tries (Err error) lane unit ok err = since_same err
 
-  since_carried : (lane unit : ℕ) (came : Carried) → IsCarried old.story new.story lane unit came → IsSince at new
-  since_carried lane unit carried.Concluded is = since_on at old new h counted is.0.phase
-  since_carried lane unit carried.Faulted is = since_on at old new h counted is.phase
+  since_carried : (lane unit : ℕ) (end : TurnEnd) → IsCarried old.story new.story lane unit end → IsSince at new
+  since_carried lane unit turn_ends.Concluded is = since_on at old new h counted is.0.phase
+  since_carried lane unit (turn_ends.NotReady earlier) is = absurd is
+  since_carried lane unit turn_ends.Over is = since_on at old new h counted is.phase
 
-  pub since_carries : (result : Result Carried NoMemory) (lane unit : ℕ) → IfOk result (λ came. IsCarried old.story new.story lane unit came) → OnErr result (new ≡ old) → IsSince at new
-  since_carries (Ok came) lane unit ok err = since_carried lane unit came ok
+  pub since_carries : (result : Result TurnEnd NoMemory) (lane unit : ℕ) → IfOk result (λ end. IsCarried old.story new.story lane unit end) → OnErr result (new ≡ old) → IsSince at new
+  since_carries (Ok end) lane unit ok err = since_carried lane unit end ok
   since_carries (Err error) lane unit ok err = since_same err
 
   since_acted : (lane : ℕ) (done : Done) → next_of (state_of old.story) lane ≡ nexts.Act → Acts old.story new.story lane done → IsSince at new

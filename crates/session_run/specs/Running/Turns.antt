@@ -8,6 +8,8 @@ use Rattle.build_script.specs.Ended.{ran_of}
 use Rattle.legal_history.specs.Stories.Commanded.{command_of}
 use Rattle.clearmake.specs.Calls.{IsRunOfUnit, IsStarted}
 use Rattle.clearmake.specs.Going.{Finishes, GoesOn}
+use Rattle.clearmake.specs.declared.turns.TurnEnd.{TurnEnd}
+use Rattle.clearmake.specs.declared.turns.TurnEnd.TheVariants as turn_ends
 use Rattle.legal_history.specs.Builds.Active.{Build, build_of, came_to, is_outcome}
 use Rattle.legal_history.specs.Stories.Lanes.{IsFinished, IsWithin, count_of}
 use Rattle.legal_history.specs.Stories.States.{State, done_of}
@@ -36,6 +38,12 @@ StandsAt s lane lane_progress.Command = Unit {0}
 StandsAt s lane (lane_progress.Unit unit count) = HasBuilt s lane unit count
 StandsAt s lane (lane_progress.Started unit count script targets) = HasUnitLeft s lane unit count × IsStarted s lane unit script targets
 StandsAt s lane (lane_progress.Ran unit count ended) = HasUnitLeft s lane unit count × IsRunOfUnit s lane unit (ran_of ended)
+
+-- where it stands once the turn of a unit ended so, behind which this one is the next: a unit that is waited for comes first
+abbrev pub behind_turn : TurnEnd → ℕ → ℕ → LaneProgress
+behind_turn turn_ends.Concluded next count = lane_progress.Unit next count
+behind_turn (turn_ends.NotReady earlier) next count = lane_progress.Unit earlier count
+behind_turn turn_ends.Over next count = lane_progress.Command
 
 -- the turn of a lane, which are counted from 1, and the turns where it is another
 abbrev pub turn_at : List LaneProgress → ℕ → LaneProgress

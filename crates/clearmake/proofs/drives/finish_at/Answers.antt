@@ -1,22 +1,18 @@
-use Rattle.std.proofs.Common.{sym, subst}
 use Rattle.build_script.specs.Ended.{ran_of}
-use Rattle.clearmake.specs.Driving.{IsDriven}
-use Rattle.clearmake.specs.declared.drives.Driven.{Driven}
 use Rattle.clearmake.proofs.Driving.{finishes_so, run_now}
 use Rattle.clearmake.proofs.drives.finish_at.Goals as goal
 
-pub finish_unit-requires : goal.finish_unit-requires
-finish_unit-requires g c =
+pub finish_unit-end-requires : goal.finish_unit-end-requires
+finish_unit-end-requires g c =
     run_now c.args.start.now.value.seen (g.T.Storied.story c.args.desk.now) c.args.context.now.tag c.args.context.now.count c.args.unit (ran_of c.args.ended)
     c.requires.builds c.requires.ran c.requires.begins c.goes_on.ensures.legal c.if-not-goes_on.ensures.on
 
 pub returns-clause-begins : goal.returns-clause-begins
 returns-clause-begins g c =
-    (finishes_so (g.T.Storied.story c.args.desk.now) (g.T.Storied.story c.finish_unit.new.self) c.args.context.now.tag c.args.context.now.count c.args.unit c.finish_unit.result
-    c.if-not-goes_on.ensures.on c.finish_unit.ensures.ok c.finish_unit.ensures.err c.legal.ensures).0
+    (finishes_so (g.T.Storied.story c.args.desk.now) (g.T.Storied.story c.finish_unit-end.new.self) c.args.context.now.tag c.args.context.now.count c.args.unit c.finish_unit-end.result
+    c.if-not-goes_on.ensures.on c.finish_unit-end.ensures.ok c.finish_unit-end.ensures.err c.legal.ensures).0
 
 pub returns-clause-driven : goal.returns-clause-driven
 returns-clause-driven g c =
-    subst (λ (d : Driven). IsDriven d (g.T.Storied.story c.finish_unit.new.self) c.args.context.now.tag c.args.context.now.count c.args.unit) (sym c.driven_of-driven.ensures)
-    (finishes_so (g.T.Storied.story c.args.desk.now) (g.T.Storied.story c.finish_unit.new.self) c.args.context.now.tag c.args.context.now.count c.args.unit c.finish_unit.result
-    c.if-not-goes_on.ensures.on c.finish_unit.ensures.ok c.finish_unit.ensures.err c.legal.ensures).1
+    (finishes_so (g.T.Storied.story c.args.desk.now) (g.T.Storied.story c.finish_unit-end.new.self) c.args.context.now.tag c.args.context.now.count c.args.unit c.finish_unit-end.result
+    c.if-not-goes_on.ensures.on c.finish_unit-end.ensures.ok c.finish_unit-end.ensures.err c.legal.ensures).1

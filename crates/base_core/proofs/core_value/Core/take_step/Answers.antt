@@ -1,7 +1,6 @@
 -- a unit is tried
-use Rattle.std.proofs.Common.{subst, sym}
+use Rattle.std.proofs.Common.{subst}
 use Rattle.legal_history.specs.Stories.Steps.{state_of}
-use Rattle.clearmake.specs.Calls.{Tries}
 use Rattle.base_core.specs.Calls.BuildCalls.{StepsTo}
 use Rattle.base_core.proofs.Building.FoundBuilds.{carried_tries, started_has}
 use Rattle.base_core.proofs.core_value.Core.take_step.Goals as goal
@@ -14,5 +13,4 @@ returns-in_ok-start-in-Start-clause-ok g c =
 
 pub returns-in_ok-wink-in-Wink-clause-ok : goal.returns-in_ok-wink-in-Wink-clause-ok
 returns-in_ok-wink-in-Wink-clause-ok g c =
-    subst (Tries c.args.self.now.story c.wink.new.self.story c.args.lane c.args.unit) (sym c.turn_of.ensures)
-    (carried_tries c.args.self.now.story c.wink.new.self.story c.args.lane c.args.unit c.in_ok-wink-in-Wink.field-0 c.in_ok-wink-in-Wink.ensures.ok)
+    carried_tries c.args.self.now.story c.wink.new.self.story c.args.lane c.args.unit c.in_ok-wink-in-Wink.field-0 c.in_ok-wink-in-Wink.ensures.ok
