@@ -14,11 +14,11 @@ try_unit-requires g c =
 
 pub returns-in-Run-clause-ok : goal.returns-in-Run-clause-ok
 returns-in-Run-clause-ok g c =
-    let tried = subst (Tries c.args.core.now.story c.try_unit.new.self.story c.args.lane c.args.unit) c.in-Run.is c.in_ok-try_unit.ensures.ok in
+    let tried = subst (Tries c.args.core.now.story c.try_unit.new.self.story c.args.lane c.args.unit) c.in-Run.is c.in_ok-script.ensures.ok in
     started_moves c.args.core.now.story c.try_unit.new.self.story c.args.lane c.args.unit c.args.count c.in-Run.script c.in-Run.targets c.requires tried.0 tried.1
 
 pub returns-in-End-clause-ok : goal.returns-in-End-clause-ok
 returns-in-End-clause-ok g c =
-    let tried = subst (Tries c.args.core.now.story c.try_unit.new.self.story c.args.lane c.args.unit) c.in-End.is c.in_ok-try_unit.ensures.ok in
+    let tried = subst (Tries c.args.core.now.story c.try_unit.new.self.story c.args.lane c.args.unit) c.in-End.is c.in_ok-script.ensures.ok in
     subst (λ (next : LaneProgress). MovesOn c.args.core.now.story c.try_unit.new.self.story c.args.lane (lane_progress.Unit c.args.unit c.args.count) next) (sym c.behind_turn.ensures)
     (tried_moves c.args.core.now.story c.try_unit.new.self.story c.args.lane c.args.unit c.args.count c.in-End.end c.requires tried)
