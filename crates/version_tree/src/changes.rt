@@ -3,7 +3,7 @@
 use cc_names::by_row::ByRow;
 use cc_names::changes::TreeChange;
 
-/// A change.
+/// A change, in a type of this crate, so that it can be found by its row (`ByRow` is of `cc_names`, as `TreeChange`).
 #[derive(Drop)]
 pub struct Made {
     pub change: TreeChange,
