@@ -1,6 +1,5 @@
 pub mod AheadLaws
 pub mod BuildWords
-pub mod Carried
 pub mod Ends
 pub mod FormedBuilds
 pub mod FormedCommands

@@ -52,7 +52,7 @@ two_phases = refl
 no_lines : session_of [] ≡ Ok (record { phases = [] })
 no_lines = refl
 
--- what the line of a command says, whether it is carried out or not
+-- what the line of a command says
 line_says : List (List ℕ) → Said Command
 line_says [] = Err causes.UnknownCommand
 line_says (word ∷ words) = said_in table word words []

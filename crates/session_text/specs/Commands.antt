@@ -230,8 +230,8 @@ said_in [] word words text = Err UnknownCommand
 said_in (line ∷ lines) word words text =
     if bytes_eq word line.word then line.says words text else said_in lines word words text
 
--- The command that a word says with the words behind it and with the text of its body, carried out or not; or the cause
--- where it says none.
+-- The command that a word says with the words behind it and with the text of its body; or the cause where it says
+-- none.
 abbrev pub command_of : List ℕ → List (List ℕ) → List ℕ → Said Command
 command_of word words text = said_in table word words text
 

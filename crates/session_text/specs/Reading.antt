@@ -8,7 +8,7 @@ use Rattle.session_text.specs.declared.kinds.Kind.{Kind}
 use Rattle.session_text.specs.declared.kinds.Kind.TheVariants as kinds
 use Rattle.session_text.specs.Commands.{command_of}
 use Rattle.session_text.specs.Kinds.{Rest, kinds_of}
-use Rattle.session_text.specs.Sessions.{Above, above_next, cause_of, first_error, missing, body_of, commands_of, lanes_of, phases_of}
+use Rattle.session_text.specs.Sessions.{Above, above_next, cause_of, first_error, body_of, commands_of, lanes_of, phases_of}
 use Rattle.session_text.specs.Shapes.{view}
 
 -- bytes with which a text ends
@@ -38,10 +38,9 @@ abbrev pub IsWrong : Or SessionError → Option SessionError → Type 0
 IsWrong NoMemory found = Unit {0}
 IsWrong (Is error) found = found ≡ Some error
 
--- unless memory ran out, a line was taken in where it stands right, and why it is not carried out was answered; and else its cause
-abbrev pub Stands : Result (Option SessionCause) (Or SessionCause) → Above → Kind → List ℕ → Above → Type 0
-Stands (Ok why) old kind text new =
-    (cause_of old kind text ≡ None) × (new ≡ above_next old kind text) × (why ≡ missing kind text)
+-- unless memory ran out, a line was taken in where it stands right, and else its cause was answered
+abbrev pub Stands : {A : Type 0} → Result A (Or SessionCause) → Above → Kind → List ℕ → Above → Type 0
+Stands (Ok done) old kind text new = (cause_of old kind text ≡ None) × (new ≡ above_next old kind text)
 Stands (Err NoMemory) old kind text new = Unit {0}
 Stands (Err (Is cause)) old kind text new = cause_of old kind text ≡ Some cause
 

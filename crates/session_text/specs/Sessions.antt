@@ -1,9 +1,7 @@
 -- What a session is, and why a text is none.
 use Rattle.std.specs.Prelude.{ℕ, ◌+◌, Bool, true, false, not, nat_le, Option, Some, None, Result, Ok, Err, List, [], ◌∷◌, ◌++◌, length, if◌then◌else◌}
 use Rattle.std.specs.List.{list_any}
-use Rattle.std.specs.Option.{option_or}
 use Rattle.std.specs.Str.{bytes_eq}
-use Rattle.carried_out.specs.CarriedOut.{is_carried_out}
 use Rattle.cc_names.specs.declared.commands.Command.{Command}
 use Rattle.cc_names.specs.declared.commands.Lane.{Lane}
 use Rattle.cc_names.specs.declared.commands.Phase.{Phase}
@@ -146,25 +144,9 @@ first_error before above (line ∷ lines) =
     error_or (before + 1) (cause_of above line (body_of lines))
     (first_error (before + 1) (above_next above line (body_of lines)) lines)
 
--- why the command of a line is not carried out
-abbrev pub not_built : Said Command → Option SessionCause
-not_built (Ok command) = cause_or (not (is_carried_out command)) causes.NotBuilt None
-not_built (Err cause) = None
-
--- Why a line that stands right is not carried out, where the body lines below it have this text.
-abbrev pub missing : Kind → List ℕ → Option SessionCause
-missing (kinds.Command word words) text = not_built (command_of word words text)
-missing kind text = None
-
--- The first line that is not carried out, of lines above which so many others stand.
-abbrev pub first_missing : ℕ → List Kind → Option SessionError
-first_missing before [] = None
-first_missing before (line ∷ lines) =
-    error_or (before + 1) (missing line (body_of lines)) (first_missing (before + 1) lines)
-
--- What is wrong with the lines of a text: the first line that stands wrong; where none does, the first that is not carried out.
+-- What is wrong with the lines of a text: the first line that stands wrong.
 abbrev pub error_in : List Kind → Option SessionError
-error_in lines = option_or (first_error 0 nothing lines) (first_missing 0 lines)
+error_in lines = first_error 0 nothing lines
 
 -- what was read, unless something is wrong
 abbrev pub unless_wrong : Option SessionError → Session → Result Session SessionError

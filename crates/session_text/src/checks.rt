@@ -1,19 +1,16 @@
-//! Whether each line of a text stands right, below the lines above it, and is carried out.
+//! Whether each line of a text stands right, below the lines above it.
 
 ghost use Rattle.std.specs.Prelude.{◌≡◌, ◌<◌, ◌^◌, [], None, Ok, OnOk, IfErr, length};
 ghost use Rattle.std.specs.List.{list_any};
-ghost use Rattle.std.specs.Option.{option_or};
 ghost use Rattle.std.specs.Str.{bytes_eq};
 ghost use Rattle.cc_names.specs.Answers.{Gives};
 ghost use Rattle.session_text.specs.Kinds.{kinds_of};
 ghost use Rattle.session_text.specs.Reading.{IsWrong, fault_at};
-ghost use Rattle.session_text.specs.Sessions.{error_in, error_or, is_empty, is_taken, lane_of, not_built};
+ghost use Rattle.session_text.specs.Sessions.{error_in, is_empty, is_taken, lane_of};
 
 use crate::commands::{command_of, let_go, takes_body};
 use crate::kinds::{Bytes, Kind, Rest};
 use crate::shapes::view;
-use carried_out::is_carried_out;
-use cc_names::commands::Command;
 use cc_names::cuts::Words;
 use cc_names::memory::Or;
 use cc_names::names::Name;
@@ -86,31 +83,6 @@ fn lane_of(alloc: Global, lanes: &[Name], words: Words<'_>) -> Result<Name, Or<S
     view(alloc, words)
 }
 
-/// Why a command is not carried out.
-fn not_built(command: &Command) -> Option<SessionCause>
-    ensures { result ≡ not_built (Ok command.now) }
-{
-    if is_carried_out(command) {
-        return None;
-    }
-    Some(SessionCause::NotBuilt)
-}
-
-/// The earlier of an error and of that of a later line of this number, where it has a cause.
-fn earlier(
-    error: Option<SessionError>,
-    number: u32,
-    cause: Option<SessionCause>,
-) -> Option<SessionError>
-    ensures { result ≡ option_or error (error_or number cause None) }
-{
-    match (error, cause) {
-        (Some(error), _) => Some(error),
-        (None, Some(cause)) => Some(error_at(number, cause)),
-        (None, None) => None,
-    }
-}
-
 /// What stands above a line: whether a phase has begun, the names of its lanes so far, and whether the last line that is not
 /// skipped, body lines aside, takes a body.
 #[derive(Drop)]
@@ -146,7 +118,7 @@ impl Above {
         }
     }
 
-    fn take_body(&mut self) -> Result<Option<SessionCause>, Or<SessionCause>>
+    fn take_body(&mut self) -> Result<(), Or<SessionCause>>
         ensures { Stands result self.old (kinds.Body []) [] self.new }
     {
         if !self.in_phase {
@@ -158,10 +130,10 @@ impl Above {
         if !self.takes_body {
             return Err(Or::Is(SessionCause::NoBody));
         }
-        Ok(None)
+        Ok(())
     }
 
-    fn take_phase(&mut self, mut words: Words<'_>) -> Result<Option<SessionCause>, Or<SessionCause>>
+    fn take_phase(&mut self, mut words: Words<'_>) -> Result<(), Or<SessionCause>>
         ensures { Stands result self.old (kinds.Phase words.entry) [] self.new }
     {
         if words.next().is_some() {
@@ -170,14 +142,10 @@ impl Above {
         self.in_phase = true;
         self.lanes.clear();
         self.takes_body = false;
-        Ok(None)
+        Ok(())
     }
 
-    fn take_lane(
-        &mut self,
-        alloc: Global,
-        words: Words<'_>,
-    ) -> Result<Option<SessionCause>, Or<SessionCause>>
+    fn take_lane(&mut self, alloc: Global, words: Words<'_>) -> Result<(), Or<SessionCause>>
         ensures { Stands result self.old (kinds.Lane words.entry) [] self.new }
     {
         if !self.in_phase {
@@ -186,7 +154,7 @@ impl Above {
         let name = lane_of(alloc, self.lanes.as_slice(), words)?;
         self.lanes.push(name)?;
         self.takes_body = false;
-        Ok(None)
+        Ok(())
     }
 
     fn take_command(
@@ -196,7 +164,7 @@ impl Above {
         word: &Bytes<'_>,
         words: Words<'_>,
         behind: &Rest<'_>,
-    ) -> Result<Option<SessionCause>, Or<SessionCause>>
+    ) -> Result<(), Or<SessionCause>>
         ensures { Stands result self.old (kinds.Command word.now words.entry)
             (body_of (kinds_of behind.now.bytes)) self.new }
     {
@@ -209,26 +177,25 @@ impl Above {
         match command_of(alloc, hashing, word.as_slice(), words, behind) {
             Ok(command) => {
                 self.takes_body = takes_body(&command);
-                let missing = not_built(&command);
                 let_go(command);
-                Ok(missing)
+                Ok(())
             }
             Err(fault) => Err(fault),
         }
     }
 
-    /// Takes in a line that stands right, with the lines behind it, and answers why it is not carried out.
+    /// Takes in a line that stands right, with the lines behind it.
     fn take(
         &mut self,
         alloc: Global,
         hashing: RandomState,
         kind: Kind<'_>,
         behind: &Rest<'_>,
-    ) -> Result<Option<SessionCause>, Or<SessionCause>>
+    ) -> Result<(), Or<SessionCause>>
         ensures { Stands result self.old kind.entry (body_of (kinds_of behind.now.bytes)) self.new }
     {
         match kind {
-            Kind::Skipped => Ok(None),
+            Kind::Skipped => Ok(()),
             Kind::Body(_bytes) => self.take_body(),
             Kind::Phase(words) => self.take_phase(words),
             Kind::Lane(words) => self.take_lane(alloc, words),
@@ -237,8 +204,8 @@ impl Above {
     }
 }
 
-/// Finds the first line of a text that stands wrong or, where none does, the first that is not carried out. Takes time linear in
-/// the text, and for each lane in those of its phase above it; and memory for one command.
+/// Finds the first line of a text that stands wrong. Takes time linear in the text, and for each lane in those of its phase above
+/// it; and memory for one command.
 pub(crate) fn check(
     alloc: Global,
     hashing: RandomState,
@@ -250,15 +217,11 @@ pub(crate) fn check(
 {
     let mut above = Above::nothing(alloc);
     let mut rest = Rest::of(text);
-    let mut missing = None;
     'lines: while let Some(kind) = rest.next() {
         match above.take(alloc, hashing, kind, &rest) {
-            Ok(cause) => missing = earlier(missing, rest.number(), cause),
+            Ok(()) => {}
             Err(fault) => return Err(fault_at(rest.number(), fault)),
         }
     }
-    match missing {
-        None => Ok(()),
-        Some(error) => Err(Or::Is(error)),
-    }
+    Ok(())
 }

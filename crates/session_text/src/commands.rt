@@ -412,7 +412,7 @@ fn is(word: &[u8], text: &[u8]) -> bool
     word == text
 }
 
-/// The command of a line where it is a query, whether it is carried out or not. None of them takes a body.
+/// The command of a line where it is a query. None of them takes a body.
 fn said_of_queries(
     alloc: Global,
     word: &[u8],
@@ -437,8 +437,7 @@ fn said_of_queries(
     }
 }
 
-/// The command of a line where it is on types, labels or objects, or a query, whether it is carried out or not. None of them
-/// takes a body.
+/// The command of a line where it is on types, labels or objects, or a query. None of them takes a body.
 fn said_of_types_on(
     alloc: Global,
     hashing: RandomState,
@@ -459,8 +458,7 @@ fn said_of_types_on(
     }
 }
 
-/// The command that a word says with the words behind it and with the body lines behind its line, whether it is carried out or
-/// not.
+/// The command that a word says with the words behind it and with the body lines behind its line.
 pub(crate) fn command_of(
     alloc: Global,
     hashing: RandomState,

@@ -4,12 +4,11 @@
 //! reads one. What was read is kept as its text: its phases, their lanes and the commands of these are read again one by one as
 //! they are asked for, which never finds a line that stands wrong.
 //!
-//! What it promises: a text is read as a session exactly where its grammar says so and each command is carried out; else its
-//! first wrong line is answered with the cause or, where no line is wrong, the first whose command is not carried out. What is
-//! read is well formed. What is asked of it is what the grammar gives. Reading takes time linear in the text.
+//! What it promises: a text is read as a session exactly where its grammar says so; else its first wrong line is answered with
+//! the cause. What is read is well formed. What is asked of it is what the grammar gives. Reading takes time linear in the text.
 //!
 //! What it stands on: `cc_names` for the data, names and paths, and for the lines of a text and their words;
-//! `carried_out` for the commands that are carried out so far; `indexmap` for the macros of a command line.
+//! `indexmap` for the macros of a command line.
 #![tactic(auto)]
 
 mod bodies;

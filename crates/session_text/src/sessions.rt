@@ -1,7 +1,6 @@
 //! Sessions, read from text and kept as it.
 
 ghost use Rattle.std.specs.Prelude.{◌≡◌, ◌<◌, ◌^◌, IfOk, length};
-ghost use Rattle.carried_out.specs.CarriedOut.{IsSessionCarriedOut};
 ghost use Rattle.cc_names.specs.Answers.{Gives};
 ghost use Rattle.session_text.specs.Formed.{IsFormedSession};
 ghost use Rattle.session_text.specs.Sessions.{session_of};
@@ -97,8 +96,7 @@ impl PhasesLeft {
     }
 }
 
-/// Reads a text as a session, or answers its first line that stands wrong or, where none does, the first that is not carried
-/// out. The macros of a command line are found by hashing their names so. Takes time linear in the text, and beside the text
+/// Reads a text as a session, or answers its first line that stands wrong. The macros of a command line are found by hashing their names so. Takes time linear in the text, and beside the text
 /// memory for one command at a time.
 pub fn read(
     alloc: Global,
@@ -108,7 +106,6 @@ pub fn read(
     requires { length text < 2 ^ 32 }
     ensures session { Gives result (session_of text) }
     ensures formed { IfOk result (IsFormedSession (length text)) }
-    ensures carried_out { IfOk result IsSessionCarriedOut }
 {
     check(alloc, hashing, text.as_bytes())?;
     let place = Place::first(alloc, hashing, text)?;

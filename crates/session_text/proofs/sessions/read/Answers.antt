@@ -2,29 +2,16 @@ use Rattle.std.proofs.Common.{◌≡◌, ◌∙◌, None, List, ℕ, length, ap,
 use Rattle.session_text.specs.Formed.{IsFormedSession}
 use Rattle.session_text.specs.Kinds.{kinds_of}
 use Rattle.session_text.specs.Reading.{Place, lines_at}
-use Rattle.session_text.specs.Sessions.{error_in, first_missing, phases_of}
-use Rattle.session_text.proofs.Carried.{phases_carried}
+use Rattle.session_text.specs.Sessions.{error_in, phases_of}
 use Rattle.session_text.proofs.FormedReading.{phases_read}
-use Rattle.session_text.proofs.Steps.{none-wrong, none-missing}
 use Rattle.session_text.proofs.sessions.read.Goals as goal
 
 pub first-requires-clause-right : goal.first-requires-clause-right
-first-requires-clause-right c =
-    let right : error_in (kinds_of c.args.text) ≡ None =
-    ap (λ (v : List ℕ). error_in (kinds_of v)) (sym c.as_bytes.ensures) ∙ c.in_ok-check.ensures.right in
-    none-wrong (kinds_of c.args.text) right
+first-requires-clause-right c = ap (λ (v : List ℕ). error_in (kinds_of v)) (sym c.as_bytes.ensures) ∙ c.in_ok-check.ensures.right
 
 pub returns-clause-formed : goal.returns-clause-formed
 returns-clause-formed c =
     let right : error_in (kinds_of c.args.text) ≡ None =
     ap (λ (v : List ℕ). error_in (kinds_of v)) (sym c.as_bytes.ensures) ∙ c.in_ok-check.ensures.right in
     let P : Place → Type 0 = λ place. IsFormedSession (length c.args.text) (record { phases = phases_of (lines_at place) }) in
-    subst P (sym c.in_ok-place.ensures) (phases_read c.args.text (none-wrong (kinds_of c.args.text) right))
-
-pub returns-clause-carried_out : goal.returns-clause-carried_out
-returns-clause-carried_out c =
-    let right : error_in (kinds_of c.args.text) ≡ None =
-    ap (λ (v : List ℕ). error_in (kinds_of v)) (sym c.as_bytes.ensures) ∙ c.in_ok-check.ensures.right in
-    let built : first_missing 0 (lines_at c.in_ok-place.place) ≡ None =
-    ap (λ place. first_missing 0 (lines_at place)) c.in_ok-place.ensures ∙ none-missing (kinds_of c.args.text) right in
-    phases_carried 0 (lines_at c.in_ok-place.place) built
+    subst P (sym c.in_ok-place.ensures) (phases_read c.args.text right)

@@ -9,7 +9,7 @@ returns-in-Ok c =
     let phase : c.args.self.now.in_phase ≡ true = search rules in
     let some : is_empty c.args.self.now.lanes ≡ false =
     ap (λ (v : Above). is_empty v.lanes) (sym c.self.view_is) ∙ ap is_empty (sym c.as_slice.ensures.value) ∙ sym c.is_empty.ensures ∙ c.if-is_empty.false in
-    command-stands c.args.self.now _ c.args.word.now c.args.words (body_of (kinds_of c.args.behind.now.bytes)) c.in-Ok.command _ phase some (search rules) (search rules) (search rules)
+    command-stands c.args.self.now _ c.args.word.now c.args.words (body_of (kinds_of c.args.behind.now.bytes)) c.in-Ok.command phase some (search rules) (search rules)
 
 pub returns-in-Err : goal.returns-in-Err
 returns-in-Err c =
