@@ -16,3 +16,11 @@ pub mod PathSets
 pub mod GivenRows
 pub mod HoldersFound
 pub mod LabelsFound
+pub mod TakenIn
+pub mod Predecessors
+pub mod Leaders
+pub mod ArrowTails
+pub mod WalksBack
+pub mod CatalogsGiven
+pub mod ElementsBelow
+pub mod MergeTests

@@ -81,7 +81,7 @@ all_more : (P : List ℕ → Type 0) (xs : List (List ℕ)) (x : List ℕ) → A
 all_more P [] x all is = (is, tt)
 all_more P (first ∷ xs) x all is = (all.0, all_more P xs x all.1 is)
 
-names_in_path : (directory name : List ℕ) → IsPath directory → IsName name → names_of (path_in directory name) ≡ names_of directory ++ name ∷ []
+pub names_in_path : (directory name : List ℕ) → IsPath directory → IsName name → names_of (path_in directory name) ≡ names_of directory ++ name ∷ []
 names_in_path directory name path is = names_of-joined (names_of directory ++ name ∷ []) (all_more IsName (names_of directory) name (names_of-names directory path) is)
 
 parent_in : (directory name : List ℕ) → IsPath directory → IsName name → parent_of (path_in directory name) ≡ Some directory

@@ -1,5 +1,5 @@
 -- What a call answers that answers a query.
-use Rattle.std.specs.Prelude.{◌≡◌, ℕ, Result, Ok, Err, List}
+use Rattle.std.specs.Prelude.{◌≡◌, ℕ, Option, Some, None, Result, Ok, Err, List}
 use Rattle.cc_names.specs.declared.memory.Or.{Or}
 use Rattle.cc_names.specs.declared.memory.Or.TheVariants.{NoMemory, Is}
 use Rattle.cc_names.specs.declared.refusals.Refusal.{Refusal}
@@ -25,3 +25,9 @@ abbrev pub FindsObject : Result ℕ (Or Refusal) → ((ℕ → Result Decision R
 FindsObject (Ok id) decided = (more : ℕ → Result Decision Refusal) → decided more ≡ more id
 FindsObject (Err (Is refusal)) decided = (more : ℕ → Result Decision Refusal) → decided more ≡ Err refusal
 FindsObject (Err NoMemory) decided = Unit {0}
+
+-- the test is passed, or its refusal is answered, unless memory ran out
+abbrev pub Tests : {A : Type 0} → Result A (Or Refusal) → Option Refusal → Type 0
+Tests (Ok passed) test = test ≡ None
+Tests (Err (Is refusal)) test = test ≡ Some refusal
+Tests (Err NoMemory) test = Unit {0}

@@ -10,3 +10,5 @@ pub mod Covering
 pub mod Differences
 pub mod LabelSets
 pub mod Owned
+pub mod Reached
+pub mod ElementsBelow

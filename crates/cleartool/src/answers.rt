@@ -14,6 +14,7 @@ use crate::file_texts::cat;
 use crate::held_objects::lsdo;
 use crate::histories::lshistory;
 use crate::listings::ls;
+use crate::merges::findmerge;
 use crate::record_differences::diffcr;
 use crate::record_texts::catcr;
 use crate::version_texts::cat_version;
@@ -57,6 +58,7 @@ pub fn answer(alloc: Global, rows: &FirstRows<'_>, command: &Command) -> Result<
             second,
         } => diffcr(alloc, rows, view, path, other, second),
         Command::Covers { seer, view, path } => covers(alloc, rows, seer, view, path),
+        Command::Findmerge { view, path, branch } => findmerge(alloc, rows, view, path, branch),
         _ => unreachable!(),
     }
 }
