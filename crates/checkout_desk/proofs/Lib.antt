@@ -1,3 +1,5 @@
 pub mod DueRows
 pub mod FirstRefusals
 pub mod RuleBranches
+pub mod Outsiders
+pub mod RecordedLabels

@@ -1,7 +1,7 @@
 //! The decision on a command.
 
-ghost use Rattle.std.specs.Prelude.{◌≡◌, ℕ, ◌<◌, ◌≤◌, ◌^◌, length, true, false, None, is_some, IfOk, OnOk};
-ghost use Rattle.cc_names.specs.Commands.{builds, scrub_age, view_of};
+ghost use Rattle.std.specs.Prelude.{◌≡◌, ℕ, ◌<◌, ◌≤◌, ◌^◌, length, true, false, IfOk, OnOk};
+ghost use Rattle.cc_names.specs.Commands.{builds, view_of};
 ghost use Rattle.legal_history.specs.Stories.Lawful.{last_moment};
 ghost use Rattle.session_text.specs.Formed.{IsCommand};
 ghost use Rattle.legal_history.specs.Base.Fits.{row_limit};
@@ -9,7 +9,7 @@ ghost use Rattle.legal_history.specs.Commands.Decisions.{Scene};
 ghost use Rattle.legal_history.specs.Commands.Lines.{decision};
 ghost use Rattle.carried_out.specs.CarriedOut.{is_carried_out};
 ghost use Rattle.legal_history.specs.Queries.QueryLines.{is_query};
-ghost use Rattle.checkout_desk.specs.Deciding.{Decides, DecidesIfAny, IfNone, IfRow, Sees};
+ghost use Rattle.checkout_desk.specs.Deciding.{Decides, DecidesIfAny, IfNone, IfRow, Sees, may_find_nothing};
 
 use crate::arrows::mkarrow;
 use crate::branches::mkbranch;
@@ -20,6 +20,7 @@ use crate::elements::mkelem;
 use crate::labels::{mklabel, rmlabel};
 use crate::names::{mv, rmname};
 use crate::objects::rmdo;
+use crate::recorded_labels::mklabel_config;
 use crate::removals::rm;
 use crate::saves::save;
 use crate::scrubs::scrub;
@@ -43,7 +44,7 @@ fn decide_row(
     requires carried_out { is_carried_out command.now ≡ true }
     requires no_build { builds command.now ≡ false }
     requires no_query { is_query command.now ≡ false }
-    requires no_scrub { scrub_age command.now ≡ None }
+    requires row { may_find_nothing command.now ≡ false }
     requires formed { IsCommand 16777216 command.now }
     requires in_time { occasion.moment ≤ last_moment }
 
@@ -104,8 +105,8 @@ fn decide_row(
     }
 }
 
-/// A command's row, or its first refusal in the order of the tests of its line. A scrub for which nothing is due has no row.
-/// Takes the time of its command.
+/// A command's row, or its first refusal in the order of the tests of its line. A scrub for which nothing is due has no row, nor
+/// has the label of a record that lists nothing. Takes the time of its command.
 pub fn decide(
     alloc: Global,
     rows: &FirstRows<'_>,
@@ -121,11 +122,17 @@ pub fn decide(
     ensures decided { (scene : Scene)
         → Sees scene rows.now occasion.moment (view_of command.now) occasion.busy occasion.taken
         → DecidesIfAny occasion.tag occasion.moment result (decision scene command.now) }
-    ensures nothing { IfNone result (is_some (scrub_age command.now) ≡ true) }
+    ensures nothing { IfNone result (may_find_nothing command.now ≡ true) }
     ensures room { IfRow result (λ row. occasion.taken < row_limit) }
 {
     match command {
         Command::Scrub { age } => scrub(alloc, rows, *age, occasion),
+        Command::MklabelConfig {
+            view,
+            replace,
+            path,
+            label,
+        } => mklabel_config(alloc, rows, view, *replace, path, label, occasion),
         _ => match decide_row(alloc, rows, command, occasion) {
             Ok(row) => Ok(Some(row)),
             Err(refusal) => Err(refusal),

@@ -3,11 +3,13 @@
 ghost use Rattle.std.specs.Prelude.{◌≡◌, ℕ, IfOk, ◌∷◌, []};
 ghost use Rattle.cc_names.specs.Formed.{IsBelowRoot};
 ghost use Rattle.cc_names.specs.Names.{IsName};
+ghost use Rattle.cc_names.specs.References.{held_at};
+ghost use Rattle.legal_history.specs.Base.Changes.{held};
 ghost use Rattle.legal_history.specs.Base.Seen.{at};
 ghost use Rattle.legal_history.specs.Commands.Decisions.{Scene, past};
 ghost use Rattle.legal_history.specs.Commands.DirectoryLines.{changes_directory};
 ghost use Rattle.legal_history.specs.Commands.FileLines.{last_name, parent};
-ghost use Rattle.legal_history.specs.Commands.Found.{for_directory, for_element, for_selected};
+ghost use Rattle.legal_history.specs.Commands.Found.{for_directory, for_element, for_object, for_selected};
 ghost use Rattle.legal_history.specs.Commands.Tests.{needs_idle, needs_view};
 ghost use Rattle.checkout_desk.specs.Deciding.{Finds, Sees, apart};
 ghost use Rattle.cc_names.specs.declared.rows.Tag.{Tag};
@@ -20,7 +22,7 @@ use cc_names::refusals::Refusal;
 use cc_names::rows::Tag;
 use cc_names::selection::{Picked, Seen};
 use std::alloc::Global;
-use view_lookup::{FirstRows, at, is_directory_element};
+use view_lookup::{FirstRows, at, held, is_directory_element};
 
 /// The element that is selected at a path, and what was picked of it.
 #[derive(Clone, Copy)]
@@ -64,6 +66,22 @@ pub fn find_standing(
         Seen::Unselected(element) => Ok(element),
         Seen::Private(_) => Err(Or::Is(Refusal::NotElement(path.copy(alloc)?))),
         Seen::Nothing => Err(Or::Is(Refusal::NoPath(path.copy(alloc)?))),
+    }
+}
+
+/// The object that a view holds at a path.
+pub fn find_object(
+    alloc: Global,
+    rows: &FirstRows<'_>,
+    view: &Name,
+    path: &Path,
+) -> Result<u64, Or<Refusal>>
+    ensures { Finds result
+        (λ more. for_object path.now (held_at (held rows.now) view.now path.now) more) }
+{
+    match held(rows, view, path) {
+        Some(object) => Ok(object),
+        None => Err(Or::Is(Refusal::NoObject(path.copy(alloc)?))),
     }
 }
 

@@ -21,27 +21,27 @@ use cc_names::memory::Or;
 use cc_names::names::Name;
 use cc_names::paths::Path;
 use cc_names::refusals::Refusal;
-use cc_names::rows::{Deed, Row};
+use cc_names::rows::{Deed, Placed, Row};
 use std::alloc::Global;
 use view_lookup::{FirstRows, checked_out, has_label, holder};
 
 /// The label stands on this version or on none of the element, unless `-replace` is given. The refusal names the version that
 /// holds it.
-fn needs_label_free(
+pub fn needs_label_free(
     rows: &FirstRows<'_>,
     replace: bool,
     label: &Name,
-    selected: Selected,
+    placed: Placed,
 ) -> Result<(), Or<Refusal>>
     ensures { Tests result
-        (needs_label_free rows.now replace label.now selected.element selected.picked.row) }
+        (needs_label_free rows.now replace label.now placed.element placed.version) }
 {
     if replace {
         return Ok(());
     }
-    match holder(rows, label, selected.element) {
+    match holder(rows, label, placed.element) {
         Some(other) => {
-            if other == selected.picked.row {
+            if other == placed.version {
                 Ok(())
             } else {
                 Err(Or::Is(Refusal::LabelElsewhere(other)))
@@ -72,12 +72,16 @@ fn mklabel_of(
     needs_label_type(alloc, rows, label)?;
     let taken = checked_out(rows, view, selected.element);
     needs_version_picked(selected.picked.out, taken)?;
-    needs_label_free(rows, replace, label, selected)?;
+    let placed = Placed {
+        element: selected.element,
+        version: selected.picked.row,
+    };
+    needs_label_free(rows, replace, label, placed)?;
     needs_room(occasion.taken)?;
     let deed = Deed::Label {
         label: label.copy(alloc)?,
-        element: selected.element,
-        version: selected.picked.row,
+        element: placed.element,
+        version: placed.version,
     };
     Ok(Row::of(occasion.tag, occasion.moment, deed))
 }

@@ -22,6 +22,7 @@ mod labels;
 mod names;
 mod needs;
 mod objects;
+mod recorded_labels;
 mod removals;
 mod room;
 mod saves;

@@ -1,6 +1,7 @@
 -- The rows that commands make which build nothing.
 use Rattle.std.proofs.Common.{◌≡◌, ℕ, Bool, not, ◌||◌, true, false, Option, Some, None, Result, Ok, List, [], ◌∷◌, refl, subst}
 use Rattle.cc_names.specs.Commands.{builds}
+use Rattle.cc_names.specs.References.{held_at}
 use Rattle.carried_out.specs.CarriedOut.{is_carried_out}
 use Rattle.legal_history.specs.Queries.QueryLines.{is_query}
 use Rattle.cc_names.specs.declared.commands.Command.{Command}
@@ -12,24 +13,26 @@ use Rattle.cc_names.specs.declared.rows.Deed.TheVariants as deeds
 use Rattle.cc_names.specs.declared.rows.Kind.{Kind}
 use Rattle.cc_names.specs.declared.rows.Kind.TheVariants.{File, Directory}
 use Rattle.cc_names.specs.declared.rows.Out.{Out}
+use Rattle.cc_names.specs.declared.rows.Placed.{Placed}
 use Rattle.cc_names.specs.declared.rows.TypeKind.{TypeKind}
 use Rattle.cc_names.specs.declared.rows.TypeKind.TheVariants as type_kinds
 use Rattle.cc_names.specs.declared.selection.Picked.{Picked}
 use Rattle.cc_names.specs.declared.selection.Seen.{Seen}
 use Rattle.cc_names.specs.declared.selection.Seen.TheVariants.{Private, Element, Unselected, Nothing}
+use Rattle.legal_history.specs.Base.Changes.{held}
 use Rattle.legal_history.specs.Base.Seen.{at}
 use Rattle.legal_history.specs.Commands.CheckoutLines.{branch_by, checkin_of, checkin_tests, checkout_deed, checkout_of, checkout_tests, deciding_rule, mkbranch_of, mkbranch_tests, out_unless, uncheckout_of}
 use Rattle.legal_history.specs.Commands.CheckoutTests.{needs_out}
 use Rattle.legal_history.specs.Commands.Decisions.{Scene, Decision, Makes, past, unless_refused}
 use Rattle.legal_history.specs.Commands.DirectoryLines.{mkelem_in, mv_in, mv_tests, rmname_in, rmname_tests}
 use Rattle.legal_history.specs.Commands.FileLines.{last_name, save_deed}
-use Rattle.legal_history.specs.Commands.Found.{for_element, for_selected}
-use Rattle.legal_history.specs.Commands.LabelLines.{mkarrow_from, mkarrow_of, mkarrow_tests, mklabel_of, mklabel_tests, rmlabel_of, rmlabel_tests, version_named}
+use Rattle.legal_history.specs.Commands.Found.{for_element, for_object, for_selected}
+use Rattle.legal_history.specs.Commands.LabelLines.{labels_or_nothing, mkarrow_from, mkarrow_of, mkarrow_tests, mklabel_config_of, mklabel_config_tests, mklabel_of, mklabel_tests, placed_by, rmlabel_of, rmlabel_tests, version_named}
 use Rattle.legal_history.specs.Commands.Lines.{decision}
 use Rattle.legal_history.specs.Commands.ObjectLines.{due, scrub_of}
 use Rattle.legal_history.specs.Commands.Tests.{needs_free_path, needs_idle, needs_view}
 use Rattle.legal_history.specs.Base.Views.{out}
-use Rattle.legal_history.proofs.Decisions.Handed.{IfDecided, change_is, element_is, past_is, row_is, selected_is, version_is}
+use Rattle.legal_history.proofs.Decisions.Handed.{IfDecided, answer_is, change_is, element_is, object_is, past_is, row_is, selected_is, version_is}
 use Rattle.base_core.specs.Calls.Acting.{FinishesCommand}
 
 -- a decision that was not refused makes its deed
@@ -90,6 +93,9 @@ finishes_drop v path = record { reply = λ b. refl; done = λ done lane. refl; a
 
 finishes_scrub : (objects : List ℕ) → FinishesCommand (deeds.Scrub objects)
 finishes_scrub objects = record { reply = λ b. refl; done = λ done lane. refl; active = λ b active lane. refl; made = λ s row made. made }
+
+finishes_labels : (label : List ℕ) (placed : List Placed) → FinishesCommand (deeds.Labels label placed)
+finishes_labels label placed = record { reply = λ b. refl; done = λ done lane. refl; active = λ b active lane. refl; made = λ s row made. made }
 
 -- a save of a private file, or of the view's checkout of an element
 finishes_save : (v path text : List ℕ) (seen : Seen) → FinishesCommand (save_deed v path text seen)
@@ -153,6 +159,11 @@ scrub_finishes : (s : Scene) (ids : List ℕ) (deed : Deed) → scrub_of s ids �
 scrub_finishes s [] deed e = absurd (cc)
 scrub_finishes s (id ∷ ids) deed e = subst FinishesCommand (same_deed _ (deeds.Scrub (id ∷ ids)) deed e) (finishes_scrub (id ∷ ids))
 
+-- labels, where the record lists anything
+labels_finish : (s : Scene) (tests : List (Option Refusal)) (label : List ℕ) (placed : List Placed) → IfDecided Finishes (labels_or_nothing s tests label placed)
+labels_finish s tests label [] = answer_is Finishes tests [] tt
+labels_finish s tests label (one ∷ more) = row_is Finishes s tests (deeds.Labels label (one ∷ more)) (λ made. finishes_labels label (one ∷ more))
+
 -- so do the rows of what is selected at a path, and of the element that stands there, past some tests
 for_selected_finishes : (tests : List (Option Refusal)) (path : List ℕ) (seen : Seen) (more : ℕ → Picked → Result Decision Refusal) → ((e : ℕ) (picked : Picked) → IfDecided Finishes (more e picked)) →
     IfDecided Finishes (past tests (for_selected path seen more))
@@ -190,5 +201,9 @@ command_finishes s (commands.Mkarrow v path name) deed carried idle e =
     for_selected_finishes (needs_view s.base v ∷ []) path (at s.base v path) (mkarrow_of s v path name) (mkarrow_finishes s v path name) (Makes deed) e
 command_finishes s (commands.Rmdo v path) deed carried idle e = subst FinishesCommand (same_deed _ (deeds.Drop v path) deed e) (finishes_drop v path)
 command_finishes s (commands.Scrub age) deed carried idle e = scrub_finishes s (due s.base s.moment age) deed e
+command_finishes s (commands.MklabelConfig v replace path label) deed carried idle e =
+    past_is Finishes (needs_view s.base v ∷ []) (for_object path (held_at (held s.base) v path) (mklabel_config_of s replace label))
+    (λ pass. object_is Finishes path (held_at (held s.base) v path) (mklabel_config_of s replace label)
+    (λ id is. labels_finish s (mklabel_config_tests s replace label id) label (placed_by s.base id))) (Makes deed) e
 command_finishes s (commands.Clearmake v file own_only rebuild jobs macros goals) deed carried idle e = absurd (cc)
 command_finishes s command deed carried idle e = absurd (cc)
