@@ -43,7 +43,6 @@ impl<D: Disk> Core<D> {
     ghost use Rattle.std.specs.Prelude.{◌≡◌, ◌≤◌, ◌<◌, ◌^◌, ◌+◌, ◌∷◌, [], ◌++◌, true, false, OnOk, OnErr, IfOk, IfErr, MatchResult, length};
     ghost use Rattle.cc_names.specs.declared.steps.StoryStep.TheVariants as story_steps;
     ghost use Rattle.session_text.specs.Formed.{IsPhase};
-    ghost use Rattle.carried_out.specs.CarriedOut.{AreCarriedOut};
     ghost use Rattle.legal_history.specs.Stories.States.{all_done, faults_of};
     ghost use Rattle.legal_history.specs.Stories.Steps.{state_of};
     ghost use Rattle.cc_names.specs.Counts.{rises};
@@ -91,7 +90,6 @@ impl<D: Disk> Core<D> {
     ) -> Result<(), NoMemory>
         requires finished { all_done (state_of self.old.story) ≡ true }
         requires formed { IsPhase command_limit phase }
-        requires carried_out { AreCarriedOut phase }
         requires few { (state_of self.old.story).number + 1 < 2 ^ 32 }
         requires in_time { moment ≤ last_moment }
         ensures ok { OnOk result

@@ -14,8 +14,7 @@
 //! `finish` leaves the rows and no more, and makes no device call unless the newest commit or fault is a fault. The file of
 //! objects stays as it was.
 //!
-//! What it stands on: `story_log` for the rows, the story and their journal, `carried_out` for what is made so far,
-//! `disk_model` and `vob_journal` for what is said of the disk, `checkout_desk` for the decisions on rows, `cleartool` for the
+//! What it stands on: `story_log` for the rows, the story and their journal, `disk_model` and `vob_journal` for what is said of the disk, `checkout_desk` for the decisions on rows, `cleartool` for the
 //! answers to queries and the names of versions, `clearmake` for what builders on threads ask, `build_core` for builds,
 //! `legal_history` for the model and the laws of builds and of reused objects in legal stories, `view_lookup` and
 //! `session_text`, `build_script` and `script_grammar` for scripts, and `cc_names` for plain data.

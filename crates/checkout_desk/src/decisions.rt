@@ -7,7 +7,6 @@ ghost use Rattle.session_text.specs.Formed.{IsCommand};
 ghost use Rattle.legal_history.specs.Base.Fits.{row_limit};
 ghost use Rattle.legal_history.specs.Commands.Decisions.{Scene};
 ghost use Rattle.legal_history.specs.Commands.Lines.{decision};
-ghost use Rattle.carried_out.specs.CarriedOut.{is_carried_out};
 ghost use Rattle.legal_history.specs.Queries.QueryLines.{is_query};
 ghost use Rattle.checkout_desk.specs.Deciding.{Decides, DecidesIfAny, IfNone, IfRow, Sees, may_find_nothing};
 
@@ -41,7 +40,6 @@ fn decide_row(
     command: &Command,
     occasion: Occasion,
 ) -> Result<Row, Or<Refusal>>
-    requires carried_out { is_carried_out command.now ≡ true }
     requires no_build { builds command.now ≡ false }
     requires no_query { is_query command.now ≡ false }
     requires row { may_find_nothing command.now ≡ false }
@@ -113,7 +111,6 @@ pub fn decide(
     command: &Command,
     occasion: Occasion,
 ) -> Result<Option<Row>, Or<Refusal>>
-    requires carried_out { is_carried_out command.now ≡ true }
     requires no_build { builds command.now ≡ false }
     requires no_query { is_query command.now ≡ false }
     requires formed { IsCommand 16777216 command.now }

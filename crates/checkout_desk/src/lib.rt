@@ -4,8 +4,8 @@
 //!
 //! What it promises: the answer is the model's decision on the command, and a row has the command's tag and moment.
 //!
-//! What it stands on: `carried_out` for which commands are carried out, `view_lookup` for what a view sees, `legal_history`
-//! for the definitions, `session_text` for the form of commands, `spec_text` for config specs, and `cc_names` for plain data.
+//! What it stands on: `view_lookup` for what a view sees, `legal_history` for the definitions,
+//! `session_text` for the form of commands, `spec_text` for config specs, and `cc_names` for plain data.
 #![tactic(auto)]
 
 mod arrows;

@@ -1,7 +1,6 @@
 //! The answer to a query.
 
 ghost use Rattle.std.specs.Prelude.{◌≡◌, true};
-ghost use Rattle.carried_out.specs.CarriedOut.{is_carried_out};
 ghost use Rattle.legal_history.specs.Queries.QueryLines.{is_query};
 ghost use Rattle.legal_history.specs.Commands.Decisions.{Scene};
 ghost use Rattle.legal_history.specs.Commands.Lines.{decision};
@@ -28,7 +27,6 @@ use view_lookup::FirstRows;
 
 /// A query's text, or its first refusal in the order of the tests of its line. Takes the time of its query.
 pub fn answer(alloc: Global, rows: &FirstRows<'_>, command: &Command) -> Result<Text, Or<Refusal>>
-    requires carried_out { is_carried_out command.now ≡ true }
     requires query { is_query command.now ≡ true }
     ensures { (scene : Scene) → scene.base ≡ rows.now
         → AnswersAs result (decision scene command.now) }

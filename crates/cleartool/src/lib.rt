@@ -5,8 +5,8 @@
 //!
 //! What it promises: the answer is the model's decision on the query, and a name is the model's. A query makes no row.
 //!
-//! What it stands on: `carried_out` for which queries are carried out, `view_lookup` for what a view sees, `legal_history` for
-//! the definitions, `date_text` for dates, and `cc_names` for plain data.
+//! What it stands on: `view_lookup` for what a view sees, `legal_history` for the definitions,
+//! `date_text` for dates, and `cc_names` for plain data.
 #![tactic(auto)]
 
 mod answers;

@@ -5,7 +5,7 @@ ghost use Rattle.legal_history.specs.Queries.QueryLines.{is_query};
 
 use cc_names::commands::Command;
 
-/// Whether a command is a query, carried out or not: it asks for a text, and makes no row. Takes constant time.
+/// Whether a command is a query: it asks for a text, and makes no row. Takes constant time.
 pub fn is_query(command: &Command) -> bool
     ensures { result ≡ is_query command.now }
 {

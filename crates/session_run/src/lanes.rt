@@ -1,7 +1,6 @@
 //! What is left of a phase, on one thread. The lanes take turns: in each round every lane makes one call of the core.
 
 ghost use Rattle.std.specs.Prelude.{◌≡◌, ℕ, ◌≤◌, ◌<◌, IfOk, OnOk, length, true};
-ghost use Rattle.carried_out.specs.CarriedOut.{AreCarriedOut};
 ghost use Rattle.base_core.specs.Story.Counted.{KeepsCount};
 ghost use Rattle.legal_history.specs.Stories.Lanes.{IsWithin};
 ghost use Rattle.legal_history.specs.Stories.States.{all_done};
@@ -76,7 +75,6 @@ fn take_round<D: Disk>(
 /// Carries out the commands of the last phase, whose lanes take turns until each is finished.
 pub(crate) fn run_lanes<D: Disk>(alloc: Global, core: &mut Core<D>) -> Result<(), NoMemory>
     requires begun { 0 < (state_of core.old.story).number }
-    requires carried_out { AreCarriedOut (state_of core.old.story).phase }
     requires few { length (state_of core.old.story).phase.lanes ≤ 64 }
     requires opened { is_opened core.old.story ≡ true }
     requires within { (lane : ℕ) → IsWithin (state_of core.old.story) lane }

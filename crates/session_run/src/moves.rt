@@ -2,7 +2,6 @@
 
 ghost use Rattle.std.specs.Prelude.{◌≡◌, ◌<◌, IfOk, OnErr};
 ghost use Rattle.build_script.specs.Ended.{ran_of};
-ghost use Rattle.carried_out.specs.CarriedOut.{AreCarriedOut};
 ghost use Rattle.cc_names.specs.declared.desks.Next.TheVariants as nexts;
 ghost use Rattle.clearmake.specs.Calls.{IsRunOfUnit, IsStarted};
 ghost use Rattle.clearmake.specs.Nexts.{next_of};
@@ -44,7 +43,6 @@ fn take_up<D: Disk>(
     core: &mut Core<D>,
     lane: u32,
 ) -> Result<Option<LaneProgress>, NoMemory>
-    requires { AreCarriedOut (state_of core.old.story).phase }
     ensures ok { IfOk result
         (λ next. MovesTo core.old.story core.new.story lane lane_progress.Command next) }
     ensures err { OnErr result (core.new ≡ core.old) }
@@ -171,7 +169,6 @@ pub(crate) fn move_on<D: Disk>(
     lane: u32,
     turn: LaneProgress,
 ) -> Result<Option<LaneProgress>, NoMemory>
-    requires carried_out { AreCarriedOut (state_of core.old.story).phase }
     requires stands { StandsAt (state_of core.old.story) lane turn }
     ensures ok { IfOk result (λ next. MovesTo core.old.story core.new.story lane turn next) }
     ensures err { OnErr result (core.new ≡ core.old) }

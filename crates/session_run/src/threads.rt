@@ -2,7 +2,6 @@
 
 ghost use Rattle.std.specs.Prelude.{◌≡◌, ◌≤◌, ℕ, true, length};
 ghost use Rattle.std.specs.Bool.{OnTrue};
-ghost use Rattle.carried_out.specs.CarriedOut.{AreCarriedOut};
 ghost use Rattle.legal_history.specs.Stories.Lanes.{IsWithin};
 ghost use Rattle.legal_history.specs.Stories.States.{all_done};
 ghost use Rattle.legal_history.specs.Stories.Steps.{state_of};
@@ -73,7 +72,6 @@ pub(crate) fn run_on_threads<R: Threads + Wait + Sync, G: Gate + Sync, D: Disk +
     host: &Host<'_, R, G>,
     core: Core<D>,
 ) -> (Core<D>, bool)
-    requires carried_out { AreCarriedOut (state_of core.story).phase }
     requires few { length (state_of core.story).phase.lanes ≤ 64 }
     requires opened { is_opened core.story ≡ true }
     ensures since { IsSince core result.0 }

@@ -1,4 +1,4 @@
--- The command that a lane has next is one of the phase: it has the form of one, and is carried out.
+-- The command that a lane has next is one of the phase: it has the form of one.
 use Rattle.std.proofs.Common.{◌≡◌, ℕ, zero, suc, ◌≤◌, true, false, Option, Some, None, refl, ap, sym, subst, ◌∙◌}
 use Rattle.std.specs.Prelude.{IsSome, option_and_then, slice_get}
 use Rattle.std.specs.List.{AllByRecursion}
@@ -12,7 +12,6 @@ use Rattle.cc_names.specs.declared.rows.Tag.{Tag}
 use Rattle.session_text.specs.Formed.{IsCommand, IsLane, IsPhase}
 use Rattle.legal_history.specs.Stories.Commanded.{command_of}
 use Rattle.legal_history.specs.Stories.States.{State, command_behind, next_tag}
-use Rattle.carried_out.specs.CarriedOut.{AreCarriedOut, IsLaneCarriedOut, is_carried_out}
 use Rattle.base_core.specs.Keeping.Kept.{command_limit}
 use Rattle.clearmake.specs.Nexts.{jobs_of, next_by, next_of}
 use Rattle.base_core.proofs.Building.UnitRows.{all_at}
@@ -30,9 +29,6 @@ in_lane Q P each phase (suc n) done command all e = by (slice_get phase.lanes n)
 
 pub next_is_formed : (phase : Phase) (lane done : ℕ) (command : Command) → IsPhase command_limit phase → option_and_then (command_behind done) (lane_at phase lane) ≡ Some command → IsCommand command_limit command
 next_is_formed phase lane done command formed e = in_lane (IsLane command_limit) (IsCommand command_limit) (λ l is. is.1.1) phase lane done command formed.1 e
-
-pub next_is_carried_out : (phase : Phase) (lane done : ℕ) (command : Command) → AreCarriedOut phase → option_and_then (command_behind done) (lane_at phase lane) ≡ Some command → is_carried_out command ≡ true
-next_is_carried_out phase lane done command carried e = in_lane IsLaneCarriedOut (λ c. is_carried_out c ≡ true) (λ l is. is) phase lane done command carried e
 
 -- one that is acted on builds nothing
 acting : (command : Command) (tag : Tag) → next_by (Some command) tag ≡ nexts.Act → builds command ≡ false

@@ -4,7 +4,6 @@ use Rattle.std.specs.Prelude.{option_and_then, option_map, is_none, slice_get}
 use Rattle.std.proofs.lemmas.Bool.Decides.{nat_tests}
 use Rattle.std.proofs.lemmas.Option.{slice_get_within}
 use Rattle.cc_names.specs.Commands.{builds, lane_at}
-use Rattle.carried_out.specs.CarriedOut.{is_carried_out}
 use Rattle.legal_history.specs.Queries.QueryLines.{is_query}
 use Rattle.cc_names.specs.Formed.{Plain}
 use Rattle.cc_names.specs.declared.commands.Command.{Command}
@@ -63,13 +62,13 @@ nothing_counted (commands.MklabelConfig view replace path label) nothing = refl
 nothing_counted command nothing = absurd (cc)
 
 -- what is decided of the command that waits
-pub decides_next : (story : List StoryStep) (lane taken now : ℕ) (command : Command) (result : Result (Option Plain) (Or Refusal)) → Legal story → is_carried_out command ≡ true → builds command ≡ false → is_query command ≡ false → (let s : State = state_of story in build_of s.active lane ≡ None → s.moment ≡ now → option_and_then (command_behind (done_of s.done lane)) (lane_at s.phase lane) ≡ Some command → taken ≡ size s.base + reserved s.active → DecidesIfAny (next_tag s lane) now result (decision (scene s) command) → IfNone result (may_find_nothing command ≡ true) → IfRow result (λ row. taken < row_limit) → DecidesNext s (next_tag s lane) result)
-decides_next story lane taken now command (Ok (Some row)) legal carried idle quiet free moment e count decides nothing space =
+pub decides_next : (story : List StoryStep) (lane taken now : ℕ) (command : Command) (result : Result (Option Plain) (Or Refusal)) → Legal story → builds command ≡ false → is_query command ≡ false → (let s : State = state_of story in build_of s.active lane ≡ None → s.moment ≡ now → option_and_then (command_behind (done_of s.done lane)) (lane_at s.phase lane) ≡ Some command → taken ≡ size s.base + reserved s.active → DecidesIfAny (next_tag s lane) now result (decision (scene s) command) → IfNone result (may_find_nothing command ≡ true) → IfRow result (λ row. taken < row_limit) → DecidesNext s (next_tag s lane) result)
+decides_next story lane taken now command (Ok (Some row)) legal idle quiet free moment e count decides nothing space =
     let s : State = state_of story in
     let within = in_phase s.phase lane (done_of s.done lane) command e in
     let made : decided s (next_tag s lane) ≡ Some (decision (scene s) command) = ap (option_map (decision (scene s))) (next_is s lane command free e) in
     let at_lane : row.tag.lane ≡ lane = ap (λ t. t.lane) decides.1 in
-    let finishes = command_finishes (scene s) command row.deed carried (ap₂ ◌||◌ idle quiet) decides.0 in
+    let finishes = command_finishes (scene s) command row.deed (ap₂ ◌||◌ idle quiet) decides.0 in
     let row_made = ap (decided s) decides.1 ∙ made ∙ ap Some decides.0 in (
       record {
         of_next = record {
@@ -85,7 +84,7 @@ decides_next story lane taken now command (Ok (Some row)) legal carried idle qui
       },
       decides.1,
     )
-decides_next story lane taken now command (Ok None) legal carried idle quiet free moment e count decides nothing space =
+decides_next story lane taken now command (Ok None) legal idle quiet free moment e count decides nothing space =
     let s : State = state_of story in
     let within = in_phase s.phase lane (done_of s.done lane) command e in
     let next = next_is s lane command free e in
@@ -94,8 +93,8 @@ decides_next story lane taken now command (Ok None) legal carried idle quiet fre
       made = ap (option_map (decision (scene s))) next ∙ ap Some decides;
       reply = ap (λ found. reply_to_answer found []) next ∙ nothing_counted command nothing;
     }
-decides_next story lane taken now command (Err NoMemory) legal carried idle quiet free moment e count decides nothing space = tt
-decides_next story lane taken now command (Err (Is refusal)) legal carried idle quiet free moment e count decides nothing space =
+decides_next story lane taken now command (Err NoMemory) legal idle quiet free moment e count decides nothing space = tt
+decides_next story lane taken now command (Err (Is refusal)) legal idle quiet free moment e count decides nothing space =
     let s : State = state_of story in
     let within = in_phase s.phase lane (done_of s.done lane) command e in
     let made : decided s (next_tag s lane) ≡ Some (decision (scene s) command) = ap (option_map (decision (scene s))) (next_is s lane command free e) in
@@ -105,13 +104,13 @@ decides_next story lane taken now command (Err (Is refusal)) legal carried idle 
     }
 
 -- what is decided of a lane's next command
-pub decided_so : (story : List StoryStep) (lane : ℕ) (on : Occasion) (command : Command) (view : List ℕ) (rows : Base) (result : Result (Option Plain) (Or Refusal)) → Legal story → is_carried_out command ≡ true → builds command ≡ false → is_query command ≡ false → build_of (state_of story).active lane ≡ None
+pub decided_so : (story : List StoryStep) (lane : ℕ) (on : Occasion) (command : Command) (view : List ℕ) (rows : Base) (result : Result (Option Plain) (Or Refusal)) → Legal story → builds command ≡ false → is_query command ≡ false → build_of (state_of story).active lane ≡ None
     → command_of (state_of story) lane ≡ Some command → on.tag ≡ next_tag (state_of story) lane → on.moment ≡ (state_of story).moment → rows ≡ (state_of story).base → on.busy ≡ building (state_of story).active view → on.taken ≡ size (state_of story).base + reserved (state_of story).active
     → ((scene : Scene) → Sees scene rows on.moment view on.busy on.taken → DecidesIfAny on.tag on.moment result (decision scene command)) → IfNone result (may_find_nothing command ≡ true) → IfRow result (λ row. on.taken < row_limit) → DecidesNext (state_of story) (next_tag (state_of story) lane) result
-decided_so story lane on command view rows result legal carried idle quiet free e tagged moment rows_are is count decides nothing space =
+decided_so story lane on command view rows result legal idle quiet free e tagged moment rows_are is count decides nothing space =
     let s = state_of story in
     let sees : Sees (scene s) rows on.moment view on.busy on.taken = record { base = sym rows_are; moment = sym moment; busy = sym is; taken = sym count } in
-    decides_next story lane on.taken on.moment command result legal carried idle quiet free (sym moment) e count (subst (λ t. DecidesIfAny t on.moment result (decision (scene s) command)) tagged (decides (scene s) sees)) nothing space
+    decides_next story lane on.taken on.moment command result legal idle quiet free (sym moment) e count (subst (λ t. DecidesIfAny t on.moment result (decision (scene s) command)) tagged (decides (scene s) sees)) nothing space
 
 -- a query is replied with its text
 replied_so : (command : Command) (text : List ℕ) → is_query command ≡ true → reply_to_answer (Some command) text ≡ replies.Answer text

@@ -2,7 +2,6 @@
 use Rattle.std.proofs.Common.{◌≡◌, ℕ, Bool, not, ◌||◌, true, false, Option, Some, None, Result, Ok, List, [], ◌∷◌, refl, subst}
 use Rattle.cc_names.specs.Commands.{builds}
 use Rattle.cc_names.specs.References.{held_at}
-use Rattle.carried_out.specs.CarriedOut.{is_carried_out}
 use Rattle.legal_history.specs.Queries.QueryLines.{is_query}
 use Rattle.cc_names.specs.declared.commands.Command.{Command}
 use Rattle.cc_names.specs.declared.commands.Command.TheVariants as commands
@@ -172,38 +171,38 @@ for_selected_finishes tests path seen more so = past_is Finishes tests (for_sele
 for_element_finishes : (tests : List (Option Refusal)) (path : List ℕ) (seen : Seen) (more : ℕ → Result Decision Refusal) → ((e : ℕ) → IfDecided Finishes (more e)) → IfDecided Finishes (past tests (for_element path seen more))
 for_element_finishes tests path seen more so = past_is Finishes tests (for_element path seen more) (λ pass. element_is Finishes path seen more so)
 
--- the row of a command that is carried out, and neither builds nor asks, finishes the command
-pub command_finishes : (s : Scene) (command : Command) (deed : Deed) → is_carried_out command ≡ true → (builds command || is_query command) ≡ false → decision s command ≡ Ok (Makes deed) → FinishesCommand deed
-command_finishes s (commands.Mkview v) deed carried idle e = subst FinishesCommand (same_deed _ (deeds.Mkview v) deed e) (finishes_mkview v)
-command_finishes s (commands.Rmview v force) deed carried idle e = subst FinishesCommand (same_deed _ (deeds.Rmview v) deed e) (finishes_rmview v)
-command_finishes s (commands.Setcs v text) deed carried idle e = subst FinishesCommand (same_deed _ (deeds.Setcs v text) deed e) (finishes_setcs v text)
-command_finishes s (commands.Mkelem v nco path) deed carried idle e = change_is Finishes s v path (mkelem_in s v nco File path) (λ d changes. mkelem_finishes s v nco File path d) (Makes deed) e
-command_finishes s (commands.Mkdir v nco path) deed carried idle e = change_is Finishes s v path (mkelem_in s v nco Directory path) (λ d changes. mkelem_finishes s v nco Directory path d) (Makes deed) e
-command_finishes s (commands.Checkout v unreserved path) deed carried idle e =
+-- the row of a command that neither builds nor asks finishes the command
+pub command_finishes : (s : Scene) (command : Command) (deed : Deed) → (builds command || is_query command) ≡ false → decision s command ≡ Ok (Makes deed) → FinishesCommand deed
+command_finishes s (commands.Mkview v) deed idle e = subst FinishesCommand (same_deed _ (deeds.Mkview v) deed e) (finishes_mkview v)
+command_finishes s (commands.Rmview v force) deed idle e = subst FinishesCommand (same_deed _ (deeds.Rmview v) deed e) (finishes_rmview v)
+command_finishes s (commands.Setcs v text) deed idle e = subst FinishesCommand (same_deed _ (deeds.Setcs v text) deed e) (finishes_setcs v text)
+command_finishes s (commands.Mkelem v nco path) deed idle e = change_is Finishes s v path (mkelem_in s v nco File path) (λ d changes. mkelem_finishes s v nco File path d) (Makes deed) e
+command_finishes s (commands.Mkdir v nco path) deed idle e = change_is Finishes s v path (mkelem_in s v nco Directory path) (λ d changes. mkelem_finishes s v nco Directory path d) (Makes deed) e
+command_finishes s (commands.Checkout v unreserved path) deed idle e =
     for_selected_finishes (needs_view s.base v ∷ needs_idle s v ∷ []) path (at s.base v path) (checkout_of s v unreserved) (checkout_finishes s v unreserved) (Makes deed) e
-command_finishes s (commands.Mkbranch v nco name path) deed carried idle e =
+command_finishes s (commands.Mkbranch v nco name path) deed idle e =
     for_selected_finishes (needs_view s.base v ∷ needs_idle s v ∷ []) path (at s.base v path) (mkbranch_of s v nco name) (mkbranch_finishes s v nco name) (Makes deed) e
-command_finishes s (commands.Save v path text) deed carried idle e = subst FinishesCommand (same_deed _ (save_deed v path text (at s.base v path)) deed e) (finishes_save v path text (at s.base v path))
-command_finishes s (commands.Rm v path) deed carried idle e = subst FinishesCommand (same_deed _ (deeds.Rm v path) deed e) (finishes_rm v path)
-command_finishes s (commands.Checkin v identical path) deed carried idle e =
+command_finishes s (commands.Save v path text) deed idle e = subst FinishesCommand (same_deed _ (save_deed v path text (at s.base v path)) deed e) (finishes_save v path text (at s.base v path))
+command_finishes s (commands.Rm v path) deed idle e = subst FinishesCommand (same_deed _ (deeds.Rm v path) deed e) (finishes_rm v path)
+command_finishes s (commands.Checkin v identical path) deed idle e =
     for_element_finishes (needs_view s.base v ∷ needs_idle s v ∷ []) path (at s.base v path) (checkin_of s v identical path) (checkin_finishes s v identical path) (Makes deed) e
-command_finishes s (commands.Uncheckout v path) deed carried idle e =
+command_finishes s (commands.Uncheckout v path) deed idle e =
     for_element_finishes (needs_view s.base v ∷ needs_idle s v ∷ []) path (at s.base v path) (uncheckout_of s v path) (uncheckout_finishes s v path) (Makes deed) e
-command_finishes s (commands.Rmname v path) deed carried idle e = change_is Finishes s v path (rmname_in s v path) (λ d changes. rmname_finishes s v path d) (Makes deed) e
-command_finishes s (commands.Mv v path name) deed carried idle e = change_is Finishes s v path (mv_in s v path name) (λ d changes. mv_finishes s v path name d) (Makes deed) e
-command_finishes s (commands.Mklbtype name) deed carried idle e = subst FinishesCommand (same_deed _ (deeds.Mktype type_kinds.Label name) deed e) (finishes_mktype type_kinds.Label name)
-command_finishes s (commands.Mkbrtype name) deed carried idle e = subst FinishesCommand (same_deed _ (deeds.Mktype type_kinds.Branch name) deed e) (finishes_mktype type_kinds.Branch name)
-command_finishes s (commands.Mklabel v replace label path) deed carried idle e =
+command_finishes s (commands.Rmname v path) deed idle e = change_is Finishes s v path (rmname_in s v path) (λ d changes. rmname_finishes s v path d) (Makes deed) e
+command_finishes s (commands.Mv v path name) deed idle e = change_is Finishes s v path (mv_in s v path name) (λ d changes. mv_finishes s v path name d) (Makes deed) e
+command_finishes s (commands.Mklbtype name) deed idle e = subst FinishesCommand (same_deed _ (deeds.Mktype type_kinds.Label name) deed e) (finishes_mktype type_kinds.Label name)
+command_finishes s (commands.Mkbrtype name) deed idle e = subst FinishesCommand (same_deed _ (deeds.Mktype type_kinds.Branch name) deed e) (finishes_mktype type_kinds.Branch name)
+command_finishes s (commands.Mklabel v replace label path) deed idle e =
     for_selected_finishes (needs_view s.base v ∷ []) path (at s.base v path) (mklabel_of s v replace label) (mklabel_finishes s v replace label) (Makes deed) e
-command_finishes s (commands.Rmlabel v label path) deed carried idle e =
+command_finishes s (commands.Rmlabel v label path) deed idle e =
     for_element_finishes (needs_view s.base v ∷ []) path (at s.base v path) (rmlabel_of s label path) (rmlabel_finishes s label path) (Makes deed) e
-command_finishes s (commands.Mkarrow v path name) deed carried idle e =
+command_finishes s (commands.Mkarrow v path name) deed idle e =
     for_selected_finishes (needs_view s.base v ∷ []) path (at s.base v path) (mkarrow_of s v path name) (mkarrow_finishes s v path name) (Makes deed) e
-command_finishes s (commands.Rmdo v path) deed carried idle e = subst FinishesCommand (same_deed _ (deeds.Drop v path) deed e) (finishes_drop v path)
-command_finishes s (commands.Scrub age) deed carried idle e = scrub_finishes s (due s.base s.moment age) deed e
-command_finishes s (commands.MklabelConfig v replace path label) deed carried idle e =
+command_finishes s (commands.Rmdo v path) deed idle e = subst FinishesCommand (same_deed _ (deeds.Drop v path) deed e) (finishes_drop v path)
+command_finishes s (commands.Scrub age) deed idle e = scrub_finishes s (due s.base s.moment age) deed e
+command_finishes s (commands.MklabelConfig v replace path label) deed idle e =
     past_is Finishes (needs_view s.base v ∷ []) (for_object path (held_at (held s.base) v path) (mklabel_config_of s replace label))
     (λ pass. object_is Finishes path (held_at (held s.base) v path) (mklabel_config_of s replace label)
     (λ id is. labels_finish s (mklabel_config_tests s replace label id) label (placed_by s.base id))) (Makes deed) e
-command_finishes s (commands.Clearmake v file own_only rebuild jobs macros goals) deed carried idle e = absurd (cc)
-command_finishes s command deed carried idle e = absurd (cc)
+command_finishes s (commands.Clearmake v file own_only rebuild jobs macros goals) deed idle e = absurd (cc)
+command_finishes s command deed idle e = absurd (cc)

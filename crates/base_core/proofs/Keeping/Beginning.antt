@@ -8,7 +8,6 @@ use Rattle.cc_names.specs.declared.commands.Phase.{Phase}
 use Rattle.cc_names.specs.declared.steps.StoryStep.{StoryStep}
 use Rattle.cc_names.specs.declared.steps.StoryStep.TheVariants as story_steps
 use Rattle.session_text.specs.Formed.{IsPhase}
-use Rattle.carried_out.specs.CarriedOut.{AreCarriedOut}
 use Rattle.build_core.specs.Slots.{numbered}
 use Rattle.legal_history.specs.Builds.Active.{build_of, reserved}
 use Rattle.legal_history.specs.Stories.Lawful.{last_moment}
@@ -60,9 +59,9 @@ fresh_builds k [] = refl
 fresh_builds k (lane ∷ lanes) = fresh_builds (k + 1) lanes
 
 -- what is kept after the begin of a phase
-pub kept_plan : (log : Logged) (lanes : List LaneKept) (now moment : ℕ) (phase : Phase) → IsCoreKept log lanes now → all_done (state_of log.story) ≡ true → IsPhase command_limit phase → AreCarriedOut phase → length log.phases + 1 < 2 ^ 32 → moment ≤ last_moment
+pub kept_plan : (log : Logged) (lanes : List LaneKept) (now moment : ℕ) (phase : Phase) → IsCoreKept log lanes now → all_done (state_of log.story) ≡ true → IsPhase command_limit phase → length log.phases + 1 < 2 ^ 32 → moment ≤ last_moment
     → IsCoreKept (with_phase log phase moment) (fresh_lanes phase.lanes) moment
-kept_plan log lanes now moment phase h finished formed carried few in_time = record {
+kept_plan log lanes now moment phase h finished formed few in_time = record {
   story = record {
     legal = told_phase.legal;
     opened = told_phase.opened;
@@ -74,7 +73,6 @@ kept_plan log lanes now moment phase h finished formed carried few in_time = rec
     number = omega (arith, h.phase.number, length-append log.phases (phase ∷ []));
     moment = refl;
     formed = subst (IsPhase command_limit) (sym last) formed;
-    carried_out = subst AreCarriedOut (sym last) carried;
     few = omega (arith, few, length-append log.phases (phase ∷ []));
     in_time = in_time;
   });

@@ -31,7 +31,7 @@ kept_base old base handed sight h = record {
     base = oldest_back base;
     formed = (subst AreFormed (sym (oldest_back base)) h.formed, tt);
   };
-  phase = record { phase = refl; number = refl; moment = refl; formed = (omega arith, tt); carried_out = tt; few = omega arith; in_time = omega arith };
+  phase = record { phase = refl; number = refl; moment = refl; formed = (omega arith, tt); few = omega arith; in_time = omega arith };
   replies = record { count = refl; replies = λ lane low high. absurd (omega (arith, low, high)); done = λ lane. refl; room = λ lane one is. absurd (no_lane_at lane one is); left = λ lane one is. absurd (no_lane_at lane one is) };
   builds = record { count = refl; active = refl; kept = λ lane build is. absurd (cc); reserves = omega arith };
 }

@@ -70,7 +70,6 @@ phase_stays s t phases now h same = record {
   number = same.number ∙ h.number;
   moment = same.moment ∙ h.moment;
   formed = h.formed;
-  carried_out = h.carried_out;
   few = h.few;
   in_time = h.in_time;
 }

@@ -4,7 +4,6 @@ use Rattle.std.specs.Prelude.{option_and_then, is_some, IsSome, nat_lt, slice_ge
 use Rattle.std.specs.Option.{option_copied}
 use Rattle.std.proofs.lemmas.Bool.Decides.{nat_tests}
 use Rattle.std.proofs.lemmas.Option.{slice_get_cases, slice_get_past, slice_get_read, slice_get_within, slice_get-get_or}
-use Rattle.carried_out.specs.CarriedOut.{AreCarriedOut, is_carried_out}
 use Rattle.cc_names.specs.declared.commands.Command.{Command}
 use Rattle.cc_names.specs.declared.commands.Command.TheVariants as commands
 use Rattle.cc_names.specs.declared.commands.Lane.{Lane}
@@ -23,7 +22,7 @@ use Rattle.base_core.specs.Keeping.Kept.{command_limit, IsCoreKept}
 use Rattle.base_core.specs.Keeping.Lanes.{LaneKept, no_lane, next_of_kept, next_in}
 use Rattle.clearmake.specs.Nexts.{next_by, next_of}
 use Rattle.story_log.specs.Logging.Logs.{Logged}
-use Rattle.base_core.proofs.Acting.Commanded.{next_is_formed, next_is_carried_out}
+use Rattle.base_core.proofs.Acting.Commanded.{next_is_formed}
 use Rattle.base_core.proofs.Keeping.Idle.{not_both}
 
 -- what a look-up in a slice gives
@@ -93,11 +92,7 @@ some_builds (Some command) e = refl
 pub waits_to_build : (log : Logged) (lanes : List LaneKept) (now lane : ℕ) (story : List StoryStep) → log.story ≡ story → IsCoreKept log lanes now → ahead_of (next_in lanes lane) ≡ aheads.Build → IsSome (command_of (state_of story) lane)
 waits_to_build log lanes now lane story same h is = subst IsSome (sym (waits_kept log lanes now lane story same h)) (some_builds (next_in lanes lane) is)
 
--- the command that is kept as the next one has its form, and is carried out
+-- the command that is kept as the next one has its form
 pub kept_is_formed : (log : Logged) (lanes : List LaneKept) (now lane : ℕ) (command : Command) → IsCoreKept log lanes now → Some command ≡ next_in lanes lane → IsCommand command_limit command
 kept_is_formed log lanes now lane command h e =
     next_is_formed (state_of log.story).phase lane (done_of (state_of log.story).done lane) command (subst (IsPhase command_limit) (sym h.phase.phase) h.phase.formed) (sym (e ∙ next_kept log lanes now lane h))
-
-pub kept_is_carried_out : (log : Logged) (lanes : List LaneKept) (now lane : ℕ) (command : Command) → IsCoreKept log lanes now → Some command ≡ next_in lanes lane → is_carried_out command ≡ true
-kept_is_carried_out log lanes now lane command h e =
-    next_is_carried_out (state_of log.story).phase lane (done_of (state_of log.story).done lane) command (subst AreCarriedOut (sym h.phase.phase) h.phase.carried_out) (sym (e ∙ next_kept log lanes now lane h))

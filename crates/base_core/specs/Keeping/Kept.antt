@@ -1,7 +1,6 @@
 -- What a core keeps: its story is legal, and its rows, its phases and what it keeps for its lanes are those of the story.
 use Rattle.std.specs.Prelude.{◌≡◌, ℕ, ◌<◌, ◌≤◌, ◌^◌, true, Option, Some, is_some, List, [], ◌∷◌, drop, length}
 use Rattle.cc_names.specs.Commands.{lane_at}
-use Rattle.carried_out.specs.CarriedOut.{AreCarriedOut}
 use Rattle.cc_names.specs.declared.commands.Lane.{Lane}
 use Rattle.cc_names.specs.declared.commands.Phase.{Phase}
 use Rattle.cc_names.specs.declared.steps.StoryStep.{StoryStep}
@@ -36,13 +35,12 @@ pub record IsStoryKept (log : Logged) : Type 0 where
   pub base : (state_of log.story).base ≡ log.base
   pub formed : TellsOnly IsFormed log.story
 
--- what is kept of the phases, of which the last one began at this moment: it has its form, and its commands are carried out
+-- what is kept of the phases, of which the last one began at this moment: it has its form
 pub record IsPhaseKept (s : State) (phases : List Phase) (now : ℕ) : Type 0 where
   pub phase : s.phase ≡ last_phase phases
   pub number : s.number ≡ length phases
   pub moment : s.moment ≡ now
   pub formed : IsPhase command_limit (last_phase phases)
-  pub carried_out : AreCarriedOut (last_phase phases)
   pub few : length phases < 2 ^ 32
   pub in_time : now ≤ last_moment
 

@@ -13,7 +13,6 @@ use view_lookup::FirstRows;
 
 impl<D: Disk> Core<D> {
     ghost use Rattle.std.specs.Prelude.{◌≡◌, ◌<◌, ◌≤◌, ◌+◌, ◌^◌, true, Some, IfOk, IsSome, option_copied};
-    ghost use Rattle.carried_out.specs.CarriedOut.{is_carried_out};
     ghost use Rattle.session_text.specs.Formed.{IsCommand};
     ghost use Rattle.legal_history.specs.Base.Rows.{size};
     ghost use Rattle.legal_history.specs.Builds.Active.{Build, build_of, building, reserved};
@@ -77,7 +76,6 @@ impl<D: Disk> Core<D> {
         ensures next { IfOk result
             (λ command. command_of (state_of self.now.story) lane ≡ Some command) }
         ensures formed { IfOk result (λ command. IsCommand command_limit command) }
-        ensures carried_out { IfOk result (λ command. is_carried_out command ≡ true) }
     {
         let command = self.lanes.next(alloc, lane)?;
         Ok(command.unwrap())

@@ -11,7 +11,6 @@ use Rattle.cc_names.specs.declared.commands.Macro.{Macro}
 use Rattle.cc_names.specs.declared.commands.Lane.{Lane}
 use Rattle.cc_names.specs.declared.commands.Phase.{Phase}
 use Rattle.cc_names.specs.declared.commands.Session.{Session}
-use Rattle.carried_out.specs.CarriedOut.{AreCarriedOut, IsSessionCarriedOut}
 use Rattle.session_text.specs.Formed.{IsCommand, IsMacro, IsLane, IsPhase, IsFormedSession}
 use Rattle.session_text.specs.Sessions.{session_of}
 use Rattle.session_run.specs.Calls.Asked.{is_run, text_limit, phases_spelled, is_session, phases_read, is_read}
@@ -39,14 +38,14 @@ wider_lane l m le lane h = (h.0, (omega (arith, le, h.1.0), all_wider _ _ lane.c
 wider_phase : (l m : ℕ) → l ≤ m → (phase : Phase) → IsPhase l phase → IsPhase m phase
 wider_phase l m le phase h = (h.0, all_wider _ _ phase.lanes (wider_lane l m le) h.1)
 
-both_ready : (limit : ℕ) (phases : List Phase) → limit ≤ text_limit → AllByRecursion (IsPhase limit) phases → AllByRecursion AreCarriedOut phases → AllByRecursion IsReadyPhase phases
-both_ready limit [] le f c = tt
-both_ready limit (phase ∷ phases) le f c = (record { formed = wider_phase limit text_limit le phase f.0; carried_out = c.0 }, both_ready limit phases le f.1 c.1)
+both_ready : (limit : ℕ) (phases : List Phase) → limit ≤ text_limit → AllByRecursion (IsPhase limit) phases → AllByRecursion IsReadyPhase phases
+both_ready limit [] le f = tt
+both_ready limit (phase ∷ phases) le f = (wider_phase limit text_limit le phase f.0, both_ready limit phases le f.1)
 
 -- the phases of a session that was read can be run
-are_runnable : (text : List ℕ) (session : Session) → length text ≤ text_limit → IsFormedSession (length text) session → IsSessionCarriedOut session → IsRunnable session.phases
-are_runnable text session le formed carried =
-    record { few = omega (arith, le, formed.0); ready = both_ready (length text) session.phases le formed.1 carried }
+are_runnable : (text : List ℕ) (session : Session) → length text ≤ text_limit → IsFormedSession (length text) session → IsRunnable session.phases
+are_runnable text session le formed =
+    record { few = omega (arith, le, formed.0); ready = both_ready (length text) session.phases le formed.1 }
 
 -- what a source that tells its bytes had left is what was read to the end
 told_text : (old new : Option (List ℕ)) (text : List ℕ) → Consumes old new text → IsAtEnd new → IfSome old (λ bytes. bytes ≡ text)
@@ -58,12 +57,12 @@ of_text : (old : Option (List ℕ)) (text : List ℕ) (P : List ℕ → Type 0) 
 of_text None text P p is = tt
 of_text (Some bytes) text P p is = subst P (sym is) p
 
-pub gives_phases : (words : List (List ℕ)) (old new : Option (List ℕ)) (before after faults risen : ℕ) (text : List ℕ) (session : Session) → is_run words ≡ true → Consumes old new text → IsAtEnd new → length text ≤ text_limit → after ≡ raised before (length text) → session_of text ≡ Ok session → IsFormedSession (length text) session → IsSessionCarriedOut session → GivesPhases (record { words = words; text = record { before = old; after = new }; given = record { before = before; after = after }; faults = record { before = faults; after = risen } }) session.phases
-gives_phases words old new before after faults risen text session run taken end le given e formed carried =
+pub gives_phases : (words : List (List ℕ)) (old new : Option (List ℕ)) (before after faults risen : ℕ) (text : List ℕ) (session : Session) → is_run words ≡ true → Consumes old new text → IsAtEnd new → length text ≤ text_limit → after ≡ raised before (length text) → session_of text ≡ Ok session → IsFormedSession (length text) session → GivesPhases (record { words = words; text = record { before = old; after = new }; given = record { before = before; after = after }; faults = record { before = faults; after = risen } }) session.phases
+gives_phases words old new before after faults risen text session run taken end le given e formed =
     let is = told_text old new text taken end in
     record {
       read = record { words = run; at_end = end; count = length text; within = le; given = given; bytes = of_text old text (λ bytes. length bytes ≡ length text) refl is };
       spelled = of_text old text (λ bytes. phases_spelled bytes ≡ session.phases) (ap phases_read e) is;
       session = of_text old text (λ bytes. is_session bytes ≡ true) (ap is_read e) is;
-      runnable = are_runnable text session le formed carried;
+      runnable = are_runnable text session le formed;
     }

@@ -16,7 +16,6 @@ use Rattle.cc_names.specs.declared.steps.StoryStep.TheVariants as story_steps
 use Rattle.base_core.proofs.Acting.PlainRows.{command_finishes}
 use Rattle.base_core.proofs.Keeping.Idle.{decided_is_free}
 use Rattle.base_core.specs.Calls.Acting.{Acts, IsStepOf}
-use Rattle.carried_out.specs.CarriedOut.{is_carried_out, AreCarriedOut}
 use Rattle.legal_history.specs.Queries.QueryLines.{is_query}
 use Rattle.legal_history.specs.Stories.Commanded.{command_of}
 use Rattle.clearmake.specs.Going.{SamePhase, Finishes}
@@ -29,7 +28,7 @@ use Rattle.legal_history.proofs.Decisions.Queried.{query_is}
 use Rattle.legal_history.specs.Stories.States.{State, start, scene, done_of, with_done, is_next, next_tag, decided, build_if, build_by}
 use Rattle.legal_history.specs.Stories.Steps.{after, done_after, done_by_fault, state_of}
 use Rattle.session_run.specs.Running.Lanes.{Goes}
-use Rattle.session_run.proofs.Running.Within.{done_same, done_other, waiting_carried}
+use Rattle.session_run.proofs.Running.Within.{done_same, done_other}
 use Rattle.session_run.proofs.Story.MoreSteps.{state_more}
 
 -- what is decided finishes the command: its row, where it makes one, is none of a build
@@ -48,35 +47,35 @@ unfolding EndsCommand
 query_ends sc command h =
     ends_if (decision sc command) (query_is (λ decision. EndsCommand (Some (Ok decision))) sc command h (λ text. tt))
 
--- a command that waits to be carried out builds nothing
+-- a command that is acted on builds nothing
 acts_alone : (command : Command) (tag : Tag) → next_by (Some command) tag ≡ nexts.Act → builds command ≡ false
 acts_alone (commands.Clearmake v file own_only rebuild jobs macros goals) tag acts = absurd (cc)
 acts_alone command tag acts = refl
 
-decision_ends : (sc : Scene) (command : Command) (tag : Tag) → is_carried_out command ≡ true → is_query command ≡ false → next_by (Some command) tag ≡ nexts.Act → EndsCommand (Some (decision sc command))
+decision_ends : (sc : Scene) (command : Command) (tag : Tag) → is_query command ≡ false → next_by (Some command) tag ≡ nexts.Act → EndsCommand (Some (decision sc command))
 unfolding EndsCommand
-decision_ends sc command tag carried quiet acts = ends_if (decision sc command) by
+decision_ends sc command tag quiet acts = ends_if (decision sc command) by
   where
     by : (made : Decision) → decision sc command ≡ Ok made → EndsCommand (Some (Ok made))
-    by (Makes deed) is = (command_finishes sc command deed carried (ap₂ ◌||◌ (acts_alone command tag acts) quiet) is).done
+    by (Makes deed) is = (command_finishes sc command deed (ap₂ ◌||◌ (acts_alone command tag acts) quiet) is).done
     by (Answers text) is = tt
     by (Begins units) is = tt
 
-command_ends : (sc : Scene) (command : Command) (tag : Tag) → is_carried_out command ≡ true → next_by (Some command) tag ≡ nexts.Act → EndsCommand (Some (decision sc command))
-command_ends sc command tag h acts = by (is_query command) refl
+command_ends : (sc : Scene) (command : Command) (tag : Tag) → next_by (Some command) tag ≡ nexts.Act → EndsCommand (Some (decision sc command))
+command_ends sc command tag acts = by (is_query command) refl
   where
     by : (query : Bool) → is_query command ≡ query → EndsCommand (Some (decision sc command))
     by true is = query_ends sc command is
-    by false is = decision_ends sc command tag h is acts
+    by false is = decision_ends sc command tag is acts
 
-found_ends : (sc : Scene) (is : Bool) (found : Option Command) (tag : Tag) → IfSome found (λ command. is_carried_out command ≡ true) → next_by found tag ≡ nexts.Act → EndsCommand (option_map (decision sc) (only_where is found))
+found_ends : (sc : Scene) (is : Bool) (found : Option Command) (tag : Tag) → next_by found tag ≡ nexts.Act → EndsCommand (option_map (decision sc) (only_where is found))
 unfolding EndsCommand
-found_ends sc false found tag h acts = tt
-found_ends sc true None tag h acts = tt
-found_ends sc true (Some command) tag h acts = command_ends sc command tag h acts
+found_ends sc false found tag acts = tt
+found_ends sc true None tag acts = tt
+found_ends sc true (Some command) tag acts = command_ends sc command tag acts
 
-decided_ends : (s : State) (lane : ℕ) → AreCarriedOut s.phase → next_of s lane ≡ nexts.Act → EndsCommand (decided s (next_tag s lane))
-decided_ends s lane h acts = found_ends (scene s) (is_next s (next_tag s lane)) (command_of s lane) (next_tag s lane) (waiting_carried s lane h) acts
+decided_ends : (s : State) (lane : ℕ) → next_of s lane ≡ nexts.Act → EndsCommand (decided s (next_tag s lane))
+decided_ends s lane acts = found_ends (scene s) (is_next s (next_tag s lane)) (command_of s lane) (next_tag s lane) acts
 
 -- a step that finishes a command of a lane
 record IsLaneStep (s : State) (x : StoryStep) (lane : ℕ) : Type 0 where
@@ -109,11 +108,11 @@ lane_step s lane Faulted (story_steps.Other (steps.Fault finished left before fa
 lane_step s lane done x ends is = absurd is
 
 -- a lane that acts finishes its command
-pub act_finishes : (old new : List StoryStep) (lane : ℕ) (done : Done) → AreCarriedOut (state_of old).phase → next_of (state_of old) lane ≡ nexts.Act → Acts old new lane done → Finishes old new lane
-act_finishes old new lane done carried acts by_act =
+pub act_finishes : (old new : List StoryStep) (lane : ℕ) (done : Done) → next_of (state_of old) lane ≡ nexts.Act → Acts old new lane done → Finishes old new lane
+act_finishes old new lane done acts by_act =
     let s = state_of old in
     let x = by_act.step in
-    let step = lane_step s lane done x (decided_ends s lane carried acts) by_act.is in
+    let step = lane_step s lane done x (decided_ends s lane acts) by_act.is in
     let state : state_of new ≡ after s x = ap state_of by_act.grows ∙ state_more start old (x ∷ []) in
     record {
       steps = x ∷ [];

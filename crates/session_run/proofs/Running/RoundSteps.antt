@@ -2,7 +2,6 @@
 use Rattle.std.proofs.Common.{◌≡◌, ◌≢◌, ℕ, zero, suc, ◌+◌, ◌-◌, ◌<◌, ◌≤◌, ◌||◌, ◌⊎◌, inl, inr, Bool, true, false, Ok, List, length, get_or, replicate, refl, ap, sym, subst, ◌∙◌, arith}
 use Rattle.std.proofs.lemmas.List.{length-replicate}
 use Rattle.cc_names.specs.declared.steps.StoryStep.{StoryStep}
-use Rattle.carried_out.specs.CarriedOut.{AreCarriedOut}
 use Rattle.legal_history.specs.Stories.Lanes.{IsFinished, IsWithin}
 use Rattle.legal_history.specs.Stories.States.{all_done}
 use Rattle.legal_history.specs.Stories.Steps.{state_of}
@@ -18,12 +17,11 @@ at_start zero i = refl
 at_start (suc lanes) zero = refl
 at_start (suc lanes) (suc i) = at_start lanes i
 
-pub stand_first : (story : List StoryStep) (turns : List LaneProgress) (lanes : ℕ) → turns ≡ replicate lanes lane_progress.Command → lanes ≡ length (state_of story).phase.lanes → length (state_of story).phase.lanes ≤ 64 → is_opened story ≡ true → AreCarriedOut (state_of story).phase → ((lane : ℕ) → IsWithin (state_of story) lane) → StandAt story turns
-stand_first story turns lanes is counted few opened carried within =
+pub stand_first : (story : List StoryStep) (turns : List LaneProgress) (lanes : ℕ) → turns ≡ replicate lanes lane_progress.Command → lanes ≡ length (state_of story).phase.lanes → length (state_of story).phase.lanes ≤ 64 → is_opened story ≡ true → ((lane : ℕ) → IsWithin (state_of story) lane) → StandAt story turns
+stand_first story turns lanes is counted few opened within =
     let count : length turns ≡ length (state_of story).phase.lanes = ap length is ∙ length-replicate lanes lane_progress.Command ∙ counted in
     record {
       opened = opened;
-      carried_out = carried;
       count = count;
       few = omega (arith, count, few);
       within = within;

@@ -1,7 +1,6 @@
 -- What the calls of a core in a phase keep of how it stood as the phase had begun.
 use Rattle.std.proofs.Common.{◌≡◌, ℕ, true, refl, ap, sym, subst, ◌∙◌}
 use Rattle.std.specs.Prelude.{Result, Ok, Err, IfOk, OnOk, OnErr}
-use Rattle.carried_out.specs.CarriedOut.{AreCarriedOut}
 use Rattle.cc_names.specs.declared.desks.Begun.{Begun}
 use Rattle.cc_names.specs.declared.desks.Begun.TheVariants as begins
 use Rattle.cc_names.specs.declared.desks.Done.{Done}
@@ -25,8 +24,8 @@ use Rattle.session_run.proofs.Running.LaneSteps.{act_finishes, goes_further, goe
 use Rattle.session_run.proofs.Story.MoreSteps.{goes_on, opened_more}
 
 -- a phase that begins now
-pub since_itself : (now : Shown) → is_opened now.story ≡ true → AreCarriedOut (state_of now.story).phase → IsSince now now
-since_itself now opened carried_out = record { goes = goes_nowhere now.story; counted = keeps_count now; opened = opened; carried_out = carried_out }
+pub since_itself : (now : Shown) → is_opened now.story ≡ true → IsSince now now
+since_itself now opened = record { goes = goes_nowhere now.story; counted = keeps_count now; opened = opened }
 
 -- steps within the phase
 since_on : (at old new : Shown) → IsSince at old → KeepsCount old new → SamePhase (state_of old.story) (state_of new.story) → IsSince at new
@@ -34,7 +33,6 @@ since_on at old new h counted same = record {
   goes = goes_further at.story old.story new.story h.goes (goes_on old.story new.story counted.steps counted.grows same h.opened);
   counted = keeps_further at old new h.counted counted;
   opened = ap is_opened counted.grows ∙ opened_more old.story counted.steps h.opened ∙ h.opened;
-  carried_out = subst AreCarriedOut (sym same.phase) h.carried_out;
 }
 
 -- what a call that answers so leaves, where its answer keeps the phase
@@ -77,7 +75,7 @@ module _ (at old new : Shown) (h : IsSince at old) (counted : KeepsCount old new
   since_carries (Err error) lane unit ok err = since_same err
 
   since_acted : (lane : ℕ) (done : Done) → next_of (state_of old.story) lane ≡ nexts.Act → Acts old.story new.story lane done → IsSince at new
-  since_acted lane done next acts = since_on at old new h counted (act_finishes old.story new.story lane done h.carried_out next acts).phase
+  since_acted lane done next acts = since_on at old new h counted (act_finishes old.story new.story lane done next acts).phase
 
   pub since_acts : (result : Result Done NoMemory) (lane : ℕ) → next_of (state_of old.story) lane ≡ nexts.Act → IfOk result (λ done. Acts old.story new.story lane done) → OnErr result (new ≡ old) → IsSince at new
   since_acts (Ok done) lane next ok err = since_acted lane done next ok

@@ -3,7 +3,6 @@ use Rattle.std.proofs.Common.{◌≡◌, ◌≢◌, ℕ, ◌-◌, ◌≤◌, ◌
 use Rattle.std.specs.Prelude.{slice_get}
 use Rattle.std.proofs.lemmas.List.{get_or-set_other, get_or-set_same, length-set, set-get_or}
 use Rattle.cc_names.specs.declared.steps.StoryStep.{StoryStep}
-use Rattle.carried_out.specs.CarriedOut.{AreCarriedOut}
 use Rattle.build_script.specs.Ended.{ran_of}
 use Rattle.script_grammar.specs.Run.{Ran}
 use Rattle.script_grammar.specs.declared.lines.Line.{Line}
@@ -119,7 +118,6 @@ stand_on later within sees old new turns lane turn next h from upto legal moves 
     let by_steps = steps_in old new lane turn next moves in
     record {
       opened = (goes_on old new by_steps.steps by_steps.grows by_steps.phase h.opened).opened ∙ h.opened;
-      carried_out = subst AreCarriedOut (sym by_steps.phase.phase) h.carried_out;
       count = length-set turns (lane - 1) next ∙ h.count ∙ ap (λ p. length p.lanes) (sym by_steps.phase.phase);
       few = omega (arith, length-set turns (lane - 1) next, h.few);
       within = λ k. within new k legal;
@@ -139,7 +137,6 @@ stand_dropped old new turns lane h from upto same =
     subst (λ story. StandAt story (with_turn turns lane lane_progress.Command)) (sym same)
     (record {
       opened = h.opened;
-      carried_out = h.carried_out;
       count = length-set turns (lane - 1) lane_progress.Command ∙ h.count;
       few = omega (arith, length-set turns (lane - 1) lane_progress.Command, h.few);
       within = h.within;

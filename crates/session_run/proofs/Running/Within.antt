@@ -12,7 +12,6 @@ use Rattle.cc_names.specs.Commands.{lane_at}
 use Rattle.cc_names.specs.declared.commands.Command.{Command}
 use Rattle.cc_names.specs.declared.commands.Lane.{Lane}
 use Rattle.cc_names.specs.declared.commands.Phase.{Phase}
-use Rattle.carried_out.specs.CarriedOut.{is_carried_out, IsLaneCarriedOut, AreCarriedOut}
 use Rattle.legal_history.specs.Stories.Commanded.{command_of}
 use Rattle.legal_history.specs.Stories.Lanes.{IsFinished, IsWithin, count_of}
 use Rattle.legal_history.specs.Stories.States.{State, done_of, with_done, command_behind, lanes_done, all_done}
@@ -54,28 +53,6 @@ none_behind done (Some lane) e = past lane.commands done e
 -- a lane where no command waits is finished
 pub finished_where : (s : State) (lane : ℕ) → IsWithin s lane → command_of s lane ≡ None → IsFinished s lane
 finished_where s lane within e = let h = none_behind (done_of s.done lane) (lane_at s.phase lane) e in omega arith
-
--- the command that waits in a phase whose commands are carried out is carried out
-command_carried : (commands : List Command) (n : ℕ) → AllByRecursion (λ command. is_carried_out command ≡ true) commands → IfSome (slice_get commands n) (λ command. is_carried_out command ≡ true)
-command_carried [] n h = tt
-command_carried (x ∷ xs) zero h = h.0
-command_carried (x ∷ xs) (suc n) h = command_carried xs n h.1
-
-lane_carried : (lanes : List Lane) (n : ℕ) → AllByRecursion IsLaneCarriedOut lanes → IfSome (slice_get lanes n) IsLaneCarriedOut
-lane_carried [] n h = tt
-lane_carried (x ∷ xs) zero h = h.0
-lane_carried (x ∷ xs) (suc n) h = lane_carried xs n h.1
-
-at_carried : (phase : Phase) (lane : ℕ) → AreCarriedOut phase → IfSome (lane_at phase lane) IsLaneCarriedOut
-at_carried phase zero h = tt
-at_carried phase (suc n) h = lane_carried phase.lanes n h
-
-behind_carried : (done : ℕ) (found : Option Lane) → IfSome found IsLaneCarriedOut → IfSome (option_and_then (command_behind done) found) (λ command. is_carried_out command ≡ true)
-behind_carried done None h = tt
-behind_carried done (Some lane) h = command_carried lane.commands done h
-
-pub waiting_carried : (s : State) (lane : ℕ) → AreCarriedOut s.phase → IfSome (command_of s lane) (λ command. is_carried_out command ≡ true)
-waiting_carried s lane h = behind_carried (done_of s.done lane) (lane_at s.phase lane) (at_carried s.phase lane h)
 
 -- lanes that are each finished, from number n on
 lanes_finished : (done : List (ℕ × ℕ)) (n : ℕ) (lanes : List Lane) → ((k : ℕ) → k < length lanes → done_of done (n + k) ≡ count_of (slice_get lanes k)) → lanes_done done n lanes ≡ true

@@ -14,7 +14,6 @@ use Rattle.cc_outside.specs.Feeds.{AppendsFront}
 use Rattle.cc_outside.specs.Sights.{ClockSight, SinkSight}
 use Rattle.cc_outside.specs.declared.sinks.WriteFault.{WriteFault}
 use Rattle.session_text.specs.Formed.{IsPhase}
-use Rattle.carried_out.specs.CarriedOut.{AreCarriedOut}
 use Rattle.legal_history.specs.Stories.States.{all_done}
 use Rattle.legal_history.specs.Stories.Steps.{state_of}
 use Rattle.session_run.specs.Calls.Asked.{text_limit}
@@ -31,10 +30,9 @@ pub record IsJustOpened (story : List StoryStep) : Type 0 where
   pub tells : Bool
   pub is : story ≡ story_steps.Opened rows counts tells ∷ []
 
--- a phase that can be run: it has the form of one, and each of its commands is carried out
-pub record IsReadyPhase (phase : Phase) : Type 0 where
-  pub formed : IsPhase text_limit phase
-  pub carried_out : AreCarriedOut phase
+-- a phase that can be run: it has the form of one
+abbrev pub IsReadyPhase : Phase → Type 0
+IsReadyPhase phase = IsPhase text_limit phase
 
 -- a session whose phases can be run
 pub record IsRunnable (phases : List Phase) : Type 0 where

@@ -1,6 +1,5 @@
 -- What threads leave of a core in a phase, whatever they did and in whatever order.
 use Rattle.std.specs.Prelude.{◌≡◌, true}
-use Rattle.carried_out.specs.CarriedOut.{AreCarriedOut}
 use Rattle.base_core.specs.Story.Counted.{KeepsCount}
 use Rattle.base_core.specs.Story.Shown.{Shown}
 use Rattle.legal_history.specs.Stories.Steps.{state_of}
@@ -12,4 +11,3 @@ pub record IsSince (old now : Shown) : Type 0 where
   pub goes : Goes old.story now.story
   pub counted : KeepsCount old now
   pub opened : is_opened now.story ≡ true
-  pub carried_out : AreCarriedOut (state_of now.story).phase

@@ -1,7 +1,6 @@
 -- Where the lanes of a phase stand in their commands, and what their turns do.
 use Rattle.std.specs.Prelude.{◌≡◌, ℕ, ◌+◌, ◌-◌, ◌*◌, ◌^◌, ◌<◌, ◌≤◌, Bool, true, false, Option, Some, None, Result, Ok, Err, List, [], ◌∷◌, length, get_or, set}
 use Rattle.cc_names.specs.Commands.{lane_at}
-use Rattle.carried_out.specs.CarriedOut.{AreCarriedOut}
 use Rattle.cc_names.specs.declared.memory.NoMemory.{NoMemory}
 use Rattle.cc_names.specs.declared.steps.StoryStep.{StoryStep}
 use Rattle.build_script.specs.Ended.{ran_of}
@@ -55,7 +54,6 @@ with_turn turns lane turn = set turns (lane - 1) turn
 -- The lanes of a phase stand at these turns: each lane at its own, whatever the other lanes did since its last one.
 pub record StandAt (story : List StoryStep) (turns : List LaneProgress) : Type 0 where
   pub opened : is_opened story ≡ true
-  pub carried_out : AreCarriedOut (state_of story).phase
   pub count : length turns ≡ length (state_of story).phase.lanes
   pub few : length turns ≤ 64
   pub within : (lane : ℕ) → IsWithin (state_of story) lane

@@ -1,19 +1,13 @@
 use Rattle.std.proofs.Common.{ap, sym, subst, arith, length, ◌∙◌}
-use Rattle.carried_out.specs.CarriedOut.{AreCarriedOut}
 use Rattle.base_core.proofs.Story.Counts.{keeps_further}
 use Rattle.session_run.proofs.Running.LanesDone.{of_true}
 use Rattle.session_run.proofs.Running.PhaseSteps.{phase_begins, phase_runs, lanes_go_since, lanes_start, runs_by, leaves_by}
 use Rattle.session_run.proofs.phases.run_commands.Goals as goal
 
-pub run_on_threads-core-requires-clause-carried_out : goal.run_on_threads-core-requires-clause-carried_out
-run_on_threads-core-requires-clause-carried_out g c κs within =
-    let begun = phase_begins c.args.core.story c.begin_phase.new.self.story c.args.phase c.args.moment c.in-Ok.ensures.ok in
-    subst AreCarriedOut (sym begun.is_last) c.requires.ready.carried_out
-
 pub run_on_threads-core-requires-clause-few : goal.run_on_threads-core-requires-clause-few
 run_on_threads-core-requires-clause-few g c κs within =
     let begun = phase_begins c.args.core.story c.begin_phase.new.self.story c.args.phase c.args.moment c.in-Ok.ensures.ok in
-    omega (arith, ap (λ p. length p.lanes) begun.is_last, c.requires.ready.formed.0)
+    omega (arith, ap (λ p. length p.lanes) begun.is_last, c.requires.ready.0)
 
 pub run_lanes-ran-requires-clause-begun : goal.run_lanes-ran-requires-clause-begun
 run_lanes-ran-requires-clause-begun g c =
@@ -23,7 +17,7 @@ run_lanes-ran-requires-clause-begun g c =
 pub run_lanes-ran-requires-clause-few : goal.run_lanes-ran-requires-clause-few
 run_lanes-ran-requires-clause-few g c =
     let begun = phase_begins c.args.core.story c.begin_phase.new.self.story c.args.phase c.args.moment c.in-Ok.ensures.ok in
-    omega (arith, ap (λ p. length p.lanes) (c.run_on_threads-core.ensures.since.goes.phase ∙ begun.is_last), c.requires.ready.formed.0)
+    omega (arith, ap (λ p. length p.lanes) (c.run_on_threads-core.ensures.since.goes.phase ∙ begun.is_last), c.requires.ready.0)
 
 pub returns-else-done-clause-ok : goal.returns-else-done-clause-ok
 returns-else-done-clause-ok g c =

@@ -12,4 +12,4 @@ returns-in-Ok-into_vec-clause-gives g c =
     (gives_phases c.args.words.now (g.S.Source.sight c.args.source.now).left (g.S.Source.sight c.read_whole.new.source).left (g.S.Source.sight c.args.source.now).given (g.S.Source.sight c.read_whole.new.source).given
     (g.S.Source.sight c.args.source.now).faults (g.S.Source.sight c.read_whole.new.source).faults c.in-Ok.text c.in-Ok-read.session run
     c.in-Ok.ensures.bytes c.in-Ok.ensures.end c.in-Ok.ensures.short c.in-Ok.ensures.counted
-    read.session read.formed read.carried_out)
+    read.session read.formed)

@@ -4,10 +4,10 @@ use Rattle.session_run.proofs.Running.SinceSteps.{since_itself}
 use Rattle.session_run.proofs.threads.run_on_threads.Goals as goal
 
 pub returns-then-lanes-eq0-clause-since : goal.returns-then-lanes-eq0-clause-since
-returns-then-lanes-eq0-clause-since g c = since_itself c.args.core c.requires.opened c.requires.carried_out
+returns-then-lanes-eq0-clause-since g c = since_itself c.args.core c.requires.opened
 
 pub run_lanes_at-core-requires-clause-since : goal.run_lanes_at-core-requires-clause-since
-run_lanes_at-core-requires-clause-since g c κs within = since_itself c.args.core c.requires.opened c.requires.carried_out
+run_lanes_at-core-requires-clause-since g c κs within = since_itself c.args.core c.requires.opened
 
 pub returns-clause-finished : goal.returns-clause-finished
 returns-clause-finished g c =

@@ -13,5 +13,5 @@ invariant_of-self-2 g c =
     let number : (state_of c.self.inside.log.story).number + 1 < 2 ^ 32 = subst (λ v. (state_of v.story).number + 1 < 2 ^ 32) (sym c.self.view_is) c.requires.few in
     subst (λ log. IsCoreKept log c.in_ok-lanes.lanes c.args.moment) (sym c.in_ok-begin_phase.ensures.ok)
     (subst (λ lanes. IsCoreKept (with_phase c.self.inside.log c.args.phase c.args.moment) lanes c.args.moment) (sym c.in_ok-lanes.ensures)
-    (kept_plan c.self.inside.log c.self.inside.lanes c.self.inside.moment c.args.moment c.args.phase c.self.invariant finished c.requires.formed c.requires.carried_out
+    (kept_plan c.self.inside.log c.self.inside.lanes c.self.inside.moment c.args.moment c.args.phase c.self.invariant finished c.requires.formed
     (omega (arith, number, c.self.invariant.phase.number)) c.requires.in_time))

@@ -2,7 +2,7 @@
 use Rattle.std.proofs.Common.{◌≡◌, Some, sym, ap, subst, ◌∙◌}
 use Rattle.std.specs.Prelude.{IsSome}
 use Rattle.base_core.specs.Keeping.Lanes.{next_in}
-use Rattle.base_core.proofs.Keeping.Waiting.{waits_kept, kept_is_formed, kept_is_carried_out}
+use Rattle.base_core.proofs.Keeping.Waiting.{waits_kept, kept_is_formed}
 use Rattle.base_core.proofs.core_value.Core.command.Goals as goal
 
 pub unwrap-requires : goal.unwrap-requires
@@ -19,8 +19,3 @@ pub returns-clause-formed : goal.returns-clause-formed
 returns-clause-formed g c =
     let kept : Some c.unwrap.result ≡ next_in c.self.inside.lanes c.args.lane = sym c.unwrap.ensures ∙ c.in_ok-command.ensures in
     kept_is_formed c.self.inside.log c.self.inside.lanes c.self.inside.moment c.args.lane c.unwrap.result c.self.invariant kept
-
-pub returns-clause-carried_out : goal.returns-clause-carried_out
-returns-clause-carried_out g c =
-    let kept : Some c.unwrap.result ≡ next_in c.self.inside.lanes c.args.lane = sym c.unwrap.ensures ∙ c.in_ok-command.ensures in
-    kept_is_carried_out c.self.inside.log c.self.inside.lanes c.self.inside.moment c.args.lane c.unwrap.result c.self.invariant kept

@@ -28,7 +28,7 @@ returns g c =
     let free : build_of (state_of c.args.self.now.story).active c.args.lane ≡ None = subst (λ t. build_of (state_of t).active c.args.lane ≡ None) same
     (acting_is_free c.self.inside.log c.self.inside.lanes c.self.inside.moment c.args.lane c.self.invariant (ap (λ t. next_of (state_of t) c.args.lane) same ∙ c.requires.act)) in
     decided_so c.args.self.now.story c.args.lane c.occasion-occasion.result c.in_ok-command.command (view_of c.in_ok-command.command) c.rows.result c.decide.result
-    (subst Legal same c.self.invariant.story.legal) c.in_ok-command.ensures.carried_out (acts (state_of c.args.self.now.story) c.args.lane c.in_ok-command.command c.in_ok-command.ensures.next c.requires.act) (subst (λ found. IfSome found (λ command. is_query command ≡ false)) c.in_ok-command.ensures.next c.requires.no_query) free
+    (subst Legal same c.self.invariant.story.legal) (acts (state_of c.args.self.now.story) c.args.lane c.in_ok-command.command c.in_ok-command.ensures.next c.requires.act) (subst (λ found. IfSome found (λ command. is_query command ≡ false)) c.in_ok-command.ensures.next c.requires.no_query) free
     c.in_ok-command.ensures.next c.occasion-occasion.ensures.tag c.occasion-occasion.ensures.moment (c.rows.ensures ∙ sym c.self.invariant.story.base ∙ ap (λ t. (state_of t).base) same)
     (c.occasion-occasion.ensures.busy ∙ ap (building (state_of c.args.self.now.story).active) c.view_of.ensures) c.occasion-occasion.ensures.taken
     (λ scene sees. c.decide.ensures.decided scene sees) c.decide.ensures.nothing c.decide.ensures.room

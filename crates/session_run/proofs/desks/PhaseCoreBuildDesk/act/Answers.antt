@@ -20,5 +20,5 @@ invariant_of-self-2 g c =
 pub returns-clause-ok : goal.returns-clause-ok
 returns-clause-ok g c =
     subst (λ core. Finishes core.story c.act.new.self.story c.args.lane) c.self.view_is
-    (act_finishes c.self.inside.core.story c.act.new.self.story c.args.lane c.in_ok-act.field-0 c.self.invariant.carried_out
+    (act_finishes c.self.inside.core.story c.act.new.self.story c.args.lane c.in_ok-act.field-0
     (subst (λ core. next_of (state_of core.story) c.args.lane ≡ nexts.Act) (sym c.self.view_is) c.requires) c.in_ok-act.ensures.ok)
