@@ -34,11 +34,11 @@ stands-right found old new kind above after e next right follows =
     ∙ ap (λ v. first_error new.number v (kinds_of new.bytes)) (sym follows)
 
 -- a line that stands wrong
-pub stands-wrong : {A : Type 0} (found : Option SessionError) (old new : Rest) (kind : Kind) (above after : Above) (fault : Or SessionCause)
-    → found ≡ first_error old.number above (kinds_of old.bytes) → IsNext old kind new → Stands {A} (Err fault) above kind (body_of (kinds_of new.bytes)) after
+pub stands-wrong : (A : Type 0) (found : Option SessionError) (old new : Rest) (kind : Kind) (above after : Above) (fault : Or SessionCause)
+    → found ≡ first_error old.number above (kinds_of old.bytes) → IsNext old kind new → Stands {A = A} (Err fault) above kind (body_of (kinds_of new.bytes)) after
     → IsWrong (fault_at new.number fault) found
-stands-wrong found old new kind above after NoMemory e next stands = tt
-stands-wrong found old new kind above after (Is cause) e next stands =
+stands-wrong A found old new kind above after NoMemory e next stands = tt
+stands-wrong A found old new kind above after (Is cause) e next stands =
     e ∙ first_error-next old.number new.number above kind (kinds_of old.bytes) (kinds_of new.bytes) next.kinds next.number
     ∙ ap (λ v. error_or new.number v (first_error new.number (above_next above kind (body_of (kinds_of new.bytes))) (kinds_of new.bytes))) stands
 
@@ -61,8 +61,8 @@ command-stands above after word words text command p n e a = (
   a ∙ ap (λ v. record above { takes_body = body_follows v }) (sym e),
 )
 
-pub command-wrong : {A : Type 0} (above after : Above) (word : List ℕ) (words : List (List ℕ)) (text : List ℕ) (fault : Or SessionCause)
-    → above.in_phase ≡ true → is_empty above.lanes ≡ false → FaultIs fault (command_of word words text) → Stands {A} (Err fault) above (kinds.Command word words) text after
-command-wrong above after word words text NoMemory p n e = tt
-command-wrong above after word words text (Is cause) p n e =
+pub command-wrong : (A : Type 0) (above after : Above) (word : List ℕ) (words : List (List ℕ)) (text : List ℕ) (fault : Or SessionCause)
+    → above.in_phase ≡ true → is_empty above.lanes ≡ false → FaultIs fault (command_of word words text) → Stands {A = A} (Err fault) above (kinds.Command word words) text after
+command-wrong A above after word words text NoMemory p n e = tt
+command-wrong A above after word words text (Is cause) p n e =
     command_cause above.in_phase (is_empty above.lanes) (command_of word words text) p n ∙ ap cause_in e
