@@ -1,5 +1,5 @@
 -- Where a text ends with some bytes.
-use Rattle.std.proofs.Common.{◌≡◌, ◌∙◌, ℕ, ◌+◌, ◌-◌, ◌≤◌, ◌<◌, List, drop, length, refl, sym, ap, arith, drop-drop, length-drop}
+use Rattle.std.proofs.Common.{◌≡◌, ◌∙◌, ℕ, ◌+◌, ◌-◌, ◌≤◌, List, drop, length, sym, ap, arith, drop-drop, length-drop}
 use Rattle.session_text.specs.Reading.{IsEnd}
 
 none_less : (n : ℕ) → n - n ≡ 0

@@ -1,5 +1,5 @@
 -- Steps from a place to the next.
-use Rattle.std.proofs.Common.{◌≡◌, ◌∙◌, ℕ, ◌+◌, ◌-◌, ◌≤◌, Some, List, [], ◌∷◌, drop, length, refl, sym, ap, subst, arith}
+use Rattle.std.proofs.Common.{◌≡◌, ◌∙◌, ℕ, ◌-◌, ◌≤◌, Some, List, ◌∷◌, drop, length, refl, sym, ap, subst, arith}
 use Rattle.std.specs.Prelude.{Ok, Err, IsOk, IfOk, slice_get}
 use Rattle.cc_names.specs.declared.commands.Command.{Command}
 use Rattle.cc_names.specs.declared.commands.Lane.{Lane}
@@ -7,7 +7,7 @@ use Rattle.session_text.specs.declared.kinds.Kind.{Kind}
 use Rattle.session_text.specs.declared.kinds.Kind.TheVariants as kinds
 use Rattle.session_text.specs.Commands.{command_of}
 use Rattle.session_text.specs.Kinds.{Rest, kinds_of}
-use Rattle.session_text.specs.Reading.{IsEnd, IsFound, IsPast, IsPastCommand, IsRight, FindsLane, FindsCommand, Says, Place, lines_at}
+use Rattle.session_text.specs.Reading.{IsEnd, IsFound, IsPast, IsPastCommand, IsRight, FindsCommand, Says, Place, lines_at}
 use Rattle.session_text.specs.Sessions.{before_lanes, before_commands, body_of, commands_of, lanes_of}
 use Rattle.session_text.specs.Ahead.{ahead_of, ahead_by}
 use Rattle.session_text.specs.Shapes.{view}

@@ -1,5 +1,5 @@
 -- Steps of a check, line by line.
-use Rattle.std.proofs.Common.{◌≡◌, ◌∙◌, ℕ, ◌+◌, Bool, true, false, not, Option, Some, None, List, ◌∷◌, refl, sym, ap}
+use Rattle.std.proofs.Common.{◌≡◌, ◌∙◌, ℕ, ◌+◌, Bool, true, false, not, Option, None, List, ◌∷◌, refl, sym, ap}
 use Rattle.std.specs.Prelude.{Ok, Err}
 use Rattle.cc_names.specs.Answers.{FaultIs}
 use Rattle.cc_names.specs.declared.commands.Command.{Command}

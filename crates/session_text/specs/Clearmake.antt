@@ -1,5 +1,5 @@
 -- What the words of `clearmake V ..` say, in any order.
-use Rattle.std.specs.Prelude.{ℕ, ◌+◌, Bool, true, false, ◌||◌, ◌&&◌, ◌==◌, not, nat_le, Option, Some, None, is_none, Ok, Err, List, [], ◌∷◌, ◌++◌, codes, take, drop, length, unwrap_or, if◌then◌else◌}
+use Rattle.std.specs.Prelude.{ℕ, ◌+◌, Bool, true, false, ◌||◌, ◌&&◌, ◌==◌, not, Option, Some, None, is_none, Ok, Err, List, [], ◌∷◌, ◌++◌, codes, take, drop, length, unwrap_or, if◌then◌else◌}
 use Rattle.std.specs.List.{list_all, position}
 use Rattle.std.specs.Str.{bytes_eq}
 use Rattle.cc_names.specs.declared.commands.Command.{Command}

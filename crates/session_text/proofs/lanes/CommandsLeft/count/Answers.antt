@@ -1,7 +1,5 @@
-use Rattle.std.proofs.Common.{◌≡◌, ℕ, ◌+◌, ◌≤◌, ◌<◌, length, drop, ap, arith, length-drop, List}
-use Rattle.session_text.specs.Kinds.{kinds_of}
-use Rattle.session_text.specs.Reading.{FindsCommand, lines_at}
-use Rattle.session_text.specs.Sessions.{commands_of}
+use Rattle.std.proofs.Common.{length, drop, ap, arith, length-drop}
+use Rattle.session_text.specs.Reading.{FindsCommand}
 use Rattle.session_text.proofs.FormedReading.{commands_few}
 use Rattle.session_text.proofs.Right.{counts-one}
 use Rattle.session_text.proofs.lanes.CommandsLeft.count.Goals as goal

@@ -1,4 +1,4 @@
-use Rattle.std.proofs.Common.{◌≡◌, ◌∙◌, refl, sym, length}
+use Rattle.std.proofs.Common.{refl, sym, length}
 use Rattle.session_text.specs.declared.kinds.Kind.TheVariants as kinds
 use Rattle.session_text.specs.Reading.{FindsCommand}
 use Rattle.session_text.proofs.Seen.{IsSeen, right-at, says-at, command-step}

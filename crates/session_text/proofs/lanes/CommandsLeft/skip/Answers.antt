@@ -1,4 +1,4 @@
-use Rattle.std.proofs.Common.{◌≡◌, ◌∙◌, true, ap, subst, drop}
+use Rattle.std.proofs.Common.{◌∙◌, ap, subst, drop}
 use Rattle.session_text.specs.Reading.{IsPastCommand, PassesCommand, lines_at}
 use Rattle.session_text.specs.Sessions.{commands_of}
 use Rattle.session_text.proofs.Seen.{left-at}

@@ -1,4 +1,4 @@
-use Rattle.std.proofs.Common.{◌≡◌, refl, sym}
+use Rattle.std.proofs.Common.{refl, sym}
 use Rattle.session_text.specs.declared.kinds.Kind.TheVariants as kinds
 use Rattle.session_text.specs.Reading.{FindsLane}
 use Rattle.session_text.proofs.Seen.{IsSeen, right-at, lane-step}
