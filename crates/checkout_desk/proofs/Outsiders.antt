@@ -1,5 +1,5 @@
 -- The first outsider is the first path where a row is there that made no version.
-use Rattle.std.proofs.Common.{◌≡◌, refl, ap, ℕ, Some, List, [], ◌∷◌}
+use Rattle.std.proofs.Common.{◌≡◌, refl, ap, ℕ, Some, [], ◌∷◌}
 use Rattle.std.specs.Option.{option_or}
 use Rattle.legal_history.specs.Base.Closures.{Inputs, closure}
 use Rattle.legal_history.specs.Base.Rows.{Base, only_where}

@@ -56,7 +56,7 @@ fn outsider<'a>(
 ) -> Result<Option<&'a Path>, NoMemory>
     ensures { IfOk result (λ path. option_copied path ≡ outsider rows.now object) }
 {
-    first_input(alloc, rows, object, &Outside { rows })
+    first_input(alloc, rows, object, &Outside { rows: &*rows })
 }
 
 /// Whatever is there of what the object rests on in the end is a version. The refusal has the first path of anything else.

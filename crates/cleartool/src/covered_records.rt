@@ -56,7 +56,7 @@ fn uncovered<'a>(
 ) -> Result<Option<&'a Path>, NoMemory>
     ensures { IfOk result (λ path. option_copied path ≡ uncovered rows.now view.now object) }
 {
-    first_input(alloc, rows, object, &Sight { rows, view })
+    first_input(alloc, rows, object, &Sight { rows: &*rows, view })
 }
 
 /// Whether a view covers a record of which this path is uncovered, or none.
