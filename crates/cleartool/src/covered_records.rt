@@ -30,12 +30,12 @@ fn agrees(row: u64, found: Option<u64>) -> bool
 
 /// What a view sees, with which the rows are compared on which an object rests.
 #[derive(Drop)]
-struct Sight<'a> {
-    rows: &'a FirstRows<'a>,
-    view: &'a Name,
+struct Sight<'a, 'b, 'c> {
+    rows: &'a FirstRows<'b>,
+    view: &'c Name,
 }
 
-impl InputTest for Sight<'_> {
+impl InputTest for Sight<'_, '_, '_> {
     ghost use Rattle.cleartool.specs.Covering.{differs};
 
     ghost passes = { λ it. differs it.rows.now it.view.now };
