@@ -114,7 +114,7 @@ fn read_row<D: Disk>(
 
 /// Adds a row that fits. Fails only where memory runs out.
 fn add_row(rows: &mut Rows, row: Row) -> Result<(), NoMemory>
-    requires fits { fits rows.old.base row.deed ≡ true }
+    requires { fits rows.old.base row.deed ≡ true }
     ensures { OnOk result (rows.new.base ≡ row ∷ rows.old.base) }
 {
     rows.reserve(row.deed())?;

@@ -45,8 +45,8 @@ frames-preserved g c =
 pub returns-then-is_err-clause-reads : goal.returns-then-is_err-clause-reads
 returns-then-is_err-clause-reads g c = reads_then g.D.Disk.sight c.args.journal.now c.frames.journal c.read_row.new.journal c.frames.invariant.reads c.in-Ok-Some.ensures.reads
 
-pub add_row-requires-clause-fits : goal.add_row-requires-clause-fits
-add_row-requires-clause-fits g c =
+pub add_row-requires : goal.add_row-requires
+add_row-requires g c =
     let sight = g.D.Disk.sight in
     let found : ReadsOn sight c.all.result (Some c.in-Ok-Some.row) c.read_row.new.journal = subst (λ f. ReadsOn sight c.all.result f c.read_row.new.journal) c.in-Ok-Some.field-0-is c.in-Ok-Some.ensures.ok in
     subst (λ b. fits b c.in-Ok-Some.row.deed ≡ _) c.all.ensures (row_fits c.all.result c.in-Ok-Some.row found.good)

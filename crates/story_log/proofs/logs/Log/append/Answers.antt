@@ -34,7 +34,7 @@ returns-in-Ok-clause-ok g c =
     subst (λ old. IsCommitted old (shown (handed_in c.self.inside.handed g.D.Disk.tells) c.push_reserved.new.self.items c.push.new.self.base c.self.inside.phases.items (g.D.Disk.sight c.append.new.self.disk)) c.args.row) c.self.view_is
     (is_committed (handed_in c.self.inside.handed g.D.Disk.tells) c.self.inside.steps.items c.push_reserved.new.self.items c.self.inside.rows.base c.push.new.self.base c.self.inside.phases.items c.tag-tag.result c.size-number.result c.in-Ok.tick _ c.args.row
     (g.D.Disk.sight c.self.inside.journal.disk) (g.D.Disk.sight c.append.new.self.disk) c.self.inside.journal.list c.self.inside.journal.loose c.self.inside.journal.ended c.self.inside.journal.left c.self.inside.journal.settled c.self.invariant kept rows c.in-Ok.ensures.tick c.in-Ok.ensures.costs.0 (some_calls c.self.inside.journal.settled) c.in-Ok.ensures.costs.1 c.deed.ensures.formed (g.met.D.Disk.counted c.append.new.self.disk) c.in-Ok.ensures.writes
-    (commits_row c.args.row c.in_ok-frame.frame.now c.self.inside.journal.settled c.self.inside.journal.tail (g.D.Disk.sight c.self.inside.journal.disk).told (g.D.Disk.sight c.append.new.self.disk).told c.in_ok-frame.ensures c.in-Ok.ensures.calls))
+    (commits_row c.args.row c.in_ok-frame.frame c.self.inside.journal.settled c.self.inside.journal.tail (g.D.Disk.sight c.self.inside.journal.disk).told (g.D.Disk.sight c.append.new.self.disk).told c.in_ok-frame.ensures c.in-Ok.ensures.calls))
 
 pub invariant_of-self : goal.invariant_of-self
 invariant_of-self g c =
