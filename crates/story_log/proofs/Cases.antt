@@ -1,5 +1,5 @@
 -- What follows from the cases of an option and of two tests.
-use Rattle.std.proofs.Common.{◌≡◌, Bool, true, false, ◌&&◌, Option, Some, refl}
+use Rattle.std.proofs.Common.{◌≡◌, Bool, true, false, ◌&&◌, Some, refl}
 
 -- one thing is the other
 pub some_same : {A : Type 0} (one other : A) → Some one ≡ Some other → one ≡ other

@@ -1,5 +1,5 @@
 -- Payloads that spell no row that may come next.
-use Rattle.std.proofs.Common.{◌≡◌, Bool, true, false, List, ℕ, sym, ap, ◌∙◌}
+use Rattle.std.proofs.Common.{◌≡◌, true, false, List, ℕ, sym, ap, ◌∙◌}
 use Rattle.cc_names.specs.Formed.{Plain, IsFormed}
 use Rattle.legal_history.specs.Base.Rows.{Base}
 use Rattle.legal_history.specs.Base.Fits.{fits}

@@ -1,5 +1,5 @@
 -- How the rows of a journal are read.
-use Rattle.std.specs.Prelude.{◌≡◌, ◌≤◌, ◌&&◌, ℕ, Bool, true, false, Option, Some, None, List, [], ◌∷◌, ◌++◌}
+use Rattle.std.specs.Prelude.{◌≡◌, ◌≤◌, ℕ, Bool, true, false, Option, Some, None, List, [], ◌∷◌, ◌++◌}
 use Rattle.cc_names.specs.Formed.{IsFormed, Plain}
 use Rattle.cc_names.specs.declared.rows.Deed.{Deed}
 use Rattle.disk_model.specs.Devices.{LeavesNow}
