@@ -77,7 +77,7 @@ pub fn publish_row(
     requires ran { (it : units.Unit)
         → unit_at build.now unit ≡ Some it
         → RunGave rows.now build.now unit it outputs reads.now }
-    ensures row { (it : units.Unit)
+    ensures { (it : units.Unit)
         → unit_at build.now unit ≡ Some it
         → IfOk result (λ row. IsPublishOf rows.now build.now unit it moment row) }
 {

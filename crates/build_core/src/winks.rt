@@ -18,7 +18,7 @@ pub fn wink_row(
     object: u64,
 ) -> Result<Row, NoMemory>
     requires { moment ≤ last_moment }
-    ensures row { IfOk result
+    ensures { IfOk result
         (λ row.
         row
         ≡ record {

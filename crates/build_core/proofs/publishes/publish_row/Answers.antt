@@ -19,8 +19,8 @@ of-requires c =
       deed = subst IsDeedFormed same (published_formed c.args.rows.now build c.args.unit unit c.args.outputs c.args.reads.now c.in_ok-found.found.entries c.size.ensures.base (c.requires.formed unit is) (c.requires.ran unit is) (c.in_ok-found.ensures unit is));
     }
 
-pub returns-clause-row : goal.returns-clause-row
-returns-clause-row c = λ it is.
+pub returns : goal.returns
+returns c = λ it is.
     let build = c.args.build.now in
     let unit = c.index-units-unit.result in
     let found = c.in_ok-found.found.entries in

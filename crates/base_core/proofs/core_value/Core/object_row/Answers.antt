@@ -32,4 +32,4 @@ returns g c =
       nothing = ap (λ b. reusable (state_of c.args.self.now.story).base b c.args.unit c.requires.run.unit) (sym is) ∙ c.requires.nothing;
       made = ap (λ b. publish_of b c.build_at.result.now c.args.unit c.requires.run.unit) (sym c.rows.ensures) ∙ p.deed;
     })
-    (c.publish_row.ensures.row c.requires.run.unit is_unit)
+    (c.publish_row.ensures c.requires.run.unit is_unit)

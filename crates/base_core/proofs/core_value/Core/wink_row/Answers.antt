@@ -18,4 +18,4 @@ returns g c =
       at_moment = ap (λ r. r.moment) e ∙ sym (ap (λ v. (state_of v.story).moment) (sym c.self.view_is) ∙ c.self.invariant.phase.moment);
       winks = ap (λ r. r.deed) e ∙ ap (λ b. deeds.Wink b.view c.args.object) (sym is);
     })
-    c.wink_row.ensures.row
+    c.wink_row.ensures
