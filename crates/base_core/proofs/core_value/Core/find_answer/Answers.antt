@@ -14,8 +14,8 @@ use Rattle.base_core.proofs.core_value.Core.find_answer.Goals as goal
 pub command-requires : goal.command-requires
 command-requires g c = acts_waits (state_of c.args.self.now.story) c.args.lane c.requires.act
 
-pub answer-requires-clause-query : goal.answer-requires-clause-query
-answer-requires-clause-query g c = subst (λ found. IfSome found (λ command. is_query command ≡ true)) c.in_ok-command.ensures.next c.requires.query
+pub answer-requires : goal.answer-requires
+answer-requires g c = record { query = subst (λ found. IfSome found (λ command. is_query command ≡ true)) c.in_ok-command.ensures.next c.requires.query }
 
 pub returns : goal.returns
 returns g c =
