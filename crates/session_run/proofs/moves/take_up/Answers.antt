@@ -6,4 +6,4 @@ use Rattle.session_run.proofs.moves.take_up.Goals as goal
 
 pub returns-in_ok-act-in-Act-clause-ok : goal.returns-in_ok-act-in-Act-clause-ok
 returns-in_ok-act-in-Act-clause-ok g c =
-    Past (act_finishes c.args.core.now.story c.act.new.self.story c.args.lane c.in_ok-act-in-Act.field-0 c.requires (sym c.in-Act.ensures) c.in_ok-act-in-Act.ensures.ok) refl
+    Past (act_finishes c.args.core.now.story c.act.new.self.story c.args.lane c.in_ok-act-in-Act.field-0 (sym c.in-Act.ensures) c.in_ok-act-in-Act.ensures.ok) refl
