@@ -10,9 +10,10 @@ use Rattle.session_run.proofs.Running.TurnsLeft.{fewer_left}
 use Rattle.session_run.proofs.Running.Within.{finished_where}
 use Rattle.session_run.proofs.lanes.take_turn.Goals as goal
 
-pub move_on-requires-clause-stands : goal.move_on-requires-clause-stands
-move_on-requires-clause-stands g c =
-    subst (StandsAt (state_of c.args.core.now.story) c.args.lane) (sym c.take-turn.ensures.turn) (c.requires.stand.stand c.args.lane c.requires.from)
+pub move_on-requires : goal.move_on-requires
+move_on-requires g c = record {
+  stands = subst (StandsAt (state_of c.args.core.now.story) c.args.lane) (sym c.take-turn.ensures.turn) (c.requires.stand.stand c.args.lane c.requires.from);
+}
 
 pub returns-in_err-next-clause-stand : goal.returns-in_err-next-clause-stand
 returns-in_err-next-clause-stand g c =
