@@ -1,5 +1,5 @@
 -- The rows that commands make which build nothing.
-use Rattle.std.proofs.Common.{◌≡◌, ℕ, Bool, not, ◌||◌, true, false, Option, Some, None, Result, Ok, List, [], ◌∷◌, refl, subst}
+use Rattle.std.proofs.Common.{◌≡◌, ℕ, Bool, not, ◌||◌, false, Option, Some, None, Result, Ok, List, [], ◌∷◌, refl, subst}
 use Rattle.cc_names.specs.Commands.{builds}
 use Rattle.cc_names.specs.References.{held_at}
 use Rattle.legal_history.specs.Queries.QueryLines.{is_query}

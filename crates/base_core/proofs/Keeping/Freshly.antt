@@ -1,9 +1,6 @@
 -- What a core keeps of a base that was just opened.
-use Rattle.std.proofs.Common.{◌≡◌, ℕ, zero, suc, Some, List, [], ◌∷◌, refl, ap, sym, subst, ◌∙◌, arith}
-use Rattle.std.specs.List.{AllByRecursion}
-use Rattle.std.specs.Prelude.{reverse}
+use Rattle.std.proofs.Common.{◌≡◌, ℕ, zero, suc, Some, List, [], refl, ap, sym, subst, ◌∙◌, arith}
 use Rattle.cc_names.specs.Commands.{lane_at}
-use Rattle.cc_names.specs.Formed.{IsFormed}
 use Rattle.cc_names.specs.declared.commands.Lane.{Lane}
 use Rattle.disk_model.specs.Told.{Sight}
 use Rattle.legal_history.specs.Base.Rows.{Base}
@@ -14,7 +11,6 @@ use Rattle.story_log.specs.Logging.Logs.{Logged, opened_log, with_sight}
 use Rattle.story_log.specs.Bases.Opening.{IsBaseOn, IsOpened, OpensCore}
 use Rattle.story_log.specs.Story.Formed.{AreFormed}
 use Rattle.story_log.specs.Story.Handed.{Handed}
-use Rattle.view_lookup.specs.Order.{oldest_first}
 use Rattle.story_log.proofs.Bases.Damages.{undamaged_on}
 use Rattle.story_log.proofs.Logging.LogSteps.{oldest_back}
 

@@ -2,7 +2,6 @@
 use Rattle.std.specs.Prelude.{◌≡◌, true}
 use Rattle.base_core.specs.Story.Counted.{KeepsCount}
 use Rattle.base_core.specs.Story.Shown.{Shown}
-use Rattle.legal_history.specs.Stories.Steps.{state_of}
 use Rattle.session_run.specs.Running.Lanes.{Goes}
 use Rattle.session_run.specs.Story.Begun.{is_opened}
 

@@ -1,4 +1,4 @@
-use Rattle.std.proofs.Common.{ap, sym, subst, arith, length, ◌∙◌}
+use Rattle.std.proofs.Common.{ap, arith, length, ◌∙◌}
 use Rattle.base_core.proofs.Story.Counts.{keeps_further}
 use Rattle.session_run.proofs.Running.LanesDone.{of_true}
 use Rattle.session_run.proofs.Running.PhaseSteps.{phase_begins, phase_runs, lanes_go_since, lanes_start, runs_by, leaves_by}
