@@ -17,16 +17,16 @@ const MAX_LENGTH: u64 = 1 << 62;
 
 /// What a call failed at, by the name of a file.
 #[derive(Clone, Copy, Debug)]
-pub enum Culprit<'a> {
+pub enum Place<'a> {
     File(&'a str),
     FolderOf(&'a str),
 }
 
-impl fmt::Display for Culprit<'_> {
+impl fmt::Display for Place<'_> {
     fn fmt<W: fmt::Write>(&self, f: &mut fmt::Formatter<W>) -> fmt::Result {
         match self {
-            Culprit::File(name) => write!(f, "{name}"),
-            Culprit::FolderOf(name) => write!(f, "the folder of {name}"),
+            Place::File(name) => write!(f, "{name}"),
+            Place::FolderOf(name) => write!(f, "the folder of {name}"),
         }
     }
 }
@@ -34,16 +34,16 @@ impl fmt::Display for Culprit<'_> {
 /// Why a call failed: at what, and the system's error.
 #[derive(Clone, Copy, Debug)]
 pub struct Trouble<'a> {
-    pub culprit: Culprit<'a>,
+    pub place: Place<'a>,
     pub cause: io::Error,
 }
 
 impl Trouble<'_> {
-    /// `CULPRIT: WORDS`, where the words are the system's.
+    /// `PLACE: WORDS`, where the words are the system's.
     pub fn words(&self, alloc: Global) -> Result<String, AllocError> {
         let told = format!(in alloc; "{}", self.cause)?;
         let words = without_number(told.as_str());
-        format!(in alloc; "{}: {words}", self.culprit)
+        format!(in alloc; "{}: {words}", self.place)
     }
 }
 
@@ -221,12 +221,12 @@ impl<R: Files<File = File> + AllocGlobal> FileDisk<R> {
     pub fn trouble(&self) -> Option<Trouble<'_>> {
         let (part, cause) = self.files.failed?;
         let journal = self.files.journal.name();
-        let culprit = match part {
-            Part::Journal => Culprit::File(journal),
-            Part::Objects => Culprit::File(self.files.objects.name()),
-            Part::Folder => Culprit::FolderOf(journal),
+        let place = match part {
+            Part::Journal => Place::File(journal),
+            Part::Objects => Place::File(self.files.objects.name()),
+            Part::Folder => Place::FolderOf(journal),
         };
-        Some(Trouble { culprit, cause })
+        Some(Trouble { place, cause })
     }
 
     /// Counts a call, if one may still be made.
