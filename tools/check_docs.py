@@ -19,7 +19,7 @@ import sys
 MOST_WORDS = 40
 FILE = re.compile(r"[\w./*-]*[\w*-]\.(?:rt|antt|md|py|txt|edit|transcript)")
 FOLDER = re.compile(r"(?:crates|docs|tools|examples|[a-z_]+/(?:src|specs|proofs|must-fail|data))(?:/[\w.-]+)*/?")
-DEFINED = re.compile(r"([A-Z]\w+)\.([A-Za-z]\w+)")
+DEFINED = re.compile(r"([A-Z]\w*[a-z]\w*)\.([A-Za-z]\w+)")
 RUST = re.compile(r"(?:[A-Za-z_]\w*::)+([A-Za-z_]\w*)")
 LINK = re.compile(r"\]\(([^)#\s]+)(?:#[^)]*)?\)")
 CODE_BLOCK = re.compile(r"```.*?```", re.S)
