@@ -179,9 +179,9 @@ impl<R: Files<File = File> + AllocGlobal> BaseFiles<R> {
 /// moved away the calls go on with that file, and another that gets its name is left alone.
 ///
 /// As a file is opened its exclusive lock is taken, and held as long as the disk lives: where another program has the lock each
-/// call is a fault, and nothing is read or written. Then it is synced, and from there on read from the disk and not from the
-/// system's memory, where what a failed sync left may still stand. No handle is a standard descriptor, so nothing that is printed
-/// gets into a file, also where standard output is closed.
+/// call is a fault, and nothing is read or written. Then it is synced. What a sync that failed in an earlier run left may be read
+/// from the system's memory without being on the disk: no call of this disk can tell. No handle is a standard descriptor, so
+/// nothing that is printed gets into a file, also where standard output is closed.
 #[derive(Drop)]
 pub struct FileDisk<R: Files<File = File> + AllocGlobal> {
     files: BaseFiles<R>,

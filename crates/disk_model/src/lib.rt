@@ -7,7 +7,7 @@
 //! What it promises: what a stop at a call leaves is a function of the list of the calls, so it never changes later. Each
 //! call raises the ticks by one, and the faults exactly where it answers an error; the list tells which calls these are.
 //!
-//! What it stands on: cc_names, and libc for one call on real files. That real files follow the crash model is not proved.
+//! What it stands on: cc_names. That real files follow the crash model is not proved.
 #![tactic(auto)]
 
 mod calls;

@@ -2,7 +2,6 @@
 
 use std::fs::{self, File, OpenOptions, TryLockError};
 use std::io;
-use std::os::fd::AsRawFd;
 use std::os::unix::fs::FileExt;
 use std::path::Path;
 use std::rt::Files;
@@ -38,17 +37,6 @@ fn lock(file: &File) -> io::Result<()> {
     }
 }
 
-/// Makes the file read as the disk has it. What a program that was killed wrote there may not be on the disk yet, so it is
-/// synced. What a program whose sync failed wrote there may never come to the disk, though the system still reads it from
-/// memory and takes it for synced: so the system is told to drop what it has in memory. It keeps pages that a program has mapped.
-fn settle(file: &File) -> io::Result<()> {
-    file.sync_data()?;
-    match libc::posix_fadvise(file.as_raw_fd(), 0, 0, libc::POSIX_FADV_DONTNEED) {
-        0 => Ok(()),
-        code => Err(io::Error::from_raw_os_error(code)),
-    }
-}
-
 /// Syncs the names in a folder. Some file systems sync no folders, and answer that the call is invalid: nothing more can be
 /// asked of them.
 fn sync_names<R: Files<File = File>>(rt: &R, folder: &str) -> io::Result<()> {
@@ -73,12 +61,13 @@ impl NamedFile {
         self.name.as_str()
     }
 
-    /// Opens the file, if it is not open, takes its exclusive lock, and makes it read as the disk has it.
+    /// Opens the file, if it is not open, takes its exclusive lock, and syncs it: what a program that was killed wrote there may
+    /// not be on the disk yet.
     pub(crate) fn open<R: Files<File = File>>(&mut self, rt: &R) -> io::Result<()> {
         if self.handle.is_none() {
             let file = opened(rt, self.name.as_str())?;
             lock(&file)?;
-            settle(&file)?;
+            file.sync_data()?;
             self.handle = Some(file);
         }
         Ok(())
