@@ -329,7 +329,7 @@ def commits(data):
 
 def opening(name):
     """The calls that open a file of a base."""
-    return [(call, name) for call in ("openat", "flock", "fdatasync", "fadvise64")]
+    return [(call, name) for call in ("openat", "flock", "fdatasync")]
 
 
 def calls_on_a_new_base(edge):

@@ -8,7 +8,7 @@ import re
 import shutil
 import subprocess
 
-CALLS = "openat,flock,fdatasync,fsync,fadvise64,statx,pread64,pwrite64,write,ftruncate,rename,unlink"
+CALLS = "openat,flock,fdatasync,fsync,statx,pread64,pwrite64,write,ftruncate,rename,unlink"
 LINE = re.compile(r"(?:\d+ +)?(\w+)\((.*)\) += +(-?\d+)(.*)$")
 HELD = re.compile(r"(\d+)<([^>]*)>")
 TEXT = re.compile(r'"([^"]*)"')
