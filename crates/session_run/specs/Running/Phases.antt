@@ -1,9 +1,8 @@
--- What the turns of lanes, and a phase of them, do to the story.
-use Rattle.std.specs.Prelude.{◌≡◌, ◌≢◌, ℕ, ◌+◌, ◌≤◌, true, ◌⊎◌, List, [], ◌∷◌, ◌++◌}
+-- How a story goes on within its last phase, and what a phase does to it.
+use Rattle.std.specs.Prelude.{◌≡◌, ℕ, ◌+◌, true, ◌⊎◌, List, [], ◌∷◌, ◌++◌}
 use Rattle.cc_names.specs.declared.commands.Phase.{Phase}
 use Rattle.cc_names.specs.declared.steps.StoryStep.{StoryStep}
-use Rattle.legal_history.specs.Stories.Lanes.{IsFinished, IsWithin}
-use Rattle.legal_history.specs.Stories.States.{all_done, done_of}
+use Rattle.legal_history.specs.Stories.States.{all_done}
 use Rattle.legal_history.specs.Stories.Steps.{state_of}
 use Rattle.session_run.specs.Story.Begun.{phases_begun, moments_begun, first_step, is_opened}
 use Rattle.session_run.specs.Story.Rendered.{earlier_phases, ended_phases}
@@ -17,18 +16,6 @@ pub record Goes (old new : List StoryStep) : Type 0 where
   pub earlier : earlier_phases new ≡ earlier_phases old
   pub first : first_step new ≡ first_step old
   pub opened : is_opened new ≡ is_opened old
-
--- a story went on by commands of one lane
-pub record GoesInLane (lane : ℕ) (old new : List StoryStep) : Type 0 where
-  pub goes : Goes old new
-  pub others : (k : ℕ) → k ≢ lane → done_of (state_of new).done k ≡ done_of (state_of old).done k
-  pub within : IsWithin (state_of new) lane
-
--- a story went on until the first lanes had finished their commands
-pub record GoesInLanes (lanes : ℕ) (old new : List StoryStep) : Type 0 where
-  pub goes : Goes old new
-  pub within : (k : ℕ) → IsWithin (state_of new) k
-  pub finished : (k : ℕ) → 1 ≤ k → k ≤ lanes → IsFinished (state_of new) k
 
 -- a phase began at a moment, and the story went on within it
 pub record GoesInPhase (phase : Phase) (moment : ℕ) (old new : List StoryStep) : Type 0 where
