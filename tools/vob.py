@@ -532,6 +532,17 @@ class Base:
         word = "private" if isinstance(deed, rows.Put) else "object" if isinstance(deed, rows.Publish) else "checkedout"
         return f"{path} {word} {row}"
 
+    def path_made(self, element):
+        """The path of an element by the names that it and its directories were made with; views may see it elsewhere."""
+        found = self.elements[element]
+        if found.directory is None:
+            return "."
+        above = []
+        while found.directory is not None:
+            above.append(found.name)
+            found = self.elements[found.directory]
+        return "/".join(reversed(above))
+
     def entry_line(self, read):
         """A line of a record: `read NAME`, or `absent P`."""
         return f"read {self.row_name(read.row, read.path)}" if read.row else f"absent {read.path}"
@@ -660,6 +671,20 @@ class Selection:
             return None
         chosen = self.view.out[seen.element] if seen.out else self.base.versions[seen.row]
         return chosen.catalog.dict()
+
+    def path_of(self, element):
+        """The path at which the view's directories name an element, or None where none does. Only the directory in which it was made
+        and that directory's own can."""
+        found = self.base.elements[element]
+        if found.directory is None:
+            return "."
+        above = self.path_of(found.directory)
+        catalog = None if above is None else self.catalog(above)
+        if catalog is None:
+            return None
+        if catalog.get(found.name) == element:
+            return join(above, found.name)
+        return next((join(above, name) for name, other in catalog.items() if other == element), None)
 
     def is_directory(self, path):
         return self.catalog(path) is not None

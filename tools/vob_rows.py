@@ -19,7 +19,9 @@ PATH_LIMIT = 1024
 
 
 class VobError(Exception):
-    """Why a base, or a word about one, cannot be used: one line."""
+    """Why a base, or a word about one, cannot be used: one line. A tool that is refused so ends with the status."""
+
+    status = 1
 
 
 class NoRow(VobError):
