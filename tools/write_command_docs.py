@@ -281,7 +281,8 @@ def main():
             (TOP / name).write_text(text())
             print(name)
     else:
-        sys.exit("usage: write_command_docs.py [--check | --list]")
+        print("usage: write_command_docs.py [--check | --list]", file=sys.stderr)
+        sys.exit(2)
 
 
 if __name__ == "__main__":
