@@ -1,13 +1,11 @@
 -- What units have come to, in the slots that the program keeps.
-use Rattle.std.proofs.Common.{◌≡◌, ℕ, zero, suc, ◌+◌, ◌<◌, ◌≤◌, true, false, ◌&&◌, Option, Some, None, List, [], ◌∷◌, ◌++◌, length, get_or, drop, refl, ap, sym, ◌∙◌, arith, add-one}
+use Rattle.std.proofs.Common.{◌≡◌, ℕ, zero, suc, ◌+◌, ◌<◌, ◌≤◌, Option, Some, None, List, [], ◌∷◌, ◌++◌, length, get_or, refl, ap, sym, ◌∙◌, arith}
 use Rattle.std.proofs.Math.ListN.{set}
 use Rattle.std.proofs.lemmas.List.{map-set, length-map}
 use Rattle.std.specs.Option.{option_map}
 use Rattle.std.specs.Ordering.{nat_cmp}
 use Rattle.std.specs.FinMap.Entries.{put, find}
-use Rattle.cc_names.specs.declared.units.Unit.{Unit}
 use Rattle.legal_history.specs.Builds.Active as model
-use Rattle.legal_history.specs.Builds.Turns.{all_over}
 use Rattle.build_core.specs.Comes.{came_of, cames_of, comes_of}
 use Rattle.build_core.specs.Slots.{numbered, held_in}
 use Rattle.build_core.specs.declared.active.Came.{Came}
@@ -59,26 +57,6 @@ cames_more (slot ∷ slots) = ap (λ rest. option_map came_of slot ∷ rest) (ca
 
 pub empty_more : (slots : List (Option Came)) → comes_of slots ≡ [] → comes_of (slots ++ None ∷ []) ≡ []
 empty_more slots e = ap (numbered 0) (cames_more slots) ∙ one_empty 0 (cames_of slots) ∙ e
-
--- units are over where the first of them is and those behind it are
-over_from : (build : model.Build) (k n : ℕ) (units : List Unit) → n < length units →
-    all_over build k (drop n units) ≡ (model.is_outcome (model.came_to build k) && all_over build (k + 1) (drop (suc n) units))
-over_from build k n [] h = absurd (omega arith)
-over_from build k zero (unit ∷ units) h = refl
-over_from build k (suc n) (unit ∷ units) h = over_from build k n units (omega arith)
-
--- one that is not over keeps the build from being complete
-pub not_over : (build : model.Build) (n : ℕ) → n < length build.units → model.is_outcome (model.came_to build n) ≡ false →
-    all_over build n (drop n build.units) ≡ false
-not_over build n h e = over_from build n n build.units h ∙ ap (λ over. over && all_over build (n + 1) (drop (suc n) build.units)) e
-
--- one that is over leaves those behind it
-pub next_over : (build : model.Build) (n : ℕ) → n < length build.units → model.is_outcome (model.came_to build n) ≡ true →
-    all_over build n (drop n build.units) ≡ all_over build (n + 1) (drop (n + 1) build.units)
-next_over build n h e =
-    over_from build n n build.units h
-    ∙ ap (λ over. over && all_over build (n + 1) (drop (suc n) build.units)) e
-    ∙ ap (λ k. all_over build (n + 1) (drop k build.units)) (sym (add-one n))
 
 -- a build in which what the units have come to is changed, behind equal builds
 pub with_comes : (inside self : model.Build) (comes : List (ℕ × model.Came)) (n : ℕ) (came : model.Came) → comes ≡ put nat_cmp n came inside.comes → inside ≡ self →

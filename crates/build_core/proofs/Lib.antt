@@ -10,19 +10,16 @@ pub mod RunsEnded
 pub mod RunsEntries
 pub mod RunsFormed
 pub mod RunsGo
-pub mod RunsHere
 pub mod RunsOrdered
 pub mod RunsPaths
 pub mod RunsProbed
 pub mod RunsPublished
-pub mod RunsRead
 pub mod RunsReady
 pub mod RunsScripts
 pub mod RunsSeen
 pub mod RunsUnits
 pub mod RunsWell
 pub mod RunsWords
-pub mod SightLaws
 pub mod SlotLaws
 mod UnitNumbers
 mod Waiting

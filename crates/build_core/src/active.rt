@@ -138,14 +138,14 @@ impl ActiveBuild {
     }
 
     /// Whether it reuses its own view's objects alone.
-    pub fn own_only(&self) -> bool
+    pub(crate) fn own_only(&self) -> bool
         ensures { result ≡ self.now.own_only }
     {
         self.own_only
     }
 
     /// Whether it reuses no object.
-    pub fn rebuild(&self) -> bool
+    pub(crate) fn rebuild(&self) -> bool
         ensures { result ≡ self.now.rebuild }
     {
         self.rebuild
@@ -159,7 +159,7 @@ impl ActiveBuild {
     }
 
     /// The number of the unit that makes a path, if one does, in constant time.
-    pub fn unit_with(&self, path: &Path) -> Option<u32>
+    pub(crate) fn unit_with(&self, path: &Path) -> Option<u32>
         ensures number { result ≡ unit_with self.now path.now }
         ensures within { IfSome result (λ n. n < length self.now.units) }
     {
@@ -182,53 +182,32 @@ impl ActiveBuild {
         self.graph.dependants(unit)
     }
 
-    /// What the unit at an index has come to.
-    pub(crate) fn came_at(&self, index: usize) -> Option<&Came>
-        ensures { option_map came_of (option_copied result) ≡ came_to self.now index }
-    {
-        self.comes.get(index)?.as_ref()
-    }
-
     /// What a unit has come to, if to anything.
-    pub fn came_to(&self, unit: u32) -> Option<&Came>
+    pub(crate) fn came_to(&self, unit: u32) -> Option<&Came>
         ensures { option_map came_of (option_copied result) ≡ came_to self.now unit }
     {
-        self.came_at(unit as usize)
-    }
-
-    /// Whether the unit at an index has its outcome.
-    pub(crate) fn is_over(&self, index: usize) -> bool
-        ensures { result ≡ is_outcome (came_to self.now index) }
-    {
-        matches!(
-            self.came_at(index),
-            Some(Came::Concluded(_) | Came::Given(_))
-        )
+        self.comes.get(unit as usize)?.as_ref()
     }
 
     /// Whether a unit has its outcome.
     pub fn has_outcome(&self, unit: u32) -> bool
         ensures { result ≡ is_outcome (came_to self.now unit) }
     {
-        self.is_over(unit as usize)
+        matches!(
+            self.came_to(unit),
+            Some(Came::Concluded(_) | Came::Given(_))
+        )
     }
 
-    /// The object that the unit at an index was given or kept.
-    pub(crate) fn object_at(&self, index: usize) -> Option<u64>
-        ensures { result ≡ object_of (came_to self.now index) }
+    /// The object that a unit was given or kept.
+    pub(crate) fn object_of(&self, unit: u32) -> Option<u64>
+        ensures { result ≡ object_of (came_to self.now unit) }
     {
-        match self.came_at(index)? {
+        match self.came_to(unit)? {
             Came::Given(id) => Some(*id),
             Came::Concluded(UnitEnd::Kept(id)) => Some(*id),
             _ => None,
         }
-    }
-
-    /// The object that a unit was given or kept.
-    pub fn object_of(&self, unit: u32) -> Option<u64>
-        ensures { result ≡ object_of (came_to self.now unit) }
-    {
-        self.object_at(unit as usize)
     }
 
     /// Notes what a unit has come to. Takes no memory.

@@ -134,7 +134,7 @@ fn graph_at<X: Texts>(
 /// memory runs out.
 ///
 /// Takes what `Makefile::read` and `Graph::of` take.
-pub fn graph<X: Texts>(
+pub(crate) fn graph<X: Texts>(
     alloc: Global,
     hashing: RandomState,
     texts: &X,

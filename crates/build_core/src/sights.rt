@@ -79,7 +79,7 @@ fn found(alloc: Global, rows: &FirstRows<'_>, row: u64, path: &Path) -> Got
 /// What the script of a unit finds at a path: the row that the unit sees there with its
 /// text, or nothing. It never breaks. Takes the time of `visible`, that of `text_of` by the row that was found, and that of a
 /// copy of the text.
-pub(crate) fn fetch(
+fn fetch(
     alloc: Global,
     rows: &FirstRows<'_>,
     build: &ActiveBuild,

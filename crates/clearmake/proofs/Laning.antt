@@ -1,10 +1,12 @@
 -- What becomes of lanes on threads.
-use Rattle.std.proofs.Common.{◌≡◌, refl, ap, sym, subst, ◌∙◌, ℕ, ◌+◌, ◌≤◌, Bool, true, false, ⊎_elim, List, lt_of_not-le, arith}
-use Rattle.std.specs.Bool.{OnTrue}
+use Rattle.std.proofs.Common.{◌≡◌, ap, sym, subst, ◌∙◌, ℕ, ◌+◌, ◌≤◌, Bool, false, Result, Ok, Err, ⊎_elim, List, lt_of_not-le, arith}
+use Rattle.std.specs.Prelude.{OnOk, is_err}
+use Rattle.std.specs.Result.{result_and}
 use native.Mathlib.Decide.{dec_le}
 use mathlib.Core.Logic.{dite}
 use mathlib.Core.List.{IsPrefix}
 use Rattle.cc_names.specs.declared.desks.Next.TheVariants as nexts
+use Rattle.cc_names.specs.declared.memory.NoMemory.{NoMemory}
 use Rattle.cc_names.specs.declared.rows.Tag.{Tag}
 use Rattle.cc_names.specs.declared.steps.StoryStep.{StoryStep}
 use Rattle.legal_history.specs.Stories.Lawful.{Legal}
@@ -12,7 +14,7 @@ use Rattle.legal_history.specs.Stories.States.{State, next_tag}
 use Rattle.legal_history.specs.Stories.Steps.{state_of}
 use Rattle.turn_lock.specs.Sight.{IsLongerOf}
 use Rattle.clearmake.specs.Nexts.{next_of}
-use Rattle.clearmake.specs.Passes.{AreLanesDone}
+use Rattle.clearmake.specs.Passes.{AreLanesDone, IsLaneDone}
 use Rattle.clearmake.proofs.Joins.{both_begin}
 use Rattle.clearmake.proofs.Later.{finished_stays}
 use Rattle.clearmake.proofs.Nexts.{tag_is_next}
@@ -44,9 +46,22 @@ lanes_joined first here others lanes number one two joined some more sum h g lon
     (λ late. finished_stays two joined lane number begin.1 phase.0 phase.1 (g lane late (omega arith)))
     (λ early. finished_stays one joined lane number begin.0 phase.0 phase.1 (h lane low (lt_of_not-le early)))
 
-pub on_true : (b : Bool) (P : Type 0) → (b ≡ true → P) → OnTrue b P
-on_true true P p = p refl
-on_true false P p = tt
+-- a lane more that is done in a later story makes one more of the lanes that were done
+pub one_more_done : (lanes number : ℕ) (old new : List StoryStep) → IsPrefix old new → AreLanesDone old 1 lanes number → IsLaneDone new (lanes + 1) number → AreLanesDone new 1 (lanes + 1) number
+one_more_done lanes number old new p h last lane low high =
+    dite (dec_le lane lanes)
+    (λ earlier. finished_stays old new lane number p last.legal last.of_phase (h lane low (omega arith)))
+    (λ no. subst (λ n. IsLaneDone new n number) (let is : lanes + 1 ≡ lane = omega arith in is) last)
 
-pub of_true : (b : Bool) (P : Type 0) → b ≡ true → OnTrue b P → P
-of_true b P e p = let Q : Bool → Type 0 = λ c. OnTrue c P in subst Q e p
+-- two calls that both had memory, for two groups of lanes: they are done in the longer story
+pub both_done : (first here others lanes number : ℕ) (one two joined : List StoryStep) (ran others_ran : Result Prim.Unit NoMemory) → 1 ≤ here → 1 ≤ others → here + others ≡ lanes →
+    OnOk ran (AreLanesDone one first here number) → OnOk others_ran (AreLanesDone two (first + here) others number) → IsLongerOf one two joined →
+    OnOk (result_and ran others_ran) (AreLanesDone joined first lanes number)
+both_done first here others lanes number one two joined (Ok done) (Ok others_done) some more sum h g longer = lanes_joined first here others lanes number one two joined some more sum h g longer
+both_done first here others lanes number one two joined (Ok done) (Err error) some more sum h g longer = tt
+both_done first here others lanes number one two joined (Err error) others_ran some more sum h g longer = tt
+
+-- what holds of a call that did not fail
+pub did_not_fail : {A : Type 0} (failed : Bool) (ran : Result Prim.Unit NoMemory) → failed ≡ is_err ran → failed ≡ false → OnOk ran A → A
+did_not_fail failed (Ok done) is had a = a
+did_not_fail failed (Err error) is had a = absurd (cc)

@@ -15,6 +15,9 @@ use std::alloc::Global;
 /// How many lanes a phase has at most.
 const LANES: usize = 64;
 
+/// How many rounds there are at most. No phase comes to so many; were one to, the threads would go on.
+const ROUNDS: u32 = u32::MAX;
+
 /// What a round came to.
 #[derive(Drop)]
 enum Round {
@@ -79,20 +82,15 @@ fn take_turns<T: PhaseDesk>(
     round
 }
 
-/// Carries out the commands of so many lanes in at most so many rounds, until a lane comes to a build. True where nothing is
-/// left to do in any; else there is a build ahead, or memory or the rounds ran out.
-pub(crate) fn act_before_threads<T: PhaseDesk>(
-    desk: &mut T,
-    alloc: Global,
-    lanes: u32,
-    rounds: u32,
-) -> bool
+/// Carries out the commands of so many lanes until a lane comes to a build. True where nothing is left to do in any; else there
+/// may be something: a build is ahead, or memory ran out.
+pub(crate) fn act_before_threads<T: PhaseDesk>(desk: &mut T, alloc: Global, lanes: u32) -> bool
     requires { lanes ≤ 64 }
     ensures begins { IsPrefix (T.story desk.old) (T.story desk.new) }
     ensures finished { OnTrue result (AreLanesDone (T.story desk.new) 1 lanes T.number) }
 {
     let mut aside = [false; LANES];
-    for _ in 0..rounds {
+    for _ in 0..ROUNDS {
         if any_builds(desk, lanes, &aside) {
             return false;
         }

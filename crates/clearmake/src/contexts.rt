@@ -17,7 +17,7 @@ use std::hash::RandomState;
 use std::snapshot::Snapshot;
 use turn_lock::{Pass, Storied, TurnLock};
 
-/// What the lanes of a phase share: the lock round the desk, the gate, and how many turns each lane takes at most.
+/// What the lanes of a phase share: the lock round the desk, and the gate.
 #[derive(Drop)]
 pub(crate) struct PhaseContext<'a, R, T: Storied, G> {
     pub(crate) rt: &'a R,
@@ -25,7 +25,6 @@ pub(crate) struct PhaseContext<'a, R, T: Storied, G> {
     pub(crate) hashing: RandomState,
     pub(crate) lock: &'a TurnLock<T>,
     pub(crate) gate: &'a G,
-    pub(crate) turns: u32,
 }
 
 /// What the builders of a build share: the lock round the desk, the gate, and the build, whose command is the one of this

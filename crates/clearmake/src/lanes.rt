@@ -1,7 +1,6 @@
-//! The lanes of a phase, on threads.
+//! The lanes of a phase: all at once, on threads; and once more, one after the other, where memory ran out.
 
-ghost use Rattle.std.specs.Prelude.{◌≡◌, ◌<◌, ◌≤◌, ◌+◌, ◌-◌, ◌*◌, ◌^◌};
-ghost use Rattle.std.specs.Bool.{OnTrue};
+ghost use Rattle.std.specs.Prelude.{◌≡◌, ◌<◌, ◌≤◌, ◌+◌, ◌-◌, ◌*◌, ◌^◌, OnOk};
 ghost use Rattle.std.specs.Thread.{IsSync};
 ghost use mathlib.Core.List.{IsPrefix};
 ghost use Rattle.clearmake.specs.Laning.{IsLaneTurn};
@@ -22,6 +21,9 @@ use turn_lock::Pass;
 /// How many commands that build nothing a lane carries out in one turn at most. Where others wait, a turn costs more than a
 /// save without its syncs, and so many share that; the desk is held meanwhile, their syncs included.
 const COMMANDS_A_TURN: u32 = 64;
+
+/// How many builders a build has at most: so many as a command may ask for.
+const JOBS: u32 = 64;
 
 /// What became of a lane's turn.
 pub(crate) enum LaneTurn {
@@ -77,54 +79,56 @@ fn take_turn<R: Wait, T: PhaseDesk, G: Gate>(
     (context.lock.give(held, desk), turn)
 }
 
-/// Carries out the commands of a lane, one after the other. True where nothing is left to do: not where memory or the turns
-/// ran out.
+/// Carries out the commands of a lane, one after the other, each build by so many builders at most. On `Ok` nothing is left to
+/// do. `Err` where memory ran out: a build that had begun stays active, and a later call goes on with it.
 fn run_lane<R: Threads + Wait + Sync, T: PhaseDesk + Send, G: Gate + Sync>(
     context: &PhaseContext<'_, R, T, G>,
     pass: Pass<T>,
     lane: u32,
-) -> (Pass<T>, bool)
+    most: u32,
+) -> (Pass<T>, Result<(), NoMemory>)
     requires own { pass.lock ≡ context.now.lock.now.id }
     requires weight { 64 ≤ pass.weight }
+    requires most { 1 ≤ most }
     ensures pass { IsLater pass result.0 }
-    ensures finished { OnTrue result.1 (IsLaneDone result.0.seen lane T.number) }
+    ensures finished { OnOk result.1 (IsLaneDone result.0.seen lane T.number) }
 {
     let mut pass = pass;
-    for _ in 0..context.turns {
+    for _ in context.rt.forever() {
         let (next, turn) = take_turn(context, pass, lane);
         pass = next;
         match turn {
             LaneTurn::Acted => {}
-            LaneTurn::Done => return (pass, true),
-            LaneTurn::OutOfMemory => return (pass, false),
+            LaneTurn::Done => return (pass, Ok(())),
+            LaneTurn::OutOfMemory => return (pass, Err(NoMemory)),
             LaneTurn::Build(tag, jobs) => {
-                let built = build(context, pass, tag, jobs);
+                let built = build(context, pass, tag, jobs.min(most));
                 pass = built.pass;
                 if !built.done {
-                    return (pass, false);
+                    return (pass, Err(NoMemory));
                 }
             }
         }
     }
-    (pass, false)
+    unreachable!()
 }
 
-/// Carries out the commands of so many lanes, from the first on, half of them in another thread. True where nothing is left
-/// to do in any.
+/// Carries out the commands of so many lanes, from the first on, half of them in another thread. On `Ok` nothing is left to do
+/// in any. `Err` where memory ran out for one at least; the others went on.
 pub(crate) fn run_lanes<R: Threads + Wait + Sync, T: PhaseDesk + Send, G: Gate + Sync>(
     context: &PhaseContext<'_, R, T, G>,
     pass: Pass<T>,
     first: u32,
     lanes: u32,
-) -> (Pass<T>, bool)
+) -> (Pass<T>, Result<(), NoMemory>)
     requires own { pass.lock ≡ context.now.lock.now.id }
     requires lanes { (1 ≤ lanes) × (first + lanes < 2 ^ 32) }
     requires weight { (64 ≤ pass.weight) × (128 * (lanes - 1) ≤ pass.weight) }
     ensures pass { IsLater pass result.0 }
-    ensures finished { OnTrue result.1 (AreLanesDone result.0.seen first lanes T.number) }
+    ensures finished { OnOk result.1 (AreLanesDone result.0.seen first lanes T.number) }
 {
     if lanes == 1 {
-        return run_lane(context, pass, first);
+        return run_lane(context, pass, first, JOBS);
     }
     let others = lanes / 2;
     let here = lanes - others;
@@ -136,16 +140,15 @@ pub(crate) fn run_lanes<R: Threads + Wait + Sync, T: PhaseDesk + Send, G: Gate +
     let hashing = context.hashing;
     let lock = context.lock;
     let gate = context.gate;
-    let turns = context.turns;
     // Where no thread can be had the second one is carried out first.
-    let ((two, others_done), (one, done)) = join(
+    let ((two, others_ran), (one, ran)) = join(
         rt,
-        || -> (Pass<T>, bool)
+        || -> (Pass<T>, Result<(), NoMemory>)
             requires own { IsSync R.row × (two.lock ≡ lock.now.id) }
             requires lanes { (1 ≤ others) × (next + others < 2 ^ 32) }
             requires weight { (64 ≤ two.weight) × (128 * (others - 1) ≤ two.weight) }
             ensures pass { IsLater two result.0 }
-            ensures finished { OnTrue result.1 (AreLanesDone result.0.seen next others T.number) }
+            ensures finished { OnOk result.1 (AreLanesDone result.0.seen next others T.number) }
         {
             let context = PhaseContext {
                 rt,
@@ -153,16 +156,15 @@ pub(crate) fn run_lanes<R: Threads + Wait + Sync, T: PhaseDesk + Send, G: Gate +
                 hashing,
                 lock,
                 gate,
-                turns,
             };
             run_lanes(&context, two, next, others)
         },
-        || -> (Pass<T>, bool)
+        || -> (Pass<T>, Result<(), NoMemory>)
             requires own { IsSync R.row × (one.lock ≡ lock.now.id) }
             requires lanes { (1 ≤ here) × (first + here < 2 ^ 32) }
             requires weight { (64 ≤ one.weight) × (128 * (here - 1) ≤ one.weight) }
             ensures pass { IsLater one result.0 }
-            ensures finished { OnTrue result.1 (AreLanesDone result.0.seen first here T.number) }
+            ensures finished { OnOk result.1 (AreLanesDone result.0.seen first here T.number) }
         {
             let context = PhaseContext {
                 rt,
@@ -170,10 +172,54 @@ pub(crate) fn run_lanes<R: Threads + Wait + Sync, T: PhaseDesk + Send, G: Gate +
                 hashing,
                 lock,
                 gate,
-                turns,
             };
             run_lanes(&context, one, first, here)
         },
     );
-    (lock.join(one, two), done && others_done)
+    (lock.join(one, two), ran.and(others_ran))
+}
+
+/// Carries out the commands of so many lanes one lane after the other, on this thread, each build by one builder: so no memory
+/// is taken for threads, for deques or for more than one script. On `Ok` nothing is left to do in any. `Err` where memory ran
+/// out for one, which ends it.
+fn run_lanes_apart<R: Threads + Wait + Sync, T: PhaseDesk + Send, G: Gate + Sync>(
+    context: &PhaseContext<'_, R, T, G>,
+    pass: Pass<T>,
+    lanes: u32,
+) -> (Pass<T>, Result<(), NoMemory>)
+    requires own { pass.lock ≡ context.now.lock.now.id }
+    requires lanes { lanes ≤ 64 }
+    requires weight { 64 ≤ pass.weight }
+    ensures pass { IsLater pass result.0 }
+    ensures finished { OnOk result.1 (AreLanesDone result.0.seen 1 lanes T.number) }
+{
+    let mut pass = pass;
+    for index in 0..lanes {
+        let (next, ran) = run_lane(context, pass, index + 1, 1);
+        pass = next;
+        if ran.is_err() {
+            return (pass, ran);
+        }
+    }
+    (pass, Ok(()))
+}
+
+/// Carries out the commands of the lanes of a phase, all at once; and where memory ran out, what is left of them one lane after
+/// the other. On `Ok` nothing is left to do in any. `Err` where memory ran out a second time.
+pub(crate) fn run_lanes_twice<R: Threads + Wait + Sync, T: PhaseDesk + Send, G: Gate + Sync>(
+    context: &PhaseContext<'_, R, T, G>,
+    pass: Pass<T>,
+    lanes: u32,
+) -> (Pass<T>, Result<(), NoMemory>)
+    requires own { pass.lock ≡ context.now.lock.now.id }
+    requires lanes { (1 ≤ lanes) × (lanes ≤ 64) }
+    requires weight { (64 ≤ pass.weight) × (128 * (lanes - 1) ≤ pass.weight) }
+    ensures pass { IsLater pass result.0 }
+    ensures finished { OnOk result.1 (AreLanesDone result.0.seen 1 lanes T.number) }
+{
+    let (pass, ran) = run_lanes(context, pass, 1, lanes);
+    if ran.is_ok() {
+        return (pass, ran);
+    }
+    run_lanes_apart(context, pass, lanes)
 }

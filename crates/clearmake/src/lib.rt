@@ -1,13 +1,13 @@
 //! The builders of a build and the lanes of a phase, on threads over a lock.
 //!
 //! What it is for: a base stands behind a lock, and threads take turns at it. `run_phase` carries out the commands of the lanes
-//! of a phase, on a thread for each lane once one of them builds; a command that builds has so many builders at once. A script
-//! runs outside the lock, and each of its reads is a turn of its own. `BuildDesk` is what the base is asked.
+//! of a phase, on a thread for each lane once one of them builds; a command that builds has so many builders at once. Where
+//! memory runs out, what is left is carried out once more, one lane after the other and by one builder. A script runs outside
+//! the lock, and each of its reads is a turn of its own. `BuildDesk` is what the base is asked.
 //!
-//! What it promises: the story that comes back begins with the one handed in. A build's command is finished in it, and each lane
-//! of a phase has nothing left to do, unless the call says that memory or turns ran out. What a run reads is what its unit saw
-//! when it began, whatever other threads did meanwhile, and each unit is finished by the run of its own script. It is not
-//! promised that threads get on, nor which of them does what.
+//! What it promises: the story that comes back begins with the one handed in. On `Ok` each lane of the phase has nothing left
+//! to do. What a run reads is what its unit saw when it began, whatever other threads did meanwhile, and each unit is finished
+//! by the run of its own script. It is not promised that a call returns, nor that memory suffices, nor which thread does what.
 //!
 //! What it stands on: `turn_lock` for the lock, `legal_history` for stories and their laws, `build_script` and `script_grammar`
 //! for runs, `cc_outside` for the gate, `cc_names` for plain data, and `crossbeam_deque`.

@@ -1,14 +1,14 @@
 //! A phase, from its first command to its last.
 
-ghost use Rattle.std.specs.Prelude.{◌≤◌};
-ghost use Rattle.std.specs.Bool.{OnTrue};
+ghost use Rattle.std.specs.Prelude.{◌≤◌, OnOk};
 ghost use mathlib.Core.List.{IsPrefix};
 ghost use Rattle.clearmake.specs.Passes.{AreLanesDone};
 
 use crate::before_threads::act_before_threads;
 use crate::contexts::PhaseContext;
 use crate::desks::PhaseDesk;
-use crate::lanes::run_lanes;
+use crate::lanes::run_lanes_twice;
+use cc_names::memory::NoMemory;
 use cc_outside::Gate;
 use std::alloc::Global;
 use std::hash::RandomState;
@@ -20,12 +20,12 @@ use turn_lock::TurnLock;
 const WHOLE: u64 = 65_536;
 
 /// Carries out the commands of the lanes of a desk's phase: on this thread until a lane comes to a build, then the lanes in
-/// threads of their own, where each step is a turn at the desk, and builds have builders of their own. Each lane has at most so
-/// many turns in either part, of which it needs no more than one for each of its commands and one more.
+/// threads of their own, where each step is a turn at the desk, and builds have builders of their own. Where memory runs out
+/// among them, what is left is carried out once more, one lane after the other and each build by one builder.
 ///
-/// The desk comes back with a story that begins with its own. True where each lane has nothing left to do; not where memory or
-/// turns ran out, and whoever calls goes on with what is left. It need not return: it waits for the threads that it starts, and
-/// these wait for one another at the desk.
+/// The desk comes back with a story that begins with its own. On `Ok` each lane has nothing left to do. `Err` where memory ran
+/// out twice for a lane, among all and by itself, or where there was none for the lock; a build that had begun stays active.
+/// It need not return: it waits for the threads that it starts, and these wait for one another at the desk.
 pub fn run_phase<R: Threads + Wait + Sync, C: PhaseDesk + Send, G: Gate + Sync>(
     rt: &R,
     alloc: Global,
@@ -33,18 +33,17 @@ pub fn run_phase<R: Threads + Wait + Sync, C: PhaseDesk + Send, G: Gate + Sync>(
     gate: &G,
     desk: C,
     lanes: u32,
-    turns: u32,
-) -> (C, bool)
-    requires { (1 ≤ lanes) × (lanes ≤ 64) }
+) -> (C, Result<(), NoMemory>)
+    requires { lanes ≤ 64 }
     ensures begins { IsPrefix (C.story desk) (C.story result.0) }
-    ensures finished { OnTrue result.1 (AreLanesDone (C.story result.0) 1 lanes C.number) }
+    ensures finished { OnOk result.1 (AreLanesDone (C.story result.0) 1 lanes C.number) }
 {
     let mut desk = desk;
-    if act_before_threads(&mut desk, alloc, lanes, turns) {
-        return (desk, true);
+    if act_before_threads(&mut desk, alloc, lanes) || lanes == 0 {
+        return (desk, Ok(()));
     }
     match TurnLock::new(alloc, desk, WHOLE) {
-        Err(desk) => (desk, false),
+        Err(desk) => (desk, Err(NoMemory)),
         Ok((lock, pass)) => {
             let context = PhaseContext {
                 rt,
@@ -52,10 +51,9 @@ pub fn run_phase<R: Threads + Wait + Sync, C: PhaseDesk + Send, G: Gate + Sync>(
                 hashing,
                 lock: &lock,
                 gate,
-                turns,
             };
-            let (pass, done) = run_lanes(&context, pass, 1, lanes);
-            (lock.close(pass), done)
+            let (pass, ran) = run_lanes_twice(&context, pass, lanes);
+            (lock.close(pass), ran)
         }
     }
 }

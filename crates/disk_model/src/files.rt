@@ -9,25 +9,41 @@ use crate::disk::{Disk, DiskFault};
 use crate::named::NamedFile;
 use std::alloc::{AllocError, Global};
 use std::fs::File;
-use std::io;
 use std::rt::Files;
+use std::{fmt, io};
 
 /// The length that no file of a disk passes, 2^62.
 const MAX_LENGTH: u64 = 1 << 62;
 
-/// Why a call failed: the name of the file, and the system's error.
+/// What a call failed at, by the name of a file.
+#[derive(Clone, Copy, Debug)]
+pub enum Place<'a> {
+    File(&'a str),
+    FolderOf(&'a str),
+}
+
+impl fmt::Display for Place<'_> {
+    fn fmt<W: fmt::Write>(&self, f: &mut fmt::Formatter<W>) -> fmt::Result {
+        match self {
+            Place::File(name) => write!(f, "{name}"),
+            Place::FolderOf(name) => write!(f, "the folder of {name}"),
+        }
+    }
+}
+
+/// Why a call failed: at what, and the system's error.
 #[derive(Clone, Copy, Debug)]
 pub struct Trouble<'a> {
-    pub file: &'a str,
+    pub place: Place<'a>,
     pub cause: io::Error,
 }
 
 impl Trouble<'_> {
-    /// `FILE: WORDS`, where the words are the system's.
+    /// `PLACE: WORDS`, where the words are the system's.
     pub fn words(&self, alloc: Global) -> Result<String, AllocError> {
         let told = format!(in alloc; "{}", self.cause)?;
         let words = without_number(told.as_str());
-        format!(in alloc; "{}: {words}", self.file)
+        format!(in alloc; "{}: {words}", self.place)
     }
 }
 
@@ -39,95 +55,135 @@ fn without_number(told: &str) -> &str {
     }
 }
 
-/// Both files, the lock on them, and the first failure.
+/// What of a base a call failed at.
+#[derive(Clone, Copy)]
+enum Part {
+    Journal,
+    Objects,
+    Folder,
+}
+
+fn part_of(file: u8) -> Part {
+    if file == 0 {
+        Part::Journal
+    } else {
+        Part::Objects
+    }
+}
+
+/// Both files, and the first failure.
 #[derive(Drop)]
-struct BaseFiles<R: Files<File = File>> {
+struct BaseFiles<R: Files<File = File> + AllocGlobal> {
     rt: R,
     journal: NamedFile,
     objects: NamedFile,
-    /// The handle that holds the lock on the journal, from the first call on.
-    lock: Option<File>,
-    /// The first failure, and the file under which it came.
-    failed: Option<(u8, io::Error)>,
+    /// Whether both files are there, and their folder is synced.
+    made: bool,
+    /// The first failure, and what it came at.
+    failed: Option<(Part, io::Error)>,
 }
 
-impl<R: Files<File = File>> BaseFiles<R> {
-    fn file(&mut self, file: u8) -> &mut NamedFile {
+impl<R: Files<File = File> + AllocGlobal> BaseFiles<R> {
+    fn file(&self, file: u8) -> &NamedFile {
         if file == 0 {
-            &mut self.journal
+            &self.journal
         } else {
-            &mut self.objects
+            &self.objects
         }
     }
 
-    /// Notes a failure under a file, if it is the first.
-    fn note(&mut self, file: u8, cause: io::Error) -> DiskFault {
+    /// Notes a failure, if it is the first.
+    fn note(&mut self, part: Part, cause: io::Error) -> DiskFault {
         if self.failed.is_none() {
-            self.failed = Some((file, cause));
+            self.failed = Some((part, cause));
         }
         DiskFault
     }
 
-    /// Takes the lock, if this disk does not hold it yet, and opens what is not open.
-    fn open(&mut self) -> Result<(), DiskFault> {
-        if self.lock.is_none() {
-            match self.journal.locked(&self.rt) {
-                Ok(lock) => self.lock = Some(lock),
-                Err(cause) => return Err(self.note(0, cause)),
-            }
+    fn open_journal(&mut self) -> Result<(), DiskFault> {
+        match self.journal.open(&self.rt) {
+            Ok(()) => Ok(()),
+            Err(cause) => Err(self.note(Part::Journal, cause)),
         }
-        if let Err(cause) = self.journal.open(&self.rt) {
-            return Err(self.note(0, cause));
+    }
+
+    fn open_objects(&mut self) -> Result<(), DiskFault> {
+        match self.objects.open(&self.rt) {
+            Ok(()) => Ok(()),
+            Err(cause) => Err(self.note(Part::Objects, cause)),
         }
-        if let Err(cause) = self.objects.open(&self.rt) {
-            return Err(self.note(1, cause));
+    }
+
+    /// Opens a file, and the journal before it.
+    fn open(&mut self, file: u8) -> Result<(), DiskFault> {
+        self.open_journal()?;
+        if file == 0 {
+            return Ok(());
         }
+        self.open_objects()
+    }
+
+    /// Opens both files, and syncs their folder once: without that a power cut may take a file that was made, whatever of it
+    /// was synced.
+    fn make(&mut self) -> Result<(), DiskFault> {
+        self.open(1)?;
+        if self.made {
+            return Ok(());
+        }
+        if let Err(cause) = self.journal.sync_folder(&self.rt) {
+            return Err(self.note(Part::Folder, cause));
+        }
+        self.made = true;
         Ok(())
     }
 
     fn measure(&mut self, file: u8) -> Result<u64, DiskFault>
         ensures { IfOk result (λ length. length ≤ 2 ^ 62) }
     {
-        self.open()?;
+        self.open(file)?;
         match self.file(file).measure() {
             Ok(length) if length <= MAX_LENGTH => Ok(length),
-            Ok(_) => Err(self.note(file, io::ErrorKind::FileTooLarge.into())),
-            Err(cause) => Err(self.note(file, cause)),
+            Ok(_) => Err(self.note(part_of(file), io::ErrorKind::FileTooLarge.into())),
+            Err(cause) => Err(self.note(part_of(file), cause)),
         }
     }
 
     fn read(&mut self, file: u8, place: u64, into: &mut [u8]) -> Result<(), DiskFault> {
-        self.open()?;
+        self.open(file)?;
         match self.file(file).read(place, into) {
             Ok(()) => Ok(()),
-            Err(cause) => Err(self.note(file, cause)),
+            Err(cause) => Err(self.note(part_of(file), cause)),
         }
     }
 
     fn write(&mut self, file: u8, place: u64, piece: &[u8]) -> Result<(), DiskFault> {
-        self.open()?;
+        self.make()?;
         match self.file(file).write(place, piece) {
             Ok(()) => Ok(()),
-            Err(cause) => Err(self.note(file, cause)),
+            Err(cause) => Err(self.note(part_of(file), cause)),
         }
     }
 
     fn sync(&mut self, file: u8) -> Result<(), DiskFault> {
-        self.open()?;
+        self.open(file)?;
         match self.file(file).sync() {
             Ok(()) => Ok(()),
-            Err(cause) => Err(self.note(file, cause)),
+            Err(cause) => Err(self.note(part_of(file), cause)),
         }
     }
 }
 
-/// A disk over two files, which it opens, creates where they are absent, and syncs, at its first call. With that call it
-/// takes the exclusive lock of the first file, and holds it as long as it lives: where another program has the lock each
-/// call is a fault, and nothing is read or written. No handle is a standard descriptor, so nothing that is printed gets
-/// into a file, also where standard output is closed. A handle whose call failed is dropped, and the file is opened anew
-/// at the next call.
+/// A disk over two files. The first file is opened at the first call, and made where it is absent; the second at the first call
+/// on it or the first write. With the first write their folder is synced, once, before anything is written. Each file is opened
+/// once: the handle is kept as long as the disk lives, whatever fails, and all calls go through it alone. So where a file is
+/// moved away the calls go on with that file, and another that gets its name is left alone.
+///
+/// As a file is opened its exclusive lock is taken, and held as long as the disk lives: where another program has the lock each
+/// call is a fault, and nothing is read or written. Then it is synced. What a sync that failed in an earlier run left may be read
+/// from the system's memory without being on the disk: no call of this disk can tell. No handle is a standard descriptor, so
+/// nothing that is printed gets into a file, also where standard output is closed.
 #[derive(Drop)]
-pub struct FileDisk<R: Files<File = File>> {
+pub struct FileDisk<R: Files<File = File> + AllocGlobal> {
     files: BaseFiles<R>,
     ticks: u64,
     faults: u64,
@@ -135,7 +191,7 @@ pub struct FileDisk<R: Files<File = File>> {
     ghost faults_fit: { faults < 2 ^ 64 },
 }
 
-impl<R: Files<File = File>> FileDisk<R> {
+impl<R: Files<File = File> + AllocGlobal> FileDisk<R> {
     /// The disk over the files of these names. It opens nothing yet.
     pub fn new(rt: R, journal: String, objects: String) -> FileDisk<R> {
         FileDisk {
@@ -143,7 +199,7 @@ impl<R: Files<File = File>> FileDisk<R> {
                 rt,
                 journal: NamedFile::new(journal),
                 objects: NamedFile::new(objects),
-                lock: None,
+                made: false,
                 failed: None,
             },
             ticks: 0,
@@ -151,15 +207,26 @@ impl<R: Files<File = File>> FileDisk<R> {
         }
     }
 
+    /// Goes on with the open files of another disk, and with their locks. The calls of that disk do not count here.
+    pub fn take_over(&mut self, other: FileDisk<R>)
+    where
+        R: Drop,
+        ensures ticks { self.new.ticks ≡ self.old.ticks }
+        ensures faults { self.new.faults ≡ self.old.faults }
+    {
+        self.files = other.files;
+    }
+
     /// Why the first of the calls that failed did so, for a user to read; none where each call so far was made.
     pub fn trouble(&self) -> Option<Trouble<'_>> {
-        let (file, cause) = self.files.failed?;
-        let name = if file == 0 {
-            self.files.journal.name()
-        } else {
-            self.files.objects.name()
+        let (part, cause) = self.files.failed?;
+        let journal = self.files.journal.name();
+        let place = match part {
+            Part::Journal => Place::File(journal),
+            Part::Objects => Place::File(self.files.objects.name()),
+            Part::Folder => Place::FolderOf(journal),
         };
-        Some(Trouble { file: name, cause })
+        Some(Trouble { place, cause })
     }
 
     /// Counts a call, if one may still be made.
@@ -184,7 +251,7 @@ impl<R: Files<File = File>> FileDisk<R> {
     }
 }
 
-impl<R: Files<File = File>> Disk for FileDisk<R> {
+impl<R: Files<File = File> + AllocGlobal> Disk for FileDisk<R> {
     ghost use Rattle.std.specs.Prelude.{None, false, refl};
     ghost use Rattle.disk_model.specs.Told.{Sight};
 

@@ -20,5 +20,5 @@ mod named;
 pub use calls::{Call, TracedCall};
 pub use cc_names::steps::Counts;
 pub use disk::{Disk, DiskFault};
-pub use files::{FileDisk, Trouble};
+pub use files::{FileDisk, Place, Trouble};
 pub use memory::MemoryDisk;

@@ -132,6 +132,62 @@ fn failures_are_told(rt: HostRuntime) -> Result<(), Fail> {
         tell_trouble(&rt, rt.alloc(), disk.trouble(), words)?;
     }
     fs::remove_file(&rt, "disk_model_held")?;
-    fs::remove_file(&rt, "disk_model_held.objects")?;
+    Ok(())
+}
+
+/// The second file is made with the first write, and where it cannot be made nothing is written.
+#[test]
+fn a_journal_that_is_read_has_no_second_file(rt: HostRuntime) -> Result<(), Fail> {
+    let objects = "disk_model_read.objects";
+    let mut disk = files_of(&rt, "disk_model_read")?;
+    let is_read = disk.length(0) == Ok(0) && disk.sync(0).is_ok();
+    assert!(rt; is_read && !fs::exists(&rt, objects)?);
+    fs::create_dir(&rt, objects)?;
+    let failed = disk.write_at(0, 0, b"a").is_err();
+    assert!(rt; failed && disk.length(0) == Ok(0));
+    let words = "disk_model_read.objects: Is a directory";
+    tell_trouble(&rt, rt.alloc(), disk.trouble(), words)?;
+    fs::remove_dir(&rt, objects)?;
+    fs::remove_file(&rt, "disk_model_read")?;
+    Ok(())
+}
+
+/// Whether a file holds this text.
+fn tell_text(rt: &impl Abort, files: &HostRuntime, name: &str, text: &str) -> Result<(), Fail> {
+    assert_eq!(rt; fs::read_to_string(files, name)?.as_str(), text);
+    Ok(())
+}
+
+/// A disk whose file is moved away goes on with it, also behind a call that failed, and leaves the next file of that name alone.
+#[test]
+fn a_file_that_is_moved_away_is_written_on(rt: HostRuntime) -> Result<(), Fail> {
+    let name = "disk_model_moved";
+    let mut disk = files_of(&rt, name)?;
+    assert!(rt; disk.write_at(0, 0, b"old").is_ok());
+    fs::rename(&rt, name, "disk_model_away")?;
+    fs::write(&rt, name, "new")?;
+    let failed = disk.read_at(0, 9, &mut [0u8; 1]).is_err();
+    let is_written = disk.write_at(0, 3, b"er").is_ok() && disk.sync(0).is_ok();
+    assert!(rt; failed && is_written && disk.length(0) == Ok(5));
+    tell_text(&rt, &rt, "disk_model_away", "older")?;
+    tell_text(&rt, &rt, name, "new")?;
+    for file in [name, "disk_model_away", "disk_model_moved.objects"] {
+        fs::remove_file(&rt, file)?;
+    }
+    Ok(())
+}
+
+/// A disk that takes over goes on under the lock of the other, and counts its own calls alone.
+#[test]
+fn a_disk_goes_on_with_the_files_of_another(rt: HostRuntime) -> Result<(), Fail> {
+    let name = "disk_model_taken";
+    let mut other = files_of(&rt, name)?;
+    assert!(rt; other.write_at(0, 0, b"text").is_ok());
+    let mut disk = files_of(&rt, name)?;
+    disk.take_over(other);
+    assert_eq!(rt; disk.counts().ticks, 0);
+    assert!(rt; disk.length(0) == Ok(4) && files_of(&rt, name)?.length(0).is_err());
+    fs::remove_file(&rt, name)?;
+    fs::remove_file(&rt, "disk_model_taken.objects")?;
     Ok(())
 }

@@ -24,17 +24,14 @@
 
 mod desks;
 mod failures;
-mod lanes;
 pub mod laws;
 mod lines;
-mod moves;
 mod phases;
 mod run;
 mod sessions;
 mod statuses;
 mod threads;
 mod transcripts;
-mod turns;
 mod words;
 
 pub use run::{SessionResult, run_words};

@@ -10,13 +10,12 @@ ghost use Rattle.legal_history.specs.Stories.Steps.{state_of};
 ghost use Rattle.legal_history.specs.Stories.Lawful.{last_moment};
 ghost use Rattle.base_core.specs.Story.Counted.{KeepsCount};
 ghost use Rattle.base_core.specs.Story.Replying.{replies_of};
-ghost use Rattle.session_run.specs.Running.Lanes.{RunsPhase, LeavesPhase};
+ghost use Rattle.session_run.specs.Running.Phases.{RunsPhase, LeavesPhase};
 ghost use Rattle.session_run.specs.Running.Runs.{outside_of, IsJustOpened, IsReadyPhase, IsRunnable, HasRunPhases, IsRunGivenUp, OnWriteFault};
 ghost use Rattle.session_run.specs.Story.Begun.{first_step, is_opened};
 ghost use Rattle.session_run.specs.Story.Rendered.{transcript};
 
 use crate::failures::any_failed;
-use crate::lanes::run_lanes;
 use crate::threads::{Host, run_on_threads};
 use crate::transcripts::transcript;
 use base_core::Core;
@@ -40,8 +39,7 @@ fn moment_of<C: Clock>(clock: &mut C) -> u64
     clock.now().min(LAST_MOMENT)
 }
 
-/// Begins a phase and carries out its commands: its lanes, on threads once one builds, and then what want of memory left, on
-/// this one. The core comes back in every case.
+/// Begins a phase and carries out its commands, its lanes on threads once one builds. The core comes back in every case.
 fn run_commands<R: Threads + Wait + Sync, G: Gate + Sync, D: Disk + Send>(
     host: &Host<'_, R, G>,
     core: Core<D>,
@@ -60,14 +58,7 @@ fn run_commands<R: Threads + Wait + Sync, G: Gate + Sync, D: Disk + Send>(
 {
     let mut core = core;
     match core.begin_phase(host.alloc, phase, moment) {
-        Ok(()) => {
-            let (mut core, done) = run_on_threads(host, core);
-            if done {
-                return (core, Ok(()));
-            }
-            let ran = run_lanes(host.alloc, &mut core);
-            (core, ran)
-        }
+        Ok(()) => run_on_threads(host, core),
         Err(error) => (core, Err(error)),
     }
 }

@@ -15,7 +15,7 @@ use std::hash::RandomState;
 use story_log::OpenCause;
 
 /// The most bytes of a session's text.
-pub(crate) const TEXT_LIMIT: usize = 16_777_216;
+const TEXT_LIMIT: usize = 16_777_216;
 
 /// Why a session is not started.
 #[derive(Clone, Copy, Debug, PartialEq, Eq)]

@@ -1,8 +1,6 @@
 //! The lanes of a phase, on threads once one of them builds.
 
-ghost use Rattle.std.specs.Prelude.{◌≡◌, ◌≤◌, ℕ, true, length};
-ghost use Rattle.std.specs.Bool.{OnTrue};
-ghost use Rattle.legal_history.specs.Stories.Lanes.{IsWithin};
+ghost use Rattle.std.specs.Prelude.{◌≡◌, ◌≤◌, true, length, OnOk};
 ghost use Rattle.legal_history.specs.Stories.States.{all_done};
 ghost use Rattle.legal_history.specs.Stories.Steps.{state_of};
 ghost use Rattle.clearmake.specs.Passes.{AreLanesDone};
@@ -10,8 +8,8 @@ ghost use Rattle.session_run.specs.Running.Since.{IsSince};
 ghost use Rattle.session_run.specs.Story.Begun.{is_opened};
 
 use crate::desks::{Beginning, PhaseCore};
-use crate::sessions::TEXT_LIMIT;
 use base_core::Core;
+use cc_names::memory::NoMemory;
 use cc_outside::Gate;
 use clearmake::run_phase;
 use disk_model::Disk;
@@ -22,9 +20,6 @@ use std::marker::{Brand, PhantomData};
 use std::sync::Wait;
 use std::thread::Threads;
 
-// How many turns a lane has at most: it has fewer commands, since the text of a session has no more bytes.
-const TURNS: u32 = TEXT_LIMIT as u32;
-
 /// What the phases of a session are run by: threads, memory, the keys for hashing, and the gate of the runs of scripts.
 #[derive(Drop)]
 pub(crate) struct Host<'a, R, G> {
@@ -34,57 +29,43 @@ pub(crate) struct Host<'a, R, G> {
     pub(crate) gate: &'a G,
 }
 
-/// Carries out commands of so many lanes of the last phase, on threads once one builds, where `P` fixes how the core stood as
-/// it had begun.
+/// Carries out the commands of so many lanes of the last phase, on threads once one builds, where `P` fixes how the core stood
+/// as it had begun.
 fn run_lanes_at<
     R: Threads + Wait + Sync,
     G: Gate + Sync,
     D: Disk + Send,
     P: Beginning + Send + Sync,
->(host: &Host<'_, R, G>, core: Core<D>, lanes: u32) -> (Core<D>, bool)
+>(host: &Host<'_, R, G>, core: Core<D>, lanes: u32) -> (Core<D>, Result<(), NoMemory>)
     requires since { IsSince P.at core }
-    requires lanes { (1 ≤ lanes) × (lanes ≤ 64) }
+    requires lanes { lanes ≤ 64 }
     ensures since { IsSince P.at result.0 }
-    ensures finished { OnTrue result.1
+    ensures finished { OnOk result.1
         (AreLanesDone result.0.story 1 lanes (state_of P.at.story).number) }
 {
     let desk: PhaseCore<D, P> = PhaseCore {
         core,
         of: PhantomData,
     };
-    let (desk, done) = run_phase(
-        host.rt,
-        host.alloc,
-        host.hashing,
-        host.gate,
-        desk,
-        lanes,
-        TURNS,
-    );
+    let (desk, ran) = run_phase(host.rt, host.alloc, host.hashing, host.gate, desk, lanes);
     let PhaseCore { core, of: _ } = desk;
-    (core, done)
+    (core, ran)
 }
 
-/// Carries out commands of the last phase, the lanes in threads once one builds, and each build with builders of its own.
-/// True where none is left. False where memory or a lane's turns ran out, and for a phase without lanes: then the caller goes
-/// on.
+/// Carries out the commands of the last phase, the lanes in threads once one builds, and each build with builders of its own.
+/// Fails where `run_phase` does, with commands left.
 pub(crate) fn run_on_threads<R: Threads + Wait + Sync, G: Gate + Sync, D: Disk + Send>(
     host: &Host<'_, R, G>,
     core: Core<D>,
-) -> (Core<D>, bool)
+) -> (Core<D>, Result<(), NoMemory>)
     requires few { length (state_of core.story).phase.lanes ≤ 64 }
     requires opened { is_opened core.story ≡ true }
     ensures since { IsSince core result.0 }
-    ensures within { (lane : ℕ) → IsWithin (state_of result.0.story) lane }
-    ensures finished { OnTrue result.1 (all_done (state_of result.0.story) ≡ true) }
+    ensures finished { OnOk result.1 (all_done (state_of result.0.story) ≡ true) }
 {
     a_lane_is_within_its_commands();
     let lanes = core.lanes() as u32;
-    if lanes == 0 {
-        core.legal();
-        return (core, false);
-    }
-    let (core, done) = run_lanes_at::<R, G, D, Brand>(host, core, lanes);
+    let (core, ran) = run_lanes_at::<R, G, D, Brand>(host, core, lanes);
     core.legal();
-    (core, done)
+    (core, ran)
 }

@@ -1,16 +1,14 @@
-//! The turn of a unit of a lane's build: what comes next for it, and the run of its script.
+//! The turn of a unit of a lane's build: what comes next for it, and its outcome once its script was run.
 
 ghost use Rattle.std.specs.Prelude.{◌≡◌};
 ghost use Rattle.build_core.specs.Comes.{came_of};
 ghost use Rattle.legal_history.specs.Builds.Turns.{came_by_start};
 
 use super::Core;
-use build_core::{Came, UnitStep, run_unit, step};
+use build_core::{Came, UnitStep, step};
 use build_script::outcomes::{Ended, Written};
-use build_script::scripts::Script;
 use cc_names::copies::Copied;
 use cc_names::memory::NoMemory;
-use cc_names::paths::Path;
 use cc_names::refusals::{ScriptFault, UnitFault};
 use cc_names::steps::{Step, UnitEnd};
 use clearmake::{TurnEnd, UnitTurn};
@@ -34,7 +32,7 @@ impl<D: Disk> Core<D> {
     ghost use Rattle.build_script.specs.Ended.{ran_of};
     ghost use Rattle.legal_history.specs.Builds.Turns.{came_by_start};
     ghost use Rattle.legal_history.specs.Stories.Steps.{state_of};
-    ghost use Rattle.clearmake.specs.Calls.{IsBuilding, IsCarried, IsRunOfUnit, IsStarted, Concludes, Tries};
+    ghost use Rattle.clearmake.specs.Calls.{IsBuilding, IsCarried, IsRunOfUnit, Concludes, Tries};
     ghost use Rattle.base_core.specs.Calls.BuildCalls.{HasRun, MayConclude, MayStart, Noted, Notes, StepsTo};
     ghost use Rattle.base_core.specs.Story.Counted.{KeepsCount};
     ghost use Rattle.clearmake.specs.Going.{HasOutcome};
@@ -154,33 +152,6 @@ impl<D: Disk> Core<D> {
     {
         self.look_ahead(lane, unit);
         self.take_step(alloc, lane, unit)
-    }
-
-    /// Runs the script of a unit of a lane's build that was started, on what the unit sees, which is the same at every moment
-    /// since its start. The story does not go on. Fails only where memory runs out.
-    ///
-    /// Takes time linear in what the script reads and writes, and for each read one look-up of its path.
-    pub fn run(
-        &self,
-        alloc: Global,
-        lane: u32,
-        unit: u32,
-        script: &Script,
-        targets: &[Path],
-    ) -> Result<Ended, NoMemory>
-        requires { IsStarted (state_of self.now.story) lane unit script.now targets.now }
-        ensures { IfOk result
-            (λ ended. IsRunOfUnit (state_of self.now.story) lane unit (ran_of ended)) }
-    {
-        run_unit(
-            alloc,
-            self.hashing,
-            &self.rows(),
-            self.build_at(lane),
-            unit,
-            script,
-            targets,
-        )
     }
 
     /// Gives a unit of a lane's build whose script was run its outcome: an object, or the script's fault. Where the disk fails

@@ -27,7 +27,7 @@ use Rattle.legal_history.proofs.Decisions.Handed.{IfDecided}
 use Rattle.legal_history.proofs.Decisions.Queried.{query_is}
 use Rattle.legal_history.specs.Stories.States.{State, start, scene, done_of, with_done, is_next, next_tag, decided, build_if, build_by}
 use Rattle.legal_history.specs.Stories.Steps.{after, done_after, done_by_fault, state_of}
-use Rattle.session_run.specs.Running.Lanes.{Goes}
+use Rattle.session_run.specs.Running.Phases.{Goes}
 use Rattle.session_run.proofs.Running.Within.{done_same, done_other}
 use Rattle.session_run.proofs.Story.MoreSteps.{state_more}
 

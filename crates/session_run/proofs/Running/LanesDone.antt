@@ -1,6 +1,6 @@
 -- Where each lane of a phase has nothing left to do, all of its commands are finished.
-use Rattle.std.proofs.Common.{◌≡◌, refl, ℕ, Bool, true, false, Option, Some, None, List, length, subst, arith}
-use Rattle.std.specs.Bool.{OnTrue}
+use Rattle.std.proofs.Common.{◌≡◌, refl, ℕ, true, Option, Some, None, Result, Ok, Err, List, length, arith}
+use Rattle.std.specs.Prelude.{OnOk}
 use Rattle.cc_names.specs.declared.commands.Command.{Command}
 use Rattle.cc_names.specs.declared.commands.Command.TheVariants as commands
 use Rattle.cc_names.specs.declared.desks.Next.TheVariants as nexts
@@ -29,10 +29,7 @@ phase_is_done story lanes number count within done =
     let lane = done k from (omega (arith, count, upto)) in
     finished_where (state_of story) k (within k) (none_by (command_of (state_of story) k) (next_tag (state_of story) k) lane.finished))
 
-pub phase_done_if : (done : Bool) (story : List StoryStep) (lanes number : ℕ) → lanes ≡ length (state_of story).phase.lanes → ((k : ℕ) → IsWithin (state_of story) k) → OnTrue done (AreLanesDone story 1 lanes number) → OnTrue done (all_done (state_of story) ≡ true)
-phase_done_if true story lanes number count within h = phase_is_done story lanes number count within h
-phase_done_if false story lanes number count within h = tt
-
--- what holds where a flag is true, of one that is
-pub of_true : (flag : Bool) (P : Type 0) → flag ≡ true → OnTrue flag P → P
-of_true flag P e h = let Q : Bool → Type 0 = λ b. OnTrue b P in subst Q e h
+-- so it is by what running the lanes answered
+pub phase_done_if : {A E : Type 0} (ran : Result A E) (story : List StoryStep) (lanes number : ℕ) → lanes ≡ length (state_of story).phase.lanes → ((k : ℕ) → IsWithin (state_of story) k) → OnOk ran (AreLanesDone story 1 lanes number) → OnOk ran (all_done (state_of story) ≡ true)
+phase_done_if (Ok a) story lanes number count within h = phase_is_done story lanes number count within h
+phase_done_if (Err error) story lanes number count within h = tt

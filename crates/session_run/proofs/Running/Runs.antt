@@ -21,7 +21,7 @@ use Rattle.legal_history.specs.Stories.Steps.{after, state_of}
 use Rattle.legal_history.specs.Stories.Lawful.{last_moment}
 use Rattle.base_core.specs.Story.Replying.{replies_after, replies_from, replies_of, no_replies}
 use Rattle.session_run.specs.Promises.Headline.{IsCutAtLast, clock_moments}
-use Rattle.session_run.specs.Running.Lanes.{GoesInPhase, RunsPhase, LeavesPhase}
+use Rattle.session_run.specs.Running.Phases.{GoesInPhase, RunsPhase, LeavesPhase}
 use Rattle.session_run.specs.Running.Runs.{IsJustOpened, Outside, HasRunPhases, IsCutBy, IsRunGivenUp, ReadsBy}
 use Rattle.session_run.specs.Story.Begun.{phases_begun, moments_begun, is_opened}
 use Rattle.session_run.specs.Story.Rendered.{EndedPhase, Replies, earlier_phases, ended_phases, replies_over, last_phase, phase_where, is_ended, transcript, transcript_of, transcripts, lanes_fail, phase_fails}

@@ -1,12 +1,10 @@
 -- How many commands a lane has finished, of those that it has.
-use Rattle.std.proofs.Common.{◌≡◌, ◌≢◌, ℕ, zero, suc, ◌+◌, ◌<◌, ◌≤◌, ◌==◌, ◌⊎◌, inl, inr, Bool, true, false, cond, Option, Some, None, List, [], ◌∷◌, length, refl, ap, ap₂, ◌∙◌, arith}
+use Rattle.std.proofs.Common.{◌≡◌, ◌≢◌, ℕ, zero, suc, ◌+◌, ◌<◌, ◌≤◌, ◌==◌, true, false, cond, Option, Some, None, List, [], ◌∷◌, length, refl, ap, ap₂, ◌∙◌, arith}
 use Rattle.std.specs.Prelude.{unwrap_or, option_and_then, slice_get, ◌&&◌}
 use Rattle.std.specs.Ordering.{nat_cmp, eq_by_cmp}
 use Rattle.std.specs.FinMap.Entries.{find, find-put}
 use Rattle.std.proofs.lemmas.Cmp.{nat_cmp_total}
-use Rattle.std.proofs.lemmas.Bool.{eqb-true}
 use Rattle.std.proofs.lemmas.Bool.Decides.{nat_tests}
-use Rattle.std.proofs.lemmas.Option.{slice_get_within}
 use Rattle.cc_names.specs.Commands.{lane_at}
 use Rattle.cc_names.specs.declared.commands.Command.{Command}
 use Rattle.cc_names.specs.declared.commands.Lane.{Lane}
@@ -23,21 +21,6 @@ pub done_other : (done : List (ℕ × ℕ)) (lane other : ℕ) → other ≢ lan
 done_other done lane other differs =
     let apart : eq_by_cmp nat_cmp other lane ≡ false = grind (arith, nat_tests) in
     ap (λ found. unwrap_or found 0) (find-put nat_cmp nat_cmp_total other lane (done_of done lane + 1) done ∙ ap (λ is. cond is (Some (done_of done lane + 1)) (find nat_cmp other done)) apart)
-
-pub one_or_two : (a b : ℕ) → (a ≡ b) ⊎ (a ≢ b)
-one_or_two a b = by_test (a == b) refl
-  where
-    by_test : (is : Bool) → (a == b) ≡ is → (a ≡ b) ⊎ (a ≢ b)
-    by_test true e = inl (eqb-true a b e)
-    by_test false e = inr (λ same. absurd (grind (arith, nat_tests)))
-
--- a command waits where fewer are finished than the lane has
-behind_is : (done : ℕ) (found : Option Lane) (command : Command) → option_and_then (command_behind done) found ≡ Some command → done < count_of found
-behind_is done None command e = absurd (cc)
-behind_is done (Some lane) command e = slice_get_within lane.commands done command e
-
-pub waits_below : (s : State) (lane : ℕ) (command : Command) → command_of s lane ≡ Some command → done_of s.done lane < count_of (lane_at s.phase lane)
-waits_below s lane command e = behind_is (done_of s.done lane) (lane_at s.phase lane) command e
 
 past : (xs : List Command) (n : ℕ) → slice_get xs n ≡ None → length xs ≤ n
 past [] n e = omega arith

@@ -9,7 +9,7 @@ use Rattle.legal_history.specs.Stories.States.{State, start}
 use Rattle.legal_history.specs.Stories.Steps.{after, after_step, state_from, state_of}
 use Rattle.clearmake.specs.Going.{SamePhase}
 use Rattle.base_core.specs.Story.Replying.{no_replies, replies_after}
-use Rattle.session_run.specs.Running.Lanes.{Goes}
+use Rattle.session_run.specs.Running.Phases.{Goes}
 use Rattle.session_run.specs.Story.Begun.{phases_begun, moments_begun, first_step, is_opened}
 use Rattle.session_run.specs.Story.Rendered.{Replies, closed_by, closed_over, earlier_phases, replies_over}
 

@@ -2,7 +2,7 @@
 use Rattle.std.specs.Prelude.{◌≡◌, true}
 use Rattle.base_core.specs.Story.Counted.{KeepsCount}
 use Rattle.base_core.specs.Story.Shown.{Shown}
-use Rattle.session_run.specs.Running.Lanes.{Goes}
+use Rattle.session_run.specs.Running.Phases.{Goes}
 use Rattle.session_run.specs.Story.Begun.{is_opened}
 
 -- Since a core stood so its story went on within its last phase, by steps that say what became of the disk's counts.

@@ -1,7 +1,8 @@
-use Rattle.std.proofs.Common.{◌-◌, ◌/◌, sym, ◌∙◌, arith}
+use Rattle.std.proofs.Common.{◌-◌, ◌/◌, sym, subst, arith}
+use Rattle.std.specs.Prelude.{OnOk}
+use Rattle.clearmake.specs.Passes.{AreLanesDone}
 use Rattle.clearmake.proofs.Joins.{joined_later}
-use Rattle.clearmake.proofs.Laning.{lanes_joined, of_true, on_true}
-use Rattle.clearmake.proofs.lanes.+fn-run_lanes-join+arg2+fn-run_lanes-join+arg3+run_lanes.Goals.{then-done, else-done}
+use Rattle.clearmake.proofs.Laning.{both_done}
 use Rattle.clearmake.proofs.lanes.+fn-run_lanes-join+arg2+fn-run_lanes-join+arg3+run_lanes.Goals as goal
 
 pub returns-clause-pass : goal.returns-clause-pass
@@ -11,11 +12,6 @@ returns-clause-pass g t c =
 
 pub returns-clause-finished : goal.returns-clause-finished
 returns-clause-finished g t c =
-    elim c.if-done.branch [
-      | then-done w ↦ on_true c.if-done.result _ (λ all.
-          lanes_joined c.args.first (c.args.lanes - c.args.lanes / 2) (c.args.lanes / 2) c.args.lanes _ _ _ _ (omega arith) (omega arith) (omega arith)
-          (of_true _ _ w.if-done.true c.join-two.ensures.second.1)
-          (of_true _ _ (sym w.result-is ∙ all) c.join-two.ensures.first.1)
-          c.join.ensures.seen)
-      | else-done w ↦ on_true c.if-done.result _ (λ all. absurd (cc (all, w.result-is, w.if-done.false)))
-    ]
+    subst (λ r. OnOk r (AreLanesDone c.join.result.seen c.args.first c.args.lanes g.T.PhaseDesk.number)) (sym c.and.ensures)
+    (both_done c.args.first (c.args.lanes - c.args.lanes / 2) (c.args.lanes / 2) c.args.lanes _ _ _ _ c.join-two.result.1.1 c.join-two.result.0.1 (omega arith) (omega arith) (omega arith)
+    c.join-two.ensures.second.1 c.join-two.ensures.first.1 c.join.ensures.seen)

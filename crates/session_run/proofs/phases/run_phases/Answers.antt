@@ -6,7 +6,7 @@ use Rattle.cc_outside.specs.Moments.{moment_at}
 use Rattle.legal_history.specs.Stories.Lawful.{last_moment}
 use Rattle.base_core.proofs.Story.Counts.{keeps_count, keeps_further}
 use Rattle.session_run.specs.Calls.Asked.{text_limit}
-use Rattle.session_run.specs.Running.Lanes.{LeavesPhase, RunsPhase}
+use Rattle.session_run.specs.Running.Phases.{LeavesPhase, RunsPhase}
 use Rattle.session_run.specs.Running.Runs.{IsReadyPhase, Outside}
 use Rattle.session_run.proofs.Running.Runs.{run_goes_on, run_leaves, run_is_cut, run_starts, in_hand}
 use Rattle.session_run.proofs.phases.run_phases.Goals as goal

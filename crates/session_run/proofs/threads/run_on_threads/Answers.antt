@@ -3,9 +3,6 @@ use Rattle.session_run.proofs.Running.LanesDone.{phase_done_if}
 use Rattle.session_run.proofs.Running.SinceSteps.{since_itself}
 use Rattle.session_run.proofs.threads.run_on_threads.Goals as goal
 
-pub returns-then-lanes-eq0-clause-since : goal.returns-then-lanes-eq0-clause-since
-returns-then-lanes-eq0-clause-since g c = since_itself c.args.core c.requires.opened
-
 pub run_lanes_at-core-requires-clause-since : goal.run_lanes_at-core-requires-clause-since
 run_lanes_at-core-requires-clause-since g c κs within = since_itself c.args.core c.requires.opened
 
@@ -13,5 +10,5 @@ pub returns-clause-finished : goal.returns-clause-finished
 returns-clause-finished g c =
     phase_done_if c.run_lanes_at-core.result.1 c.run_lanes_at-core.result.0.story _ _
     (omega (arith, c.lanes-lanes.ensures, c.requires.few, ap (λ p. length p.lanes) c.run_lanes_at-core.ensures.since.goes.phase))
-    (λ k. c.a_lane_is_within_its_commands.ensures c.run_lanes_at-core.result.0.story k c.legal-2.ensures)
+    (λ k. c.a_lane_is_within_its_commands.ensures c.run_lanes_at-core.result.0.story k c.legal.ensures)
     c.run_lanes_at-core.ensures.finished
