@@ -17,22 +17,22 @@ WIDTH = 120
 FROM_CLEARCASE_HEAD = """\
 # Coming from ClearCase, git, make or Bazel
 
-Made by `tools/write_command_docs.py` from `tools/command_table.py`. A command is a line of a session, which `ccbase FILE run`
-reads from standard input. GUIDE tells how they are used and what each answers, FORMATS how each is spelled.
+Written by `tools/write_command_docs.py` from `tools/command_table.py`. Each command is a line of a session, which `ccbase FILE run`
+reads from standard input. GUIDE explains how to use them, FORMATS has their grammar.
 """
 
 ELSEWHERE_HEAD = """\
 ## From git, make and Bazel
 
-What comes nearest. Two things have no counterpart there. A version is of one file, and a view's config spec selects one of each
-file by itself, so there is no commit of a whole tree; a label plays its part. And a build compares with what was *read*, by the
-records of scripts: prerequisites say what is built first, and neither times nor declared inputs decide what is built again.
+The nearest counterparts. Two things have none. A version is of one file, and a config spec selects a version of each file, so there
+is no commit of a whole tree; use a label. And a build compares what scripts *read* with what the view selects now. Prerequisites
+only decide the order, and neither timestamps nor declared inputs decide what is rebuilt.
 """
 
 MISSING_HEAD = """\
-## What is not there
+## What is missing
 
-Of the commands of `cleartool` and `clearmake` and their options.
+Commands and options of `cleartool` and `clearmake` without a counterpart.
 """
 
 
@@ -84,7 +84,7 @@ def elsewhere_table():
 
 def missing_table():
     """What ClearCase has and a session has not."""
-    lines = [MISSING_HEAD, "| not there | why | instead |", "|---|---|---|"]
+    lines = [MISSING_HEAD, "| missing | why | instead |", "|---|---|---|"]
     for entry in table.MISSING:
         lines.append(f"| {cell(entry.names)} | {cell(entry.why)} | {cell(entry.instead)} |")
     return "\n".join(lines) + "\n"
@@ -137,14 +137,14 @@ reads a session from standard input, runs it on the base that the files
 .I FILE
 and
 .IR FILE .objects
-keep, and writes its replies to standard output. Files that are absent are made, and are an empty base.
+keep, and writes the replies to standard output. Absent files are created as an empty base.
 .I FILE
-is locked meanwhile.
+is locked during the run.
 .PP
-A session is lines: phases, their lanes and the commands of each. The phases are run one after the other, the lanes of a phase at
-once. Lines that begin with
+A session is a list of phases, run one after another. The lanes of a phase run concurrently, and the commands of a lane in order.
+Lines that begin with
 .B #
-are notes. The text of a
+are comments. The text of a
 .B save
 or
 .B setcs
@@ -159,7 +159,7 @@ MAN_TAIL = r""".SH FILES
 The journal: the rows of the base.
 .TP
 .IR FILE .objects
-Stands beside it, and is empty so far.
+Kept beside it; empty so far.
 .SH EXAMPLE
 .nf
 printf 'phase\enlane a\enmkview v\en' | ccbase demo.base run
@@ -239,7 +239,7 @@ def help_list():
     """The list of `ccbase --help`."""
     shown = [(command.form, command.does) for command in table.commands()]
     indent = 34
-    lines = ["The lines of a session; behind save and setcs stand the lines of a text, each with a | in front"]
+    lines = ["The lines of a session; save and setcs are followed by a text, each line of it with a | before it"]
     for form, does in shown:
         told = textwrap.wrap(does, WIDTH - indent)
         head = f"  {form}"
