@@ -3,14 +3,14 @@
 
     tools/export_view.py BASE VIEW FOLDER [--no-objects]
 
-FOLDER is absent or empty so far. It gets a folder for each directory, and a file for each text: of the version or checkout that
-the view selects, of its private files and, where nothing else stands, of the objects that it holds. Listed are
+FOLDER is absent or empty so far. It gets a folder for each directory and a file for each text: of the version or checkout that the
+view selects, of its view-private files and, where nothing else is, of the objects that it references. Listed are
 
-    not selected      a name whose element the view selects no version of
-    not seen          an object that the view holds at a path that a file hides, or whose directory is gone
+    not selected      a name of whose element the view selects no version
+    not seen          an object at a path that a file hides, or whose directory is gone
 
-The last line counts what was written. The base is only read. Ends with 0, or with 2, 1 or 4 where the tool does not start, the base
-cannot be read or is damaged."""
+The last line has the counts. The base is only read. Ends with 0; with 1 where the base cannot be used, 2 where the words are wrong, and
+4 where the base is damaged."""
 import os
 
 import vob
@@ -20,7 +20,7 @@ from tool_words import Parser, run
 
 
 class Export:
-    """Writes what a view sees, and keeps what it did not write."""
+    """Writes what a view sees, and collects what it does not write."""
 
     def __init__(self, seen, folder, with_objects):
         self.seen, self.folder, self.with_objects = seen, folder, with_objects
@@ -57,7 +57,7 @@ class Export:
         self.counts[kind] += 1
 
     def left_out(self):
-        """The lines that tell what was not written."""
+        """The lines that list what was not written."""
         yield from (f"not selected: {path}" for path in self.unselected)
         if self.with_objects:
             yield from (f"not seen: {path}" for path in sorted(set(self.seen.view.held) - self.held))

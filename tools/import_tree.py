@@ -1,29 +1,29 @@
 #!/usr/bin/env python3
-"""Writes the sessions that bring a folder into a base.
+"""Writes the sessions that import a folder into a base.
 
     tools/import_tree.py FOLDER SESSIONS [--base FILE] [--view V] [--except NAME] [--ccbase PROGRAM]
 
     tools/import_tree.py src in && ccbase demo.base run < in/1.txt
     tools/import_tree.py src in --base demo.base --ccbase ./ccbase
 
-SESSIONS is a folder, absent or empty so far, for the sessions `1.txt`, `2.txt` and so on; each is below 16 MiB, and they are run
-in this order. They make the view V, `import` where none is named, and in it an element for each file and folder, and check all
-of them in. With --base only what differs from what V sees in that base is written: new names, changed texts, and `rmname` for
-names that are gone; where nothing differs there is no session. With --ccbase the program runs the sessions on that base.
+SESSIONS is a folder, absent or empty so far, for the sessions `1.txt`, `2.txt` and so on, each below 16 MiB, to be run in this order.
+They make the view V, `import` by default, and in it an element for each file and folder, and check all of them in. With --base only
+the differences from what V sees in that base are written: new names, changed texts, and `rmname` for names that are gone. Where
+nothing differs there is no session. With --ccbase the program runs the sessions on that base.
 
-What --except names, and it may be repeated, is passed over wherever it stands, as with `--except .git`. What cannot come in is
-listed, a line each with why; where the base has an older version it stays:
+--except names a file or folder to skip wherever it is, as in `--except .git`, and may be repeated. What cannot be imported is listed,
+a line each with the reason; an older version in the base stays:
 
     name              of other bytes than letters, digits and `_-.+`, begun with `-`, all dots, or longer than 255 bytes
     path too long     more than 1,024 bytes
-    no last newline   a text is lines, each ended by a newline
+    no last newline   a text is empty or ends in a newline
     too large         it does not fit into a session
-    link              a symbolic link; what it leads to is not followed
+    link              a symbolic link, which is not followed
     no file           a device, a socket or a pipe
-    taken             the view has a private file or an object there, or does not select the element of that name
+    taken             the view has a view-private file or an object there, or selects no version of the element of that name
 
-The last line counts what was written. Modes and times are not kept. Ends with 0; with 1 where something cannot come in or a
-command was refused; and with 2 where the tool does not start."""
+The last line has the counts. Modes and times are not kept. Ends with 0; with 1 where something cannot be imported, a command was
+refused or the base cannot be used; with 2 where the words are wrong; and with 4 where the base is damaged."""
 import os
 import pathlib
 import stat
@@ -41,7 +41,7 @@ MARGIN = 1024
 
 @dataclass
 class Folder:
-    """A folder that can come in: its files, as their places on the system, its folders, and the names that cannot come in."""
+    """A folder to import: its files, by where they are, its folders, and the names that cannot be imported."""
 
     files: dict = field(default_factory=dict)
     folders: dict = field(default_factory=dict)
@@ -49,14 +49,14 @@ class Folder:
 
 
 class Reader:
-    """Reads a folder, and keeps what cannot come in."""
+    """Reads a folder, and collects what cannot be imported."""
 
     def __init__(self, passed_over, seen):
         self.passed_over, self.seen = passed_over, seen
         self.left_out = []
 
     def folder(self, place, path="."):
-        """The folder at a place of the system, which is to come in at a path."""
+        """The folder at a place of the system, to be imported at a path."""
         folder = Folder()
         with os.scandir(place) as entries:
             found = sorted(entries, key=lambda entry: os.fsencode(entry.name))
@@ -66,7 +66,7 @@ class Reader:
         return folder
 
     def add(self, folder, entry, path):
-        """Adds what stands at an entry, or notes why it cannot come in."""
+        """Adds a file or folder, or notes why it cannot be imported."""
         mode = entry.stat(follow_symlinks=False).st_mode
         why = fault_of_path(entry.name, path) or self.fault_of_place(path)
         if why is None and not stat.S_ISDIR(mode):
@@ -89,14 +89,14 @@ class Reader:
 
 
 def fault_of_path(name, path):
-    """Why a name or its path cannot stand in a base."""
+    """Why a base cannot have a name or its path."""
     if not is_name(name):
         return "name"
     return "path too long" if len(path) > PATH_LIMIT else None
 
 
 def fault_of_file(entry, mode, path):
-    """Why what stands at an entry cannot be a file element."""
+    """Why a file cannot be an element."""
     if stat.S_ISLNK(mode):
         return "link"
     if not stat.S_ISREG(mode):
@@ -132,7 +132,7 @@ class Changes:
         return None if names is None else {name: self.seen.is_directory(join(path, name)) for name in names}
 
     def folder(self, new, path="."):
-        """The commands for a folder and what stands in it, at a path."""
+        """The commands for a folder and all that is in it, at a path."""
         old = self.old_names(path)
         gone = sorted(name for name, is_folder in (old or {}).items() if is_gone(new, name, is_folder))
         added = {name for name in (*new.files, *new.folders) if not old or name not in old or name in gone}
@@ -146,14 +146,14 @@ class Changes:
             yield self.line("checkin", path)
 
     def begin(self, path, is_new, names_change):
-        """The line after which the names of a directory can be changed, if that is wanted."""
+        """The line that makes the directory, or checks it out if its names change."""
         if not is_new:
             return self.line("checkout", path) if names_change else None
         self.counts["directories"] += 1
         return self.line("mkdir", path if names_change else f"-nco {path}")
 
     def below(self, new, path, added):
-        """The commands for what stands in a folder."""
+        """The commands for what is in a folder."""
         for name in sorted((*new.files, *new.folders)):
             if name in new.folders:
                 yield from self.folder(new.folders[name], join(path, name))
@@ -176,7 +176,7 @@ class Changes:
 
 
 def is_gone(new, name, was_folder):
-    """Whether a name is to be taken out: the folder has none such of the same kind. What cannot come in stays."""
+    """Whether a name is to be removed: the folder has none of the same kind. What cannot be imported stays."""
     return name not in (new.folders if was_folder else new.files) and name not in new.left_out
 
 
@@ -188,7 +188,7 @@ def what_is_seen(file, view):
     if view not in base.views:
         return None
     if base.views[view].out:
-        raise VobError(f"the view {view} has elements out: check them in first")
+        raise VobError(f"the view {view} has checkouts: check them in or cancel them first")
     return base.selection(view)
 
 
@@ -208,9 +208,9 @@ def given_words(words):
     parser = Parser(description=__doc__)
     parser.add_argument("folder", metavar="FOLDER")
     parser.add_argument("sessions", metavar="SESSIONS")
-    parser.add_argument("--base", metavar="FILE", help="the base into which it is to come")
-    parser.add_argument("--view", metavar="V", default="import", help="the view that brings it in")
-    parser.add_argument("--except", metavar="NAME", action="append", default=[], dest="passed_over", help="a name to pass over")
+    parser.add_argument("--base", metavar="FILE", help="the base to import into")
+    parser.add_argument("--view", metavar="V", default="import", help="the view that imports it")
+    parser.add_argument("--except", metavar="NAME", action="append", default=[], dest="passed_over", help="a name to skip")
     parser.add_argument("--ccbase", metavar="PROGRAM", help="the program, which runs the sessions on the base")
     given = parser.parse_args(words)
     if not is_name(given.view):

@@ -1,20 +1,20 @@
 #!/usr/bin/env python3
-"""Writes the session that puts a label on each element that a view sees: its files and directories, the root too.
+"""Writes the session that labels all that a view sees: its files and directories, the root too.
 
     tools/label_tree.py BASE VIEW LABEL SESSIONS [--replace] [--ccbase PROGRAM]
 
     tools/label_tree.py demo.base ann REL1 in && ccbase demo.base run < in/1.txt
 
-SESSIONS is a folder, absent or empty so far, for the session `1.txt`; a tree of some 300,000 elements takes a second one. It
-makes the type of labels where there is none, and passes over what has the label already. With --replace the label is moved where
-it stands on another version. With --ccbase the program runs the session on the base. Not labelled, and listed, are
+SESSIONS is a folder, absent or empty so far, for the session `1.txt`; a tree of some 300,000 elements takes a second one. It makes the
+label type if there is none, and skips what has the label already. --replace moves the label from other versions. With --ccbase the
+program runs the session on the base. Listed, and not labelled, are
 
     checked out       an element of which the view selects its checkout
-    elsewhere         without --replace, one that has the label on another version
-    not selected      a name whose element the view selects no version of
+    elsewhere         without --replace, an element with the label on another version
+    not selected      a name of whose element the view selects no version
 
-The last line counts. Ends with 0; with 1 where something is listed or a command was refused; and with 2, 1 or 4 where the tool
-does not start, the base cannot be read or is damaged."""
+The last line has the counts. Ends with 0; with 1 where something is listed, a command was refused or the base cannot be used; with 2
+where the words are wrong; and with 4 where the base is damaged."""
 import vob
 from session_files import SessionFiles, are_carried_out
 from vob_rows import VobError, is_type_name

@@ -2,16 +2,17 @@
 """Draws a base: SVG to standard output, or DOT.
 
     tools/picture.py BASE tree PATH [--view V] [--dot]    the versions of an element: branches, labels, merge arrows
-    tools/picture.py BASE object ROW [--dot]              what an object rests on, down to versions and paths where nothing was
-    tools/picture.py BASE build VIEW [--dot]              what a view holds, and whether its last build built, winked in or kept it
+    tools/picture.py BASE object ROW [--dot]              what an object was made from, down to versions and absent paths
+    tools/picture.py BASE build VIEW [--dot]              the objects of a view: built, winked in or kept by its last build
 
     tools/picture.py demo.base tree src/main.c > main.svg
 
-PATH is that of a view which sees the latest versions on main, or of the view V. Of a run of versions without labels, branches and arrows
-only the first and the last are drawn. ROW is the number of an object, as `lsdo` tells it. The last build of a view is the last one
-that made a row: what is kept makes none, so all else that the view holds is drawn as kept. A picture has at most 400 boxes.
+PATH is that of the view V, by default of a view with the default config spec. Long runs of versions without labels, branches and arrows
+are shortened to their ends. ROW is the number of an object, as `lsdo` prints it. The last build is the last one that made a row: what
+a build keeps makes none, so every other object of the view counts as kept. A picture has at most 400 boxes.
 
-The base is only read. Ends with 0, or with 2, 1 or 4 where the words are wrong, the picture cannot be drawn or the base is damaged."""
+The base is only read. Ends with 0; with 1 where the picture cannot be drawn, 2 where the words are wrong, and 4 where the base is
+damaged."""
 import vob
 import vob_rows as rows
 from graph_drawing import MARGIN, Arrow, Box, Graph, dot, in_layers, svg
@@ -162,7 +163,7 @@ def object_picture(base, row):
     """What an object rests on: its record's entries, and those of the objects among them."""
     if row not in base.objects:
         raise VobError(f"row {row} made no object")
-    graph = Graph(f"What {base.objects[row].targets[0]} of row {row} was made from")
+    graph = Graph(f"What {base.objects[row].targets[0]}@@{row} was made from")
     stack = [row]
     while stack:
         at = stack.pop()
@@ -197,7 +198,7 @@ def build_picture(base, view):
     if not held:
         raise VobError(f"the view {view} holds no object")
     built, winked = last_build(base, view)
-    graph = Graph(f"What the view {view} holds since its last build")
+    graph = Graph(f"Objects of the view {view} after its last build")
     for row in held:
         kind = "built" if row in built else "winked" if row in winked else "kept"
         graph.boxes[row] = object_box(base.objects[row], kind)

@@ -1,6 +1,6 @@
-"""Sessions that a tool writes as files `1.txt`, `2.txt` and so on of a folder, each below what a session may have, and their run.
+"""Sessions that a tool writes as files `1.txt`, `2.txt` and so on of a folder, each below the limit of a session, and their run.
 
-Tools change a base in no other way: they write sessions, and the program runs them."""
+This is the only way in which tools change a base: they write sessions, and the program runs them."""
 import os
 import pathlib
 import subprocess
@@ -19,7 +19,7 @@ class SessionFiles:
         self._head, self._file, self._size = f"phase\nlane {lane}\n".encode(), None, 0
 
     def add(self, command):
-        """Adds lines that stand in one session."""
+        """Adds lines that belong in one session."""
         if self._file is None or self._size + len(command) > SESSION_LIMIT:
             self.close()
             self.paths.append(self.folder / f"{len(self.paths) + 1}.txt")
@@ -41,7 +41,7 @@ def new_folder(path):
 
 
 def are_carried_out(program, base, paths):
-    """Runs sessions on a base, and answers whether each command was carried out. What was not is shown, and ends it."""
+    """Runs sessions on a base, until a command is refused or fails, which is printed. Answers whether none did."""
     for path in paths:
         with open(path, "rb") as session:
             run = subprocess.run([program, base, "run"], stdin=session, stdout=subprocess.PIPE, check=False)
@@ -54,6 +54,6 @@ def are_carried_out(program, base, paths):
 
 
 def shown(path):
-    """A path of the system as it stands in a line: bytes that are none of a text, and control characters, by their numbers."""
+    """A path of the system in one line: bytes that are no text, and control characters, are escaped."""
     text = os.fsencode(path).decode(errors="backslashreplace")
     return "".join(c if c.isprintable() else c.encode("unicode_escape").decode() for c in text)

@@ -52,7 +52,7 @@ def check(bench):
     for words, status, told in WRONG_WORDS:
         bench.refuses("picture.py", *words, status=status, told=told)
     tree = ["/main/2", "/main/bye/1", "(MERGED)", "merge arrow"]
-    check_picture(bench, "project-merge.base", ("tree", "src/main.c"), tree, (7, 2))
+    check_picture(bench, "project-merge.base", ("tree", "src/main.c"), tree, (6, 2))
     bench.example("project-audit")
     record = ["src/words.c checkedout 56", "absent words.h", "include/greet.h@@/main/1", "checkout or private file"]
     check_picture(bench, "project-audit.base", ("object", "60"), record, (14, 0))

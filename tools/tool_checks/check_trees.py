@@ -1,5 +1,5 @@
-"""import_tree.py, export_view.py and label_tree.py: what goes in comes out, a second time only what changed, and what cannot come in
-is listed."""
+"""import_tree.py, export_view.py and label_tree.py: what is imported is exported byte for byte, a second import has only what changed,
+and what cannot be imported is listed."""
 import os
 import pathlib
 import shutil
@@ -88,7 +88,7 @@ def check_taken(bench):
     same("what is taken or was cut", listed, {"taken: mine", "no last newline: a/x"})
     same("nothing else changed", ended.output.splitlines()[-1], "0 files, 0 directories, 0 changed, 0 removed, 6 left out; 0 sessions")
     bench.session("t.base", "phase\nlane a\nrm import mine\ncheckout import a/x\n")
-    bench.refuses("import_tree.py", "tree", "fifth", "--base", "t.base", status=1, told="the view import has elements out")
+    bench.refuses("import_tree.py", "tree", "fifth", "--base", "t.base", status=1, told="the view import has checkouts")
     bench.session("t.base", "phase\nlane a\nuncheckout import a/x\n")
 
 
