@@ -27,7 +27,8 @@ def texts(svg):
 
 def boxes_overlap(svg):
     """Whether two boxes of a picture overlap."""
-    rects = [[float(rect.get(side)) for side in ("x", "y", "width", "height")] for rect in xml.fromstring(svg).iter(f"{SVG}rect") if rect.get("x")]
+    placed = [rect for rect in xml.fromstring(svg).iter(f"{SVG}rect") if rect.get("x")]
+    rects = [[float(rect.get(side)) for side in ("x", "y", "width", "height")] for rect in placed]
     return any(
         one[0] < two[0] + two[2] and two[0] < one[0] + one[2] and one[1] < two[1] + two[3] and two[1] < one[1] + one[3]
         for number, one in enumerate(rects) for two in rects[number + 1 :]
