@@ -5,18 +5,23 @@ transcript beside it.
     tools/check_examples.py [--refuse-threads] CCBASE [NAME ..]
 
 CCBASE is the built program; NAME an example without its ending, all of them where none is given. Says of each whether it is
-as told, shows the lines that differ, and ends with 1 where one does. With --refuse-threads the system makes no thread for the
+as told, shows the lines that differ, and ends with 1 where one does. The dates that `lshistory` tells are those of the run: a
+transcript has DATE in their place. With --refuse-threads the system makes no thread for the
 program, which then runs builders, and lanes once one builds, one after the other, the first lane first, and writes the same.
 That it does shows in two lanes that make one view, the first of them late, which are then run ten times too. It stands outside
 the gate."""
 import difflib
 import pathlib
+import re
 import resource
 import subprocess
 import sys
 import tempfile
 
 EXAMPLES = pathlib.Path(__file__).resolve().parent.parent / "examples"
+
+# The date with which a line of `lshistory` begins.
+DATE = re.compile(r"^\|[0-9]{1,2}-[A-Z][a-z]{2}-[0-9]{4}\.[0-9:]{8} ", re.MULTILINE)
 
 # Of two lanes at once, which are on threads since the first builds, the second makes its view while the first looks at another.
 LOOKS = 200
@@ -44,7 +49,7 @@ def written(program, session, prepare):
 def is_as_told(program, session, prepare):
     """Whether an example gives its transcript; what differs is shown."""
     told = session.with_suffix(".transcript").read_text()
-    came = written(program, session.read_text(), prepare)
+    came = DATE.sub("|DATE ", written(program, session.read_text(), prepare))
     if came == told:
         print(f"{session.stem}: as told")
         return True

@@ -1,0 +1,2 @@
+#include "greet.h"
+main: greet the world

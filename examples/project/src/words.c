@@ -1,0 +1,2 @@
+#include "words.h"
+words: in a list

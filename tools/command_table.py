@@ -1,0 +1,345 @@
+"""The table of the session's commands: what each is for, and what users of ClearCase, git, make and Bazel know it as.
+
+`write_command_docs.py` writes docs/FROM-CLEARCASE.md, the manual page, the completion for bash and the list of `ccbase --help`
+from this table; `check_tools.py` has each command and option stand in an example.
+"""
+import re
+from typing import NamedTuple
+
+# What a column says where there is nothing to say.
+NONE = ""
+
+# An option in a form: a word that begins with `-`.
+OPTION = re.compile(r"(?<!\S)\[?(-[A-Za-z]+)")
+
+
+class Option(NamedTuple):
+    """An option or word of a command, the same command with it, and its counterparts."""
+
+    form: str
+    does: str
+    clearcase: str
+    differs: str
+    git: str = NONE
+    make: str = NONE
+    bazel: str = NONE
+
+
+class Command(NamedTuple):
+    """A command of the session, as its line is written, with its counterparts."""
+
+    form: str
+    does: str
+    clearcase: str
+    differs: str
+    git: str
+    make: str
+    bazel: str
+    body: bool = False
+    options: tuple[Option, ...] = ()
+
+    @property
+    def name(self):
+        """The first word of its line."""
+        return self.form.split()[0]
+
+
+class Group(NamedTuple):
+    """Commands on one subject."""
+
+    title: str
+    commands: tuple[Command, ...]
+
+
+class Missing(NamedTuple):
+    """What ClearCase has and a session has not."""
+
+    names: str
+    why: str
+    instead: str
+
+
+class Status(NamedTuple):
+    """A number with which the program ends."""
+
+    number: int
+    means: str
+
+
+GROUPS = (
+    Group("The session", (
+        Command(
+            "phase", "begins a phase, after all lanes of the previous one have ended",
+            NONE, "ClearCase has no sessions: each command runs when it is typed", NONE, NONE, NONE,
+        ),
+        Command(
+            "lane NAME", "begins a lane; the lanes of a phase run concurrently",
+            NONE, "a lane is one user or one machine", NONE, NONE, NONE,
+        ),
+    )),
+    Group("Views", (
+        Command(
+            "mkview V", "makes a view with the default config spec",
+            "`mkview -tag V PATH`", "a view is a name in the base: no storage, no server, nothing to start or to set",
+            "`git worktree add`", "a copy of the sources", "a workspace",
+            ),
+        Command(
+            "rmview [-force] V", "removes a view, with its private files and references",
+            "`rmview -tag V`", "refused while the view has checkouts",
+            "`git worktree remove`", NONE, NONE,
+            options=(Option(
+                "-force", "cancels its checkouts too", "`rmview -force`", "there it only suppresses the prompts",
+                "`git worktree remove --force`",
+            ),),
+        ),
+        Command(
+            "setcs V", "sets the config spec to the body",
+            "`setcs -tag V FILE`", "the rules are in the session; some selectors are missing, see below",
+            "`git switch`", NONE, NONE, body=True,
+        ),
+        Command(
+            "catcs V", "prints the config spec",
+            "`catcs -tag V`", "the same", "`git status`", NONE, NONE,
+        ),
+    )),
+    Group("Elements", (
+        Command(
+            "mkelem V [-nco] P", "makes a file element and checks it out",
+            "`mkelem P`", "no element types, no comments; refused where a view-private file is, which there becomes the checkout",
+            "`git add`", NONE, NONE,
+            options=(Option("-nco", "does not check it out", "`mkelem -nco`", "the same"),),
+        ),
+        Command(
+            "mkdir V [-nco] P", "makes a directory element and checks it out",
+            "`mkdir P`", "the same; every directory is an element",
+            "`mkdir`; directories have no history", NONE, NONE,
+            options=(Option("-nco", "does not check it out", "`mkdir -nco`", "the same"),),
+        ),
+        Command(
+            "checkout V [-unreserved] P", "checks out the selected version and reserves its branch",
+            "`checkout P`", "only the latest version of a branch; no `-branch`, `-version`, `-out` or `-ndata`",
+            "nothing: files are writable", NONE, NONE,
+            options=(Option(
+                "-unreserved", "leaves the branch unreserved", "`checkout -unreserved`", "the same",
+            ),),
+        ),
+        Command(
+            "save V P", "saves the body as the text of a checked-out file, or as a view-private file",
+            "an editor in the view", "a text is empty or ends in a newline",
+            "an editor", "an editor", "an editor", body=True,
+        ),
+        Command(
+            "checkin V [-identical] P", "checks in the next version of the branch",
+            "`checkin P`", "no comments; no `-keep`, `-from` or `-ptime`",
+            "`git commit P`", NONE, NONE,
+            options=(Option(
+                "-identical", "also if the text has not changed", "`checkin -identical`", "the same",
+                "`git commit --allow-empty`",
+            ),),
+        ),
+        Command(
+            "uncheckout V P", "cancels a checkout and discards what was saved in it",
+            "`uncheckout -rm P`", "no `-keep`",
+            "`git restore P`", NONE, NONE,
+        ),
+        Command(
+            "rmname V P", "removes a name from a checked-out directory",
+            "`rmname P`", "refused while the view has the element checked out",
+            "`git rm P`", NONE, NONE,
+        ),
+        Command(
+            "mv V P NAME", "renames a name within a checked-out directory",
+            "`mv P NEW`", "within one directory: NAME is not a path",
+            "`git mv P NEW`", NONE, NONE,
+        ),
+        Command(
+            "rm V P", "removes a view-private file",
+            "`rm P` of the system", "view-private files only",
+            "`rm` of an untracked file", NONE, NONE,
+        ),
+    )),
+    Group("Branches, labels and merges", (
+        Command(
+            "mkbrtype B", "makes a branch type",
+            "`mkbrtype B`", "no `-pbranch`: an element has one branch of a type",
+            "`git branch B`", NONE, NONE,
+        ),
+        Command(
+            "mkbranch V [-nco] B P", "makes a branch at the selected version and checks it out",
+            "`mkbranch B P`", "no `-version`: a config spec selects where it begins",
+            "`git switch -c B`", NONE, NONE,
+            options=(Option("-nco", "does not check it out", "`mkbranch -nco`", "the same", "`git branch B`"),),
+        ),
+        Command(
+            "mklbtype L", "makes a label type",
+            "`mklbtype L`", "no `-pbranch`, `-shared` or `-global`",
+            NONE, NONE, NONE,
+        ),
+        Command(
+            "mklabel V [-replace] L P", "labels the selected version",
+            "`mklabel L P`", "no `-version`; no `-recurse`: `tools/label_tree.py` labels a tree",
+            "`git tag L`", NONE, NONE,
+            options=(Option("-replace", "moves the label from another version", "`mklabel -replace`", "the same", "`git tag -f L`"),),
+        ),
+        Command(
+            "mklabel V [-replace] -config P L", "labels every version that the record of the object at P lists",
+            "`mklabel -config P L`", "no directories and no makefiles, which no record lists; refused if a view-private"
+            " file or a checkout was read",
+            "`git tag` of what was built", NONE, NONE,
+        ),
+        Command(
+            "rmlabel V L P", "removes a label from an element",
+            "`rmlabel L P`", "the same", "`git tag -d L`", NONE, NONE,
+        ),
+        Command(
+            "mkarrow V P VERSION", "records that VERSION was merged into the selected version",
+            "`merge -to P -ndata -version VERSION`", "the arrow only: texts are merged by hand",
+            "`git merge -s ours`", NONE, NONE,
+        ),
+        Command(
+            "findmerge V P -fversion .../B/LATEST", "lists what is on branch B and not merged yet",
+            "`findmerge P -fversion .../B/LATEST -print`",
+            "lists, and never merges; `.../B/LATEST` is the only selector, with B a branch type or `main`",
+            "`git log HEAD..B`", NONE, NONE,
+        ),
+    )),
+    Group("Looking", (
+        Command(
+            "ls V [P]", "lists a directory: the selected versions, and the rules that select them",
+            "`ls P`", "view-private files and objects are marked", "`git ls-files`", NONE, NONE,
+        ),
+        Command(
+            "cat V P", "prints a text as the view sees it",
+            "`cat P` in the view", "also for objects", "`cat P`", "`cat P`", "`cat bazel-bin/P`",
+        ),
+        Command(
+            "cat V P@@VERSION", "prints the text of any version",
+            "`cat P@@VERSION` in the view", "the same", "`git show COMMIT:P`", NONE, NONE,
+        ),
+        Command(
+            "describe V P", "prints an element, its selected version and the labels",
+            "`describe P`", "no users, comments, attributes or hyperlinks", "`git log -1 P`", NONE, NONE,
+        ),
+        Command(
+            "lsvtree V P", "prints all versions, branch by branch, with their labels",
+            "`lsvtree -all P`", "`-all` always; no `-merge`: `tools/picture.py` draws the arrows",
+            "`git log --graph --all P`", NONE, NONE,
+        ),
+        Command(
+            "lshistory V P", "prints the events of an element, newest first",
+            "`lshistory P`", "no users, no comments", "`git log P`", NONE, NONE,
+        ),
+    )),
+    Group("Builds and objects", (
+        Command(
+            "clearmake V [-f P] [-J N] [-k] [-u] [-V] [NAME=TEXT ..] [GOAL ..]", "builds the goals",
+            "`clearmake`", "scripts are in a small language, so that every read is audited; makefiles are a subset of"
+            " POSIX make",
+            NONE, "`make`", "`bazel build`",
+            options=(
+                Option("-f P", "uses the makefile P", "`clearmake -f P`", "at most once", NONE, "`make -f P`", NONE),
+                Option("-J N", "runs up to N scripts at once, 1 to 64", "`clearmake -J N`", "no build hosts", NONE, "`make -j N`",
+                       "`--jobs=N`"),
+                Option("-k", "continues after a failed unit", "`clearmake -k`", "always on", NONE, "`make -k`", "`--keep_going`"),
+                Option("-u", "rebuilds the goals unconditionally", "`clearmake -u`", "the same", NONE, "`make -B`", NONE),
+                Option("-V", "reuses only objects of the view itself", "`clearmake -V`", "the same", NONE, NONE, "`--disk_cache=`"),
+                Option("NAME=TEXT", "defines a macro", "`clearmake NAME=TEXT`", "no macros from the environment, no BOS files",
+                       NONE, "`make NAME=TEXT`", "`--define NAME=TEXT`"),
+                Option("GOAL", "what to build; by default the first target", "`clearmake GOAL`", "the same", NONE, "`make GOAL`",
+                       "`bazel build //:GOAL`"),
+            ),
+        ),
+        Command(
+            "lsdo V", "lists the objects that the view references, with reference counts",
+            "`lsdo`", "only objects that the view references", NONE, NONE, NONE,
+        ),
+        Command(
+            "catcr V P", "prints the configuration record of an object",
+            "`catcr P`", "no `-recurse`, `-flat` or `-union`: `tools/picture.py` draws the whole closure",
+            NONE, NONE, "`bazel aquery`",
+        ),
+        Command(
+            "diffcr V P W Q", "compares two configuration records",
+            "`diffcr P Q`", "the views are named, in place of view-extended paths", NONE, NONE, "compared execution logs",
+        ),
+        Command(
+            "covers W V P", "tells whether W sees all that an object of V was made from",
+            NONE, "see GUIDE, \"Would another view make the same?\"", NONE, NONE, NONE,
+        ),
+        Command(
+            "rmdo V P", "drops the view's reference to an object, which stays in the base",
+            "`rmdo P`", "the view's reference only", NONE, "`make clean`", "`bazel clean`",
+        ),
+        Command(
+            "scrub AGE", "removes objects without references that are AGE seconds old or more",
+            "`scrubber`", "seconds since the build; there hours since the last reference", "`git gc`", NONE,
+            "garbage collection of the disk cache",
+        ),
+    )),
+)
+
+MISSING = (
+    Missing("`mkvob`, `mount`, `lsvob`, `register`, `mktag`, `mkregion`", "a base is two files, FILE and FILE.objects",
+            "`ccbase FILE run` makes it"),
+    Missing("`startview`, `setview`, `endview`, `pwv`, `lsview`", "no processes and no current view", "each command names its view"),
+    Missing("snapshot views, `update`, `get`", "views are dynamic", "`tools/export_view.py` writes what a view sees to a folder"),
+    Missing("`clearfsimport`, `clearimport`, `relocate`", "a session has the texts in it", "`tools/import_tree.py` writes such sessions"),
+    Missing("`rmelem`, `rmver`, `rmbranch`, `rmtype`, `rename`, `chtype`", "what is checked in stays", "`rmname`; `rmlabel`"),
+    Missing("`merge`, `diff`, `annotate`", "texts are neither merged nor compared",
+            "`cat V P@@VERSION` into your own tools, then `mkarrow`"),
+    Missing("`rmmerge`", "an arrow stays", NONE),
+    Missing("`lscheckout`, `lsprivate`, `find`", "`ls` and `describe` work path by path", "`tools/look.py` reads a whole base"),
+    Missing("`reserve`, `unreserve`", "decided at the checkout", "`uncheckout`, then `checkout -unreserved`"),
+    Missing("`winkin`", "a build winks in by itself", "`clearmake`"),
+    Missing("`mkattype`, `mkattr`, `mkhltype`, `mkhlink`", "no attributes, and no hyperlinks but merge arrows", "`mkarrow`"),
+    Missing("`mktrtype`, `mktrigger`, `lock`, `protect`", "no triggers and no permissions", NONE),
+    Missing("`ln`", "no links", NONE),
+    Missing("`mkeltype`, checkin of an object", "elements are texts and directories", NONE),
+    Missing("UCM: `mkproject`, `mkstream`, `mkactivity`, `deliver`, `rebase`, `mkbl`", "not in scope", "branch types and labels"),
+    Missing("`multitool`", "there is one base", NONE),
+    Missing("`-c`, `-cq`, `-nc`", "rows have no comments", NONE),
+    Missing("`clearmake -n`, `-q`, `-d`, `-p`", "there are no dry runs", "`covers`; `catcr`"),
+    Missing("`clearmake -O`, `-T`, `-F`, `-M`, `-R`", "reuse always compares the whole record", NONE),
+    Missing("`clearmake -U`", "`-u` builds a goal and all that it is made from", NONE),
+    Missing("`clearmake -e`, `-A`, `-N`", "macros are set in the makefile or on the command line", "`NAME=TEXT`"),
+    Missing("`clearmake -B`", "scripts run in the program", "`-J N`"),
+    Missing("`clearmake -C`, `-i`, `-s`, `-r`", "no other makes' modes, no ignored failures, no script output, no built-in rules", NONE),
+    Missing("in config specs: selectors by query, `include`, `-file`, `-directory`, `-eltype`, `-error`, blocks of `mkbranch`, `[..]` in"
+            " patterns", "not supported", "a rule for each path or pattern"),
+)
+
+STATUSES = (
+    Status(0, "each command was carried out, and each unit of each build is made"),
+    Status(1, "a command was refused, or a unit of a build failed or was blocked"),
+    Status(2, "the words are none of the forms"),
+    Status(3, "the text is no session"),
+    Status(4, "the journal is damaged: FILE has a frame that is no row, or whose row does not fit"),
+    Status(5, "the input failed"),
+    Status(6, "the output failed"),
+    Status(7, "the disk failed"),
+    Status(8, "memory ran out, or the system gave no random numbers"),
+    Status(9, "the text has more than 16,777,216 bytes"),
+)
+
+# What the letters in the forms stand for.
+WORDS = (
+    ("V, W", "views, names"),
+    ("P, Q", "paths, names joined by `/`; `.` is the root"),
+    ("B, L", "types of branches and of labels, names that begin with a letter"),
+    ("VERSION", "a branch and a number, as `/main/2` or `/main/fix/0`"),
+    ("AGE, N", "numbers"),
+)
+
+
+def commands():
+    """Every command, in the table's order."""
+    return [command for group in GROUPS for command in group.commands]
+
+
+def options_by_name():
+    """The words that begin with `-` in the forms of each command, by its first word, each once."""
+    found = {}
+    for command in commands():
+        known = found.setdefault(command.name, [])
+        known += [word for word in OPTION.findall(command.form) if word not in known]
+    return found

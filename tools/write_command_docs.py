@@ -1,0 +1,289 @@
+#!/usr/bin/env python3
+"""Writes what the table of commands (tools/command_table.py) gives: docs/FROM-CLEARCASE.md, docs/ccbase.1 and tools/ccbase.bash.
+
+    tools/write_command_docs.py            writes them anew
+    tools/write_command_docs.py --check    ends with 1 where one is not what the table gives, and names it
+    tools/write_command_docs.py --list     prints the list of commands as `ccbase --help` shows it
+"""
+import pathlib
+import sys
+import textwrap
+
+import command_table as table
+
+TOP = pathlib.Path(__file__).resolve().parent.parent
+WIDTH = 120
+
+FROM_CLEARCASE_HEAD = """\
+# Coming from ClearCase, git, make or Bazel
+
+Written by `tools/write_command_docs.py` from `tools/command_table.py`. Each command is a line of a session, which `ccbase FILE run`
+reads from standard input. GUIDE explains how to use them, FORMATS has their grammar.
+"""
+
+ELSEWHERE_HEAD = """\
+## From git, make and Bazel
+
+The nearest counterparts. Two things have none. A version is of one file, and a config spec selects a version of each file, so there
+is no commit of a whole tree; use a label. And a build compares what scripts *read* with what the view selects now. Prerequisites
+only decide the order, and neither timestamps nor declared inputs decide what is rebuilt.
+"""
+
+MISSING_HEAD = """\
+## What is missing
+
+Commands and options of `cleartool` and `clearmake` without a counterpart.
+"""
+
+
+def cell(text):
+    """A text as a cell of a table."""
+    return text.replace("|", "\\|")
+
+
+def code(text):
+    """A text in the type of commands, or nothing."""
+    return f"`{text}`" if text else ""
+
+
+def rows_of(command):
+    """A command and its options, as (form, entry)."""
+    yield command.form, command
+    for option in command.options:
+        yield f"{command.name} {option.form}", option
+
+
+def clearcase_rows(group):
+    """The lines of a group in the first table."""
+    for command in group.commands:
+        for form, entry in rows_of(command):
+            body = ", with a body" if entry is command and command.body else ""
+            yield f"| {code(form)}{body} | {entry.does} | {entry.clearcase or 'no counterpart'} | {cell(entry.differs)} |"
+
+
+def clearcase_table():
+    """The commands by groups, each with its counterpart in ClearCase."""
+    lines = ["## From ClearCase", ""]
+    for word, means in table.WORDS:
+        lines.append(f"- `{word}`: {means}")
+    for group in table.GROUPS:
+        lines += ["", f"### {group.title}", "", "| line | what it does | in ClearCase | how it differs |", "|---|---|---|---|"]
+        lines += clearcase_rows(group)
+    return "\n".join(lines) + "\n"
+
+
+def elsewhere_table():
+    """The commands that have a counterpart in git, make or Bazel."""
+    lines = [ELSEWHERE_HEAD, "| line | git | make | Bazel |", "|---|---|---|---|"]
+    for command in table.commands():
+        for form, entry in rows_of(command):
+            if entry.git or entry.make or entry.bazel:
+                lines.append(f"| {code(form)} | {cell(entry.git)} | {cell(entry.make)} | {cell(entry.bazel)} |")
+    return "\n".join(lines) + "\n"
+
+
+def missing_table():
+    """What ClearCase has and a session has not."""
+    lines = [MISSING_HEAD, "| missing | why | instead |", "|---|---|---|"]
+    for entry in table.MISSING:
+        lines.append(f"| {cell(entry.names)} | {cell(entry.why)} | {cell(entry.instead)} |")
+    return "\n".join(lines) + "\n"
+
+
+def from_clearcase():
+    """docs/FROM-CLEARCASE.md."""
+    return "\n".join([FROM_CLEARCASE_HEAD, clearcase_table(), elsewhere_table(), missing_table()])
+
+
+def roff(text):
+    """A text as roff shows it: hyphens and backslashes as they stand, no line that begins a request."""
+    text = text.replace("\\", "\\e").replace("-", "\\-").replace("`", "")
+    return "\\&" + text if text[:1] in (".", "'") else text
+
+
+def man_commands():
+    """The commands as paragraphs of the manual page."""
+    for group in table.GROUPS:
+        yield f".SS {group.title}"
+        for command in group.commands:
+            yield f".TP\n.B {roff(command.form)}\n{roff(sentence(command.does))}"
+            if command.options:
+                yield ".RS"
+                for option in command.options:
+                    yield f".TP\n.B {roff(option.form)}\n{roff(sentence(option.does))}"
+                yield ".RE"
+
+
+def sentence(text):
+    """A phrase with a capital letter in front and a period behind."""
+    return text[0].upper() + text[1:] + "."
+
+
+MAN_HEAD = r""".\" Made by tools/write_command_docs.py from tools/command_table.py.
+.TH CCBASE 1 "" "Livomeral" "User commands"
+.SH NAME
+ccbase \- versioned object base with dynamic views and audited builds
+.SH SYNOPSIS
+.B ccbase
+.I FILE
+.B run
+.br
+.B ccbase \-\-help
+.br
+.B ccbase \-\-version
+.SH DESCRIPTION
+.B ccbase
+reads a session from standard input, runs it on the base that the files
+.I FILE
+and
+.IR FILE .objects
+keep, and writes the replies to standard output. Absent files are created as an empty base.
+.I FILE
+is locked during the run.
+.PP
+A session is a list of phases, run one after another. The lanes of a phase run concurrently, and the commands of a lane in order.
+Lines that begin with
+.B #
+are comments. The text of a
+.B save
+or
+.B setcs
+is the lines below it that begin with
+.BR | .
+.SH COMMANDS
+"""
+
+MAN_TAIL = r""".SH FILES
+.TP
+.I FILE
+The journal: the rows of the base.
+.TP
+.IR FILE .objects
+Kept beside it; empty so far.
+.SH EXAMPLE
+.nf
+printf 'phase\enlane a\enmkview v\en' | ccbase demo.base run
+.fi
+.SH SEE ALSO
+docs/GUIDE.md, docs/FORMATS.md and docs/FROM\-CLEARCASE.md of the repository.
+"""
+
+
+def man_words():
+    """What the letters stand for."""
+    yield "In these lines:"
+    for word, means in table.WORDS:
+        yield f".TP\n.B {roff(word)}\n{roff(sentence(means))}"
+
+
+def man_statuses():
+    """The numbers with which the program ends."""
+    yield ".SH EXIT STATUS"
+    for status in table.STATUSES:
+        yield f".TP\n.B {status.number}\n{roff(sentence(status.means))}"
+
+
+def man_page():
+    """docs/ccbase.1."""
+    return MAN_HEAD + "\n".join([*man_words(), *man_commands(), *man_statuses()]) + "\n" + MAN_TAIL
+
+
+def completion():
+    """tools/ccbase.bash."""
+    names = " ".join(dict.fromkeys(command.name for command in table.commands() if command.clearcase or command.name == "covers"))
+    cases = "\n".join(f"        {name}) echo '{' '.join(options)}' ;;"
+                      for name, options in table.options_by_name().items() if options)
+    return COMPLETION.replace("@NAMES@", textwrap.fill(names, 100, subsequent_indent=" " * 14)).replace("@CASES@", cases)
+
+
+COMPLETION = """\
+# Completion for bash of ccbase and ct.py: source this file. Made by tools/write_command_docs.py from tools/command_table.py.
+
+_ccbase_names="@NAMES@"
+
+# The options of a command.
+_ccbase_options() {
+    case $1 in
+@CASES@
+    esac
+}
+
+# ccbase FILE run
+_ccbase() {
+    local word=${COMP_WORDS[COMP_CWORD]}
+    case $COMP_CWORD in
+        1) COMPREPLY=($(compgen -f -- "$word") $(compgen -W '--help --version' -- "$word")) ;;
+        2) COMPREPLY=($(compgen -W 'run' -- "$word")) ;;
+        *) COMPREPLY=() ;;
+    esac
+}
+
+# The first word that names a command, and behind it that command's options or a file.
+_ccbase_command() {
+    local word=${COMP_WORDS[COMP_CWORD]} given
+    for given in "${COMP_WORDS[@]:1:COMP_CWORD-1}"; do
+        if [[ " ${_ccbase_names//$'\\n'/ } " == *" $given "* ]]; then
+            COMPREPLY=($(compgen -W "$(_ccbase_options "$given")" -- "$word") $(compgen -f -- "$word"))
+            return
+        fi
+    done
+    COMPREPLY=($(compgen -W "$_ccbase_names" -- "$word") $(compgen -f -- "$word"))
+}
+
+complete -F _ccbase ccbase
+complete -F _ccbase_command ct.py
+"""
+
+
+def help_list():
+    """The list of `ccbase --help`."""
+    shown = [(command.form, command.does) for command in table.commands()]
+    indent = 34
+    lines = ["The lines of a session; save and setcs are followed by a text, each line of it with a | before it"]
+    for form, does in shown:
+        told = textwrap.wrap(does, WIDTH - indent)
+        head = f"  {form}"
+        if len(head) >= indent:
+            lines.append(head)
+            head = ""
+        lines += [f"{front:{indent}}{part}" for front, part in zip([head] + [""] * len(told), told)]
+    return "\n".join(lines) + "\n"
+
+
+FILES = {
+    "docs/FROM-CLEARCASE.md": from_clearcase,
+    "docs/ccbase.1": man_page,
+    "tools/ccbase.bash": completion,
+}
+
+
+def differing():
+    """The files that are not what the table gives."""
+    for name, text in FILES.items():
+        path = TOP / name
+        if not path.is_file() or path.read_text() != text():
+            yield name
+
+
+def main():
+    words = sys.argv[1:]
+    if words == ["--help"]:
+        print(__doc__.strip())
+    elif words == ["--check"]:
+        wrong = list(differing())
+        for name in wrong:
+            print(f"{name}: not what the table gives")
+        sys.exit(1 if wrong else 0)
+    elif words == ["--list"]:
+        sys.stdout.write(help_list())
+    elif not words:
+        for name, text in FILES.items():
+            (TOP / name).write_text(text())
+            print(name)
+    else:
+        print("usage: write_command_docs.py [--check | --list]", file=sys.stderr)
+        sys.exit(2)
+
+
+if __name__ == "__main__":
+    main()
