@@ -264,7 +264,7 @@ GROUPS = (
         ),
         Command(
             "covers W V P", "tells whether W sees all that an object of V was made from",
-            NONE, "see GUIDE, \"Would another view make the same?\"", NONE, NONE, NONE,
+            NONE, "see GUIDE, \"Records\"", NONE, NONE, NONE,
         ),
         Command(
             "rmdo V P", "drops the view's reference to an object, which stays in the base",
