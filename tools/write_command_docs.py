@@ -265,8 +265,7 @@ def differing():
             yield name
 
 
-def main():
-    words = sys.argv[1:]
+def main(words):
     if words == ["--help"]:
         print(__doc__.strip())
     elif words == ["--check"]:
@@ -286,4 +285,4 @@ def main():
 
 
 if __name__ == "__main__":
-    main()
+    main(sys.argv[1:])

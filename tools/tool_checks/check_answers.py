@@ -8,7 +8,7 @@ from tool_checks import same
 def listed_codes():
     """The codes with their names in the table of docs/FORMATS.md, reply_text."""
     found = {}
-    table = answers.table_in((answers.DOCS / "FORMATS.md").read_text(), "in decimal digits without leading zeros.", "A path is the one at")
+    table = answers.table_in((answers.DOCS / "FORMATS.md").read_text(), "LENGTH is the number of bytes at the target", "A path argument is the one at")
     for line in table:
         codes, names, _ = [cell.strip() for cell in line.strip().strip("|").split("|")]
         numbers = []
