@@ -74,7 +74,7 @@ told_by trees operation (deeds.Branch branch number name) =
     with_tree (new_tree operation.identity (element_of trees branch) name) trees
 told_by trees operation (deeds.Version branch number word) =
     with_change branch (λ tree. record tree {
-      versions = with_version (record { number = number; identity = operation.identity; word = word }) tree.versions
+      versions = with_version (record { number = number; identity = operation.identity; word = word }) tree.versions;
     }) trees
 told_by trees operation (deeds.Master branch site) =
     with_change branch (λ tree. record tree { masters = tree.masters ++ operation ∷ [] }) trees

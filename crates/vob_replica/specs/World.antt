@@ -82,7 +82,7 @@ abbrev pub site_step : World → List ℕ → Stepped
 site_step world name =
     option_map_or (λ _. refused world (SiteExists name)) (site_in world.sites name)
     (if nat_lt 63 (length world.sites) then refused world TooManySites
-     else record { world = with_sites world (world.sites ++ new_site name ∷ []); answer = Done [] })
+    else record { world = with_sites world (world.sites ++ new_site name ∷ []); answer = Done [] })
 
 -- `export S T P`
 abbrev pub sends : World → Site → List ℕ → List ℕ → Stepped

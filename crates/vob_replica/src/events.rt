@@ -15,9 +15,13 @@ pub struct Identity {
 #[derive(Debug, Drop)]
 pub enum Event {
     /// `site S`: a site comes to be.
-    Site { site: Name },
+    Site {
+        site: Name,
+    },
     /// `mkelem S`: the site makes an element.
-    Mkelem { site: Name },
+    Mkelem {
+        site: Name,
+    },
     /// `mkbranch S ID N B`: the site makes a branch that leaves a branch at its version of that number.
     Mkbranch {
         site: Name,
@@ -38,13 +42,25 @@ pub enum Event {
         to: Name,
     },
     /// `export S T P`: the site writes a packet for another.
-    Export { site: Name, to: Name, packet: Name },
+    Export {
+        site: Name,
+        to: Name,
+        packet: Name,
+    },
     /// `import S P`: the site takes a packet in.
-    Import { site: Name, packet: Name },
+    Import {
+        site: Name,
+        packet: Name,
+    },
     /// `recover S T`: the site forgets what it thinks that another knows.
-    Recover { site: Name, to: Name },
+    Recover {
+        site: Name,
+        to: Name,
+    },
     /// `show S`: what the site knows.
-    Show { site: Name },
+    Show {
+        site: Name,
+    },
 }
 
 /// Why a line of a text of sites says nothing.

@@ -9,6 +9,8 @@
 #![tactic(auto)]
 
 pub mod events;
+pub mod logs;
 pub mod operations;
 pub mod reading;
+pub mod tables;
 mod words;

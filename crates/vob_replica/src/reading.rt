@@ -73,9 +73,12 @@ fn recover_event(alloc: Global, mut words: Words<'_>) -> Result<Event, Or<SiteCa
 fn export_event(alloc: Global, mut words: Words<'_>) -> Result<Event, Or<SiteCause>>
     ensures { Gives result (export_event words.entry) }
 {
-    let (Some(site), Some(to), Some(packet), None) =
-        (words.next(), words.next(), words.next(), words.next())
-    else {
+    let (Some(site), Some(to), Some(packet), None) = (
+        words.next(),
+        words.next(),
+        words.next(),
+        words.next(),
+    ) else {
         return Err(Or::Is(SiteCause::BadWord));
     };
     let site = name_word(alloc, site)?;
@@ -88,9 +91,12 @@ fn export_event(alloc: Global, mut words: Words<'_>) -> Result<Event, Or<SiteCau
 fn checkin_event(alloc: Global, mut words: Words<'_>) -> Result<Event, Or<SiteCause>>
     ensures { Gives result (checkin_event words.entry) }
 {
-    let (Some(site), Some(branch), Some(word), None) =
-        (words.next(), words.next(), words.next(), words.next())
-    else {
+    let (Some(site), Some(branch), Some(word), None) = (
+        words.next(),
+        words.next(),
+        words.next(),
+        words.next(),
+    ) else {
         return Err(Or::Is(SiteCause::BadWord));
     };
     let site = name_word(alloc, site)?;
@@ -103,9 +109,12 @@ fn checkin_event(alloc: Global, mut words: Words<'_>) -> Result<Event, Or<SiteCa
 fn chmaster_event(alloc: Global, mut words: Words<'_>) -> Result<Event, Or<SiteCause>>
     ensures { Gives result (chmaster_event words.entry) }
 {
-    let (Some(site), Some(branch), Some(to), None) =
-        (words.next(), words.next(), words.next(), words.next())
-    else {
+    let (Some(site), Some(branch), Some(to), None) = (
+        words.next(),
+        words.next(),
+        words.next(),
+        words.next(),
+    ) else {
         return Err(Or::Is(SiteCause::BadWord));
     };
     let site = name_word(alloc, site)?;
@@ -128,11 +137,7 @@ fn site_and_branch(
 }
 
 /// Two words as a number and the name of a branch.
-fn number_and_name(
-    alloc: Global,
-    number: &[u8],
-    name: &[u8],
-) -> Result<(u64, Name), Or<SiteCause>>
+fn number_and_name(alloc: Global, number: &[u8], name: &[u8]) -> Result<(u64, Name), Or<SiteCause>>
     ensures { Gives result (both (number_word number.now) (name_word name.now)) }
 {
     let number = number_word(number)?;
@@ -164,11 +169,7 @@ fn mkbranch_event(alloc: Global, mut words: Words<'_>) -> Result<Event, Or<SiteC
 }
 
 /// The events between sites, and `show`.
-fn between_sites(
-    alloc: Global,
-    word: &[u8],
-    words: Words<'_>,
-) -> Result<Event, Or<SiteCause>>
+fn between_sites(alloc: Global, word: &[u8], words: Words<'_>) -> Result<Event, Or<SiteCause>>
     ensures { Gives result (between_sites word.now words.entry) }
 {
     if word == b"export".as_slice() {
