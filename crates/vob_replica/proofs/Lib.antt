@@ -1,3 +1,4 @@
+pub mod ImportLaws
 pub mod LogLaws
 pub mod TableLaws
 pub mod WorkedReplicas

@@ -9,6 +9,7 @@
 #![tactic(auto)]
 
 pub mod events;
+pub mod laws;
 pub mod logs;
 pub mod operations;
 pub mod reading;
