@@ -1,3 +1,4 @@
+pub mod EstimateLaws
 pub mod ImportLaws
 pub mod LogLaws
 pub mod TableLaws

@@ -1,16 +1,14 @@
 -- One operation more, and those that are new of a packet.
-use Rattle.std.proofs.Common.{◌≡◌, ℕ, zero, suc, ◌+◌, ◌<◌, Bool, true, false, cond, Option, Some, None, Result, Ok, Err, List, [], ◌∷◌, ◌++◌, length, get_or, drop, map, append-nil, append_assoc, refl, sym, ap, ◌∙◌}
+use Rattle.std.proofs.Common.{◌≡◌, ℕ, zero, suc, ◌-◌, Result, Ok, Err, List, [], ◌∷◌, ◌++◌, length, take, drop, map, refl, sym, ap, ◌∙◌, length-drop, arith}
+use Rattle.std.proofs.lemmas.List.{take_all}
 use Rattle.std.specs.Prelude.{OnOk, OnErr}
 use Rattle.std.specs.declared.alloc.Global.{Global}
 use Rattle.std.specs.declared.rc.Rc.{Rc}
 use Rattle.vob_replica.specs.declared.events.Identity.{Identity}
 use Rattle.vob_replica.specs.declared.operations.Operation.{Operation}
-use Rattle.cc_names.specs.Answers.{FaultIs}
-use Rattle.cc_names.specs.declared.memory.Or.{Or}
-use Rattle.cc_names.specs.declared.memory.Or.TheVariants.{NoMemory, Is}
-use Rattle.vob_replica.specs.Logs.{values_of, IsGap}
-use Rattle.vob_replica.specs.Replicas.{taken_in, unless_gap}
-use Rattle.vob_replica.specs.Tables.{first_gap, holds, raised, raised_by, identity_of, table_of}
+use Rattle.vob_replica.specs.Logs.{values_of}
+use Rattle.vob_replica.specs.Replicas.{taken_in}
+use Rattle.vob_replica.specs.Tables.{raised, raised_by, identity_of, table_of}
 
 abbrev Shared : Type 0
 Shared = Rc Operation Global
@@ -64,55 +62,12 @@ pub record IsOn (known : List Operation) (table : List Identity) (news rest oper
   pub held : table ≡ table_of (known ++ values_of news)
   pub same : taken_in (known ++ values_of news) (values_of rest) ≡ taken_in known (values_of operations)
 
-pub on-start : (known : List Operation) (table : List Identity) (news operations : List Shared) → table ≡ table_of known → news ≡ [] → IsOn known table news operations operations
-on-start known table news operations is none =
-    let nothing : known ++ values_of news ≡ known = ap (λ (l : List Shared). known ++ values_of l) none ∙ append-nil known in
-    record { held = is ∙ ap table_of (sym nothing); same = ap (λ (l : List Operation). taken_in l (values_of operations)) nothing }
+-- shared operations behind a place
+pub values_of-drop : (place : ℕ) (shared : List Shared) → values_of (drop place shared) ≡ drop place (values_of shared)
+values_of-drop zero shared = refl
+values_of-drop (suc place) [] = refl
+values_of-drop (suc place) (first ∷ shared) = values_of-drop place shared
 
--- a known one is skipped
-pub on-known : (known : List Operation) (table table' : List Identity) (news rest operations : List Shared) (operation : Shared)
-    → IsOn known table news (operation ∷ rest) operations → holds table operation.value.identity ≡ true → table' ≡ table → IsOn known table' news rest operations
-on-known known table table' news rest operations operation on held kept =
-    let all = known ++ values_of news in
-    let held_by : holds (table_of all) operation.value.identity ≡ true = ap (λ (t : List Identity). holds t operation.value.identity) (sym on.held) ∙ held in
-    record {
-      held = kept ∙ on.held;
-      same =
-          sym (ap (λ (b : Bool). cond b (taken_in all (values_of rest)) (unless_gap (first_gap operation.value.needs (table_of all)) (taken_in (all ++ operation.value ∷ []) (values_of rest)))) held_by)
-          ∙ on.same;
-    }
-
--- where one is new, what follows comes to this
-new_step : (all rest : List Operation) (table : List Identity) (operation : Operation) (gap : Option Identity) → table ≡ table_of all → holds table operation.identity ≡ false → first_gap operation.needs table ≡ gap
-    → taken_in all (operation ∷ rest) ≡ unless_gap gap (taken_in (all ++ operation ∷ []) rest)
-new_step all rest table operation gap is new found =
-    ap (λ (b : Bool). cond b (taken_in all rest) (unless_gap (first_gap operation.needs (table_of all)) (taken_in (all ++ operation ∷ []) rest)))
-    (ap (λ (t : List Identity). holds t operation.identity) (sym is) ∙ new)
-    ∙ ap (λ (g : Option Identity). unless_gap g (taken_in (all ++ operation ∷ []) rest)) (ap (first_gap operation.needs) (sym is) ∙ found)
-
--- a new one is taken
-pub on-new : (known : List Operation) (table table' : List Identity) (news news' rest operations : List Shared) (operation : Shared)
-    → IsOn known table news (operation ∷ rest) operations → holds table operation.value.identity ≡ false → first_gap operation.value.needs table ≡ None
-    → table' ≡ raised table operation.value.identity → news' ≡ news ++ operation ∷ [] → IsOn known table' news' rest operations
-on-new known table table' news news' rest operations operation on new whole raises more =
-    let all = known ++ values_of news in
-    let behind : known ++ values_of news' ≡ all ++ operation.value ∷ [] =
-    ap (λ (l : List Operation). known ++ l) (values-push news news' operation more) ∙ sym (append_assoc known (values_of news) (operation.value ∷ [])) in
-    record {
-      held = raises ∙ ap (λ (t : List Identity). raised t operation.value.identity) on.held ∙ sym (table_of-push all operation.value) ∙ ap table_of (sym behind);
-      same =
-          ap (λ (l : List Operation). taken_in l (values_of rest)) behind
-          ∙ sym (new_step all (values_of rest) table operation.value None on.held new whole) ∙ on.same;
-    }
-
--- the first gap
-pub on-gap : (fault : Or Identity) (known : List Operation) (table : List Identity) (news rest operations : List Shared) (operation : Shared)
-    → IsOn known table news (operation ∷ rest) operations → IsGap fault operation.value table → FaultIs fault (taken_in known (values_of operations))
-on-gap NoMemory known table news rest operations operation on gap = tt
-on-gap (Is missing) known table news rest operations operation on gap =
-    sym on.same ∙ new_step (known ++ values_of news) (values_of rest) table operation.value (Some missing) on.held gap.0 gap.1
-
--- all were looked at
-pub on-end : (known : List Operation) (table : List Identity) (news operations : List Shared) → IsOn known table news [] operations
-    → (taken_in known (values_of operations) ≡ Ok (known ++ values_of news)) × (table ≡ table_of (known ++ values_of news))
-on-end known table news operations on = (sym on.same, on.held)
+-- what is behind a place, by its length
+pub all_behind : (place : ℕ) (shared : List Shared) → take (length shared - place) (drop place shared) ≡ drop place shared
+all_behind place shared = take_all (length shared - place) (drop place shared) (omega (arith, length-drop place shared))

@@ -1,3 +1,4 @@
+pub mod Estimates
 pub mod Laws
 pub mod Logs
 pub mod Reading

@@ -2,6 +2,7 @@
 use Rattle.std.specs.Prelude.{ℕ, ◌+◌, Bool, not, Option, Some, None, Result, Ok, Err, List, [], ◌∷◌, ◌++◌, filter, if◌then◌else◌}
 use Rattle.std.specs.Option.{option_map, option_map_or}
 use Rattle.std.specs.Str.{bytes_eq}
+use Rattle.vob_replica.specs.declared.estimates.Estimate.{Estimate}
 use Rattle.vob_replica.specs.declared.events.Identity.{Identity}
 use Rattle.vob_replica.specs.declared.operations.Change.{Change}
 use Rattle.vob_replica.specs.declared.operations.Change.TheVariants as changes
@@ -12,11 +13,6 @@ use Rattle.vob_replica.specs.declared.operations.SiteFault.{SiteFault}
 use Rattle.vob_replica.specs.declared.operations.SiteFault.TheVariants.{NoBranch, NotMaster, NoVersion, BranchExists}
 use Rattle.vob_replica.specs.Tables.{holds, number_in, raised_by, table_of, first_gap}
 use Rattle.vob_replica.specs.Trees.{Tree, trees_of, tree_at, named_tree, master_of, next_number, has_version}
-
--- what a site thinks that another knows
-pub record Estimate : Type 0 where
-  pub site : List ℕ
-  pub table : List Identity
 
 -- a site: its name, the operations that it knows in the order in which it came to know them, and an estimated table for each site,
 -- where not all is zero
@@ -44,7 +40,7 @@ estimate_in (estimate ∷ others) site = if bytes_eq estimate.site site then est
 abbrev pub with_estimate : List Estimate → List ℕ → List Identity → List Estimate
 with_estimate [] site table = record { site = site; table = table } ∷ []
 with_estimate (estimate ∷ others) site table =
-    if bytes_eq estimate.site site then record { site = site; table = table } ∷ others
+    if bytes_eq estimate.site site then record { site = estimate.site; table = table } ∷ others
     else estimate ∷ with_estimate others site table
 
 -- the first of two faults

@@ -8,6 +8,7 @@
 //! What it stands on: `cc_names`.
 #![tactic(auto)]
 
+pub mod estimates;
 pub mod events;
 pub mod laws;
 pub mod logs;

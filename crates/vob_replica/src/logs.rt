@@ -1,10 +1,10 @@
 //! The operations that a site knows.
 
-ghost use Rattle.std.specs.Prelude.{◌≡◌, ◌++◌, ◌∷◌, [], ◌-◌, true, not, None, if◌then◌else◌, List, Ok, IfOk, IfErr, OnOk, OnErr, length};
+ghost use Rattle.std.specs.Prelude.{◌≡◌, ◌++◌, ◌∷◌, [], ◌-◌, ◌≤◌, drop, true, not, None, if◌then◌else◌, List, Ok, IfOk, IfErr, OnOk, OnErr, length};
 ghost use Rattle.cc_names.specs.Answers.{FaultIs};
 ghost use Rattle.vob_replica.specs.Logs.{values_of, IsGap, TakesNews};
 ghost use Rattle.vob_replica.specs.Tables.{first_gap, holds, raised, table_of};
-ghost use Rattle.vob_replica.specs.Replicas.{taken_in};
+ghost use Rattle.vob_replica.specs.Replicas.{above, taken_in};
 ghost use Rattle.vob_replica.specs.declared.operations.Operation.{Operation};
 
 use crate::events::Identity;
@@ -101,6 +101,25 @@ fn news_of(
     Ok(news)
 }
 
+/// Those of some operations that a table does not hold.
+fn not_held(
+    alloc: Global,
+    operations: &[Rc<Operation>],
+    table: &Table,
+) -> Result<Vec<Rc<Operation>>, NoMemory>
+    ensures { IfOk result
+        (λ shared. values_of shared.items ≡ above table.now (values_of operations.now)) }
+{
+    let mut shared = Vec::new(alloc);
+    for operation in operations {
+        if table.holds(&operation.identity) {
+            continue;
+        }
+        shared.push(operation.clone()?)?;
+    }
+    Ok(shared)
+}
+
 impl Log {
     /// The log of no operations. Takes no memory.
     pub fn new(alloc: Global) -> Log
@@ -124,6 +143,21 @@ impl Log {
         ensures { values_of result.now ≡ self.now }
     {
         self.operations.as_slice()
+    }
+
+    /// Those behind the first `from` operations that a table does not hold, in order. Takes time linear in what stands there, and in the
+    /// sites for each.
+    pub fn above(
+        &self,
+        alloc: Global,
+        from: usize,
+        table: &Table,
+    ) -> Result<Vec<Rc<Operation>>, NoMemory>
+        requires { from ≤ length self.now }
+        ensures { IfOk result
+            (λ shared. values_of shared.items ≡ above table.now (drop from self.now)) }
+    {
+        not_held(alloc, &self.operations[from..], table)
     }
 
     /// Puts one operation more behind the others. Takes time linear in the sites.
