@@ -9,12 +9,11 @@ use Rattle.std.specs.Cmp.Lexicographic.{slice_cmp}
 use Rattle.std.specs.Str.{bytes_eq}
 use Rattle.std.proofs.lemmas.Slice.Eq.{bytes_eq-Decides}
 use Rattle.vob_replica.specs.declared.events.Identity.{Identity}
-use Rattle.vob_replica.specs.declared.events.Event.TheVariants as events
 use Rattle.vob_replica.specs.declared.operations.Operation.{Operation}
 use Rattle.vob_replica.specs.declared.operations.SiteFault.TheVariants.{NoSite, NoPacket}
 use Rattle.vob_replica.specs.Tables.{number_in, raised, raised_by, holds, first_gap, table_of, identity_of, IsBefore, Ascends}
 use Rattle.vob_replica.specs.Replicas.{Site, Parcel, taken_in, unless_gap, site_with}
-use Rattle.vob_replica.specs.World.{World, Stepped, site_in, with_site, parcel_in, refused, takes, step}
+use Rattle.vob_replica.specs.World.{World, Stepped, site_in, with_site, parcel_in, refused, takes}
 use Rattle.vob_replica.specs.Laws.{behind_import}
 use Rattle.vob_replica.proofs.TableLaws.{Ascends-raised, IsBefore-along, raised_by_order, behind-differs, turned}
 use Rattle.vob_replica.proofs.LogLaws.{table_of-push}

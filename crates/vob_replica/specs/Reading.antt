@@ -1,8 +1,7 @@
 -- What the lines of a text of sites say. S and T are names of sites, P of a packet, B of a branch; ID is SITE:NUMBER.
-use Rattle.std.specs.Prelude.{ℕ, ◌+◌, Bool, true, false, ◌||◌, ◌==◌, Option, Some, None, Result, Ok, Err, List, [], ◌∷◌, ◌++◌, codes, if◌then◌else◌}
+use Rattle.std.specs.Prelude.{ℕ, ◌+◌, Bool, false, ◌==◌, Option, Some, None, Result, Ok, Err, List, [], ◌∷◌, ◌++◌, codes, if◌then◌else◌}
 use Rattle.std.specs.Str.{bytes_eq}
 use Rattle.cc_names.specs.Cuts.{lines_of, words_of}
-use Rattle.vob_replica.specs.declared.events.Identity.{Identity}
 use Rattle.vob_replica.specs.declared.events.Event.{Event}
 use Rattle.vob_replica.specs.declared.events.Event.TheVariants as events
 use Rattle.vob_replica.specs.declared.events.SiteCause.TheVariants.{UnknownCommand, BadWord}

@@ -1,5 +1,5 @@
 -- A site: the operations that it knows, and what it thinks that others know.
-use Rattle.std.specs.Prelude.{ℕ, ◌+◌, Bool, not, Option, Some, None, Result, Ok, Err, List, [], ◌∷◌, ◌++◌, filter, if◌then◌else◌}
+use Rattle.std.specs.Prelude.{ℕ, ◌+◌, not, Option, Some, None, Result, Ok, Err, List, [], ◌∷◌, ◌++◌, filter, if◌then◌else◌}
 use Rattle.std.specs.Option.{option_map, option_map_or}
 use Rattle.std.specs.Str.{bytes_eq}
 use Rattle.vob_replica.specs.declared.estimates.Estimate.{Estimate}

@@ -1,6 +1,6 @@
 -- Epoch tables: of each site the highest number of its operations that is known, in byte order of sites, without the sites of
 -- which none is known.
-use Rattle.std.specs.Prelude.{ℕ, suc, ◌+◌, max, Bool, false, ◌&&◌, nat_lt, nat_le, Option, Some, None, List, [], ◌∷◌, fold, map, find, slice_get, ◌≡◌, not, if◌then◌else◌}
+use Rattle.std.specs.Prelude.{ℕ, suc, ◌+◌, max, Bool, false, ◌&&◌, nat_lt, nat_le, Option, Some, None, List, [], ◌∷◌, fold, map, find, slice_get, ◌≡◌, if◌then◌else◌}
 use Rattle.std.specs.Option.{option_map_or}
 use Rattle.std.specs.Str.{bytes_eq}
 use Rattle.std.specs.Ordering.{nat_cmp, match_ordering, is_lt}

@@ -1,12 +1,11 @@
 -- The world of the sites: what each event comes to, and the replies.
-use Rattle.std.specs.Prelude.{ℕ, ◌+◌, ◌-◌, Bool, nat_lt, Option, Some, None, Result, Ok, Err, List, [], ◌∷◌, ◌++◌, length, map, if◌then◌else◌}
+use Rattle.std.specs.Prelude.{ℕ, ◌+◌, ◌-◌, nat_lt, Option, Some, None, Result, Ok, Err, List, [], ◌∷◌, ◌++◌, length, map, if◌then◌else◌}
 use Rattle.std.specs.Option.{option_map_or}
 use Rattle.std.specs.Str.{bytes_eq}
 use Rattle.std.specs.Fmt.{decimal}
 use Rattle.vob_replica.specs.declared.events.Identity.{Identity}
 use Rattle.vob_replica.specs.declared.events.Event.{Event}
 use Rattle.vob_replica.specs.declared.events.Event.TheVariants as events
-use Rattle.vob_replica.specs.declared.events.SiteError.{SiteError}
 use Rattle.vob_replica.specs.declared.operations.Answer.{Answer}
 use Rattle.vob_replica.specs.declared.operations.Answer.TheVariants.{Done, Refused}
 use Rattle.vob_replica.specs.declared.operations.Change.{Change}

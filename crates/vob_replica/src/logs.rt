@@ -57,11 +57,7 @@ fn push_shared(
 
 /// Whether an operation is new to a site that knows what a table holds. It is taken into the table then, unless it needs an operation
 /// that is missing.
-fn take_one(
-    alloc: Global,
-    table: &mut Table,
-    operation: &Operation,
-) -> Result<bool, Or<Identity>>
+fn take_one(alloc: Global, table: &mut Table, operation: &Operation) -> Result<bool, Or<Identity>>
     ensures known { IfOk result (λ new. holds table.old operation.now.identity ≡ not new) }
     ensures whole { IfOk result
         (λ new. new ≡ true → first_gap operation.now.needs table.old ≡ None) }

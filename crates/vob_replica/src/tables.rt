@@ -172,7 +172,8 @@ impl Table {
         put(alloc, &mut self.entries, identity)
     }
 
-    /// Takes the operations of another table in. Takes time linear in the sites of both, each with each.
+    /// Takes the operations of another table in. An `Err` leaves it with some of them. Takes time linear in the sites of both, each with
+    /// each.
     pub fn raise_all(&mut self, alloc: Global, others: &[Identity]) -> Result<(), NoMemory>
         ensures { OnOk result (self.new ≡ raised_by self.old others.now) }
     {
