@@ -12,7 +12,7 @@ pub struct Identity {
 }
 
 /// One line of a text of sites.
-#[derive(Debug, Drop)]
+#[derive(Drop)]
 pub enum Event {
     /// `site S`: a site comes to be.
     Site {

@@ -17,7 +17,7 @@ use std::rc::Rc;
 
 /// The operations that a site knows, in the order in which it came to know them, shared with the sites that know them too, and
 /// their epoch table. Contracts see the operations.
-#[derive(Debug, Drop)]
+#[derive(Drop)]
 pub struct Log {
     operations: Vec<Rc<Operation>>,
     table: Table,

@@ -6,7 +6,7 @@ use cc_names::names::Name;
 use cc_names::texts::Text;
 
 /// What an operation did.
-#[derive(Debug, Drop)]
+#[derive(Drop)]
 pub enum SiteDeed {
     /// An element was made, with its branch `main` and version 0 on it.
     Element,
@@ -20,7 +20,7 @@ pub enum SiteDeed {
 
 /// An operation. `needs` is the epoch table of its maker before it: in byte order of sites, without those of which no operation was
 /// known.
-#[derive(Debug, Drop)]
+#[derive(Drop)]
 pub struct Operation {
     pub identity: Identity,
     pub needs: List<Identity>,
@@ -28,7 +28,7 @@ pub struct Operation {
 }
 
 /// What a site is asked to make.
-#[derive(Debug, Drop)]
+#[derive(Drop)]
 pub enum Change {
     /// An element.
     Element,
@@ -41,7 +41,7 @@ pub enum Change {
 }
 
 /// Why an event is refused, in the order in which the causes are tested.
-#[derive(Debug, Drop)]
+#[derive(Drop)]
 pub enum SiteFault {
     /// V1: there is a site of this name.
     SiteExists(Name),
@@ -66,7 +66,7 @@ pub enum SiteFault {
 }
 
 /// What an event comes to.
-#[derive(Debug, Drop)]
+#[derive(Drop)]
 pub enum Answer {
     /// It was done, with what stands behind `ok`: an identity, a number, the text of `show`, or nothing.
     Done(Text),
