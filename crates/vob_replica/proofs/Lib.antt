@@ -1,0 +1,5 @@
+pub mod EstimateLaws
+pub mod ImportLaws
+pub mod LogLaws
+pub mod TableLaws
+pub mod WorkedReplicas

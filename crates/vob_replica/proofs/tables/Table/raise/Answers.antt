@@ -1,0 +1,7 @@
+use Rattle.vob_replica.proofs.TableLaws.{Ascends-after}
+use Rattle.vob_replica.proofs.tables.Table.raise.Goals as goal
+
+-- the sites stay in byte order
+pub invariant_of-self : goal.invariant_of-self
+invariant_of-self c =
+    Ascends-after c.put.result c.self.inside.entries.items c.put.new.entries.items c.args.identity.now c.self.invariant c.put.ensures.ok c.put.ensures.err

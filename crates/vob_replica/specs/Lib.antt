@@ -1,0 +1,10 @@
+pub mod Estimates
+pub mod Laws
+pub mod Logs
+pub mod Reading
+pub mod Replicas
+pub mod Showing
+pub mod Tables
+pub mod Trees
+pub mod Words
+pub mod World

@@ -1,0 +1,85 @@
+-- What the replies to a text of sites say.
+use Rattle.std.specs.Prelude.{ℕ, List, [], ◌∷◌, ◌++◌, codes, flat_map}
+use Rattle.std.specs.Fmt.{decimal}
+use Rattle.vob_replica.specs.declared.events.Identity.{Identity}
+use Rattle.vob_replica.specs.declared.events.Event.{Event}
+use Rattle.vob_replica.specs.declared.events.Event.TheVariants as events
+use Rattle.vob_replica.specs.declared.operations.Answer.{Answer}
+use Rattle.vob_replica.specs.declared.operations.Answer.TheVariants.{Done, Refused}
+use Rattle.vob_replica.specs.declared.operations.SiteFault.{SiteFault}
+use Rattle.vob_replica.specs.declared.operations.SiteFault.TheVariants as faults
+use Rattle.cc_names.specs.Cuts.{lines_of}
+use Rattle.vob_replica.specs.Tables.{table_of}
+use Rattle.vob_replica.specs.Trees.{Tree, VersionMade, trees_of, master_of}
+use Rattle.vob_replica.specs.Replicas.{Site}
+
+-- an identity, SITE:NUMBER
+abbrev pub identity_text : Identity → List ℕ
+identity_text identity = identity.site ++ codes ":" ++ decimal identity.number
+
+-- the line of a site in an epoch table
+abbrev pub epoch_line : Identity → List ℕ
+epoch_line entry = codes "epoch " ++ entry.site ++ codes " " ++ decimal entry.number ++ codes "\n"
+
+-- the line of a version behind version 0
+abbrev pub version_line : VersionMade → List ℕ
+version_line version =
+    codes "version " ++ decimal version.number ++ codes " " ++ identity_text version.identity ++ codes " " ++ version.word ++ codes "\n"
+
+-- the lines of a branch
+abbrev pub tree_lines : Tree → List ℕ
+tree_lines tree =
+    codes "branch " ++ identity_text tree.identity ++ codes " " ++ tree.name ++ codes " master " ++ master_of tree ++ codes "\n"
+    ++ codes "version 0\n" ++ flat_map version_line tree.versions
+
+-- what `show` tells of a site
+abbrev pub show_text : Site → List ℕ
+show_text site = flat_map epoch_line (table_of site.known) ++ flat_map tree_lines (trees_of site.known)
+
+-- a fault, with its number and what it carries
+abbrev pub fault_text : SiteFault → List ℕ
+fault_text (faults.SiteExists site) = codes "V1 SiteExists " ++ site
+fault_text faults.TooManySites = codes "V2 TooManySites"
+fault_text (faults.NoSite site) = codes "V3 NoSite " ++ site
+fault_text (faults.NoBranch branch) = codes "V4 NoBranch " ++ identity_text branch
+fault_text (faults.NotMaster site) = codes "V5 NotMaster " ++ site
+fault_text (faults.NoVersion number) = codes "V6 NoVersion " ++ decimal number
+fault_text (faults.BranchExists branch) = codes "V7 BranchExists " ++ identity_text branch
+fault_text (faults.PacketExists packet) = codes "V8 PacketExists " ++ packet
+fault_text (faults.NoPacket packet) = codes "V9 NoPacket " ++ packet
+fault_text (faults.Gap missing) = codes "V10 Gap " ++ identity_text missing
+
+-- the word of an event
+abbrev pub word_of : Event → List ℕ
+word_of (events.Site site) = codes "site"
+word_of (events.Mkelem site) = codes "mkelem"
+word_of (events.Mkbranch site branch number name) = codes "mkbranch"
+word_of (events.Checkin site branch word) = codes "checkin"
+word_of (events.Chmaster site branch to) = codes "chmaster"
+word_of (events.Export site to packet) = codes "export"
+word_of (events.Import site packet) = codes "import"
+word_of (events.Recover site to) = codes "recover"
+word_of (events.Show site) = codes "show"
+
+-- what stands behind `ok`: nothing, or a word
+abbrev pub behind_ok : List ℕ → List ℕ
+behind_ok [] = codes "\n"
+behind_ok (b ∷ bs) = codes " " ++ b ∷ bs ++ codes "\n"
+
+-- each line of a text behind a `|`
+abbrev pub with_bars : List ℕ → List ℕ
+with_bars text = flat_map (λ line. codes "|" ++ line ++ codes "\n") (lines_of text)
+
+-- what stands behind `ok` of an event: the text of `show` in lines of its own
+abbrev pub done_text : Event → List ℕ → List ℕ
+done_text (events.Show site) text = codes "\n" ++ with_bars text
+done_text _ text = behind_ok text
+
+-- what stands behind the word of an event
+abbrev pub answer_text : Event → Answer → List ℕ
+answer_text event (Done text) = codes " ok" ++ done_text event text
+answer_text event (Refused fault) = codes " refused " ++ fault_text fault ++ codes "\n"
+
+-- the reply to the event of this number
+abbrev pub reply_text : ℕ → Event → Answer → List ℕ
+reply_text number event answer = decimal number ++ codes " " ++ word_of event ++ answer_text event answer

@@ -1,0 +1,73 @@
+-- Epoch tables: of each site the highest number of its operations that is known, in byte order of sites, without the sites of
+-- which none is known.
+use Rattle.std.specs.Prelude.{ℕ, suc, ◌+◌, max, Bool, false, ◌&&◌, nat_lt, nat_le, Option, Some, None, List, [], ◌∷◌, fold, map, find, slice_get, ◌≡◌, if◌then◌else◌}
+use Rattle.std.specs.Option.{option_map_or}
+use Rattle.std.specs.Str.{bytes_eq}
+use Rattle.std.specs.Ordering.{nat_cmp, match_ordering, is_lt}
+use Rattle.std.specs.declared.cmp.Ordering.TheVariants.{Less}
+use Rattle.std.specs.Cmp.Lexicographic.{slice_cmp}
+use Rattle.vob_replica.specs.declared.events.Identity.{Identity}
+use Rattle.vob_replica.specs.declared.operations.Operation.{Operation}
+
+-- the number of a site
+abbrev pub number_in : List Identity → List ℕ → ℕ
+number_in table site = option_map_or (λ entry. entry.number) (find (λ entry. bytes_eq entry.site site) table) 0
+
+-- whether an operation is among those of a table
+abbrev pub holds : List Identity → Identity → Bool
+holds table identity = nat_lt 0 identity.number && nat_le identity.number (number_in table identity.site)
+
+-- a table with one operation more
+abbrev pub raised : List Identity → Identity → List Identity
+raised [] identity = identity ∷ []
+raised (entry ∷ others) identity =
+    match_ordering (slice_cmp nat_cmp identity.site entry.site)
+    (identity ∷ entry ∷ others)
+    (record { site = entry.site; number = max entry.number identity.number } ∷ others)
+    (entry ∷ raised others identity)
+
+-- two tables, the higher number of each site
+abbrev pub raised_by : List Identity → List Identity → List Identity
+raised_by table others = fold raised table others
+
+-- the identity of an operation
+abbrev pub identity_of : Operation → Identity
+identity_of operation = operation.identity
+
+-- the table of the operations that are known
+abbrev pub table_of : List Operation → List Identity
+table_of known = raised_by [] (map identity_of known)
+
+-- the first operation that a table lacks of those that are needed, by sites in byte order
+abbrev pub first_gap : List Identity → List Identity → Option Identity
+first_gap [] table = None
+first_gap (need ∷ needs) table =
+    if nat_le need.number (number_in table need.site) then first_gap needs table
+    else Some (record { site = need.site; number = number_in table need.site + 1 })
+
+-- whether the site of an entry stands before a site
+abbrev pub is_below : List ℕ → Identity → Bool
+is_below site entry = is_lt (slice_cmp nat_cmp entry.site site)
+
+-- how many entries stand before a site, from the first on
+abbrev pub place_in : List ℕ → List Identity → ℕ
+place_in site [] = 0
+place_in site (entry ∷ others) = if is_below site entry then suc (place_in site others) else 0
+
+-- whether the entry at a place is that of a site
+abbrev pub is_at : List Identity → ℕ → List ℕ → Bool
+is_at table place site = option_map_or (λ entry. bytes_eq entry.site site) (slice_get table place) false
+
+-- an entry with a number that is at least this one
+abbrev pub higher_entry : Identity → ℕ → Identity
+higher_entry entry number = record { site = entry.site; number = max entry.number number }
+
+-- a site stands before all sites of a table
+abbrev pub IsBefore : List ℕ → List Identity → Type 0
+IsBefore site [] = Unit {0}
+IsBefore site (entry ∷ others) = (slice_cmp nat_cmp site entry.site ≡ Less) × IsBefore site others
+
+-- the sites of a table stand in byte order, each once
+abbrev pub Ascends : List Identity → Type 0
+Ascends [] = Unit {0}
+Ascends (entry ∷ others) = IsBefore entry.site others × Ascends others
