@@ -423,7 +423,8 @@ def call_of(view, words):
     first = NAMES.get(words[0])
     if first is None:
         close = [alias for alias in NAMES if alias.startswith(words[0][:2])]
-        raise Wrong(f"{words[0]} is no command: wanted is " + (", ".join(close[:6]) + " or another of `help`" if close else "one of `help`"))
+        wanted = f"{', '.join(close[:6])} or another that `help` lists" if close else "one that `help` lists"
+        raise Wrong(f"{words[0]} is no command: wanted is {wanted}")
     call, command, rest = Call(first, view), COMMANDS[first], list(words[1:])
     if command.passes_options:
         call.words = rest

@@ -47,7 +47,7 @@ def size_of(data):
 def field_text(name, value):
     """A field of a deed in a line."""
     if isinstance(value, bytes):
-        return size_of(value)
+        return f"{name} {size_of(value)}"
     if name == "outputs":
         return "outputs " + " + ".join(size_of(output) for output in value if isinstance(output, bytes))
     if name == "reads":
@@ -67,8 +67,8 @@ def word_of(deed):
 
 
 def row_line(row):
-    told = " ".join(field_text(name, value) for name, value in rows.deed_fields(row.deed).items())
-    return f"{row.number} {date_text(row.moment)} {row.phase}.{row.lane}.{row.command} {word_of(row.deed)} {told}"
+    fields = " ".join(field_text(name, value) for name, value in rows.deed_fields(row.deed).items())
+    return f"{row.number} {date_text(row.moment)} {row.phase}.{row.lane}.{row.command} {word_of(row.deed)} {fields}"
 
 
 def row_json(row):
@@ -88,8 +88,12 @@ def text_lines(text):
 
 
 def all_rows(base, words):
-    found = base.rows[1:]
-    return list(map(row_line, found)), list(map(row_json, found))
+    return lines_or_json(base.rows[1:], row_line, row_json, words)
+
+
+def lines_or_json(found, line, form, words):
+    """What is told of each of some things: the lines, or with --json the JSON."""
+    return (None, list(map(form, found))) if words.json else (list(map(line, found)), None)
 
 
 def known_row(base, number):
@@ -188,8 +192,7 @@ def object_json(found):
 
 
 def objects(base, words):
-    found = base.objects.values()
-    return list(map(object_line, found)), list(map(object_json, found))
+    return lines_or_json(base.objects.values(), object_line, object_json, words)
 
 
 # Records
@@ -307,8 +310,8 @@ def due(base, words):
         raise vob.VobError(f"{words.at} is no date: wanted is one as 14-Nov-2023.22:13:21, in UTC")
     found = base.due(words.age, moment)
     total = sum(one.size for one in found)
-    told = {"age": words.age, "moment": moment, "bytes": total, "objects": list(map(object_json, found))}
-    return [*map(object_line, found), f"{several(len(found), 'object')}, {several(total, 'byte')}"], told
+    form = {"age": words.age, "moment": moment, "bytes": total, "objects": list(map(object_json, found))}
+    return [*map(object_line, found), f"{several(len(found), 'object')}, {several(total, 'byte')}"], form
 
 
 # The file
@@ -396,8 +399,8 @@ def main(arguments):
     if words.answer is follow:
         follow(base, words)
     else:
-        lines, told = words.answer(base, words)
-        sys.stdout.write(as_json(told, 1) + "\n" if words.json else "".join(f"{line}\n" for line in lines))
+        lines, form = words.answer(base, words)
+        sys.stdout.write(as_json(form, 1) + "\n" if words.json else "".join(f"{line}\n" for line in lines))
     if base.damage:
         raise base.damage
     return 0

@@ -9,7 +9,7 @@ them is told by `behind`. A payload that spells no row raises `NoRow`, with the 
 """
 import re
 import struct
-from dataclasses import dataclass, fields
+from dataclasses import dataclass
 from typing import NamedTuple
 
 LAST_MOMENT = 253_402_300_799  # the end of the year 9999
@@ -257,7 +257,7 @@ class Row:
 
 def deed_fields(deed):
     """The fields of a deed, by their names."""
-    return {field.name: getattr(deed, field.name) for field in fields(deed)}
+    return {name: getattr(deed, name) for name in deed.__slots__}
 
 
 # The fields of a payload

@@ -17,6 +17,7 @@ DATE = re.compile(r"([0-9]{1,2})-([A-Z][a-z]{2})-([0-9]{4})\.([0-9]{2}):([0-9]{2
 DEFAULT_SPEC = b"element * CHECKEDOUT\nelement * /main/LATEST\n"
 
 
+@lru_cache(10_000)
 def date_text(moment):
     """The moment as `d-Mmm-yyyy.hh:mm:ss` in UTC."""
     t = time.gmtime(moment)
