@@ -14,7 +14,7 @@ The last line has the counts. The base is only read. Ends with 0; with 1 where t
 import os
 
 import vob
-from session_files import new_folder
+from session_files import in_one_line, new_folder
 from vob_rows import VobError
 from tool_words import Parser, run
 
@@ -63,6 +63,7 @@ class Export:
             yield from (f"not seen: {path}" for path in sorted(set(self.seen.view.held) - self.held))
 
 
+@in_one_line
 def main(words):
     parser = Parser(description=__doc__)
     parser.add_argument("base", metavar="BASE")

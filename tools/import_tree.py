@@ -31,7 +31,7 @@ from collections import Counter
 from dataclasses import dataclass, field
 
 import vob
-from session_files import SESSION_LIMIT, SessionFiles, are_carried_out, shown
+from session_files import SESSION_LIMIT, SessionFiles, are_carried_out, in_one_line, shown
 from vob_rows import PATH_LIMIT, VobError, is_name, join
 from tool_words import Parser, run
 
@@ -125,11 +125,15 @@ class Changes:
         return f"{word} {self.view} {path}\n".encode()
 
     def old_names(self, path):
-        """The names of the view's directory at a path, each with whether it is a directory itself; None where none is there."""
+        """The names of the view's directory at a path, each with whether it is a directory itself; None where none is there. Names whose
+        element the view does not select, or hides by a view-private file, are left alone."""
         if self.seen is None:
             return {} if path == "." else None
         names = self.seen.catalog(path)
-        return None if names is None else {name: self.seen.is_directory(join(path, name)) for name in names}
+        if names is None:
+            return None
+        below = {name: join(path, name) for name in names}
+        return {name: self.seen.is_directory(at) for name, at in below.items() if isinstance(self.seen.at(at), vob.Selected)}
 
     def folder(self, new, path="."):
         """The commands for a folder and all that is in it, at a path."""
@@ -222,6 +226,7 @@ def given_words(words):
     return given
 
 
+@in_one_line
 def main(words):
     given = given_words(words)
     seen = what_is_seen(given.base, given.view)

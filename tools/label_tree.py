@@ -16,7 +16,7 @@ program runs the session on the base. Listed, and not labelled, are
 The last line has the counts. Ends with 0; with 1 where something is listed, a command was refused or the base cannot be used; with 2
 where the words are wrong; and with 4 where the base is damaged."""
 import vob
-from session_files import SessionFiles, are_carried_out
+from session_files import SessionFiles, are_carried_out, in_one_line
 from vob_rows import VobError, is_type_name
 from tool_words import Parser, run
 
@@ -61,6 +61,7 @@ def given_words(words):
     return given
 
 
+@in_one_line
 def main(words):
     given = given_words(words)
     base = vob.read(given.base)

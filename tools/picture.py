@@ -8,7 +8,7 @@
     tools/picture.py demo.base tree src/main.c > main.svg
 
 PATH is that of the view V, by default of a view with the default config spec. Long runs of versions without labels, branches and arrows
-are shortened to their ends. ROW is the number of an object, as `lsdo` prints it. The last build is the last one that made a row: what
+are shortened to their ends and a count. ROW is the number of an object, as `lsdo` prints it. The last build is the last one that made a row: what
 a build keeps makes none, so every other object of the view counts as kept. A picture has at most 400 boxes.
 
 The base is only read. Ends with 0; with 1 where the picture cannot be drawn, 2 where the words are wrong, and 4 where the base is
@@ -74,11 +74,11 @@ def column_of(graph, key):
 
 
 class TreeGraph(Graph):
-    """A graph of versions, with the branch of each."""
+    """A graph of versions, with the branch of each, and the last number that is drawn on each branch."""
 
     def __init__(self, title):
         super().__init__(title)
-        self.branch_of = {}
+        self.branch_of, self.drawn = {}, {}
 
 
 def tree_picture(base, path, view):
@@ -88,12 +88,24 @@ def tree_picture(base, path, view):
     for branch in element.branches.values():
         graph.boxes["branch", branch.row] = Box((branch.name,), "branch")
     for version in drawn_versions(base, element):
-        labels = (f"({', '.join(sorted(version.labels))})",) if version.labels else ()
-        graph.boxes[version.row, "version"] = Box((f"{version.name}", f"row {version.row}", *labels), "version")
-        graph.branch_of[version.row, "version"] = version.branch.row
+        add_version(graph, version)
     add_tree_arrows(graph, base, element)
     place_tree(graph, checked(graph) and element)
     return graph
+
+
+def add_version(graph, version):
+    """The box of a version, below one that counts the versions left out before it."""
+    branch = version.branch.row
+    left_out = version.number - graph.drawn.get(branch, -1) - 1
+    graph.drawn[branch] = version.number
+    labels = (f"({', '.join(sorted(version.labels))})",) if version.labels else ()
+    boxes = {"version": Box((version.name, f"row {version.row}", *labels), "version")}
+    if left_out:
+        boxes = {"more": Box((f".. {left_out} versions ..",), "more"), **boxes}
+    for kind, box in boxes.items():
+        graph.boxes[version.row, kind] = box
+        graph.branch_of[version.row, kind] = branch
 
 
 def add_tree_arrows(graph, base, element):

@@ -53,6 +53,20 @@ def are_carried_out(program, base, paths):
     return True
 
 
+def in_one_line(main):
+    """A tool's main whose faults of the system are told in one line, as those of a base are."""
+
+    def told(words):
+        try:
+            return main(words)
+        except BrokenPipeError:
+            raise
+        except OSError as error:
+            raise VobError(f"{error.filename}: {error.strerror}") from None
+
+    return told
+
+
 def shown(path):
     """A path of the system in one line: bytes that are no text, and control characters, are escaped."""
     text = os.fsencode(path).decode(errors="backslashreplace")

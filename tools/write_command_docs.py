@@ -10,6 +10,8 @@ import sys
 import textwrap
 
 import command_table as table
+from tool_words import run
+from vob_rows import VobError
 
 TOP = pathlib.Path(__file__).resolve().parent.parent
 WIDTH = 120
@@ -250,6 +252,12 @@ def help_list():
     return "\n".join(lines) + "\n"
 
 
+class Usage(VobError):
+    """Words that are wrong."""
+
+    status = 2
+
+
 FILES = {
     "docs/FROM-CLEARCASE.md": from_clearcase,
     "docs/ccbase.1": man_page,
@@ -272,7 +280,7 @@ def main(words):
         wrong = list(differing())
         for name in wrong:
             print(f"{name}: not what the table gives")
-        sys.exit(1 if wrong else 0)
+        return 1 if wrong else 0
     elif words == ["--list"]:
         sys.stdout.write(help_list())
     elif not words:
@@ -280,9 +288,9 @@ def main(words):
             (TOP / name).write_text(text())
             print(name)
     else:
-        print("usage: write_command_docs.py [--check | --list]", file=sys.stderr)
-        sys.exit(2)
+        raise Usage("usage: write_command_docs.py [--check | --list]")
+    return 0
 
 
 if __name__ == "__main__":
-    main(sys.argv[1:])
+    run(main)

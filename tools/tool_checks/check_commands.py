@@ -13,7 +13,8 @@ OPTION = re.compile(r"(?<=[\s\[])-[A-Za-z]+")
 def commands_of_formats():
     """The first words and options in the table of commands of docs/FORMATS.md; those of `clearmake` stand in its text."""
     text = (TOOLS.parent / "docs/FORMATS.md").read_text()
-    lines = text.split("| line | the command |", 1)[1].split("\n\n", 1)[0].splitlines()
+    start = text.index("| `mkview V` |", text.index("## session_text"))
+    lines = text[start:].split("\n\n", 1)[0].splitlines()
     found = {"clearmake": {"-V", "-u", "-k", "-J", "-f"}}
     for row in filter(None, map(ROW.match, lines)):
         for name, rest in LINE.findall(row[1]):

@@ -20,11 +20,11 @@ def seconds_of(work):
 def goes_through(bench, name):
     """Brings a folder in and writes it out again; answers what could not come in, and the seconds of both tools."""
     base = f"{name}.base"
-    writing, told = seconds_of(lambda: bench.tool("import_tree.py", name, f"{name}-in", "--base", base))
+    writing, told = seconds_of(lambda: bench.process("import_tree.py", name, f"{name}-in", "--base", base))
     for number in range(1, int(told.output.split()[-2]) + 1):
         with open(bench.path(f"{name}-in/{number}.txt"), "rb") as session:
             bench.session(base, session.read())
-    reading, _ = seconds_of(lambda: bench.answers("export_view.py", base, "import", f"{name}-out"))
+    reading, _ = seconds_of(lambda: bench.process("export_view.py", base, "import", f"{name}-out"))
     return [line.split(": ", 1)[1] for line in told.output.splitlines()[:-1]], writing, reading
 
 

@@ -19,6 +19,7 @@ WRONG_WORDS = [
     ("export_view.py", ("no.base", "v", "out"), 1, "no.base: No such file or directory"),
     ("export_view.py", ("t.base", "nobody", "out"), 1, "there is no view nobody"),
     ("export_view.py", ("t.base", "import", "tree"), 1, "tree: is not empty"),
+    ("export_view.py", ("t.base", "import", "foreign/out"), 1, "foreign/out: Not a directory"),
     ("label_tree.py", ("t.base", "import", "LATEST", "in"), 2, "no name of a label: LATEST"),
     ("label_tree.py", ("t.base", "nobody", "REL", "in"), 1, "there is no view nobody"),
 ]
@@ -93,6 +94,19 @@ def check_taken(bench):
     bench.session("t.base", "phase\nlane a\nuncheckout import a/x\n")
 
 
+def check_unselected(bench):
+    """A name whose element the view does not select is left alone, whether the folder has it or not."""
+    bench.session("t.base", "phase\nlane a\nsetcs import\n|element bytes -none\n|element * /main/LATEST\n")
+    text = pathlib.Path(bench.path("tree/bytes"))
+    for sessions, listed in (("sixth", True), ("seventh", False)):
+        ended = bench.tool("import_tree.py", "tree", sessions, "--base", "t.base")
+        same("taken: bytes", "taken: bytes" in ended.output.splitlines(), listed)
+        holds("nothing is removed", " 0 changed, 0 removed," in ended.output, ended.output)
+        text.unlink(missing_ok=True)
+    text.write_bytes(EVERY_BYTE)
+    bench.session("t.base", "phase\nlane a\nsetcs import\n|element * CHECKEDOUT\n|element * /main/LATEST\n")
+
+
 def check_labels(bench):
     """All that a view sees is labelled once, and moved only where that is said."""
     words = ("t.base", "import", "REL1")
@@ -141,6 +155,7 @@ def check(bench):
         bench.helps(tool)
     check_import(bench)
     check_taken(bench)
+    check_unselected(bench)
     check_labels(bench)
     bench.write("foreign", b"\1\1\0\0\0\xff")
     for tool, words, status, told in WRONG_WORDS:
