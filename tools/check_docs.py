@@ -116,10 +116,10 @@ def plain(block):
 
 
 def sentences(block):
-    """The sentences of a block, each as its words."""
+    """The sentences of a block, each as its words. A list of names is none."""
     for sentence in re.split(r"(?<=[.!?])[)*\"]*\s+(?=[\"*(A-Z0-9])", plain(block)):
         words = [word for word in sentence.split() if re.search(r"\w", word)]
-        if words:
+        if any(word.strip(".,:;") != "CODE" for word in words):
             yield words
 
 

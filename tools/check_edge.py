@@ -9,27 +9,55 @@ CCBASE is the built program: `rt run` in crates/ccbase makes it, as out/ccbase t
 - two programs at once on one base: whoever comes second is told so, and every acknowledged row is there afterwards;
 - a session that is still being written: the base is not held meanwhile;
 - foreign bytes in FILE: they are told before the first row is written over them, and not told where no row can be;
-- a damaged FILE: the frame is told, and no file is touched;
+- a damaged FILE: the row is told, no file is touched, and none is made beside it;
 - a FILE that cannot be opened, words of no form, a text that is no session or too long, an input that cannot be read: one line says
-  why, and no file is made.
+  why, and no file is made;
+- a FILE that may grow no more: the write that is cut short is told, where the system's signal for it is ignored, and every
+  acknowledged row is there in any case.
+
+Where strace is here and may trace, also:
+
+- the calls on a new base are those of the model, file by file: both files, their folder, and for each row a write, a sync, a
+  write and a sync, all before its reply is written;
+- each of these calls fails in turn, is interrupted, and moves no byte: afterwards the base has the rows that were
+  acknowledged, and no other;
+- a base that is moved away while a call fails, and another made under its name: each program writes its own;
+- no random numbers: words of no form are told all the same.
 
 Prints a line for each check that passed, and ends with 1 at the first thing that is wrong.
 """
+import collections
 import os
+import re
+import signal
+import struct
 import subprocess
 import sys
 import tempfile
+import time
 
-from kill_and_reopen import fail, frames, row, session
+from kill_and_reopen import MKVIEW, PUT, fail, frames, row, session
+from system_calls import OUTPUT, can_trace, injecting, traced, without_tracer
 
 SAVES = 2000
 EMPTY = (0, b"", b"")
 IN_USE = (7, b"disk fault\n", b"ccbase: b: in use by another program\n")
+USAGE = b"usage: ccbase FILE run (see ccbase --help)\n"
+
+# A session of two phases, its rows, and its transcript phase by phase.
+PHASES = b"phase\nlane a\nmkview v\nsave v p\n|one\nphase\nlane a\nsave v q\n|two\n"
+PHASE_ROWS = [
+    ((1, 1, 1), MKVIEW, (b"v",)),
+    ((1, 1, 2), PUT, (b"v", b"p", b"one\n")),
+    ((2, 1, 1), PUT, (b"v", b"q", b"two\n")),
+]
+REPLIES = [b"phase 1\nlane a\n1 mkview ok\n2 save ok\n", b"phase 2\nlane a\n1 save ok\n"]
 
 
-def told(name, count):
+def foreign_line(name, row, count):
     """The line on foreign bytes."""
-    return f"ccbase: {name}: {count} bytes behind the last row are no row, and the next row is written over them\n".encode()
+    ends = f"the base ends at row {row}: {count} bytes behind it are no row, and the next row is written over them"
+    return f"ccbase: {name}: {ends}\n".encode()
 
 
 def transcript(saves):
@@ -55,13 +83,14 @@ class Edge:
         with open(self.path(name), "wb") as file:
             file.write(data)
 
-    def start(self, words, text=None, descriptors=""):
-        """Starts the program; `descriptors` is what a shell writes to close or direct them. Without a text its input stays open."""
+    def start(self, words, text=None, descriptors="", before="", tracer=()):
+        """Starts the program; `descriptors` is what a shell writes to close or direct them, `before` what it does first, and the
+        words of a tracer stand in front. Without a text its input stays open."""
         with tempfile.TemporaryFile() as given:
             given.write(text or b"")
             given.seek(0)
             return subprocess.Popen(
-                ["sh", "-c", f'exec "$0" "$@" {descriptors}', self.program, *words],
+                ["sh", "-c", f'{before} exec "$0" "$@" {descriptors}', *tracer, self.program, *words],
                 cwd=self.folder,
                 stdin=subprocess.PIPE if text is None else given,
                 stdout=subprocess.PIPE,
@@ -71,22 +100,25 @@ class Edge:
     def end(self, process, text=None):
         """The status, the output and the errors of a program that was started."""
         output, errors = process.communicate(text)
-        return process.returncode, output, errors
+        return process.returncode, output, without_tracer(errors)
 
-    def run(self, words, text, descriptors=""):
-        return self.end(self.start(words, text, descriptors))
+    def run(self, words, text, descriptors="", before="", tracer=()):
+        return self.end(self.start(words, text, descriptors, before, tracer))
 
     def has(self, words, text, wanted, descriptors=""):
         """Runs the program, which has to end so."""
         same(" ".join(words), self.run(words, text, descriptors), wanted)
 
-    def holds(self, name, rows):
-        """Checks that a base holds these rows, one shut gate behind them, and that it opens."""
-        data = self.read(name)
-        payloads = frames(data)
-        same(f"the rows of {name}", [row(payload) for payload in payloads], rows)
-        same(f"the end of {name}", data[sum(5 + len(payload) for payload in payloads) :], b"\0")
+    def has_rows(self, name, rows):
+        """Checks that a base has these rows, and that it opens."""
+        same(f"the rows of {name}", [row(payload) for payload in frames(self.read(name))], rows)
         self.has([name, "run"], b"", EMPTY)
+
+    def holds(self, name, rows):
+        """Checks that a base has these rows, one shut gate behind them and nothing more, and that it opens."""
+        data = self.read(name)
+        same(f"the end of {name}", data[sum(5 + len(payload) for payload in frames(data)) :], b"\0")
+        self.has_rows(name, rows)
 
     def has_none_but(self, names):
         """Checks which files the folder has."""
@@ -162,14 +194,14 @@ def waiting_session(edge):
 def foreign_bytes(edge):
     text, rows = session(1, 20)
     edge.write("b", b"hello, world\n")
-    edge.has(["b", "run"], b"", (0, b"", told("b", 13)))
+    edge.has(["b", "run"], b"", (0, b"", foreign_line("b", 0, 13)))
     same("a foreign file that nothing was written to", edge.read("b"), b"hello, world\n")
-    edge.has(["b", "run"], text, (0, transcript(20), told("b", 13)))
+    edge.has(["b", "run"], text, (0, transcript(20), foreign_line("b", 0, 13)))
     edge.holds("b", rows)
     whole = edge.read("b")
     edge.write("behind", whole[:-1] + b"hello, world\n")
     more, more_rows = session(2, 20)
-    edge.has(["behind", "run"], more, (0, transcript(20), told("behind", 13)))
+    edge.has(["behind", "run"], more, (0, transcript(20), foreign_line("behind", 21, 13)))
     edge.holds("behind", rows + more_rows)
 
 
@@ -185,7 +217,7 @@ def rows_cut_short(edge):
     edge.write("staged", staged)
     edge.has(["staged", "run"], b"", EMPTY)
     edge.write("more", staged + b"\0")
-    edge.has(["more", "run"], b"", (0, b"", told("more", size + 7)))
+    edge.has(["more", "run"], b"", (0, b"", foreign_line("more", 1, size + 7)))
 
 
 def files_that_cannot_be_opened(edge):
@@ -199,7 +231,18 @@ def files_that_cannot_be_opened(edge):
 def words_of_no_form(edge):
     text, _ = session(1, 1)
     for words in [], ["b"], ["b", "walk"], ["b", "run", "more"]:
-        edge.has(words, text, (2, b"bad words\n", b"usage: ccbase FILE run\n"))
+        edge.has(words, text, (2, b"bad words\n", USAGE))
+    wanted = (2, b"bad words\n", b"ccbase: a word is not UTF-8 (see ccbase --help)\n")
+    same("a word that is not UTF-8", edge.run([b"\xff", b"run"], text), wanted)
+    edge.has_none_but([])
+
+
+def words_that_ask(edge):
+    status, text, errors = edge.run(["--help"], b"")
+    same("--help", (status, text.splitlines()[0], errors), (0, b"ccbase FILE run", b""))
+    for word in ["-h", "help"]:
+        edge.has([word], b"", (0, text, b""))
+    edge.has(["--version"], b"", (0, b"ccbase 0.1.0\n", b""))
     edge.has_none_but([])
 
 
@@ -211,7 +254,8 @@ def input_that_cannot_be_read(edge):
 
 def no_session(edge):
     text = b"phase\nlane a\nfrob v\n"
-    wanted = (3, b"bad session 3 UnknownCommand\n", b"ccbase: standard input: it is no session\n")
+    errors = b"ccbase: standard input: no session: standard output names the first wrong line, and why\n"
+    wanted = (3, b"bad session 3 UnknownCommand\n", errors)
     edge.has(["b", "run"], text, wanted)
     edge.has_none_but([])
     edge.write("b", b"hello, world\n")
@@ -228,13 +272,149 @@ def damaged_base(edge):
     start = sum(5 + len(payload) for payload in payloads[:2]) + 5
     damaged = whole[:start] + b"\xff" + whole[start + 1 :]
     edge.write("b", damaged)
-    edge.has(["b", "run"], text, (4, b"damaged 3\n", b"ccbase: b: damaged at frame 3\n"))
+    os.remove(edge.path("b.objects"))
+    errors = b"ccbase: b: row 3 is damaged: nothing was run, and nothing is changed\n"
+    edge.has(["b", "run"], text, (4, b"damaged 3\n", errors))
     same("a damaged base", edge.read("b"), damaged)
+    edge.has_none_but(["b"])
 
 
 def too_long_a_session(edge):
     wanted = (9, b"too long\n", b"ccbase: standard input: it has more than 16,777,216 bytes\n")
     edge.has(["b", "run"], b"#" * 16_777_217, wanted)
+    edge.has_none_but([])
+
+
+def file_that_may_not_grow(edge):
+    """A file may have one block. The write that would pass it is cut short, and the one behind that fails."""
+    text, rows = session(1, 40)
+    edge.has(["ignored", "run"], b"", EMPTY)
+    status, output, errors = edge.run(["ignored", "run"], text, before="trap '' XFSZ; ulimit -f 1;")
+    same("a file that may not grow", (status, errors), (7, b"ccbase: ignored: File too large\n"))
+    kept = acknowledged(output, rows)
+    if not 0 < len(kept) < len(rows):
+        fail(f"a file that may not grow: {len(kept)} rows are acknowledged")
+    edge.has_rows("ignored", kept)
+    edge.has(["killed", "run"], b"", EMPTY)
+    status, _, errors = edge.run(["killed", "run"], text, before="ulimit -f 1;")
+    same("a file that may not grow, with its signal", (status, errors), (-signal.SIGXFSZ, b""))
+    edge.has_rows("killed", kept)
+    return f"{len(kept)} of {len(rows)} rows"
+
+
+def acknowledged(output, rows):
+    """The rows of these whose commands a transcript answers by `ok`."""
+    phase, found = 0, set()
+    for line in output.decode().splitlines():
+        if line.startswith("phase "):
+            phase = int(line.split()[1])
+        reply = re.fullmatch(r"(\d+) \w+ ok", line)
+        if reply:
+            found.add((phase, 1, int(reply[1])))
+    return [kept for kept in rows if kept[0] in found]
+
+
+def commits(data):
+    """The calls that commit the rows of a journal: for each a write, a sync, a write, and a sync."""
+    place, calls = 0, []
+    for payload in frames(data):
+        behind = struct.pack("<I", len(payload)) + payload + b"\0"
+        calls.append(("pwrite64", "b", place + 1, behind))
+        calls.append(("fdatasync", "b"))
+        calls.append(("pwrite64", "b", place, b"\1"))
+        calls.append(("fdatasync", "b"))
+        place += 5 + len(payload)
+    return calls
+
+
+def opening(name):
+    """The calls that open a file of a base."""
+    return [(call, name) for call in ("openat", "flock", "fdatasync")]
+
+
+def calls_on_a_new_base(edge):
+    found, calls = traced(edge.program, ["b", "run"], PHASES, edge.folder)
+    same("a traced run", found, (0, b"".join(REPLIES), b""))
+    rows = commits(edge.read("b"))
+    wanted = opening("b") + opening("b.objects") + [("openat", "."), ("fsync", ".")]
+    wanted += [("pwrite64", "b", 0, b"\0"), ("fdatasync", "b")]
+    wanted += rows[:8] + [("write", OUTPUT, None, REPLIES[0])] + rows[8:] + [("write", OUTPUT, None, REPLIES[1])]
+    same("the calls", [call for call in calls if call[0] not in ("statx", "pread64")], wanted)
+    edge.holds("b", PHASE_ROWS)
+    return f"{len(wanted)} calls"
+
+
+def failing_calls(edge):
+    """Each call on a file of a base of some rows fails in turn."""
+    text, rows = session(1, 2)
+    edge.has(["b", "run"], text, (0, transcript(2), b""))
+    before = edge.read("b")
+    _, calls = traced(edge.program, ["b", "run"], PHASES, edge.folder)
+    calls = [call[:2] for call in calls if call[1] != OUTPUT]
+    looking = calls_of_the_look(calls)
+    tried = 0
+    for n, (call, file) in enumerate(calls):
+        for fault, retried in faults_of(call):
+            edge.write("b", before)
+            tracer = injecting(call, fault, calls[: n + 1].count((call, file)), file)
+            fails_well(edge, tracer, rows, retried, n < looking)
+            tried += 1
+    return f"{tried} faults of {len(calls)} calls"
+
+
+def calls_of_the_look(calls):
+    """How many calls the program makes as it looks for foreign bytes: all before it asks for the length of FILE once more."""
+    return calls.index(("statx", "b"), calls.index(("statx", "b")) + 1)
+
+
+def faults_of(call):
+    """How a call may fail, and whether the program then makes it again and goes on as ever."""
+    faults = [("error=EIO", False)]
+    if call in ("openat", "flock", "fdatasync", "fsync", "pread64", "pwrite64"):
+        faults.append(("error=EINTR", True))
+    if call in ("pread64", "pwrite64"):
+        faults.append(("retval=0", False))
+    return faults
+
+
+def fails_well(edge, tracer, rows, retried, looking):
+    """A call that is retried changes nothing, and any other is told. As the program looks, it goes on without the look."""
+    status, output, errors = edge.run(["b", "run"], PHASES, tracer=tracer)
+    what = " ".join(tracer)
+    if retried or (looking and status == 0):
+        same(what, (status, output, errors), (0, b"".join(REPLIES), b""))
+    else:
+        same(what, (status, errors.startswith(b"ccbase: "), errors.count(b"\n")), (7, True, 1))
+    edge.has_rows("b", rows + acknowledged(output, PHASE_ROWS))
+
+
+def moved_base(edge):
+    """A sync fails late, and meanwhile the base is moved away and another is made under its name."""
+    text, rows = session(1, 3)
+    edge.has(["b", "run"], b"", EMPTY)
+    tracer = injecting("fdatasync", "error=EIO:delay_enter=3000000", 5, "b")
+    first = edge.start(["b", "run"], text, tracer=tracer)
+    while not os.path.exists(edge.path("b")) or not frames(edge.read("b")):
+        if first.poll() is not None:
+            fail("a moved base: the program ended too early")
+    time.sleep(0.2)
+    os.rename(edge.path("b"), edge.path("away"))
+    more, more_rows = session(2, 3)
+    os.rename(edge.path("b.objects"), edge.path("away.objects"))
+    edge.has(["b", "run"], more, (0, transcript(3), b""))
+    status, output, errors = edge.end(first)
+    same("a moved base", (status, errors), (7, b"ccbase: b: Input/output error\n"))
+    same("a moved base", acknowledged(output, rows), rows[:1] + rows[2:])
+    edge.has_rows("away", rows[:1] + rows[2:])
+    edge.holds("b", more_rows)
+
+
+def no_random_numbers(edge):
+    tracer = injecting("getrandom", "error=ENOSYS", "1+")
+    wanted = (2, b"bad words\n", USAGE)
+    same("no random numbers", edge.run(["b", "walk"], b"", tracer=tracer), wanted)
+    wanted = (8, b"", b"ccbase: the system gives no random numbers\n")
+    same("no random numbers", edge.run(["b", "run"], b"", tracer=tracer), wanted)
     edge.has_none_but([])
 
 
@@ -248,18 +428,29 @@ CHECKS = [
     rows_cut_short,
     files_that_cannot_be_opened,
     words_of_no_form,
+    words_that_ask,
     input_that_cannot_be_read,
     no_session,
     damaged_base,
     too_long_a_session,
+    file_that_may_not_grow,
+]
+
+TRACED_CHECKS = [
+    calls_on_a_new_base,
+    failing_calls,
+    moved_base,
+    no_random_numbers,
 ]
 
 
 if __name__ == "__main__":
     if len(sys.argv) != 2:
         sys.exit(__doc__)
-    for check in CHECKS:
+    checks = CHECKS + (TRACED_CHECKS if can_trace() else [])
+    for check in checks:
         with tempfile.TemporaryDirectory() as folder:
             found = check(Edge(os.path.abspath(sys.argv[1]), folder))
             print(check.__name__.replace("_", " ") + (f": {found}" if found else ""))
-    print(f"{len(CHECKS)} checks, none wrong")
+    left_out = "" if checks != CHECKS else f"; {len(TRACED_CHECKS)} left out, since strace is not here or may not trace"
+    print(f"{len(checks)} checks, none wrong{left_out}")

@@ -1,18 +1,19 @@
 #!/usr/bin/env python3
-"""Makes one allocation of ccbase fail, a later one each time, while two lanes build, and looks at how each run ends.
+"""Makes one allocation of ccbase fail, another one each time, while two lanes build, and looks at how each run ends.
 
     tools/fail_allocations.py [FIRST [LAST [STEP]]]
 
-Runs the unproved program by `rt try --fail-alloc N` on a new base for N = FIRST, FIRST + STEP, .. up to LAST, where N counts the
-allocations of a run from 1. FIRST and STEP are 1 where they are not given, and LAST is as many as the whole run makes. The
-session is one phase of two lanes, each of which builds in a view of its own, the first two scripts at once.
+Runs the unproved program by `rt try --fail-alloc N` on a new base, for N = FIRST, FIRST + STEP and so on up to LAST, where N
+counts the allocations of a run from 1. FIRST and STEP are 1 where they are not given, and LAST is 700: a run makes some 650, as
+its threads meet. The session is one phase of two lanes, each of which builds in a view of its own, the first one two scripts at
+once.
 
-- A run ends with 0, 1 or 8, by itself: it meets no fault and does not hang.
-- What it printed is a front of the transcript of the whole run, and all of it where it ended with 0 or 1, as that run did.
+- A run ends by itself, with status 0, 1 or 8.
+- What it printed is a front of the transcript of a run in which none fails, and all of it unless it ended with 8.
 
-Prints a line for each number whose run ends otherwise, one for each hundredth, and a summary; ends with 1 where a run ended
-otherwise. It stands outside the gate: rt builds the program anew for each number, which takes a minute or more, so a whole run
-takes days, and a step of some hundred an hour or two.
+Prints each number whose run ends otherwise, a line for each ten numbers, and how many runs ended with which status; ends with 1
+where one ended otherwise. It stands outside the gate: rt builds the program anew for each number, which takes a minute or more,
+so a whole sweep takes half a day. A step of 50 and another FIRST each time take a quarter of an hour.
 """
 import collections
 import pathlib
@@ -20,17 +21,22 @@ import re
 import subprocess
 import sys
 
-# A number that no run comes to.
-BEYOND = 2**40
-
 CCBASE = pathlib.Path(__file__).resolve().parent.parent / "crates" / "ccbase"
 
-MAKEFILE = "|all: one two\n|\tcat one two > all\n|one: text\n|\tcat text > one\n|two: text\n|\tcat text > two\n"
-SESSION = f"""phase
+# Some more than a run makes, and a number to which none comes.
+MOST, NEVER = 700, 2**40
+
+SESSION = """phase
 lane ann
 mkview ann
 save ann Makefile
-{MAKEFILE}save ann text
+|both: one two
+|	cat one two > both
+|one: text
+|	cat text > one
+|two: text
+|	cat text > two
+save ann text
 |of ann
 clearmake ann -J 2
 lane bob
@@ -59,11 +65,9 @@ class Run:
         self.said = ran.stderr.decode(errors="replace")
         ended = re.search(r"^run=ended status=(\d+) ", self.said, re.MULTILINE)
         self.status = int(ended[1]) if ended else None
-        made = re.search(r"^allocations: (\d+)$", self.said, re.MULTILINE)
-        self.made = int(made[1]) if made else None
 
     def fault(self, whole):
-        """What is wrong with the run beside the whole one, or nothing."""
+        """What is wrong with the run beside one in which no allocation fails, or nothing."""
         if self.status not in ENDS:
             return f"ended with {self.status}:\n{self.said}"
         if not whole.printed.startswith(self.printed):
@@ -74,11 +78,12 @@ class Run:
 
 
 def main():
-    first, last, step = [int(word) for word in sys.argv[1:4]] + [None] * (4 - len(sys.argv))
-    whole = Run(BEYOND)
-    if whole.status != 0 or whole.made is None:
-        sys.exit(f"the whole run ended with {whole.status}:\n{whole.said}")
-    numbers = range(first or 1, (last or whole.made) + 1, step or 1)
+    words = [int(word) for word in sys.argv[1:4]]
+    first, last, step = words + [1, MOST, 1][len(words):]
+    whole = Run(NEVER)
+    if whole.status != 0:
+        sys.exit(f"where none fails, the run ended with {whole.status}:\n{whole.said}")
+    numbers = range(first, last + 1, step)
     ends, wrong = collections.Counter(), 0
     for tried, number in enumerate(numbers, 1):
         run = Run(number)
@@ -87,10 +92,10 @@ def main():
         if fault:
             wrong += 1
             print(f"{number}: {fault}", flush=True)
-        if tried % 100 == 0:
+        if tried % 10 == 0:
             print(f"{tried} of {len(numbers)}", flush=True)
     told = ", ".join(f"{count} with {status}" for status, count in sorted(ends.items(), key=str))
-    print(f"the whole run makes {whole.made} allocations; of {len(numbers)} runs ended {told}; {wrong} otherwise than they may")
+    print(f"{len(numbers)} runs ended: {told}; {wrong} otherwise than they may")
     return 1 if wrong else 0
 
 

@@ -18,6 +18,7 @@ ABOUT = [
     "sentence of its head comment, then its definitions in order. The file has a comment on each. [MODEL](MODEL.md) explains the model.",
 ]
 ALONE = re.compile(r"(?:abbrev (?:pub )?|pub record |pub data |pub (?=\S+ : ))(\S+)")
+MOST_NAMES = 30
 MUTUAL = re.compile(r"  pub (\S+) : ")
 
 
@@ -42,14 +43,20 @@ def definitions(lines):
             yield found.group(1)
 
 
+def groups(names):
+    """Names in groups of at most MOST_NAMES, each written as a sentence."""
+    for first in range(0, len(names), MOST_NAMES):
+        yield ", ".join(f"`{name}`" for name in names[first:first + MOST_NAMES]) + "."
+
+
 def entries(crate):
     """An entry for each file of the crate's specs that has definitions."""
     folder = pathlib.Path("crates", crate, "specs")
     for file in sorted(folder.rglob("*.antt")):
         lines = file.read_text().splitlines()
-        names = ", ".join(f"`{name}`" for name in definitions(lines))
+        names = list(definitions(lines))
         if names:
-            entry = f"- **{file.relative_to(folder).with_suffix('')}.** {first_sentence(lines)} {names}."
+            entry = f"- **{file.relative_to(folder).with_suffix('')}.** {first_sentence(lines)} {' '.join(groups(names))}"
             yield textwrap.fill(entry, 128, subsequent_indent="  ", break_long_words=False, break_on_hyphens=False)
 
 

@@ -4,8 +4,8 @@
 //! FILE.objects keep, and writes its replies to standard output.
 //!
 //! What it promises: it adds nothing to `session_run::run_words` but the streams of the process, its clock, its threads, its two
-//! files, the two words `--help` and `--version`, and lines on standard error: what of FILE is no base, and why a session was not
-//! carried out. The gate round scripts is open.
+//! files, the help and the version, and lines on standard error: what of FILE is no base, and why a session was not carried out.
+//! The gate round scripts is open.
 //!
 //! What it stands on: `session_run`, `disk_model` and `vob_journal` for the files, `cc_outside` for the streams and the clock,
 //! and `cc_names` for words.
@@ -28,12 +28,19 @@ use std::{env, io};
 
 const VERSION: &str = "ccbase 0.1.0\n";
 
+const USAGE: &str = "usage: ccbase FILE run";
+
 const HELP: &str = "ccbase FILE run
+ccbase --help, ccbase --version
 
 Reads a session from standard input, runs it on the base that the files FILE and FILE.objects keep, and writes its
-replies to standard output. Files that are absent are made, and are an empty base. FILE is locked meanwhile. Where it has
-bytes that are no row, a line on standard error says so before the first row is written over them, and where the
-status is not 0, 1 or 8, one says why.
+replies to standard output. FILE is locked meanwhile. Files that are absent are made, and are an empty base.
+
+NAME A BASE, OR NOTHING. Any other FILE, a text or a picture, is taken for an empty base, and the first row that is
+made is WRITTEN OVER IT. Before that a line on standard error says how many of its bytes are no row. To look first, run
+an empty session, which writes nothing into a FILE that is there:
+
+    ccbase FILE run < /dev/null
 
 Ends with the status
   0  each command was carried out, and each unit of each build is made
@@ -46,9 +53,10 @@ Ends with the status
   7  the disk failed
   8  memory ran out, or the system gave no random numbers: then a line on standard error says so
   9  the text has more than 16,777,216 bytes
+Where it is not 0, 1 or 8, a line on standard error says why.
 ";
 
-/// The words behind the name of the program.
+/// The words behind the name of the program. The error is of the kind `InvalidData` where one of them is not UTF-8.
 fn words_given(rt: &HostRuntime) -> io::Result<Vec<String>> {
     let mut words = Vec::new(rt.alloc());
     for word in env::args(rt)?.skip(1) {
@@ -60,7 +68,7 @@ fn words_given(rt: &HostRuntime) -> io::Result<Vec<String>> {
 /// What is answered without a run: the help or the version, where one of them is asked for alone.
 fn answer_to(words: &[String]) -> Option<&'static str> {
     match words {
-        [word] if word.as_str() == "--help" => Some(HELP),
+        [word] if matches!(word.as_str(), "--help" | "-h" | "help") => Some(HELP),
         [word] if word.as_str() == "--version" => Some(VERSION),
         _ => None,
     }
@@ -72,6 +80,32 @@ fn write_answer(rt: &HostRuntime, answer: &str) -> Status {
     match write_whole(&mut sink, answer.as_bytes()) {
         Ok(()) => Status::Good,
         Err(_) => Status::WriteFault,
+    }
+}
+
+/// Refuses words that cannot be handed to `run_words`, by the line that it has for words of no form. The cause goes to standard
+/// error.
+fn refuse_words(rt: &HostRuntime, cause: &str) -> Status {
+    match write_answer(rt, "bad words\n") {
+        Status::Good => {
+            let _ = eprintln!(rt; "{cause} (see ccbase --help)");
+            Status::BadWords
+        }
+        failed => {
+            let _ = eprintln!(rt; "ccbase: standard output: a write failed");
+            failed
+        }
+    }
+}
+
+/// Ends a call to which the system gives no random numbers. Words of no form need none.
+fn end_without_random_numbers(rt: &HostRuntime, words: &[String]) -> Status {
+    match words {
+        [_, word] if word.as_str() == "run" => {
+            let _ = eprintln!(rt; "ccbase: the system gives no random numbers");
+            Status::NoMemory
+        }
+        _ => refuse_words(rt, USAGE),
     }
 }
 
@@ -94,9 +128,13 @@ fn tell_cause(
 ) -> io::Result<()> {
     match status {
         Status::Good | Status::SomeFailed | Status::NoMemory => Ok(()),
-        Status::BadWords => eprintln!(rt; "usage: ccbase FILE run"),
-        Status::BadSession => eprintln!(rt; "ccbase: standard input: it is no session"),
-        Status::Damaged(row) => eprintln!(rt; "ccbase: {file}: damaged at frame {row}"),
+        Status::BadWords => eprintln!(rt; "{USAGE} (see ccbase --help)"),
+        Status::BadSession => eprintln!(rt;
+            "ccbase: standard input: no session: standard output names the first wrong line, and why"
+        ),
+        Status::Damaged(row) => eprintln!(rt;
+            "ccbase: {file}: row {row} is damaged: nothing was run, and nothing is changed"
+        ),
         Status::ReadFault => eprintln!(rt; "ccbase: standard input: a read failed"),
         Status::WriteFault => eprintln!(rt; "ccbase: standard output: a write failed"),
         Status::DiskFault => match disk.trouble() {
@@ -119,8 +157,7 @@ fn run<R: Threads + Wait + Sync>(
     let alloc = rt.alloc();
     let texts = texts_of(alloc, words)?;
     let Ok(hashing) = RandomState::new(rt) else {
-        let _ = eprintln!(rt; "ccbase: the system gives no random numbers");
-        return Ok(Status::NoMemory);
+        return Ok(end_without_random_numbers(rt, words));
     };
     let file = words.first().map_or("", |word| word.as_str());
     let Ok(disk) = LookingDisk::new(rt.clone()?, file) else {
@@ -147,7 +184,10 @@ fn run<R: Threads + Wait + Sync>(
 fn main(rt: HostRuntime) -> io::Result<ExitCode> {
     let words = match words_given(&rt) {
         Ok(words) => words,
-        Err(error) if error.kind() == io::ErrorKind::InvalidData => Vec::new(rt.alloc()),
+        Err(error) if error.kind() == io::ErrorKind::InvalidData => {
+            let status = refuse_words(&rt, "ccbase: a word is not UTF-8");
+            return Ok(ExitCode::from(status.code()));
+        }
         Err(_) => return Ok(ExitCode::from(Status::NoMemory.code())),
     };
     let status = match answer_to(words.as_slice()) {

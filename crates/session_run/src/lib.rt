@@ -15,10 +15,10 @@
 //! the sink failed too or memory ran out. All this holds in whatever order the threads take turns. It is not promised that
 //! threads get on.
 //!
-//! What it stands on: `base_core` and `story_log` for the history, `clearmake` and `turn_lock` for threads, `build_script` and
-//! `script_grammar` for scripts and how their runs end, `disk_model` and `vob_journal` for the disk and what a stop finds
-//! there, `legal_history` for what a history means, `view_lookup` for the order of its rows, `session_text` and `reply_text` for
-//! the texts, `cc_outside` for the source, the sink and the clock, `arrayvec` and `itoa` for a line without memory, and `cc_names`
+//! What it stands on: `base_core` and `story_log` for the history, `clearmake` and `turn_lock` for threads, `build_script` for
+//! what a script reads and how its run ends, `disk_model` and `vob_journal` for the disk and what a stop finds there,
+//! `legal_history` for what a history means, `view_lookup` for the order of its rows, `session_text` and `reply_text` for the
+//! texts, `cc_outside` for the source, the sink and the clock, `arrayvec` and `itoa` for a line without memory, and `cc_names`
 //! for plain data.
 #![tactic(auto)]
 
