@@ -16,7 +16,7 @@ damaged."""
 import vob
 import vob_rows as rows
 from graph_drawing import MARGIN, Arrow, Box, Graph, dot, in_layers, svg
-from tool_words import Parser, number, run
+from tool_words import Parser, run
 from vob_rows import VobError, is_path
 from vob_specs import DEFAULT_SPEC
 
@@ -63,14 +63,13 @@ def columns(graph, element):
     x, found = MARGIN, {}
     for branch in sorted(element.branches.values(), key=lambda branch: branch.row):
         found[branch.row] = x
-        widths = [graph.boxes[key].width for key in graph.boxes if key == ("branch", branch.row) or column_of(graph, key) == branch.row]
-        x += max(widths) + COLUMN
+        x += max(box.width for key, box in graph.boxes.items() if column_of(graph, key) == branch.row) + COLUMN
     return found
 
 
 def column_of(graph, key):
-    """The branch of a version's box."""
-    return graph.branch_of.get(key)
+    """The branch in whose column a box is: its own, or that of the version."""
+    return key[1] if key[0] == "branch" else graph.branch_of[key]
 
 
 class TreeGraph(Graph):
@@ -90,7 +89,7 @@ def tree_picture(base, path, view):
     for version in drawn_versions(base, element):
         add_version(graph, version)
     add_tree_arrows(graph, base, element)
-    place_tree(graph, checked(graph) and element)
+    place_tree(checked(graph), element)
     return graph
 
 
@@ -111,7 +110,7 @@ def add_version(graph, version):
 def add_tree_arrows(graph, base, element):
     """An arrow from each version to its next one, from the origin of a branch to that, and of each merge."""
     for branch in element.branches.values():
-        chain = [("branch", branch.row)] + [key for key in graph.boxes if column_of(graph, key) == branch.row]
+        chain = [key for key in graph.boxes if column_of(graph, key) == branch.row]
         graph.arrows += [Arrow(one, two) for one, two in zip(chain, chain[1:])]
         if branch.origin is not None:
             graph.arrows.append(Arrow((branch.origin, "version"), ("branch", branch.row)))
@@ -126,18 +125,19 @@ def place_tree(graph, element):
     y = MARGIN + 30
     for key in in_order(graph):
         box = graph.boxes[key]
-        box.x = left[key[1] if key[0] == "branch" else column_of(graph, key)]
+        box.x = left[column_of(graph, key)]
         box.y = y
         y += box.height + STEP
 
 
 def in_order(graph):
     """The boxes from the top: each branch directly above its first version."""
+    begun = set()
     for key in graph.boxes:
-        if key[0] != "branch":
-            branch = ("branch", column_of(graph, key))
-            if graph.boxes[branch].y == 0:
-                graph.boxes[branch].y = -1
+        branch = ("branch", column_of(graph, key))
+        if key != branch:
+            if branch not in begun:
+                begun.add(branch)
                 yield branch
             yield key
 
@@ -196,7 +196,10 @@ def last_build(base, view):
         command = (row.phase, row.lane, row.command, row.moment)
         if of_view and last in (None, command):
             last = command
-            (winked if isinstance(row.deed, rows.Wink) else built).add(row.deed.object if isinstance(row.deed, rows.Wink) else row.number)
+            if isinstance(row.deed, rows.Wink):
+                winked.add(row.deed.object)
+            else:
+                built.add(row.number)
         elif last is not None and row.lane == last[1] and command != last:
             break
     return built, winked
@@ -247,7 +250,7 @@ def given_words(words):
         parser.error("--view goes with tree")
     if given.subject == "tree" and not is_path(given.name):
         parser.error(f"no path: {given.name}")
-    if given.subject == "object" and not given.name.isdecimal():
+    if given.subject == "object" and not (given.name.isascii() and given.name.isdecimal()):
         parser.error(f"no row: {given.name}")
     return given
 
@@ -258,10 +261,11 @@ def main(words):
     if given.subject == "tree":
         graph = tree_picture(base, given.name, given.view)
     elif given.subject == "object":
-        graph = object_picture(base, number(given.name))
+        graph = object_picture(base, int(given.name))
     else:
         graph = build_picture(base, given.name)
-    for line in dot(graph, "TB" if given.subject == "tree" else "LR") if given.dot else svg(graph):
+    direction = "TB" if given.subject == "tree" else "LR"
+    for line in dot(graph, direction) if given.dot else svg(graph):
         print(line)
     return 0
 

@@ -143,6 +143,13 @@ keep, and writes the replies to standard output. Absent files are created as an 
 .I FILE
 is locked during the run.
 .PP
+.I FILE
+must be a base, or absent. Any other file whose bytes begin no row is treated as an empty base, and the first commit overwrites it.
+To look first, run
+.BR "ccbase FILE run < /dev/null" ,
+which writes nothing into an existing
+.IR FILE .
+.PP
 A session is a list of phases, run one after another. The lanes of a phase run concurrently, and the commands of a lane in order.
 Lines that begin with
 .B #

@@ -37,7 +37,24 @@ def words_of_examples():
     return found
 
 
+# What is completed: the words so far, the function, and the answer.
+COMPLETIONS = [
+    ("ct.py b v mklabel -", "_ccbase_command", "-replace -config"),
+    ("ct.py b v lsv", "_ccbase_command", "lsvtree"),
+    ("ccbase b r", "_ccbase", "run"),
+]
+
+
+def check_completion(bench):
+    """The completion for bash, in an empty folder."""
+    for words, function, wanted in COMPLETIONS:
+        script = f"source {TOOLS}/ccbase.bash; COMP_WORDS=({words}); COMP_CWORD=$((${{#COMP_WORDS[@]}} - 1)); {function}"
+        ended = bench.run(["bash", "-c", f'{script}; echo "${{COMPREPLY[@]}}"'])
+        same(f"the completion of {words}", (ended.output, ended.errors), (f"{wanted}\n", ""))
+
+
 def check(bench):
+    check_completion(bench)
     bench.helps("write_command_docs.py")
     bench.answers("write_command_docs.py", "--check")
     bench.refuses("write_command_docs.py", "frob", status=2, told="usage: write_command_docs.py")
