@@ -1,5 +1,6 @@
 #!/usr/bin/env python3
-"""Writes what the table of commands (tools/command_table.py) gives: docs/FROM-CLEARCASE.md, docs/ccbase.1 and tools/ccbase.bash.
+"""Writes what the table of commands (tools/command_table.py) gives: docs/FROM-CLEARCASE.md, docs/ccbase.1,
+tools/ccbase.bash and the list of commands in crates/ccbase/src/help.rt.
 
     tools/write_command_docs.py            writes them anew
     tools/write_command_docs.py --check    ends with 1 where one is not what the table gives, and names it
@@ -265,7 +266,19 @@ class Usage(VobError):
     status = 2
 
 
+HELP = "crates/ccbase/src/help.rt"
+
+
+def help_source():
+    """The source file of the help, with the list between the line that the list begins with and the statuses."""
+    source = (TOP / HELP).read_text()
+    shown = help_list()
+    front, _, rest = source.partition(shown.partition("\n")[0])
+    return front + shown + "\nEnds with the status\n" + rest.partition("\nEnds with the status\n")[2]
+
+
 FILES = {
+    HELP: help_source,
     "docs/FROM-CLEARCASE.md": from_clearcase,
     "docs/ccbase.1": man_page,
     "tools/ccbase.bash": completion,

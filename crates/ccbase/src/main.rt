@@ -11,8 +11,10 @@
 //! and `cc_names` for words.
 #![tactic(auto)]
 
+mod help;
 mod looking;
 
+use crate::help::HELP;
 use crate::looking::LookingDisk;
 use cc_names::memory::NoMemory;
 use cc_names::texts::Text;
@@ -29,32 +31,6 @@ use std::{env, io};
 const VERSION: &str = "ccbase 0.1.0\n";
 
 const USAGE: &str = "usage: ccbase FILE run";
-
-const HELP: &str = "ccbase FILE run
-ccbase --help, ccbase --version
-
-Reads a session from standard input, runs it on the base that the files FILE and FILE.objects keep, and writes its
-replies to standard output. FILE is locked meanwhile. Files that are absent are made, and are an empty base.
-
-NAME A BASE, OR NOTHING. Any other FILE, a text or a picture, is taken for an empty base, and the first row that is
-made is WRITTEN OVER IT. Before that a line on standard error says how many of its bytes are no row. To look first, run
-an empty session, which writes nothing into a FILE that is there:
-
-    ccbase FILE run < /dev/null
-
-Ends with the status
-  0  each command was carried out, and each unit of each build is made
-  1  a command was refused, or a unit of a build failed or was blocked
-  2  the words are none of the forms
-  3  the text is no session
-  4  the journal is damaged: FILE has a frame that is no row, or whose row does not fit or is of a deed not made yet
-  5  the input failed
-  6  the output failed
-  7  the disk failed
-  8  memory ran out, or the system gave no random numbers: then a line on standard error says so
-  9  the text has more than 16,777,216 bytes
-Where it is not 0, 1 or 8, a line on standard error says why.
-";
 
 /// The words behind the name of the program. The error is of the kind `InvalidData` where one of them is not UTF-8.
 fn words_given(rt: &HostRuntime) -> io::Result<Vec<String>> {
