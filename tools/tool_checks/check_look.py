@@ -153,10 +153,10 @@ def check_follow(bench):
 
 def check_speed(bench):
     """The processor time of a look at a base of many elements."""
-    deeds = large(ELEMENTS)
-    bench.write("large.base", journal(deeds))
-    opened = bench.session("large.base", "phase\nlane a\nls v d0\n")
-    same("the program reads the base", opened.count("rule 2"), 100)
+    bench.write("small.base", journal(large(200)))
+    opened = bench.session("small.base", "phase\nlane a\nls v d1\n")
+    same("the program reads such a base", opened.count("rule 2"), 100)
+    bench.write("large.base", journal(large(ELEMENTS)))
     dearest = 0.0
     for words in (["rows"], ["views"], ["checkouts"], ["check"]):
         before = resource.getrusage(resource.RUSAGE_CHILDREN)
